@@ -1,0 +1,39 @@
+-- An ordered map: the list of its pairs, whose keys rise strictly.
+use Rattle.std.specs.Prelude.{◌≡◌, ℕ, not, if◌then◌else◌, List, [], ◌∷◌, ◌++◌, Option, Some, None, filter}
+use Rattle.std.specs.List.{AllByRecursion}
+use Rattle.std.specs.declared.cmp.Ordering.{Ordering}
+use Rattle.std.specs.declared.cmp.Ordering.TheVariants.{Less}
+use Rattle.std.specs.Ordering.{nat_cmp, is_lt, is_eq, is_gt}
+use Rattle.std.specs.Cmp.Lexicographic.{slice_cmp}
+use Rattle.mst_key.specs.Bytes.{IsKey, IsValue}
+
+-- a key and its value
+abbrev pub Pair : Type 0
+Pair = List ℕ × List ℕ
+
+-- the order of keys: bytewise, the shorter first on a common front
+abbrev pub key_cmp : List ℕ → List ℕ → Ordering
+key_cmp = slice_cmp nat_cmp
+
+-- each key is less than all that follow it
+abbrev pub IsAscending : List Pair → Type 0
+IsAscending [] = Unit {0}
+IsAscending (p ∷ m) = AllByRecursion (λ q. key_cmp p.0 q.0 ≡ Less) m × IsAscending m
+
+-- a list of pairs that is a map
+pub record IsMap (m : List Pair) : Type 0 where
+  pub ascending : IsAscending m
+  pub limits : AllByRecursion (λ p. IsKey p.0 × IsValue p.1) m
+
+-- the value of the key
+abbrev pub look : List Pair → List ℕ → Option (List ℕ)
+look [] k = None
+look (p ∷ m) k = if is_eq (key_cmp p.0 k) then Some p.1 else look m k
+
+-- the map in which the key has the value: the pairs below the key, the new pair, the pairs above
+abbrev pub put : List Pair → List ℕ → List ℕ → List Pair
+put m k v = filter (λ p. is_lt (key_cmp p.0 k)) m ++ (k, v) ∷ filter (λ p. is_gt (key_cmp p.0 k)) m
+
+-- the map without the key
+abbrev pub remove : List Pair → List ℕ → List Pair
+remove m k = filter (λ p. not (is_eq (key_cmp p.0 k))) m

@@ -1,0 +1,13 @@
+//! The table that the passes of a store share: its words, its rule, and one call for each atomic step.
+#![tactic(auto)]
+
+mod board;
+mod desk;
+mod plays;
+mod rule;
+mod view;
+
+pub use board::{Board, PassSeat};
+pub use desk::Desk;
+pub use plays::Naming;
+pub use view::{Shape, View};
