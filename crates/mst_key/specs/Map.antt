@@ -15,10 +15,18 @@ Pair = List ℕ × List ℕ
 abbrev pub key_cmp : List ℕ → List ℕ → Ordering
 key_cmp = slice_cmp nat_cmp
 
--- each key is less than all that follow it
+-- each key of the list is less than the key
+abbrev pub AllBelow : List Pair → List ℕ → Type 0
+AllBelow m k = AllByRecursion (λ p. key_cmp p.0 k ≡ Less) m
+
+-- each key of the list is greater than the key
+abbrev pub AllAbove : List Pair → List ℕ → Type 0
+AllAbove m k = AllByRecursion (λ p. key_cmp k p.0 ≡ Less) m
+
+-- the keys rise strictly: each is less than all that follow it
 abbrev pub IsAscending : List Pair → Type 0
 IsAscending [] = Unit {0}
-IsAscending (p ∷ m) = AllByRecursion (λ q. key_cmp p.0 q.0 ≡ Less) m × IsAscending m
+IsAscending (p ∷ m) = AllAbove m p.0 × IsAscending m
 
 -- a list of pairs that is a map
 pub record IsMap (m : List Pair) : Type 0 where

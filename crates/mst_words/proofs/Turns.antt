@@ -159,7 +159,7 @@ module _ {S : Type 0} (stands : S → ℕ → History → Type 0) (rows passes :
           (λ (t : newcomer v ≡ u). absurd (let c : true ≡ false = sym on ∙ ap (λ (z : View). z.turn) (sym t) in cc)) (at_snoc (set s.views id (having_dealt v)) (newcomer v) u i e)
 
   -- the table at its beginning
-  pub opens : (x : S) → stands x rows [] → Ruled stands rows passes (opening (0 ∷ []) (x ∷ []) (dealer rows passes))
+  pub opens : (x : S) → stands x rows [] → Ruled stands rows passes (opening (0 ∷ []) (x ∷ []) (dealer rows passes 1))
   opens x stood = record {
     log = [];
     next = 1;
@@ -179,10 +179,10 @@ module _ {S : Type 0} (stands : S → ℕ → History → Type 0) (rows passes :
     };
   }
     where
-      one : (i : ℕ) (u : View) → SeatAt (dealer rows passes ∷ []) i u → dealer rows passes ≡ u
-      one zero u e = some-injective (dealer rows passes) u e
+      one : (i : ℕ) (u : View) → SeatAt (dealer rows passes 1 ∷ []) i u → dealer rows passes 1 ≡ u
+      one zero u e = some-injective (dealer rows passes 1) u e
       one (suc i) u e = absurd (some-ne-none u (sym e))
 
-      here : (i : ℕ) (u : View) → SeatAt (dealer rows passes ∷ []) i u → i ≡ 0
+      here : (i : ℕ) (u : View) → SeatAt (dealer rows passes 1 ∷ []) i u → i ≡ 0
       here zero u e = refl
       here (suc i) u e = absurd (some-ne-none u (sym e))

@@ -32,9 +32,9 @@ pub record World (rows passes next : ℕ) (log : History) (views : List View) : 
   pub few : next ≤ passes + 1
   pub named : All (λ e. (0 < e.pass) × (e.pass < next)) log
 
--- the dealer's seat before the first pass is dealt
-abbrev pub dealer : ℕ → ℕ → View
-dealer rows passes = record { number = 0; rows = rows; passes = passes; deals = 1; seen = []; mine = []; told = []; turn = false }
+-- the dealer's seat, which deals the pass of the number `next` next
+abbrev pub dealer : ℕ → ℕ → ℕ → View
+dealer rows passes next = record { number = 0; rows = rows; passes = passes; deals = next; seen = []; mine = []; told = []; turn = false }
 
 -- the dealer's seat after the next pass is dealt
 abbrev pub having_dealt : View → View

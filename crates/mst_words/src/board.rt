@@ -45,7 +45,7 @@ impl<D: Desk, A: Allocator + Copy> Board<D, A> {
     /// A table with an empty history, and the dealer's seat. `Memory` comes where a growth was refused.
     pub fn open(alloc: A, shape: Shape, desk: D) -> Result<(Board<D, A>, PassSeat<D>), Memory>
         requires stands { D.stands desk shape.rows [] }
-        ensures ok { IfOk result (λ r. (r.1.table_id ≡ r.0) × (r.1.me ≡ (dealer shape.rows shape.passes, []))) }
+        ensures ok { IfOk result (λ r. (r.1.table_id ≡ r.0) × (r.1.me ≡ (dealer shape.rows shape.passes 1, []))) }
     {
         let mut slots = Vec::with_capacity(alloc, 1).map_err(|_| Memory)?;
         slots.push(Some(desk)).map_err(|_| Memory)?;

@@ -15,5 +15,5 @@ impl<D: Desk> TableRule<Option<D>, View, Shape> for Law<D> {
 
     ghost holds = { λ shape s. Ruled (on_slot D.stands) shape.rows shape.passes s };
 
-    ghost first = { λ shape. dealer shape.rows shape.passes };
+    ghost first = { λ shape. dealer shape.rows shape.passes 1 };
 }

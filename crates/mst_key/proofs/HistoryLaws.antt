@@ -1,0 +1,109 @@
+-- The laws of histories: the map after them, one history that begins another, and the events of a pass.
+use Rattle.std.proofs.Common.{◌≡◌, ℕ, ◌+◌, ◌==◌, ◌⊎◌, inl, inr, List, [], ◌∷◌, ◌++◌, length, refl, sym, ap, ◌∙◌, subst, append_assoc, length-append, arith}
+use Rattle.std.proofs.lemmas.List.{append-nil}
+use Rattle.std.proofs.lemmas.List.Elements.{filter-append}
+use Rattle.mst_key.specs.declared.history.Change.{Change}
+use Rattle.mst_key.specs.declared.history.Change.TheVariants.{Put, Remove}
+use Rattle.mst_key.specs.declared.history.Event.{Event}
+use Rattle.mst_key.specs.History.{History, changed, key_of, after_from, after, events_of, Begins, IsWithinLimits, IsPossible}
+use Rattle.mst_key.specs.Map.{Pair, IsMap, look}
+use Rattle.mst_key.proofs.Alls.{alls-append, alls-front}
+use Rattle.mst_key.proofs.MapLaws.{IsMap-nil, IsMap-put, IsMap-remove, look-put_other, look-remove_other}
+
+-- ---- the map after a history
+
+pub IsMap-changed : (m : List Pair) (c : Change) → IsMap m → IsWithinLimits c → IsMap (changed m c)
+IsMap-changed m (Put k v) map within = IsMap-put m k v map within.0 within.1
+IsMap-changed m (Remove k) map within = IsMap-remove m k map
+
+pub IsMap-after_from : (m : List Pair) (h : History) → IsMap m → IsPossible h → IsMap (after_from m h)
+IsMap-after_from m [] map possible = map
+IsMap-after_from m (e ∷ h) map possible = IsMap-after_from (changed m e.change) h (IsMap-changed m e.change map possible.0) possible.1
+
+pub IsMap-after : (h : History) → IsPossible h → IsMap (after h)
+IsMap-after h = IsMap-after_from [] h IsMap-nil
+
+pub after_from-append : (m : List Pair) (g h : History) → after_from m (g ++ h) ≡ after_from (after_from m g) h
+after_from-append m [] h = refl
+after_from-append m (e ∷ g) h = after_from-append (changed m e.change) g h
+
+pub after-append : (g h : History) → after (g ++ h) ≡ after_from (after g) h
+after-append = after_from-append []
+
+-- one more event changes the map as it says
+pub after-push : (h : History) (e : Event) → after (h ++ e ∷ []) ≡ changed (after h) e.change
+after-push h e = after-append h (e ∷ [])
+
+-- a change leaves every key but its own as it was
+pub look-changed_other : (m : List Pair) (c : Change) (q : List ℕ) → ¬ (q ≡ key_of c) → look (changed m c) q ≡ look m q
+look-changed_other m (Put k v) q other = look-put_other m k v q other
+look-changed_other m (Remove k) q other = look-remove_other m k q other
+
+-- ---- histories of possible changes
+
+pub IsPossible-append : (g h : History) → IsPossible g → IsPossible h → IsPossible (g ++ h)
+IsPossible-append = alls-append (λ e. IsWithinLimits e.change)
+
+pub IsPossible-push : (h : History) (e : Event) → IsPossible h → IsWithinLimits e.change → IsPossible (h ++ e ∷ [])
+IsPossible-push h e possible within = IsPossible-append h (e ∷ []) possible (within, tt)
+
+pub IsPossible-begins : (g h : History) → Begins g h → IsPossible h → IsPossible g
+IsPossible-begins g h begins possible = alls-front (λ e. IsWithinLimits e.change) g begins.0 (subst IsPossible begins.1 possible)
+
+-- ---- one history begins another
+
+pub Begins-nil : (h : History) → Begins [] h
+Begins-nil h = (h, refl)
+
+pub Begins-itself : (h : History) → Begins h h
+Begins-itself h = ([], sym (append-nil h))
+
+pub Begins-append : (g h : History) → Begins g (g ++ h)
+Begins-append g h = (h, refl)
+
+pub Begins-chain : (f g h : History) → Begins f g → Begins g h → Begins f h
+Begins-chain f g h a b = (a.0 ++ b.0, b.1 ∙ ap (λ (l : History). l ++ b.0) a.1 ∙ append_assoc f a.0 b.0)
+
+no_events : (h : History) → length h ≡ 0 → h ≡ []
+no_events [] e = refl
+no_events (x ∷ h) e = absurd (omega arith)
+
+pub Begins-length : (g h : History) → Begins g h → length h ≡ length g → h ≡ g
+Begins-length g h a same =
+    let long : length h ≡ length g + length a.0 = ap length a.1 ∙ length-append g a.0 in
+    let none : length a.0 ≡ 0 = omega arith in
+    a.1 ∙ ap (λ (l : History). g ++ l) (no_events a.0 none) ∙ append-nil g
+
+pub Begins-both_ways : (g h : History) → Begins g h → Begins h g → g ≡ h
+Begins-both_ways g h a b =
+    let long : length h ≡ length g + length a.0 = ap length a.1 ∙ length-append g a.0 in
+    let short : length g ≡ length h + length b.0 = ap length b.1 ∙ length-append h b.0 in
+    let same : length h ≡ length g = omega arith in
+    sym (Begins-length g h a same)
+
+one_begins : (f g s t : History) → f ++ s ≡ g ++ t → Begins f g ⊎ Begins g f
+one_begins [] g s t e = inl (Begins-nil g)
+one_begins (x ∷ f) [] s t e = inr (Begins-nil (x ∷ f))
+one_begins (x ∷ f) (y ∷ g) s t e =
+    let first : x ≡ y = cc in
+    let rest : f ++ s ≡ g ++ t = cc in
+    elim (one_begins f g s t rest) [ inl a ↦ inl (a.0, λ i. sym first i ∷ a.1 i) | inr b ↦ inr (b.0, λ i. first i ∷ b.1 i) ]
+
+-- of two histories that begin one history, one begins the other
+pub Begins-compare : (f g h : History) → Begins f h → Begins g h → Begins f g ⊎ Begins g f
+Begins-compare f g h a b = one_begins f g a.0 b.0 (sym a.1 ∙ b.1)
+
+-- ---- the events of a pass
+
+pub events_of-append : (pass : ℕ) (g h : History) → events_of pass (g ++ h) ≡ events_of pass g ++ events_of pass h
+events_of-append pass g h = filter-append (λ (e : Event). e.pass == pass) g h
+
+pub events_of-begins : (pass : ℕ) (g h : History) → Begins g h → Begins (events_of pass g) (events_of pass h)
+events_of-begins pass g h a = (events_of pass a.0, ap (events_of pass) a.1 ∙ events_of-append pass g a.0)
+
+-- a history between two that have the same events of a pass has them too
+pub events_of-between : (pass : ℕ) (mine x y z : History) → Begins x y → Begins y z → events_of pass x ≡ mine → events_of pass z ≡ mine → events_of pass y ≡ mine
+events_of-between pass mine x y z a b low high =
+    let more : Begins mine (events_of pass y) = subst (λ (l : History). Begins l (events_of pass y)) low (events_of-begins pass x y a) in
+    let less : Begins (events_of pass y) mine = subst (λ (l : History). Begins (events_of pass y) l) high (events_of-begins pass y z b) in
+    Begins-both_ways (events_of pass y) mine less more

@@ -1,0 +1,6 @@
+pub mod Alls
+pub mod KeyOrder
+pub mod MapLaws
+pub mod Splits
+pub mod HistoryLaws
+pub mod Ascending

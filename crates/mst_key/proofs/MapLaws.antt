@@ -1,0 +1,189 @@
+-- The laws of `look`, `put` and `remove`, and that a map is determined by its look-ups.
+use Rattle.std.proofs.Common.{◌≡◌, ◌≢◌, ℕ, Bool, true, false, not, cond, List, [], ◌∷◌, ◌++◌, Option, Some, None, Contains, filter, refl, sym, ap, ◌∙◌, subst, Ordering, Less, Equal, Greater, is_eq, is_lt, is_gt, true≢false, arith}
+use Rattle.std.proofs.lemmas.Bool.{cond-true, cond-false, cond_both}
+use Rattle.std.proofs.lemmas.List.Elements.{All-from_recursion, All-contains, Contains-append_right}
+use Rattle.std.specs.List.{AllByRecursion}
+use Rattle.mst_key.specs.Bytes.{IsKey, IsValue}
+use Rattle.mst_key.specs.Map.{Pair, key_cmp, AllBelow, AllAbove, IsAscending, IsMap, look, put, remove}
+use Rattle.mst_key.proofs.Alls.{alls-append, alls-weaker, alls-both, alls-filter, alls-passes}
+use Rattle.mst_key.proofs.KeyOrder.{key_cmp-itself, test_of_same, test_of_other, less_chain, less_from_greater, greater_from_less, other_from_less, less_from_test, greater_from_test, by_order, by_same}
+
+-- ---- look in parts of a list
+
+pub look-here : (p : Pair) (m : List Pair) (k : List ℕ) → p.0 ≡ k → look (p ∷ m) k ≡ Some p.1
+look-here p m k same = cond-true (is_eq (key_cmp p.0 k)) (Some p.1) (look m k) (test_of_same p.0 k same)
+
+pub look-past : (p : Pair) (m : List Pair) (k : List ℕ) → p.0 ≢ k → look (p ∷ m) k ≡ look m k
+look-past p m k other = cond-false (is_eq (key_cmp p.0 k)) (Some p.1) (look m k) (test_of_other p.0 k other)
+
+-- no pair of the list has the key
+pub look-absent : (m : List Pair) (k : List ℕ) → AllByRecursion (λ p. p.0 ≢ k) m → look m k ≡ None
+look-absent [] k others = refl
+look-absent (p ∷ m) k others = look-past p m k others.0 ∙ look-absent m k others.1
+
+pub look-below : (m : List Pair) (k : List ℕ) → AllBelow m k → look m k ≡ None
+look-below m k below = look-absent m k (alls-weaker (λ p. key_cmp p.0 k ≡ Less) (λ p. p.0 ≢ k) (λ p. other_from_less p.0 k) m below)
+
+pub look-above : (m : List Pair) (k : List ℕ) → AllAbove m k → look m k ≡ None
+look-above m k above = look-absent m k (alls-weaker (λ p. key_cmp k p.0 ≡ Less) (λ p. p.0 ≢ k) (λ p less same. other_from_less k p.0 less (sym same)) m above)
+
+-- where the front does not have the key, the back decides
+pub look-append_absent : (front back : List Pair) (k : List ℕ) → look front k ≡ None → look (front ++ back) k ≡ look back k
+look-append_absent [] back k none = refl
+look-append_absent (p ∷ front) back k none = go (is_eq (key_cmp p.0 k)) none (look-append_absent front back k)
+  where
+    go : (t : Bool) → cond t (Some p.1) (look front k) ≡ None → (look front k ≡ None → look (front ++ back) k ≡ look back k) → cond t (Some p.1) (look (front ++ back) k) ≡ look back k
+    go true e f = cc
+    go false e f = f e
+
+-- and where the back does not, the front
+pub look-append_nothing : (front back : List Pair) (k : List ℕ) → look back k ≡ None → look (front ++ back) k ≡ look front k
+look-append_nothing [] back k none = none
+look-append_nothing (p ∷ front) back k none =
+    ap (λ (o : Option (List ℕ)). cond (is_eq (key_cmp p.0 k)) (Some p.1) o) (look-append_nothing front back k none)
+
+-- a filter by keys that passes the key keeps its value
+pub look-filter : (test : List ℕ → Bool) (m : List Pair) (k : List ℕ) → test k ≡ true → look (filter (λ p. test p.0) m) k ≡ look m k
+look-filter test [] k passes = refl
+look-filter test (p ∷ m) k passes =
+    let rest : List Pair = filter (λ (q : Pair). test q.0) m in
+    let same_rest : look rest k ≡ look m k = look-filter test m k passes in
+    by_same {G = look (filter (λ (q : Pair). test q.0) (p ∷ m)) k ≡ look (p ∷ m) k} p.0 k
+    (λ same. ap (λ (l : List Pair). look l k) (cond-true (test p.0) (p ∷ rest) rest (ap test same ∙ passes)) ∙ look-here p rest k same ∙ sym (look-here p m k same))
+    (λ other. cond_both (test p.0) (p ∷ rest) rest (λ (l : List Pair). look l k ≡ look (p ∷ m) k) (λ _. look-past p rest k other ∙ same_rest ∙ sym (look-past p m k other)) (λ _. same_rest ∙ sym (look-past p m k other)))
+
+-- and one that does not takes it away
+pub look-filter_out : (test : List ℕ → Bool) (m : List Pair) (k : List ℕ) → test k ≡ false → look (filter (λ p. test p.0) m) k ≡ None
+look-filter_out test m k fails =
+    look-absent (filter (λ p. test p.0) m) k
+    (alls-weaker (λ p. test p.0 ≡ true) (λ p. p.0 ≢ k) (λ p passes same. true≢false (sym passes ∙ ap test same ∙ fails)) (filter (λ p. test p.0) m) (alls-passes (λ p. test p.0) m))
+
+-- ---- look after put and remove
+
+-- the value of the key itself is the one that was put
+pub look-put_same : (m : List Pair) (k v : List ℕ) → look (put m k v) k ≡ Some v
+look-put_same m k v =
+    let itself : key_cmp k k ≡ Equal = key_cmp-itself k in
+    look-append_absent (filter (λ p. is_lt (key_cmp p.0 k)) m) ((k, v) ∷ filter (λ p. is_gt (key_cmp p.0 k)) m) k (look-filter_out (λ q. is_lt (key_cmp q k)) m k (ap is_lt itself))
+    ∙ look-here (k, v) (filter (λ p. is_gt (key_cmp p.0 k)) m) k refl
+
+-- another key has the value that it had
+pub look-put_other : (m : List Pair) (k v q : List ℕ) → q ≢ k → look (put m k v) q ≡ look m q
+look-put_other m k v q other =
+    let front : List Pair = filter (λ (p : Pair). is_lt (key_cmp p.0 k)) m in
+    let back : List Pair = filter (λ (p : Pair). is_gt (key_cmp p.0 k)) m in
+    let past : look ((k, v) ∷ back) q ≡ look back q = look-past (k, v) back q (λ same. other (sym same)) in
+    by_order {G = look (put m k v) q ≡ look m q} q k
+    (λ less. look-append_nothing front ((k, v) ∷ back) q (past ∙ look-filter_out (λ a. is_gt (key_cmp a k)) m q (ap is_gt less)) ∙ look-filter (λ a. is_lt (key_cmp a k)) m q (ap is_lt less))
+    (λ same. absurd (other same))
+    (λ more. let greater : key_cmp q k ≡ Greater = greater_from_less k q more in
+        look-append_absent front ((k, v) ∷ back) q (look-filter_out (λ a. is_lt (key_cmp a k)) m q (ap is_lt greater)) ∙ past ∙ look-filter (λ a. is_gt (key_cmp a k)) m q (ap is_gt greater))
+
+-- a key that was removed has no value
+pub look-remove_same : (m : List Pair) (k : List ℕ) → look (remove m k) k ≡ None
+look-remove_same m k = look-filter_out (λ q. not (is_eq (key_cmp q k))) m k (ap (λ (r : Ordering). not (is_eq r)) (key_cmp-itself k))
+
+-- another key has the value that it had
+pub look-remove_other : (m : List Pair) (k q : List ℕ) → q ≢ k → look (remove m k) q ≡ look m q
+look-remove_other m k q other = look-filter (λ a. not (is_eq (key_cmp a k))) m q (ap not (test_of_other q k other))
+
+-- ---- what put and remove give is a map
+
+pub AllBelow-less : (m : List Pair) (a b : List ℕ) → AllBelow m a → key_cmp a b ≡ Less → AllBelow m b
+AllBelow-less m a b below less = alls-weaker (λ p. key_cmp p.0 a ≡ Less) (λ p. key_cmp p.0 b ≡ Less) (λ p e. less_chain p.0 a b e less) m below
+
+pub AllAbove-less : (m : List Pair) (a b : List ℕ) → key_cmp a b ≡ Less → AllAbove m b → AllAbove m a
+AllAbove-less m a b less above = alls-weaker (λ p. key_cmp b p.0 ≡ Less) (λ p. key_cmp a p.0 ≡ Less) (λ p. less_chain a b p.0 less) m above
+
+-- the pairs that a put keeps are below and above its key
+pub AllBelow-filter : (m : List Pair) (k : List ℕ) → AllBelow (filter (λ p. is_lt (key_cmp p.0 k)) m) k
+AllBelow-filter m k =
+    alls-weaker (λ p. is_lt (key_cmp p.0 k) ≡ true) (λ p. key_cmp p.0 k ≡ Less) (λ p. less_from_test p.0 k) (filter (λ p. is_lt (key_cmp p.0 k)) m) (alls-passes (λ p. is_lt (key_cmp p.0 k)) m)
+
+pub AllAbove-filter : (m : List Pair) (k : List ℕ) → AllAbove (filter (λ p. is_gt (key_cmp p.0 k)) m) k
+AllAbove-filter m k =
+    alls-weaker (λ p. is_gt (key_cmp p.0 k) ≡ true) (λ p. key_cmp k p.0 ≡ Less) (λ p e. less_from_greater p.0 k (greater_from_test p.0 k e)) (filter (λ p. is_gt (key_cmp p.0 k)) m) (alls-passes (λ p. is_gt (key_cmp p.0 k)) m)
+
+pub IsAscending-filter : (test : Pair → Bool) (m : List Pair) → IsAscending m → IsAscending (filter test m)
+IsAscending-filter test [] rise = tt
+IsAscending-filter test (p ∷ m) rise =
+    cond_both (test p) (p ∷ filter test m) (filter test m) IsAscending
+    (λ _. (alls-filter (λ q. key_cmp p.0 q.0 ≡ Less) test m rise.0, IsAscending-filter test m rise.1))
+    (λ _. IsAscending-filter test m rise.1)
+
+-- pairs below a key, the key, and pairs above it rise
+pub IsAscending-join : (front back : List Pair) (k v : List ℕ) → IsAscending front → IsAscending back → AllBelow front k → AllAbove back k → IsAscending (front ++ (k, v) ∷ back)
+IsAscending-join [] back k v low high below above = (above, high)
+IsAscending-join (p ∷ front) back k v low high below above =
+    (alls-append (λ q. key_cmp p.0 q.0 ≡ Less) front ((k, v) ∷ back) low.0 (below.0, AllAbove-less back p.0 k below.0 above), IsAscending-join front back k v low.1 high below.1 above)
+
+pub IsAscending-put : (m : List Pair) (k v : List ℕ) → IsAscending m → IsAscending (put m k v)
+IsAscending-put m k v rise =
+    IsAscending-join (filter (λ p. is_lt (key_cmp p.0 k)) m) (filter (λ p. is_gt (key_cmp p.0 k)) m) k v (IsAscending-filter (λ p. is_lt (key_cmp p.0 k)) m rise) (IsAscending-filter (λ p. is_gt (key_cmp p.0 k)) m rise) (AllBelow-filter m k) (AllAbove-filter m k)
+
+pub IsMap-nil : IsMap []
+IsMap-nil = record { ascending = tt; limits = tt }
+
+pub IsMap-put : (m : List Pair) (k v : List ℕ) → IsMap m → IsKey k → IsValue v → IsMap (put m k v)
+IsMap-put m k v map key value =
+    let Fits : Pair → Type 0 = λ p. IsKey p.0 × IsValue p.1 in
+    record {
+      ascending = IsAscending-put m k v map.ascending;
+      limits = alls-append Fits (filter (λ p. is_lt (key_cmp p.0 k)) m) ((k, v) ∷ filter (λ p. is_gt (key_cmp p.0 k)) m)
+          (alls-filter Fits (λ p. is_lt (key_cmp p.0 k)) m map.limits) ((key, value), alls-filter Fits (λ p. is_gt (key_cmp p.0 k)) m map.limits);
+    }
+
+pub IsMap-remove : (m : List Pair) (k : List ℕ) → IsMap m → IsMap (remove m k)
+IsMap-remove m k map = record {
+  ascending = IsAscending-filter (λ p. not (is_eq (key_cmp p.0 k))) m map.ascending;
+  limits = alls-filter (λ p. IsKey p.0 × IsValue p.1) (λ p. not (is_eq (key_cmp p.0 k))) m map.limits;
+}
+
+-- ---- look finds exactly the pairs of the map
+
+pub look-each : (m : List Pair) → IsAscending m → AllByRecursion (λ p. look m p.0 ≡ Some p.1) m
+look-each [] rise = tt
+look-each (p ∷ m) rise =
+    (look-here p m p.0 refl, alls-both (λ q. key_cmp p.0 q.0 ≡ Less) (λ q. look m q.0 ≡ Some q.1) (λ q. look (p ∷ m) q.0 ≡ Some q.1) (λ q less found. look-past p m q.0 (other_from_less p.0 q.0 less) ∙ found) m rise.0 (look-each m rise.1))
+
+pub look-contains : (m : List Pair) (k v : List ℕ) → IsAscending m → Contains m (k, v) → look m k ≡ Some v
+look-contains m k v rise contains =
+    let P : Pair → Type 0 = λ p. look m p.0 ≡ Some p.1 in
+    All-contains P m (k, v) (All-from_recursion P m (look-each m rise)) contains
+
+pub Contains-look : (m : List Pair) (k v : List ℕ) → look m k ≡ Some v → Contains m (k, v)
+Contains-look [] k v found = absurd (let f : None ≡ Some v = found in cc)
+Contains-look (p ∷ m) k v found = by_same {G = Contains (p ∷ m) (k, v)} p.0 k
+    (λ same. (0, omega arith, let is : Some p.1 ≡ Some v = sym (look-here p m k same) ∙ found in let value : p.1 ≡ v = cc in λ i. (same i, value i)))
+    (λ other. Contains-append_right (p ∷ []) m (k, v) (Contains-look m k v (sym (look-past p m k other) ∙ found)))
+
+-- ---- a map is determined by its look-ups
+
+-- no list of greater keys looks up as one that begins with a lesser key does
+first_differs : (p : Pair) (m n : List Pair) → AllAbove n p.0 → look (p ∷ m) p.0 ≡ look n p.0 → ⊥
+first_differs p m n above alike = let e : Some p.1 ≡ None = sym (look-here p m p.0 refl) ∙ alike ∙ look-above n p.0 above in cc
+
+pub map_determined : (m n : List Pair) → IsAscending m → IsAscending n → ((k : List ℕ) → look m k ≡ look n k) → m ≡ n
+map_determined [] [] low high alike = refl
+map_determined [] (q ∷ n) low high alike = absurd (first_differs q n [] tt (sym (alike q.0)))
+map_determined (p ∷ m) [] low high alike = absurd (first_differs p m [] tt (alike p.0))
+map_determined (p ∷ m) (q ∷ n) low high alike = by_order {G = p ∷ m ≡ q ∷ n} p.0 q.0
+    (λ less. absurd (first_differs p m (q ∷ n) (less, AllAbove-less n p.0 q.0 less high.0) (alike p.0)))
+    (λ same.
+        let is : Some p.1 ≡ Some q.1 = sym (look-here p m p.0 refl) ∙ alike p.0 ∙ look-here q n p.0 (sym same) in
+        let value : p.1 ≡ q.1 = cc in
+        let rest : m ≡ n = map_determined m n low.1 high.1 (λ k. by_same {G = look m k ≡ look n k} p.0 k
+                (λ here. look-above m k (subst (AllAbove m) here low.0) ∙ sym (look-above n k (subst (AllAbove n) (sym same ∙ here) high.0)))
+                (λ other. sym (look-past p m k other) ∙ alike k ∙ look-past q n k (λ e. other (same ∙ e)))) in
+        λ i. (same i, value i) ∷ rest i)
+    (λ more. absurd (first_differs q n (p ∷ m) (more, AllAbove-less m q.0 p.0 more low.0) (sym (alike q.0))))
+
+-- ---- changes that leave the map as it was
+
+pub put-unchanged : (m : List Pair) (k v : List ℕ) → IsAscending m → look m k ≡ Some v → put m k v ≡ m
+put-unchanged m k v rise found = map_determined (put m k v) m (IsAscending-put m k v rise) rise
+    (λ q. by_same {G = look (put m k v) q ≡ look m q} q k (λ same. ap (look (put m k v)) same ∙ look-put_same m k v ∙ sym found ∙ ap (look m) (sym same)) (look-put_other m k v q))
+
+pub remove-unchanged : (m : List Pair) (k : List ℕ) → IsAscending m → look m k ≡ None → remove m k ≡ m
+remove-unchanged m k rise none = map_determined (remove m k) m (IsAscending-filter (λ p. not (is_eq (key_cmp p.0 k))) m rise) rise
+    (λ q. by_same {G = look (remove m k) q ≡ look m q} q k (λ same. ap (look (remove m k)) same ∙ look-remove_same m k ∙ sym none ∙ ap (look m) (sym same)) (look-remove_other m k q))

@@ -1,0 +1,5 @@
+use Rattle.mst_store.proofs.pass.Pass.try_put.Given as goal
+
+-- the event that is added
+abbrev pub ghosts-add_event : goal.ghosts-add_event
+ghosts-add_event g a = record { event = a.event.now }

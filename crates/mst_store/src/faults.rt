@@ -1,0 +1,32 @@
+//! Why calls are refused.
+use thiserror::Error;
+
+/// Why a store was not opened.
+#[derive(Clone, Copy, Debug, PartialEq, Eq, Error)]
+pub enum OpenFault {
+    /// Fewer than 4 or more than 65,535 rows, or fewer than 1 or more than 32 passes.
+    #[error("a store has 4 to 65535 rows and 1 to 32 passes")]
+    Shape,
+    /// A growth was refused.
+    #[error("no memory")]
+    Memory,
+}
+
+/// Why a write was refused. It changed nothing.
+#[derive(Clone, Copy, Debug, PartialEq, Eq, Error)]
+pub enum WriteFault {
+    /// The map has no room for what the write adds.
+    #[error("no room")]
+    NoRoom,
+    /// Another pass had the turn.
+    #[error("another pass has the turn")]
+    Busy,
+    /// The current version has the last number, 2^63 - 1.
+    #[error("version numbers are spent")]
+    VersionsSpent,
+}
+
+/// Another pass had the turn, so nothing was read.
+#[derive(Clone, Copy, Debug, PartialEq, Eq, Error)]
+#[error("another pass has the turn")]
+pub struct Busy;

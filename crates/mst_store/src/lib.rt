@@ -1,0 +1,13 @@
+//! A store: one ordered map that several passes, each in a thread of its own, read and write.
+#![tactic(auto)]
+
+mod faults;
+mod list;
+mod pass;
+mod store;
+
+pub use faults::{Busy, OpenFault, WriteFault};
+pub use mst_key::Memory;
+pub use mst_words::Shape;
+pub use pass::Pass;
+pub use store::{Seats, Store};

@@ -1,0 +1,84 @@
+//! The map as a sorted list of its pairs: what lies in the table's slot.
+ghost use Rattle.std.specs.Prelude.{◌≡◌, ◌+◌, ◌<◌, ◌≤◌, ◌^◌, length, IfOk, OnOk, OnErr, MatchResult, vec_len, vec_capacity};
+ghost use Rattle.mst_key.specs.Map.{IsAscending, look};
+ghost use Rattle.mst_key.specs.Map as map;
+ghost use Rattle.mst_store.specs.Lists.{IsAt, IsGap, HasRoom, LacksRoom};
+
+use mst_key::{Key, Value};
+use mst_words::Desk;
+use std::alloc::Allocator;
+use std::mem;
+
+/// The pairs of the map in the order of their keys, with room for a fixed number of them.
+#[derive(Drop)]
+pub struct PairList<A: Allocator> {
+    /// How many events led to this map.
+    pub version: u64,
+    /// The most pairs that the list may have.
+    pub rows: u32,
+    pub pairs: Vec<(Key, Value), A>,
+}
+
+/// The list has as many pairs as it may.
+#[derive(Drop)]
+pub struct Full;
+
+impl<A: Allocator> Desk for PairList<A> {
+    ghost use Rattle.mst_store.specs.Lists.{stands};
+
+    ghost stands = { stands };
+}
+
+impl<A: Allocator> PairList<A> {
+    /// The place of the key's pair, or the place at which it would stand.
+    fn place(&self, key: &Key) -> Result<usize, usize>
+        requires ascending { IsAscending self.now.pairs.items }
+        ensures { MatchResult result (IsAt self.now.pairs.items key.now) (IsGap self.now.pairs.items key.now) }
+    {
+        self.pairs.binary_search_by(|pair| pair.0.cmp(key))
+    }
+
+    /// The value of the key.
+    pub fn get(&self, key: &Key) -> Option<Value>
+        requires ascending { IsAscending self.now.pairs.items }
+        ensures { result ≡ look self.now.pairs.items key.now }
+    {
+        match self.place(key) {
+            Ok(i) => Some(self.pairs[i].1.copy()),
+            Err(_) => None,
+        }
+    }
+
+    /// Gives the key the value, and answers the value that it had. `Full` comes exactly where the key is new and the list is full, and changes nothing.
+    pub fn put(&mut self, key: &Key, value: &Value) -> Result<Option<Value>, Full>
+        requires ascending { IsAscending self.old.pairs.items }
+        requires version { self.old.version + 1 < 2 ^ 64 }
+        requires capacity { self.old.rows ≤ vec_capacity self.old.pairs }
+        ensures answer { IfOk result (λ old. old ≡ look self.old.pairs.items key.now) }
+        ensures pairs { OnOk result (self.new.pairs.items ≡ map.put self.old.pairs.items key.now value.now) }
+        ensures version { OnOk result (self.new.version ≡ self.old.version + 1) }
+        ensures room { OnOk result (HasRoom self.old.rows self.old.pairs.items key.now) }
+        ensures full { OnErr result (LacksRoom self.old.rows self.old.pairs.items key.now) }
+        ensures unchanged { OnErr result (self.new ≡ self.old) }
+        ensures rows { self.new.rows ≡ self.old.rows }
+        ensures capacity { self.new.rows ≤ vec_capacity self.new.pairs }
+    {
+        match self.place(key) {
+            Ok(i) => {
+                let old = mem::replace(&mut self.pairs[i].1, value.copy());
+                self.version += 1;
+                Ok(Some(old))
+            }
+            Err(i) => {
+                if self.pairs.len() >= self.rows as usize {
+                    return Err(Full);
+                }
+                let Ok(()) = self.pairs.insert(i, (key.copy(), value.copy())) else {
+                    unreachable!()
+                };
+                self.version += 1;
+                Ok(None)
+            }
+        }
+    }
+}

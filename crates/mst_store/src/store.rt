@@ -1,0 +1,117 @@
+//! A store, and the dealing of its passes.
+ghost use Rattle.std.specs.Prelude.{◌≡◌, ◌↔◌, true, IfOk, IfErr, OnOk, IsErrOf};
+ghost use Rattle.mst_store.specs.Passes.{IsShape, HasShape, new_passes};
+
+use crate::faults::OpenFault;
+use crate::list::PairList;
+use crate::pass::Pass;
+use mst_key::Memory;
+use mst_words::{Board, PassSeat, Shape};
+use std::alloc::Allocator;
+use std::marker::Model;
+
+/// A store. Its passes share it through a reference.
+#[derive(Drop)]
+pub struct Store<A: Allocator + Copy> {
+    board: Board<PairList<A>, A>,
+    shape: Shape,
+}
+
+/// Contracts see which store it is, and its size.
+impl<A: Allocator + Copy> Model for Store<A> {
+    ghost use Rattle.mst_store.specs.Passes.{StoreId, IsShape};
+
+    ghost Value = { StoreId };
+
+    ghost view = { λ s. record { table = s.board; rows = s.shape.rows; passes = s.shape.passes } };
+
+    ghost invariant = { λ s. IsShape s.shape };
+}
+
+/// The right to deal the passes of one store, once.
+#[derive(Drop)]
+pub struct Seats<A: Allocator + Copy> {
+    seat: PassSeat<PairList<A>>,
+}
+
+/// Contracts see which store it is of.
+impl<A: Allocator + Copy> Model for Seats<A> {
+    ghost use Rattle.std.specs.Prelude.{◌≡◌, []};
+    ghost use Rattle.mst_words.specs.World.{dealer};
+    ghost use Rattle.mst_store.specs.Passes.{StoreId};
+
+    ghost Value = { StoreId };
+
+    ghost view = { λ s. record { table = s.seat.table_id; rows = s.seat.me.0.rows; passes = s.seat.me.0.passes } };
+
+    ghost invariant = { λ s. s.seat.me ≡ (dealer s.seat.me.0.rows s.seat.me.0.passes 1, []) };
+}
+
+/// Whether a store can have this size: 4 to 65,535 rows and 1 to 32 passes.
+fn is_shape(shape: Shape) -> bool
+    ensures { result ≡ true ↔ IsShape shape }
+{
+    (4..=65_535).contains(&shape.rows) && (1..=32).contains(&shape.passes)
+}
+
+impl<A: Allocator + Copy> Store<A> {
+    /// A store of the empty map, and the right to deal its passes. All memory of the store is taken here.
+    ///
+    /// `Shape` comes exactly where the size is out of its limits, else `Memory` where a growth was refused.
+    pub fn open(alloc: A, shape: Shape) -> Result<(Store<A>, Seats<A>), OpenFault>
+        ensures shape { IsErrOf result OpenFault.Shape ↔ ¬ (IsShape shape) }
+        ensures store { IfOk result (λ opened. HasShape shape opened.0) }
+        ensures seats { IfOk result (λ opened. opened.1 ≡ opened.0) }
+    {
+        if !is_shape(shape) {
+            return Err(OpenFault::Shape);
+        }
+        let Ok(pairs) = Vec::with_capacity(alloc, shape.rows as usize) else {
+            return Err(OpenFault::Memory);
+        };
+        let list = PairList {
+            version: 0,
+            rows: shape.rows,
+            pairs,
+        };
+        match Board::open(alloc, shape, list) {
+            Ok((board, seat)) => Ok((Store { board, shape }, Seats { seat })),
+            Err(Memory) => Err(OpenFault::Memory),
+        }
+    }
+
+    /// How many passes the store has, 1 to 32.
+    pub fn passes(&self) -> u32
+        ensures passes { result ≡ self.now.passes }
+    {
+        self.shape.passes
+    }
+
+    /// The passes of the store, in the order of their numbers from 1. None of them has seen or done anything.
+    ///
+    /// The seats must have come with this store. `Memory` comes where the growth was refused, and gives the seats back.
+    pub fn deal<B: Allocator>(
+        &self,
+        alloc: B,
+        seats: Seats<A>,
+    ) -> Result<Vec<Pass<'_, A>, B>, (Memory, Seats<A>)>
+        requires own { seats ≡ self.now }
+        ensures ok { IfOk result (λ passes. passes.items ≡ new_passes self.now) }
+        ensures err { IfErr result (λ refused. refused.1 ≡ seats) }
+    {
+        let count = self.shape.passes;
+        let Ok(mut passes) = Vec::with_capacity(alloc, count as usize) else {
+            return Err((Memory, seats));
+        };
+        let Seats { seat: mut dealer } = seats;
+        for index in 0..count {
+            let seat = self.board.deal(&mut dealer);
+            passes.push_reserved(Pass {
+                board: &self.board,
+                seat,
+                number: index + 1,
+            });
+        }
+        Ok(passes)
+    }
+}
