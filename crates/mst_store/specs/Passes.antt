@@ -8,7 +8,7 @@ use Rattle.mst_key.specs.Map.{look}
 use Rattle.mst_words.specs.declared.view.Shape.{Shape}
 use Rattle.mst_store.specs.declared.faults.WriteFault.{WriteFault}
 use Rattle.mst_store.specs.declared.faults.WriteFault.TheVariants.{NoRoom, Busy, VersionsSpent}
-use Rattle.mst_store.specs.Lists.{HasRoom, LacksRoom}
+use Rattle.mst_store.specs.Lists.{last_version, HasRoom, LacksRoom}
 
 -- which store it is, and its size
 pub record StoreId : Type 0 where
@@ -43,10 +43,6 @@ first_passes store (suc n) = first_passes store n ++ new_pass store (suc n) ∷ 
 -- all passes of a store before their first call
 abbrev pub new_passes : StoreId → List Known
 new_passes store = first_passes store store.passes
-
--- the number of the last version
-abbrev pub last_version : ℕ
-last_version = 9223372036854775807
 
 -- a change, made by this pass
 abbrev pub made_by : Known → Change → Event

@@ -1,9 +1,10 @@
 //! The map as a sorted list of its pairs: what lies in the table's slot.
-ghost use Rattle.std.specs.Prelude.{◌≡◌, ◌+◌, ◌<◌, ◌≤◌, ◌^◌, length, IfOk, OnOk, OnErr, MatchResult, vec_len, vec_capacity};
+ghost use Rattle.std.specs.Prelude.{◌≡◌, ◌+◌, ◌<◌, ◌≤◌, IfOk, IfErr, OnOk, OnErr, MatchResult, vec_capacity};
 ghost use Rattle.mst_key.specs.Map.{IsAscending, look};
 ghost use Rattle.mst_key.specs.Map as map;
-ghost use Rattle.mst_store.specs.Lists.{IsAt, IsGap, HasRoom, LacksRoom};
+ghost use Rattle.mst_store.specs.Lists.{last_version, IsAt, IsGap, HasRoom, Blocks};
 
+use crate::faults::WriteFault;
 use mst_key::{Key, Value};
 use mst_words::Desk;
 use std::alloc::Allocator;
@@ -19,9 +20,8 @@ pub struct PairList<A: Allocator> {
     pub pairs: Vec<(Key, Value), A>,
 }
 
-/// The list has as many pairs as it may.
-#[derive(Drop)]
-pub struct Full;
+/// The number of the last version, 2^63 - 1.
+const LAST_VERSION: u64 = 9_223_372_036_854_775_807;
 
 impl<A: Allocator> Desk for PairList<A> {
     ghost use Rattle.mst_store.specs.Lists.{stands};
@@ -49,20 +49,26 @@ impl<A: Allocator> PairList<A> {
         }
     }
 
-    /// Gives the key the value, and answers the value that it had. `Full` comes exactly where the key is new and the list is full, and changes nothing.
-    pub fn put(&mut self, key: &Key, value: &Value) -> Result<Option<Value>, Full>
+    /// Gives the key the value, which makes the next version, and answers the value that the key had.
+    ///
+    /// `VersionsSpent` comes exactly where the version has the last number, else `NoRoom` exactly where the key is new and the list is full. Either changes nothing.
+    pub fn put(&mut self, key: &Key, value: &Value) -> Result<Option<Value>, WriteFault>
         requires ascending { IsAscending self.old.pairs.items }
-        requires version { self.old.version + 1 < 2 ^ 64 }
+        requires numbered { self.old.version ≤ last_version }
         requires capacity { self.old.rows ≤ vec_capacity self.old.pairs }
         ensures answer { IfOk result (λ old. old ≡ look self.old.pairs.items key.now) }
         ensures pairs { OnOk result (self.new.pairs.items ≡ map.put self.old.pairs.items key.now value.now) }
         ensures version { OnOk result (self.new.version ≡ self.old.version + 1) }
+        ensures open { OnOk result (self.old.version < last_version) }
         ensures room { OnOk result (HasRoom self.old.rows self.old.pairs.items key.now) }
-        ensures full { OnErr result (LacksRoom self.old.rows self.old.pairs.items key.now) }
+        ensures refused { IfErr result (λ fault. Blocks fault self.old key.now) }
         ensures unchanged { OnErr result (self.new ≡ self.old) }
         ensures rows { self.new.rows ≡ self.old.rows }
         ensures capacity { self.new.rows ≤ vec_capacity self.new.pairs }
     {
+        if self.version == LAST_VERSION {
+            return Err(WriteFault::VersionsSpent);
+        }
         match self.place(key) {
             Ok(i) => {
                 let old = mem::replace(&mut self.pairs[i].1, value.copy());
@@ -71,7 +77,7 @@ impl<A: Allocator> PairList<A> {
             }
             Err(i) => {
                 if self.pairs.len() >= self.rows as usize {
-                    return Err(Full);
+                    return Err(WriteFault::NoRoom);
                 }
                 let Ok(()) = self.pairs.insert(i, (key.copy(), value.copy())) else {
                     unreachable!()

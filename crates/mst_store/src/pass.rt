@@ -4,7 +4,7 @@ ghost use Rattle.mst_key.specs.declared.history.Change.TheVariants.{Put};
 ghost use Rattle.mst_store.specs.Passes.{made_by, Wrote, Refuses, Reads, FindsBusy};
 
 use crate::faults::{Busy, WriteFault};
-use crate::list::{Full, PairList};
+use crate::list::PairList;
 use mst_key::{Change, Event, Key, Value};
 use mst_words::{Board, PassSeat};
 use std::alloc::Allocator;
@@ -31,9 +31,6 @@ impl<'a, A: Allocator + Copy> Model for Pass<'a, A> {
 
     ghost invariant = { λ p. (p.seat.table_id ≡ p.board.now) × IsFree p.number p.seat.me × (events_of p.number p.seat.me.0.seen ≡ p.seat.me.0.mine) };
 }
-
-/// The number of the last version.
-const LAST_VERSION: u64 = 9_223_372_036_854_775_807;
 
 impl<'a, A: Allocator + Copy> Pass<'a, A> {
     /// The number of the pass, from 1 to the number of the store's passes.
@@ -69,14 +66,10 @@ impl<'a, A: Allocator + Copy> Pass<'a, A> {
             return Err(WriteFault::Busy);
         }
         let mut list = self.board.take_desk(&mut self.seat);
-        if list.version == LAST_VERSION {
-            self.board.return_desk(&mut self.seat, list);
-            self.board.give_turn(&mut self.seat);
-            return Err(WriteFault::VersionsSpent);
-        }
-        match list.put(key, value) {
+        let written = list.put(key, value);
+        self.board.return_desk(&mut self.seat, list);
+        match written {
             Ok(old) => {
-                self.board.return_desk(&mut self.seat, list);
                 let event = Event {
                     pass: self.number,
                     change: Change::Put(key.copy(), value.copy()),
@@ -84,10 +77,9 @@ impl<'a, A: Allocator + Copy> Pass<'a, A> {
                 self.board.add_event::<Brand>(&mut self.seat, &event);
                 Ok(old)
             }
-            Err(Full) => {
-                self.board.return_desk(&mut self.seat, list);
+            Err(fault) => {
                 self.board.give_turn(&mut self.seat);
-                Err(WriteFault::NoRoom)
+                Err(fault)
             }
         }
     }
