@@ -1,14 +1,14 @@
 -- The laws of histories: the map after them, one history that begins another, and the events of a pass.
-use Rattle.std.proofs.Common.{◌≡◌, ℕ, ◌+◌, ◌==◌, ◌⊎◌, inl, inr, List, [], ◌∷◌, ◌++◌, length, refl, sym, ap, ◌∙◌, subst, append_assoc, length-append, arith}
+use Rattle.std.proofs.Common.{◌≡◌, ℕ, None, ◌+◌, ◌==◌, ◌⊎◌, inl, inr, List, [], ◌∷◌, ◌++◌, length, refl, sym, ap, ◌∙◌, subst, append_assoc, length-append, arith}
 use Rattle.std.proofs.lemmas.List.{append-nil}
 use Rattle.std.proofs.lemmas.List.Elements.{filter-append}
 use Rattle.mst_key.specs.declared.history.Change.{Change}
 use Rattle.mst_key.specs.declared.history.Change.TheVariants.{Put, Remove}
 use Rattle.mst_key.specs.declared.history.Event.{Event}
-use Rattle.mst_key.specs.History.{History, changed, key_of, after_from, after, events_of, Begins, IsWithinLimits, IsPossible}
+use Rattle.mst_key.specs.History.{History, changed, key_of, value_of, LeavesAlone, after_from, after, events_of, Begins, IsWithinLimits, IsPossible}
 use Rattle.mst_key.specs.Map.{Pair, IsMap, look}
 use Rattle.mst_key.proofs.Alls.{alls-append, alls-front}
-use Rattle.mst_key.proofs.MapLaws.{IsMap-nil, IsMap-put, IsMap-remove, look-put_other, look-remove_other}
+use Rattle.mst_key.proofs.MapLaws.{IsMap-nil, IsMap-put, IsMap-remove, look-put_same, look-remove_same, look-put_other, look-remove_other}
 
 -- ---- the map after a history
 
@@ -38,6 +38,23 @@ after-push h e = after-append h (e ∷ [])
 pub look-changed_other : (m : List Pair) (c : Change) (q : List ℕ) → ¬ (q ≡ key_of c) → look (changed m c) q ≡ look m q
 look-changed_other m (Put k v) q other = look-put_other m k v q other
 look-changed_other m (Remove k) q other = look-remove_other m k q other
+
+-- and its own key has the value that the change leaves
+pub look-changed_own : (m : List Pair) (c : Change) → look (changed m c) (key_of c) ≡ value_of c
+look-changed_own m (Put k v) = look-put_same m k v
+look-changed_own m (Remove k) = look-remove_same m k
+
+pub look-after_from_alone : (m : List Pair) (h : History) (k : List ℕ) → LeavesAlone h k → look (after_from m h) k ≡ look m k
+look-after_from_alone m [] k alone = refl
+look-after_from_alone m (e ∷ h) k alone = look-after_from_alone (changed m e.change) h k alone.1 ∙ look-changed_other m e.change k (λ same. alone.0 (sym same))
+
+pub look-after_alone : (h : History) (k : List ℕ) → LeavesAlone h k → look (after h) k ≡ None
+look-after_alone = look-after_from_alone []
+
+-- the last change of a key leaves its value
+pub look-after_last : (g h : History) (e : Event) → LeavesAlone h (key_of e.change) → look (after (g ++ e ∷ h)) (key_of e.change) ≡ value_of e.change
+look-after_last g h e alone =
+    ap (λ (m : List Pair). look m (key_of e.change)) (after-append g (e ∷ h)) ∙ look-after_from_alone (changed (after g) e.change) h (key_of e.change) alone ∙ look-changed_own (after g) e.change
 
 -- ---- histories of possible changes
 

@@ -1,10 +1,10 @@
 -- The order of keys is total, and two keys that it calls equal are one list of bytes.
-use Rattle.std.proofs.Common.{◌≡◌, ◌≢◌, ℕ, true, false, List, refl, sym, ap, ◌∙◌, Ordering, Less, Equal, Greater, is_eq, is_lt, is_gt, true≢false}
-use Rattle.std.proofs.lemmas.Bool.{false_from_ne_true}
-use Rattle.std.proofs.lemmas.Cmp.{nat_list_cmp_total, tied_itself}
+use Rattle.std.proofs.Common.{◌≡◌, ◌≢◌, ℕ, true, false, List, [], ◌∷◌, ◌++◌, ◌<◌, ◌==◌, nat_lt, cond, refl, sym, ap, ◌∙◌, Ordering, Less, Equal, Greater, is_eq, is_lt, is_gt, true≢false}
+use Rattle.std.proofs.lemmas.Bool.{cond-true, lt-ltb, false_from_ne_true}
+use Rattle.std.proofs.lemmas.Cmp.{nat_cmp_total, nat_list_cmp_total, tied_itself}
 use Rattle.std.specs.Cmp.{IsTotalOrder}
 use Rattle.std.specs.Cmp.Lexicographic.{texts_ties, bytes_decides}
-use Rattle.std.specs.Ordering.{ordering_reverse}
+use Rattle.std.specs.Ordering.{ordering_reverse, ordering_then}
 use Rattle.mst_key.specs.Map.{key_cmp}
 
 pub key_cmp-total : IsTotalOrder key_cmp
@@ -12,6 +12,17 @@ key_cmp-total = nat_list_cmp_total
 
 pub key_cmp-itself : (k : List ℕ) → key_cmp k k ≡ Equal
 key_cmp-itself k = tied_itself key_cmp-total k
+
+-- a front of a key is less than the key
+pub key_cmp-front : (k : List ℕ) (b : ℕ) (bs : List ℕ) → key_cmp k (k ++ b ∷ bs) ≡ Less
+key_cmp-front [] b bs = refl
+key_cmp-front (a ∷ k) b bs = ap (λ (r : Ordering). ordering_then r (key_cmp k (k ++ b ∷ bs))) (tied_itself nat_cmp_total a) ∙ key_cmp-front k b bs
+
+-- the first byte in which two keys differ decides
+pub key_cmp-first_byte : (front : List ℕ) (a b : ℕ) (xs bs : List ℕ) → a < b → key_cmp (front ++ a ∷ xs) (front ++ b ∷ bs) ≡ Less
+key_cmp-first_byte [] a b xs bs less = ap (λ (r : Ordering). ordering_then r (key_cmp xs bs)) (cond-true (nat_lt a b) Less (cond (a == b) Equal Greater) (lt-ltb a b less))
+key_cmp-first_byte (c ∷ front) a b xs bs less =
+    ap (λ (r : Ordering). ordering_then r (key_cmp (front ++ a ∷ xs) (front ++ b ∷ bs))) (tied_itself nat_cmp_total c) ∙ key_cmp-first_byte front a b xs bs less
 
 -- equal keys are the same
 pub same_from_test : (a b : List ℕ) → is_eq (key_cmp a b) ≡ true → a ≡ b

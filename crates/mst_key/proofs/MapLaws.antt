@@ -77,7 +77,7 @@ look-put_other m k v q other =
     (λ less. look-append_nothing front ((k, v) ∷ back) q (past ∙ look-filter_out (λ a. is_gt (key_cmp a k)) m q (ap is_gt less)) ∙ look-filter (λ a. is_lt (key_cmp a k)) m q (ap is_lt less))
     (λ same. absurd (other same))
     (λ more. let greater : key_cmp q k ≡ Greater = greater_from_less k q more in
-        look-append_absent front ((k, v) ∷ back) q (look-filter_out (λ a. is_lt (key_cmp a k)) m q (ap is_lt greater)) ∙ past ∙ look-filter (λ a. is_gt (key_cmp a k)) m q (ap is_gt greater))
+    look-append_absent front ((k, v) ∷ back) q (look-filter_out (λ a. is_lt (key_cmp a k)) m q (ap is_lt greater)) ∙ past ∙ look-filter (λ a. is_gt (key_cmp a k)) m q (ap is_gt greater))
 
 -- a key that was removed has no value
 pub look-remove_same : (m : List Pair) (k : List ℕ) → look (remove m k) k ≡ None
@@ -170,12 +170,12 @@ map_determined (p ∷ m) [] low high alike = absurd (first_differs p m [] tt (al
 map_determined (p ∷ m) (q ∷ n) low high alike = by_order {G = p ∷ m ≡ q ∷ n} p.0 q.0
     (λ less. absurd (first_differs p m (q ∷ n) (less, AllAbove-less n p.0 q.0 less high.0) (alike p.0)))
     (λ same.
-        let is : Some p.1 ≡ Some q.1 = sym (look-here p m p.0 refl) ∙ alike p.0 ∙ look-here q n p.0 (sym same) in
-        let value : p.1 ≡ q.1 = cc in
-        let rest : m ≡ n = map_determined m n low.1 high.1 (λ k. by_same {G = look m k ≡ look n k} p.0 k
-                (λ here. look-above m k (subst (AllAbove m) here low.0) ∙ sym (look-above n k (subst (AllAbove n) (sym same ∙ here) high.0)))
-                (λ other. sym (look-past p m k other) ∙ alike k ∙ look-past q n k (λ e. other (same ∙ e)))) in
-        λ i. (same i, value i) ∷ rest i)
+    let is : Some p.1 ≡ Some q.1 = sym (look-here p m p.0 refl) ∙ alike p.0 ∙ look-here q n p.0 (sym same) in
+    let value : p.1 ≡ q.1 = cc in
+    let rest : m ≡ n = map_determined m n low.1 high.1 (λ k. by_same {G = look m k ≡ look n k} p.0 k
+    (λ here. look-above m k (subst (AllAbove m) here low.0) ∙ sym (look-above n k (subst (AllAbove n) (sym same ∙ here) high.0)))
+    (λ other. sym (look-past p m k other) ∙ alike k ∙ look-past q n k (λ e. other (same ∙ e)))) in
+    λ i. (same i, value i) ∷ rest i)
     (λ more. absurd (first_differs q n (p ∷ m) (more, AllAbove-less m q.0 p.0 more low.0) (sym (alike q.0))))
 
 -- ---- changes that leave the map as it was

@@ -1,5 +1,5 @@
 -- What `look`, `put` and `remove` give at a place of the list: between the pairs below a key and the pairs above it.
-use Rattle.std.proofs.Common.{◌≡◌, ℕ, Bool, refl, subst, true, false, not, List, [], ◌∷◌, ◌++◌, Some, None, filter, sym, ap, ◌∙◌, append_assoc, Ordering, Less, Equal, is_eq, is_lt, is_gt}
+use Rattle.std.proofs.Common.{◌≡◌, ℕ, Bool, refl, subst, true, false, not, List, [], ◌∷◌, ◌++◌, Some, None, ◌+◌, length, length-append, arith, filter, sym, ap, ◌∙◌, append_assoc, Ordering, Less, Equal, is_eq, is_lt, is_gt}
 use Rattle.std.proofs.lemmas.List.{append-nil}
 use Rattle.std.proofs.lemmas.List.Elements.{filter-append}
 use Rattle.std.proofs.lemmas.Bool.{cond-true, cond-false}
@@ -129,19 +129,19 @@ remove-parts (p ∷ m) k rise =
     let is_other : Pair → Bool = λ q. not (is_eq (key_cmp q.0 k)) in
     by_order {G = remove (p ∷ m) k ≡ filter is_less (p ∷ m) ++ filter is_more (p ∷ m)} p.0 k
     (λ less.
-        let stays : remove (p ∷ m) k ≡ p ∷ remove m k = cond-true (is_other p) (p ∷ remove m k) (remove m k) (ap (λ (r : Ordering). not (is_eq r)) less) in
-        let low : filter is_less (p ∷ m) ≡ p ∷ filter is_less m = cond-true (is_less p) (p ∷ filter is_less m) (filter is_less m) (ap is_lt less) in
-        let high : filter is_more (p ∷ m) ≡ filter is_more m = cond-false (is_more p) (p ∷ filter is_more m) (filter is_more m) (ap is_gt less) in
-        stays ∙ ap (λ (l : List Pair). p ∷ l) (remove-parts m k rise.1) ∙ (λ i. sym low i ++ sym high i))
+    let stays : remove (p ∷ m) k ≡ p ∷ remove m k = cond-true (is_other p) (p ∷ remove m k) (remove m k) (ap (λ (r : Ordering). not (is_eq r)) less) in
+    let low : filter is_less (p ∷ m) ≡ p ∷ filter is_less m = cond-true (is_less p) (p ∷ filter is_less m) (filter is_less m) (ap is_lt less) in
+    let high : filter is_more (p ∷ m) ≡ filter is_more m = cond-false (is_more p) (p ∷ filter is_more m) (filter is_more m) (ap is_gt less) in
+    stays ∙ ap (λ (l : List Pair). p ∷ l) (remove-parts m k rise.1) ∙ (λ i. sym low i ++ sym high i))
     (λ same.
-        let above : AllAbove m k = subst (AllAbove m) same rise.0 in
-        let equal : key_cmp p.0 k ≡ Equal = equal_from_same p.0 k same in
-        let low : filter is_less (p ∷ m) ≡ [] = cond-false (is_less p) (p ∷ filter is_less m) (filter is_less m) (ap is_lt equal) ∙ above-dropped m k above in
-        let high : filter is_more (p ∷ m) ≡ m = cond-false (is_more p) (p ∷ filter is_more m) (filter is_more m) (ap is_gt equal) ∙ above-kept m k above in
-        remove-first m k p.0 p.1 equal above ∙ (λ i. sym low i ++ sym high i))
+    let above : AllAbove m k = subst (AllAbove m) same rise.0 in
+    let equal : key_cmp p.0 k ≡ Equal = equal_from_same p.0 k same in
+    let low : filter is_less (p ∷ m) ≡ [] = cond-false (is_less p) (p ∷ filter is_less m) (filter is_less m) (ap is_lt equal) ∙ above-dropped m k above in
+    let high : filter is_more (p ∷ m) ≡ m = cond-false (is_more p) (p ∷ filter is_more m) (filter is_more m) (ap is_gt equal) ∙ above-kept m k above in
+    remove-first m k p.0 p.1 equal above ∙ (λ i. sym low i ++ sym high i))
     (λ more.
-        let above : AllAbove (p ∷ m) k = (more, AllAbove-less m k p.0 more rise.0) in
-        above-stays (p ∷ m) k above ∙ (λ i. sym (above-dropped (p ∷ m) k above) i ++ sym (above-kept (p ∷ m) k above) i))
+    let above : AllAbove (p ∷ m) k = (more, AllAbove-less m k p.0 more rise.0) in
+    above-stays (p ∷ m) k above ∙ (λ i. sym (above-dropped (p ∷ m) k above) i ++ sym (above-kept (p ∷ m) k above) i))
 
 -- an ascending list is the pairs below a key, the key's own pair where it has one, and the pairs above it
 pub parts_absent : (m : List Pair) (k : List ℕ) → IsAscending m → look m k ≡ None → m ≡ filter (λ p. is_lt (key_cmp p.0 k)) m ++ filter (λ p. is_gt (key_cmp p.0 k)) m
@@ -149,3 +149,29 @@ parts_absent m k rise none = sym (remove-unchanged m k rise none) ∙ remove-par
 
 pub parts_found : (m : List Pair) (k v : List ℕ) → IsAscending m → look m k ≡ Some v → m ≡ filter (λ p. is_lt (key_cmp p.0 k)) m ++ (k, v) ∷ filter (λ p. is_gt (key_cmp p.0 k)) m
 parts_found m k v rise found = sym (put-unchanged m k v rise found)
+
+-- ---- how many pairs there are
+
+pub length-put_new : (m : List Pair) (k v : List ℕ) → IsAscending m → look m k ≡ None → length (put m k v) ≡ length m + 1
+length-put_new m k v rise none =
+    let low : List Pair = filter (λ (p : Pair). is_lt (key_cmp p.0 k)) m in
+    let high : List Pair = filter (λ (p : Pair). is_gt (key_cmp p.0 k)) m in
+    let old : length m ≡ length low + length high = ap length (parts_absent m k rise none) ∙ length-append low high in
+    let new : length (put m k v) ≡ length low + length ((k, v) ∷ high) = length-append low ((k, v) ∷ high) in
+    omega arith
+
+pub length-put_again : (m : List Pair) (k v w : List ℕ) → IsAscending m → look m k ≡ Some w → length (put m k v) ≡ length m
+length-put_again m k v w rise found =
+    let low : List Pair = filter (λ (p : Pair). is_lt (key_cmp p.0 k)) m in
+    let high : List Pair = filter (λ (p : Pair). is_gt (key_cmp p.0 k)) m in
+    let old : length m ≡ length low + length ((k, w) ∷ high) = ap length (parts_found m k w rise found) ∙ length-append low ((k, w) ∷ high) in
+    let new : length (put m k v) ≡ length low + length ((k, v) ∷ high) = length-append low ((k, v) ∷ high) in
+    omega arith
+
+pub length-remove : (m : List Pair) (k w : List ℕ) → IsAscending m → look m k ≡ Some w → length (remove m k) + 1 ≡ length m
+length-remove m k w rise found =
+    let low : List Pair = filter (λ (p : Pair). is_lt (key_cmp p.0 k)) m in
+    let high : List Pair = filter (λ (p : Pair). is_gt (key_cmp p.0 k)) m in
+    let old : length m ≡ length low + length ((k, w) ∷ high) = ap length (parts_found m k w rise found) ∙ length-append low ((k, w) ∷ high) in
+    let new : length (remove m k) ≡ length low + length high = ap length (remove-parts m k rise) ∙ length-append low high in
+    omega arith

@@ -1,4 +1,4 @@
--- An ordered map: the list of its pairs, whose keys rise strictly.
+-- An ordered map: the list of its pairs, whose keys rise strictly. `order_laws` and `map_laws` state what follows from these definitions.
 use Rattle.std.specs.Prelude.{◌≡◌, ℕ, not, if◌then◌else◌, List, [], ◌∷◌, ◌++◌, Option, Some, None, filter}
 use Rattle.std.specs.List.{AllByRecursion}
 use Rattle.std.specs.declared.cmp.Ordering.{Ordering}
@@ -28,12 +28,12 @@ abbrev pub IsAscending : List Pair → Type 0
 IsAscending [] = Unit {0}
 IsAscending (p ∷ m) = AllAbove m p.0 × IsAscending m
 
--- a list of pairs that is a map
+-- the list of pairs is a map: its keys rise strictly, and keys and values are within their limits
 pub record IsMap (m : List Pair) : Type 0 where
   pub ascending : IsAscending m
   pub limits : AllByRecursion (λ p. IsKey p.0 × IsValue p.1) m
 
--- the value of the key
+-- the value of the key, and `None` where no pair has the key
 abbrev pub look : List Pair → List ℕ → Option (List ℕ)
 look [] k = None
 look (p ∷ m) k = if is_eq (key_cmp p.0 k) then Some p.1 else look m k

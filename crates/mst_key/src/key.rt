@@ -1,9 +1,10 @@
-//! Keys.
+//! Keys: short byte strings in bytewise order.
 ghost use Rattle.std.specs.Prelude.{⊤, ◌≡◌, ◌↔◌, List, ℕ, IsOk, IfOk};
 ghost use Rattle.mst_key.specs.Bytes.{IsKey, IsBytes};
 
 use arrayvec::ArrayVec;
 use std::alloc::AllocError;
+use std::cmp::Ordering;
 use std::marker::Model;
 use thiserror::Error;
 
@@ -12,8 +13,8 @@ use thiserror::Error;
 #[error("a key has 1 to 32 bytes")]
 pub struct KeySize;
 
-/// A key: 1 to 32 bytes. Keys are ordered bytewise, the shorter first on a common front.
-#[derive(Debug, Drop, PartialEq, Eq, PartialOrd, Ord)]
+/// A key of the map: 1 to 32 bytes.
+#[derive(Debug, Drop, PartialEq, Eq)]
 pub struct Key {
     bytes: ArrayVec<u8, 32>,
 }
@@ -32,6 +33,39 @@ impl Model for Key {
     ghost inverse = { λ xs. record { bytes = record { items = xs } } };
 }
 
+/// Keys are ordered bytewise, the shorter first on a common front.
+impl Ord for Key {
+    ghost use Rattle.mst_key.specs.Map.{key_cmp};
+    ghost use Rattle.std.proofs.Common.{refl};
+    ghost use Rattle.std.specs.Cmp.Lexicographic.{nat_list_cmp_total, texts_ties};
+
+    ghost cmp = { key_cmp };
+
+    ghost total = { nat_list_cmp_total };
+
+    ghost matches_partial_cmp = { λ x y. refl };
+
+    ghost matches_eq = { texts_ties };
+
+    fn cmp(&self, other: &Key) -> Ordering {
+        self.bytes.cmp(&other.bytes)
+    }
+}
+
+impl PartialOrd for Key {
+    ghost use Rattle.mst_key.specs.Map.{key_cmp};
+    ghost use Rattle.std.specs.Cmp.Lexicographic.{texts_po};
+    ghost use Rattle.std.specs.Ordering.{as_partial_cmp};
+
+    ghost partial_cmp = { as_partial_cmp key_cmp };
+
+    ghost laws = { texts_po };
+
+    fn partial_cmp(&self, other: &Key) -> Option<Ordering> {
+        Some(self.cmp(other))
+    }
+}
+
 impl Clone for Key {
     ghost is_clone = { λ x y. y ≡ x };
 
@@ -43,7 +77,7 @@ impl Clone for Key {
 }
 
 impl Key {
-    /// The key of these bytes. `KeySize` comes exactly where they are none or more than 32.
+    /// The key of these bytes. `KeySize` comes exactly where there is none or more than 32 of them.
     pub fn new(bytes: &[u8]) -> Result<Key, KeySize>
         ensures ok { IfOk result (λ key. key ≡ bytes.now) }
         ensures when { IsOk result ↔ IsKey bytes.now }
@@ -57,7 +91,7 @@ impl Key {
         }
     }
 
-    /// The bytes of the key, 1 to 32.
+    /// The bytes of the key: 1 to 32, each below 256.
     pub fn bytes(&self) -> &[u8]
         ensures bytes { result.now ≡ self.now }
         ensures size { IsKey result.now }
@@ -66,11 +100,12 @@ impl Key {
         self.bytes.as_slice()
     }
 
-    /// The same key. It takes no memory.
+    /// The same key once more, as by `clone`, but with no error: it takes no memory.
     pub fn copy(&self) -> Key
         ensures same { result ≡ self.now }
     {
         let mut bytes = ArrayVec::new();
+        // there is room for 32 bytes
         let _ = bytes.try_extend_from_slice(self.bytes.as_slice());
         Key { bytes }
     }

@@ -1,12 +1,18 @@
-//! Keys and values of the map, and the history of the changes to it.
+//! Keys and values of the ordered map, and the history of the changes to it.
+//!
+//! `specs/` defines what the contracts of all crates speak of: the order of keys, a map with its look-ups and changes, and a history with the map that it leaves. `order_laws`, `map_laws` and `history_laws` prove what these definitions should satisfy.
 #![tactic(auto)]
 
 mod history;
 mod key;
+mod laws;
 mod memory;
+#[cfg(test)]
+mod tests;
 mod value;
 
 pub use history::{Change, Event};
 pub use key::{Key, KeySize};
+pub use laws::{history_laws, map_laws, order_laws};
 pub use memory::Memory;
 pub use value::{Value, ValueSize};

@@ -1,4 +1,4 @@
-//! Values.
+//! Values: short byte strings, which may be empty.
 ghost use Rattle.std.specs.Prelude.{⊤, ◌≡◌, ◌↔◌, List, ℕ, IsOk, IfOk};
 ghost use Rattle.mst_key.specs.Bytes.{IsValue, IsBytes};
 
@@ -12,7 +12,7 @@ use thiserror::Error;
 #[error("a value has at most 64 bytes")]
 pub struct ValueSize;
 
-/// A value: 0 to 64 bytes.
+/// A value of the map: 0 to 64 bytes.
 #[derive(Debug, Drop, PartialEq, Eq)]
 pub struct Value {
     bytes: ArrayVec<u8, 64>,
@@ -43,7 +43,7 @@ impl Clone for Value {
 }
 
 impl Value {
-    /// The value of these bytes. `ValueSize` comes exactly where they are more than 64.
+    /// The value of these bytes. `ValueSize` comes exactly where there are more than 64 of them.
     pub fn new(bytes: &[u8]) -> Result<Value, ValueSize>
         ensures ok { IfOk result (λ value. value ≡ bytes.now) }
         ensures when { IsOk result ↔ IsValue bytes.now }
@@ -54,7 +54,7 @@ impl Value {
         }
     }
 
-    /// The bytes of the value, 0 to 64.
+    /// The bytes of the value: 0 to 64, each below 256.
     pub fn bytes(&self) -> &[u8]
         ensures bytes { result.now ≡ self.now }
         ensures size { IsValue result.now }
@@ -63,11 +63,12 @@ impl Value {
         self.bytes.as_slice()
     }
 
-    /// The same value. It takes no memory.
+    /// The same value once more, as by `clone`, but with no error: it takes no memory.
     pub fn copy(&self) -> Value
         ensures same { result ≡ self.now }
     {
         let mut bytes = ArrayVec::new();
+        // there is room for 64 bytes
         let _ = bytes.try_extend_from_slice(self.bytes.as_slice());
         Value { bytes }
     }

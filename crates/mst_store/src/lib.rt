@@ -5,6 +5,8 @@ mod faults;
 mod list;
 mod pass;
 mod store;
+#[cfg(test)]
+mod tests;
 
 pub use faults::{Busy, OpenFault, WriteFault};
 pub use mst_key::Memory;

@@ -99,7 +99,7 @@ impl<A: Allocator + Copy> Store<A> {
         ensures ok { IfOk result (λ passes. passes.items ≡ new_passes self.now) }
         ensures err { IfErr result (λ refused. refused.1 ≡ seats) }
     {
-        let count = self.shape.passes;
+        let count = self.passes();
         let Ok(mut passes) = Vec::with_capacity(alloc, count as usize) else {
             return Err((Memory, seats));
         };

@@ -12,7 +12,7 @@ use Rattle.mst_words.specs.declared.view.View.{View}
 use Rattle.mst_words.specs.World.{SeatAt, Fits, IsPlaced, World, dealer, having_dealt, newcomer}
 use Rattle.mst_words.specs.Rule.{Ruled}
 use Rattle.mst_words.specs.Steps.{IsFree, Misses, takes_turn, gives_turn, adds_event}
-use Rattle.mst_words.proofs.Histories.{begins_whole}
+use Rattle.mst_key.proofs.HistoryLaws.{Begins-itself}
 use Rattle.mst_words.proofs.Worlds.{IsInPlaceOf, in_place, within, world_set, world_add, world_deal}
 
 two_passes : (a b next passes : ℕ) → 0 < a → 0 < b → (a ≡ b → ⊥) → a < next → b < next → next ≤ passes + 1 → 1 < passes
@@ -39,7 +39,7 @@ module _ {S : Type 0} (stands : S → ℕ → History → Type 0) (rows passes :
       holder = λ i u e on. ⊎_elim (λ (t : (i ≡ id) × (w ≡ u)). (subst (λ (z : ℕ). 0 < z) (sym now) some_pass, ap (λ (z : View). z.number) (sym t.1) ∙ number ∙ sym now, ap (λ (z : View). z.seen) (sym t.1)))
           (λ (t : (i ≢ id) × SeatAt s.views i u). let o = r.turn.holder i u t.1 on in let l = o.0 in absurd (omega arith)) (at_set s.views id i w u e);
     };
-    world = world_set rows passes r.next r.log s.views id v w r.world at (record { number = refl; deals = refl; rows = refl; passes = refl }) (record { seen = begins_whole r.log; told = f.told; own = f.own });
+    world = world_set rows passes r.next r.log s.views id v w r.world at (record { number = refl; deals = refl; rows = refl; passes = refl }) (record { seen = Begins-itself r.log; told = f.told; own = f.own });
   }
 
   -- nothing changes

@@ -9,7 +9,8 @@ use Rattle.mst_key.specs.declared.history.Event.{Event}
 use Rattle.mst_key.specs.History.{History, events_of, Begins}
 use Rattle.mst_words.specs.declared.view.View.{View}
 use Rattle.mst_words.specs.World.{SeatAt, Fits, IsPlaced, World, having_dealt, newcomer}
-use Rattle.mst_words.proofs.Histories.{begins_whole, begins_more, events_none, events_own, events_other}
+use Rattle.mst_key.proofs.HistoryLaws.{Begins-itself}
+use Rattle.mst_words.proofs.Histories.{begins_longer, events_none, events_own, events_other}
 
 -- a view that stands where another stood
 pub record IsInPlaceOf (v w : View) : Type 0 where
@@ -72,15 +73,15 @@ module _ (rows passes : ℕ) where
 
       own : Fits (log ++ e ∷ []) w
       own = let f = h.fits id v at in record {
-        seen = subst (λ (z : History). Begins z (log ++ e ∷ [])) (sym seen) (begins_whole (log ++ e ∷ []));
-        told = subst (λ (z : History). Begins z (log ++ e ∷ [])) (sym told) (begins_more v.told log (e ∷ []) f.told);
+        seen = subst (λ (z : History). Begins z (log ++ e ∷ [])) (sym seen) (Begins-itself (log ++ e ∷ []));
+        told = subst (λ (z : History). Begins z (log ++ e ∷ [])) (sym told) (begins_longer v.told log (e ∷ []) f.told);
         own = ap (λ (z : ℕ). events_of z (log ++ e ∷ [])) same.number ∙ events_own v.number log e of ∙ ap (λ (l : History). l ++ e ∷ []) f.own ∙ sym mine;
       }
 
       other : (i : ℕ) (u : View) → SeatAt views i u → i ≢ id → Fits (log ++ e ∷ []) u
       other i u s apart = let f = h.fits i u s in record {
-        seen = begins_more u.seen log (e ∷ []) f.seen;
-        told = begins_more u.told log (e ∷ []) f.told;
+        seen = begins_longer u.seen log (e ∷ []) f.seen;
+        told = begins_longer u.told log (e ∷ []) f.told;
         own = events_other u.number log e (λ (x : e.pass ≡ u.number). apart (sym (h.apart id i v u at s some_pass (sym of ∙ x)))) ∙ f.own;
       }
 

@@ -1,0 +1,32 @@
+use Rattle.mst_key.proofs.HistoryLaws.{IsMap-after, after-push, look-after_last, look-after_alone, Begins-itself, Begins-chain, Begins-both_ways, Begins-compare, events_of-append, events_of-between}
+use Rattle.mst_key.proofs.laws.history_laws.Goals as goal
+
+pub returns-clause-map : goal.returns-clause-map
+returns-clause-map c = IsMap-after
+
+pub returns-clause-step : goal.returns-clause-step
+returns-clause-step c = after-push
+
+pub returns-clause-last_change : goal.returns-clause-last_change
+returns-clause-last_change c = look-after_last
+
+pub returns-clause-no_change : goal.returns-clause-no_change
+returns-clause-no_change c = look-after_alone
+
+pub returns-clause-begins_itself : goal.returns-clause-begins_itself
+returns-clause-begins_itself c = Begins-itself
+
+pub returns-clause-begins_chain : goal.returns-clause-begins_chain
+returns-clause-begins_chain c = Begins-chain
+
+pub returns-clause-begins_both_ways : goal.returns-clause-begins_both_ways
+returns-clause-begins_both_ways c = Begins-both_ways
+
+pub returns-clause-begins_one : goal.returns-clause-begins_one
+returns-clause-begins_one c = Begins-compare
+
+pub returns-clause-events_append : goal.returns-clause-events_append
+returns-clause-events_append c = events_of-append
+
+pub returns-clause-events_between : goal.returns-clause-events_between
+returns-clause-events_between c = events_of-between

@@ -1,0 +1,72 @@
+//! Laws of the definitions that the contracts cite: the order of keys, maps and histories.
+//!
+//! The functions here do nothing. Each clause is a proved law, by which a reader can judge the definitions of `specs/`.
+ghost use Rattle.std.specs.Prelude.{◌≡◌, ◌≢◌, ◌↔◌, ◌⊎◌, ◌<◌, ℕ, List, [], ◌∷◌, ◌++◌, Some, None, Contains};
+ghost use Rattle.std.specs.Cmp.{IsTotalOrder};
+ghost use Rattle.std.specs.declared.cmp.Ordering.TheVariants.{Less, Equal};
+ghost use Rattle.mst_key.specs.Bytes.{IsKey, IsValue};
+ghost use Rattle.mst_key.specs.Map.{Pair, key_cmp, AllBelow, AllAbove, IsMap, look, put, remove};
+ghost use Rattle.mst_key.specs.declared.history.Event.{Event};
+ghost use Rattle.mst_key.specs.History.{History, changed, key_of, value_of, after, events_of, Begins, LeavesAlone, IsPossible};
+
+/// The order of keys is total and bytewise, with the shorter key first on a common front.
+pub fn order_laws()
+    ensures total { IsTotalOrder key_cmp }
+    ensures equal { (a b : List ℕ) → (key_cmp a b ≡ Equal) ↔ (a ≡ b) }
+    // the first byte in which two keys differ decides
+    ensures bytewise { (front : List ℕ) (a b : ℕ) (xs ys : List ℕ) → a < b
+        → key_cmp (front ++ a ∷ xs) (front ++ b ∷ ys) ≡ Less }
+    ensures shorter_first { (front : List ℕ) (b : ℕ) (ys : List ℕ)
+        → key_cmp front (front ++ b ∷ ys) ≡ Less }
+{}
+
+/// What a look-up finds after a put and after a remove, that both give maps, that a map is determined by its look-ups, and where its pairs stand.
+pub fn map_laws()
+    ensures put_same { (m : List Pair) (k v : List ℕ) → look (put m k v) k ≡ Some v }
+    ensures put_other { (m : List Pair) (k v q : List ℕ) → q ≢ k → look (put m k v) q ≡ look m q }
+    ensures remove_same { (m : List Pair) (k : List ℕ) → look (remove m k) k ≡ None }
+    ensures remove_other { (m : List Pair) (k q : List ℕ) → q ≢ k → look (remove m k) q ≡ look m q }
+    ensures empty_is_map { IsMap [] }
+    ensures put_is_map { (m : List Pair) (k v : List ℕ) → IsMap m → IsKey k → IsValue v
+        → IsMap (put m k v) }
+    ensures remove_is_map { (m : List Pair) (k : List ℕ) → IsMap m → IsMap (remove m k) }
+    // a look-up finds exactly the pairs of the list
+    ensures found { (m : List Pair) (k v : List ℕ) → IsMap m
+        → (look m k ≡ Some v) ↔ Contains m (k, v) }
+    ensures determined { (m n : List Pair) → IsMap m → IsMap n
+        → ((k : List ℕ) → look m k ≡ look n k) → m ≡ n }
+    // a put of the value that the key has, and a remove of an absent key, leave the map as it is
+    ensures put_again { (m : List Pair) (k v : List ℕ) → IsMap m → look m k ≡ Some v
+        → put m k v ≡ m }
+    ensures remove_absent { (m : List Pair) (k : List ℕ) → IsMap m → look m k ≡ None
+        → remove m k ≡ m }
+    // the pair of a key stands between the lesser keys and the greater ones
+    ensures put_adds { (front back : List Pair) (k v : List ℕ) → AllBelow front k → AllAbove back k
+        → put (front ++ back) k v ≡ front ++ (k, v) ∷ back }
+    ensures put_replaces { (front back : List Pair) (k v w : List ℕ) → AllBelow front k
+        → AllAbove back k
+        → put (front ++ (k, w) ∷ back) k v ≡ front ++ (k, v) ∷ back }
+    ensures remove_takes { (front back : List Pair) (k w : List ℕ) → AllBelow front k
+        → AllAbove back k
+        → remove (front ++ (k, w) ∷ back) k ≡ front ++ back }
+{}
+
+/// The map that a history leaves, the order by which one history begins another, and the events of a pass.
+pub fn history_laws()
+    ensures map { (h : History) → IsPossible h → IsMap (after h) }
+    ensures step { (h : History) (e : Event) → after (h ++ e ∷ []) ≡ changed (after h) e.change }
+    // a key has the value that the last change of it left, and none where it was never changed
+    ensures last_change { (g h : History) (e : Event) → LeavesAlone h (key_of e.change)
+        → look (after (g ++ e ∷ h)) (key_of e.change) ≡ value_of e.change }
+    ensures no_change { (h : History) (k : List ℕ) → LeavesAlone h k → look (after h) k ≡ None }
+    ensures begins_itself { (h : History) → Begins h h }
+    ensures begins_chain { (f g h : History) → Begins f g → Begins g h → Begins f h }
+    ensures begins_both_ways { (g h : History) → Begins g h → Begins h g → g ≡ h }
+    // of two beginnings of one history, one begins the other
+    ensures begins_one { (f g h : History) → Begins f h → Begins g h → Begins f g ⊎ Begins g f }
+    ensures events_append { (pass : ℕ) (g h : History)
+        → events_of pass (g ++ h) ≡ events_of pass g ++ events_of pass h }
+    // a history between two that have the same events of a pass has them too
+    ensures events_between { (pass : ℕ) (mine f g h : History) → Begins f g → Begins g h
+        → events_of pass f ≡ mine → events_of pass h ≡ mine → events_of pass g ≡ mine }
+{}

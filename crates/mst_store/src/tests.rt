@@ -1,0 +1,205 @@
+use crate::{Busy, Memory, OpenFault, Pass, Shape, Store, WriteFault};
+use linked_list_allocator::LocalHeap;
+use mst_key::{Key, Value};
+use std::alloc::{Allocator, Global};
+use std::process::Abort;
+use std::test::Fail;
+use std::thread::join;
+
+const SMALL: Shape = Shape { rows: 4, passes: 2 };
+
+fn key(rt: &impl Abort, bytes: &[u8]) -> Key {
+    let Ok(key) = Key::new(bytes) else {
+        panic!(rt; "a key has 1 to 32 bytes")
+    };
+    key
+}
+
+fn value(rt: &impl Abort, bytes: &[u8]) -> Value {
+    let Ok(value) = Value::new(bytes) else {
+        panic!(rt; "a value has at most 64 bytes")
+    };
+    value
+}
+
+// Whether a pass gets this value.
+fn gets<A: Allocator + Copy>(pass: &mut Pass<A>, key: &Key, value: &Value) -> bool {
+    pass.get(key) == Ok(Some(value.copy()))
+}
+
+#[test]
+fn passes_share_a_map(rt: HostRuntime) -> Result<(), Fail> {
+    let Ok((store, seats)) = Store::open(rt.alloc(), SMALL) else {
+        panic!(rt; "no memory")
+    };
+    let Ok(mut passes) = store.deal(rt.alloc(), seats) else {
+        panic!(rt; "no memory")
+    };
+    assert!(rt; store.passes() == 2 && passes.len() == 2);
+    let (Some(mut second), Some(mut first)) = (passes.pop(), passes.pop()) else {
+        panic!(rt; "two passes")
+    };
+    assert!(rt; first.number() == 1 && second.number() == 2);
+    let (abc, x, empty) = (key(&rt, b"abc"), value(&rt, b"x"), value(&rt, b""));
+    assert!(rt; first.try_put(&abc, &x) == Ok(None));
+    assert!(rt; gets(&mut second, &abc, &x));
+    assert!(rt; second.try_put(&abc, &empty) == Ok(Some(x)));
+    assert!(rt; gets(&mut first, &abc, &empty));
+    assert!(rt; first.get(&key(&rt, b"a")) == Ok(None));
+    Ok(())
+}
+
+#[test]
+fn a_full_store_refuses_new_keys_alone(rt: HostRuntime) -> Result<(), Fail> {
+    let Ok((store, seats)) = Store::open(rt.alloc(), SMALL) else {
+        panic!(rt; "no memory")
+    };
+    let Ok(mut passes) = store.deal(rt.alloc(), seats) else {
+        panic!(rt; "no memory")
+    };
+    let Some(mut pass) = passes.pop() else {
+        panic!(rt; "two passes")
+    };
+    let (x, y) = (value(&rt, b"x"), value(&rt, b"y"));
+    for byte in b"bdac" {
+        assert!(rt; pass.try_put(&key(&rt, &[*byte]), &x) == Ok(None));
+    }
+    assert!(rt; pass.try_put(&key(&rt, b"e"), &x) == Err(WriteFault::NoRoom));
+    assert!(rt; pass.get(&key(&rt, b"e")) == Ok(None));
+    assert!(rt; pass.try_put(&key(&rt, b"c"), &y) == Ok(Some(x.copy())));
+    for (bytes, wanted) in [(b"a", &x), (b"b", &x), (b"c", &y), (b"d", &x)] {
+        assert!(rt; gets(&mut pass, &key(&rt, bytes), wanted));
+    }
+    Ok(())
+}
+
+#[test]
+fn whoever_finds_the_turn_taken_is_told_so(rt: HostRuntime) -> Result<(), Fail> {
+    let Ok((store, seats)) = Store::open(rt.alloc(), SMALL) else {
+        panic!(rt; "no memory")
+    };
+    let Ok(mut passes) = store.deal(rt.alloc(), seats) else {
+        panic!(rt; "no memory")
+    };
+    let (Some(mut second), Some(first)) = (passes.pop(), passes.pop()) else {
+        panic!(rt; "two passes")
+    };
+    let Pass {
+        board,
+        mut seat,
+        number,
+    } = first;
+    assert!(rt; board.take_turn(&mut seat, number));
+    let (abc, x) = (key(&rt, b"abc"), value(&rt, b"x"));
+    assert!(rt; second.try_put(&abc, &x) == Err(WriteFault::Busy));
+    assert!(rt; second.get(&abc) == Err(Busy));
+    Ok(())
+}
+
+#[test]
+fn shapes_are_tested_before_memory(rt: HostRuntime) -> Result<(), Fail> {
+    let Ok(heap) = LocalHeap::new(rt.alloc(), 64) else {
+        panic!(rt; "no memory")
+    };
+    for (rows, passes) in [(3, 1), (65_536, 1), (4, 0), (4, 33)] {
+        let opened = Store::open(&heap, Shape { rows, passes });
+        assert!(rt; matches!(opened, Err(OpenFault::Shape)), "{rows} rows, {passes} passes");
+    }
+    for (rows, passes) in [(4, 1), (4, 32), (65_535, 1)] {
+        let opened = Store::open(&heap, Shape { rows, passes });
+        assert!(rt; matches!(opened, Err(OpenFault::Memory)), "{rows} rows, {passes} passes");
+        let opened = Store::open(rt.alloc(), Shape { rows, passes });
+        assert!(rt; opened.is_ok(), "{rows} rows, {passes} passes");
+    }
+    Ok(())
+}
+
+// Whether a store of a heap of so many bytes is opened. If not, the answer is memory, and nothing is kept.
+fn opens_in<R: Abort + AllocGlobal>(rt: &R, bytes: usize) -> bool {
+    let Ok(heap) = LocalHeap::new(rt.alloc(), bytes) else {
+        panic!(rt; "no memory")
+    };
+    match Store::open(&heap, SMALL) {
+        Ok(_) => true,
+        Err(fault) => {
+            assert!(rt; fault == OpenFault::Memory && heap.used() == 0);
+            false
+        }
+    }
+}
+
+#[test]
+fn each_growth_of_open_is_refused_in_turn(rt: HostRuntime) -> Result<(), Fail> {
+    // The list takes 448 bytes, so growths beyond the first are refused too.
+    let mut refused = 0u32;
+    for step in 1..64usize {
+        if !opens_in(&rt, step * 16) {
+            assert!(rt; refused as usize == step - 1, "once opened, a larger heap serves too");
+            refused = step as u32;
+        }
+    }
+    assert!(rt; 30 <= refused && refused < 63);
+    Ok(())
+}
+
+#[test]
+fn refused_seats_are_dealt_again(rt: HostRuntime) -> Result<(), Fail> {
+    let (Ok(heap), Ok((store, seats))) = (
+        LocalHeap::new(rt.alloc(), 16),
+        Store::open(rt.alloc(), SMALL),
+    ) else {
+        panic!(rt; "no memory")
+    };
+    let Err((Memory, seats)) = store.deal(&heap, seats) else {
+        panic!(rt; "16 bytes hold no two passes")
+    };
+    let Ok(mut passes) = store.deal(rt.alloc(), seats) else {
+        panic!(rt; "no memory")
+    };
+    let (Some(mut second), Some(mut first)) = (passes.pop(), passes.pop()) else {
+        panic!(rt; "two passes")
+    };
+    let (abc, x) = (key(&rt, b"abc"), value(&rt, b"x"));
+    assert!(rt; second.try_put(&abc, &x) == Ok(None));
+    assert!(rt; gets(&mut first, &abc, &x));
+    Ok(())
+}
+
+// Puts the values 0 to 99 at the key, each until it goes through, and answers how often another pass had the turn.
+fn put_all(pass: &mut Pass<Global>, key: &Key) -> u32 {
+    let mut busy = 0u32;
+    for number in 0..100u8 {
+        for _ in 0..1_000_000u32 {
+            let Ok(value) = Value::new(&[number]) else {
+                return busy;
+            };
+            if pass.try_put(key, &value).is_ok() {
+                break;
+            }
+            busy = busy.saturating_add(1);
+        }
+    }
+    busy
+}
+
+#[test]
+fn passes_in_two_threads_share_a_map(rt: HostRuntime) -> Result<(), Fail> {
+    let Ok((store, seats)) = Store::open(rt.alloc(), SMALL) else {
+        panic!(rt; "no memory")
+    };
+    let Ok(mut passes) = store.deal(rt.alloc(), seats) else {
+        panic!(rt; "no memory")
+    };
+    let (Some(mut second), Some(mut first)) = (passes.pop(), passes.pop()) else {
+        panic!(rt; "two passes")
+    };
+    let (a, b, last) = (key(&rt, b"a"), key(&rt, b"b"), value(&rt, &[99]));
+    let (_, _) = join(
+        &rt,
+        || -> u32 { put_all(&mut first, &a) },
+        || -> u32 { put_all(&mut second, &b) },
+    );
+    assert!(rt; gets(&mut first, &a, &last) && gets(&mut first, &b, &last));
+    assert!(rt; gets(&mut second, &a, &last) && gets(&mut second, &b, &last));
+    Ok(())
+}
