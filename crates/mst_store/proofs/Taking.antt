@@ -1,24 +1,19 @@
--- What the holder of the turn knows of the list that it took, and what the list stands for after a put.
+-- From the turn that was taken to what a caller learns.
 use Rattle.std.proofs.Common.{◌≡◌, ℕ, ◌+◌, ◌<◌, ◌≤◌, true, false, List, [], ◌∷◌, ◌++◌, length, Some, None, Option, sym, refl, ap, ◌∙◌, subst, arith, length-append, vec_capacity}
-use Rattle.atomic_table.specs.Table.{Me}
 use Rattle.atomic_table.specs.Seated.{TableId}
-use Rattle.mst_key.specs.declared.history.Change.{Change}
 use Rattle.mst_key.specs.declared.history.Event.{Event}
 use Rattle.mst_key.specs.History.{History, changed, key_of, after, events_of}
 use Rattle.mst_key.specs.Map.{Pair, IsAscending, look}
 use Rattle.mst_key.proofs.HistoryLaws.{after-push}
 use Rattle.mst_key.proofs.Ascending.{IsAscending-after}
-use Rattle.mst_words.proofs.Histories.{events_own}
 use Rattle.mst_words.specs.declared.view.View.{View}
 use Rattle.mst_words.specs.Rule.{on_slot}
 use Rattle.mst_words.specs.Steps.{Takes, Adds}
+use Rattle.mst_words.proofs.Histories.{events_own}
 use Rattle.mst_store.specs.declared.list.PairList.{PairList}
-use Rattle.mst_store.specs.Lists.{Stands, stands, HasRoom}
+use Rattle.mst_store.specs.Lists.{last_version, Stands, stands, HasRoom}
 use Rattle.mst_store.specs.Passes.{Known, Wrote}
-
--- what a pass has at its seat: its view, and the slot if it holds it
-abbrev pub Seated : Type 0 → Type 0
-Seated A = Me (Option (PairList A)) View
+use Rattle.mst_store.specs.Turns.{Seated, HoldsList, IsReturnable}
 
 module _ {A : Type 0} where
   list_of : (x : Option (PairList A)) (rows : ℕ) (log : History) → on_slot stands x rows log → (list : PairList A) × (x ≡ Some list)
@@ -34,23 +29,39 @@ module _ {A : Type 0} where
   slot_or x (y ∷ ys) = y.1
 
   -- the list that was taken out stands for what was then seen
-  pub list_stands : (m n : Seated A) (list : PairList A) → Takes (on_slot stands) m n → n.1 ≡ (0, Some list) ∷ [] → Stands list n.0.rows n.0.seen
-  list_stands m n list t is = let e : t.value ≡ Some list = ap (slot_or None) (sym (ap (λ (z : Seated A). z.1) t.is) ∙ is) in
-      let stood : Stands list m.0.rows t.log = subst (λ (x : Option (PairList A)). on_slot stands x m.0.rows t.log) e t.stood in
-      subst (λ (z : Seated A). Stands list z.0.rows z.0.seen) (sym t.is) stood
+  pub holds_list : (m n o : Seated A) (list : PairList A) → Takes (on_slot stands) m n → n.1 ≡ (0, Some list) ∷ [] → o ≡ (n.0, (0, None) ∷ []) → HoldsList m list o
+  holds_list m n o list t is out = let e : t.value ≡ Some list = ap (slot_or None) (sym (ap (λ (z : Seated A). z.1) t.is) ∙ is) in record {
+    log = t.log;
+    stood = subst (λ (x : Option (PairList A)). on_slot stands x m.0.rows t.log) e t.stood;
+    later = t.later;
+    own = t.own;
+    is = out ∙ ap (λ (z : Seated A). (z.0, (0, None) ∷ [])) t.is;
+  }
 
-  pub stands_ascending : (list : PairList A) (rows : ℕ) (log : History) → Stands list rows log → IsAscending list.pairs.items
-  stands_ascending list rows log s = subst IsAscending (sym s.map) (IsAscending-after log)
+  pub held_ascending : (m n : Seated A) (list : PairList A) → HoldsList m list n → IsAscending list.pairs.items
+  held_ascending m n list h = subst IsAscending (sym h.stood.map) (IsAscending-after h.log)
 
-  -- the list stands for the history with the event, if it is the map that the event's change leaves
-  pub stands_more : (list new : PairList A) (rows : ℕ) (log : History) (e : Event) → Stands list rows log → new.version ≡ list.version + 1 → new.pairs.items ≡ changed list.pairs.items e.change
-      → new.rows ≡ list.rows → new.rows ≤ vec_capacity new.pairs → list.version < 9223372036854775807 → Stands new rows (log ++ e ∷ [])
-  stands_more list new rows log e s version pairs same room few = let n : length (log ++ e ∷ []) ≡ length log + 1 = length-append log (e ∷ []) in let v = s.version_is in let r = s.rows_is in record {
-    map = pairs ∙ ap (λ (m : List Pair). changed m e.change) s.map ∙ sym (after-push log e);
-    version_is = omega arith;
-    numbered = omega arith;
-    rows_is = same ∙ s.rows_is;
-    room = omega arith;
+  -- the list that was taken may go back as it is
+  pub returnable : (m n : Seated A) (list : PairList A) → HoldsList m list n → IsReturnable list n.0.seen n
+  returnable m n list h = let view : n.0 ≡ (record m.0 { seen = h.log; turn = true }) = ap (λ (z : Seated A). z.0) h.is in record {
+    on = ap (λ (v : View). v.turn) view;
+    empty = ap (λ (z : Seated A). z.1) h.is;
+    stood = subst (λ (v : View). Stands list v.rows v.seen) (sym view) h.stood;
+  }
+
+  -- and with an event more, if it is the map that the event's change leaves
+  pub returnable_more : (m n : Seated A) (list new : PairList A) (e : Event) → HoldsList m list n → new.version ≡ list.version + 1 → new.pairs.items ≡ changed list.pairs.items e.change
+      → new.rows ≡ list.rows → new.rows ≤ vec_capacity new.pairs → list.version < last_version → IsReturnable new (n.0.seen ++ e ∷ []) n
+  returnable_more m n list new e h version pairs same room few = let r = returnable m n list h in let s = r.stood in record {
+    on = r.on;
+    empty = r.empty;
+    stood = let l : length (n.0.seen ++ e ∷ []) ≡ length n.0.seen + 1 = length-append n.0.seen (e ∷ []) in let v = s.version_is in let k = s.rows_is in record {
+      map = pairs ∙ ap (λ (p : List Pair). changed p e.change) s.map ∙ sym (after-push n.0.seen e);
+      version_is = omega arith;
+      numbered = omega arith;
+      rows_is = same ∙ s.rows_is;
+      room = omega arith;
+    };
   }
 
 -- a pass as its callers see it, from its seat
@@ -58,24 +69,21 @@ abbrev pub known : {A : Type 0} → TableId → ℕ → Seated A → Known
 known table number m = record { store = record { table = table; rows = m.0.rows; passes = m.0.passes }; number = number; seen = m.0.seen; mine = m.0.mine }
 
 -- the turn was taken, and given back with the event added: what the caller learns
-pub wrote : {A : Type 0} (table table' : TableId) (number : ℕ) (m taken held m' : Seated A) (list : PairList A) (e : Event) (old : Option (List ℕ))
-    → table' ≡ table → m.0.number ≡ number → e.pass ≡ number → Takes (on_slot stands) m taken → Stands list taken.0.rows taken.0.seen → held.0 ≡ taken.0 → Adds e held m'
-    → list.version < 9223372036854775807 → old ≡ look list.pairs.items (key_of e.change) → HasRoom list.rows list.pairs.items (key_of e.change)
+pub wrote : {A : Type 0} (table table' : TableId) (number : ℕ) (m held m' : Seated A) (list : PairList A) (e : Event) (old : Option (List ℕ))
+    → table' ≡ table → m.0.number ≡ number → e.pass ≡ number → HoldsList m list held → Adds e held m'
+    → list.version < last_version → old ≡ look list.pairs.items (key_of e.change) → HasRoom list.rows list.pairs.items (key_of e.change)
     → Wrote e (known table number m) old (known table' number m')
-wrote {A = A} table table' number m taken held m' list e old same mine of t s kept adds few answer room =
-    let view : taken.0 ≡ (record m.0 { seen = t.log; turn = true }) = ap (λ (z : Seated A). z.0) t.is in
-    let was : held.0 ≡ (record m.0 { seen = t.log; turn = true }) = kept ∙ view in
-    let end : m' ≡ (record m.0 { seen = t.log ++ e ∷ []; mine = m.0.mine ++ e ∷ []; turn = false }, []) = adds ∙ ap (λ (v : View). (record v { seen = v.seen ++ e ∷ []; mine = v.mine ++ e ∷ []; turn = false }, [])) was in
-    let map : list.pairs.items ≡ after t.log = s.map ∙ ap (λ (v : View). after v.seen) view in
-    let rows : list.rows ≡ m.0.rows = s.rows_is ∙ ap (λ (v : View). v.rows) view in record {
-      log = t.log;
+wrote {A = A} table table' number m held m' list e old same mine of h adds few answer room =
+    let was : held.0 ≡ (record m.0 { seen = h.log; turn = true }) = ap (λ (z : Seated A). z.0) h.is in
+    let end : m' ≡ (record m.0 { seen = h.log ++ e ∷ []; mine = m.0.mine ++ e ∷ []; turn = false }, []) = adds ∙ ap (λ (v : View). (record v { seen = v.seen ++ e ∷ []; mine = v.mine ++ e ∷ []; turn = false }, [])) was in record {
+      log = h.log;
       same = (λ i. record { table = same i; rows = (ap (λ (z : Seated A). z.0.rows) end) i; passes = (ap (λ (z : Seated A). z.0.passes) end) i }, refl);
-      later = t.later;
+      later = h.later;
       seen = ap (λ (z : Seated A). z.0.seen) end;
-      answer = answer ∙ ap (λ (l : List Pair). look l (key_of e.change)) map;
+      answer = answer ∙ ap (λ (l : List Pair). look l (key_of e.change)) h.stood.map;
       mine = ap (λ (z : Seated A). z.0.mine) end;
-      own = ap (λ (z : Seated A). events_of number z.0.seen) end ∙ ap (λ (n : ℕ). events_of n (t.log ++ e ∷ [])) (sym mine)
-          ∙ events_own m.0.number t.log e (of ∙ sym mine) ∙ ap (λ (l : History). l ++ e ∷ []) t.own ∙ sym (ap (λ (z : Seated A). z.0.mine) end);
-      numbered = let v = s.version_is in let l : length taken.0.seen ≡ length t.log = ap (λ (v : View). length v.seen) view in omega arith;
-      room = subst (λ (l : List Pair). HasRoom m.0.rows l (key_of e.change)) map (subst (λ (r : ℕ). HasRoom r list.pairs.items (key_of e.change)) rows room);
+      own = ap (λ (z : Seated A). events_of number z.0.seen) end ∙ ap (λ (n : ℕ). events_of n (h.log ++ e ∷ [])) (sym mine)
+          ∙ events_own m.0.number h.log e (of ∙ sym mine) ∙ ap (λ (l : History). l ++ e ∷ []) h.own ∙ sym (ap (λ (z : Seated A). z.0.mine) end);
+      numbered = let v = h.stood.version_is in omega arith;
+      room = subst (λ (l : List Pair). HasRoom m.0.rows l (key_of e.change)) h.stood.map (subst (λ (r : ℕ). HasRoom r list.pairs.items (key_of e.change)) h.stood.rows_is room);
     }

@@ -7,6 +7,7 @@ mod pass;
 mod store;
 #[cfg(test)]
 mod tests;
+mod turn;
 
 pub use faults::{Busy, OpenFault, WriteFault};
 pub use mst_key::Memory;

@@ -5,10 +5,11 @@ ghost use Rattle.mst_store.specs.Passes.{made_by, Wrote, Refuses, Reads, FindsBu
 
 use crate::faults::{Busy, WriteFault};
 use crate::list::PairList;
+use crate::turn::{give_back, give_back_with, take_list};
 use mst_key::{Change, Event, Key, Value};
 use mst_words::{Board, PassSeat};
 use std::alloc::Allocator;
-use std::marker::{Brand, Model};
+use std::marker::Model;
 
 /// A pass of a store. It may go to another thread, and each of its calls is one thread's.
 #[derive(Drop)]
@@ -45,13 +46,11 @@ impl<'a, A: Allocator + Copy> Pass<'a, A> {
         ensures ok { IfOk result (λ found. Reads key.now self.old found self.new) }
         ensures busy { OnErr result (FindsBusy self.old self.new) }
     {
-        if !self.board.take_turn(&mut self.seat, self.number) {
+        let Some(list) = take_list(self.board, &mut self.seat, self.number) else {
             return Err(Busy);
-        }
-        let list = self.board.take_desk(&mut self.seat);
+        };
         let found = list.get(key);
-        self.board.return_desk(&mut self.seat, list);
-        self.board.give_turn(&mut self.seat);
+        give_back(self.board, &mut self.seat, list);
         Ok(found)
     }
 
@@ -62,23 +61,20 @@ impl<'a, A: Allocator + Copy> Pass<'a, A> {
         ensures ok { IfOk result (λ old. Wrote (made_by self.old (Put key.now value.now)) self.old old self.new) }
         ensures err { IfErr result (λ fault. Refuses fault key.now self.old self.new) }
     {
-        if !self.board.take_turn(&mut self.seat, self.number) {
+        let Some(mut list) = take_list(self.board, &mut self.seat, self.number) else {
             return Err(WriteFault::Busy);
-        }
-        let mut list = self.board.take_desk(&mut self.seat);
-        let written = list.put(key, value);
-        self.board.return_desk(&mut self.seat, list);
-        match written {
+        };
+        match list.put(key, value) {
             Ok(old) => {
                 let event = Event {
                     pass: self.number,
                     change: Change::Put(key.copy(), value.copy()),
                 };
-                self.board.add_event::<Brand>(&mut self.seat, &event);
+                give_back_with(self.board, &mut self.seat, list, &event);
                 Ok(old)
             }
             Err(fault) => {
-                self.board.give_turn(&mut self.seat);
+                give_back(self.board, &mut self.seat, list);
                 Err(fault)
             }
         }

@@ -1,4 +1,4 @@
-use Rattle.mst_store.proofs.pass.Pass.try_put.Given as goal
+use Rattle.mst_store.proofs.turn.give_back_with.Given as goal
 
 -- the event that is added
 abbrev pub ghosts-add_event : goal.ghosts-add_event
