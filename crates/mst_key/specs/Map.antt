@@ -1,5 +1,6 @@
 -- An ordered map: the list of its pairs, whose keys rise strictly. `order_laws` and `map_laws` state what follows from these definitions.
-use Rattle.std.specs.Prelude.{◌≡◌, ℕ, not, if◌then◌else◌, List, [], ◌∷◌, ◌++◌, Option, Some, None, filter}
+use Rattle.std.specs.Prelude.{◌≡◌, ℕ, Bool, true, not, ◌&&◌, if◌then◌else◌, List, [], ◌∷◌, ◌++◌, Option, Some, None, filter, find, take}
+use Rattle.std.specs.Option.{option_map_or}
 use Rattle.std.specs.List.{AllByRecursion}
 use Rattle.std.specs.declared.cmp.Ordering.{Ordering}
 use Rattle.std.specs.declared.cmp.Ordering.TheVariants.{Less}
@@ -45,3 +46,21 @@ put m k v = filter (λ p. is_lt (key_cmp p.0 k)) m ++ (k, v) ∷ filter (λ p. i
 -- the map without the key
 abbrev pub remove : List Pair → List ℕ → List Pair
 remove m k = filter (λ p. not (is_eq (key_cmp p.0 k))) m
+
+-- whether the key is above the bound; at least the bound; below it. A bound that is not there does not bind
+abbrev pub above : Option (List ℕ) → List ℕ → Bool
+above bound k = option_map_or (λ b. is_gt (key_cmp k b)) bound true
+
+abbrev pub from_on : Option (List ℕ) → List ℕ → Bool
+from_on bound k = option_map_or (λ b. not (is_lt (key_cmp k b))) bound true
+
+abbrev pub below : Option (List ℕ) → List ℕ → Bool
+below bound k = option_map_or (λ b. is_lt (key_cmp k b)) bound true
+
+-- the pair of the least key above the bound
+abbrev pub successor : List Pair → Option (List ℕ) → Option Pair
+successor m bound = find (λ p. above bound p.0) m
+
+-- the first pairs, as many as the limit, of the keys at least `from` and below `to`
+abbrev pub span : List Pair → Option (List ℕ) → Option (List ℕ) → ℕ → List Pair
+span m from to limit = take limit (filter (λ p. from_on from p.0 && below to p.0) m)

@@ -1,16 +1,19 @@
 -- Places in a sorted list of pairs: what a binary search finds, and what `look` and `put` say there.
-use Rattle.std.proofs.Common.{◌≡◌, ℕ, zero, suc, ◌+◌, ◌<◌, ◌≤◌, List, [], ◌∷◌, ◌++◌, length, take, drop, set, get_or, Some, None, Ordering, Less, Equal, Greater, sym, refl, ap, ◌∙◌, subst, arith, add-one}
-use Rattle.std.specs.List.{slice_get, insert, AllWithin, HoldsAt, slice_index_or}
+use Rattle.std.proofs.Common.{◌≡◌, ℕ, zero, suc, ◌+◌, ◌<◌, ◌≤◌, List, [], ◌∷◌, ◌++◌, length, take, drop, set, get_or, Some, None, Bool, true, false, not, cond, ◌&&◌, ◌-◌, ◌⊎◌, ⊎_elim, min, Option, filter, find, Ordering, Less, Equal, Greater, sym, refl, ap, ◌∙◌, subst, arith, add-one}
+use Rattle.std.specs.List.{slice_get, insert, AllWithin, AllByRecursion, HoldsAt, slice_index_or}
 use Rattle.std.specs.Prelude.{Result, Ok, Err, MatchResult}
 use Rattle.std.specs.List.Sorted.{IsNonDecreasingBy, IsSearchInRange, IsBinarySearchResult}
 use Rattle.std.specs.Ordering.{ordering_index}
-use Rattle.std.proofs.Math.Seq.{drop-cons}
-use Rattle.std.proofs.lemmas.List.{take-append-drop}
+use Rattle.std.proofs.Math.Seq.{drop-cons, take-suc, take-length}
+use Rattle.std.proofs.Math.Nat.{min-eq_left, min-eq_right, min-le_left}
+use Rattle.std.proofs.lemmas.List.{take-append-drop, take_min, take-take, length-take}
+use Rattle.std.proofs.lemmas.Bool.{not-true, not-false, cases_lt}
 use Rattle.std.proofs.lemmas.Option.{slice_get-get_or, get_or_from_slice_get}
-use Rattle.mst_key.specs.Map.{Pair, key_cmp, AllBelow, AllAbove, IsAscending, look, put}
+use Rattle.mst_key.specs.Map.{Pair, key_cmp, AllBelow, AllAbove, IsAscending, look, put, remove, from_on, below, span}
+use Rattle.mst_key.proofs.Alls.{alls-append, alls-weaker}
 use Rattle.mst_key.proofs.KeyOrder.{same_from_equal, equal_from_same, greater_from_less, less_from_greater, less_chain}
-use Rattle.mst_key.proofs.Splits.{look-at, look-between, put-at, put-between, IsAscending-below, IsAscending-above}
-use Rattle.mst_store.specs.Lists.{IsBetween, IsAt, IsGap}
+use Rattle.mst_key.proofs.Splits.{look-at, look-between, put-at, put-between, remove-at, remove-between, IsAscending-below, IsAscending-above}
+use Rattle.mst_store.specs.Lists.{IsBetween, IsAt, IsGap, IsCut}
 
 -- ---- the keys of a sorted list stand in their order to any key
 
@@ -116,3 +119,120 @@ gap_looks m k i h = look-between m (take i m) (drop i m) k (sym (take-append-dro
 
 pub gap_puts : (m : List Pair) (k v : List ℕ) (i : ℕ) → IsGap m k i → insert m i (k, v) ≡ put m k v
 gap_puts m k v i h = sym (put-between m (take i m) (drop i m) k (sym (take-append-drop i m)) h.between.before h.between.behind v)
+
+pub at_removes : (m : List Pair) (k : List ℕ) (i : ℕ) → IsAt m k i → take i m ++ drop (suc i) m ≡ remove m k
+at_removes m k i h = sym (remove-at m (take i m) (drop (suc i) m) k k h.value (split_here m k i h) (equal_from_same k k refl) h.between.before (behind m k i h))
+
+pub gap_removes : (m : List Pair) (k : List ℕ) (i : ℕ) → IsGap m k i → m ≡ remove m k
+gap_removes m k i h = sym (remove-between m (take i m) (drop i m) k (sym (take-append-drop i m)) h.between.before h.between.behind)
+
+-- ---- a test that the pairs below a key pass, and those above it fail
+
+module _ (m : List Pair) (k : List ℕ) (i : ℕ) (test : Pair → Bool) (low : (p : Pair) → key_cmp p.0 k ≡ Less → test p ≡ true) (high : (p : Pair) → key_cmp p.0 k ≡ Greater → test p ≡ false) where
+  passes : (xs : List Pair) → AllBelow xs k → AllByRecursion (λ p. test p ≡ true) xs
+  passes = alls-weaker (λ p. key_cmp p.0 k ≡ Less) (λ p. test p ≡ true) low
+
+  fails : (xs : List Pair) → AllAbove xs k → AllByRecursion (λ p. test p ≡ false) xs
+  fails = alls-weaker (λ p. key_cmp k p.0 ≡ Less) (λ p. test p ≡ false) (λ p e. high p (greater_from_less k p.0 e))
+
+  -- no pair has the key
+  pub gap_cuts : IsGap m k i → IsCut test m i
+  gap_cuts h = record { within = h.within; front = passes (take i m) h.between.before; back = fails (drop i m) h.between.behind }
+
+  at_index : IsAt m k i → i < length m
+  at_index h = inside m i (k, h.value) h.here
+
+  at_back : (h : IsAt m k i) → drop i m ≡ (k, h.value) ∷ drop (suc i) m
+  at_back h = drop-cons m i (k, h.value) (at_index h) ∙ ap (λ (p : Pair). p ∷ drop (suc i) m) (get_or_from_slice_get m i (k, h.value) (k, h.value) h.here)
+
+  -- the pair of the key fails the test
+  pub at_cuts : (h : IsAt m k i) → test (k, h.value) ≡ false → IsCut test m i
+  at_cuts h fail = let l = at_index h in record {
+    within = omega (arith, l);
+    front = passes (take i m) h.between.before;
+    back = subst (AllByRecursion (λ (p : Pair). test p ≡ false)) (sym (at_back h)) (fail, fails (drop (suc i) m) (behind m k i h));
+  }
+
+  take_here : (h : IsAt m k i) → take (suc i) m ≡ take i m ++ (k, h.value) ∷ []
+  take_here h = take-suc m i (k, h.value) (at_index h) ∙ ap (λ (p : Pair). take i m ++ p ∷ []) (get_or_from_slice_get m i (k, h.value) (k, h.value) h.here)
+
+  -- or passes it
+  pub at_cuts_behind : (h : IsAt m k i) → test (k, h.value) ≡ true → IsCut test m (i + 1)
+  at_cuts_behind h pass = let l = at_index h in record {
+    within = omega (arith, l);
+    front = subst (λ (j : ℕ). AllByRecursion (λ (p : Pair). test p ≡ true) (take j m)) (sym (add-one i))
+        (subst (AllByRecursion (λ (p : Pair). test p ≡ true)) (sym (take_here h)) (alls-append (λ (p : Pair). test p ≡ true) (take i m) ((k, h.value) ∷ []) (passes (take i m) h.between.before) (pass, tt)));
+    back = fails (drop (i + 1) m) h.between.behind;
+  }
+
+-- a test that no pair passes, and one that all pass
+pub cuts_none : (m : List Pair) (test : Pair → Bool) → ((p : Pair) → test p ≡ false) → IsCut test m 0
+cuts_none m test fail = record { within = omega arith; front = tt; back = all m }
+  where
+    all : (xs : List Pair) → AllByRecursion (λ p. test p ≡ false) xs
+    all [] = tt
+    all (p ∷ xs) = (fail p, all xs)
+
+pub cuts_all : (m : List Pair) (test : Pair → Bool) → ((p : Pair) → test p ≡ true) → IsCut test m (length m)
+cuts_all m test pass = record { within = omega arith; front = all (take (length m) m); back = subst (AllByRecursion (λ (p : Pair). test p ≡ false)) (sym (drop-all m)) tt }
+  where
+    all : (xs : List Pair) → AllByRecursion (λ p. test p ≡ true) xs
+    all [] = tt
+    all (p ∷ xs) = (pass p, all xs)
+
+    drop-all : (xs : List Pair) → drop (length xs) xs ≡ []
+    drop-all [] = refl
+    drop-all (p ∷ xs) = drop-all xs
+
+-- ---- filters by two cuts
+
+-- the first pair behind a cut is the first that fails the test
+pub cut_finds : (m : List Pair) (test : Pair → Bool) (i : ℕ) → IsCut (λ p. not (test p)) m i → find test m ≡ slice_get m i
+cut_finds [] test zero h = refl
+cut_finds [] test (suc i) h = refl
+cut_finds (p ∷ m) test zero h = ap (λ (b : Bool). cond b (Some p) (find test m)) (not-false (test p) h.back.0)
+cut_finds (p ∷ m) test (suc i) h = ap (λ (b : Bool). cond b (Some p) (find test m)) (not-true (test p) h.front.0) ∙ cut_finds m test i (record { within = let l = h.within in omega arith; front = h.front.1; back = h.back })
+
+both_false : (a b : Bool) → b ≡ false → (a && b) ≡ false
+both_false true b e = e
+both_false false b e = refl
+
+nothing : (m : List Pair) (low high : Pair → Bool) → AllByRecursion (λ p. high p ≡ false) m → filter (λ p. low p && high p) m ≡ []
+nothing [] low high h = refl
+nothing (p ∷ m) low high h = ap (λ (b : Bool). cond b (p ∷ filter (λ q. low q && high q) m) (filter (λ q. low q && high q) m)) (both_false (low p) (high p) h.0) ∙ nothing m low high h.1
+
+-- where all pass the first test, those before the cut of the second are left
+front_left : (m : List Pair) (low high : Pair → Bool) (j : ℕ) → AllByRecursion (λ p. not (low p) ≡ false) m → IsCut high m j → filter (λ p. low p && high p) m ≡ take j m
+front_left m low high zero pass h = nothing m low high h.back
+front_left [] low high (suc j) pass h = refl
+front_left (p ∷ m) low high (suc j) pass h = let yes : (low p && high p) ≡ true = λ i. not-false (low p) pass.0 i && h.front.0 i in
+    ap (λ (b : Bool). cond b (p ∷ filter (λ q. low q && high q) m) (filter (λ q. low q && high q) m)) yes
+    ∙ ap (λ (xs : List Pair). p ∷ xs) (front_left m low high j pass.1 (record { within = let l = h.within in omega arith; front = h.front.1; back = h.back }))
+
+take_none : (n i : ℕ) → take n (drop {A = Pair} i []) ≡ []
+take_none zero i = refl
+take_none (suc n) zero = refl
+take_none (suc n) (suc i) = refl
+
+-- what passes two tests stands behind the cut of the first and before that of the second
+pub cut_filters : (m : List Pair) (low high : Pair → Bool) (i j : ℕ) → IsCut (λ p. not (low p)) m i → IsCut high m j → filter (λ p. low p && high p) m ≡ take (j - i) (drop i m)
+cut_filters [] low high i j a b = sym (take_none (j - i) i)
+cut_filters (p ∷ m) low high zero j a b = front_left (p ∷ m) low high j a.back b ∙ ap (λ (n : ℕ). take n (p ∷ m)) (let e : j ≡ j - 0 = omega arith in e)
+cut_filters (p ∷ m) low high (suc i) zero a b = nothing (p ∷ m) low high b.back ∙ ap (λ (n : ℕ). take n (drop i m)) (let e : 0 ≡ zero - suc i = omega arith in e)
+cut_filters (p ∷ m) low high (suc i) (suc j) a b = let no : (low p && high p) ≡ false = ap (λ (c : Bool). c && high p) (not-true (low p) a.front.0) in
+    ap (λ (c : Bool). cond c (p ∷ filter (λ q. low q && high q) m) (filter (λ q. low q && high q) m)) no
+    ∙ cut_filters m low high i j (record { within = let l = a.within in omega arith; front = a.front.1; back = a.back }) (record { within = let l = b.within in omega arith; front = b.front.1; back = b.back })
+    ∙ ap (λ (n : ℕ). take n (drop i m)) (let e : j - i ≡ suc j - suc i = omega arith in e)
+
+-- the first pairs of the first pairs
+take-twice : (a b : ℕ) (xs : List Pair) → take (min a b) xs ≡ take b (take a xs)
+take-twice a b xs = ⊎_elim (λ (l : a < b). few (omega arith)) (λ (l : b ≤ a). ap (λ (n : ℕ). take n xs) (min-eq_right l) ∙ sym (take-take b a xs l)) (cases_lt a b)
+  where
+    few : a ≤ b → take (min a b) xs ≡ take b (take a xs)
+    few l = let ys : List Pair = take a xs in let short : length ys ≤ b = omega (arith, length-take a xs, min-le_left a (length xs)) in
+        ap (λ (n : ℕ). take n xs) (min-eq_left l) ∙ sym (sym (take_min b ys) ∙ ap (λ (n : ℕ). take n ys) (min-eq_right short) ∙ take-length ys)
+
+pub cuts_span : (m : List Pair) (from to : Option (List ℕ)) (limit i j n : ℕ) → IsCut (λ p. not (from_on from p.0)) m i → IsCut (λ p. below to p.0) m j → n ≡ min (min (j - i) limit) (length (drop i m))
+    → take n (drop i m) ≡ span m from to limit
+cuts_span m from to limit i j n a b is = ap (λ (k : ℕ). take k (drop i m)) is ∙ take_min (min (j - i) limit) (drop i m) ∙ take-twice (j - i) limit (drop i m)
+    ∙ ap (take limit) (sym (cut_filters m (λ p. from_on from p.0) (λ p. below to p.0) i j a b))

@@ -71,7 +71,7 @@ known table number m = record { store = record { table = table; rows = m.0.rows;
 -- the turn was taken, and given back with the event added: what the caller learns
 pub wrote : {A : Type 0} (table table' : TableId) (number : ℕ) (m held m' : Seated A) (list : PairList A) (e : Event) (old : Option (List ℕ))
     → table' ≡ table → m.0.number ≡ number → e.pass ≡ number → HoldsList m list held → Adds e held m'
-    → list.version < last_version → old ≡ look list.pairs.items (key_of e.change) → HasRoom list.rows list.pairs.items (key_of e.change)
+    → list.version < last_version → old ≡ look list.pairs.items (key_of e.change) → HasRoom list.rows list.pairs.items e.change
     → Wrote e (known table number m) old (known table' number m')
 wrote {A = A} table table' number m held m' list e old same mine of h adds few answer room =
     let was : held.0 ≡ (record m.0 { seen = h.log; turn = true }) = ap (λ (z : Seated A). z.0) h.is in
@@ -85,5 +85,5 @@ wrote {A = A} table table' number m held m' list e old same mine of h adds few a
       own = ap (λ (z : Seated A). events_of number z.0.seen) end ∙ ap (λ (n : ℕ). events_of n (h.log ++ e ∷ [])) (sym mine)
           ∙ events_own m.0.number h.log e (of ∙ sym mine) ∙ ap (λ (l : History). l ++ e ∷ []) h.own ∙ sym (ap (λ (z : Seated A). z.0.mine) end);
       numbered = let v = h.stood.version_is in omega arith;
-      room = subst (λ (l : List Pair). HasRoom m.0.rows l (key_of e.change)) h.stood.map (subst (λ (r : ℕ). HasRoom r list.pairs.items (key_of e.change)) h.stood.rows_is room);
+      room = subst (λ (l : List Pair). HasRoom m.0.rows l e.change) h.stood.map (subst (λ (r : ℕ). HasRoom r list.pairs.items e.change) h.stood.rows_is room);
     }

@@ -1,6 +1,9 @@
 -- The sorted list of pairs that lies in the table's slot.
-use Rattle.std.specs.Prelude.{◌≡◌, ℕ, ◌+◌, ◌<◌, ◌≤◌, List, length, take, drop, None, Some, vec_capacity, slice_get}
+use Rattle.std.specs.Prelude.{◌≡◌, ℕ, Bool, true, false, ◌+◌, ◌<◌, ◌≤◌, List, length, take, drop, None, Some, vec_capacity, slice_get}
+use Rattle.std.specs.List.{AllByRecursion}
 use Rattle.mst_key.specs.Map.{Pair, AllBelow, AllAbove, look}
+use Rattle.mst_key.specs.declared.history.Change.{Change}
+use Rattle.mst_key.specs.declared.history.Change.TheVariants.{Put, Remove}
 use Rattle.mst_key.specs.History.{History, after}
 use Rattle.mst_store.specs.declared.faults.WriteFault.{WriteFault}
 use Rattle.mst_store.specs.declared.faults.WriteFault.TheVariants.{NoRoom, Busy, VersionsSpent}
@@ -37,15 +40,23 @@ pub record IsGap (m : List Pair) (k : List ℕ) (i : ℕ) : Type 0 where
   pub within : i ≤ length m
   pub between : IsBetween m k i i
 
--- a put of the key into the map finds room among so many rows, or not: a new key takes one more
-abbrev pub HasRoom : ℕ → List Pair → List ℕ → Type 0
-HasRoom rows m k = look m k ≡ None → length m < rows
+-- the pairs before the place pass the test, and those from it on do not
+pub record IsCut (test : Pair → Bool) (m : List Pair) (i : ℕ) : Type 0 where
+  pub within : i ≤ length m
+  pub front : AllByRecursion (λ p. test p ≡ true) (take i m)
+  pub back : AllByRecursion (λ p. test p ≡ false) (drop i m)
 
-abbrev pub LacksRoom : ℕ → List Pair → List ℕ → Type 0
-LacksRoom rows m k = (look m k ≡ None) × (rows ≤ length m)
+-- whether a change finds room for the map that it leaves, among so many rows: a put of a new key takes one more
+abbrev pub HasRoom : ℕ → List Pair → Change → Type 0
+HasRoom rows m (Put k v) = look m k ≡ None → length m < rows
+HasRoom rows m (Remove k) = Unit {0}
 
--- why a put of the key into the list is refused: first the version, then the room
-abbrev pub Blocks : {A : Type 0} → WriteFault → PairList A → List ℕ → Type 0
-Blocks Busy list k = ⊥
-Blocks VersionsSpent list k = list.version ≡ last_version
-Blocks NoRoom list k = (list.version < last_version) × LacksRoom list.rows list.pairs.items k
+abbrev pub LacksRoom : ℕ → List Pair → Change → Type 0
+LacksRoom rows m (Put k v) = (look m k ≡ None) × (rows ≤ length m)
+LacksRoom rows m (Remove k) = ⊥
+
+-- why a change of the list is refused: first the version, then the room
+abbrev pub Blocks : {A : Type 0} → WriteFault → PairList A → Change → Type 0
+Blocks Busy list change = ⊥
+Blocks VersionsSpent list change = list.version ≡ last_version
+Blocks NoRoom list change = (list.version < last_version) × LacksRoom list.rows list.pairs.items change

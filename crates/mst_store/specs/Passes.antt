@@ -3,11 +3,13 @@ use Rattle.std.specs.Prelude.{◌≡◌, ℕ, zero, suc, ◌+◌, ◌-◌, ◌<�
 use Rattle.atomic_table.specs.Seated.{TableId}
 use Rattle.mst_key.specs.declared.history.Change.{Change}
 use Rattle.mst_key.specs.declared.history.Event.{Event}
-use Rattle.mst_key.specs.History.{History, key_of, after, reply, events_of, Begins}
-use Rattle.mst_key.specs.Map.{look}
+use Rattle.mst_key.specs.History.{History, after, reply, events_of, Begins}
+use Rattle.mst_key.specs.Map.{Pair}
 use Rattle.mst_words.specs.declared.view.Shape.{Shape}
 use Rattle.mst_store.specs.declared.faults.WriteFault.{WriteFault}
 use Rattle.mst_store.specs.declared.faults.WriteFault.TheVariants.{NoRoom, Busy, VersionsSpent}
+use Rattle.mst_store.specs.declared.faults.ReadFault.{ReadFault}
+use Rattle.mst_store.specs.declared.faults.ReadFault.TheVariants as read
 use Rattle.mst_store.specs.Lists.{last_version, HasRoom, LacksRoom}
 
 -- which store it is, and its size
@@ -59,10 +61,10 @@ pub record Looks (p q : Known) : Type 0 where
   pub mine : q.mine ≡ p.mine
   pub own : events_of q.number q.seen ≡ q.mine
 
--- A read answered the value of the key in the map of the history that the pass has now seen
-pub record Reads (k : List ℕ) (p : Known) (found : Option (List ℕ)) (q : Known) : Type 0 where
+-- A read answered what this question asks of the map of the history that the pass has now seen
+pub record Answers {R : Type 0} (question : List Pair → R) (p : Known) (answer : R) (q : Known) : Type 0 where
   pub looks : Looks p q
-  pub answer : found ≡ look (after q.seen) k
+  pub answer_is : answer ≡ question (after q.seen)
 
 -- A write added its event right behind a history that begins with all that the pass had seen, and answered what that history replies. The pass has now seen both, and its events there are its own
 pub record Wrote (e : Event) (p : Known) (old : Option (List ℕ)) (q : Known) : Type 0 where
@@ -74,14 +76,19 @@ pub record Wrote (e : Event) (p : Known) (old : Option (List ℕ)) (q : Known) :
   pub mine : q.mine ≡ p.mine ++ e ∷ []
   pub own : events_of q.number q.seen ≡ q.mine
   pub numbered : length log < last_version
-  pub room : HasRoom p.store.rows (after log) (key_of e.change)
+  pub room : HasRoom p.store.rows (after log) e.change
 
 -- another pass has the turn, so there is one; nothing changed
 abbrev pub FindsBusy : Known → Known → Type 0
 FindsBusy p q = (q ≡ p) × (1 < p.store.passes)
 
--- Why a write of a key was refused. Nothing was added to the history
-abbrev pub Refuses : WriteFault → List ℕ → Known → Known → Type 0
-Refuses Busy k p q = FindsBusy p q
-Refuses VersionsSpent k p q = Looks p q × (length q.seen ≡ last_version)
-Refuses NoRoom k p q = Looks p q × (length q.seen < last_version) × LacksRoom q.store.rows (after q.seen) k
+-- Why a change was refused. Nothing was added to the history
+abbrev pub Refuses : WriteFault → Change → Known → Known → Type 0
+Refuses Busy change p q = FindsBusy p q
+Refuses VersionsSpent change p q = Looks p q × (length q.seen ≡ last_version)
+Refuses NoRoom change p q = Looks p q × (length q.seen < last_version) × LacksRoom q.store.rows (after q.seen) change
+
+-- Why a range was not answered. Nothing was added to the history
+abbrev pub Misses : ReadFault → Known → Known → Type 0
+Misses read.Busy p q = FindsBusy p q
+Misses read.Memory p q = Looks p q

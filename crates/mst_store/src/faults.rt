@@ -30,3 +30,14 @@ pub enum WriteFault {
 #[derive(Clone, Copy, Debug, PartialEq, Eq, Error)]
 #[error("another pass has the turn")]
 pub struct Busy;
+
+/// Why a range was not read.
+#[derive(Clone, Copy, Debug, PartialEq, Eq, Error)]
+pub enum ReadFault {
+    /// A growth was refused.
+    #[error("no memory")]
+    Memory,
+    /// Another pass had the turn.
+    #[error("another pass has the turn")]
+    Busy,
+}

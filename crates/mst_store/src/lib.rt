@@ -9,7 +9,7 @@ mod store;
 mod tests;
 mod turn;
 
-pub use faults::{Busy, OpenFault, WriteFault};
+pub use faults::{Busy, OpenFault, ReadFault, WriteFault};
 pub use mst_key::Memory;
 pub use mst_words::Shape;
 pub use pass::Pass;

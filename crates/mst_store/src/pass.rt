@@ -1,12 +1,14 @@
 //! A pass: the calls that one thread makes.
-ghost use Rattle.std.specs.Prelude.{◌≡◌, ◌<◌, IfOk, IfErr, OnErr};
-ghost use Rattle.mst_key.specs.declared.history.Change.TheVariants.{Put};
-ghost use Rattle.mst_store.specs.Passes.{made_by, Wrote, Refuses, Reads, FindsBusy};
+ghost use Rattle.std.specs.Prelude.{◌≡◌, IfOk, IfErr, OnOk, OnErr, length};
+ghost use Rattle.mst_key.specs.declared.history.Change.TheVariants.{Put, Remove};
+ghost use Rattle.mst_key.specs.Map.{look, successor, span};
+ghost use Rattle.std.specs.Option.{option_copied};
+ghost use Rattle.mst_store.specs.Passes.{made_by, Looks, Answers, Wrote, Refuses, Misses, FindsBusy};
 
-use crate::faults::{Busy, WriteFault};
+use crate::faults::{Busy, ReadFault, WriteFault};
 use crate::list::PairList;
 use crate::turn::{give_back, give_back_with, take_list};
-use mst_key::{Change, Event, Key, Value};
+use mst_key::{Change, Event, Key, Memory, Value};
 use mst_words::{Board, PassSeat};
 use std::alloc::Allocator;
 use std::marker::Model;
@@ -43,7 +45,7 @@ impl<'a, A: Allocator + Copy> Pass<'a, A> {
 
     /// The value of the key. `Busy` comes only where another pass has the turn. It takes no memory.
     pub fn get(&mut self, key: &Key) -> Result<Option<Value>, Busy>
-        ensures ok { IfOk result (λ found. Reads key.now self.old found self.new) }
+        ensures ok { IfOk result (λ found. Answers (λ m. look m key.now) self.old found self.new) }
         ensures busy { OnErr result (FindsBusy self.old self.new) }
     {
         let Some(list) = take_list(self.board, &mut self.seat, self.number) else {
@@ -54,22 +56,71 @@ impl<'a, A: Allocator + Copy> Pass<'a, A> {
         Ok(found)
     }
 
-    /// Gives the key the value, and answers the value that it had. It takes no memory.
+    /// The pair of the least key above the bound; with no bound, of the least key. `Busy` comes only where another pass has the turn. It takes no memory.
+    pub fn next(&mut self, after: Option<&Key>) -> Result<Option<(Key, Value)>, Busy>
+        ensures ok { IfOk result (λ found. Answers (λ m. successor m (option_copied after.entry)) self.old found self.new) }
+        ensures busy { OnErr result (FindsBusy self.old self.new) }
+    {
+        let Some(list) = take_list(self.board, &mut self.seat, self.number) else {
+            return Err(Busy);
+        };
+        let found = list.next(after);
+        give_back(self.board, &mut self.seat, list);
+        Ok(found)
+    }
+
+    /// The first pairs, at most `limit`, of the keys that are at least `from` and below `to`, in the order of their keys. A bound that is not given does not bind.
     ///
-    /// `Busy` comes only where another pass has the turn, else `VersionsSpent` exactly where the current version has the last number, else `NoRoom` exactly where the key is new and the map has as many keys as the store has rows.
-    pub fn try_put(&mut self, key: &Key, value: &Value) -> Result<Option<Value>, WriteFault>
-        ensures ok { IfOk result (λ old. Wrote (made_by self.old (Put key.now value.now)) self.old old self.new) }
-        ensures err { IfErr result (λ fault. Refuses fault key.now self.old self.new) }
+    /// `Busy` comes only where another pass has the turn, `Memory` where the growth of the list was refused.
+    pub fn range<B: Allocator>(
+        &mut self,
+        alloc: B,
+        from: Option<&Key>,
+        to: Option<&Key>,
+        limit: usize,
+    ) -> Result<Vec<(Key, Value), B>, ReadFault>
+        ensures ok { IfOk result (λ found. Answers (λ m. span m (option_copied from.entry) (option_copied to.entry) limit) self.old found.items self.new) }
+        ensures err { IfErr result (λ fault. Misses fault self.old self.new) }
+    {
+        let Some(list) = take_list(self.board, &mut self.seat, self.number) else {
+            return Err(ReadFault::Busy);
+        };
+        let found = list.range(alloc, from, to, limit);
+        give_back(self.board, &mut self.seat, list);
+        match found {
+            Ok(found) => Ok(found),
+            Err(Memory) => Err(ReadFault::Memory),
+        }
+    }
+
+    /// The number of the version: how many events there were. `Busy` comes only where another pass has the turn. It takes no memory.
+    pub fn version(&mut self) -> Result<u64, Busy>
+        ensures looks { OnOk result (Looks self.old self.new) }
+        ensures ok { IfOk result (λ version. version ≡ length self.new.seen) }
+        ensures busy { OnErr result (FindsBusy self.old self.new) }
+    {
+        let Some(list) = take_list(self.board, &mut self.seat, self.number) else {
+            return Err(Busy);
+        };
+        let version = list.version;
+        give_back(self.board, &mut self.seat, list);
+        Ok(version)
+    }
+
+    // Makes a change, and answers the value that its key had.
+    fn write(&mut self, change: Change) -> Result<Option<Value>, WriteFault>
+        ensures ok { IfOk result (λ old. Wrote (made_by self.old change) self.old old self.new) }
+        ensures err { IfErr result (λ fault. Refuses fault change self.old self.new) }
     {
         let Some(mut list) = take_list(self.board, &mut self.seat, self.number) else {
             return Err(WriteFault::Busy);
         };
-        match list.put(key, value) {
+        let event = Event {
+            pass: self.number,
+            change,
+        };
+        match list.apply(&event.change) {
             Ok(old) => {
-                let event = Event {
-                    pass: self.number,
-                    change: Change::Put(key.copy(), value.copy()),
-                };
                 give_back_with(self.board, &mut self.seat, list, &event);
                 Ok(old)
             }
@@ -78,5 +129,25 @@ impl<'a, A: Allocator + Copy> Pass<'a, A> {
                 Err(fault)
             }
         }
+    }
+
+    /// Gives the key the value, and answers the value that it had. It takes no memory.
+    ///
+    /// `Busy` comes only where another pass has the turn, else `VersionsSpent` exactly where the current version has the last number, else `NoRoom` exactly where the key is new and the map has as many keys as the store has rows.
+    pub fn try_put(&mut self, key: &Key, value: &Value) -> Result<Option<Value>, WriteFault>
+        ensures ok { IfOk result (λ old. Wrote (made_by self.old (Put key.now value.now)) self.old old self.new) }
+        ensures err { IfErr result (λ fault. Refuses fault (Put key.now value.now) self.old self.new) }
+    {
+        self.write(Change::Put(key.copy(), value.copy()))
+    }
+
+    /// Takes the key out of the map, and answers the value that it had. It takes no memory.
+    ///
+    /// `Busy` comes only where another pass has the turn, else `VersionsSpent` exactly where the current version has the last number.
+    pub fn try_remove(&mut self, key: &Key) -> Result<Option<Value>, WriteFault>
+        ensures ok { IfOk result (λ old. Wrote (made_by self.old (Remove key.now)) self.old old self.new) }
+        ensures err { IfErr result (λ fault. Refuses fault (Remove key.now) self.old self.new) }
+    {
+        self.write(Change::Remove(key.copy()))
     }
 }

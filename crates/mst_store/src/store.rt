@@ -1,5 +1,5 @@
 //! A store, and the dealing of its passes.
-ghost use Rattle.std.specs.Prelude.{◌≡◌, ◌↔◌, true, IfOk, IfErr, OnOk, IsErrOf};
+ghost use Rattle.std.specs.Prelude.{◌≡◌, ◌↔◌, true, length, IfOk, IfErr, OnOk, IsErrOf};
 ghost use Rattle.mst_store.specs.Passes.{IsShape, HasShape, new_passes};
 
 use crate::faults::OpenFault;
@@ -60,6 +60,7 @@ impl<A: Allocator + Copy> Store<A> {
     /// `Shape` comes exactly where the size is out of its limits, else `Memory` where a growth was refused.
     pub fn open(alloc: A, shape: Shape) -> Result<(Store<A>, Seats<A>), OpenFault>
         ensures shape { IsErrOf result OpenFault.Shape ↔ ¬ (IsShape shape) }
+        ensures limits { OnOk result (IsShape shape) }
         ensures store { IfOk result (λ opened. HasShape shape opened.0) }
         ensures seats { IfOk result (λ opened. opened.1 ≡ opened.0) }
     {
@@ -97,6 +98,7 @@ impl<A: Allocator + Copy> Store<A> {
     ) -> Result<Vec<Pass<'_, A>, B>, (Memory, Seats<A>)>
         requires own { seats ≡ self.now }
         ensures ok { IfOk result (λ passes. passes.items ≡ new_passes self.now) }
+        ensures count { IfOk result (λ passes. length passes.items ≡ self.now.passes) }
         ensures err { IfErr result (λ refused. refused.1 ≡ seats) }
     {
         let count = self.passes();

@@ -1,4 +1,4 @@
-use crate::{Busy, Memory, OpenFault, Pass, Shape, Store, WriteFault};
+use crate::{Busy, Memory, OpenFault, Pass, ReadFault, Shape, Store, WriteFault};
 use linked_list_allocator::LocalHeap;
 use mst_key::{Key, Value};
 use std::alloc::{Allocator, Global};
@@ -103,11 +103,17 @@ fn shapes_are_tested_before_memory(rt: HostRuntime) -> Result<(), Fail> {
     };
     for (rows, passes) in [(3, 1), (65_536, 1), (4, 0), (4, 33)] {
         let opened = Store::open(&heap, Shape { rows, passes });
-        assert!(rt; matches!(opened, Err(OpenFault::Shape)), "{rows} rows, {passes} passes");
+        assert!(rt;
+            matches!(opened, Err(OpenFault::Shape)),
+            "{rows} rows, {passes} passes"
+        );
     }
     for (rows, passes) in [(4, 1), (4, 32), (65_535, 1)] {
         let opened = Store::open(&heap, Shape { rows, passes });
-        assert!(rt; matches!(opened, Err(OpenFault::Memory)), "{rows} rows, {passes} passes");
+        assert!(rt;
+            matches!(opened, Err(OpenFault::Memory)),
+            "{rows} rows, {passes} passes"
+        );
         let opened = Store::open(rt.alloc(), Shape { rows, passes });
         assert!(rt; opened.is_ok(), "{rows} rows, {passes} passes");
     }
@@ -134,7 +140,10 @@ fn each_growth_of_open_is_refused_in_turn(rt: HostRuntime) -> Result<(), Fail> {
     let mut refused = 0u32;
     for step in 1..64usize {
         if !opens_in(&rt, step * 16) {
-            assert!(rt; refused as usize == step - 1, "once opened, a larger heap serves too");
+            assert!(rt;
+                refused as usize == step - 1,
+                "once opened, a larger heap serves too"
+            );
             refused = step as u32;
         }
     }
@@ -162,6 +171,84 @@ fn refused_seats_are_dealt_again(rt: HostRuntime) -> Result<(), Fail> {
     let (abc, x) = (key(&rt, b"abc"), value(&rt, b"x"));
     assert!(rt; second.try_put(&abc, &x) == Ok(None));
     assert!(rt; gets(&mut first, &abc, &x));
+    Ok(())
+}
+
+// A pair as its bytes.
+fn is_pair(pair: &(Key, Value), key: &[u8], value: &[u8]) -> bool {
+    pair.0.bytes() == key && pair.1.bytes() == value
+}
+
+#[test]
+fn reads_are_in_the_order_of_keys(rt: HostRuntime) -> Result<(), Fail> {
+    let Ok((store, seats)) = Store::open(rt.alloc(), SMALL) else {
+        panic!(rt; "no memory")
+    };
+    let Ok(mut passes) = store.deal(rt.alloc(), seats) else {
+        panic!(rt; "no memory")
+    };
+    let (Some(mut second), Some(mut first)) = (passes.pop(), passes.pop()) else {
+        panic!(rt; "two passes")
+    };
+    let (abc, a, b) = (key(&rt, b"abc"), key(&rt, b"a"), key(&rt, b"b"));
+    let (x, one) = (value(&rt, b"x"), value(&rt, b"1"));
+    assert!(rt; first.try_put(&abc, &x) == Ok(None) && first.try_put(&a, &one) == Ok(None));
+    let Ok(all) = first.range(rt.alloc(), None, None, 10) else {
+        panic!(rt; "no memory")
+    };
+    assert!(rt; all.len() == 2 && is_pair(&all[0], b"a", b"1") && is_pair(&all[1], b"abc", b"x"));
+    for (from, to, limit, count) in [
+        (None, None, 1, 1),
+        (None, None, 0, 0),
+        (Some(&a), Some(&abc), 10, 1),
+        (Some(&b), Some(&a), 10, 0),
+        (Some(&abc), None, 10, 1),
+        (Some(&b), None, 10, 0),
+    ] {
+        let Ok(some) = first.range(rt.alloc(), from, to, limit) else {
+            panic!(rt; "no memory")
+        };
+        assert!(rt; some.len() == count, "{count} of {limit}");
+    }
+    for (after, wanted) in [(None, Some(&a)), (Some(&a), Some(&abc)), (Some(&abc), None)] {
+        let Ok(found) = second.next(after) else {
+            panic!(rt; "one thread")
+        };
+        assert!(rt; found.is_some() == wanted.is_some());
+        if let (Some(pair), Some(wanted)) = (&found, wanted) {
+            assert!(rt; pair.0 == *wanted);
+        }
+    }
+    assert!(rt; second.try_remove(&a) == Ok(Some(one)) && first.try_remove(&a) == Ok(None));
+    let Ok(Some(pair)) = first.next(None) else {
+        panic!(rt; "one pair is left")
+    };
+    assert!(rt; is_pair(&pair, b"abc", b"x"));
+    assert!(rt; first.version() == Ok(4) && second.version() == Ok(4));
+    Ok(())
+}
+
+#[test]
+fn a_refused_range_leaves_the_pass_as_it_was(rt: HostRuntime) -> Result<(), Fail> {
+    let (Ok(heap), Ok((store, seats))) = (
+        LocalHeap::new(rt.alloc(), 16),
+        Store::open(rt.alloc(), SMALL),
+    ) else {
+        panic!(rt; "no memory")
+    };
+    let Ok(mut passes) = store.deal(rt.alloc(), seats) else {
+        panic!(rt; "no memory")
+    };
+    let Some(mut pass) = passes.pop() else {
+        panic!(rt; "two passes")
+    };
+    let (abc, x) = (key(&rt, b"abc"), value(&rt, b"x"));
+    assert!(rt; pass.try_put(&abc, &x) == Ok(None));
+    assert!(rt; matches!(pass.range(&heap, None, None, 10), Err(ReadFault::Memory)));
+    let Ok(pairs) = pass.range(rt.alloc(), None, None, 10) else {
+        panic!(rt; "no memory")
+    };
+    assert!(rt; pairs.len() == 1 && is_pair(&pairs[0], b"abc", b"x"));
     Ok(())
 }
 

@@ -6,7 +6,7 @@ use Rattle.mst_store.proofs.Places.{at_looks, at_puts, at_some, gap_looks, gap_p
 use Rattle.mst_store.proofs.list.PairList.put.Goals as goal
 
 pub returns-then-len-self-clause-refused : goal.returns-then-len-self-clause-refused
-returns-then-len-self-clause-refused g c = (omega (arith, c.requires.numbered, c.if-self-eq-LAST_VERSION.false), (gap_looks c.args.self.now.pairs.items c.args.key.now c.in-Err.i c.in-Err.ensures, search rules))
+returns-then-len-self-clause-refused g c = (c.requires.open, (gap_looks c.args.self.now.pairs.items c.args.key.now c.in-Err.i c.in-Err.ensures, search rules))
 
 pub returns-in-Ok-clause-answer : goal.returns-in-Ok-clause-answer
 returns-in-Ok-clause-answer g c = ap (λ (v : Value). Some v) c.replace-old.ensures.value ∙ at_looks c.args.self.now.pairs.items c.args.key.now c.in-Ok.i c.index_mut.result.now c.in-Ok.ensures c.index_mut.ensures.value
