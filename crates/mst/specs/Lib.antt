@@ -1,0 +1,9 @@
+pub mod Device
+pub mod Laws
+pub mod Lines
+pub mod Grammar
+pub mod Serving
+pub mod Texts
+pub mod Commanding
+pub mod Script
+pub mod Driving

@@ -1,0 +1,165 @@
+//! The programs, over a source and two sinks.
+ghost use Rattle.std.specs.Prelude.{◌≡◌, ◌<◌, ◌≤◌, ◌-◌, ◌+◌, ◌^◌, ◌↔◌, ◌⊎◌, ℕ, OnOk, OnErr, IfErr, IsOk};
+ghost use Rattle.mst.specs.Script.{Ran};
+ghost use Rattle.mst.specs.Commanding.{IsDevice, Untouched, status_of};
+
+use crate::device::pending::write_all;
+use crate::device::{Device, Sink, Source};
+use crate::driver::{RunFault, run};
+use crate::words::shape_in;
+use clap::error::ErrorKind;
+use mst_store::{OpenFault, Shape, Store};
+use std::alloc::{Allocator, Global};
+
+/// The exit statuses.
+const DONE: u8 = 0;
+
+const REFUSED: u8 = 2;
+
+const DEVICE: u8 = 3;
+
+const MEMORY: u8 = 4;
+
+/// Why a program ended early, and what it says on standard error.
+#[derive(Drop)]
+pub enum Refusal {
+    /// The words are refused: clap's own text.
+    Words(String),
+    /// A word is not UTF-8.
+    NotText,
+    /// The store cannot have this size.
+    Shape,
+    /// A read or a write failed.
+    Device,
+    /// A growth was refused.
+    Memory,
+}
+
+// Answers the lines of the source over a new store.
+pub fn run_script<A: Allocator + Copy, S: Source, W: Sink>(
+    alloc: A,
+    shape: Shape,
+    source: &mut S,
+    out: &mut W,
+) -> Result<(), Refusal>
+    requires source { S.failures source.old < 2 ^ 64 - 1 }
+    requires out { W.failures out.old < 2 ^ 64 - 1 }
+    ensures ran { OnOk result (Ran S.gives W.takes shape.passes source.old out.old source.new out.new) }
+    ensures ended { OnOk result (S.left source.new ≡ 0) }
+    ensures steady { OnOk result (S.failures source.new + W.failures out.new ≡ S.failures source.old + W.failures out.old) }
+    ensures device { IfErr result (λ why. IsDevice why (S.failures source.old + W.failures out.old) (S.failures source.new + W.failures out.new)) }
+    ensures unread { IfErr result (λ why. Untouched why source.old source.new) }
+    ensures unwritten { IfErr result (λ why. Untouched why out.old out.new) }
+{
+    let (store, seats) = match Store::open(alloc, shape) {
+        Ok(opened) => opened,
+        Err(OpenFault::Shape) => return Err(Refusal::Shape),
+        Err(OpenFault::Memory) => return Err(Refusal::Memory),
+    };
+    let Ok(mut passes) = store.deal(alloc, seats) else {
+        return Err(Refusal::Memory);
+    };
+    match run(&alloc, source, out, passes.as_mut_slice()) {
+        Ok(()) => Ok(()),
+        Err(RunFault::Device) => Err(Refusal::Device),
+        Err(RunFault::Memory) => Err(Refusal::Memory),
+    }
+}
+
+// Writes a whole text.
+fn put_text<W: Sink>(sink: &mut W, text: &str) -> Result<(), Device>
+    requires { W.failures sink.old < 2 ^ 64 - 1 }
+    ensures steady { OnOk result (W.failures sink.new ≡ W.failures sink.old) }
+    ensures failed { OnErr result (W.failures sink.old < W.failures sink.new) }
+{
+    write_all(sink, text.as_bytes())
+}
+
+// What clap answers words that are no run: help goes to standard output, and all else is a refusal.
+fn answer_words<W: Sink>(alloc: Global, error: &clap::Error, out: &mut W) -> Result<(), Refusal>
+    requires { W.failures out.old < 2 ^ 64 - 1 }
+    ensures steady { OnOk result (W.failures out.new ≡ W.failures out.old) }
+    ensures device { IfErr result (λ why. IsDevice why (W.failures out.old) (W.failures out.new)) }
+    ensures unwritten { IfErr result (λ why. Untouched why out.old out.new) }
+{
+    if error.kind() == ErrorKind::OutOfMemory {
+        return Err(Refusal::Memory);
+    }
+    let Ok(text) = format!(in alloc; "{error}") else {
+        return Err(Refusal::Memory);
+    };
+    if error.use_stderr() {
+        return Err(Refusal::Words(text));
+    }
+    match put_text(out, text.as_str()) {
+        Ok(()) => Ok(()),
+        Err(Device) => Err(Refusal::Device),
+    }
+}
+
+// Does what the words ask for.
+fn execute<S: Source, W: Sink>(
+    alloc: Global,
+    words: &[&str],
+    source: &mut S,
+    out: &mut W,
+) -> Result<(), Refusal>
+    requires source { S.failures source.old < 2 ^ 64 - 1 }
+    requires out { W.failures out.old < 2 ^ 64 - 1 }
+    ensures ran { OnOk result (((n : ℕ) × Ran S.gives W.takes n source.old out.old source.new out.new × (S.left source.new ≡ 0)) ⊎ (source.new ≡ source.old)) }
+    ensures steady { OnOk result (S.failures source.new + W.failures out.new ≡ S.failures source.old + W.failures out.old) }
+    ensures device { IfErr result (λ why. IsDevice why (S.failures source.old + W.failures out.old) (S.failures source.new + W.failures out.new)) }
+    ensures unread { IfErr result (λ why. Untouched why source.old source.new) }
+    ensures unwritten { IfErr result (λ why. Untouched why out.old out.new) }
+{
+    match shape_in(alloc, words) {
+        Ok(shape) => run_script(alloc, shape, source, out),
+        Err(error) => answer_words(alloc, &error, out),
+    }
+}
+
+// Says why a program ended early, and answers the exit status.
+pub fn complain<W: Sink>(err: &mut W, why: &Refusal) -> u8
+    requires { W.failures err.old < 2 ^ 64 - 1 }
+    ensures status { (W.failures err.new ≡ W.failures err.old) → result ≡ status_of why.now }
+    ensures failed { (W.failures err.new ≡ W.failures err.old) ⊎ ((W.failures err.old < W.failures err.new) × (result ≡ 3)) }
+{
+    let text = match why {
+        Refusal::Words(text) => text.as_str(),
+        Refusal::NotText => "error: invalid UTF-8 was detected in one or more arguments\n",
+        Refusal::Shape => "shape\n",
+        Refusal::Device => "device\n",
+        Refusal::Memory => "memory\n",
+    };
+    match (put_text(err, text), why) {
+        (Err(_), _) | (_, Refusal::Device) => DEVICE,
+        (_, Refusal::Memory) => MEMORY,
+        _ => REFUSED,
+    }
+}
+
+/// Does what the words ask for, the first of which is the program's name, and answers the exit
+/// status: 0 done, 2 words refused, 3 a read or a write failed, 4 a growth was refused. With 2, 3
+/// and 4 it says so on standard error, with 2 by clap's own text or `shape`.
+pub fn command<S: Source, O: Sink, E: Sink>(
+    alloc: Global,
+    words: &[&str],
+    source: &mut S,
+    out: &mut O,
+    err: &mut E,
+) -> u8
+    requires source { S.failures source.old < 2 ^ 64 - 1 }
+    requires out { O.failures out.old < 2 ^ 64 - 1 }
+    requires err { E.failures err.old < 2 ^ 64 - 1 }
+    ensures range { (result ≡ 0) ⊎ (result ≡ 2) ⊎ (result ≡ 3) ⊎ (result ≡ 4) }
+    ensures device { (result ≡ 3) ↔ (S.failures source.old + O.failures out.old + E.failures err.old < S.failures source.new + O.failures out.new + E.failures err.new) }
+    ensures done { result ≡ 0 → ((n : ℕ) × Ran S.gives O.takes n source.old out.old source.new out.new × (S.left source.new ≡ 0)) ⊎ (source.new ≡ source.old) }
+    ensures silent { result ≡ 0 → err.new ≡ err.old }
+    ensures refused { result ≡ 2 → (source.new ≡ source.old) × (out.new ≡ out.old) }
+    ensures memory { result ≡ 4 → (source.new ≡ source.old) × (out.new ≡ out.old) }
+{
+    match execute(alloc, words, source, out) {
+        Ok(()) => DONE,
+        Err(why) => complain(err, &why),
+    }
+}

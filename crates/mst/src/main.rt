@@ -1,0 +1,54 @@
+//! The programs of the map.
+#![tactic(auto)]
+
+mod answer;
+mod command;
+mod device;
+mod driver;
+mod fields;
+mod line;
+mod parse;
+mod request;
+mod serve;
+#[cfg(test)]
+mod tests;
+mod words;
+
+use command::{Refusal, command, complain};
+use device::standard::{StdSink, StdSource};
+use std::alloc::Global;
+use std::process::ExitCode;
+use std::{env, io};
+
+// The words of the command line, with the program's name first.
+fn arguments(rt: &HostRuntime) -> Result<Vec<String>, Refusal> {
+    match env::args(rt) {
+        Ok(words) => match words.collect(rt.alloc()) {
+            Ok(words) => Ok(words),
+            Err(_) => Err(Refusal::Memory),
+        },
+        Err(error) if error.kind() == io::ErrorKind::OutOfMemory => Err(Refusal::Memory),
+        Err(_) => Err(Refusal::NotText),
+    }
+}
+
+fn main(rt: HostRuntime) -> ExitCode {
+    let mut source = StdSource::new(rt.stdin());
+    let mut out = StdSink::new(rt.stdout());
+    let mut err = StdSink::new(rt.stderr());
+    let words = match arguments(&rt) {
+        Ok(words) => words,
+        Err(why) => return ExitCode::from(complain(&mut err, &why)),
+    };
+    let Ok(words) = words.iter().map(|word| word.as_str()).collect(rt.alloc()) else {
+        return ExitCode::from(complain(&mut err, &Refusal::Memory));
+    };
+    let words: Vec<&str> = words;
+    ExitCode::from(command(
+        rt.alloc(),
+        words.as_slice(),
+        &mut source,
+        &mut out,
+        &mut err,
+    ))
+}

@@ -1,0 +1,29 @@
+//! What no clause says: whole scripts, the texts for the user, and devices and memory that fail.
+mod failures;
+mod scripts;
+mod words;
+
+use crate::command::command;
+use crate::device::bytes::{BytesSink, BytesSource};
+use std::alloc::{AllocError, Global};
+
+/// The exit status of a program, and what it wrote.
+#[derive(Drop)]
+struct Outcome {
+    status: u8,
+    out: Vec<u8>,
+    err: Vec<u8>,
+}
+
+/// Runs the program over memory.
+fn outcome_of(alloc: Global, words: &[&str], input: &[u8]) -> Result<Outcome, AllocError> {
+    let mut source = BytesSource::new(input);
+    let mut out = BytesSink::new(alloc, 65_536)?;
+    let mut err = BytesSink::new(alloc, 65_536)?;
+    let status = command(alloc, words, &mut source, &mut out, &mut err);
+    Ok(Outcome {
+        status,
+        out: out.bytes().to_vec(alloc)?,
+        err: err.bytes().to_vec(alloc)?,
+    })
+}

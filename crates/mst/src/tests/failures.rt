@@ -1,0 +1,201 @@
+//! Devices and memory that fail, and devices that take their time.
+use crate::command::{Refusal, command, complain, run_script};
+use crate::device::bytes::{BytesSink, BytesSource};
+use crate::device::standard::{StdSink, StdSource};
+use linked_list_allocator::LocalHeap;
+use mst_store::Shape;
+use std::alloc::Global;
+use std::io::{self, Read, Write};
+use std::test::Fail;
+
+const SCRIPT: &[u8] = b"1 put 61 31\n2 get 61\n1 frob\n3 put 61 -\n4 get 61";
+
+const ANSWERS: &[u8] = b"none\nsome 31\nfault L3\nsome 31\nsome -\n";
+
+/// Reads at most so many bytes at a time, and fails after so many reads.
+#[derive(Drop)]
+struct Reader<'a> {
+    rest: &'a [u8],
+    most: usize,
+    reads: u64,
+}
+
+impl<'a> Read for Reader<'a> {
+    fn read(&mut self, buf: &mut [u8]) -> io::Result<usize> {
+        if self.reads == 0 {
+            return Err(io::Error::from(io::ErrorKind::BrokenPipe));
+        }
+        self.reads -= 1;
+        let count = self.rest.len().min(buf.len()).min(self.most);
+        let (front, rest) = self.rest.split_at(count);
+        buf[..count].copy_from_slice(front);
+        self.rest = rest;
+        Ok(count)
+    }
+}
+
+/// Writes at most so many bytes at a time, and fails after so many writes: by a write of 0 or an error.
+#[derive(Drop)]
+struct Writer {
+    bytes: Vec<u8>,
+    most: usize,
+    writes: u64,
+    by_zero: bool,
+}
+
+impl Writer {
+    fn new(alloc: Global, most: usize, writes: u64, by_zero: bool) -> Writer {
+        Writer {
+            bytes: Vec::new(alloc),
+            most,
+            writes,
+            by_zero,
+        }
+    }
+}
+
+impl Write for Writer {
+    fn write(&mut self, buf: &[u8]) -> io::Result<usize> {
+        if self.writes == 0 {
+            if self.by_zero {
+                return Ok(0);
+            }
+            return Err(io::Error::from(io::ErrorKind::BrokenPipe));
+        }
+        self.writes -= 1;
+        let count = buf.len().min(self.most);
+        self.bytes.extend_from_slice(&buf[..count])?;
+        Ok(count)
+    }
+
+    fn flush(&mut self) -> io::Result<()> {
+        Ok(())
+    }
+}
+
+/// Runs the script between such devices, and answers the exit status.
+fn status_of(alloc: Global, reader: Reader<'_>, out: &mut Writer, err: &mut Writer) -> u8 {
+    let mut source = StdSource::new(reader);
+    let mut out = StdSink::new(out);
+    let mut err = StdSink::new(err);
+    command(alloc, &["mst", "run"], &mut source, &mut out, &mut err)
+}
+
+// One byte at a read and one at a write.
+#[test]
+fn devices_may_take_their_time(rt: HostRuntime) -> Result<(), Fail> {
+    for (read_most, write_most) in [(1, 1), (1, 9), (9, 1), (3, 2)] {
+        let reader = Reader {
+            rest: SCRIPT,
+            most: read_most,
+            reads: u64::MAX,
+        };
+        let mut out = Writer::new(rt.alloc(), write_most, u64::MAX, false);
+        let mut err = Writer::new(rt.alloc(), 1, u64::MAX, false);
+        let status = status_of(rt.alloc(), reader, &mut out, &mut err);
+        assert_eq!(rt; out.bytes.as_slice(), ANSWERS);
+        assert_eq!(rt; err.bytes.len(), 0);
+        assert_eq!(rt; status, 0);
+    }
+    Ok(())
+}
+
+// With a read that fails, all complete lines before it are answered.
+#[test]
+fn reads_fail(rt: HostRuntime) -> Result<(), Fail> {
+    for (most, reads, answered) in [
+        (9, 0, 0),
+        (9, 1, 0),
+        (9, 2, 5),
+        (9, 3, 13),
+        (9, 4, 22),
+        (9, 5, 30),
+        (9, 6, 30),
+        (64, 1, 30),
+    ] {
+        let reader = Reader {
+            rest: SCRIPT,
+            most,
+            reads,
+        };
+        let mut out = Writer::new(rt.alloc(), 64, u64::MAX, false);
+        let mut err = Writer::new(rt.alloc(), 64, u64::MAX, false);
+        let status = status_of(rt.alloc(), reader, &mut out, &mut err);
+        assert_eq!(rt;
+            out.bytes.as_slice(),
+            &ANSWERS[..answered],
+            "after {reads} reads"
+        );
+        assert_eq!(rt; err.bytes.as_slice(), b"device\n".as_slice());
+        assert_eq!(rt; status, 3);
+    }
+    Ok(())
+}
+
+// With a write that fails, what was written is a beginning of the answers.
+#[test]
+fn writes_fail(rt: HostRuntime) -> Result<(), Fail> {
+    for by_zero in [false, true] {
+        for writes in 0..ANSWERS.len() as u64 {
+            let reader = Reader {
+                rest: SCRIPT,
+                most: 9,
+                reads: u64::MAX,
+            };
+            let mut out = Writer::new(rt.alloc(), 1, writes, by_zero);
+            let mut err = Writer::new(rt.alloc(), 64, u64::MAX, false);
+            let status = status_of(rt.alloc(), reader, &mut out, &mut err);
+            assert_eq!(rt; out.bytes.len() as u64, writes);
+            assert!(rt; ANSWERS.starts_with(out.bytes.as_slice()));
+            assert_eq!(rt; err.bytes.as_slice(), b"device\n".as_slice());
+            assert_eq!(rt; status, 3);
+        }
+    }
+    Ok(())
+}
+
+// Where standard error fails too, the status still says so.
+#[test]
+fn standard_error_fails(rt: HostRuntime) -> Result<(), Fail> {
+    for (reads, status) in [(0, 3), (u64::MAX, 0)] {
+        let reader = Reader {
+            rest: SCRIPT,
+            most: 9,
+            reads,
+        };
+        let mut out = Writer::new(rt.alloc(), 64, u64::MAX, false);
+        let mut err = Writer::new(rt.alloc(), 64, 0, false);
+        assert_eq!(rt; status_of(rt.alloc(), reader, &mut out, &mut err), status);
+    }
+    Ok(())
+}
+
+// A heap of each size: too small for one growth after another, and then large enough for all.
+#[test]
+fn growths_are_refused(rt: HostRuntime) -> Result<(), Fail> {
+    let shape = Shape { rows: 4, passes: 4 };
+    let mut was_short = false;
+    let mut was_enough = false;
+    for step in 0..40 {
+        let heap = LocalHeap::new(rt.alloc(), 64 + 4_096 * step)?;
+        let mut source = BytesSource::new(SCRIPT);
+        let mut out = BytesSink::new(rt.alloc(), 64)?;
+        let mut err = BytesSink::new(rt.alloc(), 64)?;
+        match run_script(&heap, shape, &mut source, &mut out) {
+            Ok(()) => {
+                was_enough = true;
+                assert_eq!(rt; out.bytes(), ANSWERS);
+            }
+            Err(why) => {
+                was_short = true;
+                assert!(rt; matches!(&why, Refusal::Memory));
+                assert_eq!(rt; out.bytes().len(), 0);
+                assert_eq!(rt; complain(&mut err, &why), 4);
+                assert_eq!(rt; err.bytes(), b"memory\n".as_slice());
+                assert!(rt; !was_enough);
+            }
+        }
+    }
+    assert!(rt; was_short && was_enough);
+    Ok(())
+}

@@ -1,0 +1,93 @@
+//! The words of the command line, and what the user is told.
+use super::outcome_of;
+use std::test::Fail;
+
+const HELP: &str = "A map of short keys to short values, shared by several passes
+
+Usage: mst <COMMAND>
+
+Commands:
+  run   Answers the lines of standard input, each of them a put or a get of a pass
+  help  Print this message or the help of the given subcommand(s)
+
+Options:
+  -h, --help  Print help
+";
+
+const RUN_HELP: &str = "Answers the lines of standard input, each of them a put or a get of a pass
+
+Usage: mst run [OPTIONS]
+
+Options:
+      --rows <N>    How many rows the store has, 4 to 65535 [default: 1024]
+      --passes <N>  How many passes the store has, 1 to 32 [default: 4]
+  -h, --help        Print help
+";
+
+const NO_NUMBER: &str = "error: invalid value 'x' for '--rows <N>': invalid digit found in string
+
+For more information, try '--help'.
+";
+
+const TOO_LARGE: &str =
+    "error: invalid value '4294967296' for '--passes <N>': 4294967296 is not in 0..=4294967295
+
+For more information, try '--help'.
+";
+
+const TWICE: &str = "error: the argument '--rows <N>' cannot be used multiple times
+
+Usage: mst run [OPTIONS]
+
+For more information, try '--help'.
+";
+
+const NO_VALUE: &str = "error: a value is required for '--rows <N>' but none was supplied
+
+For more information, try '--help'.
+";
+
+const NO_COMMAND: &str = "error: unrecognized subcommand 'frob'
+
+Usage: mst <COMMAND>
+
+For more information, try '--help'.
+";
+
+// The words, the status, and what stands on the two outputs where the input is one get.
+#[test]
+fn words_are_read(rt: HostRuntime) -> Result<(), Fail> {
+    let rows: [(&[&str], u8, &str, &str); 19] = [
+        (&["mst", "run"], 0, "none\n", ""),
+        (&["mst", "run", "--rows", "4"], 0, "none\n", ""),
+        (
+            &["mst", "run", "--rows=65535", "--passes=32"],
+            0,
+            "none\n",
+            "",
+        ),
+        (&["mst", "run", "--passes", "1"], 0, "none\n", ""),
+        (&["mst", "run", "--rows", "3"], 2, "", "shape\n"),
+        (&["mst", "run", "--rows", "65536"], 2, "", "shape\n"),
+        (&["mst", "run", "--rows", "0"], 2, "", "shape\n"),
+        (&["mst", "run", "--rows", "4294967295"], 2, "", "shape\n"),
+        (&["mst", "run", "--passes", "0"], 2, "", "shape\n"),
+        (&["mst", "run", "--passes", "33"], 2, "", "shape\n"),
+        (&["mst", "run", "--rows", "x"], 2, "", NO_NUMBER),
+        (&["mst", "run", "--passes", "4294967296"], 2, "", TOO_LARGE),
+        (&["mst", "run", "--rows", "4", "--rows", "5"], 2, "", TWICE),
+        (&["mst", "run", "--rows"], 2, "", NO_VALUE),
+        (&["mst", "frob"], 2, "", NO_COMMAND),
+        (&["mst"], 2, "", HELP),
+        (&["mst", "--help"], 0, HELP, ""),
+        (&["mst", "help", "run"], 0, RUN_HELP, ""),
+        (&["mst", "run", "--help"], 0, RUN_HELP, ""),
+    ];
+    for (words, status, out, err) in rows {
+        let outcome = outcome_of(rt.alloc(), words, b"1 get 61\n")?;
+        assert_eq!(rt; outcome.out.as_slice(), out.as_bytes(), "in {words:?}");
+        assert_eq!(rt; outcome.err.as_slice(), err.as_bytes(), "in {words:?}");
+        assert_eq!(rt; outcome.status, status, "in {words:?}");
+    }
+    Ok(())
+}
