@@ -1,6 +1,6 @@
 -- Places in a sorted list of pairs: what a binary search finds, and what `look` and `put` say there.
-use Rattle.std.proofs.Common.{◌≡◌, ℕ, zero, suc, ◌+◌, ◌<◌, ◌≤◌, List, [], ◌∷◌, ◌++◌, length, take, drop, set, get_or, Some, None, Bool, true, false, not, cond, ◌&&◌, ◌-◌, ◌⊎◌, ⊎_elim, min, Option, filter, find, Ordering, Less, Equal, Greater, sym, refl, ap, ◌∙◌, subst, arith, add-one}
-use Rattle.std.specs.List.{slice_get, insert, AllWithin, AllByRecursion, HoldsAt, slice_index_or}
+use Rattle.std.proofs.Common.{◌≡◌, ℕ, zero, suc, ◌+◌, ◌<◌, ◌≤◌, List, [], ◌∷◌, ◌++◌, length, take, drop, set, get_or, Some, None, Bool, true, false, not, cond, ◌&&◌, ◌-◌, ⊎_elim, min, Option, filter, find, Ordering, Less, Equal, Greater, sym, refl, ap, ◌∙◌, subst, arith, add-one}
+use Rattle.std.specs.List.{slice_get, insert, AllWithin, AllByRecursion, HoldsAt}
 use Rattle.std.specs.Prelude.{Result, Ok, Err, MatchResult}
 use Rattle.std.specs.List.Sorted.{IsNonDecreasingBy, IsSearchInRange, IsBinarySearchResult}
 use Rattle.std.specs.Ordering.{ordering_index}
@@ -13,7 +13,7 @@ use Rattle.mst_key.specs.Map.{Pair, key_cmp, AllBelow, AllAbove, IsAscending, lo
 use Rattle.mst_key.proofs.Alls.{alls-append, alls-weaker}
 use Rattle.mst_key.proofs.KeyOrder.{same_from_equal, equal_from_same, greater_from_less, less_from_greater, less_chain}
 use Rattle.mst_key.proofs.Splits.{look-at, look-between, put-at, put-between, remove-at, remove-between, IsAscending-below, IsAscending-above}
-use Rattle.mst_store.specs.Lists.{IsBetween, IsAt, IsGap, IsCut}
+use Rattle.mst_store.specs.Lists.{IsAt, IsGap, IsCut}
 
 -- ---- the keys of a sorted list stand in their order to any key
 

@@ -2,7 +2,7 @@
 use Rattle.std.proofs.Common.{◌≡◌, ℕ, ◌+◌, ◌<◌, ◌≤◌, true, false, List, [], ◌∷◌, ◌++◌, length, Some, None, Option, sym, refl, ap, ◌∙◌, subst, arith, length-append, vec_capacity}
 use Rattle.atomic_table.specs.Seated.{TableId}
 use Rattle.mst_key.specs.declared.history.Event.{Event}
-use Rattle.mst_key.specs.History.{History, changed, key_of, after, events_of}
+use Rattle.mst_key.specs.History.{History, changed, key_of, events_of}
 use Rattle.mst_key.specs.Map.{Pair, IsAscending, look}
 use Rattle.mst_key.proofs.HistoryLaws.{after-push}
 use Rattle.mst_key.proofs.Ascending.{IsAscending-after}

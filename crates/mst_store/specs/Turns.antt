@@ -1,5 +1,5 @@
 -- A pass that has the turn and the list in hand.
-use Rattle.std.specs.Prelude.{◌≡◌, ℕ, true, List, [], ◌∷◌, Option, None}
+use Rattle.std.specs.Prelude.{◌≡◌, true, [], ◌∷◌, Option, None}
 use Rattle.atomic_table.specs.Table.{Me}
 use Rattle.mst_key.specs.History.{History, events_of, Begins}
 use Rattle.mst_words.specs.declared.view.View.{View}

@@ -1,5 +1,5 @@
 -- A history that grows by an event: what began it still does, and whose event it is.
-use Rattle.std.proofs.Common.{◌≡◌, ℕ, suc, ◌<◌, ◌≢◌, Bool, [], ◌∷◌, ◌++◌, length, refl, ap, ◌∙◌, arith, eqb, eq-eqb, ne_eqb, cond, append-nil}
+use Rattle.std.proofs.Common.{◌≡◌, ℕ, suc, ◌<◌, ◌≢◌, Bool, [], ◌∷◌, ◌++◌, length, refl, ap, ◌∙◌, arith, eq-eqb, ne_eqb, cond, append-nil}
 use Rattle.std.specs.List.{slice_index_or}
 use Rattle.mst_key.specs.declared.history.Event.{Event}
 use Rattle.mst_key.specs.History.{History, events_of, Begins}

@@ -7,13 +7,13 @@ use prog.Atomic.{either}
 use Rattle.atomic_table.specs.Table.{State, Me, step, Act, keeps, takes, gives, Valid, carried_after, rest, stepped, opening, Allows, Splits}
 use Rattle.atomic_table.proofs.Lists.{at_set, at_snoc, at_longer, set_again, set_here, set_else, exchanged}
 use Rattle.mst_key.specs.declared.history.Event.{Event}
-use Rattle.mst_key.specs.History.{History, events_of, Begins}
+use Rattle.mst_key.specs.History.{History}
 use Rattle.mst_words.specs.declared.view.View.{View}
 use Rattle.mst_words.specs.World.{SeatAt, Fits, IsPlaced, World, dealer, having_dealt, newcomer}
 use Rattle.mst_words.specs.Rule.{Ruled}
 use Rattle.mst_words.specs.Steps.{IsFree, Misses, takes_turn, gives_turn, adds_event}
 use Rattle.mst_key.proofs.HistoryLaws.{Begins-itself}
-use Rattle.mst_words.proofs.Worlds.{IsInPlaceOf, in_place, within, world_set, world_add, world_deal}
+use Rattle.mst_words.proofs.Worlds.{within, world_set, world_add, world_deal}
 
 two_passes : (a b next passes : ℕ) → 0 < a → 0 < b → (a ≡ b → ⊥) → a < next → b < next → next ≤ passes + 1 → 1 < passes
 two_passes a b next passes p q apart l m few = omega (arith, apart)
@@ -30,17 +30,17 @@ module _ {S : Type 0} (stands : S → ℕ → History → Type 0) (rows passes :
       → Ruled stands rows passes (stepped s 0 p id [] (record v { seen = r.log; turn = true }) (takes 0 x))
   taken s r id p v at number some_pass x homes free = let w : View = record v { seen = r.log; turn = true } in let wide = r.wide in let f = r.world.fits id v at in
       let now : get_or (set s.words 0 p) 0 0 ≡ p = get_or-set_same s.words 0 p 0 (omega arith) in record {
-    log = r.log;
-    next = r.next;
-    wide = length-set s.words 0 p ∙ wide;
-    turn = record {
-      free = λ z. absurd (let z' : p ≡ 0 = sym now ∙ z in omega arith);
-      taken = λ _. (ap (λ (h : List (Option S)). set h 0 none) homes, (id, w, set_here s.views id w (within s.views id v at), refl));
-      holder = λ i u e on. ⊎_elim (λ (t : (i ≡ id) × (w ≡ u)). (subst (λ (z : ℕ). 0 < z) (sym now) some_pass, ap (λ (z : View). z.number) (sym t.1) ∙ number ∙ sym now, ap (λ (z : View). z.seen) (sym t.1)))
-          (λ (t : (i ≢ id) × SeatAt s.views i u). let o = r.turn.holder i u t.1 on in let l = o.0 in absurd (omega arith)) (at_set s.views id i w u e);
-    };
-    world = world_set rows passes r.next r.log s.views id v w r.world at (record { number = refl; deals = refl; rows = refl; passes = refl }) (record { seen = Begins-itself r.log; told = f.told; own = f.own });
-  }
+        log = r.log;
+        next = r.next;
+        wide = length-set s.words 0 p ∙ wide;
+        turn = record {
+          free = λ z. absurd (let z' : p ≡ 0 = sym now ∙ z in omega arith);
+          taken = λ _. (ap (λ (h : List (Option S)). set h 0 none) homes, (id, w, set_here s.views id w (within s.views id v at), refl));
+          holder = λ i u e on. ⊎_elim (λ (t : (i ≡ id) × (w ≡ u)). (subst (λ (z : ℕ). 0 < z) (sym now) some_pass, ap (λ (z : View). z.number) (sym t.1) ∙ number ∙ sym now, ap (λ (z : View). z.seen) (sym t.1)))
+              (λ (t : (i ≢ id) × SeatAt s.views i u). let o = r.turn.holder i u t.1 on in let l = o.0 in absurd (omega arith)) (at_set s.views id i w u e);
+        };
+        world = world_set rows passes r.next r.log s.views id v w r.world at (record { number = refl; deals = refl; rows = refl; passes = refl }) (record { seen = Begins-itself r.log; told = f.told; own = f.own });
+      }
 
   -- nothing changes
   unmoved : (s : St) (r : Ruled stands rows passes s) (id : ℕ) (cs : List (ℕ × S)) (v : View) → SeatAt s.views id v → Ruled stands rows passes (stepped s 0 (word s) id cs v keeps)
@@ -52,13 +52,13 @@ module _ {S : Type 0} (stands : S → ℕ → History → Type 0) (rows passes :
   missed s r id p me at free miss = let busy : 0 < word s = omega (arith, miss) in let a = r.turn.taken busy in let i : ℕ = a.1.0 in let u : View = a.1.1 in
       let h = r.turn.holder i u a.1.2 a.1.3 in let mine = r.world.placed id me.0 at in let theirs = r.world.placed i u a.1.2 in
       let some_pass : 0 < u.number = subst (λ (z : ℕ). 0 < z) (sym h.1) busy in record {
-    same = refl;
-    others = subst (λ (z : ℕ). 1 < z) (sym mine.passes_is) (two_passes u.number me.0.number r.next passes some_pass (subst (λ (z : ℕ). 0 < z) (sym free.2) free.3)
-        (λ is. let e : i ≡ id = r.world.apart i id u me.0 a.1.2 at some_pass is in
-          let f : u ≡ me.0 = some-injective u me.0 (sym a.1.2 ∙ ap (λ (z : ℕ). get_elem? s.views z) e ∙ at) in
-          let c : true ≡ false = sym a.1.3 ∙ ap (λ (z : View). z.turn) f ∙ free.1 in cc)
-        theirs.number mine.number r.world.few);
-  }
+        same = refl;
+        others = subst (λ (z : ℕ). 1 < z) (sym mine.passes_is) (two_passes u.number me.0.number r.next passes some_pass (subst (λ (z : ℕ). 0 < z) (sym free.2) free.3)
+            (λ is. let e : i ≡ id = r.world.apart i id u me.0 a.1.2 at some_pass is in
+            let f : u ≡ me.0 = some-injective u me.0 (sym a.1.2 ∙ ap (λ (z : ℕ). get_elem? s.views z) e ∙ at) in
+            let c : true ≡ false = sym a.1.3 ∙ ap (λ (z : View). z.turn) f ∙ free.1 in cc)
+            theirs.number mine.number r.world.few);
+      }
 
   pub take_allows : (slots id p number : ℕ) (me : Me S View) → p ≡ number → IsFree number me → Allows (Ruled stands rows passes) slots id me 0 (λ n. either (eqb n 0) p n) (takes_turn stands (step slots 0 0 p none) me)
   take_allows slots id p number me same free s r _ at _ = exchanged (word s) 0 p
@@ -111,7 +111,7 @@ module _ {S : Type 0} (stands : S → ℕ → History → Type 0) (rows passes :
     tt,
     subst (λ (c : List (ℕ × S)). Ruled stands rows passes (stepped s 0 0 id c w gives)) (sym holds)
         (given s r id v w x r.log at on refl (subst (λ (z : ℕ). stands x z r.log) (r.world.placed id v at).rows_is (subst (stands x v.rows) was.2 stood))
-            (world_set rows passes r.next r.log s.views id v w r.world at (record { number = refl; deals = refl; rows = refl; passes = refl }) (record { seen = f.seen; told = f.told; own = f.own }))),
+        (world_set rows passes r.next r.log s.views id v w r.world at (record { number = refl; deals = refl; rows = refl; passes = refl }) (record { seen = f.seen; told = f.told; own = f.own }))),
     ap (λ (c : List (ℕ × S)). (w, rest c)) holds,
   )
 
@@ -123,7 +123,7 @@ module _ {S : Type 0} (stands : S → ℕ → History → Type 0) (rows passes :
     tt,
     subst (λ (c : List (ℕ × S)). Ruled stands rows passes (stepped s 0 0 id c w gives)) (sym holds)
         (given s r id v w x (r.log ++ e ∷ []) at on refl (subst (λ (z : ℕ). stands x z (r.log ++ e ∷ [])) (r.world.placed id v at).rows_is (subst (λ (l : History). stands x v.rows (l ++ e ∷ [])) was.2 stood))
-            (world_add rows passes r.next r.log s.views id v w e r.world at (record { number = refl; deals = refl; rows = refl; passes = refl }) refl of (subst (λ (z : ℕ). 0 < z) (sym was.1) was.0) (ap (λ (l : History). l ++ e ∷ []) was.2) refl)),
+        (world_add rows passes r.next r.log s.views id v w e r.world at (record { number = refl; deals = refl; rows = refl; passes = refl }) refl of (subst (λ (z : ℕ). 0 < z) (sym was.1) was.0) (ap (λ (l : History). l ++ e ∷ []) was.2) refl)),
     ap (λ (c : List (ℕ × S)). (w, rest c)) holds,
   )
 

@@ -103,11 +103,11 @@ module _ (rows passes : ℕ) where
         (λ (t : newcomer v ≡ u). subst (IsPlaced rows passes (next + 1)) t new) (at_snoc (set views id (having_dealt v)) (newcomer v) u i e);
     apart = λ i j a b p q pos same. ⊎_elim
         (λ (x : SeatAt (set views id (having_dealt v)) i a). ⊎_elim
-            (λ (y : SeatAt (set views id (having_dealt v)) j b). let o = was i a x in let o' = was j b y in h.apart i j o.0 o'.0 o.1 o'.1 (subst (λ (z : ℕ). 0 < z) (sym o.2) pos) (o.2 ∙ same ∙ sym o'.2))
-            (λ (y : (j ≡ length (set views id (having_dealt v))) × (newcomer v ≡ b)). let m = ap (λ (z : View). z.number) y.1 in let c = old_below i a x in absurd (omega (arith, is))) (at_end (set views id (having_dealt v)) (newcomer v) b j q))
+        (λ (y : SeatAt (set views id (having_dealt v)) j b). let o = was i a x in let o' = was j b y in h.apart i j o.0 o'.0 o.1 o'.1 (subst (λ (z : ℕ). 0 < z) (sym o.2) pos) (o.2 ∙ same ∙ sym o'.2))
+        (λ (y : (j ≡ length (set views id (having_dealt v))) × (newcomer v ≡ b)). let m = ap (λ (z : View). z.number) y.1 in let c = old_below i a x in absurd (omega (arith, is))) (at_end (set views id (having_dealt v)) (newcomer v) b j q))
         (λ (x : (i ≡ length (set views id (having_dealt v))) × (newcomer v ≡ a)). ⊎_elim
-            (λ (y : SeatAt (set views id (having_dealt v)) j b). let m = ap (λ (z : View). z.number) x.1 in let c = old_below j b y in absurd (omega (arith, is)))
-            (λ (y : (j ≡ length (set views id (having_dealt v))) × (newcomer v ≡ b)). x.0 ∙ sym y.0) (at_end (set views id (having_dealt v)) (newcomer v) b j q)) (at_end (set views id (having_dealt v)) (newcomer v) a i p);
+        (λ (y : SeatAt (set views id (having_dealt v)) j b). let m = ap (λ (z : View). z.number) x.1 in let c = old_below j b y in absurd (omega (arith, is)))
+        (λ (y : (j ≡ length (set views id (having_dealt v))) × (newcomer v ≡ b)). x.0 ∙ sym y.0) (at_end (set views id (having_dealt v)) (newcomer v) b j q)) (at_end (set views id (having_dealt v)) (newcomer v) a i p);
     dealer = λ i j a b p q m k. to_id i a p m ∙ sym (to_id j b q k);
     few = let p = (h.placed id v at).passes_is in omega (arith, is);
     named = λ k d l. let b = h.named k d l in (b.0, (let x = b.1 in omega arith));

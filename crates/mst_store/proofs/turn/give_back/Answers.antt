@@ -1,4 +1,4 @@
-use Rattle.std.proofs.Common.{◌++◌, ◌∷◌, [], ap, sym, subst, ◌∙◌, Some}
+use Rattle.std.proofs.Common.{ap, sym, subst, ◌∙◌, Some}
 use Rattle.mst_words.specs.declared.view.View.{View}
 use Rattle.mst_store.specs.Lists.{Stands}
 use Rattle.mst_store.specs.Turns.{Seated}

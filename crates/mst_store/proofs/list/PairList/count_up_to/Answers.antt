@@ -1,6 +1,6 @@
-use Rattle.std.proofs.Common.{◌+◌, ap, sym, subst, not, is_lt, is_gt, Some, Option, List, ℕ, Ordering}
+use Rattle.std.proofs.Common.{◌+◌, ap, sym, subst, not, is_gt, Some, Option, List, ℕ, Ordering}
 use Rattle.std.specs.Option.{option_copied}
-use Rattle.mst_key.specs.Map.{Pair, from_on, below, above}
+use Rattle.mst_key.specs.Map.{above}
 use Rattle.mst_key.proofs.KeyOrder.{key_cmp-itself}
 use Rattle.mst_store.specs.Lists.{IsCut}
 use Rattle.mst_store.proofs.Places.{at_cuts_behind, gap_cuts}

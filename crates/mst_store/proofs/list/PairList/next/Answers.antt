@@ -1,7 +1,7 @@
-use Rattle.std.proofs.Common.{◌≡◌, ◌≤◌, ◌<◌, length, Some, refl, sym, ap, ◌∙◌, arith}
+use Rattle.std.proofs.Common.{◌≤◌, ◌<◌, length, Some, refl, sym, ◌∙◌, arith}
 use Rattle.std.specs.Option.{option_copied}
 use Rattle.std.proofs.lemmas.Option.{slice_get_past, slice_get_read}
-use Rattle.mst_key.specs.Map.{Pair, above}
+use Rattle.mst_key.specs.Map.{above}
 use Rattle.mst_store.proofs.Places.{cut_finds}
 use Rattle.mst_store.proofs.list.PairList.next.Goals as goal
 

@@ -1,5 +1,4 @@
-use Rattle.std.proofs.Common.{rules, List, length, sym, subst}
-use Rattle.std.specs.Prelude.{MatchResult}
+use Rattle.std.proofs.Common.{rules, List, length, subst}
 use Rattle.std.specs.List.Sorted.{IsSearchInRange, IsBinarySearchResult}
 use Rattle.std.proofs.lemmas.Fn.{always_returns_same}
 use Rattle.mst_key.specs.Map.{Pair, key_cmp}

@@ -1,7 +1,6 @@
-use Rattle.std.proofs.Common.{ap, ◌∙◌, sym, Some, set, rules, arith, ◌≡◌}
+use Rattle.std.proofs.Common.{ap, ◌∙◌, sym, Some, set, rules}
 use Rattle.std.specs.List.{insert}
 use Rattle.mst_key.specs.declared.value.Value.{Value}
-use Rattle.mst_key.specs.Map.{look}
 use Rattle.mst_store.proofs.Places.{at_looks, at_puts, at_some, gap_looks, gap_puts}
 use Rattle.mst_store.proofs.list.PairList.put.Goals as goal
 

@@ -1,4 +1,4 @@
-use Rattle.std.proofs.Common.{ap, ◌∙◌, sym}
+use Rattle.std.proofs.Common.{◌∙◌, sym}
 use Rattle.mst_store.proofs.Places.{at_looks, at_removes, gap_looks, gap_removes}
 use Rattle.mst_store.proofs.list.PairList.remove.Goals as goal
 

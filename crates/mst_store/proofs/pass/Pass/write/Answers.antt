@@ -1,5 +1,4 @@
 use Rattle.std.proofs.Common.{◌≡◌, refl, sym, rules}
-use Rattle.mst_key.specs.declared.history.Event.{Event}
 use Rattle.mst_store.proofs.Taking.{held_ascending, returnable_more, wrote}
 use Rattle.mst_store.proofs.pass.Pass.write.Goals as goal
 
