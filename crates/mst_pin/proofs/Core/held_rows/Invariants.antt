@@ -1,0 +1,10 @@
+use Rattle.std.proofs.Common.{◌≡◌, ◌≢◌, ℕ, ◌<◌, true}
+use Rattle.mst_pin.specs.State.{IsPinned, IsHeld, row_set}
+use Rattle.mst_pin.specs.Core.{state}
+use Rattle.mst_pin.proofs.Core.held_rows.Given as goal
+
+abbrev pub invariant-loop-number : goal.invariant-loop-number
+invariant-loop-number l = record {
+  all : (x r : ℕ) → r < l.number → r ≢ (state l.self).current → IsPinned (state l.self) r → (state l.self).rows r x ≡ true → row_set l.rows x ≡ true;
+  only : (x : ℕ) → row_set l.rows x ≡ true → IsHeld (state l.self) x;
+}

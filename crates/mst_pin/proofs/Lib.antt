@@ -1,0 +1,9 @@
+pub mod Bits
+pub mod Cores
+pub mod Masks
+pub mod Options
+pub mod Rows
+pub mod Runs
+pub mod Sound
+pub mod States
+pub mod WordSteps

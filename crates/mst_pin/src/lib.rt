@@ -1,0 +1,106 @@
+#![tactic(auto)]
+//! The pure core of pins and publication: which record is current, which record each pass pins,
+//! which rows each record has, and which of the six events may come next.
+//!
+//! One writer publishes versions, each in a version record of its own. Any pass may pin the current
+//! record, and then reads its rows for as long as it likes. So a row may be written, and a record
+//! published over, only where no current and no pinned record has it. A pass pins by one xor into
+//! the word CURRENT, which tells it the record in the same step, and unpins by one xor into the
+//! record's word DONE. The publish swaps CURRENT, and the mask of pins that came back is then
+//! transferred into the old record's DONE.
+//!
+//! `Core` keeps those words as the shared store does, and takes events one at a time.
+
+ghost use Rattle.std.specs.Prelude.{◌≡◌, ◌≤◌, ◌<◌, ◌+◌, ◌↔◌, IsSome, IfSome, IfOk, OnErr};
+ghost use Rattle.mst_pin.specs.Words.{IsKept};
+
+mod event;
+mod laws;
+mod readers;
+mod taken;
+mod words;
+mod writer;
+
+pub use event::{Answer, Event, Memory};
+pub use laws::{some_record_is_free, writes_are_blank};
+use std::alloc::Allocator;
+use words::Words;
+
+/// Version records of the largest core: two more than its 32 passes.
+const RECORDS: usize = 34;
+
+/// The state of the pins: `passes` passes numbered from 1, `passes + 2` version records numbered
+/// from 0, and 64 rows numbered from 0.
+#[derive(Clone, Copy)]
+pub struct Core {
+    passes: u8,
+    words: Words,
+
+    // The rows of each record, row x as bit x.
+    rows: [u64; RECORDS],
+
+    // The number of each record's version, which no answer names.
+    versions: [u64; RECORDS],
+    ghost kept: { IsKept passes words },
+}
+
+impl Core {
+    ghost use Rattle.mst_pin.specs.State.{opening, Steps, Runs};
+    ghost use Rattle.mst_pin.specs.Core.{state};
+
+    /// A core of `passes` passes: record 0 is current, no record has a row, and nothing is pinned.
+    /// `None` outside 1 to 32 passes.
+    pub fn new(passes: u8) -> Option<Core>
+        ensures in_range { IsSome result ↔ ((0 < passes) × (passes ≤ 32)) }
+        ensures opening { IfSome result (λ core. state core ≡ opening passes) }
+    {
+        if passes == 0 || passes > 32 {
+            return None;
+        }
+        Some(Core {
+            passes,
+            words: Words::new(),
+            rows: [0; RECORDS],
+            versions: [0; RECORDS],
+        })
+    }
+
+    /// Takes one event and answers it, or refuses it.
+    pub fn step(&mut self, event: Event) -> Answer
+        ensures step { Steps (state self.old) event result (state self.new) }
+        ensures unchanged { result ≡ Answer.Refused → self.new ≡ self.old }
+    {
+        if !self.is_taken(event) {
+            return Answer::Refused;
+        }
+        match event {
+            Event::Pin(pass) => self.pin(pass),
+            Event::Unpin(pass) => self.unpin(pass),
+            Event::Write(_) => Answer::Done,
+            Event::Publish { into, rows } => self.publish(into, rows),
+            Event::Transfer => self.transfer(),
+            Event::Ask(number) => self.ask(number),
+        }
+    }
+
+    /// Takes events in order, and gives the answer to each. The memory for the answers is taken
+    /// before the first event, so after `Memory` the core is as before.
+    pub fn run<A: Allocator>(
+        &mut self,
+        alloc: A,
+        events: &[Event],
+    ) -> Result<Vec<Answer, A>, Memory>
+        ensures ok { IfOk result (λ answers.
+            Runs (state self.old) events.now answers.items (state self.new)) }
+        ensures memory { OnErr result (self.new ≡ self.old) }
+    {
+        let mut answers = Vec::with_capacity(alloc, events.len()).map_err(|_| Memory)?;
+        for event in events {
+            answers.push(self.step(*event)).unwrap();
+        }
+        Ok(answers)
+    }
+}
+
+#[cfg(test)]
+mod tests;
