@@ -1,16 +1,20 @@
-//! Keys and values of the ordered map, and the history of the changes to it.
+//! Keys and values of the ordered map, the layers of keys, and the history of the changes to the map.
 //!
 //! `specs/` defines what the contracts of all crates speak of: the order of keys, a map with its look-ups and changes, and a history with the map that it leaves. `order_laws`, `map_laws` and `history_laws` prove what these definitions should satisfy.
 #![tactic(auto)]
 
+mod format;
 mod history;
 mod key;
 mod laws;
+mod layer;
 mod memory;
+mod refusal;
 #[cfg(test)]
 mod tests;
 mod value;
 
+pub use format::Format;
 pub use history::{Change, Event};
 pub use key::{Key, KeySize};
 pub use laws::{history_laws, map_laws, order_laws};

@@ -1,2 +1,4 @@
 pub mod Places
 pub mod Taking
+pub mod Courier
+pub mod AllPasses

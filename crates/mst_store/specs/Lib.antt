@@ -1,3 +1,4 @@
 pub mod Lists
 pub mod Passes
 pub mod Turns
+pub mod Settling

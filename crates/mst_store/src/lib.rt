@@ -4,6 +4,9 @@
 mod faults;
 mod list;
 mod pass;
+mod settling;
+#[cfg(test)]
+mod settling_tests;
 mod store;
 #[cfg(test)]
 mod tests;
@@ -13,4 +16,5 @@ pub use faults::{Busy, OpenFault, ReadFault, WriteFault};
 pub use mst_key::Memory;
 pub use mst_words::Shape;
 pub use pass::Pass;
+pub use settling::{meet, settle};
 pub use store::{Seats, Store};

@@ -8,14 +8,14 @@ use std::thread::join;
 
 const SMALL: Shape = Shape { rows: 4, passes: 2 };
 
-fn key(rt: &impl Abort, bytes: &[u8]) -> Key {
+pub(crate) fn key(rt: &impl Abort, bytes: &[u8]) -> Key {
     let Ok(key) = Key::new(bytes) else {
         panic!(rt; "a key has 1 to 32 bytes")
     };
     key
 }
 
-fn value(rt: &impl Abort, bytes: &[u8]) -> Value {
+pub(crate) fn value(rt: &impl Abort, bytes: &[u8]) -> Value {
     let Ok(value) = Value::new(bytes) else {
         panic!(rt; "a value has at most 64 bytes")
     };
@@ -23,7 +23,7 @@ fn value(rt: &impl Abort, bytes: &[u8]) -> Value {
 }
 
 // Whether a pass gets this value.
-fn gets<A: Allocator + Copy>(pass: &mut Pass<A>, key: &Key, value: &Value) -> bool {
+pub(crate) fn gets<A: Allocator + Copy>(pass: &mut Pass<A>, key: &Key, value: &Value) -> bool {
     pass.get(key) == Ok(Some(value.copy()))
 }
 

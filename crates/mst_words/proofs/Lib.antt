@@ -1,3 +1,4 @@
 pub mod Histories
 pub mod Worlds
 pub mod Turns
+pub mod Hearing

@@ -1,3 +1,4 @@
 pub mod World
 pub mod Rule
 pub mod Steps
+pub mod Notes

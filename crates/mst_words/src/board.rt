@@ -17,7 +17,7 @@ use std::marker::Model;
 pub type PassSeat<D> = Seat<Option<D>, View>;
 
 /// The place of the turn among the words.
-const TURN: usize = 0;
+pub(crate) const TURN: usize = 0;
 
 /// The place of the one slot.
 const SLOT: usize = 0;
@@ -25,7 +25,7 @@ const SLOT: usize = 0;
 /// The table: the turn's word, and the slot in which the desk lies.
 #[derive(Drop)]
 pub struct Board<D: Desk, A: Allocator + Copy> {
-    table: Table<Option<D>, View, Shape, Law<D>, A>,
+    pub(crate) table: Table<Option<D>, View, Shape, Law<D>, A>,
 }
 
 impl<D: Desk, A: Allocator + Copy> Model for Board<D, A> {

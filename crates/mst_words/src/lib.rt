@@ -3,11 +3,13 @@
 
 mod board;
 mod desk;
+mod notes;
 mod plays;
 mod rule;
 mod view;
 
 pub use board::{Board, PassSeat};
 pub use desk::Desk;
+pub use notes::Telling;
 pub use plays::Naming;
 pub use view::{Shape, View};

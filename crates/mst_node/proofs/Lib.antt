@@ -1,0 +1,16 @@
+pub mod Rising
+pub mod Trees
+pub mod Unique
+pub mod Layers
+pub mod Shapes
+pub mod Tops
+pub mod Takes
+pub mod Again
+pub mod Behind
+pub mod Places
+pub mod Fits
+pub mod Grammars
+pub mod Lying
+pub mod Frames
+pub mod Spelt
+pub mod Worked

@@ -1,0 +1,16 @@
+use Rattle.std.proofs.Common.{◌≤◌, length, sym, ap, ◌∙◌, arith}
+use Rattle.std.specs.Prelude.{option_copied}
+use Rattle.mst_node.specs.Seen.{seen}
+use Rattle.mst_node.proofs.Places.{child_before-at, child_before-end}
+use Rattle.mst_node.proofs.flat.Flat.child.Goals as goal
+use Rattle.mst_node.proofs.flat.Flat.child.Goals.{then-i-len, else-i-len}
+
+pub returns : goal.returns
+returns c =
+    let n = c.args.self.now in
+    elim c.if-i-len.branch [
+      | then-i-len w ↦ record { child = c.copied.ensures ∙ ap option_copied w.child-is ∙ sym (child_before-at n.entries n.tail c.args.i (seen w.entry.result) w.entry.ensures.entry) }
+      | else-i-len w ↦
+          let past : length n.entries ≤ c.args.i = omega (arith, c.len.ensures.len) in
+          record { child = c.copied.ensures ∙ ap option_copied w.child-is ∙ w.tail-child.ensures.tail ∙ sym (child_before-end n.entries n.tail c.args.i past) }
+    ]

@@ -1,0 +1,19 @@
+use Rattle.std.proofs.Common.{length, ◌≡◌, ◌≤◌, [], map, drop}
+use Rattle.std.specs.Prelude.{slice_range}
+use Rattle.mst_key.specs.declared.format.Format.TheVariants.{One}
+use Rattle.mst_key.specs.Layer.{layer}
+use Rattle.mst_node.specs.Tree.{tree, entries_of}
+use Rattle.mst_node.specs.Shape.{tree_entry, with_entries}
+use Rattle.mst_node.proofs.Trees.{Has}
+use Rattle.mst_node.proofs.making.+subtree.Given as goal
+
+abbrev pub decreases-subtree : goal.decreases-subtree
+decreases-subtree g l = length l.pairs.now
+
+-- the entries so far stand in front of those that the gap so far and the other pairs make
+abbrev pub invariant-loop-i : goal.invariant-loop-i
+invariant-loop-i g l = record {
+  gap : l.start ≤ l.i;
+  entries : with_entries (map (tree_entry One) l.entries.items) (entries_of layer (tree One) l.top (slice_range l.pairs l.start l.i) (drop l.i l.pairs)) ≡ entries_of layer (tree One) l.top [] l.pairs;
+  some : l.start ≡ 0 → Has layer l.top (drop l.i l.pairs);
+}

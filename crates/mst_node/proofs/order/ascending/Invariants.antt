@@ -1,0 +1,7 @@
+use Rattle.std.proofs.Common.{take}
+use Rattle.mst_key.specs.Map.{IsAscending}
+use Rattle.mst_node.proofs.order.ascending.Given as goal
+
+-- the pairs so far rise
+abbrev pub invariant-loop-i : goal.invariant-loop-i
+invariant-loop-i l = IsAscending (take l.i l.pairs)

@@ -1,0 +1,9 @@
+use Rattle.std.proofs.Common.{◌-◌, ◌+◌, ◌∙◌, arith}
+use Rattle.mst_node.specs.Seen.{seen}
+use Rattle.mst_node.proofs.Behind.{behind_more}
+use Rattle.mst_node.proofs.reading.behind.Goals as goal
+
+pub loop-preserved : goal.loop-preserved
+loop-preserved c =
+    behind_more (c.args.count - c.loop.counter) (c.args.count - (c.loop.counter + 1)) c.loop.rest.now (seen c.in_ok-after.field-0-0, c.in_ok-after.after.now) (omega arith) c.in_ok-after.ensures.reading
+    ∙ c.loop.invariant

@@ -1,0 +1,9 @@
+pub mod Tree
+pub mod Shape
+pub mod Text
+pub mod Top
+pub mod Grammar
+pub mod Reading
+pub mod Seen
+pub mod Gaps
+pub mod Frame

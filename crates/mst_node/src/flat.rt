@@ -1,0 +1,188 @@
+//! Flat nodes, read off their texts.
+ghost use Rattle.std.specs.Prelude.{◌≡◌, ◌<◌, ◌≤◌, ◌↔◌, length, map, Some, IsTrue, slice_get, is_some, IfSome, option_copied};
+ghost use Rattle.std.specs.declared.cmp.Ordering.TheVariants.{Less};
+ghost use Rattle.mst_key.specs.Bytes.{IsKey, IsValue};
+ghost use Rattle.mst_key.specs.declared.format.Format.TheVariants.{One};
+ghost use Rattle.mst_key.specs.Layer.{layer as layer_of};
+ghost use Rattle.mst_key.specs.Map.{key_cmp};
+ghost use Rattle.mst_node.specs.Text.{child_before};
+ghost use Rattle.mst_node.specs.Grammar.{KeysFit};
+ghost use Rattle.mst_node.specs.Reading.{Gives, node_at, body_at};
+ghost use Rattle.mst_node.specs.Seen.{seen};
+
+use crate::order::precedes;
+use crate::reading::{EntryBytes, behind, child_of, entry_of};
+use mst_key::{Key, Value};
+use std::marker::Model;
+
+/// A flat node: a node with the digests of its children in their place. It is borrowed from the bytes of its text.
+#[derive(Debug, Drop)]
+pub struct Flat<'a> {
+    layer: u8,
+    count: u16,
+    body: &'a [u8],
+}
+
+/// Contracts see the flat node that the text spells.
+impl<'a> Model for Flat<'a> {
+    ghost use Rattle.std.specs.Prelude.{IsSome};
+    ghost use Rattle.mst_key.specs.declared.format.Format.TheVariants.{One};
+    ghost use Rattle.mst_node.specs.Text.{FlatNode};
+    ghost use Rattle.mst_node.specs.Reading.{node_of, body_at, body_or_empty};
+
+    ghost Value = { FlatNode };
+
+    ghost view = { λ f. node_of One f.layer (body_or_empty One f.count f.body.now) };
+
+    ghost invariant = { λ f. IsSome (body_at One f.count f.body.now) };
+}
+
+/// Whether the bytes are so many entries and a last child, with nothing behind them.
+fn has_body(bytes: &[u8], count: usize) -> bool
+    ensures reading { result ≡ is_some (body_at One count bytes.now) }
+{
+    match behind(bytes, count) {
+        None => false,
+        Some(rest) => match child_of(rest) {
+            None => false,
+            Some((_, left)) => left.is_empty(),
+        },
+    }
+}
+
+/// The flat node of a text, whatever its keys.
+#[tactic(auto, unfolding(crate::specs::Reading::node_at))]
+pub(crate) fn flat_of(text: &[u8]) -> Option<Flat<'_>>
+    ensures reading { Gives (λ f. f) result (node_at One text.now) }
+{
+    match text {
+        [1, layer, high, low, body @ ..] => {
+            let count = u16::from_be_bytes([*high, *low]);
+            if count != 0 && has_body(body, count as usize) {
+                Some(Flat {
+                    layer: *layer,
+                    count,
+                    body,
+                })
+            } else {
+                None
+            }
+        }
+        _ => None,
+    }
+}
+
+/// Whether the key of an entry has the layer of its node, and comes after the key of the entry before.
+fn fits(layer: u8, last: &Option<Key>, key: &Key) -> bool
+    ensures fits { IsTrue result ↔ ((layer_of key.now ≡ layer) × IfSome last.now (λ low. key_cmp low key.now ≡ Less)) }
+{
+    if key.layer() != layer {
+        return false;
+    }
+    match last {
+        None => true,
+        Some(low) => precedes(low, key),
+    }
+}
+
+impl<'a> Flat<'a> {
+    /// Whether the keys have the layer of the node, and rise strictly.
+    pub(crate) fn keys_fit(&self) -> bool
+        ensures fit { IsTrue result ↔ KeysFit self.now }
+    {
+        let mut rest = self.body;
+        let mut last: Option<Key> = None;
+        for _ in 0..self.count {
+            let Some((entry, after)) = entry_of(rest) else {
+                unreachable!()
+            };
+            let Ok(key) = Key::new(entry.key) else {
+                unreachable!()
+            };
+            if !fits(self.layer, &last, &key) {
+                return false;
+            }
+            last = Some(key);
+            rest = after;
+        }
+        true
+    }
+
+    /// The layer of each key, 0 to 64.
+    pub fn layer(&self) -> u8
+        ensures layer { result ≡ self.now.layer }
+    {
+        self.layer
+    }
+
+    /// The number of entries, 1 to 65,535.
+    pub fn len(&self) -> usize
+        ensures len { result ≡ length self.now.entries }
+    {
+        self.count as usize
+    }
+
+    /// Entry i, where it lies. It is found by going over the entries before it.
+    fn entry(&self, i: usize) -> EntryBytes<'a>
+        requires inside { i < length self.now.entries }
+        ensures entry { slice_get self.now.entries i ≡ Some (seen result) }
+        ensures key { IsKey result.key.now }
+        ensures value { IsValue result.value.now }
+    {
+        match behind(self.body, i) {
+            Some(rest) => match entry_of(rest) {
+                Some((entry, _)) => entry,
+                None => unreachable!(),
+            },
+            None => unreachable!(),
+        }
+    }
+
+    /// The digest of the last child, where it lies.
+    fn tail(&self) -> Option<&'a [u8; 32]>
+        ensures tail { option_copied result ≡ self.now.tail }
+    {
+        match behind(self.body, self.count as usize) {
+            Some(rest) => match child_of(rest) {
+                Some((child, _)) => child,
+                None => unreachable!(),
+            },
+            None => unreachable!(),
+        }
+    }
+
+    /// The key of entry i, counted from 0. It is found by going over the entries before it.
+    pub fn key(&self, i: usize) -> Key
+        requires inside { i < length self.now.entries }
+        ensures key { slice_get (map (λ e. e.key) self.now.entries) i ≡ Some result }
+    {
+        match Key::new(self.entry(i).key) {
+            Ok(key) => key,
+            Err(_) => unreachable!(),
+        }
+    }
+
+    /// The value of entry i, counted from 0. It is found by going over the entries before it.
+    pub fn value(&self, i: usize) -> Value
+        requires inside { i < length self.now.entries }
+        ensures value { slice_get (map (λ e. e.held) self.now.entries) i ≡ Some result }
+    {
+        match Value::new(self.entry(i).value) {
+            Ok(value) => value,
+            Err(_) => unreachable!(),
+        }
+    }
+
+    /// The digest of child i, if it is there: child i stands before entry i, and the last one behind all entries. It is found by going over the entries before it.
+    pub fn child(&self, i: usize) -> Option<[u8; 32]>
+        requires inside { i ≤ length self.now.entries }
+        ensures child { result ≡ child_before self.now.entries self.now.tail i }
+    {
+        let child = if i < self.len() {
+            self.entry(i).child
+        } else {
+            self.tail()
+        };
+        child.copied()
+    }
+}

@@ -1,0 +1,46 @@
+//! Digests of texts, and the parts of a text fed to a hasher.
+ghost use Rattle.std.specs.Prelude.{◌≡◌, ◌≤◌, ℕ, List, [], ◌∷◌, ◌++◌, length};
+ghost use Rattle.sha2.specs.Sha256.{sha256};
+ghost use Rattle.sha2.specs.Hashers.{Holds256};
+ghost use Rattle.mst_node.specs.Text.{child_text, counted};
+
+use sha2::{Digest, Sha256};
+
+/// The digest of a text: the SHA-256 (FIPS 180-4) of its bytes.
+pub fn digest(text: &[u8]) -> [u8; 32]
+    ensures digest { result ≡ sha256 text.now }
+{
+    Sha256::digest(text)
+}
+
+/// The root digest of the empty map: the SHA-256 (FIPS 180-4) of the empty string.
+pub fn empty_digest() -> [u8; 32]
+    ensures digest { result ≡ sha256 [] }
+{
+    let empty: [u8; 0] = [];
+    Sha256::digest(empty.as_slice())
+}
+
+/// Feeds a byte 1 and the digest of a child, or a byte 0 where there is none.
+pub(crate) fn feed_child(hasher: &mut Sha256, child: Option<[u8; 32]>)
+    ensures fed { (m : List ℕ) → Holds256 hasher.old m → Holds256 hasher.new (m ++ child_text child) }
+{
+    match child {
+        None => {
+            hasher.update([0u8].as_slice());
+        }
+        Some(digest) => {
+            hasher.update([1u8].as_slice());
+            hasher.update(digest.as_slice());
+        }
+    }
+}
+
+/// Feeds bytes behind their number.
+pub(crate) fn feed_counted(hasher: &mut Sha256, bytes: &[u8])
+    requires few { length bytes.now ≤ 255 }
+    ensures fed { (m : List ℕ) → Holds256 hasher.old m → Holds256 hasher.new (m ++ counted bytes.now) }
+{
+    hasher.update([bytes.len() as u8].as_slice());
+    hasher.update(bytes);
+}

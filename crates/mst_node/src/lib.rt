@@ -1,0 +1,32 @@
+//! The Merkle search tree of a map (Auvolat and Taïani 2019): its nodes, their texts and digests.
+//!
+//! A node holds the pairs of one layer in the order of their keys; in each gap before, between and after them stands the tree of the pairs there, or none. The layer of a node is the greatest of its keys and of those below it, so the tree depends on the map alone. A text spells a node with the digests of its children in their place, a digest is the SHA-256 of a text, and the root digest of a map is that of its top node's text.
+//!
+//! `build` makes the tree, `text` a node's text, and `read_text` reads one. `root_of` gives the root digest with no tree and no memory. The definitions that the contracts cite stand in `specs/`: `Tree`, `Gaps`, `Text`, `Grammar`, `Frame`.
+#![tactic(auto)]
+
+mod flat;
+mod framing;
+mod grammar;
+mod hashing;
+mod laws;
+mod making;
+mod node;
+mod order;
+mod reading;
+mod root;
+mod texts;
+
+pub use flat::Flat;
+pub use framing::top_text;
+pub use grammar::{NodeFault, read_text};
+pub use hashing::{digest, empty_digest};
+pub use laws::{one_text, one_tree, order_of_tree, tree_by_gaps};
+pub use making::build;
+pub use node::{Entry, Node};
+pub use order::ascending;
+pub use root::root_of;
+pub use texts::text;
+
+#[cfg(test)]
+mod tests;

@@ -1,0 +1,98 @@
+//! The tree of a list of pairs.
+ghost use Rattle.std.specs.Prelude.{◌≡◌, map, IfOk};
+ghost use Rattle.mst_key.specs.Layer.{layer};
+ghost use Rattle.mst_key.specs.declared.format.Format.TheVariants.{One};
+ghost use Rattle.mst_node.specs.Tree.{layers as layers_in, greatest, tree, node, last, pairs as pairs_of};
+ghost use Rattle.mst_node.specs.Shape.{tree_of, tree_of_child, tree_entry, with_entries};
+
+use crate::node::{Entry, Node};
+use mst_key::{Key, Memory, Value};
+use std::alloc::Allocator;
+
+/// The layers of the keys, in their order.
+fn layers_of<A: Allocator>(alloc: A, pairs: &[(Key, Value)]) -> Result<Vec<u8, A>, Memory>
+    ensures layers { IfOk result (λ layers. layers.items ≡ layers_in layer pairs.now) }
+{
+    let layers = pairs.iter().map(|pair| pair.0.layer()).collect(alloc)?;
+    Ok(layers)
+}
+
+/// The greatest of the layers, 0 where there is none.
+fn greatest_of(layers: &[u8]) -> u8
+    ensures greatest { result ≡ greatest layers.now }
+{
+    let mut top = 0;
+    for layer in layers {
+        top = top.max(*layer);
+    }
+    top
+}
+
+/// The entry of a pair, behind the tree of the gap before it.
+fn entry_of<A: Allocator>(child: Option<Box<Node<A>, A>>, pair: &(Key, Value)) -> Entry<A>
+    ensures entry { tree_entry One result ≡ record { child = tree_of_child One child; key = pair.now.0; value = pair.now.1 } }
+{
+    let (key, value) = pair;
+    Entry {
+        child,
+        key: key.copy(),
+        value: value.copy(),
+    }
+}
+
+/// The node of these parts.
+fn node_of<A: Allocator>(
+    alloc: A,
+    layer: u8,
+    entries: Vec<Entry<A>, A>,
+    tail: Option<Box<Node<A>, A>>,
+) -> Result<Box<Node<A>, A>, Memory>
+    ensures tree { IfOk result (λ n. tree_of One n.value ≡ node One layer (with_entries (map (tree_entry One) entries.items) (last (tree_of_child One tail)))) }
+{
+    let node = Node {
+        layer,
+        entries,
+        tail,
+    };
+    Ok(Box::new(alloc, node)?)
+}
+
+/// The tree of pairs whose keys have these layers.
+fn subtree<A: Allocator + Copy>(
+    alloc: A,
+    pairs: &[(Key, Value)],
+    layers: &[u8],
+) -> Result<Option<Box<Node<A>, A>>, Memory>
+    requires layers { layers.now ≡ layers_in layer pairs.now }
+    ensures tree { IfOk result (λ t. tree_of_child One t ≡ tree One pairs.now) }
+{
+    if pairs.is_empty() {
+        return Ok(None);
+    }
+    let top = greatest_of(layers);
+    let mut entries = Vec::new(alloc);
+    let mut start = 0;
+    for (i, pair) in pairs.iter().enumerate() {
+        if layers[i] == top {
+            let child = subtree(alloc, &pairs[start..i], &layers[start..i])?;
+            entries.push(entry_of(child, pair))?;
+            start = i + 1;
+        }
+    }
+    let tail = subtree(alloc, &pairs[start..], &layers[start..])?;
+    Ok(Some(node_of(alloc, top, entries, tail)?))
+}
+
+/// The tree of the pairs of a map: none for the empty map, else the top node. `Memory` comes only where a growth was refused, and then nothing is kept.
+///
+/// Each key is hashed once, and a pair is looked at once for each node in whose span it lies. Calls nest no deeper than the layers, 65 at the most.
+pub fn build<A: Allocator + Copy>(
+    alloc: A,
+    pairs: &[(Key, Value)],
+) -> Result<Option<Box<Node<A>, A>>, Memory>
+    ensures tree { IfOk result (λ t. tree_of_child One t ≡ tree One pairs.now) }
+    ensures pairs { IfOk result (λ t. pairs_of (tree_of_child One t) ≡ pairs.now) }
+{
+    let layers = layers_of(alloc, pairs)?;
+    subtree(alloc, pairs, layers.as_slice())
+}

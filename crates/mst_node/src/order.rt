@@ -1,0 +1,29 @@
+//! The order of the keys of a list.
+ghost use Rattle.std.specs.Prelude.{◌≡◌, ◌↔◌, IsTrue};
+ghost use Rattle.std.specs.declared.cmp.Ordering.TheVariants.{Less};
+ghost use Rattle.mst_key.specs.Map.{key_cmp, IsAscending};
+
+use mst_key::{Key, Value};
+use std::cmp::Ordering;
+
+/// Whether a key comes before another.
+pub(crate) fn precedes(one: &Key, other: &Key) -> bool
+    ensures less { IsTrue result ↔ (key_cmp one.now other.now ≡ Less) }
+{
+    match one.cmp(other) {
+        Ordering::Less => true,
+        Ordering::Equal | Ordering::Greater => false,
+    }
+}
+
+/// Whether the keys of the list rise strictly, as those of the empty list do.
+pub fn ascending(pairs: &[(Key, Value)]) -> bool
+    ensures rising { IsTrue result ↔ IsAscending pairs.now }
+{
+    for i in 1..pairs.len() {
+        if !precedes(&pairs[i - 1].0, &pairs[i].0) {
+            return false;
+        }
+    }
+    true
+}

@@ -1,0 +1,86 @@
+//! Reading the parts of a node text, from left to right. Each call answers what it read and the bytes behind it, or `None`.
+ghost use Rattle.std.specs.Prelude.{◌≡◌, ◌≤◌, length, IfSome, option_copied};
+ghost use Rattle.mst_key.specs.declared.format.Format.TheVariants.{One};
+ghost use Rattle.mst_key.specs.Bytes.{IsKey, IsValue};
+ghost use Rattle.mst_node.specs.Reading.{Gives, part_at, child_at, counted_at, entry_at, behind_at};
+ghost use Rattle.mst_node.specs.Seen.{seen};
+
+/// An entry as it lies in a node text.
+#[derive(Clone, Copy)]
+pub(crate) struct EntryBytes<'a> {
+    pub child: Option<&'a [u8; 32]>,
+    pub key: &'a [u8],
+    pub value: &'a [u8],
+}
+
+/// So many bytes.
+#[tactic(auto, unfolding(crate::specs::Reading::part_at))]
+pub(crate) fn part_of(bytes: &[u8], count: usize) -> Option<(&[u8], &[u8])>
+    ensures reading { Gives (λ x. (x.0.now, x.1.now)) result (part_at count bytes.now) }
+    ensures size { IfSome result (λ x. length x.0.now ≡ count) }
+{
+    if bytes.len() < count {
+        None
+    } else {
+        Some(bytes.split_at(count))
+    }
+}
+
+/// A byte 0 for no child, or a byte 1 and a digest.
+#[tactic(auto, unfolding(crate::specs::Reading::child_at, crate::specs::Reading::part_at))]
+pub(crate) fn child_of(bytes: &[u8]) -> Option<(Option<&[u8; 32]>, &[u8])>
+    ensures reading { Gives (λ x. (option_copied x.0, x.1.now)) result (child_at bytes.now) }
+{
+    match bytes {
+        [0, rest @ ..] => Some((None, rest)),
+        [1, rest @ ..] => {
+            let (digest, rest) = rest.split_first_chunk::<32>()?;
+            Some((Some(digest), rest))
+        }
+        _ => None,
+    }
+}
+
+/// Bytes behind their number, which is at least `low` and at most `high`.
+#[tactic(auto, unfolding(crate::specs::Reading::counted_at))]
+fn counted_of(bytes: &[u8], low: u8, high: u8) -> Option<(&[u8], &[u8])>
+    ensures reading { Gives (λ x. (x.0.now, x.1.now)) result (counted_at low high bytes.now) }
+    ensures size { IfSome result (λ x. (low ≤ length x.0.now) × (length x.0.now ≤ high)) }
+{
+    match bytes {
+        [] => None,
+        [count, rest @ ..] => {
+            if *count < low || high < *count {
+                None
+            } else {
+                part_of(rest, *count as usize)
+            }
+        }
+    }
+}
+
+/// An entry.
+#[tactic(auto, unfolding(crate::specs::Reading::entry_at))]
+pub(crate) fn entry_of(bytes: &[u8]) -> Option<(EntryBytes<'_>, &[u8])>
+    ensures reading { Gives (λ x. (seen x.0, x.1.now)) result (entry_at One bytes.now) }
+    ensures key { IfSome result (λ x. IsKey x.0.key.now) }
+    ensures value { IfSome result (λ x. IsValue x.0.value.now) }
+{
+    let (child, rest) = child_of(bytes)?;
+    let (key, rest) = counted_of(rest, 1, 32)?;
+    let (value, rest) = counted_of(rest, 0, 64)?;
+    Some((EntryBytes { child, key, value }, rest))
+}
+
+/// The bytes behind so many entries.
+#[tactic(auto, unfolding(crate::specs::Reading::behind_at))]
+pub(crate) fn behind(bytes: &[u8], count: usize) -> Option<&[u8]>
+    ensures reading { Gives (λ x. x.now) result (behind_at One count bytes.now) }
+{
+    let mut rest = bytes;
+    for _ in 0..count {
+        let (_, after) = entry_of(rest)?;
+        rest = after;
+    }
+    Some(rest)
+}

@@ -1,0 +1,114 @@
+//! The root digest of a list of pairs, without its tree.
+ghost use Rattle.std.specs.Prelude.{◌≡◌, ◌<◌, ◌≤◌, List, [], ◌∷◌, ◌++◌, length};
+ghost use Rattle.mst_key.specs.declared.format.Format.TheVariants.{One};
+ghost use Rattle.mst_key.specs.Layer.{layer as layer_of};
+ghost use Rattle.mst_key.specs.Map.{Pair};
+ghost use Rattle.mst_node.specs.Tree.{tree};
+ghost use Rattle.mst_node.specs.Text.{digest, child_digest as digest_of_child, root as root_digest};
+ghost use Rattle.mst_node.specs.Top.{IsTop};
+
+use crate::hashing::{empty_digest, feed_child, feed_counted};
+use mst_key::{Key, Value};
+use sha2::{Digest, Sha256};
+
+/// The top node of the tree of some pairs: its layer, and how many entries it has.
+#[derive(Clone, Copy)]
+struct Top {
+    layer: u8,
+    count: usize,
+}
+
+impl Top {
+    /// Of no pairs.
+    fn none() -> Top
+        ensures top { IsTop [] result }
+    {
+        Top { layer: 0, count: 0 }
+    }
+
+    /// Of the same pairs and one more, whose key has this layer.
+    fn with(self, layer: u8) -> Top
+        requires few { self.count < 65535 }
+        ensures top { (m : List Pair) (p : Pair) → IsTop m self → layer_of p.0 ≡ layer → IsTop (m ++ p ∷ []) result }
+    {
+        if layer > self.layer {
+            Top { layer, count: 1 }
+        } else if layer == self.layer {
+            Top {
+                layer,
+                count: self.count + 1,
+            }
+        } else {
+            self
+        }
+    }
+
+    /// Of these pairs.
+    fn of(pairs: &[(Key, Value)]) -> Top
+        requires few { length pairs.now ≤ 65535 }
+        ensures top { IsTop pairs.now result }
+    {
+        let mut top = Top::none();
+        for pair in pairs {
+            top = top.with(pair.0.layer());
+        }
+        top
+    }
+}
+
+/// The digest of the tree of a gap's pairs, whose top is known, if there are any.
+#[cycle(root)]
+fn gap_digest(pairs: &[(Key, Value)], top: Top) -> Option<[u8; 32]>
+    requires few { length pairs.now ≤ 65535 }
+    requires top { IsTop pairs.now top }
+    ensures digest { result ≡ digest_of_child (tree One pairs.now) }
+{
+    if pairs.is_empty() {
+        None
+    } else {
+        Some(digest_of(pairs, top))
+    }
+}
+
+/// The digest of the tree of some pairs, whose top is known. One pass feeds the top node's text and finds the tops of the gaps.
+#[cycle(root)]
+fn digest_of(pairs: &[(Key, Value)], top: Top) -> [u8; 32]
+    requires some { 0 < length pairs.now }
+    requires few { length pairs.now ≤ 65535 }
+    requires top { IsTop pairs.now top }
+    ensures digest { result ≡ digest (tree One pairs.now) }
+{
+    let mut hasher = Sha256::new();
+    hasher.update([1, top.layer].as_slice());
+    let count = top.count as u16;
+    hasher.update(count.to_be_bytes().as_slice());
+    let mut start = 0;
+    let mut gap = Top::none();
+    for (i, pair) in pairs.iter().enumerate() {
+        let layer = pair.0.layer();
+        if layer == top.layer {
+            feed_child(&mut hasher, gap_digest(&pairs[start..i], gap));
+            feed_counted(&mut hasher, pair.0.bytes());
+            feed_counted(&mut hasher, pair.1.bytes());
+            start = i + 1;
+            gap = Top::none();
+        } else {
+            gap = gap.with(layer);
+        }
+    }
+    feed_child(&mut hasher, gap_digest(&pairs[start..], gap));
+    hasher.finalize()
+}
+
+/// The root digest of the map of these pairs: the digest of its tree, or of the empty string for the empty map. The keys rise strictly, and there are at most 65,535 pairs.
+///
+/// The texts are fed to the hash piece by piece, and no tree is built: the call takes no memory. A key is hashed once to find the top node, and once for each node in whose span it lies; nothing is fed twice. Calls nest no deeper than the layers, 65 at the most.
+pub fn root_of(pairs: &[(Key, Value)]) -> [u8; 32]
+    requires few { length pairs.now ≤ 65535 }
+    ensures root { result ≡ root_digest One pairs.now }
+{
+    match gap_digest(pairs, Top::of(pairs)) {
+        Some(digest) => digest,
+        None => empty_digest(),
+    }
+}

@@ -1,0 +1,79 @@
+ghost use Rattle.std.specs.Prelude.{◌≡◌};
+ghost use Rattle.mst_store.specs.Passes.{IsSamePass};
+ghost use Rattle.mst_store.specs.Settling.{AreAllPasses};
+
+use crate::tests::{gets, key, value};
+use crate::{Pass, Shape, Store, meet, settle};
+use mst_key::{Key, Value};
+use std::alloc::{Allocator, Global};
+use std::process::Abort;
+use std::test::Fail;
+
+// Puts a key, and answers whether it was new.
+fn puts<A: Allocator + Copy>(pass: &mut Pass<A>, key: &Key, value: &Value) -> bool
+    ensures same { IsSamePass pass.old pass.new }
+{
+    pass.try_put(key, value) == Ok(None)
+}
+
+// Each pass puts a key of its own. Settled, each gets them all, in the order in which they stand here.
+fn each_gets_what_all_put(rt: &impl Abort, passes: &mut [Pass<Global>], order: &[u32])
+    requires whole { AreAllPasses passes.old }
+{
+    let x = value(rt, b"x");
+    for pass in passes.iter_mut() {
+        let own = pass.number().to_le_bytes();
+        assert!(rt; puts(pass, &key(rt, &own), &x));
+    }
+    settle(passes);
+    for (pass, number) in passes.iter_mut().zip(order) {
+        assert!(rt; pass.number() == *number);
+        for other in order {
+            assert!(rt; gets(pass, &key(rt, &other.to_le_bytes()), &x));
+        }
+    }
+}
+
+#[test]
+fn settled_passes_get_what_each_put(rt: HostRuntime) -> Result<(), Fail> {
+    let Ok((store, seats)) = Store::open(rt.alloc(), Shape { rows: 4, passes: 2 }) else {
+        panic!(rt; "no memory")
+    };
+    let Ok(mut passes) = store.deal(rt.alloc(), seats) else {
+        panic!(rt; "no memory")
+    };
+    each_gets_what_all_put(&rt, &mut passes, &[1, 2]);
+    Ok(())
+}
+
+#[test]
+fn passes_settle_in_any_order(rt: HostRuntime) -> Result<(), Fail> {
+    let Ok((store, seats)) = Store::open(rt.alloc(), Shape { rows: 4, passes: 3 }) else {
+        panic!(rt; "no memory")
+    };
+    let Ok(mut passes) = store.deal(rt.alloc(), seats) else {
+        panic!(rt; "no memory")
+    };
+    assert!(rt; passes.len() == 3);
+    passes.swap(0, 2);
+    passes.swap(1, 2);
+    each_gets_what_all_put(&rt, &mut passes, &[3, 1, 2]);
+    Ok(())
+}
+
+#[test]
+fn passes_that_met_get_what_both_put(rt: HostRuntime) -> Result<(), Fail> {
+    let Ok((store, seats)) = Store::open(rt.alloc(), Shape { rows: 4, passes: 3 }) else {
+        panic!(rt; "no memory")
+    };
+    let Ok(mut passes) = store.deal(rt.alloc(), seats) else {
+        panic!(rt; "no memory")
+    };
+    assert!(rt; passes.len() == 3);
+    let (front, back) = passes.split_at_mut(1);
+    let (a, b, x) = (key(&rt, b"a"), key(&rt, b"b"), value(&rt, b"x"));
+    assert!(rt; puts(&mut front[0], &a, &x) && puts(&mut back[1], &b, &x));
+    meet(&mut front[0], &mut back[1]);
+    assert!(rt; gets(&mut front[0], &b, &x) && gets(&mut back[1], &a, &x));
+    Ok(())
+}
