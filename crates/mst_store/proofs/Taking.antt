@@ -1,5 +1,5 @@
 -- From the turn that was taken to what a caller learns.
-use Rattle.std.proofs.Common.{◌≡◌, ℕ, ◌+◌, ◌<◌, ◌≤◌, true, false, List, [], ◌∷◌, ◌++◌, length, Some, None, Option, sym, refl, ap, ◌∙◌, subst, arith, length-append, vec_capacity}
+use Rattle.std.proofs.Common.{◌≡◌, ℕ, ◌+◌, ◌<◌, ◌≤◌, true, false, List, [], ◌∷◌, ◌++◌, length, Some, None, Option, sym, refl, ap, ◌∙◌, subst, arith, length-append, vec_len, vec_capacity}
 use Rattle.atomic_table.specs.Seated.{TableId}
 use Rattle.mst_key.specs.declared.history.Event.{Event}
 use Rattle.mst_key.specs.History.{History, changed, key_of, events_of}
@@ -51,8 +51,8 @@ module _ {A : Type 0} where
 
   -- and with an event more, if it is the map that the event's change leaves
   pub returnable_more : (m n : Seated A) (list new : PairList A) (e : Event) → HoldsList m list n → new.version ≡ list.version + 1 → new.pairs.items ≡ changed list.pairs.items e.change
-      → new.rows ≡ list.rows → new.rows ≤ vec_capacity new.pairs → list.version < last_version → IsReturnable new (n.0.seen ++ e ∷ []) n
-  returnable_more m n list new e h version pairs same room few = let r = returnable m n list h in let s = r.stood in record {
+      → new.rows ≡ list.rows → vec_len new.pairs ≤ new.rows → new.rows ≤ vec_capacity new.pairs → list.version < last_version → IsReturnable new (n.0.seen ++ e ∷ []) n
+  returnable_more m n list new e h version pairs same short room early = let r = returnable m n list h in let s = r.stood in record {
     on = r.on;
     empty = r.empty;
     stood = let l : length (n.0.seen ++ e ∷ []) ≡ length n.0.seen + 1 = length-append n.0.seen (e ∷ []) in let v = s.version_is in let k = s.rows_is in record {
@@ -60,6 +60,8 @@ module _ {A : Type 0} where
       version_is = omega arith;
       numbered = omega arith;
       rows_is = same ∙ s.rows_is;
+      few = s.few;
+      within = let r = s.rows_is in omega arith;
       room = omega arith;
     };
   }

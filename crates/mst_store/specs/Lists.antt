@@ -1,5 +1,5 @@
 -- The sorted list of pairs that lies in the table's slot.
-use Rattle.std.specs.Prelude.{◌≡◌, ℕ, Bool, true, false, ◌+◌, ◌<◌, ◌≤◌, List, length, take, drop, None, Some, vec_capacity, slice_get}
+use Rattle.std.specs.Prelude.{◌≡◌, ℕ, Bool, true, false, ◌+◌, ◌<◌, ◌≤◌, List, length, take, drop, None, Some, vec_len, vec_capacity, slice_get}
 use Rattle.std.specs.List.{AllByRecursion}
 use Rattle.mst_key.specs.Map.{Pair, AllBelow, AllAbove, look}
 use Rattle.mst_key.specs.declared.history.Change.{Change}
@@ -13,12 +13,14 @@ use Rattle.mst_store.specs.declared.list.PairList.{PairList}
 abbrev pub last_version : ℕ
 last_version = 9223372036854775807
 
--- the list in the slot is the map of the history, and its version the number of events; there is room for as many pairs as the store has rows
+-- the list in the slot is the map of the history, and its version the number of events; it has no more pairs than the store has rows, and room for as many
 pub record Stands {A : Type 0} (list : PairList A) (rows : ℕ) (log : History) : Type 0 where
   pub map : list.pairs.items ≡ after log
   pub version_is : list.version ≡ length log
   pub numbered : length log ≤ last_version
   pub rows_is : list.rows ≡ rows
+  pub few : rows ≤ 65535
+  pub within : vec_len list.pairs ≤ rows
   pub room : rows ≤ vec_capacity list.pairs
 
 abbrev pub stands : {A : Type 0} → PairList A → ℕ → History → Type 0

@@ -1,14 +1,17 @@
 //! The map as a sorted list of its pairs: what lies in the table's slot.
-ghost use Rattle.std.specs.Prelude.{◌≡◌, ◌+◌, ◌<◌, ◌≤◌, IfOk, IfErr, OnOk, OnErr, MatchResult, not, vec_capacity};
+ghost use Rattle.std.specs.Prelude.{◌≡◌, ◌+◌, ◌<◌, ◌≤◌, IfOk, IfErr, OnOk, OnErr, MatchResult, not, vec_len, vec_capacity};
 ghost use Rattle.std.specs.Option.{option_copied};
 ghost use Rattle.mst_key.specs.declared.history.Change.TheVariants.{Put, Remove};
 ghost use Rattle.mst_key.specs.History.{changed, key_of};
 ghost use Rattle.mst_key.specs.Map.{IsAscending, look, successor, span, above, from_on, below};
 ghost use Rattle.mst_key.specs.Map as map;
+ghost use Rattle.mst_key.specs.declared.format.Format.TheVariants.{One};
+ghost use Rattle.mst_node.specs.Text.{root};
 ghost use Rattle.mst_store.specs.Lists.{last_version, IsAt, IsGap, IsCut, HasRoom, Blocks};
 
 use crate::faults::WriteFault;
 use mst_key::{Change, Key, Memory, Value};
+use mst_node::root_of;
 use mst_words::Desk;
 use std::alloc::Allocator;
 use std::mem;
@@ -122,10 +125,19 @@ impl<A: Allocator> PairList<A> {
         copied(alloc, found)
     }
 
+    /// The root digest of the map. The list is hashed piece by piece: it takes no memory.
+    pub fn root(&self) -> [u8; 32]
+        requires few { vec_len self.now.pairs ≤ 65535 }
+        ensures { result ≡ root One self.now.pairs.items }
+    {
+        root_of(self.pairs.as_slice())
+    }
+
     // Gives the key the value, and answers the value that it had. `NoRoom` comes exactly where the key is new and the list is full, and changes nothing.
     fn put(&mut self, key: &Key, value: &Value) -> Result<Option<Value>, WriteFault>
         requires ascending { IsAscending self.old.pairs.items }
         requires open { self.old.version < last_version }
+        requires within { vec_len self.old.pairs ≤ self.old.rows }
         requires capacity { self.old.rows ≤ vec_capacity self.old.pairs }
         ensures answer { IfOk result (λ old. old ≡ look self.old.pairs.items key.now) }
         ensures pairs { OnOk result (self.new.pairs.items ≡ map.put self.old.pairs.items key.now value.now) }
@@ -134,6 +146,7 @@ impl<A: Allocator> PairList<A> {
         ensures refused { IfErr result (λ fault. Blocks fault self.old (Put key.now value.now)) }
         ensures unchanged { OnErr result (self.new ≡ self.old) }
         ensures rows { self.new.rows ≡ self.old.rows }
+        ensures within { vec_len self.new.pairs ≤ self.new.rows }
         ensures capacity { self.new.rows ≤ vec_capacity self.new.pairs }
     {
         match self.place(key) {
@@ -159,11 +172,13 @@ impl<A: Allocator> PairList<A> {
     fn remove(&mut self, key: &Key) -> Option<Value>
         requires ascending { IsAscending self.old.pairs.items }
         requires open { self.old.version < last_version }
+        requires within { vec_len self.old.pairs ≤ self.old.rows }
         requires capacity { self.old.rows ≤ vec_capacity self.old.pairs }
         ensures answer { result ≡ look self.old.pairs.items key.now }
         ensures pairs { self.new.pairs.items ≡ map.remove self.old.pairs.items key.now }
         ensures version { self.new.version ≡ self.old.version + 1 }
         ensures rows { self.new.rows ≡ self.old.rows }
+        ensures within { vec_len self.new.pairs ≤ self.new.rows }
         ensures capacity { self.new.rows ≤ vec_capacity self.new.pairs }
     {
         self.version += 1;
@@ -182,6 +197,7 @@ impl<A: Allocator> PairList<A> {
     pub fn apply(&mut self, change: &Change) -> Result<Option<Value>, WriteFault>
         requires ascending { IsAscending self.old.pairs.items }
         requires numbered { self.old.version ≤ last_version }
+        requires within { vec_len self.old.pairs ≤ self.old.rows }
         requires capacity { self.old.rows ≤ vec_capacity self.old.pairs }
         ensures answer { IfOk result (λ old. old ≡ look self.old.pairs.items (key_of change.now)) }
         ensures pairs { OnOk result (self.new.pairs.items ≡ changed self.old.pairs.items change.now) }
@@ -191,6 +207,7 @@ impl<A: Allocator> PairList<A> {
         ensures refused { IfErr result (λ fault. Blocks fault self.old change.now) }
         ensures unchanged { OnErr result (self.new ≡ self.old) }
         ensures rows { self.new.rows ≡ self.old.rows }
+        ensures within { vec_len self.new.pairs ≤ self.new.rows }
         ensures capacity { self.new.rows ≤ vec_capacity self.new.pairs }
     {
         if self.version == LAST_VERSION {

@@ -2,6 +2,8 @@
 ghost use Rattle.std.specs.Prelude.{◌≡◌, IfOk, IfErr, OnOk, OnErr, length};
 ghost use Rattle.mst_key.specs.declared.history.Change.TheVariants.{Put, Remove};
 ghost use Rattle.mst_key.specs.Map.{look, successor, span};
+ghost use Rattle.mst_key.specs.declared.format.Format.TheVariants.{One};
+ghost use Rattle.mst_node.specs.Text.{root};
 ghost use Rattle.std.specs.Option.{option_copied};
 ghost use Rattle.mst_store.specs.Passes.{made_by, Looks, Answers, Wrote, Refuses, Misses, FindsBusy};
 
@@ -91,6 +93,21 @@ impl<'a, A: Allocator + Copy> Pass<'a, A> {
             Ok(found) => Ok(found),
             Err(Memory) => Err(ReadFault::Memory),
         }
+    }
+
+    /// The root digest of the map: the SHA-256 (FIPS 180-4) of the text of its tree's top node, or of the empty string for the empty map. It depends on the pairs of the map alone.
+    ///
+    /// `Busy` comes only where another pass has the turn. It takes no memory.
+    pub fn root(&mut self) -> Result<[u8; 32], Busy>
+        ensures ok { IfOk result (λ digest. Answers (root One) self.old digest self.new) }
+        ensures busy { OnErr result (FindsBusy self.old self.new) }
+    {
+        let Some(list) = take_list(self.board, &mut self.seat, self.number) else {
+            return Err(Busy);
+        };
+        let digest = list.root();
+        give_back(self.board, &mut self.seat, list);
+        Ok(digest)
     }
 
     /// The number of the version: how many events there were. `Busy` comes only where another pass has the turn. It takes no memory.

@@ -7,7 +7,7 @@ apply-requires-clause-ascending g c = held_ascending c.self.inside.seat.me c.tak
 
 pub give_back_with-requires-clause-whole : goal.give_back_with-requires-clause-whole
 give_back_with-requires-clause-whole g c = returnable_more c.self.inside.seat.me c.take_list.new.seat.me c.in-Some.list c.apply.new.self record { pass = c.self.inside.number; change = c.args.change } c.in-Some.ensures.taken
-    c.in-Ok.ensures.version c.in-Ok.ensures.pairs c.in-Ok.ensures.rows c.in-Ok.ensures.capacity c.in-Ok.ensures.open
+    c.in-Ok.ensures.version c.in-Ok.ensures.pairs c.in-Ok.ensures.rows c.in-Ok.ensures.within c.in-Ok.ensures.capacity c.in-Ok.ensures.open
 
 pub returns-in-Ok-clause-ok : goal.returns-in-Ok-clause-ok
 returns-in-Ok-clause-ok g c = let table : c.give_back_with.new.seat.table_id ≡ c.self.inside.seat.table_id = search rules in
