@@ -1,14 +1,15 @@
 -- A request is of a dealt pass.
-use Rattle.std.proofs.Common.{◌≡◌, ℕ, ◌+◌, ◌-◌, ◌*◌, ◌≤◌, ◌==◌, List, [], ◌∷◌, refl, arith, Bool, true, false, cond, Option, Some, None, codes}
+use Rattle.std.proofs.Common.{◌≡◌, ℕ, ◌+◌, ◌-◌, ◌*◌, ◌≤◌, ◌==◌, List, [], ◌∷◌, length, refl, sym, ap, ◌∙◌, arith, Bool, true, false, cond, Option, Some, None, codes}
 use Rattle.std.specs.Prelude.{nat_le, ◌&&◌}
 use Rattle.std.specs.List.{list_all}
 use Rattle.std.specs.Str.{bytes_eq}
 use Rattle.std.specs.Char.{is_ascii_digit}
 use Rattle.std.proofs.lemmas.Bool.{leb-true, eqb-false}
+use Rattle.std.proofs.lemmas.List.Splits.{length-slice_split}
 use Rattle.mst.specs.declared.request.Request.{Request}
-use Rattle.mst.specs.declared.request.Request.TheVariants.{Refused, Put, Get}
+use Rattle.mst.specs.declared.request.Request.TheVariants.{Refused, Put, Get, Root}
 use Rattle.mst.specs.declared.request.Fault.TheVariants.{NoCommand, KeySize, ValueSize}
-use Rattle.mst.specs.Grammar.{spelt, number_up_to, pass_in, bytes_of, has_key_size, has_value_size, put_of, get_of, put_fields, get_fields, command_of, by_pass, by_fields, fields_of, asked}
+use Rattle.mst.specs.Grammar.{spelt, number_up_to, pass_in, bytes_of, has_key_size, has_value_size, put_of, get_of, put_fields, get_fields, root_fields, command_of, by_pass, by_fields, fields_of, asked}
 use Rattle.mst.specs.Serving.{IsDealt}
 use Rattle.mst.proofs.Numbers.{spelt_more}
 
@@ -17,6 +18,7 @@ abbrev IsOf : ℕ → Request → Type 0
 IsOf p (Refused f) = Unit {0}
 IsOf p (Put q k v) = q ≡ p
 IsOf p (Get q k) = q ≡ p
+IsOf p (Root q) = q ≡ p
 
 cond_of : (p : ℕ) (b : Bool) (r s : Request) → IsOf p r → IsOf p s → IsOf p (cond b r s)
 cond_of p true r s x y = x
@@ -43,16 +45,35 @@ get_fields_of p [] = tt
 get_fields_of p (k ∷ []) = get_is_of p (bytes_of k)
 get_fields_of p (k ∷ v ∷ fs) = tt
 
+root_fields_of : (p : ℕ) (fs : List (List ℕ)) → IsOf p (root_fields p fs)
+root_fields_of p [] = refl
+root_fields_of p (k ∷ fs) = tt
+
 command_is_of : (p : ℕ) (fs : List (List ℕ)) → IsOf p (command_of p fs)
 command_is_of p [] = tt
 command_is_of p (name ∷ fs) =
-    cond_of p (bytes_eq name (codes "put")) (put_fields p fs) (cond (bytes_eq name (codes "get")) (get_fields p fs) (Refused NoCommand)) (put_fields_of p fs)
-    (cond_of p (bytes_eq name (codes "get")) (get_fields p fs) (Refused NoCommand) (get_fields_of p fs) tt)
+    cond_of p (bytes_eq name (codes "put")) (put_fields p fs) (cond (bytes_eq name (codes "get")) (get_fields p fs) (cond (bytes_eq name (codes "root")) (root_fields p fs) (Refused NoCommand))) (put_fields_of p fs)
+    (cond_of p (bytes_eq name (codes "get")) (get_fields p fs) (cond (bytes_eq name (codes "root")) (root_fields p fs) (Refused NoCommand)) (get_fields_of p fs)
+    (cond_of p (bytes_eq name (codes "root")) (root_fields p fs) (Refused NoCommand) (root_fields_of p fs) tt))
+
+-- `root` with a field behind it is no command
+root_alone : (p : ℕ) (b : Bool) (fs : List (List ℕ)) → 1 ≤ length fs → cond b (root_fields p fs) (Refused NoCommand) ≡ Refused NoCommand
+root_alone p b [] some = absurd (omega arith)
+root_alone p true (f ∷ fs) some = refl
+root_alone p false (f ∷ fs) some = refl
+
+-- a name that is neither `put` nor `get`, with a field behind it, is no command
+pub no_command : (p : ℕ) (name fields : List ℕ) → bytes_eq name (codes "put") ≡ false → bytes_eq name (codes "get") ≡ false → Refused NoCommand ≡ command_of p (name ∷ fields_of fields)
+no_command p name fields put get = let fs : List (List ℕ) = fields_of fields in
+    let some : 1 ≤ length fs = omega (arith, length-slice_split (λ (b : ℕ). b == 32) fields) in
+    let last : Request = cond (bytes_eq name (codes "root")) (root_fields p fs) (Refused NoCommand) in
+    sym (ap (λ (b : Bool). cond b (put_fields p fs) (cond (bytes_eq name (codes "get")) (get_fields p fs) last)) put ∙ ap (λ (b : Bool). cond b (get_fields p fs) last) get ∙ root_alone p (bytes_eq name (codes "root")) fs some)
 
 of_dealt : (n p : ℕ) (r : Request) → 1 ≤ p → p ≤ n → IsOf p r → IsDealt n r
 of_dealt n p (Refused f) low high is = tt
 of_dealt n p (Put q k v) low high is = (omega (arith, low, is), omega (arith, high, is))
 of_dealt n p (Get q k) low high is = (omega (arith, low, is), omega (arith, high, is))
+of_dealt n p (Root q) low high is = (omega (arith, low, is), omega (arith, high, is))
 
 -- the number of a pass is from 1 to n
 abbrev IsNumber : ℕ → Option ℕ → Type 0

@@ -7,7 +7,7 @@ use Rattle.hex.specs.Hex.{decode_of}
 use Rattle.hex.specs.declared.error.FromHexError.{FromHexError}
 use Rattle.mst.specs.declared.request.Fault.TheVariants.{LongLine, NoCommand, KeySize, ValueSize}
 use Rattle.mst.specs.declared.request.Request.{Request}
-use Rattle.mst.specs.declared.request.Request.TheVariants.{Refused, Put, Get}
+use Rattle.mst.specs.declared.request.Request.TheVariants.{Refused, Put, Get, Root}
 
 -- the parts between single blanks
 abbrev pub fields_of : List ℕ → List (List ℕ)
@@ -63,11 +63,16 @@ abbrev pub get_fields : ℕ → List (List ℕ) → Request
 get_fields p (k ∷ []) = get_of p (bytes_of k)
 get_fields p _ = Refused NoCommand
 
+abbrev pub root_fields : ℕ → List (List ℕ) → Request
+root_fields p [] = Root p
+root_fields p _ = Refused NoCommand
+
 abbrev pub command_of : ℕ → List (List ℕ) → Request
 command_of p [] = Refused NoCommand
 command_of p (name ∷ fields) =
     if bytes_eq name (codes "put") then put_fields p fields
     else if bytes_eq name (codes "get") then get_fields p fields
+    else if bytes_eq name (codes "root") then root_fields p fields
     else Refused NoCommand
 
 abbrev pub by_pass : Option ℕ → List (List ℕ) → Request

@@ -4,7 +4,7 @@ use Rattle.hex.specs.Hex.{encode_lower}
 use Rattle.mst.specs.declared.request.Fault.{Fault}
 use Rattle.mst.specs.declared.request.Fault.TheVariants.{LongLine, NoCommand, KeySize, ValueSize}
 use Rattle.mst.specs.declared.answer.Answer.{Answer}
-use Rattle.mst.specs.declared.answer.Answer.TheVariants.{Refused, Missing, Found, Busy, Spent, NoRoom}
+use Rattle.mst.specs.declared.answer.Answer.TheVariants.{Refused, Missing, Found, Root, Busy, Spent, NoRoom}
 
 abbrev pub fault_text : Fault → List ℕ
 fault_text LongLine = codes "fault L1"
@@ -21,6 +21,7 @@ abbrev pub words_of : Answer → List ℕ
 words_of (Refused f) = fault_text f
 words_of Missing = codes "none"
 words_of (Found v) = codes "some " ++ digits_of v
+words_of (Root d) = encode_lower d
 words_of Busy = codes "busy"
 words_of Spent = codes "spent"
 words_of NoRoom = codes "noroom"

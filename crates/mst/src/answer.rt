@@ -1,5 +1,6 @@
 //! What a line is answered.
 ghost use Rattle.std.specs.Prelude.{◌≡◌, ◌≤◌, ◌+◌, ◌++◌, length};
+ghost use Rattle.hex.specs.Hex.{encode_lower};
 ghost use Rattle.mst.specs.Texts.{fault_text, digits_of, text_of};
 
 use crate::request::Fault;
@@ -12,6 +13,7 @@ pub enum Answer {
     Refused(Fault),
     Missing,
     Found(Value),
+    Root([u8; 32]),
     Busy,
     Spent,
     NoRoom,
@@ -58,6 +60,17 @@ fn extend_value(text: &mut Text, value: &Value)
     extend(text, &digits[..count]);
 }
 
+// Appends the digits of a digest.
+fn extend_digest(text: &mut Text, digest: &[u8; 32])
+    requires { length text.old.items ≤ 5 }
+    ensures digest { text.new.items ≡ text.old.items ++ encode_lower digest.now }
+    ensures small { length text.new.items ≤ 133 }
+{
+    let mut digits = [0; 64];
+    let _ = hex::encode_to_slice(digest.as_slice(), &mut digits);
+    extend(text, &digits);
+}
+
 impl Answer {
     /// The answer as it is written.
     #[tactic(auto, unfolding(crate::specs::Texts::text_of))]
@@ -72,6 +85,7 @@ impl Answer {
                 extend(&mut text, b"some ");
                 extend_value(&mut text, value);
             }
+            Answer::Root(digest) => extend_digest(&mut text, digest),
             Answer::Busy => extend(&mut text, b"busy"),
             Answer::Spent => extend(&mut text, b"spent"),
             Answer::NoRoom => extend(&mut text, b"noroom"),

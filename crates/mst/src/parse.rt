@@ -1,5 +1,5 @@
 //! From the bytes of a line to what it asks for.
-ghost use Rattle.std.specs.Prelude.{◌≡◌, ◌≤◌, List, ℕ, length, true, false, None, Some, MatchOption, MatchResult};
+ghost use Rattle.std.specs.Prelude.{◌≡◌, ◌≤◌, List, ℕ, [], ◌∷◌, length, true, false, None, Some, MatchOption, MatchResult};
 ghost use Rattle.mst.specs.Grammar.{bytes_of as spelt_bytes, has_key_size, has_value_size, put_fields, get_fields, fields_of, command_of, by_fields};
 
 use crate::fields::{bytes_of, pass_of, split_field};
@@ -64,13 +64,23 @@ fn put_request(pass: u32, fields: &[u8]) -> Request
     }
 }
 
+// What a command asks for with nothing behind it.
+fn bare_request(pass: u32, name: &[u8]) -> Request
+    ensures { result ≡ command_of pass (name.now ∷ []) }
+{
+    if name == b"root".as_slice() {
+        return Request::Root(pass);
+    }
+    Request::Refused(Fault::NoCommand)
+}
+
 // What a line asks a dealt pass for, by what stands behind the pass.
 fn command_request(pass: u32, fields: &[u8]) -> Request
     requires { length fields.now ≤ 4096 }
     ensures { result ≡ command_of pass (fields_of fields.now) }
 {
     let Some((name, fields)) = split_field(fields) else {
-        return Request::Refused(Fault::NoCommand);
+        return bare_request(pass, fields);
     };
     if name == b"put".as_slice() {
         return put_request(pass, fields);

@@ -23,4 +23,5 @@ pub enum Request {
     Refused(Fault),
     Put(u32, Key, Value),
     Get(u32, Key),
+    Root(u32),
 }

@@ -37,5 +37,9 @@ pub fn serve<A: Allocator + Copy>(passes: &mut [Pass<'_, A>], request: &Request)
             Ok(found) => value_answer_of(found),
             Err(_) => Answer::Busy,
         },
+        Request::Root(number) => match passes[(*number - 1) as usize].root() {
+            Ok(digest) => Answer::Root(digest),
+            Err(_) => Answer::Busy,
+        },
     }
 }

@@ -254,12 +254,24 @@ fn the_root_depends_on_the_pairs_alone(rt: HostRuntime) -> Result<(), Fail> {
             panic!(rt; "two passes")
         };
         let empty = digits(&rt, &mut first);
-        assert!(rt; empty.as_str() == "e3b0c44298fc1c149afbf4c8996fb92427ae41e4649b934ca495991b7852b855");
-        let _ = if falling { first.try_put(&abc, &x) } else { first.try_put(&a, &one) };
-        let _ = if falling { second.try_put(&a, &one) } else { second.try_put(&abc, &x) };
+        assert!(rt;
+            empty.as_str() == "e3b0c44298fc1c149afbf4c8996fb92427ae41e4649b934ca495991b7852b855"
+        );
+        let _ = if falling {
+            first.try_put(&abc, &x)
+        } else {
+            first.try_put(&a, &one)
+        };
+        let _ = if falling {
+            second.try_put(&a, &one)
+        } else {
+            second.try_put(&abc, &x)
+        };
         // the SHA-256 of the 17 bytes 01 00 0002 00 01 61 01 31 00 03 616263 01 78 00
         let both = digits(&rt, &mut first);
-        assert!(rt; both.as_str() == "d4a8a9fc55058427163bd8a1f09ca5ec542de1cdaf28df100be5472e47b72503");
+        assert!(rt;
+            both.as_str() == "d4a8a9fc55058427163bd8a1f09ca5ec542de1cdaf28df100be5472e47b72503"
+        );
         assert!(rt; first.version() == Ok(2) && second.version() == Ok(2));
     }
     Ok(())

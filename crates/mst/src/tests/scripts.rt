@@ -13,7 +13,7 @@ const KEY_32: &str = "000102030405060708090a0b0c0d0e0f101112131415161718191a1b1c
 // Each line is given alone, with a newline and without.
 #[test]
 fn each_line_has_its_answer(rt: HostRuntime) -> Result<(), Fail> {
-    let rows: [(&[u8], &[u8]); 36] = [
+    let rows: [(&[u8], &[u8]); 38] = [
         (b"1 get 61", b"none\n"),
         (b"4 get 61", b"none\n"),
         (b"1 put 61 78", b"none\n"),
@@ -37,7 +37,12 @@ fn each_line_has_its_answer(rt: HostRuntime) -> Result<(), Fail> {
         (b"1  get 61", b"fault L3\n"),
         (b"1\tget 61", b"fault L3\n"),
         (b"1 frob", b"fault L3\n"),
-        (b"1 root", b"fault L3\n"),
+        (
+            b"1 root",
+            b"e3b0c44298fc1c149afbf4c8996fb92427ae41e4649b934ca495991b7852b855\n",
+        ),
+        (b"1 root ", b"fault L3\n"),
+        (b"1 root 61", b"fault L3\n"),
         (b"1 GET 61", b"fault L3\n"),
         (b"1 get", b"fault L3\n"),
         (b"1 get ", b"fault L3\n"),
@@ -111,13 +116,22 @@ fn long_lines_are_skipped(rt: HostRuntime) -> Result<(), Fail> {
 // Input that is empty, or ends in blank lines, and passes that share one map.
 #[test]
 fn scripts_are_answered(rt: HostRuntime) -> Result<(), Fail> {
-    let rows: [(&[u8], &str); 4] = [
+    let rows: [(&[u8], &str); 6] = [
         (b"", ""),
         (b"\n\n", "fault L3\nfault L3\n"),
         (b"1 get 61\n\n1 get 61", "none\nfault L3\nnone\n"),
         (
             b"1 put 61 31\n2 put 616263 78\n4 get 61\n3 put 61 32\n1 get 61\n1 get 6162\n",
             "none\nnone\nsome 31\nsome 31\nsome 32\nnone\n",
+        ),
+        // the root digest depends on the pairs, and not on the order of the puts
+        (
+            b"1 put 616263 78\n1 put 61 31\n2 root\n",
+            "none\nnone\nd4a8a9fc55058427163bd8a1f09ca5ec542de1cdaf28df100be5472e47b72503\n",
+        ),
+        (
+            b"1 put 61 31\n2 put 616263 78\n1 root\n",
+            "none\nnone\nd4a8a9fc55058427163bd8a1f09ca5ec542de1cdaf28df100be5472e47b72503\n",
         ),
     ];
     for (script, answers) in rows {
