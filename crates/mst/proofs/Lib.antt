@@ -7,3 +7,4 @@ pub mod Replying
 pub mod Staging
 pub mod Reading
 pub mod Dealt
+pub mod Running

@@ -5,7 +5,7 @@ use Rattle.std.proofs.lemmas.Bool.{ne_eqb}
 use Rattle.mst.specs.Device.{Puts, Breaks}
 use Rattle.mst.specs.Lines.{complete, remainder, lines_of}
 use Rattle.mst.specs.Grammar.{kept}
-use Rattle.mst.specs.Script.{Reply, Replies, Ran, Stopped}
+use Rattle.mst.specs.Script.{Replies, Ran, Stopped}
 use Rattle.mst.specs.Driving.{Answered, Lost, Stage, Broken, ReadOn, Halted, Finished}
 use Rattle.mst.proofs.Putting.{puts_then, puts_breaks}
 use Rattle.mst.proofs.Replying.{replies_more, none_yet}
@@ -41,145 +41,148 @@ module _ {W : Type 0} (takes : W → List ℕ → W → Type 0) (more : (s t u :
   all_broken : (s t u : W) (text p : List ℕ) → Puts takes s [] text t p → Breaks takes t p [] u → Breaks takes s [] text u
   all_broken s t u text p x b = subst (λ (y : List ℕ). Breaks takes s [] y u) (append-nil text) (puts_breaks takes more s t u [] p text [] x b)
 
+module _ {W L : Type 0} (takes : W → List ℕ → W → Type 0) (more : (s t u : W) (xs ys : List ℕ) → takes s xs t → takes t ys u → takes s (xs ++ ys) u)
+    (answers : L → Option (List ℕ) → List ℕ → L → Type 0) where
   -- what waits was written
-  pub flushed : (n : ℕ) (s t u : W) (input p q : List ℕ) (k : Option (List ℕ)) → Stage takes n s input k t p → takes t p u → q ≡ [] → Stage takes n s input k u q
-  flushed n s t u input p q k st b is = record {
+  pub flushed : (a b : L) (s t u : W) (input p q : List ℕ) (k : Option (List ℕ)) → Stage takes answers s a input k t p b → takes t p u → q ≡ [] → Stage takes answers s a input k u q b
+  flushed a b s t u input p q k st w is = record {
     text = st.text;
     replies = st.replies;
     rest = st.rest;
-    puts = record { taken = st.text; takes_them = all_taken s t u st.text p st.puts b; rest = sym (ap (λ (l : List ℕ). st.text ++ l) is ∙ append-nil st.text) };
+    puts = record { taken = st.text; takes_them = all_taken takes more s t u st.text p st.puts w; rest = sym (ap (λ (l : List ℕ). st.text ++ l) is ∙ append-nil st.text) };
   }
 
-  pub flush_broken : (n : ℕ) (s t u : W) (input p : List ℕ) (k : Option (List ℕ)) → Stage takes n s input k t p → Breaks takes t p [] u → Broken takes n s (complete input) u
-  flush_broken n s t u input p k st b = record {
+  pub flush_broken : (a b : L) (s t u : W) (input p : List ℕ) (k : Option (List ℕ)) → Stage takes answers s a input k t p b → Breaks takes t p [] u → Broken takes answers s a (complete input) u b
+  flush_broken a b s t u input p k st w = record {
     first = complete input;
     others = [];
     some = sym (append-nil (complete input));
     text = st.text;
     replies = st.replies;
-    breaks = all_broken s t u st.text p st.puts b;
+    breaks = all_broken takes more s t u st.text p st.puts w;
   }
 
   -- the source failed where nothing waits
-  pub not_broken : (n : ℕ) (s t u : W) (input p : List ℕ) (k : Option (List ℕ)) → Stage takes n s input k t p → takes t p u → Broken takes n s (complete input) u
-  not_broken n s t u input p k st b = record {
+  pub not_broken : (a b : L) (s t u : W) (input p : List ℕ) (k : Option (List ℕ)) → Stage takes answers s a input k t p b → takes t p u → Broken takes answers s a (complete input) u b
+  not_broken a b s t u input p k st w = record {
     first = complete input;
     others = [];
     some = sym (append-nil (complete input));
     text = st.text;
     replies = st.replies;
-    breaks = record { taken = st.text; takes_them = all_taken s t u st.text p st.puts b; lost = []; rest = sym (append-nil st.text) };
+    breaks = record { taken = st.text; takes_them = all_taken takes more s t u st.text p st.puts w; lost = []; rest = sym (append-nil st.text) };
   }
 
-  pub no_rest : (n : ℕ) (s t u : W) (input p : List ℕ) (k : Option (List ℕ)) → length (remainder input) ≡ 0 → Stage takes n s input k t p → takes t p u → Finished takes n s input u
-  no_rest n s t u input p k z st b = record {
+  pub no_rest : (a b : L) (s t u : W) (input p : List ℕ) (k : Option (List ℕ)) → length (remainder input) ≡ 0 → Stage takes answers s a input k t p b → takes t p u → Finished takes answers s a input u b
+  no_rest a b s t u input p k z st w = record {
     text = st.text;
-    replies = subst (λ (l : List (List ℕ)). Replies n l st.text) (sym (lines_none input z)) st.replies;
-    taken = all_taken s t u st.text p st.puts b;
+    replies = subst (λ (l : List (List ℕ)). Replies answers a l st.text b) (sym (lines_none input z)) st.replies;
+    taken = all_taken takes more s t u st.text p st.puts w;
   }
 
-  pub no_rest_broken : (n : ℕ) (s t u : W) (input p : List ℕ) (k : Option (List ℕ)) → length (remainder input) ≡ 0 → Stage takes n s input k t p → Breaks takes t p [] u → Broken takes n s (lines_of input) u
-  no_rest_broken n s t u input p k z st b = record {
+  pub no_rest_broken : (a b : L) (s t u : W) (input p : List ℕ) (k : Option (List ℕ)) → length (remainder input) ≡ 0 → Stage takes answers s a input k t p b → Breaks takes t p [] u → Broken takes answers s a (lines_of input) u b
+  no_rest_broken a b s t u input p k z st w = record {
     first = complete input;
     others = [];
     some = lines_none input z ∙ sym (append-nil (complete input));
     text = st.text;
     replies = st.replies;
-    breaks = all_broken s t u st.text p st.puts b;
+    breaks = all_broken takes more s t u st.text p st.puts w;
   }
 
-  rest_replies : (n : ℕ) (input text last : List ℕ) (k : Option (List ℕ)) → k ≡ kept (remainder input) → Replies n (complete input) text → Reply n k last → Replies n (complete input ++ remainder input ∷ []) (text ++ last)
-  rest_replies n input text last k is x y = replies_more n (complete input) (remainder input) text last x (subst (λ (l : Option (List ℕ)). Reply n l last) is y)
+  rest_replies : (a b c : L) (input text last : List ℕ) (k : Option (List ℕ)) → k ≡ kept (remainder input) → Replies answers a (complete input) text b → answers b k last c → Replies answers a (complete input ++ remainder input ∷ []) (text ++ last) c
+  rest_replies a b c input text last k is x y = replies_more answers (complete input) (remainder input) a b c text last x (subst (λ (l : Option (List ℕ)). answers b l last c) is y)
 
-  pub rest_lost : (n : ℕ) (s t u : W) (input p : List ℕ) (k : Option (List ℕ)) → length (remainder input) ≢ 0 → Stage takes n s input k t p → Lost takes n k t p u → Broken takes n s (lines_of input) u
-  rest_lost n s t u input p k ne st a = record {
+  pub rest_lost : (a b c : L) (s t u : W) (input p : List ℕ) (k : Option (List ℕ)) → length (remainder input) ≢ 0 → Stage takes answers s a input k t p b → Lost takes answers k t p b u c → Broken takes answers s a (lines_of input) u c
+  rest_lost a b c s t u input p k ne st an = record {
     first = complete input ++ remainder input ∷ [];
     others = [];
     some = lines_one input ne ∙ sym (append-nil (complete input ++ remainder input ∷ []));
-    text = st.text ++ a.text;
-    replies = rest_replies n input st.text a.text k st.rest st.replies a.reply;
-    breaks = puts_breaks takes more s t u [] p st.text a.text st.puts a.breaks;
+    text = st.text ++ an.text;
+    replies = rest_replies a b c input st.text an.text k st.rest st.replies an.reply;
+    breaks = puts_breaks takes more s t u [] p st.text an.text st.puts an.breaks;
   }
 
-  pub rest_done : (n : ℕ) (s t u v : W) (input p q : List ℕ) (k : Option (List ℕ)) → length (remainder input) ≢ 0 → Stage takes n s input k t p → Answered takes n k t p u q → takes u q v → Finished takes n s input v
-  rest_done n s t u v input p q k ne st a b = record {
-    text = st.text ++ a.text;
-    replies = subst (λ (l : List (List ℕ)). Replies n l (st.text ++ a.text)) (sym (lines_one input ne)) (rest_replies n input st.text a.text k st.rest st.replies a.reply);
-    taken = all_taken s u v (st.text ++ a.text) q (puts_then takes more s t u [] p q st.text a.text st.puts a.puts) b;
+  pub rest_done : (a b c : L) (s t u v : W) (input p q : List ℕ) (k : Option (List ℕ)) → length (remainder input) ≢ 0 → Stage takes answers s a input k t p b → Answered takes answers k t p b u q c → takes u q v → Finished takes answers s a input v c
+  rest_done a b c s t u v input p q k ne st an w = record {
+    text = st.text ++ an.text;
+    replies = subst (λ (l : List (List ℕ)). Replies answers a l (st.text ++ an.text) c) (sym (lines_one input ne)) (rest_replies a b c input st.text an.text k st.rest st.replies an.reply);
+    taken = all_taken takes more s u v (st.text ++ an.text) q (puts_then takes more s t u [] p q st.text an.text st.puts an.puts) w;
   }
 
-  pub rest_broken : (n : ℕ) (s t u v : W) (input p q : List ℕ) (k : Option (List ℕ)) → length (remainder input) ≢ 0 → Stage takes n s input k t p → Answered takes n k t p u q → Breaks takes u q [] v → Broken takes n s (lines_of input) v
-  rest_broken n s t u v input p q k ne st a b = record {
+  pub rest_broken : (a b c : L) (s t u v : W) (input p q : List ℕ) (k : Option (List ℕ)) → length (remainder input) ≢ 0 → Stage takes answers s a input k t p b → Answered takes answers k t p b u q c → Breaks takes u q [] v → Broken takes answers s a (lines_of input) v c
+  rest_broken a b c s t u v input p q k ne st an w = record {
     first = complete input ++ remainder input ∷ [];
     others = [];
     some = lines_one input ne ∙ sym (append-nil (complete input ++ remainder input ∷ []));
-    text = st.text ++ a.text;
-    replies = rest_replies n input st.text a.text k st.rest st.replies a.reply;
-    breaks = all_broken s u v (st.text ++ a.text) q (puts_then takes more s t u [] p q st.text a.text st.puts a.puts) b;
+    text = st.text ++ an.text;
+    replies = rest_replies a b c input st.text an.text k st.rest st.replies an.reply;
+    breaks = all_broken takes more s u v (st.text ++ an.text) q (puts_then takes more s t u [] p q st.text an.text st.puts an.puts) w;
   }
 
-  pub begins : (n : ℕ) (s : W) (k : Option (List ℕ)) (p : List ℕ) → takes s [] s → k ≡ Some [] → p ≡ [] → Stage takes n s [] k s p
-  begins n s k p none is empty = record {
+  pub begins : (a : L) (s : W) (k : Option (List ℕ)) (p : List ℕ) → takes s [] s → k ≡ Some [] → p ≡ [] → Stage takes answers s a [] k s p a
+  begins a s k p none is empty = record {
     text = [];
-    replies = subst (λ (l : List (List ℕ)). Replies n l []) (sym none_yet.0) refl;
+    replies = subst (λ (l : List (List ℕ)). Replies answers a l [] a) (sym none_yet.0) (refl, refl);
     rest = is ∙ ap kept (sym none_yet.1);
     puts = record { taken = []; takes_them = none; rest = sym empty };
   }
 
-module _ {S W : Type 0} (gives : S → List ℕ → S → Type 0) (gmore : (s t u : S) (xs ys : List ℕ) → gives s xs t → gives t ys u → gives s (xs ++ ys) u)
-    (takes : W → List ℕ → W → Type 0) (more : (s t u : W) (xs ys : List ℕ) → takes s xs t → takes t ys u → takes s (xs ++ ys) u) (failures : W → ℕ) where
+module _ {S W L : Type 0} (gives : S → List ℕ → S → Type 0) (gmore : (s t u : S) (xs ys : List ℕ) → gives s xs t → gives t ys u → gives s (xs ++ ys) u)
+    (takes : W → List ℕ → W → Type 0) (more : (s t u : W) (xs ys : List ℕ) → takes s xs t → takes t ys u → takes s (xs ++ ys) u) (failures : W → ℕ)
+    (answers : L → Option (List ℕ) → List ℕ → L → Type 0) where
   -- the sink failed before a read
-  pub halt_flush : (n : ℕ) (w x y old : W) (before p : List ℕ) (s t : S) (k : Option (List ℕ)) → ReadOn gives takes n w before s t k x p →
-      Breaks takes x p [] y → failures x ≡ failures old → failures x < failures y → Halted gives takes failures n w before s t old y
-  halt_flush n w x y old before p s t k r b f l = record {
+  pub halt_flush : (a b : L) (w x y old : W) (before p : List ℕ) (s t : S) (k : Option (List ℕ)) → ReadOn gives takes answers w a before s t k x p b →
+      Breaks takes x p [] y → failures x ≡ failures old → failures x < failures y → Halted gives takes failures answers w a before s t old y b
+  halt_flush a b w x y old before p s t k r v f l = record {
     input = r.input;
     given = r.given;
-    broken = flush_broken takes more n w x y (before ++ r.input) p k r.stage b;
+    broken = flush_broken takes more answers a b w x y (before ++ r.input) p k r.stage v;
     whole = λ e. absurd (omega (arith, e, f, l));
   }
 
   -- the source failed
-  pub halt_read : (n : ℕ) (w x y old : W) (before p : List ℕ) (s t u : S) (k : Option (List ℕ)) → ReadOn gives takes n w before s t k x p →
-      takes x p y → gives t [] u → Halted gives takes failures n w before s u old y
+  pub halt_read : (a b : L) (w x y old : W) (before p : List ℕ) (s t u : S) (k : Option (List ℕ)) → ReadOn gives takes answers w a before s t k x p b →
+      takes x p y → gives t [] u → Halted gives takes failures answers w a before s u old y b
   unfolding complete not_broken
-  halt_read n w x y old before p s t u k r b g = record {
+  halt_read a b w x y old before p s t u k r v g = record {
     input = r.input;
     given = subst (λ (z : List ℕ). gives s z u) (append-nil r.input) (gmore s t u r.input [] r.given g);
-    broken = not_broken takes more n w x y (before ++ r.input) p k r.stage b;
-    whole = λ e. (refl, all_taken takes more w x y r.stage.text p r.stage.puts b);
+    broken = not_broken takes more answers a b w x y (before ++ r.input) p k r.stage v;
+    whole = λ e. (refl, all_taken takes more w x y r.stage.text p r.stage.puts v);
   }
 
   -- the end of the source
-  pub read_end : (n : ℕ) (w x y : W) (before p q bytes : List ℕ) (count : ℕ) (s t u : S) (k : Option (List ℕ)) → ReadOn gives takes n w before s t k x p →
-      takes x p y → q ≡ [] → count ≡ 0 → gives t (take count bytes) u → ReadOn gives takes n w before s u k y q
-  read_end n w x y before p q bytes count s t u k r b is z g = record {
+  pub read_end : (a b : L) (w x y : W) (before p q bytes : List ℕ) (count : ℕ) (s t u : S) (k : Option (List ℕ)) → ReadOn gives takes answers w a before s t k x p b →
+      takes x p y → q ≡ [] → count ≡ 0 → gives t (take count bytes) u → ReadOn gives takes answers w a before s u k y q b
+  read_end a b w x y before p q bytes count s t u k r v is z g = record {
     input = r.input;
     given = subst (λ (i : List ℕ). gives s i u) (append-nil r.input) (gmore s t u r.input [] r.given (subst (λ (c : ℕ). gives t (take c bytes) u) z g));
-    stage = flushed takes more n w x y (before ++ r.input) p q k r.stage b is;
+    stage = flushed takes more answers a b w x y (before ++ r.input) p q k r.stage v is;
   }
 
   -- one more piece
-  pub read_more : (n : ℕ) (w y : W) (before r piece q : List ℕ) (s t u : S) (l : Option (List ℕ)) →
-      gives s r t → gives t piece u → Stage takes n w ((before ++ r) ++ piece) l y q → ReadOn gives takes n w before s u l y q
-  read_more n w y before r piece q s t u l a b st = record {
+  pub read_more : (a b : L) (w y : W) (before r piece q : List ℕ) (s t u : S) (l : Option (List ℕ)) →
+      gives s r t → gives t piece u → Stage takes answers w a ((before ++ r) ++ piece) l y q b → ReadOn gives takes answers w a before s u l y q b
+  read_more a b w y before r piece q s t u l d e st = record {
     input = r ++ piece;
-    given = gmore s t u r piece a b;
-    stage = subst (λ (i : List ℕ). Stage takes n w i l y q) (append_assoc before r piece) st;
+    given = gmore s t u r piece d e;
+    stage = subst (λ (i : List ℕ). Stage takes answers w a i l y q b) (append_assoc before r piece) st;
   }
 
   -- the sink failed at a piece
-  pub halt_feed : (n : ℕ) (w y z old : W) (before r piece : List ℕ) (s t u : S) →
-      gives s r t → gives t piece u → Broken takes n w (complete ((before ++ r) ++ piece)) z → failures y ≡ failures old → failures y < failures z →
-      Halted gives takes failures n w before s u old z
-  halt_feed n w y z old before r piece s t u a b br f l = record {
+  pub halt_feed : (a b : L) (w y z old : W) (before r piece : List ℕ) (s t u : S) →
+      gives s r t → gives t piece u → Broken takes answers w a (complete ((before ++ r) ++ piece)) z b → failures y ≡ failures old → failures y < failures z →
+      Halted gives takes failures answers w a before s u old z b
+  halt_feed a b w y z old before r piece s t u d h br f l = record {
     input = r ++ piece;
-    given = gmore s t u r piece a b;
-    broken = subst (λ (i : List ℕ). Broken takes n w (complete i) z) (append_assoc before r piece) br;
+    given = gmore s t u r piece d h;
+    broken = subst (λ (i : List ℕ). Broken takes answers w a (complete i) z b) (append_assoc before r piece) br;
     whole = λ e. absurd (omega (arith, e, f, l));
   }
 
-  pub halted_stopped : (n : ℕ) (w x : W) (s t : S) → Halted gives takes failures n w [] s t w x → Stopped gives takes failures n s w t x
-  halted_stopped n w x s t h = let rest = cond (length (remainder h.input) == 0) [] (remainder h.input ∷ []) in record {
+  pub halted_stopped : (a b : L) (w x : W) (s t : S) → Halted gives takes failures answers w a [] s t w x b → Stopped gives takes failures answers s w a t x b
+  halted_stopped a b w x s t h = let rest = cond (length (remainder h.input) == 0) [] (remainder h.input ∷ []) in record {
     input = h.input;
     given = h.given;
     first = h.broken.first;
@@ -191,8 +194,8 @@ module _ {S W : Type 0} (gives : S → List ℕ → S → Type 0) (gmore : (s t 
     whole = h.whole;
   }
 
-  pub broken_stopped : (n : ℕ) (w x : W) (s t : S) (input : List ℕ) → gives s input t → failures w < failures x → Broken takes n w (lines_of input) x → Stopped gives takes failures n s w t x
-  broken_stopped n w x s t input g l r = record {
+  pub broken_stopped : (a b : L) (w x : W) (s t : S) (input : List ℕ) → gives s input t → failures w < failures x → Broken takes answers w a (lines_of input) x b → Stopped gives takes failures answers s w a t x b
+  broken_stopped a b w x s t input g l r = record {
     input = input;
     given = g;
     first = r.first;
@@ -204,5 +207,5 @@ module _ {S W : Type 0} (gives : S → List ℕ → S → Type 0) (gmore : (s t 
     whole = λ e. absurd (omega (arith, e, l));
   }
 
-  pub finished_ran : (n : ℕ) (w x : W) (s t : S) (input : List ℕ) → gives s input t → Finished takes n w input x → Ran gives takes n s w t x
-  finished_ran n w x s t input g f = record { input = input; given = g; text = f.text; replies = f.replies; taken = f.taken }
+  pub finished_ran : (a b : L) (w x : W) (s t : S) (input : List ℕ) → gives s input t → Finished takes answers w a input x b → Ran gives takes answers s w a t x b
+  finished_ran a b w x s t input g f = record { input = input; given = g; text = f.text; replies = f.replies; taken = f.taken }

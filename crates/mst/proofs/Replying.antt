@@ -1,19 +1,20 @@
 -- Lines that are answered one after another, and the lines of bytes that come one after another.
-use Rattle.std.proofs.Common.{◌≡◌, ℕ, ◌==◌, List, [], ◌∷◌, ◌++◌, sym, refl, ap, ◌∙◌, subst, Bool, true, false, cond, append_assoc, append-nil}
+use Rattle.std.proofs.Common.{◌≡◌, ℕ, ◌==◌, List, [], ◌∷◌, ◌++◌, sym, refl, ap, ◌∙◌, subst, Bool, true, false, cond, append_assoc, append-nil, Option}
 use Rattle.std.specs.List.{onto_first}
 use Rattle.std.proofs.lemmas.Bool.{eqb-true}
 use Rattle.std.proofs.lemmas.List.Elements.{All-head, All-tail}
 use Rattle.mst.specs.Grammar.{kept}
 use Rattle.mst.specs.Lines.{IsWithout, complete, remainder, parts_of, all_but_last, last_of}
-use Rattle.mst.specs.Script.{Reply, Replies}
+use Rattle.mst.specs.Script.{Replies}
 
-pub replies_append : (n : ℕ) (ls ks : List (List ℕ)) (a b : List ℕ) → Replies n ls a → Replies n ks b → Replies n (ls ++ ks) (a ++ b)
-replies_append n [] ks a b x y = subst (λ (t : List ℕ). Replies n ks (t ++ b)) (sym x) y
-replies_append n (l ∷ ls) ks a b x y =
-    (x.0, x.1 ++ b, x.2, replies_append n ls ks x.1 b x.3 y, ap (λ (t : List ℕ). t ++ b) x.4 ∙ append_assoc x.0 x.1 b)
+module _ {L : Type 0} (answers : L → Option (List ℕ) → List ℕ → L → Type 0) where
+  pub replies_append : (ls ks : List (List ℕ)) (a b c : L) (x y : List ℕ) → Replies answers a ls x b → Replies answers b ks y c → Replies answers a (ls ++ ks) (x ++ y) c
+  replies_append [] ks a b c x y p q = subst (λ (t : List ℕ). Replies answers a ks (t ++ y) c) (sym p.1) (subst (λ (z : L). Replies answers z ks y c) p.0 q)
+  replies_append (l ∷ ls) ks a b c x y p q =
+      (p.0, p.1 ++ y, p.2, p.3, replies_append ls ks p.2 b c p.1 y p.4 q, ap (λ (t : List ℕ). t ++ y) p.5 ∙ append_assoc p.0 p.1 y)
 
-pub replies_more : (n : ℕ) (ls : List (List ℕ)) (l a b : List ℕ) → Replies n ls a → Reply n (kept l) b → Replies n (ls ++ l ∷ []) (a ++ b)
-replies_more n ls l a b x y = replies_append n ls (l ∷ []) a b x (b, [], y, refl, sym (append-nil b))
+  pub replies_more : (ls : List (List ℕ)) (l : List ℕ) (a b c : L) (x y : List ℕ) → Replies answers a ls x b → answers b (kept l) y c → Replies answers a (ls ++ l ∷ []) (x ++ y) c
+  replies_more ls l a b c x y p q = replies_append ls (l ∷ []) a b c x y p (y, [], c, q, (refl, refl), sym (append-nil y))
 
 -- ---- the parts at newlines
 

@@ -4,7 +4,7 @@ use Rattle.std.specs.Prelude.{nat_lt}
 use Rattle.std.proofs.lemmas.Bool.{ltb-true, lt-ltb}
 use Rattle.mst.specs.Lines.{IsWithout, complete, remainder}
 use Rattle.mst.specs.Grammar.{kept, kept_with}
-use Rattle.mst.specs.Script.{Reply, Replies}
+use Rattle.mst.specs.Script.{Replies}
 use Rattle.mst.specs.Driving.{Answered, Lost, Stage, Broken}
 use Rattle.mst.proofs.Putting.{puts_then, puts_breaks}
 use Rattle.mst.proofs.Replying.{replies_more, all_go_on, line_ends, only_adds}
@@ -18,45 +18,46 @@ kept_by line more false is = ap (λ (b : Bool). kept_with (cond b None (Some lin
 pub kept_more : (line more : List ℕ) → kept_with (kept line) more ≡ kept (line ++ more)
 kept_more line more = kept_by line more (nat_lt 4096 (length line)) refl
 
-module _ {W : Type 0} (takes : W → List ℕ → W → Type 0) (more : (s t u : W) (xs ys : List ℕ) → takes s xs t → takes t ys u → takes s (xs ++ ys) u) where
+module _ {W L : Type 0} (takes : W → List ℕ → W → Type 0) (more : (s t u : W) (xs ys : List ℕ) → takes s xs t → takes t ys u → takes s (xs ++ ys) u)
+    (answers : L → Option (List ℕ) → List ℕ → L → Type 0) where
   -- more bytes of a line came
-  pub stage_on : (n : ℕ) (s t : W) (input p bytes : List ℕ) (k l : Option (List ℕ)) → IsWithout 10 bytes → l ≡ kept_with k bytes →
-      Stage takes n s input k t p → Stage takes n s (input ++ bytes) l t p
-  stage_on n s t input p bytes k l none is st = let e = all_go_on input bytes none in record {
+  pub stage_on : (a b : L) (s t : W) (input p bytes : List ℕ) (k l : Option (List ℕ)) → IsWithout 10 bytes → l ≡ kept_with k bytes →
+      Stage takes answers s a input k t p b → Stage takes answers s a (input ++ bytes) l t p b
+  stage_on a b s t input p bytes k l none is st = let e = all_go_on input bytes none in record {
     text = st.text;
-    replies = subst (λ (x : List (List ℕ)). Replies n x st.text) (sym e.0) st.replies;
+    replies = subst (λ (x : List (List ℕ)). Replies answers a x st.text b) (sym e.0) st.replies;
     rest = is ∙ ap (λ (x : Option (List ℕ)). kept_with x bytes) st.rest ∙ kept_more (remainder input) bytes ∙ ap kept (sym e.1);
     puts = st.puts;
   }
 
   -- the last bytes of a line came, and it was answered
-  pub stage_ended : (n : ℕ) (s t u : W) (input p q bytes : List ℕ) (k l : Option (List ℕ)) → IsWithout 10 bytes → l ≡ Some [] →
-      Stage takes n s input k t p → Answered takes n (kept_with k bytes) t p u q → Stage takes n s (input ++ bytes ++ 10 ∷ []) l u q
-  stage_ended n s t u input p q bytes k l none clear st a = let e = line_ends input bytes none in
+  pub stage_ended : (a b c : L) (s t u : W) (input p q bytes : List ℕ) (k l : Option (List ℕ)) → IsWithout 10 bytes → l ≡ Some [] →
+      Stage takes answers s a input k t p b → Answered takes answers (kept_with k bytes) t p b u q c → Stage takes answers s a (input ++ bytes ++ 10 ∷ []) l u q c
+  stage_ended a b c s t u input p q bytes k l none clear st an = let e = line_ends input bytes none in
       let is = ap (λ (x : Option (List ℕ)). kept_with x bytes) st.rest ∙ kept_more (remainder input) bytes in record {
-        text = st.text ++ a.text;
-        replies = subst (λ (x : List (List ℕ)). Replies n x (st.text ++ a.text)) (sym e.0)
-            (replies_more n (complete input) (remainder input ++ bytes) st.text a.text st.replies (subst (λ (x : Option (List ℕ)). Reply n x a.text) is a.reply));
+        text = st.text ++ an.text;
+        replies = subst (λ (x : List (List ℕ)). Replies answers a x (st.text ++ an.text) c) (sym e.0)
+            (replies_more answers (complete input) (remainder input ++ bytes) a b c st.text an.text st.replies (subst (λ (x : Option (List ℕ)). answers b x an.text c) is an.reply));
         rest = clear ∙ ap kept (sym e.1);
-        puts = puts_then takes more s t u [] p q st.text a.text st.puts a.puts;
+        puts = puts_then takes more s t u [] p q st.text an.text st.puts an.puts;
       }
 
   -- the last bytes of a line came, and the sink failed at its answer
-  pub stage_broken : (n : ℕ) (s t u : W) (input p bytes : List ℕ) (k : Option (List ℕ)) → IsWithout 10 bytes →
-      Stage takes n s input k t p → Lost takes n (kept_with k bytes) t p u → Broken takes n s (complete (input ++ bytes ++ 10 ∷ [])) u
-  stage_broken n s t u input p bytes k none st a = let e = line_ends input bytes none in
+  pub stage_broken : (a b c : L) (s t u : W) (input p bytes : List ℕ) (k : Option (List ℕ)) → IsWithout 10 bytes →
+      Stage takes answers s a input k t p b → Lost takes answers (kept_with k bytes) t p b u c → Broken takes answers s a (complete (input ++ bytes ++ 10 ∷ [])) u c
+  stage_broken a b c s t u input p bytes k none st an = let e = line_ends input bytes none in
       let is = ap (λ (x : Option (List ℕ)). kept_with x bytes) st.rest ∙ kept_more (remainder input) bytes in
       let lines = complete input ++ (remainder input ++ bytes) ∷ [] in record {
         first = lines;
         others = [];
         some = e.0 ∙ sym (append-nil lines);
-        text = st.text ++ a.text;
-        replies = replies_more n (complete input) (remainder input ++ bytes) st.text a.text st.replies (subst (λ (x : Option (List ℕ)). Reply n x a.text) is a.reply);
-        breaks = puts_breaks takes more s t u [] p st.text a.text st.puts a.breaks;
+        text = st.text ++ an.text;
+        replies = replies_more answers (complete input) (remainder input ++ bytes) a b c st.text an.text st.replies (subst (λ (x : Option (List ℕ)). answers b x an.text c) is an.reply);
+        breaks = puts_breaks takes more s t u [] p st.text an.text st.puts an.breaks;
       }
 
-  pub broken_more : (n : ℕ) (s t : W) (lines all others : List (List ℕ)) → all ≡ lines ++ others → Broken takes n s lines t → Broken takes n s all t
-  broken_more n s t lines all others is x = record {
+  pub broken_more : (a b : L) (s t : W) (lines all others : List (List ℕ)) → all ≡ lines ++ others → Broken takes answers s a lines t b → Broken takes answers s a all t b
+  broken_more a b s t lines all others is x = record {
     first = x.first;
     others = x.others ++ others;
     some = is ∙ ap (λ (l : List (List ℕ)). l ++ others) x.some ∙ append_assoc x.first x.others others;

@@ -5,5 +5,7 @@ pub mod Grammar
 pub mod Serving
 pub mod Texts
 pub mod Commanding
+pub mod Recalling
 pub mod Script
+pub mod Answerers
 pub mod Driving

@@ -35,8 +35,8 @@ fn fault_words(fault: Fault) -> &'static [u8]
     }
 }
 
-// Appends bytes that fit.
-fn extend(text: &mut Text, bytes: &[u8])
+/// Appends bytes that fit.
+pub fn extend(text: &mut Text, bytes: &[u8])
     requires { length text.old.items + length bytes.now ≤ 144 }
     ensures { text.new.items ≡ text.old.items ++ bytes.now }
 {

@@ -1,13 +1,15 @@
 //! The programs, over a source and two sinks.
-ghost use Rattle.std.specs.Prelude.{◌≡◌, ◌<◌, ◌≤◌, ◌-◌, ◌+◌, ◌^◌, ◌↔◌, ◌⊎◌, ℕ, OnOk, OnErr, IfErr, IsOk};
-ghost use Rattle.mst.specs.Script.{Ran};
-ghost use Rattle.mst.specs.Commanding.{IsDevice, Untouched, status_of};
+ghost use Rattle.std.specs.Prelude.{◌≡◌, ◌<◌, ◌≤◌, ◌-◌, ◌+◌, ◌^◌, ◌↔◌, ◌⊎◌, ℕ, OnOk, OnErr, IfErr, IsOk, true, false};
+ghost use Rattle.mst.specs.Script.{RanScript, RanReplay};
+ghost use Rattle.mst.specs.Commanding.{IsDevice, Untouched, status_of, asks_replay};
 
+use crate::answering::Answering;
 use crate::device::pending::write_all;
 use crate::device::{Device, Sink, Source};
 use crate::driver::{RunFault, run};
-use crate::words::shape_in;
+use crate::words::{Task, task_in};
 use clap::error::ErrorKind;
+use mst_replay::Replay;
 use mst_store::{OpenFault, Shape, Store};
 use std::alloc::{Allocator, Global};
 
@@ -44,7 +46,7 @@ pub fn run_script<A: Allocator + Copy, S: Source, W: Sink>(
 ) -> Result<(), Refusal>
     requires source { S.failures source.old < 2 ^ 64 - 1 }
     requires out { W.failures out.old < 2 ^ 64 - 1 }
-    ensures ran { OnOk result (Ran S.gives W.takes shape.passes source.old out.old source.new out.new) }
+    ensures ran { OnOk result (RanScript S.gives W.takes shape.passes source.old out.old source.new out.new) }
     ensures ended { OnOk result (S.left source.new ≡ 0) }
     ensures steady { OnOk result (S.failures source.new + W.failures out.new ≡ S.failures source.old + W.failures out.old) }
     ensures device { IfErr result (λ why. IsDevice why (S.failures source.old + W.failures out.old) (S.failures source.new + W.failures out.new)) }
@@ -56,10 +58,34 @@ pub fn run_script<A: Allocator + Copy, S: Source, W: Sink>(
         Err(OpenFault::Shape) => return Err(Refusal::Shape),
         Err(OpenFault::Memory) => return Err(Refusal::Memory),
     };
-    let Ok(mut passes) = store.deal(alloc, seats) else {
+    let Ok(passes) = store.deal(alloc, seats) else {
         return Err(Refusal::Memory);
     };
-    match run(&alloc, source, out, passes.as_mut_slice()) {
+    let mut answering = Answering::script(passes);
+    match run(&alloc, source, out, &mut answering) {
+        Ok(()) => Ok(()),
+        Err(RunFault::Device) => Err(Refusal::Device),
+        Err(RunFault::Memory) => Err(Refusal::Memory),
+    }
+}
+
+// Answers the events of the source, from no core on.
+pub fn run_replay<A: Allocator + Copy, S: Source, W: Sink>(
+    alloc: A,
+    source: &mut S,
+    out: &mut W,
+) -> Result<(), Refusal>
+    requires source { S.failures source.old < 2 ^ 64 - 1 }
+    requires out { W.failures out.old < 2 ^ 64 - 1 }
+    ensures ran { OnOk result (RanReplay S.gives W.takes source.old out.old source.new out.new) }
+    ensures ended { OnOk result (S.left source.new ≡ 0) }
+    ensures steady { OnOk result (S.failures source.new + W.failures out.new ≡ S.failures source.old + W.failures out.old) }
+    ensures device { IfErr result (λ why. IsDevice why (S.failures source.old + W.failures out.old) (S.failures source.new + W.failures out.new)) }
+    ensures unread { IfErr result (λ why. Untouched why source.old source.new) }
+    ensures unwritten { IfErr result (λ why. Untouched why out.old out.new) }
+{
+    let mut answering = Answering::replay(alloc, Replay::new());
+    match run(&alloc, source, out, &mut answering) {
         Ok(()) => Ok(()),
         Err(RunFault::Device) => Err(Refusal::Device),
         Err(RunFault::Memory) => Err(Refusal::Memory),
@@ -75,7 +101,7 @@ fn put_text<W: Sink>(sink: &mut W, text: &str) -> Result<(), Device>
     write_all(sink, text.as_bytes())
 }
 
-// What clap answers words that are no run: help goes to standard output, and all else is a refusal.
+// What clap answers words that name no task: help goes to standard output, and all else is a refusal.
 fn answer_words<W: Sink>(alloc: Global, error: &clap::Error, out: &mut W) -> Result<(), Refusal>
     requires { W.failures out.old < 2 ^ 64 - 1 }
     ensures steady { OnOk result (W.failures out.new ≡ W.failures out.old) }
@@ -106,14 +132,16 @@ fn execute<S: Source, W: Sink>(
 ) -> Result<(), Refusal>
     requires source { S.failures source.old < 2 ^ 64 - 1 }
     requires out { W.failures out.old < 2 ^ 64 - 1 }
-    ensures ran { OnOk result (((n : ℕ) × Ran S.gives W.takes n source.old out.old source.new out.new × (S.left source.new ≡ 0)) ⊎ (source.new ≡ source.old)) }
+    ensures ran { OnOk result (asks_replay words.now ≡ false → ((n : ℕ) × RanScript S.gives W.takes n source.old out.old source.new out.new × (S.left source.new ≡ 0)) ⊎ (source.new ≡ source.old)) }
+    ensures replayed { OnOk result (asks_replay words.now ≡ true → (RanReplay S.gives W.takes source.old out.old source.new out.new × (S.left source.new ≡ 0)) ⊎ (source.new ≡ source.old)) }
     ensures steady { OnOk result (S.failures source.new + W.failures out.new ≡ S.failures source.old + W.failures out.old) }
     ensures device { IfErr result (λ why. IsDevice why (S.failures source.old + W.failures out.old) (S.failures source.new + W.failures out.new)) }
     ensures unread { IfErr result (λ why. Untouched why source.old source.new) }
     ensures unwritten { IfErr result (λ why. Untouched why out.old out.new) }
 {
-    match shape_in(alloc, words) {
-        Ok(shape) => run_script(alloc, shape, source, out),
+    match task_in(alloc, words) {
+        Ok(Task::Run(shape)) => run_script(alloc, shape, source, out),
+        Ok(Task::Replay) => run_replay(alloc, source, out),
         Err(error) => answer_words(alloc, &error, out),
     }
 }
@@ -153,7 +181,8 @@ pub fn command<S: Source, O: Sink, E: Sink>(
     requires err { E.failures err.old < 2 ^ 64 - 1 }
     ensures range { (result ≡ 0) ⊎ (result ≡ 2) ⊎ (result ≡ 3) ⊎ (result ≡ 4) }
     ensures device { (result ≡ 3) ↔ (S.failures source.old + O.failures out.old + E.failures err.old < S.failures source.new + O.failures out.new + E.failures err.new) }
-    ensures done { result ≡ 0 → ((n : ℕ) × Ran S.gives O.takes n source.old out.old source.new out.new × (S.left source.new ≡ 0)) ⊎ (source.new ≡ source.old) }
+    ensures done { result ≡ 0 → asks_replay words.now ≡ false → ((n : ℕ) × RanScript S.gives O.takes n source.old out.old source.new out.new × (S.left source.new ≡ 0)) ⊎ (source.new ≡ source.old) }
+    ensures replayed { result ≡ 0 → asks_replay words.now ≡ true → (RanReplay S.gives O.takes source.old out.old source.new out.new × (S.left source.new ≡ 0)) ⊎ (source.new ≡ source.old) }
     ensures silent { result ≡ 0 → err.new ≡ err.old }
     ensures refused { result ≡ 2 → (source.new ≡ source.old) × (out.new ≡ out.old) }
     ensures memory { result ≡ 4 → (source.new ≡ source.old) × (out.new ≡ out.old) }

@@ -1,15 +1,15 @@
 //! The driver: lines in, answers out.
 ghost use Rattle.std.specs.Prelude.{◌≡◌, ◌<◌, ◌≤◌, ◌-◌, ◌+◌, ◌^◌, ◌++◌, ◌∷◌, Some, [], List, ℕ, length, OnOk, OnErr, IfOk, vec_len};
+ghost use Rattle.mst.specs.Answerers.{Answers};
 ghost use Rattle.mst.specs.Lines.{IsWithout, complete, lines_of};
 ghost use Rattle.mst.specs.Script.{Ran, Stopped};
 ghost use Rattle.mst.specs.Driving.{Answered, Lost, Stage, Broken, ReadOn, Halted, Finished};
 
+use crate::answering::Answering;
 use crate::device::pending::Pending;
 use crate::device::{Device, Sink, Source};
 use crate::fields::cut;
 use crate::line::LineBuffer;
-use crate::serve::serve;
-use mst_store::Pass;
 use std::alloc::{AllocError, Allocator};
 use thiserror::Error;
 
@@ -32,20 +32,17 @@ fn answer_line<W: Sink, A: Allocator, B: Allocator + Copy>(
     sink: &mut W,
     pending: &mut Pending<A>,
     buffer: &mut LineBuffer,
-    passes: &mut [Pass<'_, B>],
+    answering: &mut Answering<'_, B>,
 ) -> Result<(), Device>
-    requires passes { length passes.old ≤ 32 }
     requires few { W.failures sink.old < 2 ^ 64 - 1 }
     ensures cleared { buffer.new ≡ Some [] }
-    ensures ok { OnOk result (Answered W.takes (length passes.old) buffer.old sink.old pending.old sink.new pending.new) }
+    ensures ok { OnOk result (Answered W.takes Answers buffer.old sink.old pending.old answering.old sink.new pending.new answering.new) }
     ensures steady { OnOk result (W.failures sink.new ≡ W.failures sink.old) }
-    ensures err { OnErr result (Lost W.takes (length passes.old) buffer.old sink.old pending.old sink.new) }
+    ensures err { OnErr result (Lost W.takes Answers buffer.old sink.old pending.old answering.old sink.new answering.new) }
     ensures failed { OnErr result (W.failures sink.old < W.failures sink.new) }
 {
-    let request = buffer.request(passes.len() as u32);
+    let text = answering.answer(buffer);
     buffer.clear();
-    let answer = serve(passes, &request);
-    let text = answer.text();
     pending.put(sink, text.as_slice())
 }
 
@@ -54,23 +51,22 @@ fn end_line<W: Sink, A: Allocator, B: Allocator + Copy>(
     sink: &mut W,
     pending: &mut Pending<A>,
     buffer: &mut LineBuffer,
-    passes: &mut [Pass<'_, B>],
+    answering: &mut Answering<'_, B>,
     end: &[u8],
 ) -> Result<(), Device>
-    requires passes { length passes.old ≤ 32 }
     requires few { W.failures sink.old < 2 ^ 64 - 1 }
     requires without { IsWithout 10 end.now }
-    ensures ok { OnOk result ((s : _) (input : List ℕ) →
-        Stage W.takes (length passes.old) s input buffer.old sink.old pending.old →
-        Stage W.takes (length passes.old) s (input ++ end.now ++ 10 ∷ []) buffer.new sink.new pending.new) }
+    ensures ok { OnOk result ((s : _) (a : _) (input : List ℕ) →
+        Stage W.takes Answers s a input buffer.old sink.old pending.old answering.old →
+        Stage W.takes Answers s a (input ++ end.now ++ 10 ∷ []) buffer.new sink.new pending.new answering.new) }
     ensures steady { OnOk result (W.failures sink.new ≡ W.failures sink.old) }
-    ensures err { OnErr result ((s : _) (input : List ℕ) →
-        Stage W.takes (length passes.old) s input buffer.old sink.old pending.old →
-        Broken W.takes (length passes.old) s (complete (input ++ end.now ++ 10 ∷ [])) sink.new) }
+    ensures err { OnErr result ((s : _) (a : _) (input : List ℕ) →
+        Stage W.takes Answers s a input buffer.old sink.old pending.old answering.old →
+        Broken W.takes Answers s a (complete (input ++ end.now ++ 10 ∷ [])) sink.new answering.new) }
     ensures failed { OnErr result (W.failures sink.old < W.failures sink.new) }
 {
     buffer.extend(end);
-    answer_line(sink, pending, buffer, passes)
+    answer_line(sink, pending, buffer, answering)
 }
 
 // Takes a piece of the input, and answers each line that it ends.
@@ -78,23 +74,22 @@ fn feed<W: Sink, A: Allocator, B: Allocator + Copy>(
     sink: &mut W,
     pending: &mut Pending<A>,
     buffer: &mut LineBuffer,
-    passes: &mut [Pass<'_, B>],
+    answering: &mut Answering<'_, B>,
     piece: &[u8],
 ) -> Result<(), Device>
-    requires passes { length passes.old ≤ 32 }
     requires few { W.failures sink.old < 2 ^ 64 - 1 }
-    ensures ok { OnOk result ((s : _) (input : List ℕ) →
-        Stage W.takes (length passes.old) s input buffer.old sink.old pending.old →
-        Stage W.takes (length passes.old) s (input ++ piece.now) buffer.new sink.new pending.new) }
+    ensures ok { OnOk result ((s : _) (a : _) (input : List ℕ) →
+        Stage W.takes Answers s a input buffer.old sink.old pending.old answering.old →
+        Stage W.takes Answers s a (input ++ piece.now) buffer.new sink.new pending.new answering.new) }
     ensures steady { OnOk result (W.failures sink.new ≡ W.failures sink.old) }
-    ensures err { OnErr result ((s : _) (input : List ℕ) →
-        Stage W.takes (length passes.old) s input buffer.old sink.old pending.old →
-        Broken W.takes (length passes.old) s (complete (input ++ piece.now)) sink.new) }
+    ensures err { OnErr result ((s : _) (a : _) (input : List ℕ) →
+        Stage W.takes Answers s a input buffer.old sink.old pending.old answering.old →
+        Broken W.takes Answers s a (complete (input ++ piece.now)) sink.new answering.new) }
     ensures failed { OnErr result (W.failures sink.old < W.failures sink.new) }
 {
     let mut rest = piece;
     while let Some((end, behind)) = cut(rest, b'\n') {
-        end_line(sink, pending, buffer, passes, end)?;
+        end_line(sink, pending, buffer, answering, end)?;
         rest = behind;
     }
     buffer.extend(rest);
@@ -108,22 +103,21 @@ fn read_lines<S: Source, W: Sink, A: Allocator, B: Allocator + Copy>(
     sink: &mut W,
     pending: &mut Pending<A>,
     buffer: &mut LineBuffer,
-    passes: &mut [Pass<'_, B>],
+    answering: &mut Answering<'_, B>,
     piece: &mut [u8],
 ) -> Result<(), Device>
     requires room { 0 < length piece.old }
-    requires passes { length passes.old ≤ 32 }
     requires source { S.failures source.old < 2 ^ 64 - 1 }
     requires sink { W.failures sink.old < 2 ^ 64 - 1 }
-    ensures ok { OnOk result ((s : _) (before : List ℕ) →
-        Stage W.takes (length passes.old) s before buffer.old sink.old pending.old →
-        ReadOn S.gives W.takes (length passes.old) s before source.old source.new buffer.new sink.new pending.new) }
+    ensures ok { OnOk result ((s : _) (a : _) (before : List ℕ) →
+        Stage W.takes Answers s a before buffer.old sink.old pending.old answering.old →
+        ReadOn S.gives W.takes Answers s a before source.old source.new buffer.new sink.new pending.new answering.new) }
     ensures ended { OnOk result (S.left source.new ≡ 0) }
     ensures steady_source { OnOk result (S.failures source.new ≡ S.failures source.old) }
     ensures steady_sink { OnOk result (W.failures sink.new ≡ W.failures sink.old) }
-    ensures err { OnErr result ((s : _) (before : List ℕ) →
-        Stage W.takes (length passes.old) s before buffer.old sink.old pending.old →
-        Halted S.gives W.takes W.failures (length passes.old) s before source.old source.new sink.old sink.new) }
+    ensures err { OnErr result ((s : _) (a : _) (before : List ℕ) →
+        Stage W.takes Answers s a before buffer.old sink.old pending.old answering.old →
+        Halted S.gives W.takes W.failures Answers s a before source.old source.new sink.old sink.new answering.new) }
     ensures failed { OnErr result (S.failures source.old + W.failures sink.old < S.failures source.new + W.failures sink.new) }
 {
     loop {
@@ -133,7 +127,7 @@ fn read_lines<S: Source, W: Sink, A: Allocator, B: Allocator + Copy>(
             return Ok(());
         }
         let (front, _) = piece.split_at(count);
-        feed(sink, pending, buffer, passes, front)?;
+        feed(sink, pending, buffer, answering, front)?;
     }
 }
 
@@ -142,23 +136,22 @@ fn finish<W: Sink, A: Allocator, B: Allocator + Copy>(
     sink: &mut W,
     pending: &mut Pending<A>,
     buffer: &mut LineBuffer,
-    passes: &mut [Pass<'_, B>],
+    answering: &mut Answering<'_, B>,
 ) -> Result<(), Device>
-    requires passes { length passes.old ≤ 32 }
     requires few { W.failures sink.old < 2 ^ 64 - 1 }
-    ensures ok { OnOk result ((s : _) (input : List ℕ) →
-        Stage W.takes (length passes.old) s input buffer.old sink.old pending.old →
-        Finished W.takes (length passes.old) s input sink.new) }
+    ensures ok { OnOk result ((s : _) (a : _) (input : List ℕ) →
+        Stage W.takes Answers s a input buffer.old sink.old pending.old answering.old →
+        Finished W.takes Answers s a input sink.new answering.new) }
     ensures steady { OnOk result (W.failures sink.new ≡ W.failures sink.old) }
-    ensures err { OnErr result ((s : _) (input : List ℕ) →
-        Stage W.takes (length passes.old) s input buffer.old sink.old pending.old →
-        Broken W.takes (length passes.old) s (lines_of input) sink.new) }
+    ensures err { OnErr result ((s : _) (a : _) (input : List ℕ) →
+        Stage W.takes Answers s a input buffer.old sink.old pending.old answering.old →
+        Broken W.takes Answers s a (lines_of input) sink.new answering.new) }
     ensures failed { OnErr result (W.failures sink.old < W.failures sink.new) }
 {
     if buffer.is_empty() {
         return pending.flush(sink);
     }
-    answer_line(sink, pending, buffer, passes)?;
+    answer_line(sink, pending, buffer, answering)?;
     pending.flush(sink)
 }
 
@@ -167,24 +160,23 @@ fn drive<S: Source, W: Sink, A: Allocator, B: Allocator + Copy>(
     source: &mut S,
     sink: &mut W,
     pending: &mut Pending<A>,
-    passes: &mut [Pass<'_, B>],
+    answering: &mut Answering<'_, B>,
     piece: &mut [u8],
 ) -> Result<(), Device>
     requires room { 0 < length piece.old }
-    requires passes { length passes.old ≤ 32 }
     requires source { S.failures source.old < 2 ^ 64 - 1 }
     requires sink { W.failures sink.old < 2 ^ 64 - 1 }
     requires pending { pending.old ≡ [] }
-    ensures ok { OnOk result (Ran S.gives W.takes (length passes.old) source.old sink.old source.new sink.new) }
+    ensures ok { OnOk result (Ran S.gives W.takes Answers source.old sink.old answering.old source.new sink.new answering.new) }
     ensures ended { OnOk result (S.left source.new ≡ 0) }
     ensures steady_source { OnOk result (S.failures source.new ≡ S.failures source.old) }
     ensures steady_sink { OnOk result (W.failures sink.new ≡ W.failures sink.old) }
-    ensures err { OnErr result (Stopped S.gives W.takes W.failures (length passes.old) source.old sink.old source.new sink.new) }
+    ensures err { OnErr result (Stopped S.gives W.takes W.failures Answers source.old sink.old answering.old source.new sink.new answering.new) }
     ensures failed { OnErr result (S.failures source.old + W.failures sink.old < S.failures source.new + W.failures sink.new) }
 {
     let mut buffer = LineBuffer::new();
-    read_lines(source, sink, pending, &mut buffer, passes, piece)?;
-    finish(sink, pending, &mut buffer, passes)
+    read_lines(source, sink, pending, &mut buffer, answering, piece)?;
+    finish(sink, pending, &mut buffer, answering)
 }
 
 // Room for a piece of the input.
@@ -200,20 +192,19 @@ pub fn run<S: Source, W: Sink, A: Allocator, B: Allocator + Copy>(
     alloc: &A,
     source: &mut S,
     sink: &mut W,
-    passes: &mut [Pass<'_, B>],
+    answering: &mut Answering<'_, B>,
 ) -> Result<(), RunFault>
-    requires passes { length passes.old ≤ 32 }
     requires source { S.failures source.old < 2 ^ 64 - 1 }
     requires sink { W.failures sink.old < 2 ^ 64 - 1 }
 
-    ensures ok { OnOk result (Ran S.gives W.takes (length passes.old) source.old sink.old source.new sink.new) }
+    ensures ok { OnOk result (Ran S.gives W.takes Answers source.old sink.old answering.old source.new sink.new answering.new) }
     ensures ended { OnOk result (S.left source.new ≡ 0) }
     ensures steady_source { OnOk result (S.failures source.new ≡ S.failures source.old) }
     ensures steady_sink { OnOk result (W.failures sink.new ≡ W.failures sink.old) }
 
-    ensures stopped { result ≡ Err RunFault.Device → Stopped S.gives W.takes W.failures (length passes.old) source.old sink.old source.new sink.new }
+    ensures stopped { result ≡ Err RunFault.Device → Stopped S.gives W.takes W.failures Answers source.old sink.old answering.old source.new sink.new answering.new }
     ensures device { result ≡ Err RunFault.Device → S.failures source.old + W.failures sink.old < S.failures source.new + W.failures sink.new }
-    ensures memory { result ≡ Err RunFault.Memory → (source.new ≡ source.old) × (sink.new ≡ sink.old) × (passes.new ≡ passes.old) }
+    ensures memory { result ≡ Err RunFault.Memory → (source.new ≡ source.old) × (sink.new ≡ sink.old) × (answering.new ≡ answering.old) }
 {
     let Ok(mut pending) = Pending::new(alloc) else {
         return Err(RunFault::Memory);
@@ -221,7 +212,7 @@ pub fn run<S: Source, W: Sink, A: Allocator, B: Allocator + Copy>(
     let Ok(mut piece) = piece_in(alloc) else {
         return Err(RunFault::Memory);
     };
-    match drive(source, sink, &mut pending, passes, piece.as_mut_slice()) {
+    match drive(source, sink, &mut pending, answering, piece.as_mut_slice()) {
         Ok(()) => Ok(()),
         Err(_) => Err(RunFault::Device),
     }

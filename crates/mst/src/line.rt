@@ -1,5 +1,5 @@
 //! The line that is being read.
-ghost use Rattle.std.specs.Prelude.{◌≡◌, ◌↔◌, [], IsTrue, Some};
+ghost use Rattle.std.specs.Prelude.{◌≡◌, ◌↔◌, [], IsTrue, None, Some, MatchOption};
 ghost use Rattle.mst.specs.Grammar.{kept_with, asked};
 ghost use Rattle.mst.specs.Serving.{IsDealt};
 
@@ -57,6 +57,16 @@ impl LineBuffer {
         ensures { IsTrue result ↔ (self.now ≡ Some []) }
     {
         !self.is_long && self.bytes.is_empty()
+    }
+
+    /// The bytes of the line, unless they are too many.
+    pub fn bytes(&self) -> Option<&[u8]>
+        ensures { MatchOption result (self.now ≡ None) (λ bytes. self.now ≡ Some bytes.now) }
+    {
+        if self.is_long {
+            return None;
+        }
+        Some(self.bytes.as_slice())
     }
 
     /// What the line asks for, where the passes 1 to `passes` are dealt.

@@ -2,12 +2,14 @@
 #![tactic(auto)]
 
 mod answer;
+mod answering;
 mod command;
 mod device;
 mod driver;
 mod fields;
 mod line;
 mod parse;
+mod replay;
 mod request;
 mod serve;
 #[cfg(test)]

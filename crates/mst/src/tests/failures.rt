@@ -73,12 +73,23 @@ impl Write for Writer {
     }
 }
 
-/// Runs the script between such devices, and answers the exit status.
-fn status_of(alloc: Global, reader: Reader<'_>, out: &mut Writer, err: &mut Writer) -> u8 {
+/// Runs a command between such devices, and answers the exit status.
+fn command_status(
+    alloc: Global,
+    name: &str,
+    reader: Reader<'_>,
+    out: &mut Writer,
+    err: &mut Writer,
+) -> u8 {
     let mut source = StdSource::new(reader);
     let mut out = StdSink::new(out);
     let mut err = StdSink::new(err);
-    command(alloc, &["mst", "run"], &mut source, &mut out, &mut err)
+    command(alloc, &["mst", name], &mut source, &mut out, &mut err)
+}
+
+/// Runs the script between such devices, and answers the exit status.
+fn status_of(alloc: Global, reader: Reader<'_>, out: &mut Writer, err: &mut Writer) -> u8 {
+    command_status(alloc, "run", reader, out, err)
 }
 
 // One byte at a read and one at a write.
@@ -150,6 +161,41 @@ fn writes_fail(rt: HostRuntime) -> Result<(), Fail> {
             assert_eq!(rt; err.bytes.as_slice(), b"device\n".as_slice());
             assert_eq!(rt; status, 3);
         }
+    }
+    Ok(())
+}
+
+// With a read or a write of a replay that fails, the answers before it are written.
+#[test]
+fn devices_of_a_replay_fail(rt: HostRuntime) -> Result<(), Fail> {
+    let answers = b"records 4\nrecord 0\nrefused\n".as_slice();
+    for (reads, writes, answered, status) in [
+        (0, u64::MAX, 0, 3),
+        (1, u64::MAX, 0, 3),
+        (2, u64::MAX, 19, 3),
+        (3, u64::MAX, 27, 3),
+        (4, u64::MAX, 27, 0),
+        (u64::MAX, 0, 0, 3),
+        (u64::MAX, 5, 5, 3),
+        (u64::MAX, 26, 26, 3),
+        (u64::MAX, 27, 27, 0),
+    ] {
+        let reader = Reader {
+            rest: b"passes 2\npin 1\ntransfer\n",
+            most: 8,
+            reads,
+        };
+        let mut out = Writer::new(rt.alloc(), 1, writes, false);
+        let mut err = Writer::new(rt.alloc(), 64, u64::MAX, false);
+        assert_eq!(rt;
+            command_status(rt.alloc(), "replay", reader, &mut out, &mut err),
+            status
+        );
+        assert_eq!(rt;
+            out.bytes.as_slice(),
+            &answers[..answered],
+            "after {reads} reads"
+        );
     }
     Ok(())
 }

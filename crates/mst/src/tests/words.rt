@@ -7,8 +7,9 @@ const HELP: &str = "A map of short keys to short values, shared by several passe
 Usage: mst <COMMAND>
 
 Commands:
-  run   Answers the lines of standard input, each of them a put or a get of a pass
-  help  Print this message or the help of the given subcommand(s)
+  run     Answers the lines of standard input, each of them a put or a get of a pass
+  replay  Answers the lines of standard input, each of them an event of the core of pins
+  help    Print this message or the help of the given subcommand(s)
 
 Options:
   -h, --help  Print help
@@ -47,6 +48,22 @@ const NO_VALUE: &str = "error: a value is required for '--rows <N>' but none was
 For more information, try '--help'.
 ";
 
+const REPLAY_HELP: &str =
+    "Answers the lines of standard input, each of them an event of the core of pins
+
+Usage: mst replay
+
+Options:
+  -h, --help  Print help
+";
+
+const EXTRA_WORD: &str = "error: unexpected argument 'extra' found
+
+Usage: mst replay
+
+For more information, try '--help'.
+";
+
 const NO_COMMAND: &str = "error: unrecognized subcommand 'frob'
 
 Usage: mst <COMMAND>
@@ -57,7 +74,7 @@ For more information, try '--help'.
 // The words, the status, and what stands on the two outputs where the input is one get.
 #[test]
 fn words_are_read(rt: HostRuntime) -> Result<(), Fail> {
-    let rows: [(&[&str], u8, &str, &str); 19] = [
+    let rows: [(&[&str], u8, &str, &str); 23] = [
         (&["mst", "run"], 0, "none\n", ""),
         (&["mst", "run", "--rows", "4"], 0, "none\n", ""),
         (
@@ -77,6 +94,10 @@ fn words_are_read(rt: HostRuntime) -> Result<(), Fail> {
         (&["mst", "run", "--passes", "4294967296"], 2, "", TOO_LARGE),
         (&["mst", "run", "--rows", "4", "--rows", "5"], 2, "", TWICE),
         (&["mst", "run", "--rows"], 2, "", NO_VALUE),
+        (&["mst", "replay"], 0, "fault line\n", ""),
+        (&["mst", "replay", "--help"], 0, REPLAY_HELP, ""),
+        (&["mst", "help", "replay"], 0, REPLAY_HELP, ""),
+        (&["mst", "replay", "extra"], 2, "", EXTRA_WORD),
         (&["mst", "frob"], 2, "", NO_COMMAND),
         (&["mst"], 2, "", HELP),
         (&["mst", "--help"], 0, HELP, ""),

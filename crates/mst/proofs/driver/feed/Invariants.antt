@@ -1,4 +1,5 @@
 use Rattle.std.proofs.Common.{◌≡◌, ℕ, List, ◌++◌, length}
+use Rattle.mst.specs.Answerers.{Answers, Answerer}
 use Rattle.mst.specs.Driving.{Stage}
 use Rattle.mst.proofs.driver.feed.Given as goal
 
@@ -6,10 +7,9 @@ use Rattle.mst.proofs.driver.feed.Given as goal
 abbrev pub invariant-loop-end : goal.invariant-loop-end
 invariant-loop-end g l = record {
   failures : g.W.Sink.failures l.sink ≡ g.W.Sink.failures l.fn.sink;
-  count : length l.passes ≡ length l.fn.passes;
-  fed : (done : List ℕ) × (l.piece ≡ done ++ l.rest) × ((s : g.row.W.Denot) (input : List ℕ) →
-      Stage g.W.Sink.takes (length l.fn.passes) s input l.fn.buffer l.fn.sink l.fn.pending →
-      Stage g.W.Sink.takes (length l.fn.passes) s (input ++ done) l.buffer l.sink l.pending);
+  fed : (done : List ℕ) × (l.piece ≡ done ++ l.rest) × ((s : g.row.W.Denot) (a : Answerer) (input : List ℕ) →
+      Stage g.W.Sink.takes Answers s a input l.fn.buffer l.fn.sink l.fn.pending l.fn.answering →
+      Stage g.W.Sink.takes Answers s a (input ++ done) l.buffer l.sink l.pending l.answering);
 }
 
 abbrev pub decreases-loop-end : goal.decreases-loop-end
