@@ -1,0 +1,10 @@
+pub mod Packing
+pub mod Decoding
+pub mod BitLemmas
+pub mod FlagLemmas
+pub mod SetLemmas
+pub mod ListLemmas
+pub mod SweepLemmas
+pub mod DeskLemmas
+pub mod Stands
+pub mod Reach

@@ -1,0 +1,23 @@
+use Rattle.std.proofs.Common.{◌∙◌, ◌/◌, ◌%◌, refl, arith}
+use Rattle.std.specs.Prelude.{slice_index}
+use Rattle.std.specs.Int.{w64}
+use Rattle.std.proofs.Math.ListN.{length-set}
+use Rattle.std.proofs.lemmas.List.{get_or-set_other}
+use Rattle.std.proofs.lemmas.Nat.Bits.{bit_at_set_same, bit_at_set_other}
+use Rattle.mst_arena.proofs.BitLemmas.{bit_written, other_bits}
+use Rattle.mst_arena.proofs.bits.set_bit.Goals as goal
+
+pub returns : goal.returns
+returns c =
+    let words = c.args.words.now in
+    let w = slice_index words (c.args.index / 64) in
+    record {
+      written = record {
+        len = length-set words (c.args.index / 64) _;
+        here = bit_written words (c.args.index / 64) _ c.args.index (omega (arith, c.requires.there)) refl
+            ∙ bit_at_set_same w64 w (c.args.index % 64) (omega arith);
+        others = other_bits words c.args.index _ (omega (arith, c.requires.there))
+            (λ k lt apart. bit_at_set_other w64 w (c.args.index % 64) (omega arith) k apart);
+        elsewhere = λ k apart. get_or-set_other words (c.args.index / 64) k _ 0 apart;
+      };
+    }

@@ -1,0 +1,34 @@
+use Rattle.std.proofs.Common.{◌≡◌, ◌∙◌, ap, sym, subst, arith, List, length, inl, inr}
+use Rattle.std.specs.Prelude.{map, vec_capacity}
+use Rattle.mst_arena.specs.declared.life.Life.{Life}
+use Rattle.mst_arena.specs.Lives.{swept}
+use Rattle.mst_arena.specs.Lists.{StayBut}
+use Rattle.mst_arena.proofs.SetLemmas.{written}
+use Rattle.mst_arena.proofs.DeskLemmas.{move_room, stay_but, desk_swept, desk_forgot, length_mapped}
+use Rattle.mst_arena.proofs.desk.Desk.sweep.Goals as goal
+
+pub look_again-requires : goal.look_again-requires
+look_again-requires g c =
+    record { room = omega (arith, move_room _ _ _ _ _ _ _ _ _ c.self.invariant) }
+
+pub sweep_dead-requires-clause-others : goal.sweep_dead-requires-clause-others
+sweep_dead-requires-clause-others g c =
+    let i = c.self.inside in
+    let stays : StayBut c.args.live.now i.lives.items c.look_again.new.dead.items = stay_but _ _ _ _ _ _ _ _ _ c.self.invariant c.args.live.now c.look_again.new.dead.items c.look_again.new.held.items c.look_again.ensures.times (rw c.deref.ensures.value at c.look_again.ensures.held) in
+    subst (λ (ls : List Life). StayBut c.args.live.now ls c.look_again.new.dead.items) (sym c.deref_mut.ensures.value) stays
+
+pub invariant_of-self : goal.invariant_of-self
+invariant_of-self g c =
+    let i = c.self.inside in
+    let live = c.args.live.now in
+    let is : c.sweep_dead.new.lives ≡ map (swept live) i.lives.items = c.sweep_dead.ensures.swept ∙ ap (map (swept live)) c.deref_mut.ensures.value in
+    let len : length c.sweep_dead.new.lives ≡ length i.lives.items = ap (λ (ls : List Life). length ls) is ∙ length_mapped (swept live) i.lives.items in
+    let lives = written i.lives.len c.sweep_dead.new.lives i.lives.items (omega (arith, len)) in
+    let dead_cap : vec_capacity c.sweep_dead.new.dead ≡ vec_capacity i.dead = c.sweep_dead.ensures.dead_room ∙ c.look_again.ensures.dead_room in
+    let held_cap : vec_capacity c.sweep_dead.new.held ≡ vec_capacity i.held = c.sweep_dead.ensures.room ∙ c.look_again.ensures.held_room in
+    rw lives (elim c.remember.ensures.lists [
+      | inl e ↦ desk_swept _ _ _ _ _ _ _ _ _ c.self.invariant live c.sweep_dead.new.lives c.sweep_dead.new.free c.remember.new.dead.items c.remember.new.held.items c.remember.new.last.items (vec_capacity c.remember.new.dead) (vec_capacity c.remember.new.held)
+          is c.sweep_dead.ensures.free (rw e.1 c.sweep_dead.ensures.dead) (rw e.0 c.sweep_dead.ensures.empty) e.2 (rw e.0 dead_cap) (rw e.1 held_cap)
+      | inr e ↦ desk_forgot _ _ _ _ _ _ _ _ _ c.self.invariant live c.sweep_dead.new.lives c.sweep_dead.new.free c.remember.new.dead.items c.remember.new.held.items c.remember.new.last.items (vec_capacity c.remember.new.dead) (vec_capacity c.remember.new.held)
+          is c.sweep_dead.ensures.free (rw e.0 c.sweep_dead.ensures.dead) (rw e.1 c.sweep_dead.ensures.empty) (rw e.0 held_cap) (rw e.1 dead_cap)
+    ])

@@ -1,0 +1,8 @@
+use Rattle.std.proofs.Common.{ap, arith}
+use Rattle.mst_arena.specs.Lists.{times}
+use Rattle.mst_arena.proofs.ListLemmas.{times-append}
+use Rattle.mst_arena.proofs.sweep.look_again.Goals as goal
+
+pub returns-then-not-are_live-clause-times : goal.returns-then-not-are_live-clause-times
+returns-then-not-are_live-clause-times g c = λ r.
+    omega (arith, c.move_all.ensures.times r, ap (times r) c.move_all.ensures.empty, times-append r c.move_all.new.to.items c.move_all.new.from.items, times-append r c.args.dead.now.items c.args.held.now.items)

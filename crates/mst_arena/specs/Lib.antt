@@ -1,0 +1,7 @@
+pub mod Row
+pub mod Words
+pub mod Content
+pub mod Lives
+pub mod Bits
+pub mod Lists
+pub mod Standing

@@ -1,0 +1,47 @@
+-- Lists that have each dead row once, and what a desk keeps.
+use Rattle.std.specs.Prelude.{◌≡◌, ◌≤◌, ◌<◌, ◌+◌, ◌^◌, ℕ, Bool, true, false, eqb, List, [], ◌∷◌, ◌++◌, length, map, slice_get, slice_index, Option, Some, None}
+use Rattle.std.specs.List.{list_any}
+use Rattle.mst_arena.specs.declared.life.Life.{Life}
+use Rattle.mst_arena.specs.declared.life.Life.TheVariants.{Free, Born, Dead}
+use Rattle.mst_arena.specs.Lives.{is_free, reaches_life, swept}
+
+abbrev pub is_dead : Life → Bool
+is_dead Free = false
+is_dead (Born b) = false
+is_dead (Dead b d) = true
+
+abbrev pub bit : Bool → ℕ
+bit true = 1
+bit false = 0
+
+abbrev pub is_at : (Life → Bool) → Option Life → Bool
+is_at is None = false
+is_at is (Some life) = is life
+
+-- how often a row stands in a list
+abbrev pub times : ℕ → List ℕ → ℕ
+times r [] = 0
+times r (x ∷ xs) = bit (eqb r x) + times r xs
+
+-- the list has a row once if its life is of the kind, and else not
+abbrev pub Lists : (Life → Bool) → List Life → List ℕ → Type 0
+Lists is lives rows = (r : ℕ) → times r rows ≡ bit (is_at is (slice_get lives r))
+
+-- a sweep leaves each row alone that is not in the list
+abbrev pub StayBut : List ℕ → List Life → List ℕ → Type 0
+StayBut live lives rows = (r : ℕ) (x : Life) → slice_get lives r ≡ Some x → times r rows ≡ 0 → swept live x ≡ x
+
+-- each row of the list is reached by one of these versions
+abbrev pub AllReached : List ℕ → List Life → List ℕ → Type 0
+AllReached live lives rows = (r : ℕ) (x : Life) → slice_get lives r ≡ Some x → 0 < times r rows → list_any (reaches_life x) live ≡ true
+
+-- what a desk keeps: the free rows; each dead row in one of two lists; and in the second of these only rows that a version of the last sweep reaches
+pub record IsDesk (current : ℕ) (versions : List ℕ) (lives : List Life) (free : List Bool) (dead held last : List ℕ) (dead_cap held_cap : ℕ) : Type 0 where
+  pub there : current < length versions
+  pub small : slice_index versions current < 2 ^ 63
+  pub few : length lives ≤ 65535
+  pub free_rows : free ≡ map is_free lives
+  pub dead_rows : Lists is_dead lives (dead ++ held)
+  pub reached : AllReached last lives held
+  pub dead_room : length lives ≤ dead_cap
+  pub held_room : length lives ≤ held_cap

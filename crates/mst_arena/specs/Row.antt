@@ -1,0 +1,35 @@
+-- The limits of a row, and its parts.
+use Rattle.std.specs.Prelude.{◌≡◌, ◌<◌, ◌≤◌, ℕ, List, length, Option, Some, None}
+use Rattle.mst_key.specs.Bytes.{IsKey, IsValue, IsBytes}
+use Rattle.mst_arena.specs.declared.row.Row.{Row}
+use Rattle.mst_arena.specs.declared.row.Row.TheVariants.{Entry, Head}
+use Rattle.mst_arena.specs.declared.row.HeadLinks.{HeadLinks}
+use Rattle.mst_arena.specs.declared.row.EntryLinks.{EntryLinks}
+
+-- links, layer and count are within their limits, and a head has a first entry
+abbrev pub IsRow : Row → Type 0
+IsRow (Entry child next key value) = (child ≤ 65535) × (next ≤ 65535)
+IsRow (Head layer count first tail digest) = (layer ≤ 64) × (0 < count) × (count ≤ 65534) × (0 < first) × (first ≤ 65535) × (tail ≤ 65535)
+
+-- the bytes are those of a key and a value, or of a digest, as they are in each row of the program
+abbrev pub HasBytes : Row → Type 0
+HasBytes (Entry child next key value) = IsKey key × IsBytes key × IsValue value × IsBytes value
+HasBytes (Head layer count first tail digest) = (length digest ≡ 32) × IsBytes digest
+
+-- layer, count and links of a head
+abbrev pub head_links : Row → Option HeadLinks
+head_links (Entry child next key value) = None
+head_links (Head layer count first tail digest) = Some (record { layer = layer; count = count; first = first; tail = tail })
+
+abbrev pub head_digest : Row → Option (List ℕ)
+head_digest (Entry child next key value) = None
+head_digest (Head layer count first tail digest) = Some digest
+
+-- links and key of an entry
+abbrev pub entry_links : Row → Option EntryLinks
+entry_links (Entry child next key value) = Some (record { child = child; next = next; key = key })
+entry_links (Head layer count first tail digest) = None
+
+abbrev pub entry_value : Row → Option (List ℕ)
+entry_value (Entry child next key value) = Some value
+entry_value (Head layer count first tail digest) = None

@@ -1,0 +1,100 @@
+//! Bits of words, 64 a word, the lowest of each word first, and a summary of them with a bit for each word that is not 0.
+ghost use Rattle.std.specs.Prelude.{◌≡◌, ◌≢◌, ◌↔◌, ◌≤◌, ◌<◌, ◌+◌, ◌*◌, ◌/◌, ◌^◌, ℕ, true, length, slice_index, IfSome, IfNone};
+ghost use Rattle.mst_arena.specs.Bits.{bit, BitWritten, Sums};
+
+/// Sets a bit.
+fn set_bit(words: &mut [u64], index: usize)
+    requires there { index < 64 * length words.old }
+    ensures written { BitWritten words.old words.new index 1 }
+{
+    words[index / 64] |= 1 << (index % 64);
+}
+
+/// Clears a bit, and answers whether its word is now 0.
+fn clear_bit(words: &mut [u64], index: usize) -> bool
+    requires there { index < 64 * length words.old }
+    ensures written { BitWritten words.old words.new index 0 }
+    ensures zero { result ≡ true ↔ slice_index words.new (index / 64) ≡ 0 }
+{
+    let word = words[index / 64] & !(1 << (index % 64));
+    words[index / 64] = word;
+    word == 0
+}
+
+/// The lowest bit from an index on that is set.
+fn next_bit(words: &[u64], from: usize) -> Option<usize>
+    requires few { length words.now < 2 ^ 32 }
+    ensures some { IfSome result (λ i. (i < 64 * length words.now) × (bit words.now i ≡ 1)) }
+    ensures none { IfNone result ((i : ℕ) → from ≤ i → bit words.now i ≡ 0) }
+{
+    let first = from / 64;
+    if first >= words.len() {
+        return None;
+    }
+    let masked = words[first] & (u64::MAX << (from % 64));
+    if masked != 0 {
+        return Some(64 * first + masked.trailing_zeros() as usize);
+    }
+    for i in first + 1..words.len() {
+        if words[i] != 0 {
+            return Some(64 * i + words[i].trailing_zeros() as usize);
+        }
+    }
+    None
+}
+
+/// A word that is not 0: word `at`, or the next one after it, or the first.
+fn word_in_use(words: &[u64], summary: &[u64], at: usize) -> Option<usize>
+    requires sums { Sums words.now summary.now }
+    requires few { length summary.now < 2 ^ 32 }
+    requires there { at < length words.now }
+    ensures some { IfSome result (λ w. slice_index words.now w ≢ 0) }
+    ensures none { IfNone result ((w : ℕ) → slice_index words.now w ≡ 0) }
+{
+    if words[at] != 0 {
+        return Some(at);
+    }
+    match next_bit(summary, at) {
+        Some(word) => Some(word),
+        None => next_bit(summary, 0),
+    }
+}
+
+/// A bit that is set: the lowest of word `at`, and where that is 0, of the next word that is not.
+pub fn bit_in_use(words: &[u64], summary: &[u64], at: usize) -> Option<usize>
+    requires sums { Sums words.now summary.now }
+    requires few { length words.now < 2 ^ 32 }
+    requires few_sums { length summary.now < 2 ^ 32 }
+    requires there { at < length words.now }
+    ensures some { IfSome result (λ i. bit words.now i ≡ 1) }
+    ensures none { IfNone result ((w : ℕ) → slice_index words.now w ≡ 0) }
+{
+    let word = word_in_use(words, summary, at)?;
+    Some(64 * word + words[word].trailing_zeros() as usize)
+}
+
+/// Sets a bit, in the words and their summary.
+pub fn put_bit(words: &mut [u64], summary: &mut [u64], index: usize)
+    requires sums { Sums words.old summary.old }
+    requires there { index < 64 * length words.old }
+    ensures written { BitWritten words.old words.new index 1 }
+    ensures sums { Sums words.new summary.new }
+    ensures summary_len { length summary.new ≡ length summary.old }
+{
+    set_bit(words, index);
+    set_bit(summary, index / 64);
+}
+
+/// Clears a bit that is set, in the words and their summary.
+pub fn take_bit(words: &mut [u64], summary: &mut [u64], index: usize)
+    requires sums { Sums words.old summary.old }
+    requires there { index < 64 * length words.old }
+    requires set { bit words.old index ≡ 1 }
+    ensures written { BitWritten words.old words.new index 0 }
+    ensures sums { Sums words.new summary.new }
+    ensures summary_len { length summary.new ≡ length summary.old }
+{
+    if clear_bit(words, index) {
+        clear_bit(summary, index / 64);
+    }
+}

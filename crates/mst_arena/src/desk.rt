@@ -1,0 +1,197 @@
+//! The desk: births and deaths of rows, and the version of each record.
+ghost use Rattle.std.specs.Prelude.{◌≡◌, ◌≢◌, ◌≤◌, ◌<◌, ◌+◌, ℕ, [], length, map, replicate, vec_capacity, IfOk, IfSome, IfNone, MatchResult, Some, slice_get, slice_set, slice_index};
+ghost use Rattle.mst_arena.specs.Lives.{State, version, next, last_version, free_count, swept, ended, with_life};
+ghost use Rattle.mst_arena.specs.declared.life.Life.TheVariants.{Free, Born, Dead};
+
+use crate::free_rows::FreeRows;
+use crate::life::Life;
+use crate::sweep::{look_again, remember, sweep_dead};
+use mst_key::Memory;
+use std::alloc::Allocator;
+use std::marker::Model;
+use thiserror::Error;
+
+/// The number of the last version, 2^63 - 1.
+const LAST_VERSION: u64 = 9_223_372_036_854_775_807;
+
+/// The current version has the last number, 2^63 - 1.
+#[derive(Clone, Copy, Debug, PartialEq, Eq, Error)]
+#[error("version numbers are spent")]
+pub struct VersionsSpent;
+
+/// Which rows are free, and from which version to which the others are reached; which record is the current one, and which version each record holds.
+///
+/// Version v reaches a row that was born with version b, and did not die, exactly where b <= v, and one that died with version d exactly where b <= v < d. A write takes rows for the version to come, [`Desk::next_version`], and kills rows of the current one; then it advances. `life_laws` says what that does to the rows that a version reaches.
+#[derive(Drop)]
+pub struct Desk<A: Allocator> {
+    current: u32,
+    versions: Vec<u64, A>,
+    lives: Vec<Life, A>,
+    free: FreeRows<A>,
+    /// The rows killed since the last sweep.
+    dead: Vec<u32, A>,
+    /// The other dead rows. Each is reached by a version that was live at the last sweep.
+    held: Vec<u32, A>,
+    /// The versions that were live at the last sweep.
+    live: Vec<u64, A>,
+}
+
+/// Contracts see the record of the current version, the version of each record, and the life of each row.
+impl<A: Allocator> Model for Desk<A> {
+    ghost use Rattle.std.specs.Prelude.{vec_capacity};
+    ghost use Rattle.mst_arena.specs.Lives.{State};
+    ghost use Rattle.mst_arena.specs.Lists.{IsDesk};
+
+    ghost Value = { State };
+
+    ghost view = { λ d. record { current = d.current; versions = d.versions.items; lives = d.lives.items } };
+
+    ghost invariant = { λ d. IsDesk d.current d.versions.items d.lives.items d.free d.dead.items d.held.items d.live.items (vec_capacity d.dead) (vec_capacity d.held) };
+}
+
+/// So many copies of a value.
+fn copies<T: Copy, A: Allocator>(alloc: A, value: T, count: usize) -> Result<Vec<T, A>, Memory>
+    ensures ok { IfOk result (λ v. v.items ≡ replicate count value) }
+{
+    let Ok(mut all) = Vec::with_capacity(alloc, count) else {
+        return Err(Memory);
+    };
+    for _ in 0..count {
+        all.push_reserved(value);
+    }
+    Ok(all)
+}
+
+/// An empty list with room for so many.
+fn room<T, A: Allocator>(alloc: A, count: usize) -> Result<Vec<T, A>, Memory>
+    ensures ok { IfOk result (λ v. (v.items ≡ []) × (vec_capacity v ≡ count)) }
+{
+    Vec::with_capacity(alloc, count).map_err(|_| Memory)
+}
+
+impl<A: Allocator + Copy> Desk<A> {
+    /// A desk with so many rows, 1 to 65,535, all of them free, and so many records, 2 to 34. Record 0 is the current one, with version `first`, at most 2^63 - 1.
+    ///
+    /// `Memory` comes where a growth was refused. No later call takes memory.
+    pub fn new(alloc: A, rows: u32, records: u32, first: u64) -> Result<Desk<A>, Memory>
+        requires some_rows { 0 < rows }
+        requires few_rows { rows ≤ 65535 }
+        requires some_records { 2 ≤ records }
+        requires few_records { records ≤ 34 }
+        requires first { first ≤ last_version }
+        ensures ok { IfOk result (λ d. d ≡ record { current = 0; versions = replicate records first; lives = replicate rows Free }) }
+    {
+        let (count, records) = (rows as usize, records as usize);
+        Ok(Desk {
+            current: 0,
+            versions: copies(alloc, first, records)?,
+            lives: copies(alloc, Life::Free, count)?,
+            free: FreeRows::new(alloc, rows)?,
+            dead: room(alloc, count)?,
+            held: room(alloc, count)?,
+            live: room(alloc, records)?,
+        })
+    }
+}
+
+impl<A: Allocator> Desk<A> {
+    /// The current record and its version number.
+    pub fn current(&self) -> (u32, u64)
+        ensures current { result ≡ (self.now.current, version self.now) }
+    {
+        (self.current, self.versions[self.current as usize])
+    }
+
+    /// The version number of a record.
+    pub fn version_of(&self, of: u32) -> u64
+        requires there { of < length self.now.versions }
+        ensures version { result ≡ slice_index self.now.versions of }
+    {
+        self.versions[of as usize]
+    }
+
+    /// The number of the version to come. `VersionsSpent` comes exactly where the current version has the last number.
+    pub fn next_version(&self) -> Result<u64, VersionsSpent>
+        ensures answer { MatchResult result (λ v. (v ≡ next self.now) × (v ≤ last_version)) (λ _. version self.now ≡ last_version) }
+    {
+        let version = self.versions[self.current as usize];
+        if version == LAST_VERSION {
+            Err(VersionsSpent)
+        } else {
+            Ok(version + 1)
+        }
+    }
+
+    /// How many rows are free.
+    pub fn free(&self) -> u32
+        ensures count { result ≡ free_count self.now.lives }
+    {
+        self.free.count()
+    }
+
+    /// A free row, born with the version to come. `None` comes exactly where no row is free.
+    pub fn take(&mut self) -> Option<u32>
+        ensures some { IfSome result (λ r. (slice_get self.old.lives r ≡ Some Free)
+            × (self.new ≡ with_life self.old r (Born (next self.old)))) }
+        ensures none { IfNone result ((free_count self.old.lives ≡ 0) × (self.new ≡ self.old)) }
+    {
+        let birth = self.versions[self.current as usize] + 1;
+        let row = self.free.take()?;
+        self.lives[row as usize] = Life::Born { birth };
+        Some(row)
+    }
+
+    /// Frees a row that was taken in this write: it was born with the version to come.
+    pub fn give_back(&mut self, row: u32)
+        requires taken { slice_get self.old.lives row ≡ Some (Born (next self.old)) }
+        ensures free { self.new ≡ with_life self.old row Free }
+    {
+        self.lives[row as usize] = Life::Free;
+        self.free.put(row);
+    }
+
+    /// Lets a row die with the version to come. It was born earlier and is not dead.
+    pub fn kill(&mut self, row: u32)
+        requires born { (b : ℕ) × (slice_get self.old.lives row ≡ Some (Born b))
+            × (b ≤ version self.old) }
+        ensures dead { self.new ≡ with_life self.old row (ended (next self.old) (slice_get self.old.lives row)) }
+    {
+        let death = self.versions[self.current as usize] + 1;
+        match self.lives[row as usize] {
+            Life::Born { birth } => {
+                self.lives[row as usize] = Life::Dead { birth, death };
+                self.dead.push_reserved(row);
+            }
+            _ => unreachable!(),
+        }
+    }
+
+    /// Makes the version to come the current one, in a record other than the current one.
+    pub fn advance(&mut self, into: u32)
+        requires there { into < length self.old.versions }
+        requires other { into ≢ self.old.current }
+        requires more { next self.old ≤ last_version }
+        ensures current { self.new ≡ record self.old { current = into; versions = slice_set self.old.versions into (next self.old) } }
+    {
+        let next = self.versions[self.current as usize] + 1;
+        self.versions[into as usize] = next;
+        self.current = into;
+    }
+
+    /// Frees the dead rows that no live version reaches.
+    ///
+    /// It looks at the rows killed since the last sweep. At the other dead rows it looks only where a version that was live then is no longer live.
+    pub fn sweep(&mut self, live: &[u64])
+        ensures swept { self.new ≡ record self.old { lives = map (swept live.now) self.old.lives } }
+    {
+        look_again(&mut self.dead, &mut self.held, &self.live, live);
+        sweep_dead(
+            &mut self.lives,
+            &mut self.free,
+            &mut self.dead,
+            &mut self.held,
+            live,
+        );
+        remember(&mut self.dead, &mut self.held, &mut self.live, live);
+    }
+}

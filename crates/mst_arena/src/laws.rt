@@ -1,0 +1,59 @@
+//! Laws of the definitions that the contracts cite: which version reaches which row, and what rows stand for.
+//!
+//! The functions here do nothing. Each clause is a proved law, by which a reader can judge the definitions of `specs/`.
+ghost use Rattle.std.specs.Prelude.{◌≡◌, ◌≢◌, ◌≤◌, ◌<◌, ◌==◌, ℕ, List, Some, false, true, map, slice_get, slice_set};
+ghost use Rattle.std.specs.List.{list_any, AllByRecursion};
+ghost use Rattle.mst_key.specs.declared.format.Format.{Format};
+ghost use Rattle.mst_key.specs.Map.{Pair};
+ghost use Rattle.mst_node.specs.Tree.{Tree};
+ghost use Rattle.mst_arena.specs.Content.{Content, Writes};
+ghost use Rattle.mst_arena.specs.Lives.{reaches, SameReach, swept};
+ghost use Rattle.mst_arena.specs.Standing.{Stands, StandsAt, Placed, head, cell, end, HasRows, rows_of, head_row, link_of, numbers};
+ghost use Rattle.mst_arena.specs.declared.life.Life.{Life};
+ghost use Rattle.mst_arena.specs.declared.life.Life.TheVariants.{Free, Born, Dead};
+ghost use Rattle.mst_arena.specs.declared.row.Root.{Root};
+ghost use Rattle.mst_arena.specs.declared.row.Row.{Row};
+ghost use Rattle.mst_arena.specs.declared.row.Row.TheVariants.{Entry};
+
+/// What the calls of a desk do to the rows that a version reaches, for any set of live versions. `next` is the version to come.
+pub fn life_laws()
+    // a row that is taken is reached by no earlier version, before and after
+    ensures take { (lives : List Life) (row next : ℕ) → slice_get lives row ≡ Some Free
+        → SameReach (λ v. v < next) lives (slice_set lives row (Born next)) }
+    // a row that is killed is reached by the same earlier versions as before
+    ensures kill { (lives : List Life) (row b next : ℕ) → slice_get lives row ≡ Some (Born b)
+        → SameReach (λ v. v < next) lives (slice_set lives row (Dead b next)) }
+    // a row that is given back was reached by no earlier version
+    ensures give_back { (lives : List Life) (row next : ℕ) → slice_get lives row ≡ Some (Born next)
+        → SameReach (λ v. v < next) lives (slice_set lives row Free) }
+    // the live versions reach the same rows after a sweep
+    ensures sweep { (lives : List Life) (live : List ℕ)
+        → SameReach (λ v. list_any (λ w. w == v) live ≡ true) lives (map (swept live) lives) }
+    // no version reaches a free row
+    ensures free { (lives : List Life) (row v : ℕ) → slice_get lives row ≡ Some Free
+        → reaches lives v row ≡ false }
+    // a row that was killed for the version to come is reached by no later version
+    ensures dead { (lives : List Life) (row b next v : ℕ) → slice_get lives row ≡ Some (Dead b next)
+        → next ≤ v → reaches lives v row ≡ false }
+{}
+
+/// What stands at a root is one map, in one placing; it stays as long as its rows do, and it is put together from its parts.
+pub fn standing_laws()
+    ensures one { (f : Format) (c : Content) (at : Root) (m n : List Pair)
+        → Stands f c at m → Stands f c at n → m ≡ n }
+    ensures one_placing { (f : Format) (c : Content) (link : ℕ) (t u : Tree) (s : StandsAt f c link t)
+        (r : StandsAt f c link u) → s.placed ≡ r.placed }
+    // what stands, stands in each content that has its rows as before
+    ensures frame { (f : Format) (old new : Content) (at : Root) (m : List Pair)
+        (s : Stands f old at m) → AllByRecursion (λ k. new k ≡ old k) (numbers s) → Stands f new at m }
+    // and so it stands after a write of a row that is none of its own
+    ensures write { (f : Format) (old new : Content) (row : ℕ) (value : Row) (at : Root) (m : List Pair)
+        (s : Stands f old at m) → Writes old new row value
+        → AllByRecursion (λ k. k ≢ row) (numbers s) → Stands f new at m }
+    // a node of one entry between two trees that stand
+    ensures join { (f : Format) (c : Content) (p q : Placed) (h e l : ℕ) (k v : List ℕ)
+        → HasRows c (rows_of f p) → HasRows c (rows_of f q)
+        → c h ≡ Some (head_row f l (cell e p k v (end q)))
+        → c e ≡ Some (Entry (link_of p) 0 k v)
+        → HasRows c (rows_of f (head h l (cell e p k v (end q)))) }
+{}

@@ -1,0 +1,115 @@
+//! Rows in the memory of one thread.
+ghost use Rattle.std.specs.Prelude.{◌≡◌, ◌≤◌, ◌<◌, None, IfOk, replicate};
+
+use crate::row::{EntryLinks, HeadLinks, Row};
+use crate::rows::Rows;
+use mst_key::{Memory, Value};
+use std::alloc::Allocator;
+use std::marker::Model;
+
+/// Rows in a vector. Each of them may be written at any time, and read once it was written.
+#[derive(Drop)]
+pub struct PlainRows<A: Allocator> {
+    places: Vec<Option<Row>, A>,
+}
+
+/// Contracts see the list of the places, each with its row or with none.
+impl<A: Allocator> Model for PlainRows<A> {
+    ghost use Rattle.std.specs.Prelude.{List, Option};
+    ghost use Rattle.mst_arena.specs.declared.row.Row.{Row};
+
+    ghost Value = { List (Option Row) };
+
+    ghost view = { λ p. p.places.items };
+}
+
+impl<A: Allocator> PlainRows<A> {
+    /// So many rows, none of them written.
+    ///
+    /// `Memory` comes where a growth was refused.
+    pub fn new(alloc: A, rows: u32) -> Result<PlainRows<A>, Memory>
+        requires some { 0 < rows }
+        requires few { rows ≤ 65535 }
+        ensures ok { IfOk result (λ p. p ≡ replicate rows None) }
+    {
+        let Ok(mut places) = Vec::with_capacity(alloc, rows as usize) else {
+            return Err(Memory);
+        };
+        for _ in 0..rows {
+            places.push_reserved(None);
+        }
+        Ok(PlainRows { places })
+    }
+}
+
+impl<A: Allocator> Rows for PlainRows<A> {
+    ghost use Rattle.std.specs.Prelude.{length, nat_lt};
+    ghost use Rattle.mst_arena.specs.Content.{listed};
+
+    ghost content = { listed };
+
+    ghost blank = { λ places row. nat_lt row (length places) };
+
+    fn read(&mut self, row: u32) -> Row {
+        match &self.places[row as usize] {
+            Some(row) => row.copy(),
+            None => unreachable!(),
+        }
+    }
+
+    fn write(&mut self, row: u32, value: &Row) {
+        self.places[row as usize] = Some(value.copy());
+    }
+
+    fn head(&mut self, row: u32) -> HeadLinks {
+        match &self.places[row as usize] {
+            Some(
+                Row::Head {
+                    layer,
+                    count,
+                    first,
+                    tail,
+                    ..
+                },
+            ) => HeadLinks {
+                layer: *layer,
+                count: *count,
+                first: *first,
+                tail: *tail,
+            },
+            _ => unreachable!(),
+        }
+    }
+
+    fn digest(&mut self, row: u32) -> [u8; 32] {
+        match &self.places[row as usize] {
+            Some(Row::Head { digest, .. }) => *digest,
+            _ => unreachable!(),
+        }
+    }
+
+    fn entry(&mut self, row: u32) -> EntryLinks {
+        match &self.places[row as usize] {
+            Some(
+                Row::Entry {
+                    child,
+                    next,
+                    key,
+                    ..
+                },
+            ) => EntryLinks {
+                child: *child,
+                next: *next,
+                key: key.copy(),
+            },
+            _ => unreachable!(),
+        }
+    }
+
+    fn value(&mut self, row: u32) -> Value {
+        match &self.places[row as usize] {
+            Some(Row::Entry { value, .. }) => value.copy(),
+            _ => unreachable!(),
+        }
+    }
+}

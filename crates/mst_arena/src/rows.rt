@@ -1,0 +1,98 @@
+//! Rows that a holder may read and write.
+ghost use Rattle.std.specs.Prelude.{◌≡◌, IsTrue, IsSome, Some};
+ghost use Rattle.mst_arena.specs.Row.{IsRow, head_links, head_digest, entry_links, entry_value};
+ghost use Rattle.mst_arena.specs.Content.{part_at, Writes};
+
+use crate::row::{EntryLinks, HeadLinks, Row};
+use mst_key::Value;
+
+/// Rows that the holder may read, and blank rows that it may write.
+///
+/// The content has a row at each number that the holder may read. Reading changes nothing; a write changes the content at the row that is written and nowhere else. Beside whole rows the parts of them can be read, so that an implementation loads no more words than a search needs: the default bodies read the whole row.
+pub trait Rows {
+    ghost use Rattle.std.specs.Prelude.{ℕ, Bool};
+    ghost use Rattle.mst_arena.specs.Content.{Content};
+
+    // The row at each number that the holder may read.
+    ghost content: { Self → Content };
+
+    // Whether a row is blank: the holder may write it.
+    ghost blank: { Self → ℕ → Bool };
+
+    /// The row at this number.
+    fn read(&mut self, row: u32) -> Row
+        requires there { IsSome (content self.old row) }
+        ensures value { content self.old row ≡ Some result }
+        ensures same { self.new ≡ self.old };
+
+    /// Writes the row at this number, which is blank.
+    fn write(&mut self, row: u32, value: &Row)
+        requires blank { IsTrue (blank self.old row) }
+        requires limits { IsRow value.now }
+        ensures writes { Writes (content self.old) (content self.new) row value.now }
+        ensures blank { blank self.new ≡ blank self.old };
+
+    /// The layer, the count and the links of the head at this number.
+    fn head(&mut self, row: u32) -> HeadLinks
+        requires there { IsSome (part_at head_links (content self.old) row) }
+        ensures value { part_at head_links (content self.old) row ≡ Some result }
+        ensures same { self.new ≡ self.old }
+    {
+        match self.read(row) {
+            Row::Head {
+                layer,
+                count,
+                first,
+                tail,
+                ..
+            } => HeadLinks {
+                layer,
+                count,
+                first,
+                tail,
+            },
+            Row::Entry { .. } => unreachable!(),
+        }
+    }
+
+    /// The digest of the head at this number.
+    fn digest(&mut self, row: u32) -> [u8; 32]
+        requires there { IsSome (part_at head_digest (content self.old) row) }
+        ensures value { part_at head_digest (content self.old) row ≡ Some result }
+        ensures same { self.new ≡ self.old }
+    {
+        match self.read(row) {
+            Row::Head { digest, .. } => digest,
+            Row::Entry { .. } => unreachable!(),
+        }
+    }
+
+    /// The links and the key of the entry at this number.
+    fn entry(&mut self, row: u32) -> EntryLinks
+        requires there { IsSome (part_at entry_links (content self.old) row) }
+        ensures value { part_at entry_links (content self.old) row ≡ Some result }
+        ensures same { self.new ≡ self.old }
+    {
+        match self.read(row) {
+            Row::Entry {
+                child,
+                next,
+                key,
+                ..
+            } => EntryLinks { child, next, key },
+            Row::Head { .. } => unreachable!(),
+        }
+    }
+
+    /// The value of the entry at this number.
+    fn value(&mut self, row: u32) -> Value
+        requires there { IsSome (part_at entry_value (content self.old) row) }
+        ensures value { part_at entry_value (content self.old) row ≡ Some result }
+        ensures same { self.new ≡ self.old }
+    {
+        match self.read(row) {
+            Row::Entry { value, .. } => value,
+            Row::Head { .. } => unreachable!(),
+        }
+    }
+}

@@ -1,0 +1,177 @@
+//! The sixteen words of a row.
+ghost use Rattle.std.specs.Prelude.{◌≡◌, ◌≢◌, ◌↔◌, ◌<◌, ◌≤◌, ◌*◌, length, slice_index, map, Some, IfSome, IfNone};
+ghost use Rattle.std.specs.List.{range_with_len};
+ghost use Rattle.mst_arena.specs.declared.row.Row.{Row};
+ghost use Rattle.mst_arena.specs.Row.{IsRow, HasBytes};
+ghost use Rattle.mst_arena.specs.Words.{word_from, words_of, byte_of_words};
+
+use crate::row::Row;
+use mst_key::{Key, Value};
+use std::array;
+
+/// The byte at an index, and 0 past the end.
+fn byte_or_zero(bytes: &[u8], index: usize) -> u8
+    ensures byte { result ≡ slice_index bytes.now index }
+{
+    if index < bytes.len() { bytes[index] } else { 0 }
+}
+
+/// The word of the eight bytes from an index on, the first of them highest. Bytes past the end are 0.
+fn word_from(bytes: &[u8], index: usize) -> u64
+    requires small { index < 64 }
+    ensures word { result ≡ word_from bytes.now index }
+{
+    u64::from_be_bytes([
+        byte_or_zero(bytes, index),
+        byte_or_zero(bytes, index + 1),
+        byte_or_zero(bytes, index + 2),
+        byte_or_zero(bytes, index + 3),
+        byte_or_zero(bytes, index + 4),
+        byte_or_zero(bytes, index + 5),
+        byte_or_zero(bytes, index + 6),
+        byte_or_zero(bytes, index + 7),
+    ])
+}
+
+/// Byte `index` of the words, the highest byte of each word first.
+fn byte_of_words(words: &[u64], index: usize) -> u8
+    requires there { index < 8 * length words.now }
+    ensures byte { result ≡ byte_of_words words.now index }
+{
+    words[index / 8].to_be_bytes()[index % 8]
+}
+
+/// The first 32 bytes of the words.
+fn bytes_of_words<const N: usize>(words: &[u64]) -> [u8; N]
+    requires there { N ≤ 8 * length words.now }
+    ensures bytes { result ≡ map (byte_of_words words.now) (range_with_len 0 N) }
+{
+    let mut bytes = [0; N];
+    for i in 0..N {
+        bytes[i] = byte_of_words(words, i);
+    }
+    bytes
+}
+
+/// The entry that these words may be of. Nothing is said of other words.
+fn entry_of(words: &[u64; 16]) -> Option<Row>
+    ensures exact { (row : Row) → IsRow row → HasBytes row → words_of row ≡ words.now
+        → slice_index words.now 0 ≡ 1 → result ≡ Some row }
+{
+    let child = u32::try_from(words[1]).ok()?;
+    let next = u32::try_from(words[2]).ok()?;
+    let (key_len, value_len) = ((words[3] % 256) as usize, words[3] / 256);
+    let keys: [u8; 32] = bytes_of_words(&words[4..8]);
+    let values: [u8; 64] = bytes_of_words(&words[8..16]);
+    if key_len > 32 || value_len > 64 {
+        return None;
+    }
+    let key = Key::new(&keys[..key_len]).ok()?;
+    let value = Value::new(&values[..value_len as usize]).ok()?;
+    Some(Row::Entry {
+        child,
+        next,
+        key,
+        value,
+    })
+}
+
+/// The head that these words may be of. Nothing is said of other words.
+fn head_of(words: &[u64; 16]) -> Option<Row>
+    ensures exact { (row : Row) → IsRow row → HasBytes row → words_of row ≡ words.now
+        → slice_index words.now 0 ≡ 2 → result ≡ Some row }
+{
+    Some(Row::Head {
+        layer: u8::try_from(words[1]).ok()?,
+        count: u32::try_from(words[2]).ok()?,
+        first: u32::try_from(words[3]).ok()?,
+        tail: u32::try_from(words[4]).ok()?,
+        digest: bytes_of_words(&words[5..9]),
+    })
+}
+
+impl Row {
+    /// The sixteen words of a row.
+    ///
+    /// The first is 1 for an entry and 2 for a head. An entry goes on with child, next, key length + 256 * value length, the key in four words and the value in eight; a head with layer, count, first, tail, and the digest in four words. Bytes are packed big-endian, eight a word, and what is left over is 0.
+    pub fn words(&self) -> [u64; 16]
+        requires limits { IsRow self.now }
+        ensures words { result ≡ words_of self.now }
+    {
+        match self {
+            Row::Entry {
+                child,
+                next,
+                key,
+                value,
+            } => entry_words(*child, *next, key, value),
+            Row::Head {
+                layer,
+                count,
+                first,
+                tail,
+                digest,
+            } => [
+                2,
+                u64::from(*layer),
+                u64::from(*count),
+                u64::from(*first),
+                u64::from(*tail),
+                word_from(digest, 0),
+                word_from(digest, 8),
+                word_from(digest, 16),
+                word_from(digest, 24),
+                0,
+                0,
+                0,
+                0,
+                0,
+                0,
+                0,
+            ],
+        }
+    }
+
+    /// The row of these words, for exactly the words that [`Row::words`] gives of some row.
+    pub fn read(words: &[u64; 16]) -> Option<Row>
+        ensures some { IfSome result (λ row. IsRow row × (words_of row ≡ words.now)) }
+        ensures none { IfNone result ((row : Row) → IsRow row → HasBytes row
+            → words_of row ≢ words.now) }
+    {
+        let row = match words[0] {
+            1 => entry_of(words)?,
+            2 => head_of(words)?,
+            _ => return None,
+        };
+        if row.is_within_limits() && row.words() == *words {
+            Some(row)
+        } else {
+            None
+        }
+    }
+}
+
+/// The sixteen words of an entry.
+fn entry_words(child: u32, next: u32, key: &Key, value: &Value) -> [u64; 16]
+    ensures words { result ≡ words_of (Row.Entry child next key.now value.now) }
+{
+    let (key, value) = (key.bytes(), value.bytes());
+    [
+        1,
+        u64::from(child),
+        u64::from(next),
+        key.len() as u64 + 256 * value.len() as u64,
+        word_from(key, 0),
+        word_from(key, 8),
+        word_from(key, 16),
+        word_from(key, 24),
+        word_from(value, 0),
+        word_from(value, 8),
+        word_from(value, 16),
+        word_from(value, 24),
+        word_from(value, 32),
+        word_from(value, 40),
+        word_from(value, 48),
+        word_from(value, 56),
+    ]
+}
