@@ -1,10 +1,1 @@
-pub mod Putting
-pub mod Cutting
-pub mod Numbers
-pub mod Parsing
-pub mod Dealing
-pub mod Replying
-pub mod Staging
-pub mod Reading
-pub mod Dealt
-pub mod Running
+pub mod Fresh

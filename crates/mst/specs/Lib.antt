@@ -1,11 +1,3 @@
-pub mod Device
-pub mod Laws
-pub mod Lines
-pub mod Grammar
-pub mod Serving
-pub mod Texts
 pub mod Commanding
 pub mod Recalling
-pub mod Script
-pub mod Answerers
-pub mod Driving
+pub mod Programs

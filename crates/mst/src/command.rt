@@ -1,15 +1,15 @@
 //! The programs, over a source and two sinks.
-ghost use Rattle.std.specs.Prelude.{◌≡◌, ◌<◌, ◌≤◌, ◌-◌, ◌+◌, ◌^◌, ◌↔◌, ◌⊎◌, ℕ, OnOk, OnErr, IfErr, IsOk, true, false};
-ghost use Rattle.mst.specs.Script.{RanScript, RanReplay};
+ghost use Rattle.std.specs.Prelude.{◌≡◌, ◌<◌, ◌≤◌, ◌-◌, ◌+◌, ◌^◌, ◌↔◌, ◌⊎◌, ℕ, OnOk, OnErr, IfErr, IsErrOf, IsOk, true, false};
+ghost use Rattle.mst_store.specs.Passes.{IsShape};
+ghost use Rattle.mst.specs.Programs.{RanScript, RanReplay};
 ghost use Rattle.mst.specs.Commanding.{IsDevice, Untouched, status_of, asks_replay};
 
-use crate::answering::Answering;
-use crate::device::pending::write_all;
-use crate::device::{Device, Sink, Source};
-use crate::driver::{RunFault, run};
+use crate::events::replay_events;
 use crate::words::{Task, task_in};
 use clap::error::ErrorKind;
 use mst_replay::Replay;
+use mst_script::devices::pending::write_all;
+use mst_script::{Device, RunFault, Sink, Source, run};
 use mst_store::{OpenFault, Shape, Store};
 use std::alloc::{Allocator, Global};
 
@@ -46,23 +46,23 @@ pub fn run_script<A: Allocator + Copy, S: Source, W: Sink>(
 ) -> Result<(), Refusal>
     requires source { S.failures source.old < 2 ^ 64 - 1 }
     requires out { W.failures out.old < 2 ^ 64 - 1 }
-    ensures ran { OnOk result (RanScript S.gives W.takes shape.passes source.old out.old source.new out.new) }
+    ensures ran { OnOk result (RanScript S.gives W.takes shape source.old out.old source.new out.new) }
     ensures ended { OnOk result (S.left source.new ≡ 0) }
     ensures steady { OnOk result (S.failures source.new + W.failures out.new ≡ S.failures source.old + W.failures out.old) }
     ensures device { IfErr result (λ why. IsDevice why (S.failures source.old + W.failures out.old) (S.failures source.new + W.failures out.new)) }
     ensures unread { IfErr result (λ why. Untouched why source.old source.new) }
     ensures unwritten { IfErr result (λ why. Untouched why out.old out.new) }
+    ensures shape { IsErrOf result Refusal.Shape ↔ ¬ (IsShape shape) }
 {
     let (store, seats) = match Store::open(alloc, shape) {
         Ok(opened) => opened,
         Err(OpenFault::Shape) => return Err(Refusal::Shape),
         Err(OpenFault::Memory) => return Err(Refusal::Memory),
     };
-    let Ok(passes) = store.deal(alloc, seats) else {
+    let Ok(mut passes) = store.deal(alloc, seats) else {
         return Err(Refusal::Memory);
     };
-    let mut answering = Answering::script(passes);
-    match run(&alloc, source, out, &mut answering) {
+    match run(alloc, source, out, &store, &mut passes) {
         Ok(()) => Ok(()),
         Err(RunFault::Device) => Err(Refusal::Device),
         Err(RunFault::Memory) => Err(Refusal::Memory),
@@ -84,8 +84,8 @@ pub fn run_replay<A: Allocator + Copy, S: Source, W: Sink>(
     ensures unread { IfErr result (λ why. Untouched why source.old source.new) }
     ensures unwritten { IfErr result (λ why. Untouched why out.old out.new) }
 {
-    let mut answering = Answering::replay(alloc, Replay::new());
-    match run(&alloc, source, out, &mut answering) {
+    let mut replay = Replay::new();
+    match replay_events(alloc, source, out, &mut replay) {
         Ok(()) => Ok(()),
         Err(RunFault::Device) => Err(Refusal::Device),
         Err(RunFault::Memory) => Err(Refusal::Memory),
@@ -132,7 +132,7 @@ fn execute<S: Source, W: Sink>(
 ) -> Result<(), Refusal>
     requires source { S.failures source.old < 2 ^ 64 - 1 }
     requires out { W.failures out.old < 2 ^ 64 - 1 }
-    ensures ran { OnOk result (asks_replay words.now ≡ false → ((n : ℕ) × RanScript S.gives W.takes n source.old out.old source.new out.new × (S.left source.new ≡ 0)) ⊎ (source.new ≡ source.old)) }
+    ensures ran { OnOk result (asks_replay words.now ≡ false → ((shape : _) × RanScript S.gives W.takes shape source.old out.old source.new out.new × (S.left source.new ≡ 0)) ⊎ (source.new ≡ source.old)) }
     ensures replayed { OnOk result (asks_replay words.now ≡ true → (RanReplay S.gives W.takes source.old out.old source.new out.new × (S.left source.new ≡ 0)) ⊎ (source.new ≡ source.old)) }
     ensures steady { OnOk result (S.failures source.new + W.failures out.new ≡ S.failures source.old + W.failures out.old) }
     ensures device { IfErr result (λ why. IsDevice why (S.failures source.old + W.failures out.old) (S.failures source.new + W.failures out.new)) }
@@ -181,7 +181,7 @@ pub fn command<S: Source, O: Sink, E: Sink>(
     requires err { E.failures err.old < 2 ^ 64 - 1 }
     ensures range { (result ≡ 0) ⊎ (result ≡ 2) ⊎ (result ≡ 3) ⊎ (result ≡ 4) }
     ensures device { (result ≡ 3) ↔ (S.failures source.old + O.failures out.old + E.failures err.old < S.failures source.new + O.failures out.new + E.failures err.new) }
-    ensures done { result ≡ 0 → asks_replay words.now ≡ false → ((n : ℕ) × RanScript S.gives O.takes n source.old out.old source.new out.new × (S.left source.new ≡ 0)) ⊎ (source.new ≡ source.old) }
+    ensures done { result ≡ 0 → asks_replay words.now ≡ false → ((shape : _) × RanScript S.gives O.takes shape source.old out.old source.new out.new × (S.left source.new ≡ 0)) ⊎ (source.new ≡ source.old) }
     ensures replayed { result ≡ 0 → asks_replay words.now ≡ true → (RanReplay S.gives O.takes source.old out.old source.new out.new × (S.left source.new ≡ 0)) ⊎ (source.new ≡ source.old) }
     ensures silent { result ≡ 0 → err.new ≡ err.old }
     ensures refused { result ≡ 2 → (source.new ≡ source.old) × (out.new ≡ out.old) }

@@ -1,23 +1,15 @@
 //! The programs of the map.
 #![tactic(auto)]
 
-mod answer;
-mod answering;
 mod command;
-mod device;
-mod driver;
-mod fields;
-mod line;
-mod parse;
+mod events;
 mod replay;
-mod request;
-mod serve;
 #[cfg(test)]
 mod tests;
 mod words;
 
 use command::{Refusal, command, complain};
-use device::standard::{StdSink, StdSource};
+use mst_script::{StdSink, StdSource};
 use std::alloc::Global;
 use std::process::ExitCode;
 use std::{env, io};

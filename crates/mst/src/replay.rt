@@ -2,11 +2,21 @@
 ghost use Rattle.std.specs.Prelude.{◌≡◌, ◌≤◌, ◌+◌, ◌++◌, length, decimal};
 ghost use Rattle.mst.specs.Recalling.{reply_text, Recalls};
 
-use crate::answer::{Text, extend};
-use crate::line::LineBuffer;
 use arrayvec::ArrayVec;
 use itoa::Buffer;
 use mst_replay::{Replay, Reply};
+use mst_script::line::LineBuffer;
+
+/// The line of a reply.
+pub type Text = ArrayVec<u8, 144>;
+
+// Appends bytes that fit.
+fn extend(text: &mut Text, bytes: &[u8])
+    requires { length text.old.items + length bytes.now ≤ 144 }
+    ensures { text.new.items ≡ text.old.items ++ bytes.now }
+{
+    let _ = text.try_extend_from_slice(bytes);
+}
 
 // Appends words and a number.
 fn extend_numbered(text: &mut Text, words: &[u8], number: u8)

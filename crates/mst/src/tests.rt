@@ -5,7 +5,7 @@ mod scripts;
 mod words;
 
 use crate::command::command;
-use crate::device::bytes::{BytesSink, BytesSource};
+use mst_script::{BytesSink, BytesSource};
 use std::alloc::{AllocError, Global};
 
 /// The exit status of a program, and what it wrote.

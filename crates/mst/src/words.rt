@@ -23,7 +23,7 @@ fn program<'a>(alloc: Global) -> Result<Command<'a>, AllocError> {
         .value_parser(value_parser!(u32))
         .default_value("4");
     let run = Command::new(alloc, "run")
-        .about("Answers the lines of standard input, each of them a put or a get of a pass")
+        .about("Answers the lines of standard input, each of them a command of a pass")
         .arg(rows)?
         .arg(passes)?;
     let replay = Command::new(alloc, "replay").about(

@@ -2,6 +2,8 @@
 use Rattle.std.proofs.Common.{◌≡◌, ◌≢◌, ℕ, zero, suc, ◌+◌, ◌<◌, ◌≤◌, ◌^◌, Bool, true, false, cond, List, [], ◌∷◌, ◌++◌, length, map, Option, Some, None, refl, sym, ◌∙◌, ap, arith, inl, inr, ◌⊎◌, get_or}
 use Rattle.std.specs.Prelude.{slice_get, slice_set, slice_index, option_map, replicate, ◌==◌}
 use Rattle.std.specs.List.{list_any, list_all}
+use Rattle.std.specs.List.Sorted.{IsPermutation}
+use Rattle.std.proofs.lemmas.List.Sorted.{list_any-IsPermutation}
 use Rattle.std.proofs.Math.ListN.{length-set}
 use Rattle.std.proofs.lemmas.Bool.{cases_eq}
 use Rattle.std.proofs.lemmas.Bool.Decides.{nat_tests}
@@ -161,7 +163,7 @@ module _ (current : ℕ) (versions : List ℕ) (lives : List Life) (free : List 
           swept_dead live b d (any_live (reaches_life (Dead b d)) live last e.1 (desk.reached r (Dead b d) at (omega arith)))
 
   -- after a sweep, with the live versions remembered
-  pub desk_swept : (live : List ℕ) (new : List Life) (free' : List Bool) (dead' held' last' : List ℕ) (dc' hc' : ℕ) → new ≡ map (swept live) lives → free' ≡ map is_free new → Lists is_dead new held' → dead' ≡ [] → last' ≡ live → dc' ≡ dc → hc' ≡ hc → IsDesk current versions new free' dead' held' last' dc' hc'
+  pub desk_swept : (live : List ℕ) (new : List Life) (free' : List Bool) (dead' held' last' : List ℕ) (dc' hc' : ℕ) → new ≡ map (swept live) lives → free' ≡ map is_free new → Lists is_dead new held' → dead' ≡ [] → IsPermutation live last' → dc' ≡ dc → hc' ≡ hc → IsDesk current versions new free' dead' held' last' dc' hc'
   desk_swept live new free' dead' held' last' dc' hc' is f lists e l d h =
       let len : length new ≡ length lives = ap (λ (ls : List Life). length ls) is ∙ length_mapped (swept live) lives in
       record {
@@ -170,7 +172,7 @@ module _ (current : ℕ) (versions : List ℕ) (lives : List Life) (free : List 
         few = omega (arith, len, desk.few);
         free_rows = f;
         dead_rows = λ r. ap (λ (rows : List ℕ). times r (rows ++ held')) e ∙ lists r;
-        reached = λ r x at some. ap (list_any (reaches_life x)) l ∙ here r x at some;
+        reached = λ r x at some. sym (list_any-IsPermutation (reaches_life x) live last' l) ∙ here r x at some;
         dead_room = omega (arith, len, desk.dead_room);
         held_room = omega (arith, len, desk.held_room);
       }

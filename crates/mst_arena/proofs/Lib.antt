@@ -4,6 +4,7 @@ pub mod BitLemmas
 pub mod FlagLemmas
 pub mod SetLemmas
 pub mod ListLemmas
+pub mod Rising
 pub mod SweepLemmas
 pub mod DeskLemmas
 pub mod Stands

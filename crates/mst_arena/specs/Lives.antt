@@ -1,5 +1,5 @@
 -- The births and deaths of rows, which version reaches which row, and what a desk knows.
-use Rattle.std.specs.Prelude.{◌≡◌, ◌≤◌, ◌<◌, ◌+◌, ◌^◌, ◌-◌, ℕ, Bool, true, false, ◌&&◌, nat_le, nat_lt, if◌then◌else◌, List, count_by, slice_set, slice_get, slice_index, Option, Some, None}
+use Rattle.std.specs.Prelude.{◌≡◌, ◌+◌, ◌^◌, ◌-◌, ℕ, Bool, true, false, ◌&&◌, nat_le, nat_lt, if◌then◌else◌, List, count_by, slice_set, slice_get, slice_index, Option, Some, None}
 use Rattle.std.specs.List.{list_any}
 use Rattle.mst_arena.specs.declared.life.Life.{Life}
 use Rattle.mst_arena.specs.declared.life.Life.TheVariants.{Free, Born, Dead}
@@ -39,12 +39,6 @@ ended d None = Free
 ended d (Some Free) = Free
 ended d (Some (Born b)) = Dead b d
 ended d (Some (Dead b e)) = Dead b e
-
--- a life up to a version: born no later than it, and dead no later than it but after the birth
-abbrev pub IsUntil : ℕ → Life → Type 0
-IsUntil v Free = Unit {0}
-IsUntil v (Born b) = b ≤ v
-IsUntil v (Dead b d) = (b < d) × (d ≤ v)
 
 -- the versions that are asked about reach the same rows
 abbrev pub SameReach : (ℕ → Type 0) → List Life → List Life → Type 0

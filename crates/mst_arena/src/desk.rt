@@ -5,7 +5,7 @@ ghost use Rattle.mst_arena.specs.declared.life.Life.TheVariants.{Free, Born, Dea
 
 use crate::free_rows::FreeRows;
 use crate::life::Life;
-use crate::sweep::{look_again, remember, sweep_dead};
+use crate::sweep::{look_again, sweep_dead};
 use mst_key::Memory;
 use std::alloc::Allocator;
 use std::marker::Model;
@@ -32,7 +32,7 @@ pub struct Desk<A: Allocator> {
     dead: Vec<u32, A>,
     /// The other dead rows. Each is reached by a version that was live at the last sweep.
     held: Vec<u32, A>,
-    /// The versions that were live at the last sweep.
+    /// The versions that were live at the last sweep, in rising order.
     live: Vec<u64, A>,
 }
 
@@ -122,9 +122,10 @@ impl<A: Allocator> Desk<A> {
         }
     }
 
-    /// How many rows are free.
+    /// How many rows are free. A desk has at most 65,535 rows.
     pub fn free(&self) -> u32
         ensures count { result ≡ free_count self.now.lives }
+        ensures few { length self.now.lives ≤ 65535 }
     {
         self.free.count()
     }
@@ -180,7 +181,7 @@ impl<A: Allocator> Desk<A> {
 
     /// Frees the dead rows that no live version reaches.
     ///
-    /// It looks at the rows killed since the last sweep. At the other dead rows it looks only where a version that was live then is no longer live.
+    /// It looks at the rows killed since the last sweep, with one search among the live versions for each. At the other dead rows it looks only where a version that was live then is no longer live. It never looks at rows that are not dead.
     pub fn sweep(&mut self, live: &[u64])
         ensures swept { self.new ≡ record self.old { lives = map (swept live.now) self.old.lives } }
     {
@@ -190,8 +191,8 @@ impl<A: Allocator> Desk<A> {
             &mut self.free,
             &mut self.dead,
             &mut self.held,
+            &mut self.live,
             live,
         );
-        remember(&mut self.dead, &mut self.held, &mut self.live, live);
     }
 }

@@ -1,6 +1,9 @@
 //! The sweep along the lists of dead rows.
-ghost use Rattle.std.specs.Prelude.{◌≡◌, ◌⊎◌, ◌≤◌, ◌<◌, ◌+◌, ◌==◌, ℕ, [], ◌++◌, true, map, length, vec_len, vec_capacity};
+ghost use Rattle.std.specs.Prelude.{◌≡◌, ◌⊎◌, ◌≤◌, ◌+◌, ◌==◌, ℕ, [], ◌++◌, true, map, length, vec_len, vec_capacity};
+ghost use Rattle.std.specs.Bool.{MatchBool};
 ghost use Rattle.std.specs.List.{list_any, list_all};
+ghost use Rattle.std.specs.List.Sorted.{IsPermutation, IsNonDecreasing};
+ghost use Rattle.mst_arena.specs.declared.life.Life.TheVariants.{Dead};
 ghost use Rattle.mst_arena.specs.Lives.{swept, is_free, reaches_life};
 ghost use Rattle.mst_arena.specs.Lists.{Lists, StayBut, is_dead, times};
 
@@ -9,24 +12,26 @@ use crate::life::Life;
 use std::alloc::Allocator;
 use std::mem;
 
-/// Whether a live version reaches a row of this life.
-fn reached(life: Life, live: &[u64]) -> bool
-    ensures reached { result ≡ list_any (reaches_life life) live.now }
+/// Whether a live version reaches a row that was born and died with these versions. Where the live versions rise, one search finds the first that is not below the birth.
+fn is_reached(birth: u64, death: u64, live: &[u64], rising: bool) -> bool
+    requires rising { rising ≡ true → IsNonDecreasing live.now }
+    ensures reached { result ≡ list_any (reaches_life (Dead birth death)) live.now }
 {
-    live.iter().any(|v| match life {
-        Life::Free => false,
-        Life::Born { birth } => birth <= *v,
-        Life::Dead { birth, death } => birth <= *v && *v < death,
-    })
+    if !rising {
+        return live.iter().any(|v| birth <= *v && *v < death);
+    }
+    let first = live.partition_point(|v| *v < birth);
+    first < live.len() && live[first] < death
 }
 
 /// What a sweep leaves of a life.
-fn after_sweep(life: Life, live: &[u64]) -> Life
+fn after_sweep(life: Life, live: &[u64], rising: bool) -> Life
+    requires rising { rising ≡ true → IsNonDecreasing live.now }
     ensures swept { result ≡ swept live.now life }
 {
     match life {
-        Life::Dead { .. } => {
-            if reached(life, live) {
+        Life::Dead { birth, death } => {
+            if is_reached(birth, death, live, rising) {
                 life
             } else {
                 Life::Free
@@ -76,34 +81,32 @@ pub fn look_again<A: Allocator>(
     }
 }
 
-/// Remembers the live versions of this sweep. Where there is no room for them, it lets the next sweep look at all dead rows.
-pub fn remember<A: Allocator>(
-    dead: &mut Vec<u32, A>,
-    held: &mut Vec<u32, A>,
-    last: &mut Vec<u64, A>,
-    live: &[u64],
-)
-    ensures lists { ((dead.new ≡ dead.old) × (held.new ≡ held.old) × (last.new.items ≡ live.now))
-        ⊎ ((dead.new ≡ held.old) × (held.new ≡ dead.old) × (last.new.items ≡ [])) }
+/// Remembers the live versions of this sweep, in rising order. Where there is no room for them it remembers none, and answers that.
+fn remember<A: Allocator>(last: &mut Vec<u64, A>, live: &[u64]) -> bool
+    ensures remembered { MatchBool result (IsPermutation live.now last.new.items × IsNonDecreasing last.new.items) (last.new.items ≡ []) }
 {
     last.clear();
     if live.len() > last.capacity() || last.extend_from_slice(live).is_err() {
-        mem::swap(dead, held);
+        return false;
     }
+    last.sort_unstable();
+    true
 }
 
 /// Frees the rows of `dead` that no live version reaches, and moves the others to `held`. No other row is looked at.
-pub fn sweep_dead<A: Allocator>(
+fn free_unreached<A: Allocator>(
     lives: &mut [Life],
     free: &mut FreeRows<A>,
     dead: &mut Vec<u32, A>,
     held: &mut Vec<u32, A>,
     live: &[u64],
+    rising: bool,
 )
     requires free { free.old ≡ map is_free lives.old }
     requires dead { Lists is_dead lives.old (dead.old.items ++ held.old.items) }
     requires others { StayBut live.now lives.old dead.old.items }
     requires room { length lives.old ≤ vec_capacity held.old }
+    requires rising { rising ≡ true → IsNonDecreasing live.now }
     ensures swept { lives.new ≡ map (swept live.now) lives.old }
     ensures free { free.new ≡ map is_free lives.new }
     ensures dead { Lists is_dead lives.new held.new.items }
@@ -112,11 +115,41 @@ pub fn sweep_dead<A: Allocator>(
     ensures dead_room { vec_capacity dead.new ≡ vec_capacity dead.old }
 {
     while let Some(row) = dead.pop() {
-        let life = after_sweep(lives[row as usize], live);
+        let life = after_sweep(lives[row as usize], live, rising);
         lives[row as usize] = life;
         match life {
             Life::Free => free.put(row),
             _ => held.push_reserved(row),
         }
     }
+}
+
+/// Frees the rows of `dead` that no live version reaches, and remembers the live versions. The others are held by them; where there was no room to remember them all, the next sweep looks at each dead row.
+///
+/// A row that is looked at costs one search among the live versions. Only with more live versions than there is room for they are asked one by one.
+pub fn sweep_dead<A: Allocator>(
+    lives: &mut [Life],
+    free: &mut FreeRows<A>,
+    dead: &mut Vec<u32, A>,
+    held: &mut Vec<u32, A>,
+    last: &mut Vec<u64, A>,
+    live: &[u64],
+)
+    requires free { free.old ≡ map is_free lives.old }
+    requires dead { Lists is_dead lives.old (dead.old.items ++ held.old.items) }
+    requires others { StayBut live.now lives.old dead.old.items }
+    requires room { length lives.old ≤ vec_capacity held.old }
+    ensures swept { lives.new ≡ map (swept live.now) lives.old }
+    ensures free { free.new ≡ map is_free lives.new }
+    ensures lists { (IsPermutation live.now last.new.items × Lists is_dead lives.new held.new.items × (dead.new.items ≡ [])
+        × (vec_capacity dead.new ≡ vec_capacity dead.old) × (vec_capacity held.new ≡ vec_capacity held.old))
+        ⊎ (Lists is_dead lives.new dead.new.items × (held.new.items ≡ [])
+        × (vec_capacity dead.new ≡ vec_capacity held.old) × (vec_capacity held.new ≡ vec_capacity dead.old)) }
+{
+    if remember(last, live) {
+        free_unreached(lives, free, dead, held, last, true);
+        return;
+    }
+    free_unreached(lives, free, dead, held, live, false);
+    mem::swap(dead, held);
 }

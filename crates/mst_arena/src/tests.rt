@@ -161,7 +161,12 @@ fn rows_between_two_live_versions_stay(rt: HostRuntime) -> Result<(), Fail> {
     assert!(rt; c == Some(2));
     desk.advance(2);
     assert!(rt; desk.free() == 1);
+    // in any order, and more of them than the desk has records
     desk.sweep(&[1, 2]);
+    assert!(rt; desk.free() == 1);
+    desk.sweep(&[2, 1]);
+    assert!(rt; desk.free() == 1);
+    desk.sweep(&[9, 2, 8, 1, 7]);
     assert!(rt; desk.free() == 1);
     desk.sweep(&[2]);
     assert!(rt; desk.free() == 2);

@@ -9,7 +9,7 @@ use Rattle.mst_node.specs.Reading.{part_at, first_text_at}
 use Rattle.mst_node.proofs.Takes.{guard_ok, part_takes}
 use Rattle.mst_node.proofs.Again.{part_again}
 
-four_fit : (a b c d : ℕ) → a < 256 → b < 256 → c < 256 → d < 256 → (i : ℕ) → get_or (a ∷ b ∷ c ∷ d ∷ []) i 0 < 256
+pub four_fit : (a b c d : ℕ) → a < 256 → b < 256 → c < 256 → d < 256 → (i : ℕ) → get_or (a ∷ b ∷ c ∷ d ∷ []) i 0 < 256
 four_fit a b c d e f g h zero = e
 four_fit a b c d e f g h (suc zero) = f
 four_fit a b c d e f g h (suc (suc zero)) = g

@@ -9,6 +9,7 @@ pub mod Again
 pub mod Behind
 pub mod Places
 pub mod Fits
+pub mod Located
 pub mod Grammars
 pub mod Lying
 pub mod Frames

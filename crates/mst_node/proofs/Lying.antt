@@ -20,17 +20,17 @@ abbrev Between : Option (List ℕ) → Option (List ℕ) → List Pair → Type 
 Between low high m = AllByRecursion (λ p. IsBetween low high p.0) m
 
 -- the parts of a list round a pair
-record Split (xs : List Pair) (y : Pair) (ys : List Pair) : Type 0 where
-  front : IsAscending xs
-  back : IsAscending ys
-  below : AllByRecursion (λ p. key_cmp p.0 y.0 ≡ Less) xs
-  above : AllByRecursion (λ p. key_cmp y.0 p.0 ≡ Less) ys
+pub record Split (xs : List Pair) (y : Pair) (ys : List Pair) : Type 0 where
+  pub front : IsAscending xs
+  pub back : IsAscending ys
+  pub below : AllByRecursion (λ p. key_cmp p.0 y.0 ≡ Less) xs
+  pub above : AllByRecursion (λ p. key_cmp y.0 p.0 ≡ Less) ys
 
-all-front : (P : Pair → Type 0) (xs ys : List Pair) → AllByRecursion P (xs ++ ys) → AllByRecursion P xs × AllByRecursion P ys
+pub all-front : (P : Pair → Type 0) (xs ys : List Pair) → AllByRecursion P (xs ++ ys) → AllByRecursion P xs × AllByRecursion P ys
 all-front P [] ys all = (tt, all)
 all-front P (x ∷ xs) ys all = let rest = all-front P xs ys all.1 in ((all.0, rest.0), rest.1)
 
-split : (xs : List Pair) (y : Pair) (ys : List Pair) → IsAscending (xs ++ y ∷ ys) → Split xs y ys
+pub split : (xs : List Pair) (y : Pair) (ys : List Pair) → IsAscending (xs ++ y ∷ ys) → Split xs y ys
 split [] y ys rise = record { front = tt; back = rise.1; below = tt; above = rise.0 }
 split (x ∷ xs) y ys rise =
     let rest = split xs y ys rise.1 in

@@ -1,8 +1,8 @@
 -- The text of a node of a map's tree is in the grammar.
-use Rattle.std.proofs.Common.{◌≡◌, ℕ, zero, suc, ◌<◌, ◌≤◌, List, [], ◌∷◌, ◌++◌, length, refl, sym, subst, arith, length-append}
+use Rattle.std.proofs.Common.{◌≡◌, ℕ, zero, suc, ◌<◌, ◌≤◌, List, [], ◌∷◌, ◌++◌, length, refl, sym, subst, arith, length-append, append_assoc}
 use Rattle.std.specs.Prelude.{IfSome, slice_index}
 use Rattle.std.specs.Int.{w32, to_be_bytes}
-use Rattle.std.specs.List.{AllByRecursion}
+use Rattle.std.specs.List.{AllByRecursion, flat_map}
 use Rattle.sha2.specs.Sha256.{sha256, digest_bytes, final_hash, initial_hash_256}
 use Rattle.sha2.proofs.Facts256.{length-sha256}
 use Rattle.mst_key.specs.declared.format.Format.{Format}
@@ -12,8 +12,8 @@ use Rattle.mst_key.specs.Layer.{layer_in}
 use Rattle.mst_key.specs.Map.{Pair, key_cmp, IsAscending, IsMap}
 use Rattle.std.specs.declared.cmp.Ordering.TheVariants.{Less}
 use Rattle.mst_node.specs.Tree.{Tree, empty, node, Entries, last, entry, pairs, entries_pairs, entry_count, IsMst, IsMstEntries}
-use Rattle.mst_node.specs.Text.{FlatNode, child_digest, flat_entries, tail_digest, flat, held_of, text, spelling}
-use Rattle.mst_node.specs.Grammar.{IsDigest, IsHeld, IsFlatEntry, InGrammar, flat_pairs}
+use Rattle.mst_node.specs.Text.{FlatEntry, FlatNode, child_text, counted, held_text, entry_text, child_digest, flat_entries, tail_digest, flat, held_of, text, spelling}
+use Rattle.mst_node.specs.Grammar.{IsDigest, IsHeld, IsFlatEntry, IsFlatNode, InGrammar, flat_pairs}
 
 bytes-append : (xs ys : List ℕ) → IsBytes xs → IsBytes ys → IsBytes (xs ++ ys)
 bytes-append [] ys a b = b
@@ -105,3 +105,36 @@ in_grammar format (node g l es) mst is bytes some few =
       },
       refl,
     )
+
+-- ---- a node of a map whose text has bytes
+
+bytes-split : (xs ys : List ℕ) → IsBytes (xs ++ ys) → IsBytes xs × IsBytes ys
+bytes-split [] ys b = (tt, b)
+bytes-split (x ∷ xs) ys b = let rest = bytes-split xs ys b.1 in ((b.0, rest.0), rest.1)
+
+held_is : (format : Format) (v : List ℕ) → IsValue v → IsBytes (held_text format (held_of format v)) → IsHeld format (held_of format v)
+held_is One v is b = (is, b.1)
+held_is Two v is b = sha256_digest v
+
+entries_are : (format : Format) (es : Entries) (rest : List ℕ) → AllByRecursion (λ p. IsKey p.0 × IsValue p.1) (entries_pairs es) → IsBytes (flat_map (entry_text format) (flat_entries format es) ++ rest) → AllByRecursion (IsFlatEntry format) (flat_entries format es)
+entries_are format (last child) rest all b = tt
+entries_are format (entry child key value more) rest all b =
+    let here = all-back (λ (p : Pair). IsKey p.0 × IsValue p.1) (pairs child) ((key, value) ∷ entries_pairs more) all in
+    let e : FlatEntry = record { child = child_digest child; key = key; held = held_of format value } in
+    let others = flat_map (entry_text format) (flat_entries format more) in
+    let parts : (entry_text format e ++ others) ++ rest ≡ child_text e.child ++ (counted key ++ (held_text format e.held ++ (others ++ rest))) = simp append_assoc in
+    let behind_child = (bytes-split (child_text e.child) (counted key ++ (held_text format e.held ++ (others ++ rest))) (subst IsBytes parts b)).1 in
+    let key_parts = bytes-split (counted key) (held_text format e.held ++ (others ++ rest)) behind_child in
+    let held_parts = bytes-split (held_text format e.held) (others ++ rest) key_parts.1 in
+    (record { child = child_is_digest child; key = here.0.0; key_bytes = key_parts.0.1; held = held_is format value here.0.1 held_parts.0 }, entries_are format more rest here.1 held_parts.1)
+
+-- the flat node at the top of a map's tree, if its text has bytes
+pub flat_is : (format : Format) (l : ℕ) (es : Entries) → IsMst format (node format l es) → IsMap (entries_pairs es) → length (entries_pairs es) ≤ 65535 → IsBytes (spelling (flat format l es)) → IsFlatNode (flat format l es)
+flat_is format l es mst is few b =
+    record {
+      some = omega (arith, mst.1, entries_some format es);
+      few = omega (arith, few, entries_few format es);
+      entries = entries_are format es (child_text (tail_digest es)) is.limits b.1.1.1.1;
+      tail = tail_is_digest es;
+      keys = record { at_layer = entries_at_layer format l es mst.2; rising = entries_rise format es is.ascending };
+    }

@@ -7,3 +7,7 @@ pub mod Reading
 pub mod Seen
 pub mod Gaps
 pub mod Frame
+pub mod Trail
+pub mod Cost
+pub mod Place
+pub mod Collision

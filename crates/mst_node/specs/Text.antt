@@ -52,6 +52,10 @@ entry_text format e = child_text e.child ++ counted e.key ++ held_text format e.
 abbrev pub spelling : FlatNode → List ℕ
 spelling n = version n.format ∷ n.layer ∷ to_be_bytes w16 (length n.entries) ++ flat_map (entry_text n.format) n.entries ++ child_text n.tail
 
+-- the digest of a text
+abbrev pub digest_of : List ℕ → List ℕ
+digest_of text = sha256 text
+
 -- ---- the text of a node of a tree, and its digest
 
 -- the digest of a child's text, or none for an empty gap; the flat entries of a node; the digest of its last child

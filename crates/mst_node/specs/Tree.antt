@@ -56,6 +56,16 @@ abbrev mutual
   entries_pairs (last child) = pairs child
   entries_pairs (entry child key value rest) = pairs child ++ (key, value) ∷ entries_pairs rest
 
+-- the nodes of a tree, each before those below it
+abbrev mutual
+  pub nodes : Tree → List Tree
+  nodes empty = []
+  nodes (node format l es) = node format l es ∷ nodes_below es
+
+  pub nodes_below : Entries → List Tree
+  nodes_below (last child) = nodes child
+  nodes_below (entry child key value rest) = nodes child ++ nodes_below rest
+
 -- how many entries there are
 abbrev pub entry_count : Entries → ℕ
 entry_count (last child) = 0

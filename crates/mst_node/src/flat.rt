@@ -8,11 +8,14 @@ ghost use Rattle.mst_key.specs.Map.{key_cmp};
 ghost use Rattle.mst_node.specs.Text.{child_before};
 ghost use Rattle.mst_node.specs.Grammar.{KeysFit};
 ghost use Rattle.mst_node.specs.Reading.{Gives, node_at, body_at};
+ghost use Rattle.mst_node.specs.Place.{place_of, LiesWithin};
 ghost use Rattle.mst_node.specs.Seen.{seen};
 
 use crate::order::precedes;
+use crate::place::{Place, Span};
 use crate::reading::{EntryBytes, behind, child_of, entry_of};
 use mst_key::{Key, Value};
+use std::cmp::Ordering;
 use std::marker::Model;
 
 /// A flat node: a node with the digests of its children in their place. It is borrowed from the bytes of its text.
@@ -184,5 +187,57 @@ impl<'a> Flat<'a> {
             self.tail()
         };
         child.copied()
+    }
+
+    /// Whether all keys of the node lie in the span. The entries are gone over once, and no key is hashed.
+    pub fn lies_within(&self, span: &Span) -> bool
+        ensures within { IsTrue result ↔ LiesWithin span.now self.now }
+    {
+        let mut rest = self.body;
+        for _ in 0..self.count {
+            let Some((entry, after)) = entry_of(rest) else {
+                unreachable!()
+            };
+            let Ok(key) = Key::new(entry.key) else {
+                unreachable!()
+            };
+            if !span.has(&key) {
+                return false;
+            }
+            rest = after;
+        }
+        true
+    }
+
+    /// Where the key lies in the node, whose span is given. The entries are gone over once, up to the place, and no key is hashed.
+    pub fn locate(&self, key: &Key, span: Span) -> Place
+        ensures place { result ≡ place_of key.now span self.now }
+    {
+        let Span { mut low, high } = span;
+        let mut rest = self.body;
+        for _ in 0..self.count {
+            let Some((entry, after)) = entry_of(rest) else {
+                unreachable!()
+            };
+            let (Ok(at), Ok(value)) = (Key::new(entry.key), Value::new(entry.value)) else {
+                unreachable!()
+            };
+            match key.cmp(&at) {
+                Ordering::Less => {
+                    let span = Span {
+                        low,
+                        high: Some(at),
+                    };
+                    let child = entry.child.copied();
+                    return Place::Gap { child, span };
+                }
+                Ordering::Equal => return Place::Held(value),
+                Ordering::Greater => low = Some(at),
+            }
+            rest = after;
+        }
+        let child = self.tail().copied();
+        let span = Span { low, high };
+        Place::Gap { child, span }
     }
 }

@@ -21,8 +21,8 @@ pub fn empty_digest() -> [u8; 32]
     Sha256::digest(empty.as_slice())
 }
 
-/// Feeds a byte 1 and the digest of a child, or a byte 0 where there is none.
-pub(crate) fn feed_child(hasher: &mut Sha256, child: Option<[u8; 32]>)
+/// Feeds a hasher a byte 1 and the digest of a child, or a byte 0 where there is none, as a child stands in a node's text.
+pub fn feed_child(hasher: &mut Sha256, child: Option<[u8; 32]>)
     ensures fed { (m : List ℕ) → Holds256 hasher.old m → Holds256 hasher.new (m ++ child_text child) }
 {
     match child {
@@ -36,8 +36,8 @@ pub(crate) fn feed_child(hasher: &mut Sha256, child: Option<[u8; 32]>)
     }
 }
 
-/// Feeds bytes behind their number.
-pub(crate) fn feed_counted(hasher: &mut Sha256, bytes: &[u8])
+/// Feeds a hasher bytes behind their number, at most 255, as a key and a value stand in a node's text.
+pub fn feed_counted(hasher: &mut Sha256, bytes: &[u8])
     requires few { length bytes.now ≤ 255 }
     ensures fed { (m : List ℕ) → Holds256 hasher.old m → Holds256 hasher.new (m ++ counted bytes.now) }
 {

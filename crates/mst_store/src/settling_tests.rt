@@ -77,3 +77,30 @@ fn passes_that_met_get_what_both_put(rt: HostRuntime) -> Result<(), Fail> {
     assert!(rt; gets(&mut front[0], &b, &x) && gets(&mut back[1], &a, &x));
     Ok(())
 }
+
+// The root digest of two pairs, put by two passes: the SHA-256 of the 17 bytes 01 00 0002 00 01 61 01 31 00 03 616263 01 78 00.
+const ROOT_OF_BOTH: [u8; 32] = [
+    0xd4, 0xa8, 0xa9, 0xfc, 0x55, 0x05, 0x84, 0x27, 0x16, 0x3b, 0xd8, 0xa1, 0xf0, 0x9c, 0xa5, 0xec,
+    0x54, 0x2d, 0xe1, 0xcd, 0xaf, 0x28, 0xdf, 0x10, 0x0b, 0xe5, 0x47, 0x2e, 0x47, 0xb7, 0x25, 0x03,
+];
+
+#[test]
+fn settled_passes_have_one_version_and_root(rt: HostRuntime) -> Result<(), Fail> {
+    let Ok((store, seats)) = Store::open(rt.alloc(), Shape { rows: 4, passes: 2 }) else {
+        panic!(rt; "no memory")
+    };
+    let Ok(mut passes) = store.deal(rt.alloc(), seats) else {
+        panic!(rt; "no memory")
+    };
+    assert!(rt; passes.len() == 2);
+    let (front, back) = passes.split_at_mut(1);
+    let (abc, x) = (key(&rt, b"abc"), value(&rt, b"x"));
+    let (a, one) = (key(&rt, b"a"), value(&rt, b"1"));
+    assert!(rt; puts(&mut front[0], &abc, &x) && puts(&mut back[0], &a, &one));
+    settle(&mut passes);
+    for pass in passes.iter_mut() {
+        assert!(rt; pass.version() == Ok(2));
+        assert!(rt; pass.root() == Ok(ROOT_OF_BOTH));
+    }
+    Ok(())
+}

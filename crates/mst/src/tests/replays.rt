@@ -1,8 +1,8 @@
 //! Events of a core and their answers.
 use super::outcome_of;
 use crate::command::{Refusal, run_replay};
-use crate::device::bytes::{BytesSink, BytesSource};
 use linked_list_allocator::LocalHeap;
+use mst_script::{BytesSink, BytesSource};
 use std::test::Fail;
 
 const EVENTS: &str = "passes 2

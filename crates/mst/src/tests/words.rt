@@ -7,7 +7,7 @@ const HELP: &str = "A map of short keys to short values, shared by several passe
 Usage: mst <COMMAND>
 
 Commands:
-  run     Answers the lines of standard input, each of them a put or a get of a pass
+  run     Answers the lines of standard input, each of them a command of a pass
   replay  Answers the lines of standard input, each of them an event of the core of pins
   help    Print this message or the help of the given subcommand(s)
 
@@ -15,7 +15,7 @@ Options:
   -h, --help  Print help
 ";
 
-const RUN_HELP: &str = "Answers the lines of standard input, each of them a put or a get of a pass
+const RUN_HELP: &str = "Answers the lines of standard input, each of them a command of a pass
 
 Usage: mst run [OPTIONS]
 

@@ -21,14 +21,13 @@ pub invariant_of-self : goal.invariant_of-self
 invariant_of-self g c =
     let i = c.self.inside in
     let live = c.args.live.now in
-    let is : c.sweep_dead.new.lives ≡ map (swept live) i.lives.items = c.sweep_dead.ensures.swept ∙ ap (map (swept live)) c.deref_mut.ensures.value in
-    let len : length c.sweep_dead.new.lives ≡ length i.lives.items = ap (λ (ls : List Life). length ls) is ∙ length_mapped (swept live) i.lives.items in
-    let lives = written i.lives.len c.sweep_dead.new.lives i.lives.items (omega (arith, len)) in
-    let dead_cap : vec_capacity c.sweep_dead.new.dead ≡ vec_capacity i.dead = c.sweep_dead.ensures.dead_room ∙ c.look_again.ensures.dead_room in
-    let held_cap : vec_capacity c.sweep_dead.new.held ≡ vec_capacity i.held = c.sweep_dead.ensures.room ∙ c.look_again.ensures.held_room in
-    rw lives (elim c.remember.ensures.lists [
-      | inl e ↦ desk_swept _ _ _ _ _ _ _ _ _ c.self.invariant live c.sweep_dead.new.lives c.sweep_dead.new.free c.remember.new.dead.items c.remember.new.held.items c.remember.new.last.items (vec_capacity c.remember.new.dead) (vec_capacity c.remember.new.held)
-          is c.sweep_dead.ensures.free (rw e.1 c.sweep_dead.ensures.dead) (rw e.0 c.sweep_dead.ensures.empty) e.2 (rw e.0 dead_cap) (rw e.1 held_cap)
-      | inr e ↦ desk_forgot _ _ _ _ _ _ _ _ _ c.self.invariant live c.sweep_dead.new.lives c.sweep_dead.new.free c.remember.new.dead.items c.remember.new.held.items c.remember.new.last.items (vec_capacity c.remember.new.dead) (vec_capacity c.remember.new.held)
-          is c.sweep_dead.ensures.free (rw e.0 c.sweep_dead.ensures.dead) (rw e.1 c.sweep_dead.ensures.empty) (rw e.0 held_cap) (rw e.1 dead_cap)
+    let new = c.sweep_dead.new in
+    let is : new.lives ≡ map (swept live) i.lives.items = c.sweep_dead.ensures.swept ∙ ap (map (swept live)) c.deref_mut.ensures.value in
+    let len : length new.lives ≡ length i.lives.items = ap (λ (ls : List Life). length ls) is ∙ length_mapped (swept live) i.lives.items in
+    let lives = written i.lives.len new.lives i.lives.items (omega (arith, len)) in
+    rw lives (elim c.sweep_dead.ensures.lists [
+      | inl e ↦ desk_swept _ _ _ _ _ _ _ _ _ c.self.invariant live new.lives new.free new.dead.items new.held.items new.last.items (vec_capacity new.dead) (vec_capacity new.held)
+          is c.sweep_dead.ensures.free e.1 e.2 e.0 (e.3 ∙ c.look_again.ensures.dead_room) (e.4 ∙ c.look_again.ensures.held_room)
+      | inr e ↦ desk_forgot _ _ _ _ _ _ _ _ _ c.self.invariant live new.lives new.free new.dead.items new.held.items new.last.items (vec_capacity new.dead) (vec_capacity new.held)
+          is c.sweep_dead.ensures.free e.0 e.1 (e.2 ∙ c.look_again.ensures.held_room) (e.3 ∙ c.look_again.ensures.dead_room)
     ])

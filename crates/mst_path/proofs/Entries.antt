@@ -1,0 +1,87 @@
+-- Entries that are written, with one more of them and as the chain of a node.
+use Rattle.std.proofs.Common.{◌≡◌, ℕ, ◌+◌, ◌∷◌, [], List, ◌++◌, length, map, refl, sym, ◌∙◌, ap, arith, append_assoc}
+use Rattle.std.specs.List.{AllByRecursion}
+use Rattle.std.proofs.lemmas.List.{append-nil, map-append, length-map}
+use Rattle.std.proofs.lemmas.Grind.{flat_map-append}
+use Rattle.mst_key.specs.declared.format.Format.TheVariants.{One}
+use Rattle.mst_node.specs.Tree as tree
+use Rattle.mst_node.specs.Text.{child_text, child_digest, counted, flat_entries, tail_digest, spelling, text}
+use Rattle.mst_arena.specs.Content.{Content}
+use Rattle.mst_arena.specs.declared.row.Row.{Row}
+use Rattle.mst_arena.specs.declared.row.Row.TheVariants.{Entry}
+use Rattle.mst_arena.specs.Standing.{Placed, tree_of, entries_of, link_of, first_of, tail_of, count_of, rows_of, chain_rows, used, chain_used, HasRows}
+use Rattle.mst_arena.proofs.Stands.{all-append, all-front, all-back, placed_frame}
+use Rattle.mst_path.specs.Writing.{PlacedEntry, chain_of, link_from, entry_rows, entries_used, flat_of, text_up_to}
+
+-- ---- one more entry
+
+pub link_from-push : (behind : ℕ) (es : List PlacedEntry) (e : PlacedEntry) → link_from behind (es ++ e ∷ []) ≡ link_from (e.at + 1) es
+link_from-push behind [] e = refl
+link_from-push behind (x ∷ es) e = refl
+
+pub entry_rows-push : (behind : ℕ) (es : List PlacedEntry) (e : PlacedEntry) → entry_rows behind (es ++ e ∷ []) ≡ entry_rows (e.at + 1) es ++ (e.at, Entry (link_of e.child) behind e.key e.value) ∷ rows_of One e.child
+entry_rows-push behind [] e = ap (λ (rs : List (ℕ × Row)). (e.at, Entry (link_of e.child) behind e.key e.value) ∷ rs) (append-nil (rows_of One e.child))
+entry_rows-push behind (x ∷ es) e =
+    let more = (e.at, Entry (link_of e.child) behind e.key e.value) ∷ rows_of One e.child in
+    ap (λ (n : ℕ). (x.at, Entry (link_of x.child) n x.key x.value) ∷ rows_of One x.child ++ entry_rows behind (es ++ e ∷ [])) (link_from-push behind es e)
+    ∙ ap (λ (rs : List (ℕ × Row)). (x.at, Entry (link_of x.child) (link_from (e.at + 1) es) x.key x.value) ∷ rs)
+    (ap (λ (rs : List (ℕ × Row)). rows_of One x.child ++ rs) (entry_rows-push behind es e) ∙ sym (append_assoc (rows_of One x.child) (entry_rows (e.at + 1) es) more))
+
+pub entries_used-push : (es : List PlacedEntry) (e : PlacedEntry) → entries_used (es ++ e ∷ []) ≡ entries_used es ++ e.at ∷ used e.child
+entries_used-push [] e = ap (λ (ns : List ℕ). e.at ∷ ns) (append-nil (used e.child))
+entries_used-push (x ∷ es) e =
+    ap (λ (ns : List ℕ). x.at ∷ ns) (ap (λ (ns : List ℕ). used x.child ++ ns) (entries_used-push es e) ∙ sym (append_assoc (used x.child) (entries_used es) (e.at ∷ used e.child)))
+
+pub text_up_to-push : (layer count : ℕ) (es : List PlacedEntry) (e : PlacedEntry) → text_up_to layer count (es ++ e ∷ []) ≡ ((text_up_to layer count es ++ child_text (child_digest (tree_of One e.child))) ++ counted e.key) ++ counted e.value
+text_up_to-push layer count es e = simp (map-append, flat_map-append, append_assoc, append-nil)
+
+-- ---- the rows stay
+
+pub entries_frame : (old new : Content) (behind : ℕ) (es : List PlacedEntry) → AllByRecursion (λ k. new k ≡ old k) (entries_used es) → HasRows old (entry_rows behind es) → HasRows new (entry_rows behind es)
+entries_frame old new behind [] same has = tt
+entries_frame old new behind (e ∷ es) same has = (
+  same.0 ∙ has.0,
+  all-append _ (rows_of One e.child) (entry_rows behind es)
+      (placed_frame One old new e.child (all-front _ (used e.child) (entries_used es) same.1) (all-front _ (rows_of One e.child) (entry_rows behind es) has.1))
+      (entries_frame old new behind es (all-back _ (used e.child) (entries_used es) same.1) (all-back _ (rows_of One e.child) (entry_rows behind es) has.1)),
+)
+
+-- ---- the chain of a node
+
+pub first_chain : (es : List PlacedEntry) (p : Placed) → first_of (chain_of es p) ≡ link_from 0 es
+first_chain [] p = refl
+first_chain (e ∷ es) p = refl
+
+pub tail_chain : (es : List PlacedEntry) (p : Placed) → tail_of (chain_of es p) ≡ link_of p
+tail_chain [] p = refl
+tail_chain (e ∷ es) p = tail_chain es p
+
+pub count_chain : (es : List PlacedEntry) (p : Placed) → count_of (chain_of es p) ≡ length es
+count_chain [] p = refl
+count_chain (e ∷ es) p = omega (arith, count_chain es p)
+
+pub rows_chain : (es : List PlacedEntry) (p : Placed) → chain_rows One (chain_of es p) ≡ entry_rows 0 es ++ rows_of One p
+rows_chain [] p = refl
+rows_chain (e ∷ es) p =
+    ap (λ (n : ℕ). (e.at, Entry (link_of e.child) n e.key e.value) ∷ rows_of One e.child ++ chain_rows One (chain_of es p)) (first_chain es p)
+    ∙ ap (λ (rs : List (ℕ × Row)). (e.at, Entry (link_of e.child) (link_from 0 es) e.key e.value) ∷ rs)
+    (ap (λ (rs : List (ℕ × Row)). rows_of One e.child ++ rs) (rows_chain es p) ∙ sym (append_assoc (rows_of One e.child) (entry_rows 0 es) (rows_of One p)))
+
+pub used_chain : (es : List PlacedEntry) (p : Placed) → chain_used (chain_of es p) ≡ entries_used es ++ used p
+used_chain [] p = refl
+used_chain (e ∷ es) p =
+    ap (λ (ns : List ℕ). e.at ∷ ns) (ap (λ (ns : List ℕ). used e.child ++ ns) (used_chain es p) ∙ sym (append_assoc (used e.child) (entries_used es) (used p)))
+
+flat_chain : (es : List PlacedEntry) (p : Placed) → flat_entries One (entries_of One (chain_of es p)) ≡ map flat_of es
+flat_chain [] p = refl
+flat_chain (e ∷ es) p = ap (λ fs. flat_of e ∷ fs) (flat_chain es p)
+
+tail_digest_chain : (es : List PlacedEntry) (p : Placed) → tail_digest (entries_of One (chain_of es p)) ≡ child_digest (tree_of One p)
+tail_digest_chain [] p = refl
+tail_digest_chain (e ∷ es) p = tail_digest_chain es p
+
+pub text_chain : (layer : ℕ) (es : List PlacedEntry) (p : Placed) → text (tree.node One layer (entries_of One (chain_of es p))) ≡ text_up_to layer (length es) es ++ child_text (child_digest (tree_of One p))
+text_chain layer es p =
+    ap (λ fs. spelling (record { format = One; layer = layer; entries = fs; tail = tail_digest (entries_of One (chain_of es p)) })) (flat_chain es p)
+    ∙ ap (λ d. spelling (record { format = One; layer = layer; entries = map flat_of es; tail = d })) (tail_digest_chain es p)
+    ∙ simp (append_assoc, length-map)

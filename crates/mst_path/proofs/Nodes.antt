@@ -1,0 +1,145 @@
+-- How many rows a tree takes, and what is known of the children of a node.
+use Rattle.std.proofs.Common.{◌≡◌, ℕ, zero, suc, ◌+◌, ◌*◌, ◌<◌, ◌≤◌, ◌==◌, Bool, true, false, cond, List, [], ◌∷◌, ◌++◌, length, map, take, get_or, refl, sym, ◌∙◌, ap, subst, arith, length-append}
+use Rattle.std.proofs.lemmas.List.{length-map, map_more}
+use Rattle.sha2.specs.Sha256.{sha256}
+use Rattle.sha2.proofs.Facts256.{length-sha256}
+use Rattle.mst_key.specs.declared.format.Format.TheVariants.{One}
+use Rattle.mst_key.specs.Layer.{layer_in, digits, zeros_in_front}
+use Rattle.mst_node.specs.Tree.{Tree, empty, node, Entries, last, entry, pairs, entries_pairs, entry_count, IsMst, IsMstEntries}
+use Rattle.mst_node.specs.Shape.{TreeEntry, with_entries, tree_of as tree_of_node, tree_of_child, tree_entry}
+use Rattle.mst_node.specs.declared.node.Node.{Node, out-Node}
+use Rattle.mst_node.specs.declared.node.Entry.{Entry, out-Entry}
+use Rattle.mst_node.proofs.Shapes.{tree_of_out, tree_entry_out}
+use Rattle.mst_arena.specs.Standing.{Placed, none, head, Chain, end, cell, tree_of, entries_of, used, chain_used}
+use Rattle.mst_path.specs.Planting.{node_count, entries_node_count, rows_needed}
+
+-- ---- how many rows
+
+-- the rows of entries and of the trees before them
+abbrev pub entries_needed : List TreeEntry → ℕ
+entries_needed [] = 0
+entries_needed (x ∷ xs) = rows_needed x.child + 1 + entries_needed xs
+
+entries_sum : (xs : List TreeEntry) (t : Tree) → length (entries_pairs (with_entries xs (last t))) + entries_node_count (with_entries xs (last t)) ≡ entries_needed xs + rows_needed t
+entries_sum [] t = omega arith
+entries_sum (x ∷ xs) t =
+    omega (arith, entries_sum xs t, length-append (pairs x.child) ((x.key, x.value) ∷ entries_pairs (with_entries xs (last t))))
+
+pub needed_node : (l : ℕ) (xs : List TreeEntry) (t : Tree) → rows_needed (node One l (with_entries xs (last t))) ≡ 1 + entries_needed xs + rows_needed t
+needed_node l xs t = omega (arith, entries_sum xs t)
+
+pub needed_append : (xs ys : List TreeEntry) → entries_needed (xs ++ ys) ≡ entries_needed xs + entries_needed ys
+needed_append [] ys = omega arith
+needed_append (x ∷ xs) ys = omega (arith, needed_append xs ys)
+
+-- each entry to come takes at least a row
+pub needed_take : (X : Type 0) (f : X → TreeEntry) (xs : List X) (i : ℕ) → i ≤ length xs → entries_needed (map f (take i xs)) + length xs ≤ entries_needed (map f xs) + i
+needed_take X f [] zero h = omega arith
+needed_take X f [] (suc i) h = absurd (omega arith)
+needed_take X f (x ∷ xs) zero h = omega (arith, needed_take X f xs 0 (omega arith))
+needed_take X f (x ∷ xs) (suc i) h = omega (arith, needed_take X f xs i (omega arith))
+
+mutual
+  pub used_count : (p : Placed) → length (used p) ≡ rows_needed (tree_of One p)
+  used_count none = refl
+  used_count (head at l chain) = omega (arith, chain_count chain)
+
+  pub chain_count : (c : Chain) → length (chain_used c) ≡ length (entries_pairs (entries_of One c)) + entries_node_count (entries_of One c)
+  chain_count (end child) = used_count child
+  chain_count (cell at child key value rest) =
+      omega (arith, used_count child, chain_count rest, length-append (used child) (chain_used rest), length-append (pairs (tree_of One child)) ((key, value) ∷ entries_pairs (entries_of One rest)))
+
+-- no more nodes than pairs
+mutual
+  pub nodes_le : (t : Tree) → IsMst One t → node_count t ≤ length (pairs t)
+  nodes_le empty mst = omega arith
+  nodes_le (node f l es) mst = omega (arith, nodes_in l es mst.2, mst.1)
+
+  nodes_in : (l : ℕ) (es : Entries) → IsMstEntries One l es → entries_node_count es + entry_count es ≤ length (entries_pairs es)
+  nodes_in l (last child) mst = omega (arith, nodes_le child mst.1)
+  nodes_in l (entry child key value rest) mst =
+      omega (arith, nodes_le child mst.1, nodes_in l rest mst.3, length-append (pairs child) ((key, value) ∷ entries_pairs rest))
+
+-- ---- layers
+
+zeros_le : (ds : List ℕ) → zeros_in_front ds ≤ length ds
+zeros_le [] = omega arith
+zeros_le (d ∷ ds) = go (d == 0) (zeros_le ds)
+  where
+    go : (t : Bool) → zeros_in_front ds ≤ length ds → cond t (zeros_in_front ds + 1) 0 ≤ suc (length ds)
+    go true h = omega arith
+    go false h = omega arith
+
+digits_length : (bs : List ℕ) → length (digits One bs) ≡ 2 * length bs
+digits_length [] = refl
+digits_length (b ∷ bs) = omega (arith, digits_length bs)
+
+pub layer_le : (key : List ℕ) → layer_in One key ≤ 64
+unfolding layer_in
+layer_le key = omega (arith, zeros_le (digits One (sha256 key)), digits_length (sha256 key), length-sha256 key)
+
+pub layer_of_entries : (l : ℕ) (es : Entries) → 0 < entry_count es → IsMstEntries One l es → l ≤ 64
+layer_of_entries l (last child) some mst = absurd (omega arith)
+layer_of_entries l (entry child key value rest) some mst = omega (arith, layer_le key, mst.2)
+
+entry_count_with : (xs : List TreeEntry) (t : Tree) → entry_count (with_entries xs (last t)) ≡ length xs
+entry_count_with [] t = refl
+entry_count_with (x ∷ xs) t = omega (arith, entry_count_with xs t)
+
+-- ---- a node of the program
+
+mst_child : (A : Type 0) (l : ℕ) (items : List (Entry A)) (i : ℕ) (e : Entry A) (t : Tree) → i < length items → e ≡ get_or items i e → IsMstEntries One l (with_entries (map (tree_entry One) items) (last t)) → IsMst One (tree_entry One e).child
+mst_child A l [] i e t h is mst = absurd (omega arith)
+mst_child A l (d ∷ items) zero e t h is mst = subst (λ (y : Entry A). IsMst One (tree_entry One y).child) (sym is) mst.1
+mst_child A l (d ∷ items) (suc i) e t h is mst = mst_child A l items i e t (omega arith) is mst.3
+
+mst_last : (l : ℕ) (xs : List TreeEntry) (t : Tree) → IsMstEntries One l (with_entries xs (last t)) → IsMst One t
+mst_last l [] t mst = mst.1
+mst_last l (x ∷ xs) t mst = mst_last l xs t mst.3
+
+module _ (A : Type 0) (n : Node A) where
+  abbrev pub items : List (Entry A)
+  items = (out-Node A n).entries.items
+
+  abbrev pub tail : Tree
+  tail = tree_of_child One (out-Node A n).tail
+
+  pub node_out : tree_of_node One n ≡ node One (out-Node A n).layer (with_entries (map (tree_entry One) items) (last tail))
+  node_out = tree_of_out A One n
+
+  pub node_needed : rows_needed (tree_of_node One n) ≡ 1 + entries_needed (map (tree_entry One) items) + rows_needed tail
+  node_needed = ap rows_needed node_out ∙ needed_node (out-Node A n).layer (map (tree_entry One) items) tail
+
+  node_mst : IsMst One (tree_of_node One n) → IsMst One (node One (out-Node A n).layer (with_entries (map (tree_entry One) items) (last tail)))
+  node_mst mst = subst (IsMst One) node_out mst
+
+  pub node_some : IsMst One (tree_of_node One n) → 0 < length items
+  node_some mst =
+      let is = node_mst mst in
+      omega (arith, is.1, entry_count_with (map (tree_entry One) items) tail, length-map {B = TreeEntry} items (tree_entry One))
+
+  pub node_layer : IsMst One (tree_of_node One n) → (out-Node A n).layer ≤ 64
+  node_layer mst =
+      let is = node_mst mst in
+      layer_of_entries (out-Node A n).layer (with_entries (map (tree_entry One) items) (last tail)) is.1 is.2
+
+  pub node_child : (i : ℕ) (e : Entry A) → IsMst One (tree_of_node One n) → i < length items → e ≡ get_or items i e → IsMst One (tree_of_child One (out-Entry A e).child)
+  node_child i e mst h is =
+      subst (λ (x : TreeEntry). IsMst One x.child) (tree_entry_out A One e) (mst_child A (out-Node A n).layer items i e tail h is (node_mst mst).2)
+
+  pub node_last : IsMst One (tree_of_node One n) → IsMst One tail
+  node_last mst = mst_last (out-Node A n).layer (map (tree_entry One) items) tail (node_mst mst).2
+
+  -- the entries up to the next one
+  pub entries_more : (i : ℕ) (e : Entry A) → i < length items → e ≡ get_or items i e → map (tree_entry One) (take (i + 1) items) ≡ map (tree_entry One) (take i items) ++ record { child = tree_of_child One (out-Entry A e).child; key = (out-Entry A e).key; value = (out-Entry A e).value } ∷ []
+  entries_more i e h is =
+      map_more {Y = TreeEntry} (tree_entry One) items i e h
+      ∙ ap (λ (y : Entry A). map (tree_entry One) (take i items) ++ tree_entry One y ∷ []) (sym is)
+      ∙ ap (λ (x : TreeEntry). map (tree_entry One) (take i items) ++ x ∷ []) (tree_entry_out A One e)
+
+  -- how many rows they take
+  pub needed_more : (i : ℕ) (e : Entry A) → i < length items → e ≡ get_or items i e → entries_needed (map (tree_entry One) (take (i + 1) items)) ≡ entries_needed (map (tree_entry One) (take i items)) + rows_needed (tree_of_child One (out-Entry A e).child) + 1
+  needed_more i e h is =
+      ap entries_needed (entries_more i e h is)
+      ∙ needed_append (map (tree_entry One) (take i items)) (record { child = tree_of_child One (out-Entry A e).child; key = (out-Entry A e).key; value = (out-Entry A e).value } ∷ [])
+      ∙ omega arith

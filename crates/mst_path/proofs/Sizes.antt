@@ -1,0 +1,91 @@
+-- A remove makes no more rows new than its tree has.
+use Rattle.std.proofs.Common.{◌≡◌, ℕ, zero, suc, ◌+◌, ◌≤◌, false, List, length, refl, arith, length-append}
+use Rattle.mst_key.specs.declared.format.Format.TheVariants.{One}
+use Rattle.mst_node.specs.Tree.{Tree, empty, node, Entries, last, entry, entry_count}
+use Rattle.mst_node.specs.Trail.{by_order}
+use Rattle.mst_arena.specs.Standing.{Placed, none, head, Chain, end, cell, tree_of, entries_of, used, chain_used}
+use Rattle.mst_path.specs.Paths.{first_child, last_child, with_first, join, tree_remove, entries_remove}
+use Rattle.mst_path.specs.PathsCost.{side_rows, join_node_rows, join_first_rows, join_rows, join_last_rows, remove_rows, entries_remove_rows}
+use Rattle.mst_path.proofs.Meetings.{side_some}
+use Rattle.mst_path.proofs.SplitEqs.{at_order, at_layer, with_first_count}
+
+-- how many rows a tree has
+abbrev mutual
+  pub size : Tree → ℕ
+  size empty = 0
+  size (node g l es) = entries_size es + 1
+
+  pub entries_size : Entries → ℕ
+  entries_size (last child) = size child
+  entries_size (entry child key value rest) = size child + 1 + entries_size rest
+
+mutual
+  pub size_used : (p : Placed) → length (used p) ≡ size (tree_of One p)
+  size_used none = refl
+  size_used (head at l chain) = omega (arith, chain_size chain)
+
+  pub chain_size : (c : Chain) → length (chain_used c) ≡ entries_size (entries_of One c)
+  chain_size (end child) = size_used child
+  chain_size (cell at child key value rest) = omega (arith, size_used child, chain_size rest, length-append (used child) (chain_used rest))
+
+-- ---- the entries of a node, and the tree before or behind them
+
+with_last : (es : Entries) → entry_count es + size (last_child es) ≤ entries_size es
+with_last (last child) = omega arith
+with_last (entry child key value rest) = omega (arith, with_last rest)
+
+counted : (es : Entries) → entry_count es ≤ entries_size es
+counted es = omega (arith, with_last es)
+
+with_first_size : (es : Entries) → entry_count es + size (first_child es) ≤ entries_size es
+with_first_size (last child) = omega arith
+with_first_size (entry child key value rest) = omega (arith, counted rest)
+
+-- ---- join
+
+-- what a join of the last child takes at the most, over a number
+abbrev Takes : ℕ → (Tree → ℕ) → Type 0
+Takes m inner = (b : Tree) → inner b ≤ m + size b
+
+mutual
+  join_node_le : (b : Tree) (n l m : ℕ) (inner : Tree → ℕ) → Takes m inner → join_node_rows n l inner b ≤ n + 1 + m + size b
+  join_node_le empty n l m inner most = omega arith
+  join_node_le (node g j fs) n l m inner most =
+      at_layer (λ r. r ≤ n + 1 + m + (entries_size fs + 1)) j l
+      (n + 1 + inner (node g j fs)) (n + entry_count fs + 1 + inner (first_child fs)) (entry_count fs + 1 + join_first_rows n l inner fs)
+      (λ less. omega (arith, most (node g j fs)))
+      (λ same. omega (arith, most (first_child fs), with_first_size fs))
+      (λ more. omega (arith, join_first_le fs n l m inner most, with_first_size fs))
+
+  join_first_le : (fs : Entries) (n l m : ℕ) (inner : Tree → ℕ) → Takes m inner → join_first_rows n l inner fs ≤ n + 1 + m + size (first_child fs)
+  join_first_le (last child) n l m inner most = join_node_le child n l m inner most
+  join_first_le (entry child key value rest) n l m inner most = join_node_le child n l m inner most
+
+mutual
+  join_le : (a b : Tree) → join_rows a b ≤ size a + size b
+  join_le empty b = omega arith
+  join_le (node g l es) b = omega (arith, join_node_le b (entry_count es) l (size (last_child es)) (join_last_rows es) (join_last_le es), with_last es)
+
+  join_last_le : (es : Entries) (b : Tree) → join_last_rows es b ≤ size (last_child es) + size b
+  join_last_le (last child) b = join_le child b
+  join_last_le (entry child key value rest) b = join_last_le rest b
+
+-- ---- remove
+
+side_le : (n : ℕ) → side_rows n false ≤ n + 1
+side_le zero = omega arith
+side_le (suc n) = omega (arith, side_some (suc n) (omega arith))
+
+mutual
+  pub remove_le : (t : Tree) (k : List ℕ) → remove_rows t k ≤ size t
+  remove_le empty k = omega arith
+  remove_le (node g l es) k = omega (arith, side_le (entry_count (entries_remove es k)), entries_remove_le es k)
+
+  -- the entries that are left, and the rows below
+  entries_remove_le : (es : Entries) (k : List ℕ) → entry_count (entries_remove es k) + entries_remove_rows es k ≤ entries_size es
+  entries_remove_le (last child) k = omega (arith, remove_le child k)
+  entries_remove_le (entry child key value rest) k =
+      at_order (λ r. entry_count (by_order r (entry (tree_remove child k) key value rest) (with_first (join child (first_child rest)) rest) (entry child key value (entries_remove rest k))) + by_order r (remove_rows child k) (join_rows child (first_child rest)) (entries_remove_rows rest k) ≤ size child + 1 + entries_size rest) k key
+      (λ less. omega (arith, remove_le child k, counted rest))
+      (λ same. omega (arith, join_le child (first_child rest), with_first_count rest (join child (first_child rest)), with_first_size rest))
+      (λ more. omega (arith, entries_remove_le rest k))

@@ -1,0 +1,135 @@
+use Rattle.std.proofs.Common.{◌≡◌, ◌+◌, ◌-◌, ℕ, Bool, List, [], ◌∷◌, ◌++◌, IfSome, IsTrue, refl, sym, ◌∙◌, ap, subst, arith}
+use Rattle.mst_key.specs.declared.format.Format.TheVariants.{One}
+use Rattle.mst_arena.specs.Content.{Content}
+use Rattle.mst_arena.specs.Standing.{rows_of, HasRows}
+use Rattle.mst_path.specs.Takes.{KeepsBut, FreeIsBlank}
+use Rattle.mst_path.specs.Moves.{Moves}
+use Rattle.mst_path.specs.Writing.{ahead, IsWritten}
+use Rattle.mst_path.proofs.Copies.{Progress, starts, ends, some_left, steps, next_run, link_is, link_less, row_there, row_old, links_there, links_are, value_there, next_some, one_ahead, row_out, small_link, old_alive, blank_free, blank_taken, blank_ahead}
+use Rattle.mst_path.proofs.copying.move_run.Goals as goal
+
+pub loop-init : goal.loop-init
+loop-init g c = record {
+  writer = c.requires.writer;
+  left = omega arith;
+  node = (refl, refl, refl);
+  room = c.requires.room;
+  few = c.requires.few;
+  same = refl;
+  next = c.requires.blank;
+  free = c.requires.free;
+  progress = λ k. starts _ _ _ _ _ k;
+}
+
+pub overflow_sub-row : goal.overflow_sub-row
+overflow_sub-row g c =
+    let k = c.requires.copying in
+    let p = c.loop.invariant.progress k in
+    let n = some_left _ _ _ _ _ k _ _ _ _ _ p c.loop-test.true in
+    omega (arith, link_is _ _ _ _ _ k _ _ _ _ _ p n)
+
+pub entry-entry-requires : goal.entry-entry-requires
+entry-entry-requires g c =
+    let k = c.requires.copying in
+    let p = c.loop.invariant.progress k in
+    let n = some_left _ _ _ _ _ k _ _ _ _ _ p c.loop-test.true in
+    let there = row_there _ _ _ _ _ k _ _ _ _ _ p n in
+    record { there = links_there _ _ _ _ _ there }
+
+pub root_at-child-requires : goal.root_at-child-requires
+root_at-child-requires g c =
+    let k = c.requires.copying in
+    let p = c.loop.invariant.progress k in
+    let n = some_left _ _ _ _ _ k _ _ _ _ _ p c.loop-test.true in
+    let there = row_there _ _ _ _ _ k _ _ _ _ _ p n in
+    let run = next_run _ _ _ _ _ k _ _ _ _ _ p n in
+    let links = links_are _ c.entry-entry.result _ _ _ _ there c.entry-entry.ensures.value in
+    record { stands = (n.entry.child, sym links.0, subst (λ (x : Content). HasRows x (rows_of One n.entry.child)) (sym (ap g.R.Rows.content c.entry-entry.ensures.same)) run.gaps.0.rows) }
+
+pub move_entry-requires-clause-writer : goal.move_entry-requires-clause-writer
+move_entry-requires-clause-writer g c = c.loop.invariant.writer
+
+pub move_entry-requires-clause-some : goal.move_entry-requires-clause-some
+move_entry-requires-clause-some g c = omega (arith, c.loop.invariant.left, c.requires.left, c.loop-test.true)
+
+pub move_entry-requires-clause-room : goal.move_entry-requires-clause-room
+move_entry-requires-clause-room g c = λ more. omega (arith, c.loop.invariant.room, more)
+
+pub move_entry-requires-clause-few : goal.move_entry-requires-clause-few
+move_entry-requires-clause-few g c = c.loop.invariant.few
+
+pub move_entry-requires-clause-blank : goal.move_entry-requires-clause-blank
+move_entry-requires-clause-blank g c = subst (λ (b : ℕ → Bool). IfSome c.loop.writer.next (λ r. IsTrue (b r))) (sym (ap g.R.Rows.blank (c.root_at-child.ensures.same ∙ c.entry-entry.ensures.same))) c.loop.invariant.next
+
+pub move_entry-requires-clause-child : goal.move_entry-requires-clause-child
+move_entry-requires-clause-child g c =
+    let k = c.requires.copying in
+    let p = c.loop.invariant.progress k in
+    let n = some_left _ _ _ _ _ k _ _ _ _ _ p c.loop-test.true in
+    let there = row_there _ _ _ _ _ k _ _ _ _ _ p n in
+    let run = next_run _ _ _ _ _ k _ _ _ _ _ p n in
+    let links = links_are _ c.entry-entry.result _ _ _ _ there c.entry-entry.ensures.value in
+    let root = c.root_at-child.ensures.root n.entry.child (sym links.0) (subst (λ (x : Content). HasRows x (rows_of One n.entry.child)) (sym (ap g.R.Rows.content c.entry-entry.ensures.same)) run.gaps.0.rows) in
+    omega (arith, root.link, small_link c.loop.desk n.entry.child (λ r i. old_alive c.loop.desk r (run.gaps.0.old r i)) c.loop.invariant.few)
+
+pub move_entry-requires-clause-old : goal.move_entry-requires-clause-old
+move_entry-requires-clause-old g c =
+    let k = c.requires.copying in
+    let p = c.loop.invariant.progress k in
+    let n = some_left _ _ _ _ _ k _ _ _ _ _ p c.loop-test.true in
+    row_old _ _ _ _ _ k _ _ _ _ _ p n
+
+pub loop-preserved : goal.loop-preserved
+loop-preserved g c =
+    let read = c.root_at-child.ensures.same ∙ c.entry-entry.ensures.same in
+    let content : g.R.Rows.content c.root_at-child.new.rows ≡ g.R.Rows.content c.loop.rows = ap g.R.Rows.content read in
+    let moves = c.move_entry.ensures.moves in
+    let blank : g.R.Rows.blank c.move_entry.new.rows ≡ g.R.Rows.blank c.loop.rows = c.move_entry.ensures.blank ∙ ap g.R.Rows.blank read in
+    record {
+      writer = c.move_entry.ensures.writer;
+      left = omega (arith, c.move_entry.ensures.node.2, c.loop.invariant.left);
+      node = (c.move_entry.ensures.node.0 ∙ c.loop.invariant.node.0, c.move_entry.ensures.node.1 ∙ c.loop.invariant.node.1, c.move_entry.ensures.node.3 ∙ c.loop.invariant.node.2);
+      room = omega (arith, moves.room, c.move_entry.ensures.node.2, c.loop.invariant.room, one_ahead c.move_entry.new.writer.next);
+      few = omega (arith, moves.rows, c.loop.invariant.few);
+      same = blank ∙ c.loop.invariant.same;
+      next = subst (λ (b : ℕ → Bool). IfSome c.move_entry.new.writer.next (λ r. IsTrue (b r))) (sym blank)
+          (blank_ahead c.move_entry.new.writer (g.R.Rows.blank c.loop.rows) (blank_taken c.loop.desk c.move_entry.new.desk (ahead c.move_entry.new.writer.next) _ moves (g.R.Rows.blank c.loop.rows) c.loop.invariant.free));
+      free = subst (FreeIsBlank c.move_entry.new.desk.lives) (sym blank) (blank_free c.loop.desk c.move_entry.new.desk (ahead c.move_entry.new.writer.next) _ moves (g.R.Rows.blank c.loop.rows) c.loop.invariant.free);
+      progress = λ k.
+          let p = c.loop.invariant.progress k in
+          let n = some_left _ _ _ _ _ k _ _ _ _ _ p c.loop-test.true in
+          let there = row_there _ _ _ _ _ k _ _ _ _ _ p n in
+          let run = next_run _ _ _ _ _ k _ _ _ _ _ p n in
+          let links = links_are _ c.entry-entry.result _ _ _ _ there c.entry-entry.ensures.value in
+          let next = next_some c.loop.writer.next c.loop.writer.left c.loop.invariant.writer.reserved (omega (arith, c.loop.invariant.left, c.requires.left, c.loop-test.true)) in
+          let child : HasRows (g.R.Rows.content c.entry-entry.new.self) (rows_of One n.entry.child) = subst (λ (x : Content). HasRows x (rows_of One n.entry.child)) (sym (ap g.R.Rows.content c.entry-entry.ensures.same)) run.gaps.0.rows in
+          let root = c.root_at-child.ensures.root n.entry.child (sym links.0) child in
+          let ws = k.ws ++ p.copied.copies in
+          let written = c.move_entry.ensures.written ws n.entry.child next.0 n.entry.value next.1
+          (value_there _ _ _ _ _ (ap (λ (x : Content). x (c.loop.link - 1)) content ∙ there))
+          (subst (λ (x : Content). IsWritten c.loop.writer x ws) (sym content) p.copied.going.written)
+          root
+          (subst (λ (x : Content). HasRows x (rows_of One n.entry.child)) (sym content) run.gaps.0.rows)
+          (row_out c.loop.writer (g.R.Rows.content c.loop.rows) c.loop.desk ws n.entry.child next.0 p.copied.going next.1 run.gaps.0.old) in
+          let less = link_less _ _ _ _ _ k _ _ _ _ _ p n in
+          let stepped = steps _ _ _ _ _ k _ _ _ _ _ p n c.move_entry.new.writer (g.R.Rows.content c.move_entry.new.rows) c.move_entry.new.desk next.0 next.1
+          (subst (λ (r : ℕ). Moves c.loop.desk c.move_entry.new.desk (ahead c.move_entry.new.writer.next) (r ∷ [])) less moves)
+          (subst (λ (x : Content). KeepsBut (ahead c.loop.writer.next) x (g.R.Rows.content c.move_entry.new.rows)) content c.move_entry.ensures.keeps)
+          (subst (λ (key : List ℕ). IsWritten c.move_entry.new.writer (g.R.Rows.content c.move_entry.new.rows) (ws ++ record { at = next.0; child = n.entry.child; key = key; value = n.entry.value } ∷ [])) links.2 written) in
+          subst (λ (l : ℕ). Progress _ _ _ _ _ k (c.loop.counter + 1) c.move_entry.new.writer (g.R.Rows.content c.move_entry.new.rows) c.move_entry.new.desk l) (sym links.1) stepped;
+    }
+
+pub returns-clause-writer : goal.returns-clause-writer
+returns-clause-writer g c = c.loop.invariant.writer
+
+pub returns-clause-copied : goal.returns-clause-copied
+returns-clause-copied g c = λ k. ends _ _ _ _ _ k _ _ _ _ _ (c.loop.invariant.progress k) (omega (arith, c.loop-test.false, c.loop.auto.counter-end))
+
+pub returns-clause-node : goal.returns-clause-node
+returns-clause-node g c = (c.loop.invariant.node.0, c.loop.invariant.node.1, omega (arith, c.loop.invariant.left, c.loop-test.false, c.loop.auto.counter-end), c.loop.invariant.node.2)
+
+pub returns-clause-blank : goal.returns-clause-blank
+returns-clause-blank g c = c.loop.invariant.same
+
+pub returns-clause-next : goal.returns-clause-next
+returns-clause-next g c = c.loop.invariant.next

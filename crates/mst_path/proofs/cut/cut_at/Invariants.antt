@@ -1,0 +1,12 @@
+use Rattle.std.proofs.Common.{◌≡◌, List}
+use Rattle.mst_path.specs.Writing.{PlacedEntry}
+use Rattle.mst_path.specs.Cutting.{EntriesLie}
+use Rattle.mst_path.proofs.Cutting.{Onward}
+use Rattle.mst_path.proofs.cut.cut_at.Given as goal
+
+-- the entries so far are below the key
+abbrev pub invariant-loop-count : goal.invariant-loop-count
+invariant-loop-count g l = record {
+  same : l.rows ≡ l.initial.rows;
+  onward : (es : List PlacedEntry) → EntriesLie (g.R.Rows.content l.initial.rows) l.initial.head es → Onward (g.R.Rows.content l.initial.rows) l.key es l.link l.count l.head.count;
+}

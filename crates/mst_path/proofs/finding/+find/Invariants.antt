@@ -1,0 +1,5 @@
+use Rattle.mst_path.specs.Joining.{height_at}
+use Rattle.mst_path.proofs.finding.+find.Given as goal
+
+abbrev pub decreases-find : goal.decreases-find
+decreases-find g l = height_at (g.R.Rows.content l.rows.now) l.link

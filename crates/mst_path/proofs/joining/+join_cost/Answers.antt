@@ -1,0 +1,38 @@
+use Rattle.std.proofs.Common.{◌≡◌, ◌≤◌, ◌<◌, ◌+◌, sym, ap, subst, arith, rules}
+use Rattle.mst_arena.specs.Content.{Content}
+use Rattle.mst_arena.specs.Lives.{State}
+use Rattle.mst_path.specs.Joining.{TwoTrees, both_rows, height_at}
+use Rattle.mst_path.proofs.Joined.{lower_trees}
+use Rattle.mst_path.proofs.joining.+join_cost.Goals as goal
+
+pub join_cost-inner-requires : goal.join_cost-inner-requires
+join_cost-inner-requires g t c κs within =
+    let s = c.requires.trees.0 in
+    let z = c.requires.trees.1 in
+    let m = c.meet-meeting.result in
+    let met = c.meet-meeting.ensures.met s z in
+    let same = ap g.R.Rows.content c.meet-meeting.ensures.same in
+    let less = lower_trees (g.R.Rows.content c.args.rows.now) s c.args.left c.args.right z m met in
+    let falls = subst (λ (x : Content). height_at x m.left + height_at x m.right < height_at (g.R.Rows.content c.args.rows.now) c.args.left + height_at (g.R.Rows.content c.args.rows.now) c.args.right) (sym same) less in (
+      omega (arith, c.decreases, falls),
+      (search rules, subst (λ (x : Content). (q : State) × (y : TwoTrees x q m.left m.right) × (both_rows y ≤ 65535)) (sym same) (s, met.inner, omega (arith, c.requires.trees.2, met.rows))),
+    )
+
+pub rows-requires : goal.rows-requires
+rows-requires g t c = record { few = omega (arith, c.requires.trees.2, (c.meet-meeting.ensures.met c.requires.trees.0 c.requires.trees.1).rows) }
+
+pub returns-clause-cost : goal.returns-clause-cost
+returns-clause-cost g t c = λ s z.
+    let m = c.meet-meeting.result in
+    let met = c.meet-meeting.ensures.met s z in
+    let inner = subst (λ (x : Content). (q : State) (y : TwoTrees x q m.left m.right) → c.join_cost-inner.result ≡ both_rows y) (ap g.R.Rows.content c.meet-meeting.ensures.same) c.join_cost-inner.ensures.cost s met.inner in
+    omega (arith, inner, c.rows.ensures.rows, met.rows)
+
+pub overflow_add-result : goal.overflow_add-result
+overflow_add-result g t c =
+    let s = c.requires.trees.0 in
+    let z = c.requires.trees.1 in
+    let m = c.meet-meeting.result in
+    let met = c.meet-meeting.ensures.met s z in
+    let inner = subst (λ (x : Content). (q : State) (y : TwoTrees x q m.left m.right) → c.join_cost-inner.result ≡ both_rows y) (ap g.R.Rows.content c.meet-meeting.ensures.same) c.join_cost-inner.ensures.cost s met.inner in
+    omega (arith, inner, c.rows.ensures.rows, met.rows, c.requires.trees.2)

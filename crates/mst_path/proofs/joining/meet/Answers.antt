@@ -1,0 +1,47 @@
+use Rattle.std.proofs.Common.{◌≡◌, ◌∙◌, ◌-◌, Some, IsSome, sym, ap, subst, arith}
+use Rattle.mst_arena.specs.Content.{Content, part_at}
+use Rattle.mst_arena.specs.Row.{head_links, entry_links}
+use Rattle.mst_path.specs.Joining.{Met}
+use Rattle.mst_path.proofs.Opening.{head_there}
+use Rattle.mst_path.proofs.Meetings.{b_node, first_some, first_there, met_higher, met_lower, met_level}
+use Rattle.mst_path.proofs.joining.meet.Goals as goal
+
+pub head-high-requires : goal.head-high-requires
+head-high-requires g c =
+    let t = c.requires.trees.1 in
+    record { there = subst (λ (x : Content). IsSome (part_at head_links x (c.args.right - 1))) (sym (ap g.R.Rows.content c.head-low.ensures.same)) (head_there (g.R.Rows.content c.args.rows.now) t.b c.args.right t.b_at c.requires.right t.b_piece.rows) }
+
+pub returns-then-high-low-clause-met : goal.returns-then-high-low-clause-met
+returns-then-high-low-clause-met g c = λ s t.
+    let read = subst (λ (x : Content). part_at head_links x (c.args.right - 1) ≡ Some c.head-high.result) (ap g.R.Rows.content c.head-low.ensures.same) c.head-high.ensures.value in
+    subst (Met (g.R.Rows.content c.args.rows.now) s c.args.left c.args.right t) (sym c.higher.ensures.is)
+    (met_higher (g.R.Rows.content c.args.rows.now) s c.args.left c.args.right t c.head-low.result c.head-high.result c.requires.left c.requires.right c.head-low.ensures.value read c.if-high-low.true)
+
+pub overflow_sub-high : goal.overflow_sub-high
+overflow_sub-high g c =
+    let s = c.requires.trees.0 in
+    let t = c.requires.trees.1 in
+    let read = subst (λ (x : Content). part_at head_links x (c.args.right - 1) ≡ Some c.head-high.result) (ap g.R.Rows.content c.head-low.ensures.same) c.head-high.ensures.value in
+    omega (arith, first_some (g.R.Rows.content c.args.rows.now) s t.b (c.args.right - 1) c.head-high.result (b_node (g.R.Rows.content c.args.rows.now) s c.args.left c.args.right t c.head-low.result c.head-high.result c.requires.left c.requires.right c.head-low.ensures.value read) t.b_search)
+
+pub entry-first-requires : goal.entry-first-requires
+entry-first-requires g c =
+    let s = c.requires.trees.0 in
+    let t = c.requires.trees.1 in
+    let read = subst (λ (x : Content). part_at head_links x (c.args.right - 1) ≡ Some c.head-high.result) (ap g.R.Rows.content c.head-low.ensures.same) c.head-high.ensures.value in
+    let there = first_there (g.R.Rows.content c.args.rows.now) s t.b (c.args.right - 1) c.head-high.result (b_node (g.R.Rows.content c.args.rows.now) s c.args.left c.args.right t c.head-low.result c.head-high.result c.requires.left c.requires.right c.head-low.ensures.value read) t.b_search in
+    record { there = subst (λ (x : Content). IsSome (part_at entry_links x (c.head-high.result.first - 1))) (sym (ap g.R.Rows.content (c.head-high.ensures.same ∙ c.head-low.ensures.same))) there }
+
+pub returns-then-low-high-clause-met : goal.returns-then-low-high-clause-met
+returns-then-low-high-clause-met g c = λ s t.
+    let read = subst (λ (x : Content). part_at head_links x (c.args.right - 1) ≡ Some c.head-high.result) (ap g.R.Rows.content c.head-low.ensures.same) c.head-high.ensures.value in
+    let first = subst (λ (x : Content). part_at entry_links x (c.head-high.result.first - 1) ≡ Some c.entry-first.result) (ap g.R.Rows.content (c.head-high.ensures.same ∙ c.head-low.ensures.same)) c.entry-first.ensures.value in
+    subst (Met (g.R.Rows.content c.args.rows.now) s c.args.left c.args.right t) (sym c.lower.ensures.is)
+    (met_lower (g.R.Rows.content c.args.rows.now) s c.args.left c.args.right t c.head-low.result c.head-high.result c.requires.left c.requires.right c.head-low.ensures.value read c.entry-first.result first c.if-low-high.true)
+
+pub returns-clause-met : goal.returns-clause-met
+returns-clause-met g c = λ s t.
+    let read = subst (λ (x : Content). part_at head_links x (c.args.right - 1) ≡ Some c.head-high.result) (ap g.R.Rows.content c.head-low.ensures.same) c.head-high.ensures.value in
+    let first = subst (λ (x : Content). part_at entry_links x (c.head-high.result.first - 1) ≡ Some c.entry-first.result) (ap g.R.Rows.content (c.head-high.ensures.same ∙ c.head-low.ensures.same)) c.entry-first.ensures.value in
+    subst (Met (g.R.Rows.content c.args.rows.now) s c.args.left c.args.right t) (sym c.level.ensures.is)
+    (met_level (g.R.Rows.content c.args.rows.now) s c.args.left c.args.right t c.head-low.result c.head-high.result c.requires.left c.requires.right c.head-low.ensures.value read c.entry-first.result first (omega (arith, c.if-high-low.false, c.if-low-high.false)))

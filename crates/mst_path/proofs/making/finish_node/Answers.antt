@@ -1,0 +1,16 @@
+use Rattle.std.proofs.Common.{arith}
+use Rattle.mst_path.proofs.Copies.{small_link}
+use Rattle.mst_path.proofs.Finishing.{at_seam, head_out}
+use Rattle.mst_path.proofs.making.finish_node.Goals as goal
+
+pub finish-requires-clause-tail : goal.finish-requires-clause-tail
+finish-requires-clause-tail g c =
+    let r = c.requires.rest in
+    omega (arith, r.seam_at.link, small_link c.args.desk.now r.seam r.seam_piece.alive c.requires.few)
+
+pub returns-then-parts-eq0-clause-finished : goal.returns-then-parts-eq0-clause-finished
+returns-then-parts-eq0-clause-finished g c = λ r.
+    at_seam c.args.writer (g.R.Rows.content c.args.rows.now) (g.R.Rows.content c.finish.new.rows) c.args.desk.now c.args.parts.now r c.finish.result c.requires.writer c.requires.left c.if-parts-eq0.true
+    (c.finish.ensures.root r.ws r.seam r.going.written r.seam_at)
+    (c.finish.ensures.stands r.ws r.seam r.going.written r.seam_at r.seam_piece.rows (head_out c.args.writer (g.R.Rows.content c.args.rows.now) c.args.desk.now c.args.parts.now r))
+    c.finish.ensures.keeps

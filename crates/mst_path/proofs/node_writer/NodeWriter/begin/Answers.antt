@@ -1,0 +1,21 @@
+use Rattle.std.proofs.Common.{arith}
+use Rattle.mst_path.proofs.Taking.{takes_append, takes_count, takes_small}
+use Rattle.mst_path.proofs.node_writer.NodeWriter.begin.Goals as goal
+
+pub take_row-first-requires : goal.take_row-first-requires
+take_row-first-requires g c = record { room = omega (arith, c.requires.room, takes_count _ _ _ c.take_row-head.ensures.takes) }
+
+pub returns-clause-writer : goal.returns-clause-writer
+returns-clause-writer g c =
+    let both = takes_append _ _ _ _ _ c.take_row-head.ensures.takes c.take_row-first.ensures.takes in
+    let small = takes_small _ _ _ both c.requires.rows in
+    record {
+      low = c.requires.low;
+      some = c.requires.some;
+      few = c.requires.few;
+      small = (small.0, (small.1.0, (small.1.0, tt)));
+      reserved = c.requires.some;
+    }
+
+pub returns-clause-takes : goal.returns-clause-takes
+returns-clause-takes g c = takes_append _ _ _ _ _ c.take_row-head.ensures.takes c.take_row-first.ensures.takes

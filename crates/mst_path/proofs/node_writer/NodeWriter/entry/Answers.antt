@@ -1,0 +1,44 @@
+use Rattle.std.proofs.Common.{◌≡◌, ◌≢◌, ◌+◌, ◌∷◌, [], ℕ, List, Option, Some, sym, ◌∙◌, ap, subst, arith, length-append}
+use Rattle.std.specs.List.{AllByRecursion}
+use Rattle.sha2.specs.Hashers.{Holds256}
+use Rattle.mst_key.specs.declared.format.Format.TheVariants.{One}
+use Rattle.mst_arena.specs.declared.row.Row.TheVariants.{Entry}
+use Rattle.mst_arena.specs.Standing.{rows_of, used, link_of, HasRows}
+use Rattle.mst_arena.proofs.Stands.{all-append, placed_frame, same_of_write}
+use Rattle.mst_path.specs.Writing.{PlacedEntry, link_from, link_to, entry_rows, entries_used}
+use Rattle.mst_path.proofs.Taking.{out_front, out_back, out_flip}
+use Rattle.mst_path.proofs.Entries.{link_from-push, entry_rows-push, text_up_to-push, entries_frame}
+use Rattle.mst_path.proofs.node_writer.NodeWriter.entry.Goals as goal
+use Rattle.mst_path.proofs.node_writer.NodeWriter.entry.Goals.{in-Some-next, in-None}
+
+same_entry : (a b n m : ℕ) (k l v w : List ℕ) → a ≡ b → n ≡ m → k ≡ l → v ≡ w → Some (Entry a n k v) ≡ Some (Entry b m l w)
+same_entry a b n m k l v w ab nm kl vw = cc
+
+pub returns-clause-written : goal.returns-clause-written
+returns-clause-written g c es p r next w root has out =
+    let old = g.R.Rows.content c.args.rows.now in
+    let new = g.R.Rows.content c.write.new.self in
+    let k = c.args.key.now in
+    let v = c.args.value.now in
+    let layer = c.args.self.now.layer in
+    let count = c.args.self.now.count in
+    let e : PlacedEntry = record { at = r; child = p; key = k; value = v } in
+    let row : c.in-Some.row ≡ r = cc (c.in-Some.is, next) in
+    let link : c.match-self-2.next ≡ link_to c.take_next-self.result = elim c.match-self-2.branch [
+      | in-Some-next b ↦ b.next-is ∙ sym (ap link_to b.in-Some-next.is)
+      | in-None b ↦ b.next-is ∙ sym (ap link_to b.in-None.is)
+    ] in
+    let begins : link_from (r + 1) es ≡ c.args.self.now.first + 1 = subst (λ (o : Option ℕ). link_from (link_to o) es ≡ c.args.self.now.first + 1) next w.begins in
+    let before : HasRows old (entry_rows (r + 1) es) = subst (λ (o : Option ℕ). HasRows old (entry_rows (link_to o) es)) next w.rows in
+    let other : (ns : List ℕ) → _ → _ = λ ns o. same_of_write old new c.in-Some.row _ c.write.ensures.writes ns (subst (λ (n : ℕ). AllByRecursion (λ x. x ≢ n) ns) (sym row) (out_flip r ns o)) in
+    let here : new r ≡ Some (Entry (link_of p) (link_to c.take_next-self.result) k v) = ap new (sym row) ∙ c.write.ensures.writes.here ∙ same_entry _ _ _ _ _ _ _ _ root.link link c.copy.ensures.same c.copy-2.ensures.same in
+    let fed = c.feed_counted-2.ensures.fed _ (c.feed_counted.ensures.fed _ (c.feed_root.ensures.fed p _ root w.fed)) in
+    record {
+      counted = omega (arith, w.counted, length-append es (e ∷ []), c.requires.some);
+      begins = link_from-push (link_to c.take_next-self.result) es e ∙ begins;
+      fed = subst (Holds256 c.feed_counted-2.new.hasher) (sym (text_up_to-push layer count es e)) (rw (c.bytes.ensures.bytes, c.bytes-2.ensures.bytes) at fed);
+      rows = subst (HasRows new) (sym (entry_rows-push (link_to c.take_next-self.result) es e))
+          (all-append _ (entry_rows (r + 1) es) ((r, Entry (link_of p) (link_to c.take_next-self.result) k v) ∷ rows_of One p)
+          (entries_frame old new (r + 1) es (other (entries_used es) (out_front r (entries_used es) (used p) out)) before)
+          (here, placed_frame One old new p (other (used p) (out_back r (entries_used es) (used p) out)) has));
+    }

@@ -1,0 +1,31 @@
+use Rattle.std.proofs.Common.{sym, subst, arith}
+use Rattle.mst_path.specs.Takes.{FreeIsBlank}
+use Rattle.mst_path.proofs.Copies.{blank_free, old_alive}
+use Rattle.mst_path.proofs.NewEntry.{sides_stand, on_top}
+use Rattle.mst_path.proofs.putting.put_on_top.Goals as goal
+
+pub split-requires-clause-tree : goal.split-requires-clause-tree
+split-requires-clause-tree g c = (c.requires.tree.0, omega (arith, c.requires.tree.1))
+
+pub put_between-requires-clause-trees : goal.put_between-requires-clause-trees
+put_between-requires-clause-trees g c =
+    let t = c.requires.tree.0 in
+    sides_stand _ _ _ _ _ _ _ _ t.tree.placed _ t.tree.once (λ x i. old_alive c.args.desk.now x (t.tree.piece.old x i)) (c.split.ensures.split t)
+
+pub put_between-requires-clause-room : goal.put_between-requires-clause-room
+put_between-requires-clause-room g c =
+    let r = c.split.ensures.split c.requires.tree.0 in
+    omega (arith, c.requires.tree.1, r.moves.room, r.counted)
+
+pub put_between-requires-clause-few : goal.put_between-requires-clause-few
+put_between-requires-clause-few g c = omega (arith, c.requires.few, (c.split.ensures.split c.requires.tree.0).moves.rows)
+
+pub put_between-requires-clause-free : goal.put_between-requires-clause-free
+put_between-requires-clause-free g c =
+    let r = c.split.ensures.split c.requires.tree.0 in
+    subst (FreeIsBlank c.split.new.desk.lives) (sym c.split.ensures.blank) (blank_free _ _ _ _ r.moves (g.R.Rows.blank c.args.rows.now) c.requires.free)
+
+pub returns-clause-made : goal.returns-clause-made
+returns-clause-made g c t =
+    let r = c.split.ensures.split t in
+    on_top _ _ _ _ _ _ _ _ t.tree.placed _ t.tree.once (λ x i. old_alive c.args.desk.now x (t.tree.piece.old x i)) r _ _ _ _ _ _ (c.put_between.ensures.made (sides_stand _ _ _ _ _ _ _ _ t.tree.placed _ t.tree.once (λ x i. old_alive c.args.desk.now x (t.tree.piece.old x i)) r))

@@ -1,0 +1,44 @@
+use Rattle.std.proofs.Common.{◌≡◌, ◌+◌, ◌∙◌, sym, ap, subst}
+use Rattle.mst_arena.specs.Content.{Content}
+use Rattle.mst_arena.specs.Standing.{Placed, tree_of, link_of, rows_of, HasRows}
+use Rattle.mst_key.specs.declared.format.Format.TheVariants.{One}
+use Rattle.mst_path.specs.Takes.{FreeIsBlank}
+use Rattle.mst_path.specs.Writing.{IsRootOf}
+use Rattle.mst_path.specs.Making.{Grown}
+use Rattle.mst_path.specs.Frames.{Framed, in_frame}
+use Rattle.mst_path.specs.Putting.{TwoStand, in_two, tree_with, with_rows}
+use Rattle.mst_path.proofs.PutFrames.{beside}
+use Rattle.mst_path.proofs.putting.put_value.Goals as goal
+
+pub root_at-lower-requires : goal.root_at-lower-requires
+root_at-lower-requires g c =
+    let t = c.requires.met.0 in
+    record { stands = (t.a, t.a_at, t.a_piece.rows) }
+
+pub root_at-upper-requires : goal.root_at-upper-requires
+root_at-upper-requires g c =
+    let t = c.requires.met.0 in
+    record { stands = subst (λ (x : Content). (p : Placed) × (link_of p ≡ c.args.meeting.now.right) × HasRows x (rows_of One p)) (sym (ap g.R.Rows.content c.root_at-lower.ensures.same)) (t.b, t.b_at, t.b_piece.rows) }
+
+pub close_with-requires-clause-frame : goal.close_with-requires-clause-frame
+close_with-requires-clause-frame g c =
+    let t = c.requires.met.0 in
+    let m = c.args.meeting.now in
+    let same = ap g.R.Rows.content (c.root_at-upper.ensures.same ∙ c.root_at-lower.ensures.same) in
+    let upper = subst (λ (x : Content). (p : Placed) → link_of p ≡ m.right → HasRows x (rows_of One p) → IsRootOf p c.root_at-upper.result) (ap g.R.Rows.content c.root_at-lower.ensures.same) c.root_at-upper.ensures.root t.b t.b_at t.b_piece.rows in
+    let two = beside (g.R.Rows.content c.args.rows.now) c.args.desk.now m.left m.right t c.root_at-lower.result c.root_at-upper.result (c.root_at-lower.ensures.root t.a t.a_at t.a_piece.rows) upper in
+    subst (λ (x : Content). (y : TwoStand x c.args.desk.now c.root_at-lower.result c.root_at-upper.result) × Framed x c.args.desk.now m.frame (in_two y)) (sym same) (two, c.requires.met.1)
+
+pub close_with-requires-clause-free : goal.close_with-requires-clause-free
+close_with-requires-clause-free g c = subst (FreeIsBlank c.args.desk.now.lives) (sym (ap g.R.Rows.blank (c.root_at-upper.ensures.same ∙ c.root_at-lower.ensures.same))) c.requires.free
+
+pub returns-clause-made : goal.returns-clause-made
+returns-clause-made g c = λ t f.
+    let m = c.args.meeting.now in
+    let s = c.args.desk.now in
+    let k = c.args.key.now in
+    let v = c.args.value.now in
+    let same = ap g.R.Rows.content (c.root_at-upper.ensures.same ∙ c.root_at-lower.ensures.same) in
+    let upper = subst (λ (x : Content). (p : Placed) → link_of p ≡ m.right → HasRows x (rows_of One p) → IsRootOf p c.root_at-upper.result) (ap g.R.Rows.content c.root_at-lower.ensures.same) c.root_at-upper.ensures.root t.b t.b_at t.b_piece.rows in
+    let two = beside (g.R.Rows.content c.args.rows.now) s m.left m.right t c.root_at-lower.result c.root_at-upper.result (c.root_at-lower.ensures.root t.a t.a_at t.a_piece.rows) upper in
+    subst (λ (x : Content). (y : TwoStand x s c.root_at-lower.result c.root_at-upper.result) (h : Framed x s m.frame (in_two y)) → Grown x (g.R.Rows.content c.close_with.new.rows) s c.close_with.new.desk (tree_with h k v (tree_of One y.lower) (tree_of One y.upper)) c.close_with.result (λ r. in_two y r + in_frame h r) (with_rows m.frame)) same c.close_with.ensures.made two f

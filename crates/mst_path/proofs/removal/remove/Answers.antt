@@ -1,0 +1,121 @@
+use Rattle.std.proofs.Common.{◌≡◌, ◌∙◌, ◌≤◌, Some, None, sym, ap, subst, arith}
+use Rattle.mst_arena.specs.Content.{Content}
+use Rattle.mst_arena.specs.Lives.{State, free_count}
+use Rattle.mst_path.specs.Making.{Grown}
+use Rattle.mst_path.specs.Removing.{SearchTree, in_tree, without, without_rows}
+use Rattle.mst_path.proofs.Changes.{any_old, search_at}
+use Rattle.mst_path.proofs.Removed.{rises, few_new, cost_found, AfterRemove, after_found, after_none, says}
+use Rattle.mst_path.proofs.removal.remove.Given.{Over}
+use Rattle.mst_path.proofs.removal.remove.Goals as goal
+
+pub find-requires : goal.find-requires
+find-requires g c =
+    let content = g.R.Rows.content c.args.rows.now in
+    let s = c.args.desk.now in
+    let one = c.requires.stands in
+    record { tree = (s, search_at content s c.args.root.now one.0 one.1 one.2, rises content s c.args.root.now one.0 one.1 c.args.key.now) }
+
+-- ---- the key has no value
+
+nothing : (g : Over) (c : goal.After-result-1 g) → AfterRemove (g.R.Rows.content c.args.rows.now) (g.R.Rows.content c.find.new.rows) c.args.desk.now c.args.desk.now c.args.root.now c.args.root.now c.args.key.now
+nothing g c =
+    let content = g.R.Rows.content c.args.rows.now in
+    let one = c.requires.stands in
+    let k = c.args.key.now in
+    let found = says content c.args.desk.now c.args.root.now k one c.find.result c.find.ensures.found in
+    let all = after_none content c.args.desk.now c.args.root.now k one (λ m st. found m st ∙ c.in_default.is) in
+    subst (λ (x : Content). AfterRemove content x c.args.desk.now c.args.desk.now c.args.root.now c.args.root.now k) (sym (ap g.R.Rows.content c.find.ensures.same)) all
+
+pub returns-in_default-clause-stands : goal.returns-in_default-clause-stands
+returns-in_default-clause-stands g c = (nothing g c).stands
+
+pub returns-in_default-clause-value : goal.returns-in_default-clause-value
+returns-in_default-clause-value g c m st =
+    let found = says (g.R.Rows.content c.args.rows.now) c.args.desk.now c.args.root.now c.args.key.now c.requires.stands c.find.result c.find.ensures.found m st in
+    sym (found ∙ c.in_default.is)
+
+pub returns-in_default-clause-cost : goal.returns-in_default-clause-cost
+returns-in_default-clause-cost g c = (nothing g c).counted
+
+pub returns-in_default-clause-taken : goal.returns-in_default-clause-taken
+returns-in_default-clause-taken g c = (nothing g c).taken
+
+pub returns-in_default-clause-killed : goal.returns-in_default-clause-killed
+returns-in_default-clause-killed g c = (nothing g c).killed
+
+-- ---- the room
+
+pub remove_cost-requires : goal.remove_cost-requires
+remove_cost-requires g c =
+    let content = g.R.Rows.content c.args.rows.now in
+    let s = c.args.desk.now in
+    let one = c.requires.stands in
+    let k = c.args.key.now in
+    let few = few_new content s c.args.root.now one.0 one.1 k one.2 c.free-free.ensures.few in
+    record { tree = subst (λ (x : Content). (q : State) × (t : SearchTree x q c.args.root.now.link) × (without_rows t k ≤ 65535)) (sym (ap g.R.Rows.content c.find.ensures.same)) (s, search_at content s c.args.root.now one.0 one.1 one.2, few) }
+
+pub returns-then-remove_cost-free-clause-no_room :
+    goal.returns-then-remove_cost-free-clause-no_room
+returns-then-remove_cost-free-clause-no_room g c m st =
+    let content = g.R.Rows.content c.args.rows.now in
+    let s = c.args.desk.now in
+    let root = c.args.root.now in
+    let k = c.args.key.now in
+    let old = any_old content s root c.requires.stands m st in
+    let found = says content s root k c.requires.stands c.find.result c.find.ensures.found m st ∙ c.in-Some.is in
+    let counted = subst (λ (x : Content). (q : State) (t : SearchTree x q root.link) → c.remove_cost.result ≡ without_rows t k) (ap g.R.Rows.content c.find.ensures.same) c.remove_cost.ensures.cost s (search_at content s root m st old) in
+    omega (arith, counted, cost_found content s root m st k c.in-Some.value found, c.free-free.ensures.count, c.if-remove_cost-free.true)
+
+pub remove_at-new-requires-clause-tree : goal.remove_at-new-requires-clause-tree
+remove_at-new-requires-clause-tree g c =
+    let content = g.R.Rows.content c.args.rows.now in
+    let s = c.args.desk.now in
+    let root = c.args.root.now in
+    let one = c.requires.stands in
+    let k = c.args.key.now in
+    let z = search_at content s root one.0 one.1 one.2 in
+    let counted = subst (λ (x : Content). (q : State) (t : SearchTree x q root.link) → c.remove_cost.result ≡ without_rows t k) (ap g.R.Rows.content c.find.ensures.same) c.remove_cost.ensures.cost s z in
+    subst (λ (x : Content). (t : SearchTree x s root.link) × (without_rows t k ≤ free_count s.lives)) (sym (ap g.R.Rows.content (c.remove_cost.ensures.same ∙ c.find.ensures.same))) (z, omega (arith, counted, c.free-free.ensures.count, c.if-remove_cost-free.false))
+
+-- ---- the key is removed
+
+removed : (g : Over) (c : goal.After-remove_at-new g) → AfterRemove (g.R.Rows.content c.args.rows.now) (g.R.Rows.content c.remove_at-new.new.rows) c.args.desk.now c.remove_at-new.new.desk c.args.root.now c.remove_at-new.result c.args.key.now
+removed g c =
+    let content = g.R.Rows.content c.args.rows.now in
+    let s = c.args.desk.now in
+    let root = c.args.root.now in
+    let k = c.args.key.now in
+    let found = says content s root k c.requires.stands c.find.result c.find.ensures.found in
+    let done = subst (λ (x : Content). (t : SearchTree x s root.link) → Grown x (g.R.Rows.content c.remove_at-new.new.rows) s c.remove_at-new.new.desk (without t k) c.remove_at-new.result (in_tree t) (without_rows t k)) (ap g.R.Rows.content (c.remove_cost.ensures.same ∙ c.find.ensures.same)) c.remove_at-new.ensures.removed in
+    after_found content (g.R.Rows.content c.remove_at-new.new.rows) s c.remove_at-new.new.desk root c.remove_at-new.result k c.requires.stands c.in-Some.value (λ m st. found m st ∙ c.in-Some.is) done
+
+pub returns-clause-stands : goal.returns-clause-stands
+returns-clause-stands g c = (removed g c).stands
+
+pub returns-clause-value : goal.returns-clause-value
+returns-clause-value g c m st =
+    let found = says (g.R.Rows.content c.args.rows.now) c.args.desk.now c.args.root.now c.args.key.now c.requires.stands c.find.result c.find.ensures.found m st in
+    sym (found ∙ c.in-Some.is)
+
+pub returns-clause-written : goal.returns-clause-written
+returns-clause-written g c = (removed g c).written
+
+pub returns-clause-cost : goal.returns-clause-cost
+returns-clause-cost g c = (removed g c).counted
+
+pub returns-clause-taken : goal.returns-clause-taken
+returns-clause-taken g c = (removed g c).taken
+
+pub returns-clause-killed : goal.returns-clause-killed
+returns-clause-killed g c = (removed g c).killed
+
+pub returns-clause-others : goal.returns-clause-others
+returns-clause-others g c = (removed g c).others
+
+pub returns-clause-versions : goal.returns-clause-versions
+returns-clause-versions g c = (removed g c).versions
+
+pub returns-clause-absent : goal.returns-clause-absent
+returns-clause-absent g c m st none =
+    let found = says (g.R.Rows.content c.args.rows.now) c.args.desk.now c.args.root.now c.args.key.now c.requires.stands c.find.result c.find.ensures.found m st ∙ c.in-Some.is in
+    absurd (let no : Some c.in-Some.value ≡ None = sym found ∙ none in cc)

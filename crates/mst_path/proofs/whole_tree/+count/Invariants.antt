@@ -1,0 +1,9 @@
+use Rattle.std.proofs.Common.{◌≡◌, ◌+◌, map, take}
+use Rattle.mst_key.specs.declared.format.Format.TheVariants.{One}
+use Rattle.mst_node.specs.Shape.{tree_entry}
+use Rattle.mst_path.proofs.Nodes.{items, entries_needed}
+use Rattle.mst_path.proofs.whole_tree.+count.Given as goal
+
+-- the rows of the head and of the entries so far
+abbrev pub invariant-rows_of_node-loop-entry : goal.invariant-rows_of_node-loop-entry
+invariant-rows_of_node-loop-entry g l = l.rows ≡ 1 + entries_needed (map (tree_entry One) (take l.entry-index (items g.row.B.Denot l.node)))

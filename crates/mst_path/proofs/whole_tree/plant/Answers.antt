@@ -1,0 +1,81 @@
+use Rattle.std.proofs.Common.{◌≡◌, ◌≤◌, ◌+◌, List, length, option_copied, refl, sym, subst, ap, ◌∙◌, arith}
+use Rattle.mst_key.specs.Map.{Pair}
+use Rattle.mst_key.specs.declared.format.Format.TheVariants.{One}
+use Rattle.mst_node.specs.Tree.{Tree, empty, pairs, IsMst, tree as tree_of_map}
+use Rattle.mst_node.specs.Text.{digest as digest_of}
+use Rattle.mst_node.proofs.Unique.{pairs_tree, tree_mst}
+use Rattle.mst_arena.specs.Content.{Content}
+use Rattle.mst_arena.specs.Standing.{Placed, none, used, Stands}
+use Rattle.mst_arena.specs.declared.row.Root.{Root}
+use Rattle.mst_arena.specs.Lives.{State}
+use Rattle.mst_arena.proofs.Stands.{one_placed}
+use Rattle.mst_path.specs.Takes.{Takes, KeepsBut}
+use Rattle.mst_path.specs.Planting.{rows_needed, node_count, tree_at, IsTreeOf, Planted}
+use Rattle.mst_path.proofs.Taking.{takes_count}
+use Rattle.mst_path.proofs.Nodes.{used_count}
+use Rattle.mst_path.proofs.whole_tree.plant.Goals as goal
+
+-- ---- the tree of a map
+
+few_pairs : (t : Tree) (m : List Pair) → IsTreeOf t m → length (pairs t) ≤ 65535
+few_pairs t m is = omega (arith, ap (λ (u : Tree). length (pairs u)) is.is, ap (λ (n : List Pair). length n) (pairs_tree One m), is.few)
+
+is_mst : (t : Tree) (m : List Pair) → IsTreeOf t m → IsMst One t
+is_mst t m is = subst (IsMst One) (sym is.is) (tree_mst One m)
+
+needed : (t : Tree) (m : List Pair) → IsTreeOf t m → rows_needed t ≡ length m + node_count (tree_of_map One m)
+needed t m is = ap rows_needed is.is ∙ ap (λ (n : List Pair). length n + node_count (tree_of_map One m)) (pairs_tree One m)
+
+-- what stands where a tree was planted is placed as it was planted
+one_planted : (old new : State) (before after : Content) (t : Tree) (at : Root) (m : List Pair) (p : Planted old new before after t at) (s : Stands One after at m) → p.placed ≡ s.tree.placed
+one_planted old new before after t at m p s = one_placed One after p.placed s.tree.placed (sym p.root.link ∙ sym s.tree.at) p.rows s.tree.rows
+
+-- ---- answers
+
+pub returns-in_default-clause-stands : goal.returns-in_default-clause-stands
+returns-in_default-clause-stands g c m map is =
+    let e : empty ≡ tree_of_map One m = sym (ap (λ o. tree_at (option_copied o)) c.in_default.is) ∙ is.is in
+    record {
+      map = map;
+      digest = c.empty_digest.ensures.digest ∙ ap digest_of e;
+      tree = record { placed = none; at = refl; is = e; rows = tt; once = tt };
+    }
+
+pub returns-in_default-clause-count : goal.returns-in_default-clause-count
+returns-in_default-clause-count g c m is =
+    let gone = ap (λ o. rows_needed (tree_at (option_copied o))) c.in_default.is in
+    omega (arith, gone, needed _ m is)
+
+pub rows_of_node-requires-clause-few : goal.rows_of_node-requires-clause-few
+rows_of_node-requires-clause-few g c =
+    let is = c.requires.tree in
+    few_pairs _ is.0 (subst (λ o. IsTreeOf (tree_at (option_copied o)) is.0) c.in-Some.is is.1)
+
+pub rows_of_node-requires-clause-tree : goal.rows_of_node-requires-clause-tree
+rows_of_node-requires-clause-tree g c =
+    let is = c.requires.tree in
+    is_mst _ is.0 (subst (λ o. IsTreeOf (tree_at (option_copied o)) is.0) c.in-Some.is is.1)
+
+pub returns-then-rows_of_node-free-clause-no_room : goal.returns-then-rows_of_node-free-clause-no_room
+returns-then-rows_of_node-free-clause-no_room g c m is =
+    let same = subst (λ o. IsTreeOf (tree_at (option_copied o)) m) c.in-Some.is is in
+    omega (arith, needed _ m same, c.rows_of_node.ensures.rows, c.free.ensures.count)
+
+pub plant_node-requires-clause-tree : goal.plant_node-requires-clause-tree
+plant_node-requires-clause-tree g c =
+    let is = c.requires.tree in
+    is_mst _ is.0 (subst (λ o. IsTreeOf (tree_at (option_copied o)) is.0) c.in-Some.is is.1)
+
+pub returns-clause-takes : goal.returns-clause-takes
+returns-clause-takes g c m s =
+    subst (λ (p : Placed). Takes c.args.desk.now c.plant_node.new.desk (used p)) (one_planted _ _ _ _ _ _ m c.plant_node.ensures.planted s) c.plant_node.ensures.planted.takes
+
+pub returns-clause-keeps : goal.returns-clause-keeps
+returns-clause-keeps g c m s =
+    subst (λ (p : Placed). KeepsBut (used p) (g.R.Rows.content c.args.rows.now) (g.R.Rows.content c.plant_node.new.rows)) (one_planted _ _ _ _ _ _ m c.plant_node.ensures.planted s) c.plant_node.ensures.planted.keeps
+
+pub returns-clause-count : goal.returns-clause-count
+returns-clause-count g c m is =
+    let same = subst (λ o. IsTreeOf (tree_at (option_copied o)) m) c.in-Some.is is in
+    let p = c.plant_node.ensures.planted in
+    omega (arith, takes_count _ _ _ p.takes, used_count p.placed, ap rows_needed p.is, needed _ m same)

@@ -1,0 +1,57 @@
+-- The entries of a node in their rows, cut at a key.
+use Rattle.std.specs.Prelude.{◌≡◌, ℕ, ◌+◌, List, [], ◌∷◌, ◌++◌, length}
+use Rattle.mst_key.specs.declared.format.Format.TheVariants.{One}
+use Rattle.mst_arena.specs.Content.{Content}
+use Rattle.mst_arena.specs.declared.row.HeadLinks.{HeadLinks}
+use Rattle.mst_arena.specs.Standing.{Placed, link_of, tree_of, HasRows}
+use Rattle.mst_path.specs.declared.making.Run.{Run}
+use Rattle.mst_path.specs.declared.cut.Cut.{Cut}
+use Rattle.mst_path.specs.declared.cut.Cut.TheVariants.{Gap, Held}
+use Rattle.mst_path.specs.PathsCuts.{IsGap, IsAt}
+use Rattle.mst_path.specs.Runs.{own_rows}
+use Rattle.mst_path.specs.Writing.{PlacedEntry, link_from}
+use Rattle.mst_path.specs.Making.{cells_of, entries_to}
+
+-- these are the entries behind a head: their rows are in the content
+pub record EntriesLie (content : Content) (links : HeadLinks) (es : List PlacedEntry) : Type 0 where
+  pub first : link_from 0 es ≡ links.first
+  pub count : length es ≡ links.count
+  pub rows : HasRows content (own_rows 0 es)
+
+-- the tree in the gap before these entries, or in the last gap
+abbrev pub gap_before : List PlacedEntry → Placed → Placed
+gap_before [] tail = tail
+gap_before (e ∷ es) tail = e.child
+
+-- the run has these entries, up to the link behind them
+pub record IsRunOf (run : Run) (behind : ℕ) (es : List PlacedEntry) : Type 0 where
+  pub counted : length es ≡ run.count
+  pub begins : link_from behind es ≡ run.first
+
+-- the key falls into the gap between two parts of the entries, in which the tree at the link stands
+pub record CutGap (k : List ℕ) (es : List PlacedEntry) (tail : Placed) (front : Run) (child : ℕ) (back : Run) : Type 0 where
+  pub before : List PlacedEntry
+  pub behind : List PlacedEntry
+  pub whole : es ≡ before ++ behind
+  pub front_is : IsRunOf front (link_from 0 behind) before
+  pub back_is : IsRunOf back 0 behind
+  pub child_at : link_of (gap_before behind tail) ≡ child
+  pub gap : IsGap k (entries_to es tail) (cells_of before) (entries_to behind tail)
+
+-- the key's entry stands in the row between two parts of the entries, behind the tree at the link
+pub record CutHeld (k : List ℕ) (es : List PlacedEntry) (tail : Placed) (front : Run) (row child : ℕ) (back : Run) : Type 0 where
+  pub before : List PlacedEntry
+  pub here : PlacedEntry
+  pub behind : List PlacedEntry
+  pub whole : es ≡ before ++ here ∷ behind
+  pub front_is : IsRunOf front (row + 1) before
+  pub back_is : IsRunOf back 0 behind
+  pub row_is : here.at ≡ row
+  pub key_is : here.key ≡ k
+  pub child_at : link_of here.child ≡ child
+  pub at : IsAt k (entries_to es tail) (cells_of before) (tree_of One here.child) here.value (entries_to behind tail)
+
+-- a cut of the entries at the key
+abbrev pub IsCut : List ℕ → List PlacedEntry → Placed → Cut → Type 0
+IsCut k es tail (Gap front child back) = CutGap k es tail front child back
+IsCut k es tail (Held front row child back) = CutHeld k es tail front row child back

@@ -1,0 +1,81 @@
+-- Two trees that stand and are to be joined, and what is left of them round the gap in which they meet.
+use Rattle.std.specs.Prelude.{◌≡◌, ◌≤◌, ◌<◌, ◌+◌, ◌-◌, ℕ, zero, suc, Some, None}
+use Rattle.std.specs.Option.{option_map_or}
+use Rattle.mst_key.specs.declared.format.Format.TheVariants.{One}
+use Rattle.mst_node.specs.Tree.{Tree, empty, node, IsMst}
+use Rattle.mst_arena.specs.Content.{Content, part_at}
+use Rattle.mst_arena.specs.Row.{head_links}
+use Rattle.mst_arena.specs.Lives.{State}
+use Rattle.mst_arena.specs.declared.row.HeadLinks.{HeadLinks}
+use Rattle.mst_arena.specs.Lists.{times}
+use Rattle.mst_arena.specs.Standing.{Placed, tree_of, link_of, used}
+use Rattle.mst_path.specs.declared.joining.Meeting.{Meeting}
+use Rattle.mst_path.specs.Paths.{join}
+use Rattle.mst_path.specs.PathsCost.{join_rows}
+use Rattle.mst_path.specs.Runs.{OldPiece}
+use Rattle.mst_path.specs.Frames.{Framed, in_frame, tree_round, frame_rows}
+
+-- Two search trees of the current version stand at the links, and no row is in both of them or twice in one.
+pub record TwoTrees (content : Content) (s : State) (left right : ℕ) : Type 0 where
+  pub a : Placed
+  pub b : Placed
+  pub a_at : link_of a ≡ left
+  pub b_at : link_of b ≡ right
+  pub a_piece : OldPiece content s a
+  pub b_piece : OldPiece content s b
+  pub a_search : IsMst One (tree_of One a)
+  pub b_search : IsMst One (tree_of One b)
+  pub once : (x : ℕ) → times x (used a) + times x (used b) ≤ 1
+
+-- how often a row stands in them
+abbrev pub in_both : {content : Content} {s : State} {left right : ℕ} → TwoTrees content s left right → ℕ → ℕ
+in_both t x = times x (used t.a) + times x (used t.b)
+
+-- the tree of both, and the rows of the nodes that are made new
+abbrev pub both_joined : {content : Content} {s : State} {left right : ℕ} → TwoTrees content s left right → Tree
+both_joined t = join (tree_of One t.a) (tree_of One t.b)
+
+abbrev pub both_rows : {content : Content} {s : State} {left right : ℕ} → TwoTrees content s left right → ℕ
+both_rows t = join_rows (tree_of One t.a) (tree_of One t.b)
+
+-- how many layers there may be in a tree, and in the one at a link by its head
+abbrev pub height : Tree → ℕ
+height empty = 0
+height (node g l es) = l + 1
+
+abbrev pub height_at : Content → ℕ → ℕ
+height_at content zero = 0
+height_at content (suc row) = option_map_or (λ h. h.layer + 1) (part_at head_links content row) 0
+
+-- The trees that meet, and the frame round them: their join in the frame's gap makes the join of the two.
+pub record Met (content : Content) (s : State) (left right : ℕ) (t : TwoTrees content s left right) (m : Meeting) : Type 0 where
+  pub inner : TwoTrees content s m.left m.right
+  pub framed : Framed content s m.frame (in_both inner)
+  pub is : both_joined t ≡ tree_round framed (both_joined inner)
+  pub rows : both_rows t ≡ both_rows inner + frame_rows m.frame
+  pub given : (x : ℕ) → in_both t x ≡ in_both inner x + in_frame framed x
+  pub falls : height (tree_of One inner.a) + height (tree_of One inner.b) < height (tree_of One t.a) + height (tree_of One t.b)
+  pub low : m.frame.layer ≤ 64
+
+-- ---- where they meet, by the layers of their nodes
+
+abbrev pub above_right : ℕ → ℕ → HeadLinks → Meeting
+above_right left right low = record {
+  left = low.tail;
+  right = right;
+  frame = record { layer = low.layer; front = record { first = low.first; count = low.count }; back = record { first = 0; count = 0 }; tail = 0; head = left - 1; other = None };
+}
+
+abbrev pub below_right : ℕ → ℕ → HeadLinks → ℕ → Meeting
+below_right left right high child = record {
+  left = left;
+  right = child;
+  frame = record { layer = high.layer; front = record { first = 0; count = 0 }; back = record { first = high.first; count = high.count }; tail = high.tail; head = right - 1; other = None };
+}
+
+abbrev pub beside_right : ℕ → ℕ → HeadLinks → HeadLinks → ℕ → Meeting
+beside_right left right low high child = record {
+  left = low.tail;
+  right = child;
+  frame = record { layer = low.layer; front = record { first = low.first; count = low.count }; back = record { first = high.first; count = high.count }; tail = high.tail; head = left - 1; other = Some (right - 1) };
+}

@@ -1,0 +1,102 @@
+//! Entries of a node, copied into a node that is being written.
+ghost use Rattle.std.specs.Prelude.{◌≡◌, ◌≤◌, ◌<◌, ◌+◌, ℕ, List, [], ◌∷◌, ◌++◌, length, Some, IfSome, IsTrue, IsSome};
+ghost use Rattle.mst_key.specs.declared.format.Format.TheVariants.{One};
+ghost use Rattle.mst_arena.specs.Lives.{free_count};
+ghost use Rattle.mst_arena.specs.Content.{part_at};
+ghost use Rattle.mst_arena.specs.Row.{entry_value};
+ghost use Rattle.mst_arena.specs.Standing.{Placed, link_of, rows_of, used, HasRows};
+ghost use Rattle.mst_path.specs.Takes.{IsOut, KeepsBut, FreeIsBlank};
+ghost use Rattle.mst_path.specs.Writing.{PlacedEntry, entries_used, IsRootOf, ahead, IsWriter, IsWritten};
+ghost use Rattle.mst_path.specs.Moves.{IsOld, Moves};
+ghost use Rattle.mst_path.specs.Copying.{Copying, Copied};
+
+use crate::node_writer::NodeWriter;
+use mst_arena::{Desk, Root, Rows};
+use mst_key::Key;
+use mst_node::empty_digest;
+use std::alloc::Allocator;
+
+/// Where the tree at a link stands, and its digest. It reads one row.
+pub(crate) fn root_at<R: Rows>(rows: &mut R, link: u32) -> Root
+    requires stands { (p : Placed) × (link_of p ≡ link) × HasRows (R.content rows.old) (rows_of One p) }
+    ensures root { (p : Placed) → link_of p ≡ link → HasRows (R.content rows.old) (rows_of One p) → IsRootOf p result }
+    ensures same { rows.new ≡ rows.old }
+{
+    if link == 0 {
+        return Root {
+            link,
+            digest: empty_digest(),
+        };
+    }
+    Root {
+        link,
+        digest: rows.digest(link - 1),
+    }
+}
+
+/// Moves the entry in a row into the node, with a tree in the gap before it: it is written anew, and the row dies.
+pub(crate) fn move_entry<R: Rows, A: Allocator>(
+    rows: &mut R,
+    desk: &mut Desk<A>,
+    writer: &mut NodeWriter,
+    row: u32,
+    key: &Key,
+    child: &Root,
+)
+    requires writer { IsWriter writer.old }
+    requires some { 0 < writer.old.left }
+    requires room { 1 < writer.old.left → 0 < free_count desk.old.lives }
+    requires few { length desk.old.lives ≤ 65535 }
+    requires blank { IfSome writer.old.next (λ r. IsTrue (R.blank rows.old r)) }
+    requires child { child.now.link ≤ 65535 }
+    requires value { IsSome (part_at entry_value (R.content rows.old) row) }
+    requires old { IsOld desk.old row }
+    ensures writer { IsWriter writer.new }
+    ensures written { (es : List PlacedEntry) (p : Placed) (r : ℕ) (v : List ℕ) → writer.old.next ≡ Some r
+        → part_at entry_value (R.content rows.old) row ≡ Some v
+        → IsWritten writer.old (R.content rows.old) es
+        → IsRootOf p child.now → HasRows (R.content rows.old) (rows_of One p)
+        → IsOut r (entries_used es ++ used p)
+        → IsWritten writer.new (R.content rows.new) (es ++ record { at = r; child = p; key = key.now; value = v } ∷ []) }
+    ensures node { (writer.new.layer ≡ writer.old.layer) × (writer.new.count ≡ writer.old.count) × (writer.new.left + 1 ≡ writer.old.left) × (writer.new.head ≡ writer.old.head) }
+    ensures moves { Moves desk.old desk.new (ahead writer.new.next) (row ∷ []) }
+    ensures keeps { KeepsBut (ahead writer.old.next) (R.content rows.old) (R.content rows.new) }
+    ensures blank { R.blank rows.new ≡ R.blank rows.old }
+{
+    let value = rows.value(row);
+    writer.entry(rows, desk, child, key, &value);
+    desk.kill(row);
+}
+
+/// Moves so many entries from a link on into the node, each with the tree in the gap before it. It answers the link behind them.
+pub(crate) fn move_run<R: Rows, A: Allocator>(
+    rows: &mut R,
+    desk: &mut Desk<A>,
+    writer: &mut NodeWriter,
+    from: u32,
+    count: u32,
+) -> u32
+    requires copying { Copying writer.old (R.content rows.old) desk.old from count }
+    requires writer { IsWriter writer.old }
+    requires left { count ≤ writer.old.left }
+    requires room { writer.old.left ≤ free_count desk.old.lives + 1 }
+    requires few { length desk.old.lives ≤ 65535 }
+    requires blank { IfSome writer.old.next (λ r. IsTrue (R.blank rows.old r)) }
+    requires free { FreeIsBlank desk.old.lives (R.blank rows.old) }
+    ensures writer { IsWriter writer.new }
+    ensures copied { (k : Copying writer.old (R.content rows.old) desk.old from count)
+        → (result ≡ k.behind) × Copied writer.old writer.new (R.content rows.old) (R.content rows.new) desk.old desk.new k.ws k.es }
+    ensures node { (writer.new.layer ≡ writer.old.layer) × (writer.new.count ≡ writer.old.count) × (writer.new.left + count ≡ writer.old.left) × (writer.new.head ≡ writer.old.head) }
+    ensures blank { R.blank rows.new ≡ R.blank rows.old }
+    ensures next { IfSome writer.new.next (λ r. IsTrue (R.blank rows.new r)) }
+{
+    let mut link = from;
+    for _ in 0..count {
+        let row = link - 1;
+        let entry = rows.entry(row);
+        let child = root_at(rows, entry.child);
+        move_entry(rows, desk, writer, row, &entry.key, &child);
+        link = entry.next;
+    }
+    link
+}

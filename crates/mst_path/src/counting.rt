@@ -1,0 +1,112 @@
+//! How many rows a put takes, counted along its path before anything is written.
+ghost use Rattle.std.specs.Prelude.{◌≡◌, ◌≤◌, ◌+◌, ◌==◌, ◌&&◌, ◌||◌, ℕ, List};
+ghost use Rattle.mst_key.specs.declared.format.Format.TheVariants.{One};
+ghost use Rattle.mst_key.specs.Layer.{layer_in};
+ghost use Rattle.mst_arena.specs.Lives.{State};
+ghost use Rattle.mst_arena.specs.Standing.{tree_of};
+ghost use Rattle.mst_path.specs.Paths.{below, above};
+ghost use Rattle.mst_path.specs.PathsCost.{is_empty, side_rows, split_rows};
+ghost use Rattle.mst_path.specs.Splitting.{ToSplit};
+ghost use Rattle.mst_path.specs.Putting.{RisingTree, pair_rows, with_rows};
+
+use crate::frames::Frame;
+use crate::putting::{PutStep, put_step};
+use crate::removing::{Step, top_step};
+use mst_arena::Rows;
+use mst_key::Key;
+
+/// What a split of a tree makes.
+#[derive(Clone, Copy)]
+pub(crate) struct SplitCost {
+    /// How many rows it takes.
+    pub(crate) rows: u32,
+    /// Whether nothing is below the key.
+    pub(crate) none_below: bool,
+    /// Whether nothing is above the key.
+    pub(crate) none_above: bool,
+}
+
+/// Whether one side of a node that is split is no tree: it has no entry, and no tree in the gap.
+fn is_no_side(count: u32, none_inside: bool) -> bool
+    ensures none { result ≡ ((count == 0) && none_inside) }
+{
+    count == 0 && none_inside
+}
+
+/// Whether one side of a node that is split is no new node: it has no entry, or is the whole node.
+fn is_no_node(count: u32, whole: bool) -> bool
+    ensures none { result ≡ ((count == 0) || whole) }
+{
+    count == 0 || whole
+}
+
+/// How many rows one side of a node that is split takes.
+fn side_cost(count: u32, whole: bool) -> u32
+    requires few { side_rows count whole ≤ 4294967295 }
+    ensures rows { result ≡ side_rows count whole }
+{
+    if is_no_node(count, whole) {
+        0
+    } else {
+        count + 1
+    }
+}
+
+/// How many rows a node of the frame with a new entry takes.
+fn rows_with_entry(frame: &Frame) -> u32
+    requires few { with_rows frame.now ≤ 4294967295 }
+    ensures rows { result ≡ with_rows frame.now }
+{
+    frame.front.count + frame.back.count + 2
+}
+
+/// How many rows a split takes. It reads along its path alone.
+pub(crate) fn split_cost<R: Rows>(rows: &mut R, link: u32, key: &Key) -> SplitCost
+    requires tree { (s : State) × (t : ToSplit (R.content rows.old) s link key.now) × (split_rows key.now (tree_of One t.tree.placed) ≤ 4294967295) }
+    ensures rows { (s : State) (t : ToSplit (R.content rows.old) s link key.now) → result.rows ≡ split_rows key.now (tree_of One t.tree.placed) }
+    ensures below { (s : State) (t : ToSplit (R.content rows.old) s link key.now) → result.none_below ≡ is_empty (below key.now (tree_of One t.tree.placed)) }
+    ensures above { (s : State) (t : ToSplit (R.content rows.old) s link key.now) → result.none_above ≡ is_empty (above key.now (tree_of One t.tree.placed)) }
+    ensures same { rows.new ≡ rows.old }
+{
+    if link == 0 {
+        return SplitCost {
+            rows: 0,
+            none_below: true,
+            none_above: true,
+        };
+    }
+    let Step::Down { child, frame } = top_step(rows, link, key) else {
+        unreachable!()
+    };
+    let inner = split_cost(rows, child, key);
+    let none_below = is_no_side(frame.front.count, inner.none_below);
+    let none_above = is_no_side(frame.back.count, inner.none_above);
+    let lower = side_cost(frame.front.count, none_above);
+    let upper = side_cost(frame.back.count, none_below);
+    SplitCost {
+        rows: lower + upper + inner.rows,
+        none_below,
+        none_above,
+    }
+}
+
+/// How many rows a put takes of a key that has this layer, where the value is not the one that the key has. It reads along its path alone.
+pub(crate) fn put_cost<R: Rows>(rows: &mut R, link: u32, layer: u8, key: &Key) -> u32
+    requires tree { (s : State) × (t : RisingTree (R.content rows.old) s link) × (v : List ℕ) × (pair_rows t layer key.now v ≤ 4294967295) }
+    requires layer { layer ≡ layer_in One key.now }
+    ensures cost { (s : State) (t : RisingTree (R.content rows.old) s link) (v : List ℕ) → result ≡ pair_rows t layer key.now v }
+    ensures same { rows.new ≡ rows.old }
+{
+    match put_step(rows, link, layer, key) {
+        PutStep::OnTop => split_cost(rows, link, key).rows + 2,
+        PutStep::Down { child, frame } => {
+            let inner = put_cost(rows, child, layer, key);
+            inner + frame.rows()
+        }
+        PutStep::Between { child, frame } => {
+            let split = split_cost(rows, child, key);
+            split.rows + rows_with_entry(&frame)
+        }
+        PutStep::Anew { meeting } => rows_with_entry(&meeting.frame),
+    }
+}

@@ -1,0 +1,85 @@
+//! Where a key stands among the entries of a node.
+ghost use Rattle.std.specs.Prelude.{◌≡◌, List};
+ghost use Rattle.mst_arena.specs.Standing.{Placed, link_of};
+ghost use Rattle.mst_path.specs.Writing.{PlacedEntry};
+ghost use Rattle.mst_path.specs.Cutting.{EntriesLie, IsCut};
+
+use crate::making::Run;
+use mst_arena::{HeadLinks, Rows};
+use mst_key::Key;
+use std::cmp::Ordering;
+
+/// The entries of a node, cut at a key.
+#[derive(Clone, Copy)]
+pub(crate) enum Cut {
+    /// The key falls into the gap between the front and the back.
+    Gap {
+        /// The entries below the key.
+        front: Run,
+        /// The link of the tree in the gap.
+        child: u32,
+        /// The entries above the key.
+        back: Run,
+    },
+    /// The key has an entry between the front and the back.
+    Held {
+        /// The entries below the key.
+        front: Run,
+        /// The row of the key's entry.
+        row: u32,
+        /// The link of the tree in the gap before it.
+        child: u32,
+        /// The entries above the key.
+        back: Run,
+    },
+}
+
+/// Cuts the entries of a node at a key. It reads the entries with keys up to the first that is not below the key.
+pub(crate) fn cut_at<R: Rows>(rows: &mut R, head: &HeadLinks, key: &Key) -> Cut
+    requires lies { (es : List PlacedEntry) × EntriesLie (R.content rows.old) head.now es }
+    ensures cut { (es : List PlacedEntry) (tail : Placed) → EntriesLie (R.content rows.old) head.now es
+        → link_of tail ≡ head.now.tail → IsCut key.now es tail result }
+    ensures same { rows.new ≡ rows.old }
+{
+    let first = head.first;
+    let mut link = first;
+    for count in 0..head.count {
+        let row = link - 1;
+        let entry = rows.entry(row);
+        match key.cmp(&entry.key) {
+            Ordering::Less => {
+                return Cut::Gap {
+                    front: Run { first, count },
+                    child: entry.child,
+                    back: Run {
+                        first: link,
+                        count: head.count - count,
+                    },
+                };
+            }
+            Ordering::Equal => {
+                return Cut::Held {
+                    front: Run { first, count },
+                    row,
+                    child: entry.child,
+                    back: Run {
+                        first: entry.next,
+                        count: head.count - count - 1,
+                    },
+                };
+            }
+            Ordering::Greater => link = entry.next,
+        }
+    }
+    Cut::Gap {
+        front: Run {
+            first,
+            count: head.count,
+        },
+        child: head.tail,
+        back: Run {
+            first: link,
+            count: 0,
+        },
+    }
+}

@@ -1,0 +1,29 @@
+//! The value of a key in a tree that stands.
+ghost use Rattle.std.specs.Prelude.{◌≡◌, ◌<◌};
+ghost use Rattle.mst_key.specs.Map.{IsAscending, look};
+ghost use Rattle.mst_key.specs.declared.format.Format.TheVariants.{One};
+ghost use Rattle.mst_node.specs.Tree.{pairs};
+ghost use Rattle.mst_arena.specs.Lives.{State};
+ghost use Rattle.mst_arena.specs.Standing.{tree_of};
+ghost use Rattle.mst_path.specs.Removing.{SearchTree};
+
+use crate::cut::{Cut, cut_at};
+use mst_arena::Rows;
+use mst_key::{Key, Value};
+
+/// The value of a key in the tree at a link. It reads along the path to the key alone.
+pub(crate) fn find<R: Rows>(rows: &mut R, link: u32, key: &Key) -> Option<Value>
+    requires tree { (s : State) × (t : SearchTree (R.content rows.old) s link) × IsAscending (pairs (tree_of One t.placed)) }
+    ensures found { (s : State) (t : SearchTree (R.content rows.old) s link)
+        → IsAscending (pairs (tree_of One t.placed)) → result ≡ look (pairs (tree_of One t.placed)) key.now }
+    ensures same { rows.new ≡ rows.old }
+{
+    if link == 0 {
+        return None;
+    }
+    let head = rows.head(link - 1);
+    match cut_at(rows, &head, key) {
+        Cut::Gap { child, .. } => find(rows, child, key),
+        Cut::Held { row, .. } => Some(rows.value(row)),
+    }
+}

@@ -1,0 +1,107 @@
+//! What is left of nodes round a gap, once the tree in the gap is made anew.
+ghost use Rattle.std.specs.Prelude.{◌≡◌, ◌≤◌, ◌<◌, ◌+◌, ℕ, [], ◌∷◌, length};
+ghost use Rattle.mst_key.specs.declared.format.Format.TheVariants.{One};
+ghost use Rattle.mst_arena.specs.Lives.{free_count};
+ghost use Rattle.mst_arena.specs.Lists.{times};
+ghost use Rattle.mst_arena.specs.Standing.{Placed, tree_of, used};
+ghost use Rattle.mst_path.specs.Takes.{FreeIsBlank};
+ghost use Rattle.mst_path.specs.Moves.{In, IsOld, Moves};
+ghost use Rattle.mst_path.specs.Runs.{Piece};
+ghost use Rattle.mst_path.specs.Writing.{IsRootOf, ahead};
+ghost use Rattle.mst_path.specs.PathsCost.{side_rows};
+ghost use Rattle.mst_path.specs.Making.{Grown};
+ghost use Rattle.mst_path.specs.Frames.{Framed, in_entries, in_frame, tree_round, frame_rows};
+
+use crate::making::{Parts, Run, make_node};
+use mst_arena::{Desk, Root, Rows};
+use std::alloc::Allocator;
+
+/// What is left of a node, or of two that become one, round the gap whose tree is made anew.
+#[derive(Clone, Copy)]
+pub(crate) struct Frame {
+    pub(crate) layer: u8,
+    /// The entries in front of the gap.
+    pub(crate) front: Run,
+    /// The entries behind it, up to the end of their node.
+    pub(crate) back: Run,
+    /// The link of the tree in the last gap, where there are entries at the back, and else 0.
+    pub(crate) tail: u32,
+    /// The row of the head, which goes.
+    pub(crate) head: u32,
+    /// The row that goes with it: the head of the second node, or an entry.
+    pub(crate) other: Option<u32>,
+}
+
+impl Frame {
+    /// How many rows its node takes: none where it has no entry.
+    pub(crate) fn rows(&self) -> u32
+        requires few { frame_rows self.now ≤ 4294967295 }
+        ensures rows { result ≡ frame_rows self.now }
+    {
+        let count = self.front.count + self.back.count;
+        if count == 0 { 0 } else { count + 1 }
+    }
+}
+
+/// Lets a row die, and another one.
+pub(crate) fn kill_both<A: Allocator>(desk: &mut Desk<A>, row: u32, other: Option<u32>)
+    requires old { (r : ℕ) → In r (row ∷ ahead other) → IsOld desk.old r }
+    requires once { (r : ℕ) → times r (row ∷ ahead other) ≤ 1 }
+    ensures moves { Moves desk.old desk.new [] (row ∷ ahead other) }
+{
+    desk.kill(row);
+    if let Some(row) = other {
+        desk.kill(row);
+    }
+}
+
+/// The node of the frame with the tree in its gap, and that tree alone where the frame has no entry.
+fn fill<R: Rows, A: Allocator>(rows: &mut R, desk: &mut Desk<A>, frame: &Frame, seam: &Root) -> Root
+    requires frame { (p : Placed) × IsRootOf p seam.now × Piece (R.content rows.old) desk.old p
+        × Framed (R.content rows.old) desk.old frame.now (λ x. times x (used p)) }
+    requires low { frame.now.layer ≤ 64 }
+    requires room { frame_rows frame.now ≤ free_count desk.old.lives }
+    requires few { length desk.old.lives ≤ 65535 }
+    requires free { FreeIsBlank desk.old.lives (R.blank rows.old) }
+    ensures made { (p : Placed) → IsRootOf p seam.now → Piece (R.content rows.old) desk.old p
+        → (f : Framed (R.content rows.old) desk.old frame.now (λ x. times x (used p)))
+        → Grown (R.content rows.old) (R.content rows.new) desk.old desk.new (tree_round f (tree_of One p)) result
+        (λ x. times x (used p) + in_entries f x) (frame_rows frame.now) }
+    ensures blank { R.blank rows.new ≡ R.blank rows.old }
+{
+    if frame.front.count + frame.back.count == 0 {
+        return *seam;
+    }
+    let parts = Parts {
+        layer: frame.layer,
+        front: frame.front,
+        seam: *seam,
+        back: frame.back,
+        tail: frame.tail,
+    };
+    make_node(rows, desk, &parts)
+}
+
+/// Makes the node of the frame with the tree in its gap, or leaves that tree alone where the frame has no entry. The rows that the frame names die.
+pub(crate) fn close<R: Rows, A: Allocator>(
+    rows: &mut R,
+    desk: &mut Desk<A>,
+    frame: &Frame,
+    seam: &Root,
+) -> Root
+    requires frame { (p : Placed) × IsRootOf p seam.now × Piece (R.content rows.old) desk.old p
+        × Framed (R.content rows.old) desk.old frame.now (λ x. times x (used p)) }
+    requires low { frame.now.layer ≤ 64 }
+    requires room { frame_rows frame.now ≤ free_count desk.old.lives }
+    requires few { length desk.old.lives ≤ 65535 }
+    requires free { FreeIsBlank desk.old.lives (R.blank rows.old) }
+    ensures made { (p : Placed) → IsRootOf p seam.now → Piece (R.content rows.old) desk.old p
+        → (f : Framed (R.content rows.old) desk.old frame.now (λ x. times x (used p)))
+        → Grown (R.content rows.old) (R.content rows.new) desk.old desk.new (tree_round f (tree_of One p)) result
+        (λ x. times x (used p) + in_frame f x) (frame_rows frame.now) }
+    ensures blank { R.blank rows.new ≡ R.blank rows.old }
+{
+    let root = fill(rows, desk, frame, seam);
+    kill_both(desk, frame.head, frame.other);
+    root
+}

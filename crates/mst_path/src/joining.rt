@@ -1,0 +1,154 @@
+//! Two trees that stand, joined: from the top down, the node of the greater layer is made anew round the gap in which it meets the other tree.
+ghost use Rattle.std.specs.Prelude.{◌≡◌, ◌≤◌, ◌<◌, ◌+◌, length};
+ghost use Rattle.mst_arena.specs.Lives.{State, free_count};
+ghost use Rattle.mst_path.specs.Takes.{FreeIsBlank};
+ghost use Rattle.mst_path.specs.Making.{Grown};
+ghost use Rattle.mst_path.specs.Joining.{TwoTrees, in_both, both_joined, both_rows, Met, above_right, below_right, beside_right};
+
+use crate::copying::root_at;
+use crate::frames::{Frame, close};
+use crate::making::Run;
+use mst_arena::{Desk, HeadLinks, Root, Rows};
+use std::alloc::Allocator;
+
+/// No entries.
+const NO_RUN: Run = Run { first: 0, count: 0 };
+
+/// Where two trees meet that are to be joined.
+#[derive(Clone, Copy)]
+pub(crate) struct Meeting {
+    /// The links of the trees that are to be joined in the gap.
+    pub(crate) left: u32,
+    pub(crate) right: u32,
+    /// What is left of the two round the gap.
+    pub(crate) frame: Frame,
+}
+
+/// Joins two trees, all keys of the left one below those of the right one. The nodes along the path where they meet are made anew, their rows die, and all beside that path is shared.
+pub(crate) fn join<R: Rows, A: Allocator>(
+    rows: &mut R,
+    desk: &mut Desk<A>,
+    left: u32,
+    right: u32,
+) -> Root
+    requires trees { (t : TwoTrees (R.content rows.old) desk.old left right) × (both_rows t ≤ free_count desk.old.lives) }
+    requires few { length desk.old.lives ≤ 65535 }
+    requires free { FreeIsBlank desk.old.lives (R.blank rows.old) }
+    ensures joined { (t : TwoTrees (R.content rows.old) desk.old left right)
+        → Grown (R.content rows.old) (R.content rows.new) desk.old desk.new (both_joined t) result (in_both t) (both_rows t) }
+    ensures blank { R.blank rows.new ≡ R.blank rows.old }
+{
+    if left == 0 {
+        return root_at(rows, right);
+    }
+    if right == 0 {
+        return root_at(rows, left);
+    }
+    let meeting = meet(rows, left, right);
+    let seam = join(rows, desk, meeting.left, meeting.right);
+    close(rows, desk, &meeting.frame, &seam)
+}
+
+/// How many rows [`join`] takes. It reads the heads along the path where the trees meet, and the first entry of each right one whose node is made anew.
+pub(crate) fn join_cost<R: Rows>(rows: &mut R, left: u32, right: u32) -> u32
+    requires trees { (s : State) × (t : TwoTrees (R.content rows.old) s left right) × (both_rows t ≤ 65535) }
+    ensures cost { (s : State) (t : TwoTrees (R.content rows.old) s left right) → result ≡ both_rows t }
+    ensures same { rows.new ≡ rows.old }
+{
+    if left == 0 || right == 0 {
+        return 0;
+    }
+    let meeting = meet(rows, left, right);
+    let inner = join_cost(rows, meeting.left, meeting.right);
+    inner + meeting.frame.rows()
+}
+
+/// Where two trees meet, neither of them empty. It reads their heads, and the first entry of the right one where its node is made anew.
+fn meet<R: Rows>(rows: &mut R, left: u32, right: u32) -> Meeting
+    requires trees { (s : State) × TwoTrees (R.content rows.old) s left right }
+    requires left { 0 < left }
+    requires right { 0 < right }
+    ensures met { (s : State) (t : TwoTrees (R.content rows.old) s left right) → Met (R.content rows.old) s left right t result }
+    ensures same { rows.new ≡ rows.old }
+{
+    let low = rows.head(left - 1);
+    let high = rows.head(right - 1);
+    if high.layer < low.layer {
+        return higher(left, &low, right);
+    }
+    let first = rows.entry(high.first - 1);
+    if low.layer < high.layer {
+        return lower(left, right, &high, first.child);
+    }
+    level(left, &low, right, &high, first.child)
+}
+
+/// The left node is the higher one: its last tree meets the right tree.
+fn higher(left: u32, low: &HeadLinks, right: u32) -> Meeting
+    requires left { 0 < left }
+    ensures is { result ≡ above_right left right low.now }
+{
+    Meeting {
+        left: low.tail,
+        right,
+        frame: Frame {
+            layer: low.layer,
+            front: Run {
+                first: low.first,
+                count: low.count,
+            },
+            back: NO_RUN,
+            tail: 0,
+            head: left - 1,
+            other: None,
+        },
+    }
+}
+
+/// The left node is the lower one: it meets the first tree of the right node.
+fn lower(left: u32, right: u32, high: &HeadLinks, child: u32) -> Meeting
+    requires right { 0 < right }
+    ensures is { result ≡ below_right left right high.now child }
+{
+    Meeting {
+        left,
+        right: child,
+        frame: Frame {
+            layer: high.layer,
+            front: NO_RUN,
+            back: Run {
+                first: high.first,
+                count: high.count,
+            },
+            tail: high.tail,
+            head: right - 1,
+            other: None,
+        },
+    }
+}
+
+/// The nodes are of one layer and become one: the last tree of the left one meets the first of the right one.
+fn level(left: u32, low: &HeadLinks, right: u32, high: &HeadLinks, child: u32) -> Meeting
+    requires left { 0 < left }
+    requires right { 0 < right }
+    ensures is { result ≡ beside_right left right low.now high.now child }
+{
+    Meeting {
+        left: low.tail,
+        right: child,
+        frame: Frame {
+            layer: low.layer,
+            front: Run {
+                first: low.first,
+                count: low.count,
+            },
+            back: Run {
+                first: high.first,
+                count: high.count,
+            },
+            tail: high.tail,
+            head: left - 1,
+            other: Some(right - 1),
+        },
+    }
+}

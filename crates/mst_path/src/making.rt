@@ -1,0 +1,159 @@
+//! A new node, made of parts of nodes that stand.
+ghost use Rattle.std.specs.Prelude.{◌≡◌, ◌≤◌, ◌<◌, ◌+◌, ℕ, length, IfSome, IsTrue};
+ghost use Rattle.mst_key.specs.declared.format.Format.TheVariants.{One};
+ghost use Rattle.mst_node.specs.Tree.{node, entry};
+ghost use Rattle.mst_node.specs.Shape.{with_entries};
+ghost use Rattle.mst_arena.specs.Lives.{free_count};
+ghost use Rattle.mst_arena.specs.Lists.{times};
+ghost use Rattle.mst_arena.specs.Standing.{Placed, tree_of, used};
+ghost use Rattle.mst_path.specs.Paths.{with_first};
+ghost use Rattle.mst_path.specs.Takes.{FreeIsBlank};
+ghost use Rattle.mst_path.specs.Runs.{Piece};
+ghost use Rattle.mst_path.specs.Writing.{IsRootOf, IsWriter};
+ghost use Rattle.mst_path.specs.Making.{PartsStand, in_parts, cells_of, entries_to, Grown, Rest, Finished};
+
+use crate::copying::{move_entry, move_run, root_at};
+use crate::node_writer::NodeWriter;
+use mst_arena::{Desk, Root, Rows};
+use mst_key::{Key, Value};
+use std::alloc::Allocator;
+
+/// Entries of a node, one behind another.
+#[derive(Clone, Copy)]
+pub(crate) struct Run {
+    /// The link of the first of them.
+    pub(crate) first: u32,
+    pub(crate) count: u32,
+}
+
+/// What a new node is made of. The entries die where they stand, and are written anew.
+#[derive(Clone, Copy)]
+pub(crate) struct Parts {
+    pub(crate) layer: u8,
+    /// The entries in front.
+    pub(crate) front: Run,
+    /// The tree in the gap behind them.
+    pub(crate) seam: Root,
+    /// The entries at the back, up to the end of their node.
+    pub(crate) back: Run,
+    /// The link of the tree in the last gap, where there are entries at the back, and else 0.
+    pub(crate) tail: u32,
+}
+
+/// Makes the node of the parts.
+pub(crate) fn make_node<R: Rows, A: Allocator>(
+    rows: &mut R,
+    desk: &mut Desk<A>,
+    parts: &Parts,
+) -> Root
+    requires parts { PartsStand (R.content rows.old) desk.old parts.now }
+    requires some { 0 < parts.now.front.count + parts.now.back.count }
+    requires low { parts.now.layer ≤ 64 }
+    requires room { parts.now.front.count + parts.now.back.count + 1 ≤ free_count desk.old.lives }
+    requires few { length desk.old.lives ≤ 65535 }
+    requires free { FreeIsBlank desk.old.lives (R.blank rows.old) }
+    ensures made { (p : PartsStand (R.content rows.old) desk.old parts.now)
+        → Grown (R.content rows.old) (R.content rows.new) desk.old desk.new
+        (node One parts.now.layer (with_entries (cells_of p.front) (with_first (tree_of One p.seam) (entries_to p.back p.tail))))
+        result (in_parts p) (parts.now.front.count + parts.now.back.count + 1) }
+    ensures blank { R.blank rows.new ≡ R.blank rows.old }
+{
+    let count = parts.front.count + parts.back.count;
+    let mut writer = NodeWriter::begin(desk, parts.layer, count);
+    move_run(
+        rows,
+        desk,
+        &mut writer,
+        parts.front.first,
+        parts.front.count,
+    );
+    finish_node(rows, desk, writer, parts)
+}
+
+/// Makes the node of the parts, with a new entry between the front and the seam, and a tree in the gap before it.
+pub(crate) fn make_node_with<R: Rows, A: Allocator>(
+    rows: &mut R,
+    desk: &mut Desk<A>,
+    parts: &Parts,
+    child: &Root,
+    key: &Key,
+    value: &Value,
+) -> Root
+    requires parts { (p : PartsStand (R.content rows.old) desk.old parts.now) × (c : Placed) × IsRootOf c child.now
+        × Piece (R.content rows.old) desk.old c × ((x : ℕ) → in_parts p x + times x (used c) ≤ 1) }
+    requires low { parts.now.layer ≤ 64 }
+    requires room { parts.now.front.count + parts.now.back.count + 2 ≤ free_count desk.old.lives }
+    requires few { length desk.old.lives ≤ 65535 }
+    requires free { FreeIsBlank desk.old.lives (R.blank rows.old) }
+    ensures made { (p : PartsStand (R.content rows.old) desk.old parts.now) (c : Placed) → IsRootOf c child.now
+        → Piece (R.content rows.old) desk.old c → ((x : ℕ) → in_parts p x + times x (used c) ≤ 1)
+        → Grown (R.content rows.old) (R.content rows.new) desk.old desk.new
+        (node One parts.now.layer (with_entries (cells_of p.front) (entry (tree_of One c) key.now value.now (with_first (tree_of One p.seam) (entries_to p.back p.tail)))))
+        result (λ x. in_parts p x + times x (used c)) (parts.now.front.count + parts.now.back.count + 2) }
+    ensures blank { R.blank rows.new ≡ R.blank rows.old }
+{
+    let count = parts.front.count + parts.back.count + 1;
+    let mut writer = NodeWriter::begin(desk, parts.layer, count);
+    move_run(
+        rows,
+        desk,
+        &mut writer,
+        parts.front.first,
+        parts.front.count,
+    );
+    writer.entry(rows, desk, child, key, value);
+    finish_node(rows, desk, writer, parts)
+}
+
+/// Writes what is behind the front of the node, and answers where it stands.
+fn finish_node<R: Rows, A: Allocator>(
+    rows: &mut R,
+    desk: &mut Desk<A>,
+    writer: NodeWriter,
+    parts: &Parts,
+) -> Root
+    requires rest { Rest writer (R.content rows.old) desk.old parts.now }
+    requires writer { IsWriter writer }
+    requires left { writer.left ≡ parts.now.back.count }
+    requires room { writer.left ≤ free_count desk.old.lives + 1 }
+    requires few { length desk.old.lives ≤ 65535 }
+    requires blank { IfSome writer.next (λ r. IsTrue (R.blank rows.old r)) }
+    requires head { IsTrue (R.blank rows.old writer.head) }
+    requires free { FreeIsBlank desk.old.lives (R.blank rows.old) }
+    ensures finished { (r : Rest writer (R.content rows.old) desk.old parts.now)
+        → Finished writer (R.content rows.old) (R.content rows.new) desk.old desk.new parts.now r result }
+    ensures blank { R.blank rows.new ≡ R.blank rows.old }
+{
+    if parts.back.count == 0 {
+        return writer.finish(rows, &parts.seam);
+    }
+    finish_with_back(rows, desk, writer, parts)
+}
+
+/// Moves the entries at the back into the node, the first with the seam before it, and writes the head.
+fn finish_with_back<R: Rows, A: Allocator>(
+    rows: &mut R,
+    desk: &mut Desk<A>,
+    mut writer: NodeWriter,
+    parts: &Parts,
+) -> Root
+    requires rest { Rest writer (R.content rows.old) desk.old parts.now }
+    requires some { 0 < parts.now.back.count }
+    requires writer { IsWriter writer }
+    requires left { writer.left ≡ parts.now.back.count }
+    requires room { writer.left ≤ free_count desk.old.lives + 1 }
+    requires few { length desk.old.lives ≤ 65535 }
+    requires blank { IfSome writer.next (λ r. IsTrue (R.blank rows.old r)) }
+    requires head { IsTrue (R.blank rows.old writer.head) }
+    requires free { FreeIsBlank desk.old.lives (R.blank rows.old) }
+    ensures finished { (r : Rest writer (R.content rows.old) desk.old parts.now)
+        → Finished writer (R.content rows.old) (R.content rows.new) desk.old desk.new parts.now r result }
+    ensures blank { R.blank rows.new ≡ R.blank rows.old }
+{
+    let row = parts.back.first - 1;
+    let entry = rows.entry(row);
+    move_entry(rows, desk, &mut writer, row, &entry.key, &parts.seam);
+    move_run(rows, desk, &mut writer, entry.next, parts.back.count - 1);
+    let tail = root_at(rows, parts.tail);
+    writer.finish(rows, &tail)
+}

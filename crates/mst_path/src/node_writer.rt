@@ -1,0 +1,179 @@
+//! One node, written into rows entry by entry.
+ghost use Rattle.std.specs.Prelude.{◌≡◌, ◌≤◌, ◌<◌, ◌+◌, ℕ, List, [], ◌∷◌, ◌++◌, length, Some, IfSome, IsTrue};
+ghost use Rattle.sha2.specs.Hashers.{Holds256};
+ghost use Rattle.mst_node.specs.Text.{child_text, child_digest};
+ghost use Rattle.mst_key.specs.declared.format.Format.TheVariants.{One};
+ghost use Rattle.mst_arena.specs.Lives.{free_count};
+ghost use Rattle.mst_arena.specs.Content.{Content};
+ghost use Rattle.mst_arena.specs.Standing.{Placed, head, tree_of, rows_of, used, HasRows};
+ghost use Rattle.mst_path.specs.Takes.{Takes, IsOut, KeepsBut};
+ghost use Rattle.mst_path.specs.Writing.{PlacedEntry, chain_of, entries_used, IsRootOf, ahead, IsAhead, IsWriter, IsWritten};
+
+use mst_arena::{Desk, Root, Row, Rows};
+use mst_key::{Key, Value};
+use mst_node::{feed_child, feed_counted};
+use sha2::{Digest, Sha256};
+use std::alloc::Allocator;
+
+/// A free row. There is one.
+fn take_row<A: Allocator>(desk: &mut Desk<A>) -> u32
+    requires room { 0 < free_count desk.old.lives }
+    ensures takes { Takes desk.old desk.new (result ∷ []) }
+{
+    match desk.take() {
+        Some(row) => row,
+        None => unreachable!(),
+    }
+}
+
+/// A free row for the next entry, where some are left.
+fn take_next<A: Allocator>(desk: &mut Desk<A>, left: u32) -> Option<u32>
+    requires room { 0 < left → 0 < free_count desk.old.lives }
+    ensures takes { Takes desk.old desk.new (ahead result) }
+    ensures ahead { IsAhead result left }
+{
+    if left == 0 {
+        None
+    } else {
+        Some(take_row(desk))
+    }
+}
+
+/// Feeds a hasher a child as it stands in its node's text.
+fn feed_root(hasher: &mut Sha256, child: &Root)
+    ensures fed { (p : Placed) (m : List ℕ) → IsRootOf p child.now → Holds256 hasher.old m
+        → Holds256 hasher.new (m ++ child_text (child_digest (tree_of One p))) }
+{
+    if child.link == 0 {
+        feed_child(hasher, None);
+    } else {
+        feed_child(hasher, Some(child.digest));
+    }
+}
+
+/// A node that is being written. Its rows are taken on the way: that of the head and that of the first entry at the beginning, and that of each further entry before the one in front of it is written, since that one links to it.
+#[derive(Drop)]
+pub(crate) struct NodeWriter {
+    /// The text up to the entries that are written.
+    hasher: Sha256,
+    layer: u8,
+    /// How many entries the node has.
+    count: u32,
+    /// How many of them are left to be written.
+    left: u32,
+    /// The row of the head.
+    head: u32,
+    /// The row of the first entry.
+    first: u32,
+    /// The row of the next entry, where some are left.
+    next: Option<u32>,
+}
+
+impl NodeWriter {
+    /// A node of this layer with so many entries, none of them written yet. It takes two rows.
+    pub(crate) fn begin<A: Allocator>(desk: &mut Desk<A>, layer: u8, count: u32) -> NodeWriter
+        requires low { layer ≤ 64 }
+        requires some { 0 < count }
+        requires few { count ≤ 65534 }
+        requires room { 2 ≤ free_count desk.old.lives }
+        requires rows { length desk.old.lives ≤ 65535 }
+        ensures writer { IsWriter result }
+        ensures written { (c : Content) → IsWritten result c [] }
+        ensures node { (result.layer ≡ layer) × (result.count ≡ count) × (result.left ≡ count) }
+        ensures takes { Takes desk.old desk.new (result.head ∷ ahead result.next) }
+    {
+        let head = take_row(desk);
+        let first = take_row(desk);
+        let mut hasher = Sha256::new();
+        hasher.update([1, layer].as_slice());
+        let shown = count as u16;
+        hasher.update(shown.to_be_bytes().as_slice());
+        NodeWriter {
+            hasher,
+            layer,
+            count,
+            left: count,
+            head,
+            first,
+            next: Some(first),
+        }
+    }
+
+    /// Writes the next entry, behind the tree at `child`. It takes a row where a further entry is left.
+    pub(crate) fn entry<R: Rows, A: Allocator>(
+        &mut self,
+        rows: &mut R,
+        desk: &mut Desk<A>,
+        child: &Root,
+        key: &Key,
+        value: &Value,
+    )
+        requires writer { IsWriter self.old }
+        requires some { 0 < self.old.left }
+        requires room { 1 < self.old.left → 0 < free_count desk.old.lives }
+        requires few { length desk.old.lives ≤ 65535 }
+        requires blank { IfSome self.old.next (λ r. IsTrue (R.blank rows.old r)) }
+        requires child { child.now.link ≤ 65535 }
+        ensures writer { IsWriter self.new }
+        // behind the entries that are written stands the new one, if the row that was taken for it is none of theirs and none of its child's
+        ensures written { (es : List PlacedEntry) (p : Placed) (r : ℕ) → self.old.next ≡ Some r
+            → IsWritten self.old (R.content rows.old) es
+            → IsRootOf p child.now → HasRows (R.content rows.old) (rows_of One p)
+            → IsOut r (entries_used es ++ used p)
+            → IsWritten self.new (R.content rows.new) (es ++ record { at = r; child = p; key = key.now; value = value.now } ∷ []) }
+        ensures node { (self.new.layer ≡ self.old.layer) × (self.new.count ≡ self.old.count) × (self.new.left + 1 ≡ self.old.left) × (self.new.head ≡ self.old.head) }
+        ensures takes { Takes desk.old desk.new (ahead self.new.next) }
+        ensures keeps { KeepsBut (ahead self.old.next) (R.content rows.old) (R.content rows.new) }
+        ensures blank { R.blank rows.new ≡ R.blank rows.old }
+    {
+        let Some(row) = self.next else { unreachable!() };
+        self.left -= 1;
+        self.next = take_next(desk, self.left);
+        let next = match self.next {
+            Some(row) => row + 1,
+            None => 0,
+        };
+        let entry = Row::Entry {
+            child: child.link,
+            next,
+            key: key.copy(),
+            value: value.copy(),
+        };
+        rows.write(row, &entry);
+        feed_root(&mut self.hasher, child);
+        feed_counted(&mut self.hasher, key.bytes());
+        feed_counted(&mut self.hasher, value.bytes());
+    }
+
+    /// Writes the head, once all entries are written, with the tree at `tail` in the last gap. It answers where the node stands.
+    pub(crate) fn finish<R: Rows>(mut self, rows: &mut R, tail: &Root) -> Root
+        requires writer { IsWriter self }
+        requires all { self.left ≡ 0 }
+        requires blank { IsTrue (R.blank rows.old self.head) }
+        requires tail { tail.now.link ≤ 65535 }
+        ensures root { (es : List PlacedEntry) (p : Placed) → IsWritten self (R.content rows.old) es
+            → IsRootOf p tail.now → IsRootOf (head self.head self.layer (chain_of es p)) result }
+        // the node stands, if the row of its head is none of its entries' and none of the last tree's
+        ensures stands { (es : List PlacedEntry) (p : Placed) → IsWritten self (R.content rows.old) es
+            → IsRootOf p tail.now → HasRows (R.content rows.old) (rows_of One p)
+            → IsOut self.head (entries_used es ++ used p)
+            → HasRows (R.content rows.new) (rows_of One (head self.head self.layer (chain_of es p))) }
+        ensures keeps { KeepsBut (self.head ∷ []) (R.content rows.old) (R.content rows.new) }
+        ensures blank { R.blank rows.new ≡ R.blank rows.old }
+    {
+        feed_root(&mut self.hasher, tail);
+        let digest = self.hasher.finalize();
+        let head = Row::Head {
+            layer: self.layer,
+            count: self.count,
+            first: self.first + 1,
+            tail: tail.link,
+            digest,
+        };
+        rows.write(self.head, &head);
+        Root {
+            link: self.head + 1,
+            digest,
+        }
+    }
+}

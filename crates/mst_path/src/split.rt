@@ -1,0 +1,144 @@
+//! A tree, split at a key.
+ghost use Rattle.std.specs.Prelude.{◌≡◌, ◌≤◌, ◌+◌, ℕ, List, length, true, false, cond, ◌==◌, ◌&&◌};
+ghost use Rattle.mst_key.specs.declared.format.Format.TheVariants.{One};
+ghost use Rattle.mst_arena.specs.Lives.{free_count};
+ghost use Rattle.mst_arena.specs.Lists.{times};
+ghost use Rattle.mst_arena.specs.Standing.{none, tree_of, used};
+ghost use Rattle.mst_path.specs.Paths.{below, above};
+ghost use Rattle.mst_path.specs.PathsCost.{is_empty, side_rows, split_rows};
+ghost use Rattle.mst_path.specs.Takes.{FreeIsBlank};
+ghost use Rattle.mst_path.specs.Writing.{IsRootOf};
+ghost use Rattle.mst_path.specs.Making.{PartsStand, in_parts, Grown, Split};
+ghost use Rattle.mst_path.specs.Splitting.{ToSplit, BothStand, side_of, in_both};
+
+use crate::copying::root_at;
+use crate::cut::{Cut, cut_at};
+use crate::making::{Parts, Run, make_node};
+use mst_arena::{Desk, Root, Rows};
+use mst_key::Key;
+use mst_node::empty_digest;
+use std::alloc::Allocator;
+
+/// Where the empty tree stands.
+pub(crate) fn nothing() -> Root
+    ensures root { IsRootOf none result }
+{
+    Root {
+        link: 0,
+        digest: empty_digest(),
+    }
+}
+
+/// No entries.
+pub(crate) fn no_run() -> Run
+    ensures none { result ≡ record { first = 0; count = 0 } }
+{
+    Run { first: 0, count: 0 }
+}
+
+/// Whether there are no entries and no tree beside them.
+fn is_none(run: &Run, beside: &Root) -> bool
+    ensures none { result ≡ ((run.now.count == 0) && (beside.now.link == 0)) }
+{
+    run.count == 0 && beside.link == 0
+}
+
+/// The link of the tree behind entries at the back of a node, and 0 where there are none.
+pub(crate) fn tail_behind(back: &Run, tail: u32) -> u32
+    ensures tail { result ≡ cond (back.now.count == 0) 0 tail }
+{
+    if back.count == 0 { 0 } else { tail }
+}
+
+/// The node of the parts; where they have no entries, the tree in the seam alone.
+pub(crate) fn side<R: Rows, A: Allocator>(rows: &mut R, desk: &mut Desk<A>, parts: &Parts) -> Root
+    requires parts { PartsStand (R.content rows.old) desk.old parts.now }
+    requires low { parts.now.layer ≤ 64 }
+    requires room { side_rows (parts.now.front.count + parts.now.back.count) false ≤ free_count desk.old.lives }
+    requires few { length desk.old.lives ≤ 65535 }
+    requires free { FreeIsBlank desk.old.lives (R.blank rows.old) }
+    ensures made { (p : PartsStand (R.content rows.old) desk.old parts.now)
+        → Grown (R.content rows.old) (R.content rows.new) desk.old desk.new
+        (side_of p) result (in_parts p) (side_rows (parts.now.front.count + parts.now.back.count) false) }
+    ensures blank { R.blank rows.new ≡ R.blank rows.old }
+{
+    if parts.front.count + parts.back.count == 0 {
+        return parts.seam;
+    }
+    make_node(rows, desk, parts)
+}
+
+/// Makes both sides of a node, whose head dies.
+pub(crate) fn both_sides<R: Rows, A: Allocator>(
+    rows: &mut R,
+    desk: &mut Desk<A>,
+    row: u32,
+    left: &Parts,
+    right: &Parts,
+) -> (Root, Root)
+    requires parts { BothStand (R.content rows.old) desk.old row left.now right.now }
+    requires low { (left.now.layer ≤ 64) × (right.now.layer ≤ 64) }
+    requires room { side_rows (left.now.front.count + left.now.back.count) false + side_rows (right.now.front.count + right.now.back.count) false ≤ free_count desk.old.lives }
+    requires few { length desk.old.lives ≤ 65535 }
+    requires free { FreeIsBlank desk.old.lives (R.blank rows.old) }
+    ensures made { (b : BothStand (R.content rows.old) desk.old row left.now right.now)
+        → Split (R.content rows.old) (R.content rows.new) desk.old desk.new (side_of b.lower) (side_of b.upper) result.0 result.1
+        (in_both b) (side_rows (left.now.front.count + left.now.back.count) false + side_rows (right.now.front.count + right.now.back.count) false) }
+    ensures blank { R.blank rows.new ≡ R.blank rows.old }
+{
+    let lower = side(rows, desk, left);
+    let upper = side(rows, desk, right);
+    desk.kill(row);
+    (lower, upper)
+}
+
+/// The two sides of a tree at a key that is of a higher layer than all its keys. Along the path to the key each node is made anew, in at most two parts; all beside the path is shared, and so is a tree that is all on one side of the key.
+pub(crate) fn split<R: Rows, A: Allocator>(
+    rows: &mut R,
+    desk: &mut Desk<A>,
+    link: u32,
+    key: &Key,
+) -> (Root, Root)
+    requires tree { (t : ToSplit (R.content rows.old) desk.old link key.now) × (split_rows key.now (tree_of One t.tree.placed) ≤ free_count desk.old.lives) }
+    requires few { length desk.old.lives ≤ 65535 }
+    requires free { FreeIsBlank desk.old.lives (R.blank rows.old) }
+    ensures split { (t : ToSplit (R.content rows.old) desk.old link key.now)
+        → Split (R.content rows.old) (R.content rows.new) desk.old desk.new
+        (below key.now (tree_of One t.tree.placed)) (above key.now (tree_of One t.tree.placed)) result.0 result.1
+        (λ x. times x (used t.tree.placed)) (split_rows key.now (tree_of One t.tree.placed)) }
+    ensures shared_below { (t : ToSplit (R.content rows.old) desk.old link key.now)
+        → is_empty (above key.now (tree_of One t.tree.placed)) ≡ true → (rows.new ≡ rows.old) × (desk.new ≡ desk.old) }
+    ensures shared_above { (t : ToSplit (R.content rows.old) desk.old link key.now)
+        → is_empty (below key.now (tree_of One t.tree.placed)) ≡ true → (rows.new ≡ rows.old) × (desk.new ≡ desk.old) }
+    ensures blank { R.blank rows.new ≡ R.blank rows.old }
+{
+    if link == 0 {
+        return (nothing(), nothing());
+    }
+    let head = rows.head(link - 1);
+    let Cut::Gap { front, child, back } = cut_at(rows, &head, key) else {
+        unreachable!()
+    };
+    let (lower, upper) = split(rows, desk, child, key);
+    if is_none(&back, &upper) {
+        return (root_at(rows, link), nothing());
+    }
+    if is_none(&front, &lower) {
+        return (nothing(), root_at(rows, link));
+    }
+    let left = Parts {
+        layer: head.layer,
+        front,
+        seam: lower,
+        back: no_run(),
+        tail: 0,
+    };
+    let right = Parts {
+        layer: head.layer,
+        front: no_run(),
+        seam: upper,
+        back,
+        tail: tail_behind(&back, head.tail),
+    };
+    both_sides(rows, desk, link - 1, &left, &right)
+}

@@ -1,0 +1,187 @@
+//! Planted maps, read back row by row.
+ghost use Rattle.std.specs.Prelude.{◌≡◌, IfOk, length};
+
+use crate::{NoRoom, Root, plant};
+use mst_arena::{Desk, Row, Rows};
+use mst_key::{Key, Value};
+use mst_node::{build, root_of};
+use std::alloc::Global;
+use std::process::Abort;
+use std::test::Fail;
+
+/// Rows that a test can look into.
+#[derive(Drop)]
+struct OpenRows {
+    places: Vec<Option<Row>>,
+}
+
+impl OpenRows {
+    /// So many rows, none of them written.
+    fn new(alloc: Global, rows: u32) -> Result<OpenRows, Fail>
+        ensures size { IfOk result (λ r. length r.places.items ≡ rows) }
+    {
+        let mut places = Vec::new(alloc);
+        for _ in 0..rows {
+            places.push(None)?;
+        }
+        Ok(OpenRows { places })
+    }
+}
+
+impl Rows for OpenRows {
+    ghost use Rattle.std.specs.Prelude.{length, nat_lt};
+    ghost use Rattle.mst_arena.specs.Content.{listed};
+
+    ghost content = { λ rows. listed rows.places.items };
+
+    ghost blank = { λ rows row. nat_lt row (length rows.places.items) };
+
+    fn read(&mut self, row: u32) -> Row {
+        match &self.places[row as usize] {
+            Some(row) => row.copy(),
+            None => unreachable!(),
+        }
+    }
+
+    fn write(&mut self, row: u32, value: &Row) {
+        self.places[row as usize] = Some(value.copy());
+    }
+}
+
+fn pair(key: &[u8], value: &[u8]) -> Result<(Key, Value), Fail> {
+    Ok((Key::new(key)?, Value::new(value)?))
+}
+
+/// The first numbers in three bytes, each with its two low bytes as the value.
+fn numbered(alloc: Global, count: u32) -> Result<Vec<(Key, Value)>, Fail> {
+    let mut pairs = Vec::new(alloc);
+    for i in 0..count {
+        let bytes = i.to_be_bytes();
+        pairs.push(pair(&bytes[1..], &bytes[2..])?)?;
+    }
+    Ok(pairs)
+}
+
+/// Appends the pairs of the tree at a link, from left to right.
+fn walk(
+    places: &[Option<Row>],
+    link: u32,
+    depth: u32,
+    pairs: &mut Vec<(Key, Value)>,
+) -> Result<(), Fail> {
+    if link == 0 {
+        return Ok(());
+    }
+    if depth == 0 {
+        return Err("too deep".into());
+    }
+    let Some(
+        Some(
+            Row::Head {
+                count,
+                first,
+                tail,
+                ..
+            },
+        ),
+    ) = places.get((link - 1) as usize)
+    else {
+        return Err("no head".into());
+    };
+    let mut link = *first;
+    for _ in 0..*count {
+        if link == 0 {
+            return Err("too few entries".into());
+        }
+        let Some(
+            Some(
+                Row::Entry {
+                    child,
+                    next,
+                    key,
+                    value,
+                },
+            ),
+        ) = places.get((link - 1) as usize)
+        else {
+            return Err("no entry".into());
+        };
+        walk(places, *child, depth - 1, pairs)?;
+        pairs.push((key.copy(), value.copy()))?;
+        link = *next;
+    }
+    if link != 0 {
+        return Err("too many entries".into());
+    }
+    walk(places, *tail, depth - 1, pairs)
+}
+
+/// What became of a map that was to be planted: where it stands, or that there was no room; how many rows are free then; and the rows.
+#[derive(Drop)]
+struct Outcome {
+    root: Result<Root, NoRoom>,
+    free: u32,
+    rows: OpenRows,
+}
+
+/// Plants the map of these pairs in so many rows.
+fn planted(
+    rt: &impl Abort,
+    alloc: Global,
+    pairs: &[(Key, Value)],
+    size: u32,
+) -> Result<Outcome, Fail> {
+    assert!(rt; pairs.len() <= 65_535);
+    assert!(rt; 0 < size && size <= 65_535);
+    let tree = build(alloc, pairs)?;
+    let mut desk = Desk::new(alloc, size, 2, 0)?;
+    let mut rows = OpenRows::new(alloc, size)?;
+    let root = plant(&mut rows, &mut desk, tree.as_deref());
+    Ok(Outcome {
+        root,
+        free: desk.free(),
+        rows,
+    })
+}
+
+#[test]
+fn three_pairs(rt: HostRuntime) -> Result<(), Fail> {
+    let alloc = rt.alloc();
+    let mut pairs = Vec::new(alloc);
+    pairs.push(pair(b"1", b"x")?)?;
+    pairs.push(pair(b"39", b"y")?)?;
+    pairs.push(pair(b"a", b"z")?)?;
+    let nine = planted(&rt, alloc, pairs.as_slice(), 9)?;
+    assert_eq!(rt; nine.free, 3);
+    assert!(rt; nine.root.is_ok());
+    let six = planted(&rt, alloc, pairs.as_slice(), 6)?;
+    assert_eq!(rt; six.free, 0);
+    assert_eq!(rt;
+        six.root?,
+        Root {
+            link: 1,
+            digest: root_of(pairs.as_slice())
+        }
+    );
+    let five = planted(&rt, alloc, pairs.as_slice(), 5)?;
+    assert_eq!(rt; five.free, 5);
+    assert_eq!(rt; five.root, Err(NoRoom));
+    assert_eq!(rt; format!(in alloc; "{NoRoom}")?.as_str(), "no room");
+    Ok(())
+}
+
+#[test]
+fn maps_of_many_sizes(rt: HostRuntime) -> Result<(), Fail> {
+    let alloc = rt.alloc();
+    for count in [0, 1, 2, 17, 1_000] {
+        let pairs = numbered(alloc, count)?;
+        assert!(rt; pairs.len() <= 65_535);
+        let outcome = planted(&rt, alloc, pairs.as_slice(), 2_000)?;
+        let root = outcome.root?;
+        assert_eq!(rt; root.digest, root_of(pairs.as_slice()));
+        let mut found = Vec::new(alloc);
+        walk(outcome.rows.places.as_slice(), root.link, 65, &mut found)?;
+        assert_eq!(rt; found.as_slice(), pairs.as_slice());
+    }
+    Ok(())
+}

@@ -1,0 +1,127 @@
+//! A whole tree, written into free rows.
+ghost use Rattle.std.specs.Prelude.{◌≡◌, ◌≤◌, ◌<◌, ◌+◌, List, length, IfOk, IfErr, option_copied};
+ghost use Rattle.mst_key.specs.Map.{Pair, IsMap};
+ghost use Rattle.mst_key.specs.declared.format.Format.TheVariants.{One};
+ghost use Rattle.mst_node.specs.Tree.{pairs, tree as tree_of_map, IsMst};
+ghost use Rattle.mst_node.specs.Shape.{tree_of, tree_of_child};
+ghost use Rattle.mst_arena.specs.Lives.{free_count};
+ghost use Rattle.mst_arena.specs.Standing.{Stands, numbers};
+ghost use Rattle.mst_path.specs.Takes.{Takes, KeepsBut, FreeIsBlank};
+ghost use Rattle.mst_path.specs.Planting.{rows_needed, node_count, tree_at, IsTreeOf, Planted};
+
+use crate::faults::NoRoom;
+use crate::node_writer::NodeWriter;
+use mst_arena::{Desk, Root, Rows};
+use mst_node::{Node, empty_digest};
+use std::alloc::Allocator;
+
+/// How many rows a child takes.
+#[cycle(count)]
+fn rows_of_child<B: Allocator>(child: &Option<Box<Node<B>, B>>) -> u32
+    requires few { length (pairs (tree_of_child One child.now)) ≤ 65535 }
+    requires tree { IsMst One (tree_of_child One child.now) }
+    ensures rows { result ≡ rows_needed (tree_of_child One child.now) }
+{
+    match child {
+        None => 0,
+        Some(node) => rows_of_node(node),
+    }
+}
+
+/// How many rows a node takes with all below it: one for each entry and each node.
+#[cycle(count)]
+fn rows_of_node<B: Allocator>(node: &Node<B>) -> u32
+    requires few { length (pairs (tree_of One node.now)) ≤ 65535 }
+    requires tree { IsMst One (tree_of One node.now) }
+    ensures rows { result ≡ rows_needed (tree_of One node.now) }
+{
+    let mut rows = 1;
+    for entry in &node.entries {
+        rows += rows_of_child(&entry.child) + 1;
+    }
+    rows + rows_of_child(&node.tail)
+}
+
+/// Writes the tree of a gap. It answers where it stands.
+#[cycle(plant)]
+fn plant_child<R: Rows, A: Allocator, B: Allocator>(
+    rows: &mut R,
+    desk: &mut Desk<A>,
+    child: &Option<Box<Node<B>, B>>,
+) -> Root
+    requires tree { IsMst One (tree_of_child One child.now) }
+    requires room { rows_needed (tree_of_child One child.now) ≤ free_count desk.old.lives }
+    requires few { length desk.old.lives ≤ 65535 }
+    requires blank { FreeIsBlank desk.old.lives (R.blank rows.old) }
+    ensures planted { Planted desk.old desk.new (R.content rows.old) (R.content rows.new) (tree_of_child One child.now) result }
+    ensures blank { R.blank rows.new ≡ R.blank rows.old }
+{
+    match child {
+        None => Root {
+            link: 0,
+            digest: empty_digest(),
+        },
+        Some(node) => plant_node(rows, desk, node),
+    }
+}
+
+/// Writes a node with all below it. It answers where it stands.
+#[cycle(plant)]
+fn plant_node<R: Rows, A: Allocator, B: Allocator>(
+    rows: &mut R,
+    desk: &mut Desk<A>,
+    node: &Node<B>,
+) -> Root
+    requires tree { IsMst One (tree_of One node.now) }
+    requires room { rows_needed (tree_of One node.now) ≤ free_count desk.old.lives }
+    requires few { length desk.old.lives ≤ 65535 }
+    requires blank { FreeIsBlank desk.old.lives (R.blank rows.old) }
+    ensures planted { Planted desk.old desk.new (R.content rows.old) (R.content rows.new) (tree_of One node.now) result }
+    ensures blank { R.blank rows.new ≡ R.blank rows.old }
+{
+    let mut writer = NodeWriter::begin(desk, node.layer, node.entries.len() as u32);
+    for entry in &node.entries {
+        let child = plant_child(rows, desk, &entry.child);
+        writer.entry(rows, desk, &child, &entry.key, &entry.value);
+    }
+    let tail = plant_child(rows, desk, &node.tail);
+    writer.finish(rows, &tail)
+}
+
+/// Writes a whole tree into free rows. It takes exactly one row for each entry and each node, and writes no other; the rows then stand for the tree at the root that it answers, and for the empty tree at link 0.
+///
+/// The tree is one that `build` gave of at most 65,535 pairs, and the desk's free rows may be written. The rows are born with the version to come.
+///
+/// `NoRoom` comes exactly where fewer rows are free than the tree takes. Nothing was taken or written then.
+///
+/// No memory is taken. Each text is fed to the hash while its node is written, and nothing is read. Calls nest no deeper than the layers, 65 at the most.
+pub fn plant<R: Rows, A: Allocator, B: Allocator>(
+    rows: &mut R,
+    desk: &mut Desk<A>,
+    tree: Option<&Node<B>>,
+) -> Result<Root, NoRoom>
+    requires tree { (m : List Pair) × IsTreeOf (tree_at (option_copied tree)) m }
+    requires blank { FreeIsBlank desk.old.lives (R.blank rows.old) }
+    ensures stands { IfOk result (λ root. (m : List Pair) → IsMap m → IsTreeOf (tree_at (option_copied tree.entry)) m → Stands One (R.content rows.new) root m) }
+    // the rows that stand are those that were taken, and no other was written
+    ensures takes { IfOk result (λ root. (m : List Pair) (s : Stands One (R.content rows.new) root m) → Takes desk.old desk.new (numbers s)) }
+    ensures keeps { IfOk result (λ root. (m : List Pair) (s : Stands One (R.content rows.new) root m) → KeepsBut (numbers s) (R.content rows.old) (R.content rows.new)) }
+    // a row for each pair and each node of the tree
+    ensures count { IfOk result (λ _. (m : List Pair) → IsTreeOf (tree_at (option_copied tree.entry)) m
+        → free_count desk.new.lives + (length m + node_count (tree_of_map One m)) ≡ free_count desk.old.lives) }
+    ensures blank { R.blank rows.new ≡ R.blank rows.old }
+    ensures no_room { IfErr result (λ _. (m : List Pair) → IsTreeOf (tree_at (option_copied tree.entry)) m
+        → free_count desk.old.lives < length m + node_count (tree_of_map One m)) }
+    ensures untouched { IfErr result (λ _. (desk.new ≡ desk.old) × (rows.new ≡ rows.old)) }
+{
+    let Some(node) = tree else {
+        return Ok(Root {
+            link: 0,
+            digest: empty_digest(),
+        });
+    };
+    if rows_of_node(node) > desk.free() {
+        return Err(NoRoom);
+    }
+    Ok(plant_node(rows, desk, node))
+}

@@ -1,0 +1,12 @@
+pub mod Frames
+pub mod Decisions
+pub mod Steps
+pub mod Framed
+pub mod Agreed
+pub mod Falls
+pub mod Sound
+pub mod Complete
+pub mod Truth
+pub mod Beside
+pub mod NoOther
+pub mod Walks

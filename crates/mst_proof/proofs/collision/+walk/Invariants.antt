@@ -1,0 +1,5 @@
+use Rattle.std.proofs.Common.{length}
+use Rattle.mst_proof.proofs.collision.+walk.Given as goal
+
+abbrev pub decreases-walk : goal.decreases-walk
+decreases-walk g l = length l.texts

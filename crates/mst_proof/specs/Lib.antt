@@ -1,0 +1,5 @@
+pub mod Frame
+pub mod Verdict
+pub mod Accepted
+pub mod Theorem
+pub mod Beside

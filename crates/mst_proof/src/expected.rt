@@ -1,0 +1,91 @@
+//! What the verifier expects of the next text, and what the text says of the key.
+ghost use Rattle.std.specs.Prelude.{◌≡◌};
+ghost use Rattle.mst_proof.specs.Verdict.{is_under as under, first_expected, step_of as step_from, step_at};
+
+use crate::fault::ProofFault;
+use mst_key::{Key, Value};
+use mst_node::{Place, Span, digest, read_text};
+
+/// What is expected of the next text.
+#[derive(Debug, Drop)]
+pub(crate) struct Expected {
+    /// The digest of the text.
+    pub digest: [u8; 32],
+    /// The layer of the node above, below which the node lies, if there is one.
+    pub upper: Option<u8>,
+    /// The gap in which the node stands, where its keys lie.
+    pub span: Span,
+}
+
+/// What a text says of the key.
+#[derive(Debug, Drop)]
+pub(crate) enum Step {
+    /// The key has this value, or is absent.
+    Decided(Option<Value>),
+    /// The key lies in a gap that has a child.
+    Onward(Expected),
+}
+
+impl Step {
+    /// Of a key's place in a node of this layer.
+    fn of(layer: u8, place: Place) -> Step
+        ensures step { result ≡ step_from layer place }
+    {
+        match place {
+            Place::Held(value) => Step::Decided(Some(value)),
+            Place::Gap { child: None, .. } => Step::Decided(None),
+            Place::Gap {
+                child: Some(digest),
+                span,
+            } => Step::Onward(Expected {
+                digest,
+                upper: Some(layer),
+                span,
+            }),
+        }
+    }
+}
+
+/// Whether a layer lies below another, which need not be there.
+fn is_under(upper: Option<u8>, layer: u8) -> bool
+    ensures under { result ≡ under upper layer }
+{
+    match upper {
+        None => true,
+        Some(upper) => layer < upper,
+    }
+}
+
+impl Expected {
+    /// Of the first text.
+    pub(crate) fn first(root: &[u8; 32]) -> Expected
+        ensures first { result ≡ first_expected root.now }
+    {
+        Expected {
+            digest: *root,
+            upper: None,
+            span: Span::all(),
+        }
+    }
+
+    /// What the text says of the key, or the first test that it fails.
+    pub(crate) fn step(self, key: &Key, text: &[u8]) -> Result<Step, ProofFault>
+        ensures step { result ≡ step_at key.now self text.now }
+    {
+        let Ok(node) = read_text(text) else {
+            return Err(ProofFault::NoNode);
+        };
+        if digest(text) != self.digest {
+            return Err(ProofFault::OtherDigest);
+        }
+        let layer = node.layer();
+        if !is_under(self.upper, layer) {
+            return Err(ProofFault::LayerNotBelow);
+        }
+        if !node.lies_within(&self.span) {
+            return Err(ProofFault::KeyOutside);
+        }
+        let place = node.locate(key, self.span);
+        Ok(Step::of(layer, place))
+    }
+}

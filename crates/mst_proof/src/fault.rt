@@ -1,0 +1,34 @@
+//! The refusals of a proof.
+use thiserror::Error;
+
+/// The first test that a proof fails. The tests of the frame come first, in the order of `Version` to `LeftOver`, and then those of each text in turn.
+#[derive(Clone, Copy, Debug, PartialEq, Eq, Error)]
+pub enum ProofFault {
+    /// The first byte is not the version 01.
+    #[error("P1")]
+    Version,
+    /// The version, the number of texts, a length or a text is cut short.
+    #[error("P2")]
+    CutShort,
+    /// Bytes are left over behind the last text.
+    #[error("P3")]
+    LeftOver,
+    /// A text is not that of a node.
+    #[error("P4")]
+    NoNode,
+    /// The digest of a text is not the expected one: the root, or that of the child in the node above. So too where there is no text, and the root is not that of the empty map.
+    #[error("P5")]
+    OtherDigest,
+    /// The layer of a node is not below that of the node above.
+    #[error("P6")]
+    LayerNotBelow,
+    /// A key of a node lies outside the gap in which the node stands.
+    #[error("P7")]
+    KeyOutside,
+    /// The key's gap has a child, and no text follows.
+    #[error("P8")]
+    Unfinished,
+    /// A text follows although the key was decided.
+    #[error("P9")]
+    TextBehind,
+}

@@ -1,0 +1,19 @@
+//! The verifier of proofs, and the collisions behind a false answer.
+//!
+//! A proof frames the texts of the nodes that a search for a key meets in a map's Merkle search tree (Auvolat and Taïani 2019). `verify` follows them down from the root digest to the key's value or its absence. It needs nothing of the store that made the proof.
+//!
+//! The definitions that the contracts cite stand in `specs/`: `Verdict`, `Accepted`, `Frame`, and in `mst_node` `Trail`.
+#![tactic(auto)]
+
+mod collision;
+mod expected;
+mod fault;
+mod texts;
+mod verifier;
+
+pub use collision::{Pair, collide};
+pub use fault::ProofFault;
+pub use verifier::verify;
+
+#[cfg(test)]
+mod tests;

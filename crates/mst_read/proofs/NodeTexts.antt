@@ -1,0 +1,37 @@
+-- The text of a node that is written from its rows.
+use Rattle.std.proofs.Common.{◌≡◌, ℕ, List, ◌∷◌, ◌++◌, length, refl, sym, ◌∙◌, ap, arith, append_assoc}
+use Rattle.std.specs.Int.{w16, to_be_bytes}
+use Rattle.std.specs.List.{flat_map}
+use Rattle.mst_key.specs.declared.format.Format.TheVariants.{One}
+use Rattle.mst_node.specs.Tree.{node}
+use Rattle.mst_node.specs.Text.{text, entry_text, child_text, counted, child_digest, flat_entries, tail_digest}
+use Rattle.mst_arena.specs.Standing.{Placed, Chain, end, cell, tree_of, entries_of, count_of}
+
+-- the entries of the rest of a node and its last child, as they stand in its text
+abbrev pub rest_text : Chain → List ℕ
+rest_text rest = flat_map (entry_text One) (flat_entries One (entries_of One rest)) ++ child_text (tail_digest (entries_of One rest))
+
+entries_count : (c : Chain) → length (flat_entries One (entries_of One c)) ≡ count_of c
+entries_count (end p) = refl
+entries_count (cell at p k v c) = omega (arith, entries_count c)
+
+pub text_starts : (layer : ℕ) (c : Chain) (out : List ℕ) → out ≡ 1 ∷ layer ∷ to_be_bytes w16 (count_of c) → out ++ rest_text c ≡ text (node One layer (entries_of One c))
+text_starts layer c out is =
+    ap (λ (o : List ℕ). o ++ rest_text c) is
+    ∙ ap (λ (n : ℕ). 1 ∷ layer ∷ to_be_bytes w16 n ++ rest_text c) (sym (entries_count c))
+
+pub text_goes_on : (at : ℕ) (p : Placed) (key value : List ℕ) (rest : Chain) (out next whole : List ℕ) → out ++ rest_text (cell at p key value rest) ≡ whole → next ≡ ((out ++ child_text (child_digest (tree_of One p))) ++ counted key) ++ counted value → next ++ rest_text rest ≡ whole
+text_goes_on at p key value rest out next whole before is =
+    let a = child_text (child_digest (tree_of One p)) in
+    let b = counted key in
+    let v = counted value in
+    let f = flat_map (entry_text One) (flat_entries One (entries_of One rest)) in
+    let t = child_text (tail_digest (entries_of One rest)) in
+    let apart : (((out ++ a) ++ b) ++ v) ++ (f ++ t) ≡ out ++ ((((a ++ b) ++ v) ++ f) ++ t) = joined out a b v f t in
+    ap (λ (o : List ℕ). o ++ rest_text rest) is ∙ apart ∙ before
+  where
+    joined : (o a b v f t : List ℕ) → (((o ++ a) ++ b) ++ v) ++ (f ++ t) ≡ o ++ ((((a ++ b) ++ v) ++ f) ++ t)
+    joined o a b v f t = simp append_assoc refl
+
+pub text_ends : (p : Placed) (out last whole : List ℕ) → out ++ rest_text (end p) ≡ whole → last ≡ out ++ child_text (child_digest (tree_of One p)) → last ≡ whole
+text_ends p out last whole before is = is ∙ before

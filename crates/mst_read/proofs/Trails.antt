@@ -1,0 +1,140 @@
+-- The trail of a key along the rows of a tree.
+use Rattle.std.proofs.Common.{◌≡◌, ℕ, ◌+◌, ◌<◌, List, [], ◌∷◌, ◌++◌, length, map, Option, Some, None, refl, sym, ◌∙◌, ap, subst, arith, append_assoc}
+use Rattle.std.proofs.lemmas.List.{append-nil}
+use Rattle.std.specs.Int.{w32, to_be_bytes}
+use Rattle.std.specs.declared.cmp.Ordering.{Ordering}
+use Rattle.std.specs.declared.cmp.Ordering.TheVariants.{Less, Equal, Greater}
+use Rattle.mst_key.specs.declared.format.Format.{Format}
+use Rattle.mst_key.specs.declared.format.Format.TheVariants.{One}
+use Rattle.mst_key.specs.Map.{Pair, key_cmp}
+use Rattle.mst_node.specs.Tree.{Tree, node, IsMst, IsMstEntries, IsUnder}
+use Rattle.mst_node.specs.Text.{text}
+use Rattle.mst_node.specs.Trail.{nodes_met, met_in_gap, trail, framed, by_order}
+use Rattle.mst_node.proofs.Unique.{tree_mst}
+use Rattle.mst_arena.specs.Content.{Content}
+use Rattle.mst_arena.specs.declared.row.Root.{Root}
+use Rattle.mst_arena.specs.declared.row.HeadLinks.{HeadLinks}
+use Rattle.mst_arena.specs.Standing.{Placed, none, head, Chain, end, cell, tree_of, entries_of, link_of, first_of, tail_of, count_of, rows_of, chain_rows, HasRows, Stands}
+use Rattle.mst_arena.proofs.Stands.{all-front, all-back}
+use Rattle.mst_read.specs.Search.{Lies, LiesBehind, head_of, by_cmp, place, gap_placed}
+use Rattle.mst_read.specs.declared.lookup.Place.TheVariants.{Held, Gap}
+use Rattle.mst_read.proofs.Descend.{falls, depth}
+
+-- ---- the tree in the gap for a key
+
+pub gap_held : (k : List ℕ) (row : ℕ) (c : Chain) → place k c ≡ Held row → gap_placed k c ≡ none
+gap_held k row (end p) is = let no : Gap (link_of p) ≡ Held row = is in cc
+gap_held k row (cell at p key v c) is = go (key_cmp k key) is (gap_held k row c)
+  where
+    go : (o : Ordering) → by_cmp o (Gap (link_of p)) (Held at) (place k c) ≡ Held row → (place k c ≡ Held row → gap_placed k c ≡ none) → by_cmp o p none (gap_placed k c) ≡ none
+    go Less is further = let no : Gap (link_of p) ≡ Held row = is in cc
+    go Equal is further = refl
+    go Greater is further = further is
+
+pub gap_lies : (format : Format) (content : Content) (k : List ℕ) (link : ℕ) (c : Chain) → HasRows content (chain_rows format c) → place k c ≡ Gap link → Lies format content link (gap_placed k c)
+gap_lies format content k link (end p) rows is = let at : link_of p ≡ link = cc in record { at = at; rows = rows }
+gap_lies format content k link (cell at p key v c) rows is =
+    go (key_cmp k key) is (gap_lies format content k link c (all-back _ (rows_of format p) (chain_rows format c) rows.1))
+  where
+    go : (o : Ordering) → by_cmp o (Gap (link_of p)) (Held at) (place k c) ≡ Gap link → (place k c ≡ Gap link → Lies format content link (gap_placed k c)) → Lies format content link (by_cmp o p none (gap_placed k c))
+    go Less is further = let here : link_of p ≡ link = cc in record { at = here; rows = all-front _ (rows_of format p) (chain_rows format c) rows.1 }
+    go Equal is further = let no : Held at ≡ Gap link = is in cc
+    go Greater is further = further is
+
+-- what the gap's tree has: its rows, a layer below the node's, and the rest of the trail
+pub record InGap (content : Content) (k : List ℕ) (l : ℕ) (p : Placed) (met : List Tree) : Type 0 where
+  pub rows : HasRows content (rows_of One p)
+  pub mst : IsMst One (tree_of One p)
+  pub under : IsUnder l (tree_of One p)
+  pub trail : nodes_met k (tree_of One p) ≡ met
+
+pub in_gap : (content : Content) (k : List ℕ) (l : ℕ) (c : Chain) → HasRows content (chain_rows One c) → IsMstEntries One l (entries_of One c) → InGap content k l (gap_placed k c) (met_in_gap k (entries_of One c))
+in_gap content k l (end p) rows mst = record { rows = rows; mst = mst.1; under = mst.0; trail = refl }
+in_gap content k l (cell at p key v c) rows mst =
+    go (key_cmp k key) (in_gap content k l c (all-back _ (rows_of One p) (chain_rows One c) rows.1) mst.3)
+  where
+    go : (o : Ordering) → InGap content k l (gap_placed k c) (met_in_gap k (entries_of One c)) → InGap content k l (by_cmp o p none (gap_placed k c)) (by_order o (nodes_met k (tree_of One p)) [] (met_in_gap k (entries_of One c)))
+    go Less further = record { rows = all-front _ (rows_of One p) (chain_rows One c) rows.1; mst = mst.1; under = mst.0; trail = refl }
+    go Equal further = record { rows = tt; mst = tt; under = tt; trail = refl }
+    go Greater further = further
+
+-- ---- the walk down
+
+-- the texts so far, with those that the tree under the search adds, are those of the whole trail
+pub record Met (content : Content) (top : Option HeadLinks) (k texts : List ℕ) (count : ℕ) (whole : List Tree) : Type 0 where
+  pub placed : Placed
+  pub head_is : head_of placed ≡ top
+  pub rows : HasRows content (rows_of One placed)
+  pub mst : IsMst One (tree_of One placed)
+  pub holds : texts ++ framed (map text (nodes_met k (tree_of One placed))) ≡ framed (map text whole)
+  pub counts : count + length (nodes_met k (tree_of One placed)) ≡ length whole
+
+-- the same of a node whose head was read
+pub record MetNode (content : Content) (links : HeadLinks) (k texts : List ℕ) (count : ℕ) (whole : List Tree) : Type 0 where
+  pub chain : Chain
+  pub lies : LiesBehind One content links chain
+  pub mst : IsMstEntries One links.layer (entries_of One chain)
+  pub holds : texts ++ framed (map text (node One links.layer (entries_of One chain) ∷ met_in_gap k (entries_of One chain))) ≡ framed (map text whole)
+  pub counts : count + (length (met_in_gap k (entries_of One chain)) + 1) ≡ length whole
+
+module _ (content : Content) (k : List ℕ) where
+  pub begins : (at : Root) (m : List Pair) (s : Stands One content at m) (top : Option HeadLinks) → top ≡ head_of s.tree.placed → Met content top k [] 0 (trail One m k)
+  begins at m s top is = record {
+    placed = s.tree.placed;
+    head_is = sym is;
+    rows = s.tree.rows;
+    mst = let Mst : Tree → Type 0 = IsMst One in subst Mst (sym s.tree.is) (tree_mst One m);
+    holds = ap (λ (t : Tree). framed (map text (nodes_met k t))) s.tree.is;
+    counts = omega (arith, ap (λ (t : Tree). length (nodes_met k t)) s.tree.is);
+  }
+
+  pub opens : (links : HeadLinks) (top : Option HeadLinks) (texts : List ℕ) (count : ℕ) (whole : List Tree) → top ≡ Some links → Met content top k texts count whole → MetNode content links k texts count whole
+  opens links top texts count whole some r = go r.placed (r.head_is ∙ some) r.rows r.mst r.holds r.counts
+    where
+      go : (p : Placed) → head_of p ≡ Some links → HasRows content (rows_of One p) → IsMst One (tree_of One p) → texts ++ framed (map text (nodes_met k (tree_of One p))) ≡ framed (map text whole) → count + length (nodes_met k (tree_of One p)) ≡ length whole → MetNode content links k texts count whole
+      go none is rows mst holds counts = let no : ◌≡◌ {A = Option HeadLinks} None (Some links) = is in cc
+      go (head at l c) is rows mst holds counts =
+          let whole_links : ◌≡◌ {A = Option HeadLinks} (Some (record { layer = l; count = count_of c; first = first_of c; tail = tail_of c })) (Some links) = is in
+          let fields : record { layer = l; count = count_of c; first = first_of c; tail = tail_of c } ≡ links = cc in
+          record {
+            chain = c;
+            lies = record {
+              first = ap (λ (x : HeadLinks). x.first) fields;
+              tail = ap (λ (x : HeadLinks). x.tail) fields;
+              count = ap (λ (x : HeadLinks). x.count) fields;
+              rows = rows.1;
+            };
+            mst = subst (λ (x : HeadLinks). IsMstEntries One x.layer (entries_of One c)) fields mst.2;
+            holds = subst (λ (x : HeadLinks). texts ++ framed (map text (node One x.layer (entries_of One c) ∷ met_in_gap k (entries_of One c))) ≡ framed (map text whole)) fields holds;
+            counts = omega (arith, counts);
+          }
+
+  pub goes_on : (links : HeadLinks) (texts next t : List ℕ) (count : ℕ) (whole : List Tree) (d : MetNode content links k texts count whole) (top : Option HeadLinks) → top ≡ head_of (gap_placed k d.chain) → t ≡ text (node One links.layer (entries_of One d.chain)) → next ≡ texts ++ (to_be_bytes w32 (length t) ++ t) → Met content top k next (count + 1) whole
+  goes_on links texts next t count whole d top is text_is next_is =
+      let g = in_gap content k links.layer d.chain d.lies.rows d.mst in
+      record {
+        placed = gap_placed k d.chain;
+        head_is = sym is;
+        rows = g.rows;
+        mst = g.mst;
+        holds = ap (λ (x : List ℕ). x ++ framed (map text (nodes_met k (tree_of One (gap_placed k d.chain))))) (next_is ∙ ap (λ (x : List ℕ). texts ++ (to_be_bytes w32 (length x) ++ x)) text_is)
+            ∙ ap (λ (ns : List Tree). (texts ++ (to_be_bytes w32 (length (text (node One links.layer (entries_of One d.chain)))) ++ text (node One links.layer (entries_of One d.chain)))) ++ framed (map text ns)) g.trail
+            ∙ append_assoc texts _ _
+            ∙ d.holds;
+        counts = omega (arith, d.counts, ap length g.trail);
+      }
+
+  pub goes_down : (links : HeadLinks) (texts : List ℕ) (count : ℕ) (whole : List Tree) (d : MetNode content links k texts count whole) (top : Option HeadLinks) → top ≡ head_of (gap_placed k d.chain) → depth top < links.layer + 1
+  goes_down links texts count whole d top is = falls One content links.layer (gap_placed k d.chain) top (in_gap content k links.layer d.chain d.lies.rows d.mst).under is
+
+  -- at the end of the trail
+  pub record Whole (texts : List ℕ) (count : ℕ) (whole : List Tree) : Type 0 where
+    pub texts_are : texts ≡ framed (map text whole)
+    pub count_is : count ≡ length whole
+
+  pub ends : (top : Option HeadLinks) (texts : List ℕ) (count : ℕ) (whole : List Tree) → top ≡ None → Met content top k texts count whole → Whole texts count whole
+  ends top texts count whole nothing r = go r.placed (r.head_is ∙ nothing) r.holds r.counts
+    where
+      go : (p : Placed) → head_of p ≡ None → texts ++ framed (map text (nodes_met k (tree_of One p))) ≡ framed (map text whole) → count + length (nodes_met k (tree_of One p)) ≡ length whole → Whole texts count whole
+      go none is holds counts = record { texts_are = sym (append-nil texts) ∙ holds; count_is = omega (arith, counts) }
+      go (head at l c) is holds counts = let no : ◌≡◌ {A = Option HeadLinks} (Some (record { layer = l; count = count_of c; first = first_of c; tail = tail_of c })) None = is in cc

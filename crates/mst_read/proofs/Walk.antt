@@ -1,0 +1,80 @@
+-- A walk along the entries of a node.
+use Rattle.std.proofs.Common.{◌≡◌, ℕ, ◌+◌, ◌-◌, ◌<◌, List, Some, sym, ◌∙◌, ap, subst, arith}
+use Rattle.mst_key.specs.declared.format.Format.{Format}
+use Rattle.mst_arena.specs.Content.{Content, part_at}
+use Rattle.mst_arena.specs.Row.{entry_links}
+use Rattle.mst_arena.specs.declared.row.Row.TheVariants.{Entry}
+use Rattle.mst_arena.specs.declared.row.EntryLinks.{EntryLinks}
+use Rattle.mst_arena.specs.Standing.{Placed, Chain, end, cell, link_of, first_of, tail_of, count_of, rows_of, chain_rows, HasRows}
+use Rattle.mst_arena.proofs.Stands.{all-front, all-back}
+
+-- the rest of a chain behind as many entries as are done: it begins at the link, and something holds of it
+pub record Onward (format : Format) (content : Content) (tail next done all : ℕ) (P : Chain → Type 0) : Type 0 where
+  pub rest : Chain
+  pub first_is : first_of rest ≡ next
+  pub tail_is : tail_of rest ≡ tail
+  pub left : count_of rest + done ≡ all
+  pub rows : HasRows content (chain_rows format rest)
+  pub holds : P rest
+
+-- the rest of a chain begins with the entry that was read
+pub record AtCell (format : Format) (content : Content) (tail row done all : ℕ) (e : EntryLinks) (P : Chain → Type 0) : Type 0 where
+  pub child : Placed
+  pub value : List ℕ
+  pub rest : Chain
+  pub child_is : link_of child ≡ e.child
+  pub first_is : first_of rest ≡ e.next
+  pub links_are : record { child = link_of child; next = first_of rest; key = e.key } ≡ e
+  pub tail_is : tail_of rest ≡ tail
+  pub left : count_of rest + (done + 1) ≡ all
+  pub here : content row ≡ Some (Entry (link_of child) (first_of rest) e.key value)
+  pub child_rows : HasRows content (rows_of format child)
+  pub rows : HasRows content (chain_rows format rest)
+  pub holds : P (cell row child e.key value rest)
+
+-- nothing but the tree of the last gap is left of the chain
+pub record AtEnd (format : Format) (content : Content) (tail : ℕ) (P : Chain → Type 0) : Type 0 where
+  pub child : Placed
+  pub child_is : link_of child ≡ tail
+  pub rows : HasRows content (rows_of format child)
+  pub holds : P (end child)
+
+module _ (format : Format) (content : Content) where
+  pub at_cell : (tail next done all : ℕ) (P : Chain → Type 0) → Onward format content tail next done all P → done < all → (e : EntryLinks) → part_at entry_links content (next - 1) ≡ Some e → AtCell format content tail (next - 1) done all e P
+  at_cell tail next done all P o lt e part = go o.rest o.first_is o.tail_is o.left o.rows o.holds
+    where
+      go : (c : Chain) → first_of c ≡ next → tail_of c ≡ tail → count_of c + done ≡ all → HasRows content (chain_rows format c) → P c → AtCell format content tail (next - 1) done all e P
+      go (end p) first tail_is left rows holds = absurd (omega arith)
+      go (cell at p key v c) first tail_is left rows holds =
+          let is : at ≡ next - 1 = omega arith in
+          let row : content (next - 1) ≡ Some (Entry (link_of p) (first_of c) key v) = ap content (sym is) ∙ rows.0 in
+          let parts : Some (record { child = link_of p; next = first_of c; key = key }) ≡ Some e = rw row at part in
+          let fields : record { child = link_of p; next = first_of c; key = key } ≡ e = cc in
+          let child_is : link_of p ≡ e.child = ap (λ (x : EntryLinks). x.child) fields in
+          let next_is : first_of c ≡ e.next = ap (λ (x : EntryLinks). x.next) fields in
+          let key_is : key ≡ e.key = ap (λ (x : EntryLinks). x.key) fields in
+          record {
+            child = p;
+            value = v;
+            rest = c;
+            child_is = child_is;
+            first_is = next_is;
+            links_are = λ i. record { child = child_is i; next = next_is i; key = e.key };
+            tail_is = tail_is;
+            left = omega arith;
+            here = row ∙ ap (λ (k : List ℕ). Some (Entry (link_of p) (first_of c) k v)) key_is;
+            child_rows = all-front _ (rows_of format p) (chain_rows format c) rows.1;
+            rows = all-back _ (rows_of format p) (chain_rows format c) rows.1;
+            holds = subst (λ (k : List ℕ). P (cell (next - 1) p k v c)) key_is (subst (λ (n : ℕ). P (cell n p key v c)) is holds);
+          }
+
+  pub further : (tail row done all : ℕ) (e : EntryLinks) (P Q : Chain → Type 0) (a : AtCell format content tail row done all e P) → Q a.rest → Onward format content tail e.next (done + 1) all Q
+  further tail row done all e P Q a holds =
+      record { rest = a.rest; first_is = a.first_is; tail_is = a.tail_is; left = a.left; rows = a.rows; holds = holds }
+
+  pub at_end : (tail next done all : ℕ) (P : Chain → Type 0) → Onward format content tail next done all P → all ≡ done → AtEnd format content tail P
+  at_end tail next done all P o is = go o.rest o.tail_is o.left o.rows o.holds
+    where
+      go : (c : Chain) → tail_of c ≡ tail → count_of c + done ≡ all → HasRows content (chain_rows format c) → P c → AtEnd format content tail P
+      go (end p) tail_is left rows holds = record { child = p; child_is = tail_is; rows = rows; holds = holds }
+      go (cell at p key v c) tail_is left rows holds = absurd (omega arith)

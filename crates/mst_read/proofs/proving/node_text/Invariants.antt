@@ -1,0 +1,17 @@
+use Rattle.std.proofs.Common.{◌≡◌, ◌++◌}
+use Rattle.mst_key.specs.declared.format.Format.TheVariants.{One}
+use Rattle.mst_node.specs.Tree.{node}
+use Rattle.mst_node.specs.Text.{text}
+use Rattle.mst_arena.specs.Standing.{Chain, entries_of}
+use Rattle.mst_read.specs.Search.{LiesBehind}
+use Rattle.mst_read.proofs.Walk.{Onward}
+use Rattle.mst_read.proofs.NodeTexts.{rest_text}
+use Rattle.mst_read.proofs.proving.node_text.Given as goal
+
+-- what is written, with the text of the rest, is the text of the whole node
+abbrev pub invariant-loop : goal.invariant-loop
+invariant-loop g l = record {
+  same : l.rows ≡ l.initial.rows;
+  onward : (c : Chain) → LiesBehind One (g.R.Rows.content l.initial.rows) l.head c
+      → Onward One (g.R.Rows.content l.initial.rows) l.head.tail l.link l.counter l.end (λ rest. l.out.items ++ rest_text rest ≡ text (node One l.head.layer (entries_of One c)));
+}

@@ -1,0 +1,20 @@
+use Rattle.std.proofs.Common.{◌≡◌, List}
+use Rattle.mst_key.specs.declared.format.Format.TheVariants.{One}
+use Rattle.mst_key.specs.Map.{Pair}
+use Rattle.mst_node.specs.Trail.{trail}
+use Rattle.mst_arena.specs.Standing.{Stands}
+use Rattle.mst_read.proofs.Descend.{depth}
+use Rattle.mst_read.proofs.Trails.{Met}
+use Rattle.mst_read.proofs.proving.prove.Given as goal
+
+-- the texts so far begin those of the trail
+abbrev pub invariant-loop-top : goal.invariant-loop-top
+invariant-loop-top g l = record {
+  same : l.rows ≡ l.fn.rows;
+  met : (m : List Pair) → Stands One (g.R.Rows.content l.fn.rows) l.root m
+      → Met (g.R.Rows.content l.fn.rows) l.top l.key l.texts.items l.count (trail One m l.key);
+}
+
+-- layers fall
+abbrev pub decreases-loop-top : goal.decreases-loop-top
+decreases-loop-top g l = depth l.top

@@ -1,0 +1,67 @@
+-- Rows that stand for a map at a root, and where a search comes to in the rows of a node.
+use Rattle.std.specs.Prelude.{◌≡◌, ℕ, if◌then◌else◌, List, Option, Some, None}
+use Rattle.std.specs.declared.cmp.Ordering.{Ordering}
+use Rattle.std.specs.declared.cmp.Ordering.TheVariants.{Less, Equal, Greater}
+use Rattle.mst_key.specs.declared.format.Format.{Format}
+use Rattle.mst_key.specs.Map.{Pair, key_cmp, above}
+use Rattle.mst_arena.specs.Content.{Content}
+use Rattle.mst_arena.specs.Standing.{Placed, none, head, Chain, end, cell, link_of, first_of, tail_of, count_of, rows_of, chain_rows, HasRows, Stands}
+use Rattle.mst_arena.specs.declared.row.EntryLinks.{EntryLinks}
+use Rattle.mst_arena.specs.declared.row.HeadLinks.{HeadLinks}
+use Rattle.mst_arena.specs.declared.row.Root.{Root}
+use Rattle.mst_read.specs.declared.lookup.Place.{Place}
+use Rattle.mst_read.specs.declared.lookup.Place.TheVariants.{Held, Gap}
+
+-- the rows stand for some map at the root
+abbrev pub MapStands : Content → Root → Type 0
+MapStands content at = (format : Format) × (m : List Pair) × Stands format content at m
+
+-- ---- the rows of a tree, and those of a node behind its head
+
+-- the rows of the placed tree are in the content, and this is its link
+pub record Lies (format : Format) (content : Content) (link : ℕ) (p : Placed) : Type 0 where
+  pub at : link_of p ≡ link
+  pub rows : HasRows content (rows_of format p)
+
+-- the rows of the chain are in the content, and these are the links of its head
+pub record LiesBehind (format : Format) (content : Content) (links : HeadLinks) (chain : Chain) : Type 0 where
+  pub first : first_of chain ≡ links.first
+  pub tail : tail_of chain ≡ links.tail
+  pub count : count_of chain ≡ links.count
+  pub rows : HasRows content (chain_rows format chain)
+
+abbrev pub TreeLies : Content → ℕ → Type 0
+TreeLies content link = (format : Format) × (p : Placed) × Lies format content link p
+
+abbrev pub ChainLies : Content → HeadLinks → Type 0
+ChainLies content links = (format : Format) × (chain : Chain) × LiesBehind format content links chain
+
+-- what a search reads of a tree's head: none of the empty tree
+abbrev pub head_of : Placed → Option HeadLinks
+head_of none = None
+head_of (head at layer chain) = Some (record { layer = layer; count = count_of chain; first = first_of chain; tail = tail_of chain })
+
+-- ---- where a search comes to
+
+-- what is chosen by a comparison
+abbrev pub by_cmp : {A : Type 0} → Ordering → A → A → A → A
+by_cmp Less less equal greater = less
+by_cmp Equal less equal greater = equal
+by_cmp Greater less equal greater = greater
+
+-- the row that has the key, or the link of the tree in the gap in which the key would lie
+abbrev pub place : List ℕ → Chain → Place
+place k (end child) = Gap (link_of child)
+place k (cell at child key value rest) = by_cmp (key_cmp k key) (Gap (link_of child)) (Held at) (place k rest)
+
+-- the first entry whose key is above the bound, and its row
+abbrev pub entry_above : Option (List ℕ) → Chain → Option (ℕ × EntryLinks)
+entry_above bound (end child) = None
+entry_above bound (cell at child key value rest) =
+    if above bound key then Some (at, record { child = link_of child; next = first_of rest; key = key })
+    else entry_above bound rest
+
+-- the tree in the gap in which the key would lie; the empty tree where an entry has the key
+abbrev pub gap_placed : List ℕ → Chain → Placed
+gap_placed k (end child) = child
+gap_placed k (cell at child key value rest) = by_cmp (key_cmp k key) child none (gap_placed k rest)

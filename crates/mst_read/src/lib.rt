@@ -1,0 +1,17 @@
+//! Reads over the rows that stand for the tree of a map.
+//!
+//! Each call is exact by the sorted list of the map's pairs, and walks the rows of the tree without making that list: [`get`], [`next`] and [`prove`] go down one path, [`range`] visits only the nodes that its answer meets. `specs/` defines where a search comes to in the rows of a node.
+#![tactic(auto)]
+
+mod descent;
+mod following;
+mod lookup;
+mod proving;
+mod ranges;
+mod roots;
+
+pub use following::next;
+pub use lookup::get;
+pub use proving::prove;
+pub use ranges::range;
+pub use roots::root;

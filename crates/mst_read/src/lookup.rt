@@ -1,0 +1,59 @@
+//! The value of a key.
+ghost use Rattle.std.specs.Prelude.{◌≡◌, List};
+ghost use Rattle.mst_key.specs.declared.format.Format.{Format};
+ghost use Rattle.mst_key.specs.Map.{Pair, look};
+ghost use Rattle.mst_arena.specs.Standing.{Chain, Stands};
+ghost use Rattle.mst_read.specs.Search.{ChainLies, LiesBehind, MapStands, place};
+
+use crate::descent::head_at;
+use mst_arena::{HeadLinks, Root, Rows};
+use mst_key::{Key, Value};
+use std::cmp::Ordering;
+
+/// Where a search comes to in a node.
+#[derive(Clone, Copy, Debug)]
+pub enum Place {
+    /// The row of the entry that has the key.
+    Held(u32),
+    /// The link of the tree in the gap in which the key would lie.
+    Gap(u32),
+}
+
+/// Searches the entries of a node, from the least key on.
+pub fn seek<R: Rows>(rows: &mut R, head: &HeadLinks, key: &Key) -> Place
+    requires lies { ChainLies (R.content rows.old) head.now }
+    ensures place { (f : Format) (c : Chain) → LiesBehind f (R.content rows.old) head.now c
+        → result ≡ place key.now c }
+    ensures same { rows.new ≡ rows.old }
+{
+    let mut link = head.first;
+    for _ in 0..head.count {
+        let row = link - 1;
+        let entry = rows.entry(row);
+        match key.cmp(&entry.key) {
+            Ordering::Less => return Place::Gap(entry.child),
+            Ordering::Equal => return Place::Held(row),
+            Ordering::Greater => link = entry.next,
+        }
+    }
+    Place::Gap(head.tail)
+}
+
+/// The value of the key in the map that stands at the root.
+///
+/// It reads the head of each node on the way to the key, at most 65, and of the entries of these nodes those with keys up to the first that is not below the key; and at last the key's value, once.
+pub fn get<R: Rows>(rows: &mut R, root: &Root, key: &Key) -> Option<Value>
+    requires stands { MapStands (R.content rows.old) root.now }
+    ensures found { (f : Format) (m : List Pair) → Stands f (R.content rows.old) root.now m
+        → result ≡ look m key.now }
+    ensures same { rows.new ≡ rows.old }
+{
+    let mut top = head_at(rows, root.link);
+    while let Some(head) = top {
+        match seek(rows, &head, key) {
+            Place::Held(row) => return Some(rows.value(row)),
+            Place::Gap(link) => top = head_at(rows, link),
+        }
+    }
+    None
+}

@@ -1,0 +1,143 @@
+//! The proof of a key's answer.
+ghost use Rattle.std.specs.Prelude.{◌≡◌, ◌≤◌, ◌++◌, List, length, OnOk, IfOk};
+ghost use Rattle.mst_key.specs.declared.format.Format.TheVariants.{One};
+ghost use Rattle.mst_key.specs.Map.{Pair};
+ghost use Rattle.mst_node.specs.Tree.{node};
+ghost use Rattle.mst_node.specs.Text.{child_digest, child_text, counted, text};
+ghost use Rattle.mst_node.specs.Trail.{proof_text};
+ghost use Rattle.mst_arena.specs.Standing.{Placed, Chain, Stands, tree_of, entries_of};
+ghost use Rattle.std.specs.Int.{w32, to_be_bytes};
+ghost use Rattle.mst_key.specs.declared.format.Format.{Format};
+ghost use Rattle.mst_read.specs.Search.{ChainLies, Lies, LiesBehind, gap_placed, head_of};
+
+use crate::descent::head_at;
+use crate::lookup::{Place, seek};
+use mst_arena::{HeadLinks, Root, Rows};
+use mst_key::{Key, Memory};
+use std::alloc::Allocator;
+
+/// Appends a byte 1 and the digest of the tree at the link, or a byte 0 for the empty tree.
+fn push_gap<R: Rows, A: Allocator>(
+    rows: &mut R,
+    link: u32,
+    out: &mut Vec<u8, A>,
+) -> Result<(), Memory>
+    requires lies { (p : Placed) × Lies One (R.content rows.old) link p }
+    ensures ok { (p : Placed) → Lies One (R.content rows.old) link p
+        → OnOk result (out.new.items ≡ out.old.items ++ child_text (child_digest (tree_of One p))) }
+    ensures same { rows.new ≡ rows.old }
+{
+    if link == 0 {
+        out.push(0)?;
+    } else {
+        let digest = rows.digest(link - 1);
+        out.push(1)?;
+        out.extend_from_slice(digest.as_slice())?;
+    }
+    Ok(())
+}
+
+/// Appends at most 255 bytes behind their number.
+fn push_counted<A: Allocator>(out: &mut Vec<u8, A>, bytes: &[u8]) -> Result<(), Memory>
+    requires few { length bytes.now ≤ 255 }
+    ensures ok { OnOk result (out.new.items ≡ out.old.items ++ counted bytes.now) }
+{
+    out.push(bytes.len() as u8)?;
+    out.extend_from_slice(bytes)?;
+    Ok(())
+}
+
+/// The text of the node behind the head.
+fn node_text<R: Rows, A: Allocator>(
+    alloc: A,
+    rows: &mut R,
+    head: &HeadLinks,
+) -> Result<Vec<u8, A>, Memory>
+    requires lies { (c : Chain) × LiesBehind One (R.content rows.old) head.now c }
+    ensures ok { (c : Chain) → LiesBehind One (R.content rows.old) head.now c
+        → IfOk result (λ t. t.items ≡ text (node One head.now.layer (entries_of One c))) }
+    ensures same { rows.new ≡ rows.old }
+{
+    // no head has more than 65,534 entries
+    let Ok(count) = u16::try_from(head.count) else {
+        return Err(Memory);
+    };
+    let mut out = Vec::new(alloc);
+    out.push(1)?;
+    out.push(head.layer)?;
+    out.extend_from_slice(count.to_be_bytes().as_slice())?;
+    let mut link = head.first;
+    for _ in 0..head.count {
+        let row = link - 1;
+        let entry = rows.entry(row);
+        let value = rows.value(row);
+        push_gap(rows, entry.child, &mut out)?;
+        push_counted(&mut out, entry.key.bytes())?;
+        push_counted(&mut out, value.bytes())?;
+        link = entry.next;
+    }
+    push_gap(rows, head.tail, &mut out)?;
+    Ok(out)
+}
+
+/// Appends a text behind its length in four bytes, the high one first.
+fn push_framed<A: Allocator>(out: &mut Vec<u8, A>, text: &[u8]) -> Result<(), Memory>
+    ensures ok { OnOk result (out.new.items ≡ out.old.items ++ (to_be_bytes w32 (length text.now) ++ text.now)) }
+{
+    // no text is longer than 65,534 entries make it
+    let Ok(size) = u32::try_from(text.len()) else {
+        return Err(Memory);
+    };
+    out.extend_from_slice(size.to_be_bytes().as_slice())?;
+    out.extend_from_slice(text)?;
+    Ok(())
+}
+
+/// The head of the tree in the gap in which the key would lie; none where the node has the key, or the gap no tree.
+fn gap_met<R: Rows>(rows: &mut R, head: &HeadLinks, key: &Key) -> Option<HeadLinks>
+    requires lies { ChainLies (R.content rows.old) head.now }
+    ensures head { (f : Format) (c : Chain) → LiesBehind f (R.content rows.old) head.now c
+        → result ≡ head_of (gap_placed key.now c) }
+    ensures same { rows.new ≡ rows.old }
+{
+    match seek(rows, head, key) {
+        Place::Held(_row) => None,
+        Place::Gap(link) => head_at(rows, link),
+    }
+}
+
+/// The proof of the map's answer for the key: the texts of the nodes that the search for the key meets, from the top down, each behind its length in four bytes, and in front of them the version 1 and their number.
+///
+/// `Memory` comes only where a growth was refused, and changes nothing.
+///
+/// It reads the nodes on the way to the key, at most 65: of each all entries with their values, and the digests of its children.
+pub fn prove<R: Rows, A: Allocator + Copy>(
+    alloc: A,
+    rows: &mut R,
+    root: &Root,
+    key: &Key,
+) -> Result<Vec<u8, A>, Memory>
+    requires stands { (m : List Pair) × Stands One (R.content rows.old) root.now m }
+    ensures proof { (m : List Pair) → Stands One (R.content rows.old) root.now m
+        → IfOk result (λ proof. proof.items ≡ proof_text One m key.now) }
+    ensures same { rows.new ≡ rows.old }
+{
+    let mut texts = Vec::new(alloc);
+    let mut count = 0u8;
+    let mut top = head_at(rows, root.link);
+    while let Some(head) = top {
+        let text = node_text(alloc, rows, &head)?;
+        push_framed(&mut texts, text.as_slice())?;
+        // no way down is longer than 65 nodes
+        let Some(more) = count.checked_add(1) else {
+            return Err(Memory);
+        };
+        count = more;
+        top = gap_met(rows, &head, key);
+    }
+    let mut proof = Vec::new(alloc);
+    proof.push(1)?;
+    proof.push(count)?;
+    proof.extend_from_slice(texts.as_slice())?;
+    Ok(proof)
+}

@@ -1,0 +1,14 @@
+pub mod Putting
+pub mod Cutting
+pub mod Reading
+pub mod Parts
+pub mod Driving
+pub mod Numbers
+pub mod Dealing
+pub mod AllOf
+pub mod Settling
+pub mod Pairs
+pub mod Asking
+pub mod Serving
+pub mod Scripts
+pub mod Worked

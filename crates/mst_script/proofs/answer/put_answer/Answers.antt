@@ -1,0 +1,35 @@
+use Rattle.std.proofs.Common.{◌≡◌, ◌++◌, ℕ, List, sym, ap, ◌∙◌, subst, rules}
+use Rattle.mst_script.specs.Device.{Puts, Breaks}
+use Rattle.mst_script.specs.Texts.{line_of, count_words, pair_lines}
+use Rattle.mst_script.specs.Answers.{text_of}
+use Rattle.mst_script.proofs.Putting.{on_err, map_ok, map_err, puts_then, puts_breaks}
+use Rattle.mst_script.proofs.Pairs.{breaks_more}
+use Rattle.mst_script.proofs.answer.put_answer.Goals as goal
+
+pub returns-in_err-put-in-Pairs-clause-err : goal.returns-in_err-put-in-Pairs-clause-err
+returns-in_err-put-in-Pairs-clause-err g c = let found = c.in-Pairs.pairs.items in
+    let first : c.as_slice.result.now ≡ line_of (count_words found) = search rules in
+    let all : text_of c.args.answer.now ≡ c.as_slice.result.now ++ pair_lines found = ap text_of c.in-Pairs.is ∙ ap (λ (l : List ℕ). l ++ pair_lines found) (sym first) in
+    on_err c.from_residual.result
+    (subst (λ (l : List ℕ). Breaks g.W.Sink.takes c.args.sink.now c.args.pending.now l c.put.new.sink) (sym all)
+    (breaks_more g.W.Sink.takes c.args.sink.now c.put.new.sink c.args.pending.now c.as_slice.result.now (pair_lines found) c.in_err-put-in-Pairs.ensures.err))
+
+pub returns-in_ok-put-in-Pairs-clause-ok : goal.returns-in_ok-put-in-Pairs-clause-ok
+returns-in_ok-put-in-Pairs-clause-ok g c = let found = c.in-Pairs.pairs.items in
+    let first : c.as_slice.result.now ≡ line_of (count_words found) = search rules in
+    let slice : c.as_slice-in-Pairs.result.now ≡ found = search rules in
+    let all : text_of c.args.answer.now ≡ c.as_slice.result.now ++ pair_lines c.as_slice-in-Pairs.result.now =
+    ap text_of c.in-Pairs.is ∙ ap (λ (l : List ℕ). l ++ pair_lines found) (sym first) ∙ ap (λ ps. c.as_slice.result.now ++ pair_lines ps) (sym slice) in
+    map_ok c.put_pairs.result c.put_pairs.ensures.ok (λ puts.
+    subst (λ (l : List ℕ). Puts g.W.Sink.takes c.args.sink.now c.args.pending.now l c.put_pairs.new.sink c.put_pairs.new.pending) (sym all)
+    (puts_then g.W.Sink.takes g.met.W.Sink.takes_more c.args.sink.now c.put.new.sink c.put_pairs.new.sink c.args.pending.now c.put.new.self c.put_pairs.new.pending c.as_slice.result.now (pair_lines c.as_slice-in-Pairs.result.now) c.in_ok-put-in-Pairs.ensures.ok puts))
+
+pub returns-in_ok-put-in-Pairs-clause-err : goal.returns-in_ok-put-in-Pairs-clause-err
+returns-in_ok-put-in-Pairs-clause-err g c = let found = c.in-Pairs.pairs.items in
+    let first : c.as_slice.result.now ≡ line_of (count_words found) = search rules in
+    let slice : c.as_slice-in-Pairs.result.now ≡ found = search rules in
+    let all : text_of c.args.answer.now ≡ c.as_slice.result.now ++ pair_lines c.as_slice-in-Pairs.result.now =
+    ap text_of c.in-Pairs.is ∙ ap (λ (l : List ℕ). l ++ pair_lines found) (sym first) ∙ ap (λ ps. c.as_slice.result.now ++ pair_lines ps) (sym slice) in
+    map_err c.put_pairs.result c.put_pairs.ensures.err (λ broke.
+    subst (λ (l : List ℕ). Breaks g.W.Sink.takes c.args.sink.now c.args.pending.now l c.put_pairs.new.sink) (sym all)
+    (puts_breaks g.W.Sink.takes g.met.W.Sink.takes_more c.args.sink.now c.put.new.sink c.put_pairs.new.sink c.args.pending.now c.put.new.self c.as_slice.result.now (pair_lines c.as_slice-in-Pairs.result.now) c.in_ok-put-in-Pairs.ensures.ok broke))

@@ -1,0 +1,33 @@
+use Rattle.std.proofs.Common.{◌≡◌, rules, sym, ap, ◌∙◌}
+use Rattle.std.specs.Option.{option_copied}
+use Rattle.mst_key.specs.declared.history.Change.TheVariants as change
+use Rattle.mst_script.specs.declared.request.Command.TheVariants.{Put, Remove, Get, Next, Root}
+use Rattle.mst_script.specs.Answers.{text_of}
+use Rattle.mst_script.proofs.Asking.{asked, written, value_read, pair_read, root_read}
+use Rattle.mst_script.proofs.serve.ask.Goals as goal
+
+pub returns-in-Put : goal.returns-in-Put
+returns-in-Put g c = let k = c.in-Put.key in let v = c.in-Put.value in let p = c.args.pass.now in let q = c.try_put.new.self in
+    asked c.args.command.now (Put k v) p q (text_of c.write_answer_of.result) c.in-Put.is
+    (written (change.Put k v) p q c.try_put.result c.write_answer_of.result c.write_answer_of.ensures c.try_put.ensures.ok c.try_put.ensures.err)
+
+pub returns-in-Remove : goal.returns-in-Remove
+returns-in-Remove g c = let k = c.in-Remove.key in let p = c.args.pass.now in let q = c.try_remove.new.self in
+    asked c.args.command.now (Remove k) p q (text_of c.write_answer_of-in-Remove.result) c.in-Remove.is
+    (written (change.Remove k) p q c.try_remove.result c.write_answer_of-in-Remove.result c.write_answer_of-in-Remove.ensures c.try_remove.ensures.ok c.try_remove.ensures.err)
+
+pub returns-in-Get : goal.returns-in-Get
+returns-in-Get g c = let k = c.in-Get.key in let p = c.args.pass.now in let q = c.get.new.self in
+    asked c.args.command.now (Get k) p q (text_of c.value_answer_of.result) c.in-Get.is
+    (value_read k p q c.get.result c.value_answer_of.result c.value_answer_of.ensures c.get.ensures.ok c.get.ensures.busy)
+
+pub returns-in-Next : goal.returns-in-Next
+returns-in-Next g c = let p = c.args.pass.now in let q = c.next.new.self in
+    let same : option_copied c.as_ref.result ≡ c.in-Next.bound = search rules in
+    asked c.args.command.now (Next (option_copied c.as_ref.result)) p q (text_of c.pair_answer_of.result) (c.in-Next.is ∙ ap Next (sym same))
+    (pair_read (option_copied c.as_ref.result) p q c.next.result c.pair_answer_of.result c.pair_answer_of.ensures c.next.ensures.ok c.next.ensures.busy)
+
+pub returns-in-Root : goal.returns-in-Root
+returns-in-Root g c = let p = c.args.pass.now in let q = c.root.new.self in
+    asked c.args.command.now Root p q (text_of c.root_answer_of.result) c.in-Root.is
+    (root_read p q c.root.result c.root_answer_of.result c.root_answer_of.ensures c.root.ensures.ok c.root.ensures.busy)

@@ -1,0 +1,50 @@
+-- Answers as the code keeps them, and their text.
+use Rattle.std.specs.Prelude.{ℕ, List, ◌++◌, Option, Result, Ok, Err, codes}
+use Rattle.mst_store.specs.declared.faults.WriteFault.{WriteFault}
+use Rattle.mst_store.specs.declared.faults.WriteFault.TheVariants as write
+use Rattle.mst_script.specs.declared.answer.Answer.{Answer}
+use Rattle.mst_script.specs.declared.answer.Answer.TheVariants.{Refused, Value, Pair, Pairs, Root, Busy, Spent, NoRoom, Memory}
+use Rattle.mst_script.specs.Texts.{line_of, fault_words, digits_of, value_words, found_words, count_words, pair_lines}
+
+-- the words of the first line
+abbrev pub first_words : {A : Type 0} → Answer A → List ℕ
+first_words (Refused fault) = fault_words fault
+first_words (Value found) = value_words found
+first_words (Pair found) = found_words found
+first_words (Pairs found) = count_words found.items
+first_words (Root digest) = digits_of digest
+first_words Busy = codes "busy"
+first_words Spent = codes "spent"
+first_words NoRoom = codes "noroom"
+first_words Memory = codes "memory"
+
+-- all lines
+abbrev pub text_of : {A : Type 0} → Answer A → List ℕ
+text_of (Refused fault) = line_of (fault_words fault)
+text_of (Value found) = line_of (value_words found)
+text_of (Pair found) = line_of (found_words found)
+text_of (Pairs found) = line_of (count_words found.items) ++ pair_lines found.items
+text_of (Root digest) = line_of (digits_of digest)
+text_of Busy = line_of (codes "busy")
+text_of Spent = line_of (codes "spent")
+text_of NoRoom = line_of (codes "noroom")
+text_of Memory = line_of (codes "memory")
+
+-- what the calls of a pass answer, as answers
+abbrev pub value_answer : {A E : Type 0} → Result (Option (List ℕ)) E → Answer A
+value_answer (Ok found) = Value found
+value_answer (Err fault) = Busy
+
+abbrev pub pair_answer : {A E : Type 0} → Result (Option (List ℕ × List ℕ)) E → Answer A
+pair_answer (Ok found) = Pair found
+pair_answer (Err fault) = Busy
+
+abbrev pub root_answer : {A E : Type 0} → Result (List ℕ) E → Answer A
+root_answer (Ok digest) = Root digest
+root_answer (Err fault) = Busy
+
+abbrev pub write_answer : {A : Type 0} → Result (Option (List ℕ)) WriteFault → Answer A
+write_answer (Ok old) = Value old
+write_answer (Err write.Busy) = Busy
+write_answer (Err write.VersionsSpent) = Spent
+write_answer (Err write.NoRoom) = NoRoom

@@ -1,0 +1,12 @@
+pub mod Device
+pub mod Laws
+pub mod Lines
+pub mod Reading
+pub mod Runs
+pub mod Driving
+pub mod Grammar
+pub mod Texts
+pub mod Answers
+pub mod Machine
+pub mod Serving
+pub mod Scripts

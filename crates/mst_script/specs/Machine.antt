@@ -1,0 +1,76 @@
+-- The script machine: what a line is answered where the events so far are this history, and the history then. Its state is the history alone.
+use Rattle.std.specs.Prelude.{◌≡◌, ℕ, ◌<◌, ◌⊎◌, List, [], ◌∷◌, ◌++◌, length, Option, Result, Ok, Err, codes}
+use Rattle.mst_key.specs.declared.format.Format.TheVariants.{One}
+use Rattle.mst_key.specs.declared.history.Change.{Change}
+use Rattle.mst_key.specs.declared.history.Change.TheVariants as change
+use Rattle.mst_key.specs.declared.history.Event.{Event}
+use Rattle.mst_key.specs.Map.{look, successor, span}
+use Rattle.mst_key.specs.History.{History, after, reply}
+use Rattle.mst_node.specs.Text.{root}
+use Rattle.mst_store.specs.Lists.{last_version, HasRoom, LacksRoom}
+use Rattle.mst_store.specs.Passes.{StoreId}
+use Rattle.mst_script.specs.declared.request.Fault.{Fault}
+use Rattle.mst_script.specs.declared.request.Command.{Command}
+use Rattle.mst_script.specs.declared.request.Command.TheVariants.{Put, Remove, Get, Next, Range, Root}
+use Rattle.mst_script.specs.declared.request.Request.{Request}
+use Rattle.mst_script.specs.Grammar.{asked}
+use Rattle.mst_script.specs.Texts.{line_of, digits_of, fault_words, value_words, found_words, count_words, pair_lines}
+
+-- ---- the freedoms: answers that change nothing
+
+-- another pass has the turn: there are several passes
+abbrev pub IsBusy : StoreId → List ℕ → Type 0
+IsBusy store text = (text ≡ line_of (codes "busy")) × (1 < store.passes)
+
+-- the memory for the pairs was refused
+abbrev pub LacksMemory : List ℕ → Type 0
+LacksMemory text = text ≡ line_of (codes "memory")
+
+-- the last version was made
+abbrev pub IsSpent : History → List ℕ → Type 0
+IsSpent h text = (text ≡ line_of (codes "spent")) × (length h ≡ last_version)
+
+-- there is a next version, and the map that it would be has no room
+abbrev pub HasNoRoom : StoreId → Change → History → List ℕ → Type 0
+HasNoRoom store change h text = (text ≡ line_of (codes "noroom")) × (length h < last_version) × LacksRoom store.rows (after h) change
+
+-- ---- the steps
+
+-- The event is added, and the answer is the value that its key had. There is a next version, and room.
+pub record Adds (store : StoreId) (e : Event) (h : History) (text : List ℕ) (new : History) : Type 0 where
+  pub answer : text ≡ line_of (value_words (reply h e))
+  pub added : new ≡ h ++ e ∷ []
+  pub numbered : length h < last_version
+  pub room : HasRoom store.rows (after h) e.change
+
+-- a write
+abbrev pub Writes : StoreId → ℕ → Change → History → List ℕ → History → Type 0
+Writes store p change h text new =
+    Adds store (record { pass = p; change = change }) h text new
+    ⊎ ((IsBusy store text ⊎ IsSpent h text ⊎ HasNoRoom store change h text) × (new ≡ h))
+
+-- a read, which finds what this text says
+abbrev pub Reads : StoreId → List ℕ → History → List ℕ → History → Type 0
+Reads store found h text new = ((text ≡ found) ⊎ IsBusy store text) × (new ≡ h)
+
+-- a read that takes memory for what it finds
+abbrev pub Collects : StoreId → List ℕ → History → List ℕ → History → Type 0
+Collects store found h text new = ((text ≡ found) ⊎ IsBusy store text ⊎ LacksMemory text) × (new ≡ h)
+
+-- what the pass p is asked for, and answers
+abbrev pub Step : StoreId → ℕ → Command → History → List ℕ → History → Type 0
+Step store p (Put k v) h text new = Writes store p (change.Put k v) h text new
+Step store p (Remove k) h text new = Writes store p (change.Remove k) h text new
+Step store p (Get k) h text new = Reads store (line_of (value_words (look (after h) k))) h text new
+Step store p (Next bound) h text new = Reads store (line_of (found_words (successor (after h) bound))) h text new
+Step store p (Range from to n) h text new = Collects store (line_of (count_words (span (after h) from to n)) ++ pair_lines (span (after h) from to n)) h text new
+Step store p Root h text new = Reads store (line_of (digits_of (root One (after h)))) h text new
+
+-- a request that is refused is answered its fault, and changes nothing
+abbrev pub AnswersRequest : StoreId → Result Request Fault → History → List ℕ → History → Type 0
+AnswersRequest store (Ok request) h text new = Step store request.pass request.command h text new
+AnswersRequest store (Err fault) h text new = (text ≡ line_of (fault_words fault)) × (new ≡ h)
+
+-- what is kept of a line is answered with the text
+abbrev pub Line : StoreId → History → Option (List ℕ) → List ℕ → History → Type 0
+Line store h line text new = AnswersRequest store (asked store.passes line) h text new

@@ -1,0 +1,47 @@
+//! What a line asks for.
+use mst_key::{Key, Value};
+
+/// Why a line is refused. The first that holds is told, in this order.
+#[derive(Clone, Copy, Debug, PartialEq, Eq)]
+pub enum Fault {
+    /// It has more bytes than a line may have.
+    LongLine,
+    /// Its first field is not the number of a dealt pass.
+    NoPass,
+    /// It has no second field, or one that names no command.
+    NoCommand,
+    /// The command has another number of fields.
+    FieldCount,
+    /// A field spells nothing: no bytes, or no number in its range.
+    BadField,
+    /// A key is empty or too long.
+    KeySize,
+    /// The value is too long.
+    ValueSize,
+}
+
+/// What a pass is asked for.
+#[derive(Debug, Drop, PartialEq, Eq)]
+pub enum Command {
+    /// To give a key a value.
+    Put(Key, Value),
+    /// To take a key out of the map.
+    Remove(Key),
+    /// For the value of a key.
+    Get(Key),
+    /// For the pair of the least key above a bound.
+    Next(Option<Key>),
+    /// For the first pairs of the keys from a bound on and below another, at most so many.
+    Range(Option<Key>, Option<Key>, u32),
+    /// For the root digest.
+    Root,
+}
+
+/// What a line asks for.
+#[derive(Debug, Drop, PartialEq, Eq)]
+pub struct Request {
+    /// The number of the pass, from 1 on.
+    pub pass: u32,
+    /// What it is asked for.
+    pub command: Command,
+}

@@ -1,0 +1,129 @@
+//! One line, asked of the passes of a store.
+ghost use Rattle.std.specs.Prelude.{◌≡◌, ◌<◌, length, slice_index_or};
+ghost use Rattle.std.specs.List.{Contains};
+ghost use Rattle.std.specs.Option.{option_copied};
+ghost use Rattle.mst_store.specs.Settling.{numbers};
+ghost use Rattle.mst_script.specs.declared.request.Command.TheVariants.{Range};
+ghost use Rattle.mst_script.specs.Answers.{text_of, value_answer, pair_answer, root_answer, write_answer};
+ghost use Rattle.mst_script.specs.Serving.{AreAllOf, Asked, Serves, IsPlace};
+
+use crate::answer::Answer;
+use crate::line::LineBuffer;
+use crate::parse::request_in;
+use crate::request::Command;
+use mst_key::{Key, Value};
+use mst_store::{Busy, Pass, ReadFault, Store, WriteFault, settle};
+use std::alloc::Allocator;
+
+// The value of a key, as an answer.
+fn value_answer_of<A: Allocator>(found: Result<Option<Value>, Busy>) -> Answer<A>
+    ensures { result ≡ value_answer found }
+{
+    match found {
+        Ok(value) => Answer::Value(value),
+        Err(Busy) => Answer::Busy,
+    }
+}
+
+// The next pair, as an answer.
+fn pair_answer_of<A: Allocator>(found: Result<Option<(Key, Value)>, Busy>) -> Answer<A>
+    ensures { result ≡ pair_answer found }
+{
+    match found {
+        Ok(pair) => Answer::Pair(pair),
+        Err(Busy) => Answer::Busy,
+    }
+}
+
+// The root digest, as an answer.
+fn root_answer_of<A: Allocator>(found: Result<[u8; 32], Busy>) -> Answer<A>
+    ensures { result ≡ root_answer found }
+{
+    match found {
+        Ok(digest) => Answer::Root(digest),
+        Err(Busy) => Answer::Busy,
+    }
+}
+
+// What a write answered, as an answer.
+fn write_answer_of<A: Allocator>(written: Result<Option<Value>, WriteFault>) -> Answer<A>
+    ensures { result ≡ write_answer written }
+{
+    match written {
+        Ok(old) => Answer::Value(old),
+        Err(WriteFault::Busy) => Answer::Busy,
+        Err(WriteFault::VersionsSpent) => Answer::Spent,
+        Err(WriteFault::NoRoom) => Answer::NoRoom,
+    }
+}
+
+// Asks a pass for the pairs between two bounds.
+fn ask_range<A: Allocator, B: Allocator + Copy>(
+    alloc: A,
+    pass: &mut Pass<'_, B>,
+    from: Option<&Key>,
+    to: Option<&Key>,
+    limit: u32,
+) -> Answer<A>
+    ensures { Asked (Range (option_copied from.entry) (option_copied to.entry) limit) pass.old (text_of result) pass.new }
+{
+    match pass.range(alloc, from, to, limit as usize) {
+        Ok(pairs) => Answer::Pairs(pairs),
+        Err(ReadFault::Busy) => Answer::Busy,
+        Err(ReadFault::Memory) => Answer::Memory,
+    }
+}
+
+// Lets a pass do what it is asked for.
+fn ask<A: Allocator, B: Allocator + Copy>(
+    alloc: A,
+    pass: &mut Pass<'_, B>,
+    command: &Command,
+) -> Answer<A>
+    ensures { Asked command.now pass.old (text_of result) pass.new }
+{
+    match command {
+        Command::Put(key, value) => write_answer_of(pass.try_put(key, value)),
+        Command::Remove(key) => write_answer_of(pass.try_remove(key)),
+        Command::Get(key) => value_answer_of(pass.get(key)),
+        Command::Next(bound) => pair_answer_of(pass.next(bound.as_ref())),
+        Command::Range(from, to, limit) => {
+            ask_range(alloc, pass, from.as_ref(), to.as_ref(), *limit)
+        }
+        Command::Root => root_answer_of(pass.root()),
+    }
+}
+
+// The place of the pass with this number.
+fn place_of<B: Allocator + Copy>(passes: &[Pass<'_, B>], number: u32) -> usize
+    requires { Contains (numbers passes.now) number }
+    ensures { IsPlace passes.now number result }
+{
+    for (place, pass) in passes.iter().enumerate() {
+        if pass.number() == number {
+            return place;
+        }
+    }
+    0
+}
+
+/// Lets the pass that a line names do what the line asks, and then all passes settle.
+pub fn serve<A: Allocator, B: Allocator + Copy>(
+    alloc: A,
+    store: &Store<B>,
+    passes: &mut [Pass<'_, B>],
+    line: &LineBuffer,
+) -> Answer<A>
+    requires whole { AreAllOf store.now passes.old }
+    ensures whole { AreAllOf store.now passes.new }
+    ensures serves { Serves store.now passes.old line.now (text_of result) passes.new }
+{
+    let request = match request_in(line, store.passes()) {
+        Ok(request) => request,
+        Err(fault) => return Answer::Refused(fault),
+    };
+    let place = place_of(passes, request.pass);
+    let answer = ask(alloc, &mut passes[place], &request.command);
+    settle(passes);
+    answer
+}

@@ -1,0 +1,304 @@
+//! Lines and their answers.
+use super::answers_to;
+use std::alloc::Global;
+use std::process::Abort;
+use std::test::Fail;
+
+const KEY_32: &str = "000102030405060708090a0b0c0d0e0f101112131415161718191a1b1c1d1e1f";
+
+const KEY_30: &str = "000102030405060708090a0b0c0d0e0f101112131415161718191a1b1c1d";
+
+const EMPTY_ROOT: &str = "e3b0c44298fc1c149afbf4c8996fb92427ae41e4649b934ca495991b7852b855\n";
+
+// Each line is given alone, with a newline and without.
+fn each_is_answered(
+    rt: &impl Abort,
+    alloc: Global,
+    lines: &[&str],
+    answer: &str,
+) -> Result<(), Fail> {
+    for line in lines {
+        let answers = answers_to(alloc, line.as_bytes())?;
+        if !line.is_empty() {
+            assert_eq!(rt; answers.as_slice(), answer.as_bytes(), "to {line}");
+        }
+        let ended = format!(in alloc; "{line}\n")?;
+        let answers = answers_to(alloc, ended.as_bytes())?;
+        assert_eq!(rt; answers.as_slice(), answer.as_bytes(), "to {line}");
+    }
+    Ok(())
+}
+
+#[test]
+fn empty_map_has_no_pair(rt: HostRuntime) -> Result<(), Fail> {
+    let lines = [
+        "1 get 61",
+        "4 get 61",
+        "1 put 61 78",
+        "1 put aB -",
+        "1 del 61",
+        "1 next -",
+        "1 next 61",
+    ];
+    each_is_answered(&rt, rt.alloc(), &lines, "none\n")?;
+    let ranges = ["1 range - - 0", "1 range - - 65535", "4 range 61 62 10"];
+    each_is_answered(&rt, rt.alloc(), &ranges, "pairs 0\n")?;
+    each_is_answered(&rt, rt.alloc(), &["1 root"], EMPTY_ROOT)
+}
+
+#[test]
+fn pass_is_not_dealt(rt: HostRuntime) -> Result<(), Fail> {
+    let lines = [
+        "",
+        " ",
+        "0 get 61",
+        "5 get 61",
+        "9 get 61",
+        "01 get 61",
+        "+1 get 61",
+        "-1 get 61",
+        "4294967297 get 61",
+        "18446744073709551617 get 61",
+        "1a get 61",
+        " 1 get 61",
+        "1\tget 61",
+        "1\troot",
+        "5 frob",
+        "5",
+    ];
+    each_is_answered(&rt, rt.alloc(), &lines, "fault L2\n")
+}
+
+#[test]
+fn bytes_are_no_text(rt: HostRuntime) -> Result<(), Fail> {
+    let answers = answers_to(rt.alloc(), b"\xff\xfe \0 \x80\n1 \xff\n1 get \xff")?;
+    assert_eq!(rt;
+        answers.as_slice(),
+        b"fault L2\nfault L3\nfault L5\n".as_slice()
+    );
+    Ok(())
+}
+
+#[test]
+fn command_is_not_known(rt: HostRuntime) -> Result<(), Fail> {
+    let lines = [
+        "1",
+        "1 ",
+        "1  get 61",
+        "1 frob",
+        "1 frob - - -",
+        "1 GET 61",
+        "1 root\r",
+        "1 unpin",
+        "1 ge",
+    ];
+    each_is_answered(&rt, rt.alloc(), &lines, "fault L3\n")
+}
+
+// The number of fields is told before what they spell.
+#[test]
+fn fields_are_too_few_or_too_many(rt: HostRuntime) -> Result<(), Fail> {
+    let lines = [
+        "1 get",
+        "1 get  61",
+        "1 get 61 ",
+        "1 get 6 6",
+        "1 put",
+        "1 put 61",
+        "1 put 61 78 79",
+        "1 del",
+        "1 del 61 62",
+        "1 next",
+        "1 next - -",
+        "1 range - -",
+        "1 range - - 1 1",
+        "1 root ",
+        "1 root 61",
+    ];
+    each_is_answered(&rt, rt.alloc(), &lines, "fault L4\n")
+}
+
+// What each field spells is told before the size of any.
+#[test]
+fn fields_spell_nothing(rt: HostRuntime) -> Result<(), Fail> {
+    let lines = [
+        "1 get ",
+        "1 get 6",
+        "1 get 6g",
+        "1 get 61\r",
+        "1 put 61 ",
+        "1 put  61",
+        "1 put - 7",
+        "1 del 6",
+        "1 next 6",
+        "1 next ",
+    ];
+    each_is_answered(&rt, rt.alloc(), &lines, "fault L5\n")?;
+    let ranges = [
+        "1 range - - ",
+        "1 range - - 01",
+        "1 range - - 00",
+        "1 range - - +1",
+        "1 range - - 65536",
+        "1 range - 6 1",
+        "1 range 6 - 1",
+    ];
+    each_is_answered(&rt, rt.alloc(), &ranges, "fault L5\n")
+}
+
+#[test]
+fn key_is_empty(rt: HostRuntime) -> Result<(), Fail> {
+    let lines = ["1 get -", "1 del -", "1 put - 78", "1 put - -"];
+    each_is_answered(&rt, rt.alloc(), &lines, "keysize\n")
+}
+
+// The most bytes of a key and of a value, one more, and the order of the tests.
+#[test]
+fn sizes_have_limits(rt: HostRuntime) -> Result<(), Fail> {
+    let rows = [
+        ("put", "", "", 64, "none\n"),
+        ("put", "", "", 65, "valuesize\n"),
+        ("put", "20", "", 64, "keysize\n"),
+        ("put", "20", "", 65, "keysize\n"),
+        ("put", "2", "", 65, "fault L5\n"),
+        ("put", "20", "0", 65, "fault L5\n"),
+    ];
+    for (name, more, odd, bytes, answer) in rows {
+        let mut script = format!(in rt.alloc(); "1 {name} {KEY_32}{more} {odd}")?;
+        for _ in 0..bytes {
+            script.push_str("F0")?;
+        }
+        let answers = answers_to(rt.alloc(), script.as_bytes())?;
+        assert_eq!(rt; answers.as_slice(), answer.as_bytes(), "to {bytes} bytes");
+    }
+    Ok(())
+}
+
+// Keys and bounds of 32 bytes and of 33.
+#[test]
+fn bounds_have_limits(rt: HostRuntime) -> Result<(), Fail> {
+    let rows = [
+        ("1 get K", "none\n"),
+        ("1 get K20", "keysize\n"),
+        ("1 del K", "none\n"),
+        ("1 del K20", "keysize\n"),
+        ("1 next K", "none\n"),
+        ("1 next K20", "keysize\n"),
+        ("1 range K K 1", "pairs 0\n"),
+        ("1 range K20 - 1", "keysize\n"),
+        ("1 range - K20 1", "keysize\n"),
+        ("1 range K20 - 65536", "fault L5\n"),
+        ("1 range K20 6 1", "fault L5\n"),
+    ];
+    for (line, answer) in rows {
+        let script = line.replace(rt.alloc(), "K", KEY_32)?;
+        let answers = answers_to(rt.alloc(), script.as_bytes())?;
+        assert_eq!(rt; answers.as_slice(), answer.as_bytes(), "to {line}");
+    }
+    Ok(())
+}
+
+// A get of so many bytes in all is followed by another line, and then stands alone.
+#[test]
+fn long_lines_are_skipped(rt: HostRuntime) -> Result<(), Fail> {
+    let rows = [
+        (4_096, "keysize\n"),
+        (4_097, "fault L1\n"),
+        (8_192, "fault L1\n"),
+        (65_536, "fault L1\n"),
+        (200_000, "fault L1\n"),
+    ];
+    for (length, answer) in rows {
+        let mut script = b"1 get ".as_slice().to_vec(rt.alloc())?;
+        script.resize(length, b'6')?;
+        let answers = answers_to(rt.alloc(), script.as_slice())?;
+        assert_eq!(rt; answers.as_slice(), answer.as_bytes(), "at {length}");
+        script.extend_from_slice(b"\n1 get 61\n")?;
+        let answers = answers_to(rt.alloc(), script.as_slice())?;
+        let both = format!(in rt.alloc(); "{answer}none\n")?;
+        assert_eq!(rt; answers.as_slice(), both.as_bytes(), "at {length}");
+    }
+    Ok(())
+}
+
+const TWO_PUTS: &str = "1 put 616263 78\n1 put 61 31\n";
+
+// What is answered after two puts, of which the later has the lesser key.
+#[test]
+fn scripts_are_answered(rt: HostRuntime) -> Result<(), Fail> {
+    let rows = [
+        ("", ""),
+        ("2 get 616263", "some 78\n"),
+        ("1 get 6162", "none\n"),
+        ("1 range - - 10", "pairs 2\npair 61 31\npair 616263 78\n"),
+        ("1 range - - 2", "pairs 2\npair 61 31\npair 616263 78\n"),
+        ("1 range - - 1", "pairs 1\npair 61 31\n"),
+        ("1 range - - 0", "pairs 0\n"),
+        ("1 range 61 616263 10", "pairs 1\npair 61 31\n"),
+        ("4 range 6100 - 10", "pairs 1\npair 616263 78\n"),
+        ("1 range 62 61 10", "pairs 0\n"),
+        ("1 next -", "pair 61 31\n"),
+        ("1 next 61", "pair 616263 78\n"),
+        ("1 next 60", "pair 61 31\n"),
+        ("1 next 616263", "none\n"),
+        (
+            "1 put 616263 -\n1 get 616263\n1 get 6162\n1 next 61",
+            "some 78\nsome -\nnone\npair 616263 -\n",
+        ),
+        (
+            "2 del 61\n1 next -\n1 del 61\n1 range - - 65535",
+            "some 31\npair 616263 78\nnone\npairs 1\npair 616263 78\n",
+        ),
+        (
+            "1 put 61 31\n3 root\n\n2 get 61",
+            "some 31\nd4a8a9fc55058427163bd8a1f09ca5ec542de1cdaf28df100be5472e47b72503\nfault L2\nsome 31\n",
+        ),
+    ];
+    for (more, answers) in rows {
+        let script = format!(in rt.alloc(); "{TWO_PUTS}{more}")?;
+        let expected = format!(in rt.alloc(); "none\nnone\n{answers}")?;
+        let found = answers_to(rt.alloc(), script.as_bytes())?;
+        assert_eq!(rt; found.as_slice(), expected.as_bytes(), "to {more}");
+    }
+    Ok(())
+}
+
+// The root digest depends on the pairs, and not on how they came.
+#[test]
+fn roots_tell_the_pairs(rt: HostRuntime) -> Result<(), Fail> {
+    let scripts: [&[u8]; 3] = [
+        b"1 put 616263 78\n1 put 61 31\n2 root\n",
+        b"1 put 61 31\n2 put 616263 78\n1 root\n",
+        b"1 put 61 -\n2 put 616263 78\n1 put 61 31\n",
+    ];
+    let root = b"none\nnone\nd4a8a9fc55058427163bd8a1f09ca5ec542de1cdaf28df100be5472e47b72503\n";
+    let found = answers_to(rt.alloc(), scripts[0])?;
+    assert_eq!(rt; found.as_slice(), root.as_slice());
+    let found = answers_to(rt.alloc(), scripts[1])?;
+    assert_eq!(rt; found.as_slice(), root.as_slice());
+    let found = answers_to(rt.alloc(), scripts[2])?;
+    assert_eq!(rt; found.as_slice(), b"none\nnone\nsome -\n".as_slice());
+    Ok(())
+}
+
+// An answer of more lines than wait at a time.
+#[test]
+fn long_answers_are_whole(rt: HostRuntime) -> Result<(), Fail> {
+    let mut script = Vec::new(rt.alloc());
+    let mut answers = Vec::new(rt.alloc());
+    let mut pairs = Vec::new(rt.alloc());
+    for number in 0..500 {
+        let key = format!(in rt.alloc(); "{number:04}{KEY_30}")?;
+        script.extend_from_slice(format!(in rt.alloc(); "1 put {key} {KEY_32}\n")?.as_bytes())?;
+        answers.extend_from_slice(b"none\n")?;
+        pairs.extend_from_slice(format!(in rt.alloc(); "pair {key} {KEY_32}\n")?.as_bytes())?;
+    }
+    script.extend_from_slice(b"2 range - - 65535\n1 get 61")?;
+    answers.extend_from_slice(b"pairs 500\n")?;
+    answers.extend_from_slice(pairs.as_slice())?;
+    answers.extend_from_slice(b"none\n")?;
+    let found = answers_to(rt.alloc(), script.as_slice())?;
+    assert_eq!(rt; found.len(), answers.len());
+    assert!(rt; found.as_slice() == answers.as_slice());
+    Ok(())
+}
