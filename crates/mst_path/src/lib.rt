@@ -11,6 +11,7 @@ mod cut;
 mod faults;
 mod finding;
 mod frames;
+mod insertion;
 mod joining;
 mod laws;
 mod making;
@@ -24,6 +25,7 @@ mod tests;
 mod whole_tree;
 
 pub use faults::NoRoom;
+pub use insertion::put;
 pub use laws::{cost_laws, join_laws, path_laws, split_laws};
 pub use mst_arena::Root;
 pub use removal::remove;
