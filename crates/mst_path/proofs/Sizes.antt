@@ -1,5 +1,5 @@
 -- A remove makes no more rows new than its tree has, and a put no more than twice as many and two.
-use Rattle.std.proofs.Common.{◌≡◌, ℕ, zero, suc, ◌+◌, ◌*◌, ◌≤◌, false, List, length, refl, arith, length-append}
+use Rattle.std.proofs.Common.{◌≡◌, ℕ, ◌+◌, ◌*◌, ◌≤◌, false, List, length, refl, arith, length-append}
 use Rattle.mst_key.specs.declared.format.Format.TheVariants.{One}
 use Rattle.mst_node.specs.Tree.{Tree, empty, node, Entries, last, entry, entry_count}
 use Rattle.mst_node.specs.Trail.{by_order}

@@ -1,14 +1,10 @@
-use Rattle.std.proofs.Common.{◌≡◌, ◌∙◌, ◌≤◌, List, ℕ, Some, true≢false, sym, ap, subst, arith}
-use Rattle.mst_key.specs.Map.{IsAscending}
-use Rattle.mst_key.specs.declared.format.Format.TheVariants.{One}
-use Rattle.mst_node.specs.Tree.{pairs}
+use Rattle.std.proofs.Common.{◌≡◌, ◌∙◌, ◌≤◌, List, ℕ, true≢false, sym, ap, subst, arith}
 use Rattle.mst_arena.specs.Content.{Content}
 use Rattle.mst_arena.specs.Lives.{State, free_count}
-use Rattle.mst_arena.specs.Standing.{tree_of}
 use Rattle.mst_path.specs.Making.{Grown}
 use Rattle.mst_path.specs.Putting.{RisingTree, in_rising, with_pair, pair_rows}
 use Rattle.mst_path.proofs.Changes.{any_old, search_at, rises, says}
-use Rattle.mst_path.proofs.Inserted.{is_same, found_same, same_found, rising_at, few_new, cost_other, AfterPut, after_other, after_same}
+use Rattle.mst_path.proofs.Inserted.{is_same, same_found, rising_at, few_new, cost_other, AfterPut, after_other, after_same}
 use Rattle.mst_path.proofs.insertion.put.Given.{Over}
 use Rattle.mst_path.proofs.insertion.put.Goals as goal
 
