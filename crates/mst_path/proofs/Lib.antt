@@ -47,4 +47,6 @@ pub mod PutCosts
 pub mod Lookups
 pub mod Sizes
 pub mod Changes
+pub mod Reached
+pub mod FreeCounts
 pub mod Removed

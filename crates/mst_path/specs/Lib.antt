@@ -16,3 +16,4 @@ pub mod Cutting
 pub mod Splitting
 pub mod Putting
 pub mod Changing
+pub mod Reached
