@@ -1,5 +1,5 @@
 -- How many rows are free, where a list has each of the other rows once.
-use Rattle.std.proofs.Common.{◌≡◌, ℕ, zero, suc, ◌+◌, ◌<◌, ◌≤◌, Bool, true, false, cond, eqb, List, [], ◌∷◌, length, map, Option, Some, None, refl, sym, ◌∙◌, ap, subst, arith}
+use Rattle.std.proofs.Common.{◌≡◌, ℕ, zero, suc, ◌+◌, ◌<◌, ◌≤◌, Bool, true, false, cond, eqb, List, [], ◌∷◌, length, map, Option, Some, None, refl, sym, ◌∙◌, ap, arith}
 use Rattle.std.specs.Prelude.{◌↔◌, slice_get, option_map}
 use Rattle.std.specs.List.{list_any}
 use Rattle.std.proofs.lemmas.Bool.Decides.{nat_tests}
@@ -12,7 +12,7 @@ use Rattle.mst_arena.specs.declared.life.Life.TheVariants.{Free, Born, Dead}
 use Rattle.mst_arena.proofs.ListLemmas.{suc_test, there}
 use Rattle.mst_arena.proofs.DeskLemmas.{length_mapped}
 use Rattle.mst_path.specs.Moves.{In}
-use Rattle.mst_path.specs.Reached.{ReachesExactly, IsReached, TogetherReach, IsPast, IsSettled, swept_by}
+use Rattle.mst_path.specs.Reached.{ReachesExactly, TogetherReach, IsPast, IsSettled, swept_by}
 use Rattle.mst_path.proofs.Taking.{frees, frees_is}
 use Rattle.mst_path.proofs.Changes.{distinct_times}
 use Rattle.mst_path.proofs.Moving.{one_row}

@@ -49,4 +49,5 @@ pub mod Sizes
 pub mod Changes
 pub mod Reached
 pub mod FreeCounts
+pub mod Versions
 pub mod Removed

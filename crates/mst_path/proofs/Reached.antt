@@ -1,6 +1,6 @@
 -- Which rows a version reaches after a put or a remove, the advance behind it, and a sweep.
 use Rattle.std.proofs.Common.{◌≡◌, ℕ, zero, suc, ◌+◌, ◌<◌, ◌≤◌, Bool, true, false, cond, eqb, List, [], ◌∷◌, length, map, Option, Some, None, refl, sym, ◌∙◌, ap, subst, arith}
-use Rattle.std.specs.Prelude.{◌↔◌, slice_get, slice_set, slice_index, nat_le, nat_lt, ◌&&◌, ◌==◌, option_map}
+use Rattle.std.specs.Prelude.{◌↔◌, slice_get, ◌==◌, option_map}
 use Rattle.std.specs.List.{list_any}
 use Rattle.std.proofs.lemmas.Bool.Decides.{nat_tests}
 use Rattle.std.proofs.lemmas.List.{get_or-set_same}
@@ -10,8 +10,10 @@ use Rattle.mst_arena.specs.Lists.{times, bit}
 use Rattle.mst_arena.specs.declared.life.Life.{Life}
 use Rattle.mst_arena.specs.declared.life.Life.TheVariants.{Free, Born, Dead}
 use Rattle.mst_arena.proofs.Reach.{born_later, dies_later, died, same_sweep}
-use Rattle.mst_path.specs.Moves.{In, IsOld}
-use Rattle.mst_path.specs.Changing.{AreOld, IsOnlyIn}
+use Rattle.mst_path.specs.Takes.{Takes}
+use Rattle.mst_path.specs.Moves.{In, IsKilled, Moves}
+use Rattle.mst_path.specs.Changing.{AreOld, IsOnlyIn, IsTaken}
+use Rattle.mst_path.proofs.Moving.{moves_takes, not_in}
 use Rattle.mst_path.specs.Reached.{ReachesExactly, Changes, advanced, swept_by, IsPast, IsSettled}
 
 -- ---- a life that is past
@@ -40,6 +42,13 @@ pub reached_old : (s : State) (rows : List ℕ) → IsSettled s → ReachesExact
 reached_old s rows settled exact r i = alive_now (version s) (slice_get s.lives r) (settled r) ((exact r).1 i)
 
 -- ---- a change
+
+by_in : {A : Type 0} (r : ℕ) (rows : List ℕ) → (times r rows ≡ 0 → A) → (In r rows → A) → A
+by_in {A} r rows out is = go (times r rows) refl
+  where
+    go : (n : ℕ) → times r rows ≡ n → A
+    go zero e = out e
+    go (suc n) e = is (omega (arith, e))
 
 module _ (old new : State) (before after : List ℕ) (change : Changes old new before after) where
   same_version : version new ≡ version old
@@ -87,6 +96,25 @@ module _ (old new : State) (before after : List ℕ) (change : Changes old new b
 
   pub settled_after : (into : ℕ) → into < length old.versions → IsSettled old → IsSettled (advanced into new)
   settled_after into lt settled r = subst (λ (v : ℕ). IsPast v (slice_get new.lives r)) (sym (version_after into lt)) (past_after settled r)
+
+-- a tree that is planted is a change from no rows
+module _ (old new : State) (rows : List ℕ) (takes : Takes old new rows) where
+  moves : Moves old new rows []
+  moves = moves_takes old new rows takes
+
+  was_taken : (r : ℕ) → IsTaken old new r → In r rows
+  was_taken r is = by_in r rows (λ out. absurd (let same = moves.others r out (omega arith) in let free = is.0 in let born = is.1 in cc)) (λ i. i)
+
+  none_killed : (r : ℕ) → IsKilled old new r → ⊥
+  none_killed r is = by_in r rows (λ out. let same = moves.others r out (omega arith) in let born = is.1 in let dead = is.3 in cc) (λ i. let free = moves.free r i in let born = is.1 in cc)
+
+  pub planted : Changes old new [] rows
+  planted = record {
+    taken = λ r. (λ is. (was_taken r is, omega arith), λ only. (moves.free r only.0, moves.born r only.0));
+    killed = λ r. (λ is. absurd (none_killed r is), λ only. absurd (omega (arith, only.0)));
+    others = λ r both. moves.others r (not_in r rows (λ i. absurd (omega (arith, both.1 i)))) (omega arith);
+    versions = (moves.current, moves.versions);
+  }
 
 -- ---- a sweep
 

@@ -17,3 +17,4 @@ pub mod Splitting
 pub mod Putting
 pub mod Changing
 pub mod Reached
+pub mod Versions

@@ -1,13 +1,8 @@
--- Which rows a version reaches, beside the rows that stand for its tree; and the maps of versions.
-use Rattle.std.specs.Prelude.{◌≡◌, ◌≤◌, ◌<◌, ◌↔◌, ℕ, true, List, [], ◌∷◌, ◌++◌, map, slice_get, slice_set, Option, Some, None}
-use Rattle.mst_key.specs.Map.{Pair}
-use Rattle.mst_key.specs.declared.format.Format.TheVariants.{One}
-use Rattle.mst_arena.specs.Content.{Content}
+-- Which rows a version reaches, beside the rows that stand for its tree.
+use Rattle.std.specs.Prelude.{◌≡◌, ◌≤◌, ◌↔◌, ℕ, true, List, map, slice_get, slice_set, Option, Some, None}
 use Rattle.mst_arena.specs.Lives.{State, version, next, reaches, swept}
 use Rattle.mst_arena.specs.declared.life.Life.{Life}
 use Rattle.mst_arena.specs.declared.life.Life.TheVariants.{Free, Born, Dead}
-use Rattle.mst_arena.specs.declared.row.Root.{Root}
-use Rattle.mst_arena.specs.Standing.{Stands, numbers}
 use Rattle.mst_path.specs.Moves.{In}
 use Rattle.mst_path.specs.Changing.{AreTaken, AreKilled, OthersLive, SameVersions}
 
@@ -50,10 +45,3 @@ IsPast v (Some (Dead b d)) = d ≤ v
 -- no write is under way: no row was born or died with the version to come
 abbrev pub IsSettled : State → Type 0
 IsSettled s = (r : ℕ) → IsPast (version s) (slice_get s.lives r)
-
--- ---- the maps of versions
-
--- A version has its map: it stands at a root, and the version reaches exactly the rows that stand for it.
-pub record HasMap (content : Content) (lives : List Life) (v : ℕ) (at : Root) (m : List Pair) : Type 0 where
-  pub stands : Stands One content at m
-  pub rows : ReachesExactly lives v (numbers stands)

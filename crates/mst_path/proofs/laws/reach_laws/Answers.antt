@@ -1,6 +1,6 @@
 use Rattle.std.proofs.Common.{◌≡◌, ℕ, ◌∷◌, [], sym, subst, ap, arith, eqb, true}
 use Rattle.std.proofs.lemmas.Bool.Decides.{nat_tests}
-use Rattle.mst_arena.specs.Lives.{version, next}
+use Rattle.mst_arena.specs.Lives.{version}
 use Rattle.mst_arena.specs.Lists.{bit}
 use Rattle.mst_path.specs.Reached.{ReachesExactly}
 use Rattle.mst_path.proofs.Reached as reached
@@ -19,6 +19,9 @@ returns-clause-newest c old new before after into change there settled exact =
 
 pub returns-clause-settled : goal.returns-clause-settled
 returns-clause-settled c old new before after into change there settled = reached.settled_after old new before after change into there settled
+
+pub returns-clause-planted : goal.returns-clause-planted
+returns-clause-planted c old new rows takes = reached.planted old new rows takes
 
 pub returns-clause-old : goal.returns-clause-old
 returns-clause-old c s rows settled exact = reached.reached_old s rows settled exact
