@@ -1,20 +1,23 @@
 -- A change of rows that stand is published: the rows that stand afterwards are of the current version, and all may be written.
-use Rattle.std.proofs.Common.{◌≡◌, ◌↔◌, ℕ, zero, suc, ◌+◌, ◌<◌, ◌≤◌, nat_lt, Bool, IsTrue, List, [], length, map, Option, Some, None, refl, sym, ◌∙◌, ap, subst, arith}
-use Rattle.std.specs.Prelude.{slice_get, slice_index}
+use Rattle.std.proofs.Common.{◌≡◌, ◌↔◌, ℕ, zero, suc, ◌<◌, ◌≤◌, nat_lt, Bool, IsTrue, List, [], length, map, Option, Some, None, refl, sym, ◌∙◌, ap, subst, arith}
+use Rattle.std.specs.Prelude.{slice_get, slice_index, slice_set, replicate}
 use Rattle.std.specs.Option.{option_map}
-use Rattle.std.proofs.lemmas.Option.{slice_get-map}
+use Rattle.std.proofs.lemmas.List.{get_or-set_same, length-set, length-replicate}
+use Rattle.std.proofs.lemmas.Bool.Decides.{nat_tests}
+use Rattle.std.proofs.lemmas.Option.{slice_get-map, slice_get_within}
 use Rattle.mst_key.specs.Map.{Pair}
 use Rattle.mst_key.specs.declared.format.Format.TheVariants.{One}
-use Rattle.mst_arena.specs.Content.{Content, listed}
-use Rattle.mst_arena.specs.Lives.{State, version, next, swept}
+use Rattle.mst_arena.specs.Content.{listed}
+use Rattle.mst_arena.specs.Lives.{State, version, next, last_version, swept}
 use Rattle.mst_arena.specs.Lists.{times}
 use Rattle.mst_arena.specs.Standing.{Stands, numbers}
 use Rattle.mst_arena.specs.declared.life.Life.{Life}
-use Rattle.mst_arena.specs.declared.life.Life.TheVariants.{Free, Born, Dead}
+use Rattle.mst_arena.specs.declared.life.Life.TheVariants.{Free, Born}
 use Rattle.mst_arena.specs.declared.row.Root.{Root}
 use Rattle.mst_arena.specs.declared.row.Row.{Row}
-use Rattle.mst_path.specs.Moves.{In, IsOld, Moves}
-use Rattle.mst_path.specs.Changing.{AreOld, MapStands, IsOnlyIn, AreTaken, AreKilled, OthersLive, SameVersions}
+use Rattle.mst_path.specs.Moves.{In, Moves}
+use Rattle.mst_path.specs.Takes.{Takes}
+use Rattle.mst_path.specs.Changing.{AreOld, AreTaken, AreKilled, OthersLive, SameVersions}
 use Rattle.mst_path_tests.specs.Ready.{AreWithin, IsReady, IsPublished}
 
 -- the row is alive, born with the version to come at the latest
@@ -98,3 +101,40 @@ ready_after places places1 s s1 s2 at m stands change is within blank = record {
   records = is.records;
   current = is.current;
 }
+
+pub published : (s s1 s2 : State) (other : ℕ) (live : List ℕ) → s1 ≡ record s { current = other; versions = slice_set s.versions other (next s) } → s2 ≡ record s1 { lives = map (swept live) s1.lives } → length s.versions ≡ 2 → other < 2 → IsPublished s s2
+published s s1 s2 other live s1_is s2_is two low = record {
+  version = ap (λ (q : State). version q) s2_is ∙ ap (λ (q : State). version q) s1_is ∙ get_or-set_same s.versions other (next s) 0 (omega (arith, two, low));
+  records = ap (λ (q : State). length q.versions) s2_is ∙ ap (λ (q : State). length q.versions) s1_is ∙ length-set s.versions other (next s) ∙ two;
+  current = subst (λ (n : ℕ). n < 2) (sym (ap (λ (q : State). q.current) s2_is ∙ ap (λ (q : State). q.current) s1_is)) low;
+  live = live;
+  lives = ap (λ (q : State). q.lives) s2_is ∙ ap (λ (q : State). map (swept live) q.lives) s1_is;
+}
+
+-- all rows of a new desk may be written
+pub within_new : (s : State) (places : List (Option Row)) (rows : ℕ) → s.lives ≡ replicate rows Free → places ≡ replicate rows None → AreWithin s (length places)
+within_new s places rows lives is r life has =
+    let less : r < length s.lives = slice_get_within s.lives r life has in
+    let lengths : length s.lives ≡ length places = ap (λ (l : List Life). length l) lives ∙ length-replicate rows Free ∙ sym (ap (λ (l : List (Option Row)). length l) is ∙ length-replicate rows None) in
+    let within : r < length places = omega (arith, less, lengths) in
+    grind (arith, nat_tests)
+
+-- rows were taken from a new desk
+pub record Begins (s : State) : Type 0 where
+  pub records : length s.versions ≡ 2
+  pub current : s.current < 2
+  pub more : next s ≤ last_version
+
+pub begins : (s s1 : State) (size : ℕ) (rows : List ℕ) → s ≡ record { current = 0; versions = replicate 2 0; lives = replicate size Free } → Takes s s1 rows → Begins s1
+begins s s1 size rows is takes =
+    let now = ap (λ (q : State). q.current) takes.born ∙ ap (λ (q : State). q.current) is in
+    let versions = ap (λ (q : State). q.versions) takes.born ∙ ap (λ (q : State). q.versions) is in
+    let first = ap (λ (q : State). next q) takes.born ∙ ap (λ (q : State). next q) is in
+    record {
+      records = ap (λ (l : List ℕ). length l) versions;
+      current = subst (λ (n : ℕ). n < 2) (sym now) (omega arith);
+      more = subst (λ (n : ℕ). n ≤ last_version) (sym first) (omega arith);
+    }
+
+pub lives_of : (s : State) (size : ℕ) → s ≡ record { current = 0; versions = replicate 2 0; lives = replicate size Free } → s.lives ≡ replicate size Free
+lives_of s size is = ap (λ (q : State). q.lives) is

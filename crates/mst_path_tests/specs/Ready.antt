@@ -1,10 +1,7 @@
 -- Rows that stand for a map and may be changed: each change is published at once.
-use Rattle.std.specs.Prelude.{◌≡◌, ◌≤◌, ◌<◌, nat_lt, ℕ, IsTrue, List, length, map, Option, Some, slice_get}
-use Rattle.mst_key.specs.Map.{Pair}
-use Rattle.mst_key.specs.declared.format.Format.TheVariants.{One}
+use Rattle.std.specs.Prelude.{◌≡◌, ◌<◌, nat_lt, ℕ, IsTrue, List, length, map, Option, Some, slice_get}
 use Rattle.mst_arena.specs.Content.{listed}
 use Rattle.mst_arena.specs.Lives.{State, version, next, swept}
-use Rattle.mst_arena.specs.Standing.{Stands}
 use Rattle.mst_arena.specs.declared.life.Life.{Life}
 use Rattle.mst_arena.specs.declared.row.Root.{Root}
 use Rattle.mst_arena.specs.declared.row.Row.{Row}
