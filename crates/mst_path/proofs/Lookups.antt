@@ -96,8 +96,8 @@ module _ (c : Content) (s : State) (link : ℕ) (t : SearchTree c s link) (k : L
     pub finds_below : (front back : RunOf) (child : ℕ) → CutGap k (top c s link t k h some read).entries (top c s link t k h some read).tail front child back → FindsBelow c s link t k child
     finds_below front back child cut =
         let o = top c s link t k h some read in
-        let b = gap_behind c s link t k h some read front back child (Rattle.mst_path.specs.Removing.tail_behind back.count h.tail) cut refl in
-        let counts = gap_used c s link t k h some read front back child (Rattle.mst_path.specs.Removing.tail_behind back.count h.tail) cut refl in
+        let b = gap_behind c s link t k h some read front back child (Rattle.mst_path.specs.Making.tail_behind back.count h.tail) cut refl in
+        let counts = gap_used c s link t k h some read front back child (Rattle.mst_path.specs.Making.tail_behind back.count h.tail) cut refl in
         let first = first_before cut.behind o.tail in
         let inside = gap_rises One h.layer (entries_to cut.behind o.tail) (cells_of cut.before) (subst (λ (fs : Entries). IsAscending (entries_pairs fs)) cut.gap.whole all_rise) in
         record {

@@ -12,9 +12,8 @@ use Rattle.mst_arena.proofs.ListLemmas.{times-append}
 use Rattle.mst_path.specs.Paths.{first_child, with_first}
 use Rattle.mst_path.specs.Moves.{In, IsOld}
 use Rattle.mst_path.specs.Runs.{OldPiece, Run, own_rows, own, gaps_used, EachGap}
-use Rattle.mst_path.specs.Making.{BackRun, cells_of, entries_to, others}
+use Rattle.mst_path.specs.Making.{BackRun, cells_of, entries_to, others, tail_behind}
 use Rattle.mst_path.specs.Cutting.{gap_before}
-use Rattle.mst_path.specs.Removing.{tail_behind}
 use Rattle.mst_path.specs.Joining.{height}
 use Rattle.mst_path.specs.Writing.{PlacedEntry, link_from}
 use Rattle.mst_path.proofs.Copies.{own-append}

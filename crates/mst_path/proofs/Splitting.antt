@@ -1,5 +1,5 @@
 -- One node of a split: what is split in its gap, and what both sides are made of.
-use Rattle.std.proofs.Common.{◌≡◌, ℕ, zero, suc, ◌+◌, ◌-◌, ◌<◌, ◌≤◌, ◌==◌, ◌&&◌, ◌||◌, cond, Bool, true, false, List, [], ◌∷◌, length, Some, refl, sym, ◌∙◌, ap, subst, arith}
+use Rattle.std.proofs.Common.{◌≡◌, ℕ, zero, suc, ◌+◌, ◌-◌, ◌<◌, ◌≤◌, ◌==◌, ◌&&◌, ◌||◌, Bool, true, false, List, [], ◌∷◌, length, Some, refl, sym, ◌∙◌, ap, subst, arith}
 use Rattle.std.proofs.lemmas.Bool.Decides.{nat_tests}
 use Rattle.std.proofs.lemmas.List.{length-map}
 use Rattle.mst_key.specs.declared.format.Format.TheVariants.{One}
@@ -21,7 +21,7 @@ use Rattle.mst_path.specs.PathsCost.{is_empty, side_rows, split_rows}
 use Rattle.mst_path.specs.Moves.{IsAlive, IsOld}
 use Rattle.mst_path.specs.Runs.{Piece}
 use Rattle.mst_path.specs.Writing.{PlacedEntry, link_from, IsRootOf}
-use Rattle.mst_path.specs.Making.{cell_of, cells_of, entries_to, Split}
+use Rattle.mst_path.specs.Making.{cell_of, cells_of, entries_to, Split, tail_behind}
 use Rattle.mst_path.specs.Cutting.{EntriesLie, CutGap, CutHeld, gap_before}
 use Rattle.mst_path.specs.Splitting.{SearchUnder, ToSplit, BothStand, side_of, in_both}
 use Rattle.mst_path.proofs.Moving.{moves_none}
@@ -74,9 +74,9 @@ pub and_right : (a b : Bool) → (a && b) ≡ true → b ≡ true
 and_right true b e = e
 and_right false b e = absurd cc
 
-pub last_link : (es : List PlacedEntry) (tail : Placed) (n : ℕ) → length es ≡ n → link_of (last_of es tail) ≡ cond (n == 0) 0 (link_of tail)
-last_link [] tail n e = let z : (n == 0) ≡ true = grind (arith, nat_tests) in sym (ap (λ (b : Bool). cond b 0 (link_of tail)) z)
-last_link (x ∷ es) tail n e = let z : (n == 0) ≡ false = grind (arith, nat_tests) in sym (ap (λ (b : Bool). cond b 0 (link_of tail)) z)
+pub last_link : (es : List PlacedEntry) (tail : Placed) (n : ℕ) → length es ≡ n → link_of (last_of es tail) ≡ tail_behind n (link_of tail)
+last_link [] tail n e = ap (λ (m : ℕ). tail_behind m (link_of tail)) e
+last_link (x ∷ es) tail n e = ap (λ (m : ℕ). tail_behind m (link_of tail)) e
 
 -- the empty tree
 pub split_none : (c : Content) (s : State) (link : ℕ) (k : List ℕ) (left right : Root) → link ≡ 0 → IsRootOf none left → IsRootOf none right → (t : ToSplit c s link k) → Split c c s s (below k (tree_of One t.tree.placed)) (above k (tree_of One t.tree.placed)) left right (λ x. times x (used t.tree.placed)) (split_rows k (tree_of One t.tree.placed))

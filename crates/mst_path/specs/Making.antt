@@ -1,5 +1,5 @@
 -- A new node that is made of parts of nodes that stand: entries in front, a tree in the gap behind them, and the entries at the back with the tree in the last gap.
-use Rattle.std.specs.Prelude.{◌≡◌, ◌≤◌, ◌+◌, min, ℕ, List, [], ◌∷◌, ◌++◌, length, map}
+use Rattle.std.specs.Prelude.{◌≡◌, ◌≤◌, ◌+◌, min, ℕ, zero, suc, List, [], ◌∷◌, ◌++◌, length, map}
 use Rattle.mst_key.specs.declared.format.Format.TheVariants.{One}
 use Rattle.mst_node.specs.Tree.{Tree, node, Entries, last}
 use Rattle.mst_node.specs.Shape.{TreeEntry, with_entries}
@@ -32,6 +32,11 @@ entries_to es tail = with_entries (cells_of es) (last (tree_of One tail))
 abbrev pub others : List PlacedEntry → List PlacedEntry
 others [] = []
 others (e ∷ es) = es
+
+-- the link of the last tree, where there are so many entries in front of it
+abbrev pub tail_behind : ℕ → ℕ → ℕ
+tail_behind zero tail = 0
+tail_behind (suc n) tail = tail
 
 -- where there are no entries at the back there is no tree behind them
 abbrev pub HasTail : List PlacedEntry → Placed → Type 0

@@ -1,5 +1,5 @@
 -- A tree that stands and is to lose a key, and what is left of its top node round the gap that changes.
-use Rattle.std.specs.Prelude.{◌≡◌, ◌≤◌, ◌<◌, ◌+◌, ℕ, zero, suc, List}
+use Rattle.std.specs.Prelude.{◌≡◌, ◌≤◌, ◌<◌, ◌+◌, ℕ, List}
 use Rattle.mst_key.specs.declared.format.Format.TheVariants.{One}
 use Rattle.mst_node.specs.Tree.{Tree, IsMst}
 use Rattle.mst_arena.specs.Content.{Content}
@@ -15,11 +15,6 @@ use Rattle.mst_path.specs.PathsCost.{remove_rows}
 use Rattle.mst_path.specs.Runs.{OldPiece}
 use Rattle.mst_path.specs.Frames.{Framed, in_frame, tree_round, frame_rows}
 use Rattle.mst_path.specs.Joining.{TwoTrees, in_both, both_joined, both_rows, height}
-
--- the link of the last tree, where there are so many entries in front of it
-abbrev pub tail_behind : ℕ → ℕ → ℕ
-tail_behind zero tail = 0
-tail_behind (suc n) tail = tail
 
 -- A search tree of the current version stands at the link, and no row stands twice in it.
 pub record SearchTree (content : Content) (s : State) (link : ℕ) : Type 0 where

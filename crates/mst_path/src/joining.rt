@@ -7,12 +7,9 @@ ghost use Rattle.mst_path.specs.Joining.{TwoTrees, in_both, both_joined, both_ro
 
 use crate::copying::root_at;
 use crate::frames::{Frame, close};
-use crate::making::Run;
+use crate::making::{Run, no_run};
 use mst_arena::{Desk, HeadLinks, Root, Rows};
 use std::alloc::Allocator;
-
-/// No entries.
-const NO_RUN: Run = Run { first: 0, count: 0 };
 
 /// Where two trees meet that are to be joined.
 #[derive(Clone, Copy)]
@@ -97,7 +94,7 @@ fn higher(left: u32, low: &HeadLinks, right: u32) -> Meeting
                 first: low.first,
                 count: low.count,
             },
-            back: NO_RUN,
+            back: no_run(),
             tail: 0,
             head: left - 1,
             other: None,
@@ -115,7 +112,7 @@ fn lower(left: u32, right: u32, high: &HeadLinks, child: u32) -> Meeting
         right: child,
         frame: Frame {
             layer: high.layer,
-            front: NO_RUN,
+            front: no_run(),
             back: Run {
                 first: high.first,
                 count: high.count,

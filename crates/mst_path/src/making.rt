@@ -10,7 +10,7 @@ ghost use Rattle.mst_path.specs.Paths.{with_first};
 ghost use Rattle.mst_path.specs.Takes.{FreeIsBlank};
 ghost use Rattle.mst_path.specs.Runs.{Piece};
 ghost use Rattle.mst_path.specs.Writing.{IsRootOf, IsWriter};
-ghost use Rattle.mst_path.specs.Making.{PartsStand, in_parts, cells_of, entries_to, Grown, Rest, Finished};
+ghost use Rattle.mst_path.specs.Making.{PartsStand, in_parts, cells_of, entries_to, Grown, Rest, Finished, tail_behind};
 
 use crate::copying::{move_entry, move_run, root_at};
 use crate::node_writer::NodeWriter;
@@ -24,6 +24,20 @@ pub(crate) struct Run {
     /// The link of the first of them.
     pub(crate) first: u32,
     pub(crate) count: u32,
+}
+
+/// No entries.
+pub(crate) fn no_run() -> Run
+    ensures none { result ≡ record { first = 0; count = 0 } }
+{
+    Run { first: 0, count: 0 }
+}
+
+/// The link of the last tree that is kept behind so many entries: none where there are no entries.
+pub(crate) fn kept_tail(count: u32, tail: u32) -> u32
+    ensures tail { result ≡ tail_behind count tail }
+{
+    if count == 0 { 0 } else { tail }
 }
 
 /// What a new node is made of. The entries die where they stand, and are written anew.

@@ -19,9 +19,9 @@ ghost use Rattle.mst_path.specs.Putting.{TwoStand, in_two, tree_with, with_rows,
 use crate::copying::root_at;
 use crate::frames::{Frame, close, kill_both};
 use crate::joining::Meeting;
-use crate::making::{Parts, make_node_with};
+use crate::making::{Parts, make_node_with, no_run};
 use crate::removing::{Step, top_step};
-use crate::split::{no_run, split};
+use crate::split::split;
 use mst_arena::{Desk, Root, Rows};
 use mst_key::{Key, Value};
 use std::alloc::Allocator;

@@ -9,14 +9,14 @@ ghost use Rattle.mst_path.specs.Takes.{FreeIsBlank};
 ghost use Rattle.mst_path.specs.Making.{Grown};
 ghost use Rattle.mst_path.specs.Frames.{Framed, in_frame, tree_round, frame_rows};
 ghost use Rattle.mst_path.specs.Joining.{TwoTrees, in_both, both_joined, both_rows};
-ghost use Rattle.mst_path.specs.Removing.{SearchTree, in_tree, without, without_rows, tail_behind, IsStep};
+ghost use Rattle.mst_path.specs.Removing.{SearchTree, in_tree, without, without_rows, IsStep};
 ghost use Rattle.mst_path.specs.Gaps.{IsOpened};
 
 use crate::copying::root_at;
 use crate::cut::{Cut, cut_at};
 use crate::frames::{Frame, close};
 use crate::joining::{Meeting, join, join_cost};
-use crate::making::Run;
+use crate::making::{Run, kept_tail};
 use mst_arena::{Desk, HeadLinks, Root, Rows};
 use mst_key::Key;
 use std::alloc::Allocator;
@@ -28,13 +28,6 @@ pub(crate) enum Step {
     Down { child: u32, frame: Frame },
     /// The node has the key's entry: it goes, and the trees beside it meet.
     Here { meeting: Meeting },
-}
-
-/// The link of the last tree that is kept behind so many entries: none where there are no entries.
-fn kept_tail(count: u32, tail: u32) -> u32
-    ensures tail { result ≡ tail_behind count tail }
-{
-    if count == 0 { 0 } else { tail }
 }
 
 /// The link of the tree in front of these entries, the last ones of their node: its last tree, where there are none.

@@ -1,5 +1,5 @@
 //! A tree, split at a key.
-ghost use Rattle.std.specs.Prelude.{◌≡◌, ◌≤◌, ◌+◌, ℕ, List, length, true, false, cond, ◌==◌, ◌&&◌};
+ghost use Rattle.std.specs.Prelude.{◌≡◌, ◌≤◌, ◌+◌, ℕ, List, length, true, false, ◌==◌, ◌&&◌};
 ghost use Rattle.mst_key.specs.declared.format.Format.TheVariants.{One};
 ghost use Rattle.mst_arena.specs.Lives.{free_count};
 ghost use Rattle.mst_arena.specs.Lists.{times};
@@ -13,7 +13,7 @@ ghost use Rattle.mst_path.specs.Splitting.{ToSplit, BothStand, side_of, in_both}
 
 use crate::copying::root_at;
 use crate::cut::{Cut, cut_at};
-use crate::making::{Parts, Run, make_node};
+use crate::making::{Parts, Run, kept_tail, make_node, no_run};
 use mst_arena::{Desk, Root, Rows};
 use mst_key::Key;
 use mst_node::empty_digest;
@@ -29,25 +29,11 @@ pub(crate) fn nothing() -> Root
     }
 }
 
-/// No entries.
-pub(crate) fn no_run() -> Run
-    ensures none { result ≡ record { first = 0; count = 0 } }
-{
-    Run { first: 0, count: 0 }
-}
-
 /// Whether there are no entries and no tree beside them.
 fn is_none(run: &Run, beside: &Root) -> bool
     ensures none { result ≡ ((run.now.count == 0) && (beside.now.link == 0)) }
 {
     run.count == 0 && beside.link == 0
-}
-
-/// The link of the tree behind entries at the back of a node, and 0 where there are none.
-pub(crate) fn tail_behind(back: &Run, tail: u32) -> u32
-    ensures tail { result ≡ cond (back.now.count == 0) 0 tail }
-{
-    if back.count == 0 { 0 } else { tail }
 }
 
 /// The node of the parts; where they have no entries, the tree in the seam alone.
@@ -138,7 +124,7 @@ pub(crate) fn split<R: Rows, A: Allocator>(
         front: no_run(),
         seam: upper,
         back,
-        tail: tail_behind(&back, head.tail),
+        tail: kept_tail(back.count, head.tail),
     };
     both_sides(rows, desk, link - 1, &left, &right)
 }

@@ -1,4 +1,4 @@
-use Rattle.std.proofs.Common.{◌≡◌, ◌≤◌, ◌<◌, ◌==◌, ◌&&◌, ℕ, true, false, true≢false, cond, refl, sym, ◌∙◌, ap, subst, arith, rules}
+use Rattle.std.proofs.Common.{◌≡◌, ◌≤◌, ◌<◌, ◌==◌, ◌&&◌, true, false, true≢false, refl, sym, ◌∙◌, ap, subst, arith, rules}
 use Rattle.std.proofs.lemmas.Grind.{common_steps}
 use Rattle.mst_key.specs.declared.format.Format.TheVariants.{One}
 use Rattle.mst_key.specs.Layer.{layer_in}
@@ -9,7 +9,7 @@ use Rattle.mst_arena.specs.Standing.{tree_of, used, rows_of, HasRows}
 use Rattle.mst_path.specs.Paths.{below, above}
 use Rattle.mst_path.specs.PathsCost.{is_empty, split_rows}
 use Rattle.mst_path.specs.Takes.{FreeIsBlank}
-use Rattle.mst_path.specs.Making.{Split}
+use Rattle.mst_path.specs.Making.{Split, tail_behind}
 use Rattle.mst_path.specs.Cutting.{EntriesLie, CutGap, CutHeld, IsCut}
 use Rattle.mst_path.specs.Splitting.{ToSplit}
 use Rattle.mst_path.proofs.Copies.{blank_free}
@@ -262,9 +262,9 @@ both_sides-requires-clause-parts g n c =
     let inside = in_gap C s c.args.link K (layer_in One K) (omega arith) t c.if-link-eq0.false h read c.in-Gap.front c.in-Gap.back c.in-Gap.child cut in
     let down = gap_to_split C s c.args.link K (layer_in One K) (omega arith) t c.if-link-eq0.false h read c.in-Gap.front c.in-Gap.back c.in-Gap.child cut in
     let r = subst (λ (x : Content). (u : ToSplit x s c.in-Gap.child K) → Split x (g.R.Rows.content c.split.new.rows) s c.split.new.desk (below K (tree_of One u.tree.placed)) (above K (tree_of One u.tree.placed)) c.split.result.0 c.split.result.1 (λ x. times x (used u.tree.placed)) (split_rows K (tree_of One u.tree.placed))) same c.split.ensures.split down in
-    let tail_is = last_link cut.behind node.tail c.in-Gap.back.count cut.back_is.counted ∙ ap (λ (m : ℕ). cond (c.in-Gap.back.count == 0) 0 m) (tail_behind_is C s c.args.link K (layer_in One K) (omega arith) t c.if-link-eq0.false h read) ∙ sym c.tail_behind.ensures.tail in
+    let tail_is = last_link cut.behind node.tail c.in-Gap.back.count cut.back_is.counted ∙ ap (tail_behind c.in-Gap.back.count) (tail_behind_is C s c.args.link K (layer_in One K) (omega arith) t c.if-link-eq0.false h read) ∙ sym c.kept_tail.ensures.tail in
     let layer = layer_is C s c.args.link K (layer_in One K) (omega arith) t c.if-link-eq0.false h read in
-    both C s c.args.link K (layer_in One K) (omega arith) t c.if-link-eq0.false h read c.in-Gap.front c.in-Gap.back c.in-Gap.child cut (g.R.Rows.content c.split.new.rows) c.split.new.desk c.split.result.0 c.split.result.1 (split_rows K (tree_of One inside)) r h.layer layer c.no_run.result c.no_run-2.result c.no_run.ensures.none c.no_run-2.ensures.none c.tail_behind.result tail_is
+    both C s c.args.link K (layer_in One K) (omega arith) t c.if-link-eq0.false h read c.in-Gap.front c.in-Gap.back c.in-Gap.child cut (g.R.Rows.content c.split.new.rows) c.split.new.desk c.split.result.0 c.split.result.1 (split_rows K (tree_of One inside)) r h.layer layer c.no_run.result c.no_run-2.result c.no_run.ensures.none c.no_run-2.ensures.none c.kept_tail.result tail_is
 
 pub both_sides-requires-clause-low : goal.both_sides-requires-clause-low
 both_sides-requires-clause-low g n c =
@@ -293,11 +293,11 @@ both_sides-requires-clause-room g n c =
     let inside = in_gap C s c.args.link K (layer_in One K) (omega arith) t c.if-link-eq0.false h read c.in-Gap.front c.in-Gap.back c.in-Gap.child cut in
     let down = gap_to_split C s c.args.link K (layer_in One K) (omega arith) t c.if-link-eq0.false h read c.in-Gap.front c.in-Gap.back c.in-Gap.child cut in
     let r = subst (λ (x : Content). (u : ToSplit x s c.in-Gap.child K) → Split x (g.R.Rows.content c.split.new.rows) s c.split.new.desk (below K (tree_of One u.tree.placed)) (above K (tree_of One u.tree.placed)) c.split.result.0 c.split.result.1 (λ x. times x (used u.tree.placed)) (split_rows K (tree_of One u.tree.placed))) same c.split.ensures.split down in
-    let tail_is = last_link cut.behind node.tail c.in-Gap.back.count cut.back_is.counted ∙ ap (λ (m : ℕ). cond (c.in-Gap.back.count == 0) 0 m) (tail_behind_is C s c.args.link K (layer_in One K) (omega arith) t c.if-link-eq0.false h read) ∙ sym c.tail_behind.ensures.tail in
+    let tail_is = last_link cut.behind node.tail c.in-Gap.back.count cut.back_is.counted ∙ ap (tail_behind c.in-Gap.back.count) (tail_behind_is C s c.args.link K (layer_in One K) (omega arith) t c.if-link-eq0.false h read) ∙ sym c.kept_tail.ensures.tail in
     let layer = layer_is C s c.args.link K (layer_in One K) (omega arith) t c.if-link-eq0.false h read in
     let not_below : ((c.in-Gap.back.count == 0) && (c.split.result.1.link == 0)) ≡ false = sym c.is_none.ensures.none ∙ c.if-is_none.false in
     let not_above : ((c.in-Gap.front.count == 0) && (c.split.result.0.link == 0)) ≡ false = sym c.is_none-2.ensures.none ∙ c.if-is_none-2.false in
-    omega (arith, c.requires.tree.1, r.moves.room, r.counted, count_is C s c.args.link K (layer_in One K) (omega arith) t c.if-link-eq0.false h read c.in-Gap.front c.in-Gap.back c.in-Gap.child cut (g.R.Rows.content c.split.new.rows) c.split.new.desk c.split.result.0 c.split.result.1 (split_rows K (tree_of One inside)) r h.layer layer c.no_run.result c.no_run-2.result c.no_run.ensures.none c.no_run-2.ensures.none c.tail_behind.result tail_is not_below not_above)
+    omega (arith, c.requires.tree.1, r.moves.room, r.counted, count_is C s c.args.link K (layer_in One K) (omega arith) t c.if-link-eq0.false h read c.in-Gap.front c.in-Gap.back c.in-Gap.child cut (g.R.Rows.content c.split.new.rows) c.split.new.desk c.split.result.0 c.split.result.1 (split_rows K (tree_of One inside)) r h.layer layer c.no_run.result c.no_run-2.result c.no_run.ensures.none c.no_run-2.ensures.none c.kept_tail.result tail_is not_below not_above)
 
 pub both_sides-requires-clause-few : goal.both_sides-requires-clause-few
 both_sides-requires-clause-few g n c =
@@ -350,11 +350,11 @@ returns-clause-split g n c t =
     let inside = in_gap C s c.args.link K (layer_in One K) (omega arith) t c.if-link-eq0.false h read c.in-Gap.front c.in-Gap.back c.in-Gap.child cut in
     let down = gap_to_split C s c.args.link K (layer_in One K) (omega arith) t c.if-link-eq0.false h read c.in-Gap.front c.in-Gap.back c.in-Gap.child cut in
     let r = subst (λ (x : Content). (u : ToSplit x s c.in-Gap.child K) → Split x (g.R.Rows.content c.split.new.rows) s c.split.new.desk (below K (tree_of One u.tree.placed)) (above K (tree_of One u.tree.placed)) c.split.result.0 c.split.result.1 (λ x. times x (used u.tree.placed)) (split_rows K (tree_of One u.tree.placed))) same c.split.ensures.split down in
-    let tail_is = last_link cut.behind node.tail c.in-Gap.back.count cut.back_is.counted ∙ ap (λ (m : ℕ). cond (c.in-Gap.back.count == 0) 0 m) (tail_behind_is C s c.args.link K (layer_in One K) (omega arith) t c.if-link-eq0.false h read) ∙ sym c.tail_behind.ensures.tail in
+    let tail_is = last_link cut.behind node.tail c.in-Gap.back.count cut.back_is.counted ∙ ap (tail_behind c.in-Gap.back.count) (tail_behind_is C s c.args.link K (layer_in One K) (omega arith) t c.if-link-eq0.false h read) ∙ sym c.kept_tail.ensures.tail in
     let layer = layer_is C s c.args.link K (layer_in One K) (omega arith) t c.if-link-eq0.false h read in
     let not_below : ((c.in-Gap.back.count == 0) && (c.split.result.1.link == 0)) ≡ false = sym c.is_none.ensures.none ∙ c.if-is_none.false in
     let not_above : ((c.in-Gap.front.count == 0) && (c.split.result.0.link == 0)) ≡ false = sym c.is_none-2.ensures.none ∙ c.if-is_none-2.false in
-    split_made C s c.args.link K (layer_in One K) (omega arith) t c.if-link-eq0.false h read c.in-Gap.front c.in-Gap.back c.in-Gap.child cut (g.R.Rows.content c.split.new.rows) c.split.new.desk c.split.result.0 c.split.result.1 (split_rows K (tree_of One inside)) r h.layer layer c.no_run.result c.no_run-2.result c.no_run.ensures.none c.no_run-2.ensures.none c.tail_behind.result tail_is not_below not_above refl _ _ _ _ (c.both_sides.ensures.made (both C s c.args.link K (layer_in One K) (omega arith) t c.if-link-eq0.false h read c.in-Gap.front c.in-Gap.back c.in-Gap.child cut (g.R.Rows.content c.split.new.rows) c.split.new.desk c.split.result.0 c.split.result.1 (split_rows K (tree_of One inside)) r h.layer layer c.no_run.result c.no_run-2.result c.no_run.ensures.none c.no_run-2.ensures.none c.tail_behind.result tail_is))
+    split_made C s c.args.link K (layer_in One K) (omega arith) t c.if-link-eq0.false h read c.in-Gap.front c.in-Gap.back c.in-Gap.child cut (g.R.Rows.content c.split.new.rows) c.split.new.desk c.split.result.0 c.split.result.1 (split_rows K (tree_of One inside)) r h.layer layer c.no_run.result c.no_run-2.result c.no_run.ensures.none c.no_run-2.ensures.none c.kept_tail.result tail_is not_below not_above refl _ _ _ _ (c.both_sides.ensures.made (both C s c.args.link K (layer_in One K) (omega arith) t c.if-link-eq0.false h read c.in-Gap.front c.in-Gap.back c.in-Gap.child cut (g.R.Rows.content c.split.new.rows) c.split.new.desk c.split.result.0 c.split.result.1 (split_rows K (tree_of One inside)) r h.layer layer c.no_run.result c.no_run-2.result c.no_run.ensures.none c.no_run-2.ensures.none c.kept_tail.result tail_is))
 
 pub returns-clause-shared_below : goal.returns-clause-shared_below
 returns-clause-shared_below g n c t e =
