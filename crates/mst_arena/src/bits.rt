@@ -49,6 +49,7 @@ fn word_in_use(words: &[u64], summary: &[u64], at: usize) -> Option<usize>
     requires few { length summary.now < 2 ^ 32 }
     requires there { at < length words.now }
     ensures some { IfSome result (λ w. slice_index words.now w ≢ 0) }
+    ensures near { IfSome result (λ w. slice_index words.now at ≢ 0 → w ≡ at) }
     ensures none { IfNone result ((w : ℕ) → slice_index words.now w ≡ 0) }
 {
     if words[at] != 0 {
@@ -67,6 +68,7 @@ pub fn bit_in_use(words: &[u64], summary: &[u64], at: usize) -> Option<usize>
     requires few_sums { length summary.now < 2 ^ 32 }
     requires there { at < length words.now }
     ensures some { IfSome result (λ i. bit words.now i ≡ 1) }
+    ensures near { IfSome result (λ i. slice_index words.now at ≢ 0 → i / 64 ≡ at) }
     ensures none { IfNone result ((w : ℕ) → slice_index words.now w ≡ 0) }
 {
     let word = word_in_use(words, summary, at)?;

@@ -23,7 +23,10 @@ use Rattle.mst_path.specs.Versions.{HasMap, Kept, numbers_kept, AreNumbers, Have
 use Rattle.mst_path.proofs.Copies.{all_in}
 use Rattle.mst_path.proofs.Moving.{in_either, not_in}
 use Rattle.mst_path.proofs.Reached.{older, newest, version_after, settled_after, same_swept, settled_swept, free_swept}
-use Rattle.mst_path.proofs.FreeCounts.{count_swept}
+use Rattle.mst_path.proofs.FreeCounts.{count_swept, alone}
+use Rattle.mst_path.proofs.Nodes.{used_count}
+use Rattle.mst_path.specs.Planting.{node_count, rows_needed}
+use Rattle.mst_node.proofs.Unique.{pairs_tree}
 
 -- ---- one version
 
@@ -154,6 +157,22 @@ module _ (c : Content) (s : State) (live : List ℕ) (kept : List Kept) (are : A
 
   pub count_kept : (rows : List ℕ) → IsDistinct rows → ((r : ℕ) → In r rows ↔ In r (rows_kept c s.lives kept keeps.maps)) → free_count (swept_by live s).lives + length rows ≡ length s.lives
   count_kept rows once same = count_swept s live rows keeps.settled current_live once (λ r. (λ some. (same r).1 ((reached_live r).0 some), λ i. (reached_live r).1 ((same r).0 i)))
+
+-- a row for each pair and each node
+pub rows_of_map : (c : Content) (at : Root) (m : List Pair) (stands : Stands One c at m) → length (numbers stands) ≡ length m + node_count (nodes.tree One m)
+rows_of_map c at m stands =
+    used_count stands.tree.placed
+    ∙ ap rows_needed stands.tree.is
+    ∙ ap (λ (ps : List Pair). length ps + node_count (nodes.tree One m)) (pairs_tree One m)
+
+pub room_alone : (c : Content) (s : State) (at : Root) (m : List Pair) → IsSettled s → HasMap c s.lives (version s) at m → free_count (swept_by (version s ∷ []) s).lives + (length m + node_count (nodes.tree One m)) ≡ length s.lives
+room_alone c s at m settled has =
+    let now : In (version s) (version s ∷ []) = omega (arith, ap bit (same_eqb (version s) (version s) refl)) in
+    omega (
+      arith,
+      count_swept s (version s ∷ []) (numbers has.stands) settled now has.stands.tree.once (alone s.lives (version s) (numbers has.stands) has.rows),
+      rows_of_map c at m has.stands,
+    )
 
 -- ---- a new desk, and the empty map
 

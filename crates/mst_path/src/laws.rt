@@ -17,6 +17,7 @@ ghost use Rattle.mst_arena.specs.Standing.{IsDistinct, Stands, numbers};
 ghost use Rattle.mst_path.specs.Moves.{In};
 ghost use Rattle.mst_path.specs.Changing.{AreOld, OnlyFreeWritten};
 ghost use Rattle.mst_path.specs.Takes.{Takes};
+ghost use Rattle.mst_path.specs.Planting.{node_count};
 ghost use Rattle.mst_path.specs.Reached.{ReachesExactly, TogetherReach, Changes, advanced, swept_by, IsSettled};
 ghost use Rattle.mst_path.specs.Versions.{HasMap, Kept, numbers_kept, AreNumbers, rows_kept, Keeps};
 ghost use Rattle.mst_path.specs.Paths.{below, above, join, cells, first_child, last_child, with_first, tree_put, tree_remove};
@@ -138,4 +139,10 @@ pub fn version_laws()
     ensures count { (content : Content) (s : State) (live rows : List ℕ) (kept : List Kept) → AreNumbers live kept
         → (keeps : Keeps content s kept) → IsDistinct rows → ((r : ℕ) → In r rows ↔ In r (rows_kept content s.lives kept keeps.maps))
         → free_count (swept_by live s).lives + length rows ≡ length s.lives }
+    // a map stands on a row for each pair and one for each node; where no other version is kept, all others are free
+    ensures rows { (content : Content) (at : Root) (m : List Pair) (stands : Stands One content at m)
+        → length (numbers stands) ≡ length m + node_count (tree One m) }
+    ensures room { (content : Content) (s : State) (at : Root) (m : List Pair) → IsSettled s
+        → HasMap content s.lives (version s) at m
+        → free_count (swept_by (version s ∷ []) s).lives + (length m + node_count (tree One m)) ≡ length s.lives }
 {}

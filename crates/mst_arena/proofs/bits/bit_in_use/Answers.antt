@@ -16,3 +16,10 @@ overflow_add-result c =
     let w = slice_index words c.in_ok-word.word in
     let small : trailing_zeros w64 w < 64 = lowest_lt w (omega (arith, c.type_inv.words c.in_ok-word.word)) (omega (arith, c.in_ok-word.ensures.some)) in
     omega (arith, word_within words c.in_ok-word.word c.in_ok-word.ensures.some, c.requires.few)
+
+pub returns-clause-near : goal.returns-clause-near
+returns-clause-near c some =
+    let words = c.args.words.now in
+    let w = slice_index words c.in_ok-word.word in
+    let small : trailing_zeros w64 w < 64 = lowest_lt w (omega (arith, c.type_inv.words c.in_ok-word.word)) (omega (arith, c.in_ok-word.ensures.some)) in
+    omega (arith, small, c.in_ok-word.ensures.near some)

@@ -1,4 +1,4 @@
-use Rattle.mst_path.proofs.Versions.{keeps_empty, keeps_write, keeps_fewer, keeps_sweep, free_kept, count_kept}
+use Rattle.mst_path.proofs.Versions.{keeps_empty, keeps_write, keeps_fewer, keeps_sweep, free_kept, count_kept, rows_of_map, room_alone}
 use Rattle.mst_path.proofs.laws.version_laws.Goals as goal
 
 pub returns-clause-open : goal.returns-clause-open
@@ -19,3 +19,9 @@ returns-clause-free c content s live kept r are keeps there = free_kept content 
 
 pub returns-clause-count : goal.returns-clause-count
 returns-clause-count c content s live rows kept are keeps once same = count_kept content s live kept are keeps rows once same
+
+pub returns-clause-rows : goal.returns-clause-rows
+returns-clause-rows c content at m stands = rows_of_map content at m stands
+
+pub returns-clause-room : goal.returns-clause-room
+returns-clause-room c content s at m settled has = room_alone content s at m settled has
