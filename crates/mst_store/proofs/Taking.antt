@@ -1,17 +1,20 @@
 -- From the turn that was taken to what a caller learns.
 use Rattle.std.proofs.Common.{◌≡◌, ℕ, ◌<◌, true, false, List, [], ◌∷◌, ◌++◌, length, Some, None, Option, sym, refl, ap, ◌∙◌, subst}
 use Rattle.atomic_table.specs.Seated.{TableId}
+use Rattle.mst_key.specs.declared.history.Change.{Change}
 use Rattle.mst_key.specs.declared.history.Event.{Event}
-use Rattle.mst_key.specs.History.{History, after, key_of, events_of}
-use Rattle.mst_key.specs.Map.{look}
+use Rattle.mst_key.specs.History.{History, after, key_of, events_of, Begins}
+use Rattle.mst_key.specs.Map.{Pair, look}
 use Rattle.mst_words.specs.declared.view.View.{View}
 use Rattle.mst_words.specs.Rule.{on_slot}
-use Rattle.mst_words.specs.Steps.{Takes, Adds}
+use Rattle.mst_words.specs.Steps.{Takes, Gives, Adds}
 use Rattle.mst_words.proofs.Histories.{events_own}
 use Rattle.mst_store.specs.declared.map_rows.MapRows.{MapRows}
-use Rattle.mst_store.specs.Room.{last_version, HasRoom}
-use Rattle.mst_store.specs.Slot.{Stands, SomeStands, StandsWith, stands}
-use Rattle.mst_store.specs.Passes.{Known, Wrote}
+use Rattle.mst_store.specs.declared.faults.WriteFault.{WriteFault}
+use Rattle.mst_store.specs.declared.faults.WriteFault.TheVariants.{NoRoom, Busy, VersionsSpent}
+use Rattle.mst_store.specs.Room.{last_version, HasRoom, LacksRoom}
+use Rattle.mst_store.specs.Slot.{Stands, SomeStands, StandsWith, Blocks, stands}
+use Rattle.mst_store.specs.Passes.{Known, Looks, Answers, Wrote, Refuses}
 use Rattle.mst_store.specs.Turns.{Seated, HoldsMap, IsReturnable}
 
 module _ {A : Type 0} where
@@ -19,7 +22,7 @@ module _ {A : Type 0} where
   kept_of None rows log s = absurd s
   kept_of (Some kept) rows log s = (kept, refl)
 
-  -- the slot that comes with the turn has a list in it
+  -- the slot that comes with the turn has a map in it
   pub has_map : (m n : Seated A) → Takes (on_slot stands) m n → (kept : MapRows A) × (n.1 ≡ (0, Some kept) ∷ [])
   has_map m n t = let l = kept_of t.value m.0.rows t.log t.stood in (l.0, ap (λ (z : Seated A). z.1) t.is ∙ ap (λ (z : Option (MapRows A)). (0, z) ∷ []) l.1)
 
@@ -27,7 +30,7 @@ module _ {A : Type 0} where
   slot_or x [] = x
   slot_or x (y ∷ ys) = y.1
 
-  -- the list that was taken out stands for what was then seen
+  -- the map that was taken out stands for what was then seen
   pub holds_map : (m n o : Seated A) (kept : MapRows A) → Takes (on_slot stands) m n → n.1 ≡ (0, Some kept) ∷ [] → o ≡ (n.0, (0, None) ∷ []) → HoldsMap m kept o
   holds_map m n o kept t is out = let e : t.value ≡ Some kept = ap (slot_or None) (sym (ap (λ (z : Seated A). z.1) t.is) ∙ is) in record {
     log = t.log;
@@ -80,3 +83,39 @@ wrote {A = A} table table' number m held m' kept e old same mine of h adds early
       numbered = early m.0.rows h.log h.stood;
       room = room m.0.rows h.log h.stood;
     }
+
+-- the turn was taken, and given back with the history as it was: what the caller learns
+module _ {A : Type 0} (table table' : TableId) (number : ℕ) (m held m' : Seated A) (kept : MapRows A) (same : table' ≡ table) (mine : m.0.number ≡ number) (h : HoldsMap m kept held) (gives : Gives held m') where
+  end : m' ≡ (record m.0 { seen = h.log; turn = false }, [])
+  end = gives ∙ ap (λ (z : Seated A). (record z.0 { turn = false }, [])) h.is
+
+  pub now_seen : m'.0.seen ≡ h.log
+  now_seen = ap (λ (z : Seated A). z.0.seen) end
+
+  pub looked : Looks (known table number m) (known table' number m')
+  looked = record {
+    same = (λ i. record { table = same i; rows = (ap (λ (z : Seated A). z.0.rows) end) i; passes = (ap (λ (z : Seated A). z.0.passes) end) i }, refl);
+    later = subst (Begins m.0.seen) (sym now_seen) h.later;
+    mine = ap (λ (z : Seated A). z.0.mine) end;
+    own = ap (events_of number) now_seen ∙ ap (λ (n : ℕ). events_of n h.log) (sym mine) ∙ h.own ∙ sym (ap (λ (z : Seated A). z.0.mine) end);
+  }
+
+  pub answered : {R : Type 0} (question : List Pair → R) (answer : R) → ((rows : ℕ) (log : History) → Stands kept rows log → answer ≡ question (after log)) → Answers question (known table number m) answer (known table' number m')
+  answered question answer found = record {
+    looks = looked;
+    answer_is = found m.0.rows h.log h.stood ∙ ap (λ (log : History). question (after log)) (sym now_seen);
+  }
+
+  pub version_seen : (version : ℕ) → ((rows : ℕ) (log : History) → Stands kept rows log → version ≡ length log) → version ≡ length m'.0.seen
+  version_seen version found = found m.0.rows h.log h.stood ∙ ap (λ (log : History). length log) (sym now_seen)
+
+  pub refused : (fault : WriteFault) (change : Change) → ((rows : ℕ) (log : History) → Stands kept rows log → Blocks fault rows log change) → Refuses fault change (known table number m) (known table' number m')
+  refused Busy change blocks = absurd (blocks m.0.rows h.log h.stood)
+  refused VersionsSpent change blocks = (looked, ap (λ (log : History). length log) now_seen ∙ blocks m.0.rows h.log h.stood)
+  refused NoRoom change blocks =
+      let why = blocks m.0.rows h.log h.stood in
+      let rows : m'.0.rows ≡ m.0.rows = ap (λ (z : Seated A). z.0.rows) end in (
+        looked,
+        subst (λ (log : History). length log < last_version) (sym now_seen) why.0,
+        subst (λ (n : ℕ). LacksRoom n (after m'.0.seen) change) (sym rows) (subst (λ (log : History). LacksRoom m.0.rows (after log) change) (sym now_seen) why.1),
+      )

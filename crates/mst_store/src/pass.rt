@@ -89,11 +89,15 @@ impl<'a, A: Allocator + Copy> Pass<'a, A> {
         let Some(mut map) = take_map(self.board, &mut self.seat, self.number) else {
             return Err(ReadFault::Busy);
         };
-        let found = map.range(alloc, from, to, limit);
-        give_back(self.board, &mut self.seat, map);
-        match found {
-            Ok(found) => Ok(found),
-            Err(Memory) => Err(ReadFault::Memory),
+        match map.range(alloc, from, to, limit) {
+            Ok(found) => {
+                give_back(self.board, &mut self.seat, map);
+                Ok(found)
+            }
+            Err(Memory) => {
+                give_back(self.board, &mut self.seat, map);
+                Err(ReadFault::Memory)
+            }
         }
     }
 
@@ -126,11 +130,15 @@ impl<'a, A: Allocator + Copy> Pass<'a, A> {
         let Some(mut map) = take_map(self.board, &mut self.seat, self.number) else {
             return Err(ReadFault::Busy);
         };
-        let found = map.prove(alloc, key);
-        give_back(self.board, &mut self.seat, map);
-        match found {
-            Ok(found) => Ok(found),
-            Err(Memory) => Err(ReadFault::Memory),
+        match map.prove(alloc, key) {
+            Ok(found) => {
+                give_back(self.board, &mut self.seat, map);
+                Ok(found)
+            }
+            Err(Memory) => {
+                give_back(self.board, &mut self.seat, map);
+                Err(ReadFault::Memory)
+            }
         }
     }
 
