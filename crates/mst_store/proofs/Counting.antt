@@ -1,5 +1,5 @@
 -- Rows that stand and rows that are free: together they are all rows, once a sweep freed the dead ones.
-use Rattle.std.proofs.Common.{◌≡◌, ℕ, zero, suc, ◌+◌, ◌<◌, ◌≤◌, Bool, true, false, cond, eqb, List, [], ◌∷◌, ◌++◌, length, Option, Some, None, refl, sym, ◌∙◌, ap, subst, arith}
+use Rattle.std.proofs.Common.{◌≡◌, ℕ, zero, suc, ◌+◌, ◌≤◌, Bool, true, false, cond, eqb, List, [], ◌∷◌, length, Option, Some, None, refl, sym, ◌∙◌, ap, arith}
 use Rattle.std.specs.Prelude.{slice_get, slice_set, option_map, ◌||◌, map}
 use Rattle.std.proofs.lemmas.Bool.Decides.{nat_tests}
 use Rattle.std.proofs.lemmas.List.{length-append}
@@ -9,18 +9,17 @@ use Rattle.mst_key.specs.Map.{Pair}
 use Rattle.mst_node.specs.Tree.{Tree, empty, node, Entries, last, entry, tree, pairs, entries_pairs}
 use Rattle.mst_node.proofs.Unique.{pairs_tree}
 use Rattle.mst_arena.specs.Content.{Content}
-use Rattle.mst_arena.specs.Lives.{State, version, is_free, free_count, swept, reaches_life}
+use Rattle.mst_arena.specs.Lives.{State, version, is_free, free_count, swept}
 use Rattle.mst_arena.specs.Lists.{times, bit}
 use Rattle.mst_arena.specs.declared.life.Life.{Life}
 use Rattle.mst_arena.specs.declared.life.Life.TheVariants.{Free, Born, Dead}
 use Rattle.mst_arena.specs.declared.row.Root.{Root}
-use Rattle.mst_arena.specs.Standing.{Stands, numbers, used}
+use Rattle.mst_arena.specs.Standing.{Stands, numbers}
 use Rattle.mst_arena.proofs.ListLemmas.{get-set}
 use Rattle.mst_arena.proofs.Reach.{died}
 use Rattle.mst_path.specs.Changing.{AreOld}
-use Rattle.mst_path.specs.Moves.{In, IsOld}
+use Rattle.mst_path.specs.Moves.{In}
 use Rattle.mst_path.specs.Planting.{node_count, entries_node_count}
-use Rattle.mst_path.proofs.Changes.{distinct_times}
 use Rattle.mst_path.proofs.Sizes.{size, entries_size, size_used}
 use Rattle.mst_path.proofs.Taking.{frees, frees_is}
 use Rattle.mst_store.specs.Room.{rows_of}

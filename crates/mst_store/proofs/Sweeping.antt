@@ -1,14 +1,13 @@
 -- The empty map in new rows; and what a sweep leaves: as many free rows as the map leaves over.
-use Rattle.std.proofs.Common.{◌≡◌, ℕ, zero, suc, ◌+◌, ◌<◌, ◌≤◌, List, [], ◌∷◌, length, Some, None, Option, refl, sym, ◌∙◌, ap, subst, arith}
+use Rattle.std.proofs.Common.{◌≡◌, ℕ, zero, suc, ◌<◌, ◌≤◌, List, [], ◌∷◌, length, Some, None, Option, refl, sym, ◌∙◌, ap, subst, arith}
 use Rattle.std.specs.Prelude.{IsTrue, nat_lt, slice_get, map, replicate}
 use Rattle.std.proofs.lemmas.Bool.Decides.{nat_tests}
 use Rattle.mst_key.specs.declared.format.Format.TheVariants.{One}
-use Rattle.mst_key.specs.History.{History, after}
+use Rattle.mst_key.specs.History.{History}
 use Rattle.mst_key.proofs.MapLaws.{IsMap-nil}
 use Rattle.mst_node.specs.Text as text
 use Rattle.mst_node.proofs.Trees.{tree-no_pairs}
 use Rattle.mst_arena.specs.Lives.{State, version, swept}
-use Rattle.mst_arena.specs.declared.life.Life.{Life}
 use Rattle.mst_arena.specs.declared.life.Life.TheVariants.{Free}
 use Rattle.mst_arena.specs.declared.row.Row.{Row}
 use Rattle.mst_arena.specs.Standing.{none, numbers}

@@ -1,5 +1,5 @@
 -- A write of the map: the rows that stand after it, and what becomes of the others.
-use Rattle.std.proofs.Common.{◌≡◌, ℕ, zero, suc, ◌+◌, ◌-◌, ◌<◌, ◌≤◌, Bool, IsTrue, List, [], ◌∷◌, ◌++◌, length, Option, Some, None, Result, Ok, Err, OnOk, OnErr, refl, sym, ◌∙◌, ap, subst, arith, length-append}
+use Rattle.std.proofs.Common.{◌≡◌, ℕ, zero, suc, ◌+◌, ◌-◌, ◌<◌, ◌≤◌, IsTrue, List, [], ◌∷◌, ◌++◌, length, Some, None, Result, Ok, Err, OnOk, OnErr, refl, sym, ◌∙◌, ap, subst, arith, length-append}
 use Rattle.std.specs.Prelude.{slice_get, slice_set, slice_index, nat_lt}
 use Rattle.std.proofs.lemmas.Option.{slice_get_within}
 use Rattle.mst_key.specs.declared.format.Format.TheVariants.{One}
@@ -12,8 +12,8 @@ use Rattle.mst_arena.specs.declared.life.Life.{Life}
 use Rattle.mst_arena.specs.declared.life.Life.TheVariants.{Free, Born, Dead}
 use Rattle.mst_arena.specs.Standing as standing
 use Rattle.mst_arena.specs.Standing.{numbers}
-use Rattle.mst_path.specs.Changing.{AreOld, IsTaken, AreTaken, AreKilled, OthersLive, SameVersions}
-use Rattle.mst_path.specs.Moves.{In, IsKilled}
+use Rattle.mst_path.specs.Changing.{AreOld, AreTaken, AreKilled, OthersLive, SameVersions}
+use Rattle.mst_path.specs.Moves.{In}
 use Rattle.mst_path.specs.Takes.{FreeIsBlank}
 use Rattle.mst_store.specs.declared.map_rows.MapRows.{MapRows}
 use Rattle.mst_store.specs.Room.{last_version}

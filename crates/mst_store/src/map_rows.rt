@@ -167,7 +167,12 @@ impl<A: Allocator> MapRows<A> {
             → IfErr result (λ fault. Blocks fault rows log (Put key.now value.now)) }
         ensures kept { OnErr result (self.new ≡ self.old) }
     {
-        Err(WriteFault::NoRoom)
+        let Ok((root, old)) = mst_path::put(&mut self.rows, &mut self.desk, &self.root, key, value)
+        else {
+            return Err(WriteFault::NoRoom);
+        };
+        self.advance(root);
+        Ok(old)
     }
 
     // Takes the key out, and answers the value that it had. `NoRoom` comes exactly where the rows that are left over are too few.

@@ -12,6 +12,6 @@ returns-in-Ok-clause-ok g c =
 
 pub returns-in-Err-clause-err : goal.returns-in-Err-clause-err
 returns-in-Err-clause-err g c =
-    let table : c.give_back.new.seat.table_id ≡ c.self.inside.seat.table_id = search rules in
-    rw (sym c.self.view_is) (looked c.self.inside.seat.table_id c.give_back.new.seat.table_id c.self.inside.number c.self.inside.seat.me c.take_map.new.seat.me c.give_back.new.seat.me
-    c.in-Some.map table c.self.invariant.1.2 c.in-Some.ensures.taken c.give_back.ensures.gave)
+    let table : c.give_back-in-Err.new.seat.table_id ≡ c.self.inside.seat.table_id = search rules in
+    rw (sym c.self.view_is) (looked c.self.inside.seat.table_id c.give_back-in-Err.new.seat.table_id c.self.inside.number c.self.inside.seat.me c.take_map.new.seat.me c.give_back-in-Err.new.seat.me
+    c.in-Some.map table c.self.invariant.1.2 c.in-Some.ensures.taken c.give_back-in-Err.ensures.gave)
