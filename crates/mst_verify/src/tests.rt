@@ -42,9 +42,9 @@ fn texts_and_lines(rt: HostRuntime) -> Result<(), Fail> {
 #[test]
 fn texts_of_the_largest_size(rt: HostRuntime) -> Result<(), Fail> {
     let mut text = Vec::new(rt.alloc());
-    text.resize(LIMIT, b'0')?;
+    text.resize(LIMIT, b'x')?;
     let (line, _) = said(rt.alloc(), "62", text.as_slice())?;
-    assert_eq!(rt; line.as_slice(), b"P1\n".as_slice());
+    assert_eq!(rt; line.as_slice(), b"fault hex\n".as_slice());
     text.push(b'\n')?;
     let (line, _) = said(rt.alloc(), "62", text.as_slice())?;
     assert_eq!(rt; line.as_slice(), b"fault long\n".as_slice());
