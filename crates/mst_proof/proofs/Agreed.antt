@@ -19,7 +19,7 @@ use Rattle.mst_proof.specs.declared.expected.Step.{Step}
 use Rattle.mst_proof.specs.declared.expected.Step.TheVariants.{Decided, Onward}
 use Rattle.mst_proof.specs.Frame.{◌>>◌, frame_at}
 use Rattle.mst_proof.specs.Verdict.{unless, node_in, is_under, is_inside, step_of, tested, step_at, first_expected, ended, by_step, followed, judged, verdict}
-use Rattle.mst_proof.specs.Accepted.{IsExpected, Says, Leads, LeadsFrom, Accepted}
+use Rattle.mst_proof.proofs.Stepwise.{IsExpected, Says, Leads, LeadsFrom, Accepted}
 use Rattle.mst_proof.proofs.Decisions.{node_in-spelt, node_in-read, under-Decides, within-Decides}
 use Rattle.mst_proof.proofs.Steps.{step-passed}
 use Rattle.mst_proof.proofs.Framed.{AllBytes, ok_same, bind_done, frame_takes, frame_again, texts_short}

@@ -18,7 +18,7 @@ use Rattle.mst_node.proofs.Spelt.{flat_is}
 use Rattle.mst_proof.specs.declared.expected.Expected.{Expected}
 use Rattle.mst_proof.specs.declared.expected.Step.{Step}
 use Rattle.mst_proof.specs.Verdict.{step_of}
-use Rattle.mst_proof.specs.Accepted.{IsExpected, Says, Leads}
+use Rattle.mst_proof.proofs.Stepwise.{IsExpected, Says, Leads}
 use Rattle.mst_proof.specs.Beside.{IsSmall}
 use Rattle.mst_proof.proofs.Framed.{AllBytes}
 use Rattle.mst_proof.proofs.Agreed.{Spells}

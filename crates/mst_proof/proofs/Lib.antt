@@ -10,3 +10,5 @@ pub mod Truth
 pub mod Beside
 pub mod NoOther
 pub mod Walks
+pub mod Stepwise
+pub mod Nodewise

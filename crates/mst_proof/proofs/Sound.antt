@@ -23,7 +23,7 @@ use Rattle.mst_node.proofs.Again.{one_node}
 use Rattle.mst_node.proofs.Spelt.{flat_is}
 use Rattle.mst_proof.specs.declared.expected.Expected.{Expected}
 use Rattle.mst_proof.specs.Verdict.{step_of}
-use Rattle.mst_proof.specs.Accepted.{Says, Leads}
+use Rattle.mst_proof.proofs.Stepwise.{Says, Leads}
 use Rattle.mst_proof.specs.Beside.{IsSmall}
 use Rattle.mst_proof.proofs.Framed.{AllBytes}
 use Rattle.mst_proof.proofs.Agreed.{AllFlat}

@@ -14,7 +14,7 @@ use Rattle.mst_node.specs.Trail.{framed, framing, nodes_met, proof_text}
 use Rattle.mst_node.proofs.Lying.{lies_between, between_none}
 use Rattle.mst_node.proofs.Unique.{pairs_tree, tree_mst}
 use Rattle.mst_proof.specs.Verdict.{first_expected}
-use Rattle.mst_proof.specs.Accepted.{LeadsFrom, Leads, Accepted}
+use Rattle.mst_proof.proofs.Stepwise.{LeadsFrom, Leads, Accepted}
 use Rattle.mst_proof.specs.Theorem.{HasRoot, or_none, texts_of, texts_named}
 use Rattle.mst_proof.specs.Beside.{IsSmall}
 use Rattle.mst_proof.proofs.Framed.{AllBytes}

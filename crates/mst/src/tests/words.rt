@@ -143,41 +143,42 @@ fn words_are_read(rt: HostRuntime) -> Result<(), Fail> {
 
 const ROOT: &str = "e3b0c44298fc1c149afbf4c8996fb92427ae41e4649b934ca495991b7852b855";
 
+const ODD_ROOT: &str = "3b0c44298fc1c149afbf4c8996fb92427ae41e4649b934ca495991b7852b855";
+
+const SHORT_ROOT: &str = "b0c44298fc1c149afbf4c8996fb92427ae41e4649b934ca495991b7852b855";
+
 const LONGEST_KEY: &str = "000102030405060708090a0b0c0d0e0f101112131415161718191A1B1C1D1E1F";
 
 // The words behind `verify`, the status, and what stands on the two outputs where the input is the proof of the empty map.
 #[test]
 fn words_of_verify_are_read(rt: HostRuntime) -> Result<(), Fail> {
     let rows: [(&[&str], u8, &str, &str); 20] = [
-        (&[ROOT, "61"], 0, "absent\n", ""),
-        (&["--", ROOT, "61"], 0, "absent\n", ""),
-        (&[ROOT, "--", "61"], 0, "absent\n", ""),
-        (&[ROOT, "61", "--"], 0, "absent\n", ""),
-        (&[ROOT, LONGEST_KEY], 0, "absent\n", ""),
-        (&[&ROOT[1..], "61"], 2, "", "bad root\n"),
-        (&[&ROOT[2..], "61"], 2, "", "bad root\n"),
-        (&["", "61"], 2, "", "bad root\n"),
-        (&["61", ROOT], 2, "", "bad root\n"),
-        (&["", ""], 2, "", "bad root\n"),
-        (&["--", "--", "61"], 2, "", "bad root\n"),
-        (&[ROOT, ""], 2, "", "bad key\n"),
-        (&[ROOT, "-"], 2, "", "bad key\n"),
-        (&[ROOT, "6"], 2, "", "bad key\n"),
-        (&[ROOT, "6g"], 2, "", "bad key\n"),
-        (&["--", ROOT, "--"], 2, "", "bad key\n"),
-        (&[ROOT], 2, "", NO_KEY),
-        (&["a", "b", "c"], 2, "", THIRD_WORD),
-        (&["--help"], 0, VERIFY_HELP, ""),
-        (&[ROOT, "61", "--help"], 0, VERIFY_HELP, ""),
+        (&["mst", "verify", ROOT, "61"], 0, "absent\n", ""),
+        (&["mst", "verify", "--", ROOT, "61"], 0, "absent\n", ""),
+        (&["mst", "verify", ROOT, "--", "61"], 0, "absent\n", ""),
+        (&["mst", "verify", ROOT, "61", "--"], 0, "absent\n", ""),
+        (&["mst", "verify", ROOT, LONGEST_KEY], 0, "absent\n", ""),
+        (&["mst", "verify", ODD_ROOT, "61"], 2, "", "bad root\n"),
+        (&["mst", "verify", SHORT_ROOT, "61"], 2, "", "bad root\n"),
+        (&["mst", "verify", "", "61"], 2, "", "bad root\n"),
+        (&["mst", "verify", "61", ROOT], 2, "", "bad root\n"),
+        (&["mst", "verify", "", ""], 2, "", "bad root\n"),
+        (&["mst", "verify", "--", "--", "61"], 2, "", "bad root\n"),
+        (&["mst", "verify", ROOT, ""], 2, "", "bad key\n"),
+        (&["mst", "verify", ROOT, "-"], 2, "", "bad key\n"),
+        (&["mst", "verify", ROOT, "6"], 2, "", "bad key\n"),
+        (&["mst", "verify", ROOT, "6g"], 2, "", "bad key\n"),
+        (&["mst", "verify", "--", ROOT, "--"], 2, "", "bad key\n"),
+        (&["mst", "verify", ROOT], 2, "", NO_KEY),
+        (&["mst", "verify", "a", "b", "c"], 2, "", THIRD_WORD),
+        (&["mst", "verify", "--help"], 0, VERIFY_HELP, ""),
+        (&["mst", "verify", ROOT, "61", "--help"], 0, VERIFY_HELP, ""),
     ];
-    for (behind, status, out, err) in rows {
-        let mut words = Vec::new(rt.alloc());
-        words.extend_from_slice(&["mst", "verify"])?;
-        words.extend_from_slice(behind)?;
-        let outcome = outcome_of(rt.alloc(), words.as_slice(), b"0100")?;
-        assert_eq!(rt; outcome.out.as_slice(), out.as_bytes(), "in {behind:?}");
-        assert_eq!(rt; outcome.err.as_slice(), err.as_bytes(), "in {behind:?}");
-        assert_eq!(rt; outcome.status, status, "in {behind:?}");
+    for (words, status, out, err) in rows {
+        let outcome = outcome_of(rt.alloc(), words, b"0100")?;
+        assert_eq!(rt; outcome.out.as_slice(), out.as_bytes(), "in {words:?}");
+        assert_eq!(rt; outcome.err.as_slice(), err.as_bytes(), "in {words:?}");
+        assert_eq!(rt; outcome.status, status, "in {words:?}");
     }
     Ok(())
 }

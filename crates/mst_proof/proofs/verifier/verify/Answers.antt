@@ -1,6 +1,7 @@
 use Rattle.std.proofs.Common.{◌∙◌, sym, arith}
 use Rattle.mst_node.proofs.Takes.{bytes-at}
 use Rattle.mst_proof.proofs.Agreed.{accepted, accepts}
+use Rattle.mst_proof.proofs.Nodewise.{accepted_stepwise, accepted_nodewise}
 use Rattle.mst_proof.proofs.Truth.{proof_accepted, other_answer}
 use Rattle.mst_proof.proofs.verifier.verify.Goals as goal
 
@@ -8,8 +9,8 @@ pub returns-clause-accepted : goal.returns-clause-accepted
 returns-clause-accepted c = λ a.
     let b = bytes-at c.args.proof.now (λ i. omega (arith, c.type_inv.proof i)) in
     let r = c.judge.ensures.verdict in (
-      λ e. accepted c.args.root.now c.args.key.now c.args.proof.now a b (sym r ∙ e),
-      λ is. r ∙ accepts c.args.root.now c.args.key.now c.args.proof.now a is,
+      λ e. accepted_nodewise c.args.root.now c.args.key.now c.args.proof.now a (accepted c.args.root.now c.args.key.now c.args.proof.now a b (sym r ∙ e)),
+      λ is. r ∙ accepts c.args.root.now c.args.key.now c.args.proof.now a (accepted_stepwise c.args.root.now c.args.key.now c.args.proof.now a is),
     )
 
 pub returns-clause-complete : goal.returns-clause-complete
