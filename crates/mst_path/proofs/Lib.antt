@@ -48,3 +48,4 @@ pub mod Lookups
 pub mod Sizes
 pub mod Changes
 pub mod Removed
+pub mod Inserted

@@ -1,4 +1,6 @@
-pub mod Places
+pub mod Counting
+pub mod Sweeping
+pub mod Writes
 pub mod Taking
 pub mod Courier
 pub mod AllPasses

@@ -1,4 +1,5 @@
-pub mod Lists
+pub mod Room
+pub mod Slot
 pub mod Passes
 pub mod Turns
 pub mod Settling

@@ -10,7 +10,7 @@ use Rattle.mst_store.specs.declared.faults.WriteFault.{WriteFault}
 use Rattle.mst_store.specs.declared.faults.WriteFault.TheVariants.{NoRoom, Busy, VersionsSpent}
 use Rattle.mst_store.specs.declared.faults.ReadFault.{ReadFault}
 use Rattle.mst_store.specs.declared.faults.ReadFault.TheVariants as read
-use Rattle.mst_store.specs.Lists.{last_version, HasRoom, LacksRoom}
+use Rattle.mst_store.specs.Room.{last_version, HasRoom, LacksRoom}
 
 -- which store it is, and its size
 pub record StoreId : Type 0 where
@@ -88,7 +88,7 @@ Refuses Busy change p q = FindsBusy p q
 Refuses VersionsSpent change p q = Looks p q × (length q.seen ≡ last_version)
 Refuses NoRoom change p q = Looks p q × (length q.seen < last_version) × LacksRoom q.store.rows (after q.seen) change
 
--- Why a range was not answered. Nothing was added to the history
+-- Why a range or a proof was not answered. Nothing was added to the history
 abbrev pub Misses : ReadFault → Known → Known → Type 0
 Misses read.Busy p q = FindsBusy p q
 Misses read.Memory p q = Looks p q

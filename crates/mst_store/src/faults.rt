@@ -15,7 +15,7 @@ pub enum OpenFault {
 /// Why a write was refused. It changed nothing.
 #[derive(Clone, Copy, Debug, PartialEq, Eq, Error)]
 pub enum WriteFault {
-    /// The map has no room for what the write adds.
+    /// The rows that the current map leaves over are too few for the nodes that the write makes new.
     #[error("no room")]
     NoRoom,
     /// Another pass had the turn.
@@ -31,7 +31,7 @@ pub enum WriteFault {
 #[error("another pass has the turn")]
 pub struct Busy;
 
-/// Why a range was not read.
+/// Why a range or a proof was not read.
 #[derive(Clone, Copy, Debug, PartialEq, Eq, Error)]
 pub enum ReadFault {
     /// A growth was refused.

@@ -2,7 +2,7 @@
 #![tactic(auto)]
 
 mod faults;
-mod list;
+mod map_rows;
 mod pass;
 mod settling;
 #[cfg(test)]

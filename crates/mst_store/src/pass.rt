@@ -1,15 +1,17 @@
 //! A pass: the calls that one thread makes.
-ghost use Rattle.std.specs.Prelude.{◌≡◌, IfOk, IfErr, OnOk, OnErr, length};
+ghost use Rattle.std.specs.Prelude.{◌≡◌, Some, IfOk, IfErr, OnOk, OnErr, length};
 ghost use Rattle.mst_key.specs.declared.history.Change.TheVariants.{Put, Remove};
 ghost use Rattle.mst_key.specs.Map.{look, successor, span};
 ghost use Rattle.mst_key.specs.declared.format.Format.TheVariants.{One};
 ghost use Rattle.mst_node.specs.Text.{root};
+ghost use Rattle.mst_node.specs.Trail.{proof_text};
 ghost use Rattle.std.specs.Option.{option_copied};
+ghost use Rattle.mst_store.specs.Room.{rows_of};
 ghost use Rattle.mst_store.specs.Passes.{made_by, Looks, Answers, Wrote, Refuses, Misses, FindsBusy};
 
 use crate::faults::{Busy, ReadFault, WriteFault};
-use crate::list::PairList;
-use crate::turn::{give_back, give_back_with, take_list};
+use crate::map_rows::MapRows;
+use crate::turn::{give_back, give_back_with, take_map};
 use mst_key::{Change, Event, Key, Memory, Value};
 use mst_words::{Board, PassSeat};
 use std::alloc::Allocator;
@@ -18,8 +20,8 @@ use std::marker::Model;
 /// A pass of a store. It may go to another thread, and each of its calls is one thread's.
 #[derive(Drop)]
 pub struct Pass<'a, A: Allocator + Copy> {
-    pub(crate) board: &'a Board<PairList<A>, A>,
-    pub(crate) seat: PassSeat<PairList<A>>,
+    pub(crate) board: &'a Board<MapRows<A>, A>,
+    pub(crate) seat: PassSeat<MapRows<A>>,
     pub(crate) number: u32,
 }
 
@@ -50,11 +52,11 @@ impl<'a, A: Allocator + Copy> Pass<'a, A> {
         ensures ok { IfOk result (λ found. Answers (λ m. look m key.now) self.old found self.new) }
         ensures busy { OnErr result (FindsBusy self.old self.new) }
     {
-        let Some(list) = take_list(self.board, &mut self.seat, self.number) else {
+        let Some(mut map) = take_map(self.board, &mut self.seat, self.number) else {
             return Err(Busy);
         };
-        let found = list.get(key);
-        give_back(self.board, &mut self.seat, list);
+        let found = map.get(key);
+        give_back(self.board, &mut self.seat, map);
         Ok(found)
     }
 
@@ -63,11 +65,11 @@ impl<'a, A: Allocator + Copy> Pass<'a, A> {
         ensures ok { IfOk result (λ found. Answers (λ m. successor m (option_copied after.entry)) self.old found self.new) }
         ensures busy { OnErr result (FindsBusy self.old self.new) }
     {
-        let Some(list) = take_list(self.board, &mut self.seat, self.number) else {
+        let Some(mut map) = take_map(self.board, &mut self.seat, self.number) else {
             return Err(Busy);
         };
-        let found = list.next(after);
-        give_back(self.board, &mut self.seat, list);
+        let found = map.next(after);
+        give_back(self.board, &mut self.seat, map);
         Ok(found)
     }
 
@@ -84,14 +86,18 @@ impl<'a, A: Allocator + Copy> Pass<'a, A> {
         ensures ok { IfOk result (λ found. Answers (λ m. span m (option_copied from.entry) (option_copied to.entry) limit) self.old found.items self.new) }
         ensures err { IfErr result (λ fault. Misses fault self.old self.new) }
     {
-        let Some(list) = take_list(self.board, &mut self.seat, self.number) else {
+        let Some(mut map) = take_map(self.board, &mut self.seat, self.number) else {
             return Err(ReadFault::Busy);
         };
-        let found = list.range(alloc, from, to, limit);
-        give_back(self.board, &mut self.seat, list);
-        match found {
-            Ok(found) => Ok(found),
-            Err(Memory) => Err(ReadFault::Memory),
+        match map.range(alloc, from, to, limit) {
+            Ok(found) => {
+                give_back(self.board, &mut self.seat, map);
+                Ok(found)
+            }
+            Err(Memory) => {
+                give_back(self.board, &mut self.seat, map);
+                Err(ReadFault::Memory)
+            }
         }
     }
 
@@ -102,12 +108,51 @@ impl<'a, A: Allocator + Copy> Pass<'a, A> {
         ensures ok { IfOk result (λ digest. Answers (root One) self.old digest self.new) }
         ensures busy { OnErr result (FindsBusy self.old self.new) }
     {
-        let Some(list) = take_list(self.board, &mut self.seat, self.number) else {
+        let Some(mut map) = take_map(self.board, &mut self.seat, self.number) else {
             return Err(Busy);
         };
-        let digest = list.root();
-        give_back(self.board, &mut self.seat, list);
+        let digest = map.root();
+        give_back(self.board, &mut self.seat, map);
         Ok(digest)
+    }
+
+    /// The proof of the map's answer for the key, value or absence, against the root digest: the texts of the nodes that a search for the key meets, from the top down, each behind its length in four bytes, and in front of them the version 1 and their number.
+    ///
+    /// `Busy` comes only where another pass has the turn, `Memory` where a growth was refused.
+    pub fn prove<B: Allocator + Copy>(
+        &mut self,
+        alloc: B,
+        key: &Key,
+    ) -> Result<Vec<u8, B>, ReadFault>
+        ensures ok { IfOk result (λ found. Answers (λ m. proof_text One m key.now) self.old found.items self.new) }
+        ensures err { IfErr result (λ fault. Misses fault self.old self.new) }
+    {
+        let Some(mut map) = take_map(self.board, &mut self.seat, self.number) else {
+            return Err(ReadFault::Busy);
+        };
+        match map.prove(alloc, key) {
+            Ok(found) => {
+                give_back(self.board, &mut self.seat, map);
+                Ok(found)
+            }
+            Err(Memory) => {
+                give_back(self.board, &mut self.seat, map);
+                Err(ReadFault::Memory)
+            }
+        }
+    }
+
+    /// How many rows the map takes, always `Some`: one for each key and one for each node of its tree. `Busy` comes only where another pass has the turn. It takes no memory.
+    pub fn rows(&mut self) -> Result<Option<u32>, Busy>
+        ensures ok { IfOk result (λ found. Answers (λ m. Some (rows_of m)) self.old found self.new) }
+        ensures busy { OnErr result (FindsBusy self.old self.new) }
+    {
+        let Some(mut map) = take_map(self.board, &mut self.seat, self.number) else {
+            return Err(Busy);
+        };
+        let rows = map.rows();
+        give_back(self.board, &mut self.seat, map);
+        Ok(Some(rows))
     }
 
     /// The number of the version: how many events there were. `Busy` comes only where another pass has the turn. It takes no memory.
@@ -116,11 +161,11 @@ impl<'a, A: Allocator + Copy> Pass<'a, A> {
         ensures ok { IfOk result (λ version. version ≡ length self.new.seen) }
         ensures busy { OnErr result (FindsBusy self.old self.new) }
     {
-        let Some(list) = take_list(self.board, &mut self.seat, self.number) else {
+        let Some(map) = take_map(self.board, &mut self.seat, self.number) else {
             return Err(Busy);
         };
-        let version = list.version;
-        give_back(self.board, &mut self.seat, list);
+        let version = map.version();
+        give_back(self.board, &mut self.seat, map);
         Ok(version)
     }
 
@@ -129,20 +174,20 @@ impl<'a, A: Allocator + Copy> Pass<'a, A> {
         ensures ok { IfOk result (λ old. Wrote (made_by self.old change) self.old old self.new) }
         ensures err { IfErr result (λ fault. Refuses fault change self.old self.new) }
     {
-        let Some(mut list) = take_list(self.board, &mut self.seat, self.number) else {
+        let Some(mut map) = take_map(self.board, &mut self.seat, self.number) else {
             return Err(WriteFault::Busy);
         };
         let event = Event {
             pass: self.number,
             change,
         };
-        match list.apply(&event.change) {
+        match map.apply(&event.change) {
             Ok(old) => {
-                give_back_with(self.board, &mut self.seat, list, &event);
+                give_back_with(self.board, &mut self.seat, map, &event);
                 Ok(old)
             }
             Err(fault) => {
-                give_back(self.board, &mut self.seat, list);
+                give_back(self.board, &mut self.seat, map);
                 Err(fault)
             }
         }
@@ -150,7 +195,7 @@ impl<'a, A: Allocator + Copy> Pass<'a, A> {
 
     /// Gives the key the value, and answers the value that it had. It takes no memory.
     ///
-    /// `Busy` comes only where another pass has the turn, else `VersionsSpent` exactly where the current version has the last number, else `NoRoom` exactly where the key is new and the map has as many keys as the store has rows.
+    /// `Busy` comes only where another pass has the turn, else `VersionsSpent` exactly where the current version has the last number, else `NoRoom` exactly where the write's cost is more than the rows that the current map leaves over. A write copies whole nodes along its path; its cost is a row for each entry and one for each node that it makes new. A put of the value that stands costs nothing.
     pub fn try_put(&mut self, key: &Key, value: &Value) -> Result<Option<Value>, WriteFault>
         ensures ok { IfOk result (λ old. Wrote (made_by self.old (Put key.now value.now)) self.old old self.new) }
         ensures err { IfErr result (λ fault. Refuses fault (Put key.now value.now) self.old self.new) }
@@ -160,7 +205,7 @@ impl<'a, A: Allocator + Copy> Pass<'a, A> {
 
     /// Takes the key out of the map, and answers the value that it had. It takes no memory.
     ///
-    /// `Busy` comes only where another pass has the turn, else `VersionsSpent` exactly where the current version has the last number.
+    /// `Busy` comes only where another pass has the turn, else `VersionsSpent` exactly where the current version has the last number, else `NoRoom` exactly where the write's cost is more than the rows that the current map leaves over. A write copies whole nodes along its path; its cost is a row for each entry and one for each node that it makes new. A remove of an absent key costs nothing.
     pub fn try_remove(&mut self, key: &Key) -> Result<Option<Value>, WriteFault>
         ensures ok { IfOk result (λ old. Wrote (made_by self.old (Remove key.now)) self.old old self.new) }
         ensures err { IfErr result (λ fault. Refuses fault (Remove key.now) self.old self.new) }

@@ -5,7 +5,7 @@ ghost use Rattle.std.specs.Prelude.{◌≡◌, map, All};
 ghost use Rattle.mst_key.specs.History.{events_of, Begins};
 ghost use Rattle.mst_store.specs.Settling.{having_seen, Met, AreAllPasses, Settled, IsCourier, IsBeside, GoesOn};
 
-use crate::list::PairList;
+use crate::map_rows::MapRows;
 use crate::pass::Pass;
 use mst_words::PassSeat;
 use std::alloc::Allocator;
@@ -40,7 +40,7 @@ pub fn settle<'a, A: Allocator + Copy>(free: &mut [Pass<'a, A>])
 }
 
 /// A courier that has heard what the pass has seen, and has looked.
-fn send_courier<'a, A: Allocator + Copy>(pass: &mut Pass<'a, A>) -> PassSeat<PairList<A>>
+fn send_courier<'a, A: Allocator + Copy>(pass: &mut Pass<'a, A>) -> PassSeat<MapRows<A>>
     ensures same { pass.new ≡ pass.old }
     ensures courier { IsCourier result.me }
     ensures own { IsBeside result.table_id result.me.0.passes pass.old }
@@ -54,7 +54,7 @@ fn send_courier<'a, A: Allocator + Copy>(pass: &mut Pass<'a, A>) -> PassSeat<Pai
 /// The way there: the courier hears what each pass has seen, and looks after each.
 fn collect_all<'a, A: Allocator + Copy>(
     line: &mut [Pass<'a, A>],
-    courier: &mut PassSeat<PairList<A>>,
+    courier: &mut PassSeat<MapRows<A>>,
 )
     requires own { All (IsBeside courier.old.table_id courier.old.me.0.passes) line.old }
     requires courier { IsCourier courier.old.me }
@@ -71,7 +71,7 @@ fn collect_all<'a, A: Allocator + Copy>(
 /// The way back: each pass hears what the courier has seen, and has then seen it too.
 fn deliver_all<'a, A: Allocator + Copy>(
     line: &mut [Pass<'a, A>],
-    courier: &mut PassSeat<PairList<A>>,
+    courier: &mut PassSeat<MapRows<A>>,
 )
     requires own { All (IsBeside courier.old.table_id courier.old.me.0.passes) line.old }
     requires later { All (λ p. Begins p.seen courier.old.me.0.seen) line.old }
@@ -84,7 +84,7 @@ fn deliver_all<'a, A: Allocator + Copy>(
 }
 
 /// The courier hears what the pass has seen, and looks.
-fn collect<'a, A: Allocator + Copy>(pass: &mut Pass<'a, A>, courier: &mut PassSeat<PairList<A>>)
+fn collect<'a, A: Allocator + Copy>(pass: &mut Pass<'a, A>, courier: &mut PassSeat<MapRows<A>>)
     requires own { IsBeside courier.old.table_id courier.old.me.0.passes pass.old }
     requires courier { IsCourier courier.old.me }
     ensures same { pass.new ≡ pass.old }
@@ -98,7 +98,7 @@ fn collect<'a, A: Allocator + Copy>(pass: &mut Pass<'a, A>, courier: &mut PassSe
 }
 
 /// The pass hears what the courier has seen, and has then seen it too.
-fn deliver<'a, A: Allocator + Copy>(pass: &mut Pass<'a, A>, courier: &mut PassSeat<PairList<A>>)
+fn deliver<'a, A: Allocator + Copy>(pass: &mut Pass<'a, A>, courier: &mut PassSeat<MapRows<A>>)
     requires own { IsBeside courier.old.table_id courier.old.me.0.passes pass.old }
     requires later { Begins pass.old.seen courier.old.me.0.seen }
     ensures table { courier.new.table_id ≡ courier.old.table_id }

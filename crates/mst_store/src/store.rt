@@ -3,7 +3,7 @@ ghost use Rattle.std.specs.Prelude.{◌≡◌, ◌↔◌, true, length, IfOk, If
 ghost use Rattle.mst_store.specs.Passes.{IsShape, HasShape, new_passes};
 
 use crate::faults::OpenFault;
-use crate::list::PairList;
+use crate::map_rows::MapRows;
 use crate::pass::Pass;
 use mst_key::Memory;
 use mst_words::{Board, PassSeat, Shape};
@@ -13,7 +13,7 @@ use std::marker::Model;
 /// A store. Its passes share it through a reference.
 #[derive(Drop)]
 pub struct Store<A: Allocator + Copy> {
-    board: Board<PairList<A>, A>,
+    board: Board<MapRows<A>, A>,
     shape: Shape,
 }
 
@@ -31,7 +31,7 @@ impl<A: Allocator + Copy> Model for Store<A> {
 /// The right to deal the passes of one store, once.
 #[derive(Drop)]
 pub struct Seats<A: Allocator + Copy> {
-    seat: PassSeat<PairList<A>>,
+    seat: PassSeat<MapRows<A>>,
 }
 
 /// Contracts see which store it is of.
@@ -67,15 +67,10 @@ impl<A: Allocator + Copy> Store<A> {
         if !is_shape(shape) {
             return Err(OpenFault::Shape);
         }
-        let Ok(pairs) = Vec::with_capacity(alloc, shape.rows as usize) else {
+        let Ok(map) = MapRows::new(alloc, shape.rows) else {
             return Err(OpenFault::Memory);
         };
-        let list = PairList {
-            version: 0,
-            rows: shape.rows,
-            pairs,
-        };
-        match Board::open(alloc, shape, list) {
+        match Board::open(alloc, shape, map) {
             Ok((board, seat)) => Ok((Store { board, shape }, Seats { seat })),
             Err(Memory) => Err(OpenFault::Memory),
         }

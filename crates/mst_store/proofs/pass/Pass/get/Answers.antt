@@ -1,5 +1,10 @@
-use Rattle.mst_store.proofs.Taking.{held_ascending}
+use Rattle.std.proofs.Common.{◌≡◌, rules, sym}
+use Rattle.mst_key.specs.Map.{look}
+use Rattle.mst_store.proofs.Taking.{answered}
 use Rattle.mst_store.proofs.pass.Pass.get.Goals as goal
 
-pub get-found-requires : goal.get-found-requires
-get-found-requires g c = record { ascending = held_ascending c.self.inside.seat.me c.take_list.new.seat.me c.in-Some.list c.in-Some.ensures.taken }
+pub returns-clause-ok : goal.returns-clause-ok
+returns-clause-ok g c =
+    let table : c.give_back.new.seat.table_id ≡ c.self.inside.seat.table_id = search rules in
+    rw (sym c.self.view_is) (answered c.self.inside.seat.table_id c.give_back.new.seat.table_id c.self.inside.number c.self.inside.seat.me c.take_map.new.seat.me c.give_back.new.seat.me
+    c.in-Some.map table c.self.invariant.1.2 c.in-Some.ensures.taken c.give_back.ensures.gave (λ m. look m c.args.key.now) c.get-found.result c.get-found.ensures.found)

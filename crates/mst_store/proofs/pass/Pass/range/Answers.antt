@@ -1,5 +1,17 @@
-use Rattle.mst_store.proofs.Taking.{held_ascending}
+use Rattle.std.proofs.Common.{◌≡◌, rules, sym}
+use Rattle.std.specs.Option.{option_copied}
+use Rattle.mst_key.specs.Map.{span}
+use Rattle.mst_store.proofs.Taking.{looked, answered}
 use Rattle.mst_store.proofs.pass.Pass.range.Goals as goal
 
-pub range-found-requires : goal.range-found-requires
-range-found-requires g c = record { ascending = held_ascending c.self.inside.seat.me c.take_list.new.seat.me c.in-Some.list c.in-Some.ensures.taken }
+pub returns-in-Ok-clause-ok : goal.returns-in-Ok-clause-ok
+returns-in-Ok-clause-ok g c =
+    let table : c.give_back.new.seat.table_id ≡ c.self.inside.seat.table_id = search rules in
+    rw (sym c.self.view_is) (answered c.self.inside.seat.table_id c.give_back.new.seat.table_id c.self.inside.number c.self.inside.seat.me c.take_map.new.seat.me c.give_back.new.seat.me
+    c.in-Some.map table c.self.invariant.1.2 c.in-Some.ensures.taken c.give_back.ensures.gave (λ m. span m (option_copied c.args.from) (option_copied c.args.to) c.args.limit) c.in-Ok.found.items c.in-Ok.ensures.found)
+
+pub returns-in-Err-clause-err : goal.returns-in-Err-clause-err
+returns-in-Err-clause-err g c =
+    let table : c.give_back-in-Err.new.seat.table_id ≡ c.self.inside.seat.table_id = search rules in
+    rw (sym c.self.view_is) (looked c.self.inside.seat.table_id c.give_back-in-Err.new.seat.table_id c.self.inside.number c.self.inside.seat.me c.take_map.new.seat.me c.give_back-in-Err.new.seat.me
+    c.in-Some.map table c.self.invariant.1.2 c.in-Some.ensures.taken c.give_back-in-Err.ensures.gave)

@@ -1,0 +1,11 @@
+use Rattle.std.proofs.Common.{◌≡◌, rules, sym}
+use Rattle.mst_key.specs.declared.format.Format.TheVariants.{One}
+use Rattle.mst_node.specs.Text.{root}
+use Rattle.mst_store.proofs.Taking.{answered}
+use Rattle.mst_store.proofs.pass.Pass.root.Goals as goal
+
+pub returns-clause-ok : goal.returns-clause-ok
+returns-clause-ok g c =
+    let table : c.give_back.new.seat.table_id ≡ c.self.inside.seat.table_id = search rules in
+    rw (sym c.self.view_is) (answered c.self.inside.seat.table_id c.give_back.new.seat.table_id c.self.inside.number c.self.inside.seat.me c.take_map.new.seat.me c.give_back.new.seat.me
+    c.in-Some.map table c.self.invariant.1.2 c.in-Some.ensures.taken c.give_back.ensures.gave (root One) c.root-digest.result c.root-digest.ensures.digest)
