@@ -1,5 +1,5 @@
 -- A call of a pass is a turn at which the machine answers so.
-use Rattle.std.proofs.Common.{◌≡◌, ℕ, List, [], ◌∷◌, sym, refl, ap, ◌∙◌, subst, append-nil, inl, inr, Option}
+use Rattle.std.proofs.Common.{◌≡◌, ℕ, List, [], ◌∷◌, sym, refl, ap, ◌∙◌, subst, append-nil, inl, inr, ◌⊎◌, Option, Some}
 use Rattle.std.specs.Prelude.{codes, Result, Ok, Err, IfOk, IfErr, OnErr}
 use Rattle.mst_key.specs.declared.history.Change.{Change}
 use Rattle.mst_key.specs.declared.format.Format.TheVariants.{One}
@@ -9,13 +9,15 @@ use Rattle.mst_key.proofs.HistoryLaws.{Begins-itself}
 use Rattle.mst_node.specs.Text.{root}
 use Rattle.mst_store.specs.declared.faults.WriteFault.{WriteFault}
 use Rattle.mst_store.specs.declared.faults.WriteFault.TheVariants as write
-use Rattle.mst_store.specs.Lists.{LacksRoom}
-use Rattle.mst_store.specs.Passes.{StoreId, Known, made_by, Looks, Answers, Wrote, Refuses, FindsBusy}
+use Rattle.mst_store.specs.declared.faults.ReadFault.{ReadFault}
+use Rattle.mst_store.specs.declared.faults.ReadFault.TheVariants as read
+use Rattle.mst_store.specs.Room.{rows_of, LacksRoom}
+use Rattle.mst_store.specs.Passes.{StoreId, Known, made_by, Looks, Answers, Wrote, Refuses, Misses, FindsBusy}
 use Rattle.mst_script.specs.declared.answer.Answer.{Answer}
-use Rattle.mst_script.specs.Answers.{text_of, value_answer, pair_answer, root_answer, write_answer}
-use Rattle.mst_script.specs.Texts.{line_of, digits_of, value_words, found_words}
+use Rattle.mst_script.specs.Answers.{text_of, value_answer, pair_answer, root_answer, rows_answer, write_answer, missed_answer}
+use Rattle.mst_script.specs.Texts.{line_of, digits_of, value_words, found_words, rows_words}
 use Rattle.mst_script.specs.declared.request.Command.{Command}
-use Rattle.mst_script.specs.Machine.{Writes, Reads, Step}
+use Rattle.mst_script.specs.Machine.{LacksMemory, Writes, Reads, Collects, Step}
 use Rattle.mst_script.specs.Serving.{Turn, Asked}
 
 -- the pass looked, and did nothing more
@@ -61,6 +63,24 @@ pub root_read : {A E : Type 0} (p q : Known) (r : Result (List ℕ) E) (a : Answ
     IfOk r (λ digest. Answers (root One) p digest q) → OnErr r (FindsBusy p q) → Does (ReadsSo (λ m. line_of (digits_of (root One m))) (text_of a)) p q
 root_read p q (Ok digest) a is ok err = read_found (λ m. line_of (digits_of (root One m))) (text_of a) p q ok.looks (ap text_of is ∙ ap (λ x. line_of (digits_of x)) ok.answer_is)
 root_read p q (Err e) a is ok err = read_busy (λ m. line_of (digits_of (root One m))) (text_of a) p q err (ap text_of is)
+
+pub rows_read : {A E : Type 0} (p q : Known) (r : Result (Option ℕ) E) (a : Answer A) → a ≡ rows_answer r →
+    IfOk r (λ found. Answers (λ m. Some (rows_of m)) p found q) → OnErr r (FindsBusy p q) → Does (ReadsSo (λ m. line_of (rows_words (Some (rows_of m)))) (text_of a)) p q
+rows_read p q (Ok found) a is ok err = read_found (λ m. line_of (rows_words (Some (rows_of m)))) (text_of a) p q ok.looks (ap text_of is ∙ ap (λ x. line_of (rows_words x)) ok.answer_is)
+rows_read p q (Err e) a is ok err = read_busy (λ m. line_of (rows_words (Some (rows_of m)))) (text_of a) p q err (ap text_of is)
+
+-- ---- reads that take memory
+
+abbrev CollectsSo : (List Pair → List ℕ) → List ℕ → Known → History → History → Type 0
+CollectsSo question text p log new = Collects p.store (question (after log)) log text new
+
+pub collected : (question : List Pair → List ℕ) (text : List ℕ) (p q : Known) → Looks p q → (text ≡ question (after q.seen)) ⊎ LacksMemory text → Does (CollectsSo question text) p q
+collected question text p q l (inl is) = (q.seen, [], looked p q l, (inl is, refl))
+collected question text p q l (inr is) = (q.seen, [], looked p q l, (inr (inr is), refl))
+
+pub missed : {A : Type 0} (question : List Pair → List ℕ) (fault : ReadFault) (p q : Known) (a : Answer A) → a ≡ missed_answer fault → Misses fault p q → Does (CollectsSo question (text_of a)) p q
+missed question read.Busy p q a is b = (p.seen, [], idle_of p q b.0, (inr (inl (ap text_of is, b.1)), ap (λ (x : Known). x.seen) b.0))
+missed question read.Memory p q a is l = (q.seen, [], looked p q l, (inr (inr (ap text_of is)), refl))
 
 -- ---- writes
 

@@ -175,6 +175,15 @@ module _ {S W L : Type 0} (gives : S → List ℕ → S → Type 0) (gmore : (s 
 pub not_both : (b : Bool) → b ≡ true → b ≡ false → ⊥
 not_both b x y = let z : true ≡ false = sym x ∙ y in absurd cc
 
+-- nothing stood behind the last line, and the sink took all that waited
+pub nothing_closed : {W L : Type 0} (takes : W → List ℕ → W → Type 0) (answers : L → Option (List ℕ) → List ℕ → L → Type 0) (k : Option (List ℕ)) (s t : W) (p : List ℕ) (a : L) →
+    k ≡ Some [] → takes s p t → Closed takes answers k s p a t a
+nothing_closed takes answers k s t p a empty taken = record {
+  text = [];
+  rests = record { empty = λ e. (refl, refl); reply = λ some. absurd (some empty) };
+  taken = subst (λ (l : List ℕ). takes s l t) (sym (append-nil p)) taken;
+}
+
 -- the rest was answered, and the sink failed at what waited
 pub answered_not_closed : {W L : Type 0} (takes : W → List ℕ → W → Type 0) (more : (s t u : W) (xs ys : List ℕ) → takes s xs t → takes t ys u → takes s (xs ++ ys) u)
     (answers : L → Option (List ℕ) → List ℕ → L → Type 0) (k : Option (List ℕ)) (s t u : W) (p q : List ℕ) (a b : L) → k ≢ Some [] → Answered takes answers k s p a t q b → Breaks takes t q [] u → NotClosed takes answers k s p a u b

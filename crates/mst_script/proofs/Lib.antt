@@ -8,6 +8,8 @@ pub mod Dealing
 pub mod AllOf
 pub mod Settling
 pub mod Pairs
+pub mod Digits
+pub mod ProofTops
 pub mod Asking
 pub mod Serving
 pub mod Scripts

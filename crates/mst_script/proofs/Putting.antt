@@ -21,6 +21,10 @@ pub map_both_err : {T E P Q R : Type 0} (r : Result T E) → OnErr r P → OnErr
 map_both_err (Ok x) p q f = tt
 map_both_err (Err e) p q f = f p q
 
+-- nothing was put
+pub puts_none : {S : Type 0} (takes : S → List ℕ → S → Type 0) (s : S) (p text : List ℕ) → takes s [] s → text ≡ [] → Puts takes s p text s p
+puts_none takes s p text none is = record { taken = []; takes_them = none; rest = ap (λ (l : List ℕ). p ++ l) is ∙ append-nil p }
+
 module _ {S : Type 0} (takes : S → List ℕ → S → Type 0) (more : (s t u : S) (xs ys : List ℕ) → takes s xs t → takes t ys u → takes s (xs ++ ys) u) where
   pub stopped : (s t u : S) (bytes : List ℕ) (at : ℕ) → takes s (take at bytes) t → takes t [] u → Breaks takes s [] bytes u
   stopped s t u bytes at x y = record {

@@ -9,7 +9,7 @@ use denote.Ref.{Bor}
 use Rattle.mst_script.specs.declared.request.Fault.{Fault}
 use Rattle.mst_script.specs.declared.request.Fault.TheVariants.{LongLine, NoPass, NoCommand, FieldCount, BadField, KeySize, ValueSize}
 use Rattle.mst_script.specs.declared.request.Command.{Command}
-use Rattle.mst_script.specs.declared.request.Command.TheVariants.{Put, Remove, Get, Next, Range, Root}
+use Rattle.mst_script.specs.declared.request.Command.TheVariants.{Put, Remove, Get, Next, Range, Root, Node, Prove, Rows}
 use Rattle.mst_script.specs.declared.request.Request.{Request}
 
 -- the parts between single blanks
@@ -79,21 +79,19 @@ abbrev pub put_fields : List (List ℕ) → Result Command Fault
 put_fields (k ∷ v ∷ []) = put_of (bytes_of k) (bytes_of v)
 put_fields _ = Err FieldCount
 
-abbrev pub remove_of : Option (List ℕ) → Result Command Fault
-remove_of (Some k) = if has_key_size k then Ok (Remove k) else Err KeySize
-remove_of None = Err BadField
+-- a key alone
+abbrev pub key_of : Option (List ℕ) → Result (List ℕ) Fault
+key_of (Some k) = if has_key_size k then Ok k else Err KeySize
+key_of None = Err BadField
 
-abbrev pub remove_fields : List (List ℕ) → Result Command Fault
-remove_fields (k ∷ []) = remove_of (bytes_of k)
-remove_fields _ = Err FieldCount
+abbrev pub key_fields : List (List ℕ) → Result (List ℕ) Fault
+key_fields (k ∷ []) = key_of (bytes_of k)
+key_fields _ = Err FieldCount
 
-abbrev pub get_of : Option (List ℕ) → Result Command Fault
-get_of (Some k) = if has_key_size k then Ok (Get k) else Err KeySize
-get_of None = Err BadField
-
-abbrev pub get_fields : List (List ℕ) → Result Command Fault
-get_fields (k ∷ []) = get_of (bytes_of k)
-get_fields _ = Err FieldCount
+-- a command about a key alone
+abbrev pub about_key : (List ℕ → Command) → Result (List ℕ) Fault → Result Command Fault
+about_key command (Ok k) = Ok (command k)
+about_key command (Err fault) = Err fault
 
 abbrev pub next_of : Option (List ℕ) → Result Command Fault
 next_of (Some k) = if has_bound_size k then Ok (Next (bound_of k)) else Err KeySize
@@ -111,22 +109,29 @@ abbrev pub range_fields : List (List ℕ) → Result Command Fault
 range_fields (from ∷ to ∷ limit ∷ []) = range_of (bytes_of from) (bytes_of to) (count_in limit)
 range_fields _ = Err FieldCount
 
-abbrev pub root_fields : List (List ℕ) → Result Command Fault
-root_fields [] = Ok Root
-root_fields _ = Err FieldCount
+-- a command without fields
+abbrev pub no_fields : Command → List (List ℕ) → Result Command Fault
+no_fields command [] = Ok command
+no_fields command _ = Err FieldCount
 
 -- ---- lines
 
-abbrev pub command_of : List (List ℕ) → Result Command Fault
-command_of [] = Err NoCommand
-command_of (name ∷ fields) =
+abbrev pub named_command : List ℕ → List (List ℕ) → Result Command Fault
+named_command name fields =
     if bytes_eq name (codes "put") then put_fields fields
-    else if bytes_eq name (codes "del") then remove_fields fields
-    else if bytes_eq name (codes "get") then get_fields fields
+    else if bytes_eq name (codes "del") then about_key Remove (key_fields fields)
+    else if bytes_eq name (codes "get") then about_key Get (key_fields fields)
     else if bytes_eq name (codes "next") then next_fields fields
     else if bytes_eq name (codes "range") then range_fields fields
-    else if bytes_eq name (codes "root") then root_fields fields
+    else if bytes_eq name (codes "root") then no_fields Root fields
+    else if bytes_eq name (codes "node") then no_fields Node fields
+    else if bytes_eq name (codes "prove") then about_key Prove (key_fields fields)
+    else if bytes_eq name (codes "rows") then no_fields Rows fields
     else Err NoCommand
+
+abbrev pub command_of : List (List ℕ) → Result Command Fault
+command_of [] = Err NoCommand
+command_of (name ∷ fields) = named_command name fields
 
 abbrev pub asked_of : ℕ → Result Command Fault → Result Request Fault
 asked_of p (Ok command) = Ok record { pass = p; command = command }

@@ -1,5 +1,6 @@
 -- The script machine: what a line is answered where the events so far are this history, and the history then. Its state is the history alone.
-use Rattle.std.specs.Prelude.{◌≡◌, ℕ, ◌<◌, ◌⊎◌, List, [], ◌∷◌, ◌++◌, length, Option, Result, Ok, Err, codes}
+use Rattle.std.specs.Prelude.{◌≡◌, ℕ, ◌<◌, ◌⊎◌, List, [], ◌∷◌, ◌++◌, length, Option, Some, Result, Ok, Err, codes}
+use Rattle.hex.specs.Hex.{encode_lower}
 use Rattle.mst_key.specs.declared.format.Format.TheVariants.{One}
 use Rattle.mst_key.specs.declared.history.Change.{Change}
 use Rattle.mst_key.specs.declared.history.Change.TheVariants as change
@@ -7,14 +8,16 @@ use Rattle.mst_key.specs.declared.history.Event.{Event}
 use Rattle.mst_key.specs.Map.{look, successor, span}
 use Rattle.mst_key.specs.History.{History, after, reply}
 use Rattle.mst_node.specs.Text.{root}
-use Rattle.mst_store.specs.Lists.{last_version, HasRoom, LacksRoom}
+use Rattle.mst_node.specs.Tree.{tree}
+use Rattle.mst_node.specs.Trail.{proof_text}
+use Rattle.mst_store.specs.Room.{last_version, rows_of, HasRoom, LacksRoom}
 use Rattle.mst_store.specs.Passes.{StoreId}
 use Rattle.mst_script.specs.declared.request.Fault.{Fault}
 use Rattle.mst_script.specs.declared.request.Command.{Command}
-use Rattle.mst_script.specs.declared.request.Command.TheVariants.{Put, Remove, Get, Next, Range, Root}
+use Rattle.mst_script.specs.declared.request.Command.TheVariants.{Put, Remove, Get, Next, Range, Root, Node, Prove, Rows}
 use Rattle.mst_script.specs.declared.request.Request.{Request}
 use Rattle.mst_script.specs.Grammar.{asked}
-use Rattle.mst_script.specs.Texts.{line_of, digits_of, fault_words, value_words, found_words, count_words, pair_lines}
+use Rattle.mst_script.specs.Texts.{line_of, digits_of, fault_words, value_words, found_words, count_words, pair_lines, rows_words, top_words}
 
 -- ---- the freedoms: answers that change nothing
 
@@ -22,7 +25,7 @@ use Rattle.mst_script.specs.Texts.{line_of, digits_of, fault_words, value_words,
 abbrev pub IsBusy : StoreId → List ℕ → Type 0
 IsBusy store text = (text ≡ line_of (codes "busy")) × (1 < store.passes)
 
--- the memory for the pairs was refused
+-- the memory for what a read finds was refused
 abbrev pub LacksMemory : List ℕ → Type 0
 LacksMemory text = text ≡ line_of (codes "memory")
 
@@ -65,6 +68,9 @@ Step store p (Get k) h text new = Reads store (line_of (value_words (look (after
 Step store p (Next bound) h text new = Reads store (line_of (found_words (successor (after h) bound))) h text new
 Step store p (Range from to n) h text new = Collects store (line_of (count_words (span (after h) from to n)) ++ pair_lines (span (after h) from to n)) h text new
 Step store p Root h text new = Reads store (line_of (digits_of (root One (after h)))) h text new
+Step store p Node h text new = Collects store (line_of (top_words (tree One (after h)))) h text new
+Step store p (Prove k) h text new = Collects store (line_of (encode_lower (proof_text One (after h) k))) h text new
+Step store p Rows h text new = Reads store (line_of (rows_words (Some (rows_of (after h))))) h text new
 
 -- a request that is refused is answered its fault, and changes nothing
 abbrev pub AnswersRequest : StoreId → Result Request Fault → History → List ℕ → History → Type 0

@@ -1,11 +1,16 @@
 -- The passes of a store while they serve a script: between two lines all have seen one history.
-use Rattle.std.specs.Prelude.{◌≡◌, ℕ, ◌<◌, ◌≤◌, List, ◌++◌, length, slice_index_or, All, Contains, Option}
+use Rattle.std.specs.Prelude.{◌≡◌, ℕ, ◌<◌, ◌≤◌, ◌⊎◌, List, ◌++◌, length, slice_index_or, All, Contains, Option}
 use Rattle.std.specs.List.{AllByRecursion}
+use Rattle.mst_key.specs.declared.format.Format.TheVariants.{One}
+use Rattle.mst_key.specs.Map.{Pair}
 use Rattle.mst_key.specs.History.{History, events_of, Begins}
 use Rattle.mst_store.specs.Passes.{StoreId, Known, IsSamePass}
 use Rattle.mst_store.specs.Settling.{numbers, IsOfOne}
 use Rattle.mst_script.specs.declared.request.Command.{Command}
-use Rattle.mst_script.specs.Machine.{Step, Line}
+use Rattle.mst_node.specs.Tree.{tree}
+use Rattle.mst_node.specs.Trail.{proof_text}
+use Rattle.mst_script.specs.Machine.{LacksMemory, Step, Line}
+use Rattle.mst_script.specs.Texts.{line_of, top_words}
 
 -- the passes are all those of this store, in any order: each number from 1 to the number of its passes is that of one of them
 pub record AreAllOf (store : StoreId) (ps : List Known) : Type 0 where
@@ -38,6 +43,10 @@ pub record Asked (command : Command) (p : Known) (text : List ℕ) (q : Known) :
   pub t : History
   pub turn : Turn log t p q
   pub step : Step p.store p.number command log text q.seen
+
+-- Of a proof that a map gives for a key, whichever these are, the text is the line of the top node of the map's tree; or memory was refused.
+abbrev pub Tops : List ℕ → List ℕ → Type 0
+Tops proof text = (m : List Pair) (k : List ℕ) → proof ≡ proof_text One m k → (text ≡ line_of (top_words (tree One m))) ⊎ LacksMemory text
 
 -- where all passes have seen one history, the line is answered as the machine does there, and all have then seen the machine's next
 abbrev pub Serves : StoreId → List Known → Option (List ℕ) → List ℕ → List Known → Type 0

@@ -2,6 +2,8 @@
 use Rattle.std.specs.Prelude.{ℕ, List, [], ◌∷◌, ◌++◌, length, Option, Some, None, codes, decimal}
 use Rattle.hex.specs.Hex.{encode_lower}
 use Rattle.mst_key.specs.Map.{Pair}
+use Rattle.mst_node.specs.Tree.{Tree, empty, node}
+use Rattle.mst_node.specs.Text.{text}
 use Rattle.mst_script.specs.declared.request.Fault.{Fault}
 use Rattle.mst_script.specs.declared.request.Fault.TheVariants.{LongLine, NoPass, NoCommand, FieldCount, BadField, KeySize, ValueSize}
 
@@ -44,3 +46,13 @@ pair_lines (p ∷ ps) = line_of (pair_words p) ++ pair_lines ps
 -- how many pairs there are
 abbrev pub count_words : List Pair → List ℕ
 count_words ps = codes "pairs " ++ decimal (length ps)
+
+-- how many rows the map takes, or that they are held
+abbrev pub rows_words : Option ℕ → List ℕ
+rows_words None = codes "held"
+rows_words (Some n) = codes "rows " ++ decimal n
+
+-- the text of the top node of a tree
+abbrev pub top_words : Tree → List ℕ
+top_words empty = codes "empty"
+top_words (node format l es) = encode_lower (text (node format l es))

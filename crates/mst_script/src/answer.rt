@@ -1,7 +1,8 @@
 //! What a line is answered.
 ghost use Rattle.std.specs.Prelude.{◌≡◌, ◌≤◌, ◌<◌, ◌*◌, ◌+◌, ◌-◌, ◌^◌, ◌++◌, length, codes, decimal, OnOk, OnErr};
 ghost use Rattle.mst_script.specs.Device.{Puts, Breaks};
-ghost use Rattle.mst_script.specs.Texts.{fault_words as words_of_fault, digits_of, line_of, pair_words, pair_lines};
+ghost use Rattle.hex.specs.Hex.{encode_lower};
+ghost use Rattle.mst_script.specs.Texts.{fault_words as words_of_fault, digits_of, line_of, pair_words, pair_lines, rows_words};
 ghost use Rattle.mst_script.specs.Answers.{first_words, text_of};
 
 use crate::devices::pending::Pending;
@@ -25,13 +26,19 @@ pub enum Answer<A: Allocator> {
     Pairs(Vec<(Key, Value), A>),
     /// The root digest.
     Root([u8; 32]),
+    /// How many rows the map takes; none where they are held.
+    Rows(Option<u32>),
+    /// Bytes of a format: a proof, or the text of a node.
+    Bytes(Vec<u8, A>),
+    /// The map is empty, so it has no node.
+    NoNode,
     /// Another pass has the turn.
     Busy,
     /// The last version was made.
     Spent,
     /// The map would have no room.
     NoRoom,
-    /// The memory for the pairs was refused.
+    /// The memory for what is found was refused.
     Memory,
 }
 
@@ -62,6 +69,19 @@ pub fn extend(text: &mut Text, bytes: &[u8])
     let _ = text.try_extend_from_slice(bytes);
 }
 
+// Appends two digits for each byte.
+fn extend_hex(text: &mut Text, bytes: &[u8])
+    requires few { length bytes.now ≤ 64 }
+    requires room { length text.old.items + 2 * length bytes.now < 208 }
+    ensures digits { text.new.items ≡ text.old.items ++ encode_lower bytes.now }
+    ensures size { length text.new.items ≡ length text.old.items + 2 * length bytes.now }
+{
+    let count = 2 * bytes.len();
+    let mut digits = [0; 128];
+    let _ = hex::encode_to_slice(bytes, &mut digits[..count]);
+    extend(text, &digits[..count]);
+}
+
 // Appends the digits of bytes, `-` for none.
 fn extend_digits(text: &mut Text, bytes: &[u8])
     requires few { length bytes.now ≤ 64 }
@@ -73,10 +93,7 @@ fn extend_digits(text: &mut Text, bytes: &[u8])
         extend(text, b"-");
         return;
     }
-    let count = 2 * bytes.len();
-    let mut digits = [0; 128];
-    let _ = hex::encode_to_slice(bytes, &mut digits[..count]);
-    extend(text, &digits[..count]);
+    extend_hex(text, bytes);
 }
 
 // Appends the digits of a digest.
@@ -111,6 +128,21 @@ fn extend_count(text: &mut Text, count: usize)
     extend(text, buffer.format(count).as_bytes());
 }
 
+// Appends the words that say how many rows the map takes.
+fn extend_rows(text: &mut Text, rows: Option<u32>)
+    requires { length text.old.items ≡ 0 }
+    ensures rows { text.new.items ≡ text.old.items ++ rows_words rows }
+    ensures small { length text.new.items ≤ 100 }
+{
+    let Some(rows) = rows else {
+        extend(text, b"held");
+        return;
+    };
+    let mut buffer = Buffer::new();
+    extend(text, b"rows ");
+    extend(text, buffer.format(rows).as_bytes());
+}
+
 // The line of a pair.
 fn pair_line(key: &Key, value: &Value) -> Text
     ensures { result.items ≡ line_of (pair_words (key.now, value.now)) }
@@ -121,7 +153,7 @@ fn pair_line(key: &Key, value: &Value) -> Text
     text
 }
 
-// The first line of an answer.
+// The first line of an answer, without the digits of bytes, which may be many.
 fn first_line<A: Allocator>(answer: &Answer<A>) -> Text
     ensures { result.items ≡ line_of (first_words answer.now) }
 {
@@ -136,6 +168,9 @@ fn first_line<A: Allocator>(answer: &Answer<A>) -> Text
         Answer::Pair(Some((key, value))) => extend_pair(&mut text, key, value),
         Answer::Pairs(pairs) => extend_count(&mut text, pairs.len()),
         Answer::Root(digest) => extend_digest(&mut text, digest),
+        Answer::Rows(rows) => extend_rows(&mut text, *rows),
+        Answer::Bytes(_) => {}
+        Answer::NoNode => extend(&mut text, b"empty"),
         Answer::Busy => extend(&mut text, b"busy"),
         Answer::Spent => extend(&mut text, b"spent"),
         Answer::NoRoom => extend(&mut text, b"noroom"),
@@ -163,6 +198,38 @@ fn put_pairs<W: Sink, A: Allocator>(
     Ok(())
 }
 
+// The digits of a piece of bytes.
+fn piece_digits(piece: &[u8]) -> Text
+    requires { length piece.now ≤ 64 }
+    ensures { result.items ≡ encode_lower piece.now }
+{
+    let mut text = ArrayVec::new();
+    extend_hex(&mut text, piece);
+    text
+}
+
+// Puts the digits of bytes, piece by piece.
+fn put_digits<W: Sink, A: Allocator>(
+    sink: &mut W,
+    pending: &mut Pending<A>,
+    bytes: &[u8],
+) -> Result<(), Device>
+    requires { W.failures sink.old < 2 ^ 64 - 1 }
+    ensures ok { OnOk result (Puts W.takes sink.old pending.old (encode_lower bytes.now) sink.new pending.new) }
+    ensures steady { OnOk result (W.failures sink.new ≡ W.failures sink.old) }
+    ensures err { OnErr result (Breaks W.takes sink.old pending.old (encode_lower bytes.now) sink.new) }
+    ensures failed { OnErr result (W.failures sink.old < W.failures sink.new) }
+{
+    let mut at = 0;
+    while at < bytes.len() {
+        let (_, rest) = bytes.split_at(at);
+        let (piece, _) = rest.split_at(rest.len().min(64));
+        pending.put(sink, piece_digits(piece).as_slice())?;
+        at += piece.len();
+    }
+    Ok(())
+}
+
 /// Puts an answer behind what waits, line by line.
 pub fn put_answer<W: Sink, A: Allocator, B: Allocator>(
     sink: &mut W,
@@ -180,6 +247,10 @@ pub fn put_answer<W: Sink, A: Allocator, B: Allocator>(
         Answer::Pairs(pairs) => {
             pending.put(sink, first.as_slice())?;
             put_pairs(sink, pending, pairs.as_slice())
+        }
+        Answer::Bytes(bytes) => {
+            put_digits(sink, pending, bytes.as_slice())?;
+            pending.put(sink, first.as_slice())
         }
         _ => pending.put(sink, first.as_slice()),
     }

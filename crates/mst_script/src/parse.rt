@@ -1,6 +1,7 @@
 //! From what is kept of a line to what it asks for.
 ghost use Rattle.std.specs.Prelude.{◌≡◌, ◌≤◌, length, IfSome, IfOk};
-ghost use Rattle.mst_script.specs.Grammar.{fields_of, fields_behind, put_fields, remove_fields, get_fields, next_fields, range_fields, root_fields, command_of, by_fields, asked, IsDealt};
+ghost use Rattle.mst_script.specs.declared.request.Command.TheVariants.{Remove, Get, Prove};
+ghost use Rattle.mst_script.specs.Grammar.{fields_of, fields_behind, put_fields, key_fields, about_key, next_fields, range_fields, no_fields, named_command, command_of, by_fields, asked, IsDealt};
 
 use crate::fields::{
     bound_in, count_of, first_field, key_of, no_field, one_field, pass_of, three_fields,
@@ -8,6 +9,7 @@ use crate::fields::{
 };
 use crate::line::LineBuffer;
 use crate::request::{Command, Fault, Request};
+use mst_key::Key;
 
 // What `put` asks for, by what stands behind it.
 fn put_command(fields: Option<&[u8]>) -> Result<Command, Fault>
@@ -23,30 +25,41 @@ fn put_command(fields: Option<&[u8]>) -> Result<Command, Fault>
     }
 }
 
-// What `del` asks for, by what stands behind it.
-fn remove_command(fields: Option<&[u8]>) -> Result<Command, Fault>
+// The key that stands alone behind a command.
+fn key_alone(fields: Option<&[u8]>) -> Result<Key, Fault>
     requires { IfSome fields (λ rest. length rest.now ≤ 4096) }
-    ensures { result ≡ remove_fields (fields_behind fields.entry) }
+    ensures { result ≡ key_fields (fields_behind fields.entry) }
 {
     let key = one_field(fields)?;
     match key_of(key) {
-        Some(Ok(key)) => Ok(Command::Remove(key)),
+        Some(Ok(key)) => Ok(key),
         Some(Err(_)) => Err(Fault::KeySize),
         None => Err(Fault::BadField),
     }
 }
 
+// What `del` asks for, by what stands behind it.
+fn remove_command(fields: Option<&[u8]>) -> Result<Command, Fault>
+    requires { IfSome fields (λ rest. length rest.now ≤ 4096) }
+    ensures { result ≡ about_key Remove (key_fields (fields_behind fields.entry)) }
+{
+    Ok(Command::Remove(key_alone(fields)?))
+}
+
 // What `get` asks for, by what stands behind it.
 fn get_command(fields: Option<&[u8]>) -> Result<Command, Fault>
     requires { IfSome fields (λ rest. length rest.now ≤ 4096) }
-    ensures { result ≡ get_fields (fields_behind fields.entry) }
+    ensures { result ≡ about_key Get (key_fields (fields_behind fields.entry)) }
 {
-    let key = one_field(fields)?;
-    match key_of(key) {
-        Some(Ok(key)) => Ok(Command::Get(key)),
-        Some(Err(_)) => Err(Fault::KeySize),
-        None => Err(Fault::BadField),
-    }
+    Ok(Command::Get(key_alone(fields)?))
+}
+
+// What `prove` asks for, by what stands behind it.
+fn prove_command(fields: Option<&[u8]>) -> Result<Command, Fault>
+    requires { IfSome fields (λ rest. length rest.now ≤ 4096) }
+    ensures { result ≡ about_key Prove (key_fields (fields_behind fields.entry)) }
+{
+    Ok(Command::Prove(key_alone(fields)?))
 }
 
 // What `next` asks for, by what stands behind it.
@@ -75,23 +88,19 @@ fn range_command(fields: Option<&[u8]>) -> Result<Command, Fault>
     }
 }
 
-// What `root` asks for, by what stands behind it.
-fn root_command(fields: Option<&[u8]>) -> Result<Command, Fault>
-    ensures { result ≡ root_fields (fields_behind fields.entry) }
+// The command, where nothing stands behind it.
+fn without_fields(command: Command, fields: Option<&[u8]>) -> Result<Command, Fault>
+    ensures { result ≡ no_fields command (fields_behind fields.entry) }
 {
     no_field(fields)?;
-    Ok(Command::Root)
+    Ok(command)
 }
 
-// What a command asks for, with its fields.
-fn command_in(fields: Option<&[u8]>) -> Result<Command, Fault>
+// What the command with this name asks for, by what stands behind it.
+fn command_named(name: &[u8], fields: Option<&[u8]>) -> Result<Command, Fault>
     requires { IfSome fields (λ rest. length rest.now ≤ 4096) }
-    ensures { result ≡ command_of (fields_behind fields.entry) }
+    ensures { result ≡ named_command name.now (fields_behind fields.entry) }
 {
-    let Some(fields) = fields else {
-        return Err(Fault::NoCommand);
-    };
-    let (name, fields) = first_field(fields);
     if name == b"put".as_slice() {
         return put_command(fields);
     }
@@ -108,9 +117,30 @@ fn command_in(fields: Option<&[u8]>) -> Result<Command, Fault>
         return range_command(fields);
     }
     if name == b"root".as_slice() {
-        return root_command(fields);
+        return without_fields(Command::Root, fields);
+    }
+    if name == b"node".as_slice() {
+        return without_fields(Command::Node, fields);
+    }
+    if name == b"prove".as_slice() {
+        return prove_command(fields);
+    }
+    if name == b"rows".as_slice() {
+        return without_fields(Command::Rows, fields);
     }
     Err(Fault::NoCommand)
+}
+
+// What a command asks for, with its fields.
+fn command_in(fields: Option<&[u8]>) -> Result<Command, Fault>
+    requires { IfSome fields (λ rest. length rest.now ≤ 4096) }
+    ensures { result ≡ command_of (fields_behind fields.entry) }
+{
+    let Some(fields) = fields else {
+        return Err(Fault::NoCommand);
+    };
+    let (name, fields) = first_field(fields);
+    command_named(name, fields)
 }
 
 // What the bytes of a line ask for.

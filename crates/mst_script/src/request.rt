@@ -35,6 +35,12 @@ pub enum Command {
     Range(Option<Key>, Option<Key>, u32),
     /// For the root digest.
     Root,
+    /// For the text of the top node.
+    Node,
+    /// For the proof of the map's answer for a key.
+    Prove(Key),
+    /// For how many rows the map takes.
+    Rows,
 }
 
 /// What a line asks for.

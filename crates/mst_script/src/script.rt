@@ -27,7 +27,7 @@ pub enum RunFault {
 }
 
 // Answers the line that was read.
-fn answer_line<W: Sink, A: Allocator, B: Allocator, C: Allocator + Copy>(
+fn answer_line<W: Sink, A: Allocator + Copy, B: Allocator, C: Allocator + Copy>(
     alloc: A,
     sink: &mut W,
     pending: &mut Pending<B>,
@@ -48,7 +48,7 @@ fn answer_line<W: Sink, A: Allocator, B: Allocator, C: Allocator + Copy>(
 }
 
 // Answers a rest that is not empty, and writes what waits.
-fn finish<W: Sink, A: Allocator, B: Allocator, C: Allocator + Copy>(
+fn finish<W: Sink, A: Allocator + Copy, B: Allocator, C: Allocator + Copy>(
     alloc: A,
     sink: &mut W,
     pending: &mut Pending<B>,
@@ -130,7 +130,7 @@ fn settle_and_drive<S: Source, W: Sink, A: Allocator + Copy, B: Allocator + Copy
 
 /// Answers the lines of the source into the sink, up to the end of the source or to the first failure of a device. The passes settle before the first line and after each.
 ///
-/// The passes must be all those of the store, in any order. `Memory` comes where a growth at the start was refused, before anything was read, written or changed; `Device` where a read or a write failed. A line takes memory for the pairs of its `range` alone, and is answered `memory` where that is refused.
+/// The passes must be all those of the store, in any order. `Memory` comes where a growth at the start was refused, before anything was read, written or changed; `Device` where a read or a write failed. A line takes memory for what its `range`, `prove` or `node` finds alone, and is answered `memory` where that is refused.
 pub fn run<S: Source, W: Sink, A: Allocator + Copy, B: Allocator + Copy>(
     alloc: A,
     source: &mut S,

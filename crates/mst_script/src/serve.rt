@@ -3,15 +3,16 @@ ghost use Rattle.std.specs.Prelude.{◌≡◌, ◌<◌, length, slice_index_or};
 ghost use Rattle.std.specs.List.{Contains};
 ghost use Rattle.std.specs.Option.{option_copied};
 ghost use Rattle.mst_store.specs.Settling.{numbers};
-ghost use Rattle.mst_script.specs.declared.request.Command.TheVariants.{Range};
-ghost use Rattle.mst_script.specs.Answers.{text_of, value_answer, pair_answer, root_answer, write_answer};
-ghost use Rattle.mst_script.specs.Serving.{AreAllOf, Asked, Serves, IsPlace};
+ghost use Rattle.mst_script.specs.declared.request.Command.TheVariants.{Range, Node, Prove};
+ghost use Rattle.mst_script.specs.Answers.{text_of, value_answer, pair_answer, root_answer, rows_answer, write_answer, missed_answer};
+ghost use Rattle.mst_script.specs.Serving.{AreAllOf, Asked, Serves, IsPlace, Tops};
 
 use crate::answer::Answer;
 use crate::line::LineBuffer;
 use crate::parse::request_in;
 use crate::request::Command;
 use mst_key::{Key, Value};
+use mst_node::top_text;
 use mst_store::{Busy, Pass, ReadFault, Store, WriteFault, settle};
 use std::alloc::Allocator;
 
@@ -45,6 +46,16 @@ fn root_answer_of<A: Allocator>(found: Result<[u8; 32], Busy>) -> Answer<A>
     }
 }
 
+// How many rows the map takes, as an answer.
+fn rows_answer_of<A: Allocator>(found: Result<Option<u32>, Busy>) -> Answer<A>
+    ensures { result ≡ rows_answer found }
+{
+    match found {
+        Ok(rows) => Answer::Rows(rows),
+        Err(Busy) => Answer::Busy,
+    }
+}
+
 // What a write answered, as an answer.
 fn write_answer_of<A: Allocator>(written: Result<Option<Value>, WriteFault>) -> Answer<A>
     ensures { result ≡ write_answer written }
@@ -54,6 +65,16 @@ fn write_answer_of<A: Allocator>(written: Result<Option<Value>, WriteFault>) -> 
         Err(WriteFault::Busy) => Answer::Busy,
         Err(WriteFault::VersionsSpent) => Answer::Spent,
         Err(WriteFault::NoRoom) => Answer::NoRoom,
+    }
+}
+
+// Why a read that takes memory was not answered, as an answer.
+fn missed_answer_of<A: Allocator>(fault: ReadFault) -> Answer<A>
+    ensures { result ≡ missed_answer fault }
+{
+    match fault {
+        ReadFault::Busy => Answer::Busy,
+        ReadFault::Memory => Answer::Memory,
     }
 }
 
@@ -69,13 +90,56 @@ fn ask_range<A: Allocator, B: Allocator + Copy>(
 {
     match pass.range(alloc, from, to, limit as usize) {
         Ok(pairs) => Answer::Pairs(pairs),
-        Err(ReadFault::Busy) => Answer::Busy,
-        Err(ReadFault::Memory) => Answer::Memory,
+        Err(fault) => missed_answer_of(fault),
+    }
+}
+
+// Asks a pass for the proof of the map's answer for a key.
+fn ask_proof<A: Allocator + Copy, B: Allocator + Copy>(
+    alloc: A,
+    pass: &mut Pass<'_, B>,
+    key: &Key,
+) -> Answer<A>
+    ensures { Asked (Prove key.now) pass.old (text_of result) pass.new }
+{
+    match pass.prove(alloc, key) {
+        Ok(proof) => Answer::Bytes(proof),
+        Err(fault) => missed_answer_of(fault),
+    }
+}
+
+// The text of the top node, which stands first in each proof.
+fn top_of<A: Allocator>(alloc: A, proof: &[u8]) -> Answer<A>
+    ensures { Tops proof.now (text_of result) }
+{
+    // no proof is so long
+    if proof.len() > u32::MAX as usize {
+        return Answer::Memory;
+    }
+    let Some(top) = top_text(proof) else {
+        return Answer::NoNode;
+    };
+    match top.to_vec(alloc) {
+        Ok(text) => Answer::Bytes(text),
+        Err(_) => Answer::Memory,
+    }
+}
+
+// Asks a pass for the text of the top node.
+fn ask_node<A: Allocator + Copy, B: Allocator + Copy>(alloc: A, pass: &mut Pass<'_, B>) -> Answer<A>
+    ensures { Asked Node pass.old (text_of result) pass.new }
+{
+    let Ok(least) = Key::new(&[0]) else {
+        unreachable!();
+    };
+    match pass.prove(alloc, &least) {
+        Ok(proof) => top_of(alloc, proof.as_slice()),
+        Err(fault) => missed_answer_of(fault),
     }
 }
 
 // Lets a pass do what it is asked for.
-fn ask<A: Allocator, B: Allocator + Copy>(
+fn ask<A: Allocator + Copy, B: Allocator + Copy>(
     alloc: A,
     pass: &mut Pass<'_, B>,
     command: &Command,
@@ -91,6 +155,9 @@ fn ask<A: Allocator, B: Allocator + Copy>(
             ask_range(alloc, pass, from.as_ref(), to.as_ref(), *limit)
         }
         Command::Root => root_answer_of(pass.root()),
+        Command::Node => ask_node(alloc, pass),
+        Command::Prove(key) => ask_proof(alloc, pass, key),
+        Command::Rows => rows_answer_of(pass.rows()),
     }
 }
 
@@ -108,7 +175,7 @@ fn place_of<B: Allocator + Copy>(passes: &[Pass<'_, B>], number: u32) -> usize
 }
 
 /// Lets the pass that a line names do what the line asks, and then all passes settle.
-pub fn serve<A: Allocator, B: Allocator + Copy>(
+pub fn serve<A: Allocator + Copy, B: Allocator + Copy>(
     alloc: A,
     store: &Store<B>,
     passes: &mut [Pass<'_, B>],

@@ -1,6 +1,8 @@
 //! What no clause says: whole scripts, and devices and memory that fail.
 mod devices;
 mod lines;
+mod nodes;
+mod rows;
 
 ghost use Rattle.std.specs.Prelude.{◌<◌, ◌-◌, ◌^◌};
 
@@ -30,10 +32,12 @@ fn run_over<S: Source, W: Sink, A: Allocator + Copy>(
 
 /// What a script over four passes is answered.
 fn answers_to(alloc: Global, script: &[u8]) -> Result<Vec<u8>, AllocError> {
-    let shape = Shape {
-        rows: 1024,
-        passes: 4,
-    };
+    answers_over(alloc, 1024, script)
+}
+
+/// What a script over four passes of a store of so many rows is answered.
+fn answers_over(alloc: Global, rows: u32, script: &[u8]) -> Result<Vec<u8>, AllocError> {
+    let shape = Shape { rows, passes: 4 };
     let mut source = BytesSource::new(script);
     let mut sink = BytesSink::new(alloc, 200_000)?;
     match run_over(alloc, alloc, shape, &mut source, &mut sink) {

@@ -13,7 +13,7 @@ const ANSWERS: &[u8] = b"none\nnone\npairs 2\npair 61 31\npair 616263 78\nfault 
 
 const NO_MEMORY: &[u8] = b"none\nnone\nmemory\nfault L3\nsome 31\n";
 
-const SHAPE: Shape = Shape { rows: 4, passes: 4 };
+const SHAPE: Shape = Shape { rows: 5, passes: 4 };
 
 /// Reads at most so many bytes at a time, and fails after so many reads.
 #[derive(Drop)]
@@ -181,6 +181,37 @@ fn growths_are_refused(rt: HostRuntime) -> Result<(), Fail> {
         }
     }
     assert!(rt; at_start && at_range && enough);
+    Ok(())
+}
+
+const PROOFS: &[u8] = b"1 put 61 31\n1 prove 61\n1 node\n1 get 61";
+
+const PROVED: &[u8] = b"none\n01010000000a01000001000161013100\n01000001000161013100\nsome 31\n";
+
+// The text of the node takes a little more memory than the proof in which it stands.
+const NO_NODE: &[u8] = b"none\n01010000000a01000001000161013100\nmemory\nsome 31\n";
+
+const NO_PROOF: &[u8] = b"none\nmemory\nmemory\nsome 31\n";
+
+// A heap that is large enough for the start, too small for a proof at first, and then large enough for all.
+#[test]
+fn proofs_are_refused(rt: HostRuntime) -> Result<(), Fail> {
+    let mut refused = false;
+    let mut enough = false;
+    for step in 0..200 {
+        let heap = LocalHeap::new(rt.alloc(), 130_900 + 8 * step)?;
+        let mut source = BytesSource::new(PROOFS);
+        let mut sink = BytesSink::new(rt.alloc(), 128)?;
+        match run_over(rt.alloc(), &heap, SHAPE, &mut source, &mut sink) {
+            Ok(()) if sink.bytes() == PROVED => enough = true,
+            Ok(()) => {
+                assert!(rt; sink.bytes() == NO_NODE || sink.bytes() == NO_PROOF);
+                refused = true;
+            }
+            Err(why) => assert!(rt; why == RunFault::Memory),
+        }
+    }
+    assert!(rt; refused && enough);
     Ok(())
 }
 

@@ -90,6 +90,8 @@ fn command_is_not_known(rt: HostRuntime) -> Result<(), Fail> {
         "1 GET 61",
         "1 root\r",
         "1 unpin",
+        "1 nodes",
+        "1 proof 61",
         "1 ge",
     ];
     each_is_answered(&rt, rt.alloc(), &lines, "fault L3\n")
@@ -114,6 +116,12 @@ fn fields_are_too_few_or_too_many(rt: HostRuntime) -> Result<(), Fail> {
         "1 range - - 1 1",
         "1 root ",
         "1 root 61",
+        "1 node ",
+        "1 node 61",
+        "1 prove",
+        "1 prove 61 62",
+        "1 rows ",
+        "1 rows 1",
     ];
     each_is_answered(&rt, rt.alloc(), &lines, "fault L4\n")
 }
@@ -132,6 +140,8 @@ fn fields_spell_nothing(rt: HostRuntime) -> Result<(), Fail> {
         "1 del 6",
         "1 next 6",
         "1 next ",
+        "1 prove 6",
+        "1 prove ",
     ];
     each_is_answered(&rt, rt.alloc(), &lines, "fault L5\n")?;
     let ranges = [
@@ -148,7 +158,7 @@ fn fields_spell_nothing(rt: HostRuntime) -> Result<(), Fail> {
 
 #[test]
 fn key_is_empty(rt: HostRuntime) -> Result<(), Fail> {
-    let lines = ["1 get -", "1 del -", "1 put - 78", "1 put - -"];
+    let lines = ["1 get -", "1 del -", "1 put - 78", "1 put - -", "1 prove -"];
     each_is_answered(&rt, rt.alloc(), &lines, "keysize\n")
 }
 
@@ -182,6 +192,8 @@ fn bounds_have_limits(rt: HostRuntime) -> Result<(), Fail> {
         ("1 get K20", "keysize\n"),
         ("1 del K", "none\n"),
         ("1 del K20", "keysize\n"),
+        ("1 prove K", "0100\n"),
+        ("1 prove K20", "keysize\n"),
         ("1 next K", "none\n"),
         ("1 next K20", "keysize\n"),
         ("1 range K K 1", "pairs 0\n"),
@@ -223,9 +235,23 @@ fn long_lines_are_skipped(rt: HostRuntime) -> Result<(), Fail> {
 
 const TWO_PUTS: &str = "1 put 616263 78\n1 put 61 31\n";
 
-// What is answered after two puts, of which the later has the lesser key.
+// What more lines are answered after two puts, of which the later has the lesser key.
+fn each_follows_two_puts(
+    rt: &impl Abort,
+    alloc: Global,
+    rows: &[(&str, &str)],
+) -> Result<(), Fail> {
+    for (more, answers) in rows {
+        let script = format!(in alloc; "{TWO_PUTS}{more}")?;
+        let expected = format!(in alloc; "none\nnone\n{answers}")?;
+        let found = answers_to(alloc, script.as_bytes())?;
+        assert_eq!(rt; found.as_slice(), expected.as_bytes(), "to {more}");
+    }
+    Ok(())
+}
+
 #[test]
-fn scripts_are_answered(rt: HostRuntime) -> Result<(), Fail> {
+fn reads_find_what_was_put(rt: HostRuntime) -> Result<(), Fail> {
     let rows = [
         ("", ""),
         ("2 get 616263", "some 78\n"),
@@ -241,6 +267,13 @@ fn scripts_are_answered(rt: HostRuntime) -> Result<(), Fail> {
         ("1 next 61", "pair 616263 78\n"),
         ("1 next 60", "pair 61 31\n"),
         ("1 next 616263", "none\n"),
+    ];
+    each_follows_two_puts(&rt, rt.alloc(), &rows)
+}
+
+#[test]
+fn writes_change_what_was_put(rt: HostRuntime) -> Result<(), Fail> {
+    let rows = [
         (
             "1 put 616263 -\n1 get 616263\n1 get 6162\n1 next 61",
             "some 78\nsome -\nnone\npair 616263 -\n",
@@ -254,13 +287,7 @@ fn scripts_are_answered(rt: HostRuntime) -> Result<(), Fail> {
             "some 31\nd4a8a9fc55058427163bd8a1f09ca5ec542de1cdaf28df100be5472e47b72503\nfault L2\nsome 31\n",
         ),
     ];
-    for (more, answers) in rows {
-        let script = format!(in rt.alloc(); "{TWO_PUTS}{more}")?;
-        let expected = format!(in rt.alloc(); "none\nnone\n{answers}")?;
-        let found = answers_to(rt.alloc(), script.as_bytes())?;
-        assert_eq!(rt; found.as_slice(), expected.as_bytes(), "to {more}");
-    }
-    Ok(())
+    each_follows_two_puts(&rt, rt.alloc(), &rows)
 }
 
 // The root digest depends on the pairs, and not on how they came.

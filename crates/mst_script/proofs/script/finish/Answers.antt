@@ -1,7 +1,11 @@
 use Rattle.mst_script.specs.Serving.{Serves}
-use Rattle.mst_script.proofs.Putting.{map_err}
-use Rattle.mst_script.proofs.Driving.{not_both, answered_not_closed}
+use Rattle.mst_script.proofs.Putting.{map_ok, map_err}
+use Rattle.mst_script.proofs.Driving.{not_both, nothing_closed, answered_not_closed}
 use Rattle.mst_script.proofs.script.finish.Goals as goal
+
+pub returns-then-is_empty-clause-ok : goal.returns-then-is_empty-clause-ok
+returns-then-is_empty-clause-ok g c = map_ok c.flush.result c.flush.ensures.ok (λ taken.
+    nothing_closed g.W.Sink.takes (Serves c.args.store.now) c.args.line.now c.args.sink.now c.flush.new.sink c.args.pending.now c.args.passes.now (c.is_empty.ensures.0 c.if-is_empty.true) taken)
 
 pub returns-clause-err : goal.returns-clause-err
 returns-clause-err g c = map_err c.flush-2.result c.flush-2.ensures.err (λ broke.

@@ -1,9 +1,9 @@
 use Rattle.std.proofs.Common.{◌≡◌, rules, sym, ap, ◌∙◌}
 use Rattle.std.specs.Option.{option_copied}
 use Rattle.mst_key.specs.declared.history.Change.TheVariants as change
-use Rattle.mst_script.specs.declared.request.Command.TheVariants.{Put, Remove, Get, Next, Root}
+use Rattle.mst_script.specs.declared.request.Command.TheVariants.{Put, Remove, Get, Next, Root, Rows}
 use Rattle.mst_script.specs.Answers.{text_of}
-use Rattle.mst_script.proofs.Asking.{asked, written, value_read, pair_read, root_read}
+use Rattle.mst_script.proofs.Asking.{asked, written, value_read, pair_read, root_read, rows_read}
 use Rattle.mst_script.proofs.serve.ask.Goals as goal
 
 pub returns-in-Put : goal.returns-in-Put
@@ -31,3 +31,8 @@ pub returns-in-Root : goal.returns-in-Root
 returns-in-Root g c = let p = c.args.pass.now in let q = c.root.new.self in
     asked c.args.command.now Root p q (text_of c.root_answer_of.result) c.in-Root.is
     (root_read p q c.root.result c.root_answer_of.result c.root_answer_of.ensures c.root.ensures.ok c.root.ensures.busy)
+
+pub returns-in-Rows : goal.returns-in-Rows
+returns-in-Rows g c = let p = c.args.pass.now in let q = c.rows.new.self in
+    asked c.args.command.now Rows p q (text_of c.rows_answer_of.result) c.in-Rows.is
+    (rows_read p q c.rows.result c.rows_answer_of.result c.rows_answer_of.ensures c.rows.ensures.ok c.rows.ensures.busy)

@@ -1,0 +1,13 @@
+use Rattle.std.proofs.Common.{refl}
+use Rattle.mst_key.specs.declared.format.Format.TheVariants.{One}
+use Rattle.mst_node.specs.Tree.{tree}
+use Rattle.mst_script.specs.declared.request.Command.TheVariants.{Node}
+use Rattle.mst_script.specs.Answers.{text_of}
+use Rattle.mst_script.specs.Texts.{line_of, top_words}
+use Rattle.mst_script.proofs.Asking.{asked, missed}
+use Rattle.mst_script.proofs.serve.ask_node.Goals as goal
+
+pub returns-in-Err : goal.returns-in-Err
+returns-in-Err g c = let p = c.args.pass.now in let q = c.prove.new.self in
+    asked Node Node p q (text_of c.missed_answer_of.result) refl
+    (missed (λ m. line_of (top_words (tree One m))) c.in-Err.fault p q c.missed_answer_of.result c.missed_answer_of.ensures c.in-Err.ensures.err)
