@@ -2,6 +2,7 @@
 use crate::{Desk, HeadLinks, Life, PlainRows, Row, Rows, VersionsSpent};
 use linked_list_allocator::LocalHeap;
 use mst_key::{Key, Memory, Value};
+use std::alloc::Global;
 use std::process::Abort;
 use std::test::Fail;
 
@@ -141,6 +142,57 @@ fn plain_rows_are_read_as_written(rt: HostRuntime) -> Result<(), Fail> {
     // rows at their limits come back from their words
     assert!(rt; Row::read(&HEAD.words()) == Some(HEAD));
     assert!(rt; Row::read(&row.words()) == Some(row));
+    Ok(())
+}
+
+/// Rows that are read and written whole. Their parts come from the default bodies.
+#[derive(Drop)]
+struct WholeRows {
+    rows: PlainRows<Global>,
+}
+
+impl Rows for WholeRows {
+    ghost use Rattle.std.specs.Prelude.{length, nat_lt};
+    ghost use Rattle.mst_arena.specs.Content.{listed};
+
+    ghost content = { λ whole. listed whole.rows };
+
+    ghost blank = { λ whole row. nat_lt row (length whole.rows) };
+
+    fn read(&mut self, row: u32) -> Row {
+        self.rows.read(row)
+    }
+
+    fn write(&mut self, row: u32, value: &Row) {
+        self.rows.write(row, value);
+    }
+}
+
+#[test]
+fn parts_by_default_are_those_of_the_row(rt: HostRuntime) -> Result<(), Fail> {
+    let (Ok(key), Ok(value)) = (Key::new(b"ab"), Value::new(b"xyz")) else {
+        panic!(rt; "sizes")
+    };
+    let Ok(rows) = PlainRows::new(rt.alloc(), 1) else {
+        panic!(rt; "no memory")
+    };
+    let mut rows = WholeRows { rows };
+    rows.write(0, &HEAD);
+    let head = rows.head(0);
+    assert!(rt; (head.layer, head.count) == (64, 65_534));
+    assert!(rt; (head.first, head.tail) == (65_535, 0));
+    assert!(rt; rows.digest(0) == [0xd1; 32]);
+    let row = Row::Entry {
+        child: 7,
+        next: 9,
+        key,
+        value,
+    };
+    rows.write(0, &row);
+    let links = rows.entry(0);
+    assert!(rt; (links.child, links.next) == (7, 9));
+    assert!(rt; links.key.bytes() == b"ab".as_slice());
+    assert!(rt; rows.value(0).bytes() == b"xyz".as_slice());
     Ok(())
 }
 

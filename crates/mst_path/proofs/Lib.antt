@@ -47,5 +47,8 @@ pub mod PutCosts
 pub mod Lookups
 pub mod Sizes
 pub mod Changes
+pub mod Reached
+pub mod FreeCounts
+pub mod Versions
 pub mod Removed
 pub mod Inserted

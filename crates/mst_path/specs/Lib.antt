@@ -16,3 +16,5 @@ pub mod Cutting
 pub mod Splitting
 pub mod Putting
 pub mod Changing
+pub mod Reached
+pub mod Versions

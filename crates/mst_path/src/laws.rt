@@ -1,12 +1,24 @@
 //! Laws of the definitions, each proved as the contract of a function that does nothing.
-ghost use Rattle.std.specs.Prelude.{◌≡◌, ◌<◌, ◌≤◌, ◌+◌, ◌++◌, ℕ, List, true, None, filter};
+ghost use Rattle.std.specs.Prelude.{◌≡◌, ◌<◌, ◌≤◌, ◌+◌, ◌++◌, ◌↔◌, ℕ, List, [], ◌∷◌, true, false, Some, None, filter, length, replicate, slice_get};
 ghost use Rattle.std.specs.Ordering.{is_lt, is_gt};
 ghost use Rattle.mst_key.specs.Map.{Pair, IsMap, IsAscending, key_cmp, look};
 ghost use Rattle.mst_key.specs.Map as map;
 ghost use Rattle.mst_key.specs.declared.format.Format.{Format};
+ghost use Rattle.mst_key.specs.declared.format.Format.TheVariants.{One};
 ghost use Rattle.mst_node.specs.Cost.{same_tree, cost, weight};
 ghost use Rattle.mst_node.specs.Shape.{with_entries};
 ghost use Rattle.mst_node.specs.Tree.{Tree, empty, node, Entries, last, tree, pairs, IsMst, IsUnder};
+ghost use Rattle.mst_arena.specs.Content.{Content};
+ghost use Rattle.mst_arena.specs.Lives.{State, version, next, reaches, SameReach, free_count};
+ghost use Rattle.mst_arena.specs.Lists.{times};
+ghost use Rattle.mst_arena.specs.declared.life.Life.TheVariants.{Free};
+ghost use Rattle.mst_arena.specs.declared.row.Root.{Root};
+ghost use Rattle.mst_arena.specs.Standing.{IsDistinct, Stands, numbers};
+ghost use Rattle.mst_path.specs.Moves.{In};
+ghost use Rattle.mst_path.specs.Changing.{AreOld, OnlyFreeWritten};
+ghost use Rattle.mst_path.specs.Takes.{Takes};
+ghost use Rattle.mst_path.specs.Reached.{ReachesExactly, TogetherReach, Changes, advanced, swept_by, IsSettled};
+ghost use Rattle.mst_path.specs.Versions.{HasMap, Kept, numbers_kept, AreNumbers, rows_kept, Keeps};
 ghost use Rattle.mst_path.specs.Paths.{below, above, join, cells, first_child, last_child, with_first, tree_put, tree_remove};
 ghost use Rattle.mst_path.specs.PathsCost.{put_cost, remove_cost};
 
@@ -65,4 +77,65 @@ pub fn cost_laws()
         → cost format m (map.put m k v) ≤ weight format m k + 2 }
     ensures remove_bound { (format : Format) (m : List Pair) (k : List ℕ) → IsMap m
         → cost format m (map.remove m k) ≤ weight format (map.remove m k) k + 2 }
+{}
+
+/// Which rows a version reaches after a put or a remove, the advance behind it, and a sweep; for any set of versions that are live.
+///
+/// `before` and `after` are the numbers of the rows that stand before and after the change. A state is settled where no write is under way.
+pub fn reach_laws()
+    // each version up to the current one reaches the rows that it reached before
+    ensures older { (old new : State) (before after : List ℕ) (into : ℕ) → Changes old new before after
+        → SameReach (λ v. v ≤ version old) old.lives (advanced into new).lives }
+    // the new version is the one that was to come, and it reaches exactly the rows that stand after the change
+    ensures number { (old new : State) (before after : List ℕ) (into : ℕ) → Changes old new before after
+        → into < length old.versions → version (advanced into new) ≡ next old }
+    ensures newest { (old new : State) (before after : List ℕ) (into : ℕ) → Changes old new before after
+        → into < length old.versions → IsSettled old → ReachesExactly old.lives (version old) before
+        → ReachesExactly (advanced into new).lives (version (advanced into new)) after }
+    ensures settled { (old new : State) (before after : List ℕ) (into : ℕ) → Changes old new before after
+        → into < length old.versions → IsSettled old → IsSettled (advanced into new) }
+    // a tree that is planted is a change from no rows
+    ensures planted { (old new : State) (rows : List ℕ) → Takes old new rows → Changes old new [] rows }
+    // what the current version reaches may be changed: it is alive, and of that version or an earlier one
+    ensures old { (s : State) (rows : List ℕ) → IsSettled s → ReachesExactly s.lives (version s) rows → AreOld s rows }
+    // a sweep leaves the rows of each version that is live
+    ensures sweep { (s : State) (live : List ℕ) → SameReach (λ v. In v live) s.lives (swept_by live s).lives }
+    ensures settled_sweep { (s : State) (live : List ℕ) → IsSettled s → IsSettled (swept_by live s) }
+    // after a sweep by versions of which the current one is one, a row is free exactly where none of them reaches it
+    ensures free { (s : State) (live : List ℕ) (r : ℕ) → IsSettled s → In (version s) live → r < length s.lives
+        → slice_get (swept_by live s).lives r ≡ Some Free ↔ ((v : ℕ) → In v live → reaches s.lives v r ≡ false) }
+    // so all rows are free but those that they reach
+    ensures count { (s : State) (live rows : List ℕ) → IsSettled s → In (version s) live → IsDistinct rows
+        → TogetherReach s.lives live rows → free_count (swept_by live s).lives + length rows ≡ length s.lives }
+    ensures count_alone { (s : State) (rows : List ℕ) → IsSettled s → IsDistinct rows → ReachesExactly s.lives (version s) rows
+        → free_count (swept_by (version s ∷ []) s).lives + length rows ≡ length s.lives }
+{}
+
+/// The maps of versions, from one write to the next. The map of a version that is live stays as it is, whatever is written after it, and rows are free that no map of a live version stands on.
+///
+/// `kept` are the versions that are kept, each with its root and its map: the current one and any earlier ones.
+pub fn version_laws()
+    // a new desk keeps the empty map
+    ensures open { (content : Content) (at : Root) (rows records first : ℕ) → 0 < records → Stands One content at []
+        → Keeps content (record { current = 0; versions = replicate records first; lives = replicate rows Free })
+        (record { number = first; root = at; pairs = [] } ∷ []) }
+    // a write that is advanced adds its version, and leaves the map of each version that is kept
+    ensures write { (old new : State) (before after : Content) (root at : Root) (m n : List Pair) (kept : List Kept) (into : ℕ)
+        (has : HasMap before old.lives (version old) root m) (stands : Stands One after at n)
+        → Changes old new (numbers has.stands) (numbers stands) → OnlyFreeWritten old before after
+        → into < length old.versions → Keeps before old kept
+        → Keeps after (advanced into new) (record { number = next old; root = at; pairs = n } ∷ kept) }
+    // a version that is not the current one may be forgotten
+    ensures forget { (content : Content) (s : State) (k : Kept) (xs ys : List Kept)
+        → In (version s) (numbers_kept (xs ++ ys)) → Keeps content s (xs ++ k ∷ ys) → Keeps content s (xs ++ ys) }
+    // a sweep by the versions that are kept leaves their maps
+    ensures sweep { (content : Content) (s : State) (live : List ℕ) (kept : List Kept) → AreNumbers live kept
+        → Keeps content s kept → Keeps content (swept_by live s) kept }
+    // after it a row is free exactly where none of their maps stands on it
+    ensures free { (content : Content) (s : State) (live : List ℕ) (kept : List Kept) (r : ℕ) → AreNumbers live kept
+        → (keeps : Keeps content s kept) → r < length s.lives
+        → slice_get (swept_by live s).lives r ≡ Some Free ↔ (times r (rows_kept content s.lives kept keeps.maps) ≡ 0) }
+    ensures count { (content : Content) (s : State) (live rows : List ℕ) (kept : List Kept) → AreNumbers live kept
+        → (keeps : Keeps content s kept) → IsDistinct rows → ((r : ℕ) → In r rows ↔ In r (rows_kept content s.lives kept keeps.maps))
+        → free_count (swept_by live s).lives + length rows ≡ length s.lives }
 {}

@@ -33,7 +33,7 @@ mod whole_tree;
 
 pub use faults::NoRoom;
 pub use insertion::put;
-pub use laws::{cost_laws, join_laws, path_laws, split_laws};
+pub use laws::{cost_laws, join_laws, path_laws, reach_laws, split_laws, version_laws};
 pub use mst_arena::Root;
 pub use removal::remove;
 pub use whole_tree::plant;

@@ -2,7 +2,7 @@
 ghost use Rattle.std.specs.Prelude.{◌≡◌, IfOk, length};
 
 use crate::{NoRoom, Root, plant};
-use mst_arena::{Desk, Row, Rows};
+use mst_arena::{Desk, EntryLinks, HeadLinks, Row, Rows};
 use mst_key::{Key, Value};
 use mst_node::{build, root_of};
 use std::alloc::Global;
@@ -62,6 +62,55 @@ fn numbered(alloc: Global, count: u32) -> Result<Vec<(Key, Value)>, Fail> {
     Ok(pairs)
 }
 
+/// The row at a link.
+fn row_at(places: &[Option<Row>], link: u32) -> Option<&Row> {
+    let row = link.checked_sub(1)?;
+    places.get(row as usize)?.as_ref()
+}
+
+/// Layer, count and links of the head at a link.
+fn head_at(places: &[Option<Row>], link: u32) -> Result<HeadLinks, Fail> {
+    match row_at(places, link) {
+        Some(
+            Row::Head {
+                layer,
+                count,
+                first,
+                tail,
+                ..
+            },
+        ) => Ok(HeadLinks {
+            layer: *layer,
+            count: *count,
+            first: *first,
+            tail: *tail,
+        }),
+        _ => Err("no head".into()),
+    }
+}
+
+/// Links, key and value of the entry at a link.
+fn entry_at(places: &[Option<Row>], link: u32) -> Result<(EntryLinks, Value), Fail> {
+    match row_at(places, link) {
+        Some(
+            Row::Entry {
+                child,
+                next,
+                key,
+                value,
+            },
+        ) => {
+            let links = EntryLinks {
+                child: *child,
+                next: *next,
+                key: key.copy(),
+            };
+            Ok((links, value.copy()))
+        }
+        _ => Err("no entry".into()),
+    }
+}
+
 /// Appends the pairs of the tree at a link, from left to right.
 fn walk(
     places: &[Option<Row>],
@@ -75,45 +124,18 @@ fn walk(
     if depth == 0 {
         return Err("too deep".into());
     }
-    let Some(
-        Some(
-            Row::Head {
-                count,
-                first,
-                tail,
-                ..
-            },
-        ),
-    ) = places.get((link - 1) as usize)
-    else {
-        return Err("no head".into());
-    };
-    let mut link = *first;
-    for _ in 0..*count {
-        if link == 0 {
-            return Err("too few entries".into());
-        }
-        let Some(
-            Some(
-                Row::Entry {
-                    child,
-                    next,
-                    key,
-                    value,
-                },
-            ),
-        ) = places.get((link - 1) as usize)
-        else {
-            return Err("no entry".into());
-        };
-        walk(places, *child, depth - 1, pairs)?;
-        pairs.push((key.copy(), value.copy()))?;
-        link = *next;
+    let head = head_at(places, link)?;
+    let mut link = head.first;
+    for _ in 0..head.count {
+        let (entry, value) = entry_at(places, link)?;
+        walk(places, entry.child, depth - 1, pairs)?;
+        pairs.push((entry.key, value))?;
+        link = entry.next;
     }
     if link != 0 {
         return Err("too many entries".into());
     }
-    walk(places, *tail, depth - 1, pairs)
+    walk(places, head.tail, depth - 1, pairs)
 }
 
 /// What became of a map that was to be planted: where it stands, or that there was no room; how many rows are free then; and the rows.
