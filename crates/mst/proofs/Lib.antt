@@ -1,1 +1,2 @@
 pub mod Fresh
+mod Inputs

@@ -3,9 +3,11 @@
 
 mod command;
 mod events;
+mod input;
 mod replay;
 #[cfg(test)]
 mod tests;
+mod verify;
 mod words;
 
 use command::{Refusal, command, complain};

@@ -1,5 +1,6 @@
 //! What no clause says: whole scripts, the texts for the user, and devices and memory that fail.
 mod failures;
+mod proofs;
 mod replays;
 mod scripts;
 mod words;

@@ -1,13 +1,14 @@
 -- From the rows that a change of the tree took and killed to what its caller learns: by the rows that stood before it and those that stand after it.
-use Rattle.std.proofs.Common.{◌≡◌, ◌≢◌, ℕ, zero, suc, ◌+◌, ◌<◌, ◌≤◌, eqb, Bool, true, false, List, [], ◌∷◌, Some, refl, sym, ◌∙◌, ap, subst, arith}
+use Rattle.std.proofs.Common.{◌≡◌, ◌≢◌, ℕ, zero, suc, ◌+◌, ◌<◌, ◌≤◌, eqb, Bool, true, false, List, [], ◌∷◌, length, Option, Some, refl, sym, ◌∙◌, ap, subst, arith}
 use Rattle.std.specs.Prelude.{slice_get}
 use Rattle.std.specs.List.{AllByRecursion}
 use Rattle.std.proofs.lemmas.Bool.Decides.{nat_tests}
 use Rattle.mst_key.specs.declared.format.Format.TheVariants.{One}
-use Rattle.mst_key.specs.Map.{Pair, IsMap}
-use Rattle.mst_node.specs.Tree.{Tree, IsMst, tree}
+use Rattle.mst_key.specs.Map.{Pair, IsMap, IsAscending, look}
+use Rattle.mst_node.specs.Tree.{Tree, IsMst, pairs, tree}
 use Rattle.mst_node.specs.Text.{digest}
-use Rattle.mst_node.proofs.Unique.{tree_mst}
+use Rattle.mst_node.specs.Cost.{cost}
+use Rattle.mst_node.proofs.Unique.{pairs_tree, tree_mst}
 use Rattle.mst_arena.specs.Content.{Content}
 use Rattle.mst_arena.specs.Lives.{State, free_count}
 use Rattle.mst_arena.specs.Lists.{times, bit}
@@ -19,7 +20,10 @@ use Rattle.mst_path.specs.Moves.{In, IsOld, IsKilled}
 use Rattle.mst_path.specs.Making.{Grown}
 use Rattle.mst_path.specs.Removing.{SearchTree}
 use Rattle.mst_path.specs.Changing.{AreOld, MapStands, IsTaken, AreTaken, AreKilled, OthersLive, OnlyFreeWritten, SameVersions}
-use Rattle.mst_path.proofs.Copies.{kept_at}
+use Rattle.mst_path.proofs.Copies.{kept_at, old_alive}
+use Rattle.mst_path.proofs.Fewness.{few_alive}
+use Rattle.mst_path.proofs.Joined.{unchanged}
+use Rattle.mst_path.proofs.Sizes.{size, size_used}
 
 -- ---- lists without a number twice
 
@@ -171,3 +175,67 @@ module _ (c c1 : Content) (s s1 : State) (root at : Root) (m n : List Pair) (sta
 
   pub versions_after : SameVersions s s1
   versions_after = (g.moves.current, g.moves.versions)
+
+-- ---- what the caller learns of a change, which is the same one of each map that stood
+
+pub record AfterChange (c c1 : Content) (s s1 : State) (root at : Root) (change : List Pair → List Pair) : Type 0 where
+  pub stands : (m : List Pair) → Stands One c root m → Stands One c1 at (change m)
+  pub written : OnlyFreeWritten s c c1
+  pub counted : (m : List Pair) → Stands One c root m → free_count s1.lives + cost One m (change m) ≡ free_count s.lives
+  pub taken : (m n : List Pair) (o : Stands One c root m) (w : Stands One c1 at n) → AreTaken s s1 (numbers o) (numbers w)
+  pub killed : (m n : List Pair) (o : Stands One c root m) (w : Stands One c1 at n) → AreKilled s s1 (numbers o) (numbers w)
+  pub others : (m n : List Pair) (o : Stands One c root m) (w : Stands One c1 at n) → OthersLive s s1 (numbers o) (numbers w)
+  pub versions : SameVersions s s1
+
+-- what stands afterwards, of a map that stood before
+abbrev pub Changed : (c c1 : Content) (s s1 : State) (root at : Root) → (List Pair → List Pair) → (m : List Pair) → Stands One c root m → Type 0
+Changed c c1 s s1 root at change m stands =
+    Grown c c1 s s1 (tree One (change m)) at (λ x. times x (used stands.tree.placed)) (cost One m (change m))
+
+pub after_change : (c c1 : Content) (s s1 : State) (root at : Root) (change : List Pair → List Pair) → MapStands c s root → ((m : List Pair) → IsMap m → IsMap (change m)) → ((m : List Pair) (stands : Stands One c root m) → AreOld s (numbers stands) → Changed c c1 s s1 root at change m stands) → AfterChange c c1 s s1 root at change
+after_change c c1 s s1 root at change one fits grows =
+    let m = one.0 in
+    let st = one.1 in
+    let n = change m in
+    let count = cost One m n in
+    let g = grows m st one.2 in
+    record {
+      stands = λ m1 st1.
+          let old1 = any_old c s root one m1 st1 in
+          stands_after c c1 s s1 root at m1 (change m1) st1 old1 (cost One m1 (change m1)) (grows m1 st1 old1) (fits m1 st1.map);
+      written = written_after c c1 s s1 root at m n st one.2 count g;
+      counted = λ m1 st1.
+          let old1 = any_old c s root one m1 st1 in
+          cost_after c c1 s s1 root at m1 (change m1) st1 old1 (cost One m1 (change m1)) (grows m1 st1 old1);
+      taken = taken_after c c1 s s1 root at m n st one.2 count g;
+      killed = killed_after c c1 s s1 root at m n st one.2 count g;
+      others = others_after c c1 s s1 root at m n st one.2 count g;
+      versions = versions_after c c1 s s1 root at m n st one.2 count g;
+    }
+
+-- a change that changes nothing, at no cost
+pub unchanged_map : (c : Content) (s : State) (root : Root) (change : List Pair → List Pair) (m : List Pair) (stands : Stands One c root m) → AreOld s (numbers stands) → change m ≡ m → cost One m (change m) ≡ 0 → Changed c c s s root root change m stands
+unchanged_map c s root change m stands old same free =
+    unchanged c s stands.tree.placed root (record { rows = stands.tree.rows; old = old })
+    (record { link = sym stands.tree.at; sum = stands.digest ∙ sym (ap digest stands.tree.is) })
+    (tree One (change m)) (stands.tree.is ∙ sym (ap (tree One) same)) (λ x. times x (used stands.tree.placed)) (λ x. refl) (cost One m (change m)) free
+
+-- a tree that stands has no more rows than there are
+pub few_rows : (c : Content) (s : State) (root : Root) (m : List Pair) (stands : Stands One c root m) → AreOld s (numbers stands) → size (tree_of One stands.tree.placed) ≤ length s.lives
+few_rows c s root m stands old =
+    let all = few_alive s (used stands.tree.placed) (distinct_times (used stands.tree.placed) stands.tree.once) (λ r i. old_alive s r (old r i)) in
+    omega (arith, all, size_used stands.tree.placed)
+
+-- ---- what a look-up of a key says
+
+pub rises : (c : Content) (root : Root) (m : List Pair) (stands : Stands One c root m) → IsAscending (pairs (tree_of One stands.tree.placed))
+rises c root m stands = subst IsAscending (sym (ap pairs stands.tree.is ∙ pairs_tree One m)) stands.map.ascending
+
+looks : (c : Content) (root : Root) (m : List Pair) (stands : Stands One c root m) (k : List ℕ) → look (pairs (tree_of One stands.tree.placed)) k ≡ look m k
+looks c root m stands k = ap (λ (l : List Pair). look l k) (ap pairs stands.tree.is ∙ pairs_tree One m)
+
+-- of each map
+pub says : (c : Content) (s : State) (root : Root) (k : List ℕ) (one : MapStands c s root) (o : Option (List ℕ)) → ((q : State) (t : SearchTree c q root.link) → IsAscending (pairs (tree_of One t.placed)) → o ≡ look (pairs (tree_of One t.placed)) k) → (m : List Pair) → Stands One c root m → look m k ≡ o
+says c s root k one o found m st =
+    let old = any_old c s root one m st in
+    sym (found s (search_at c s root m st old) (rises c root m st) ∙ looks c root m st k)

@@ -32,12 +32,12 @@ heavy ts = sum_by (λ t. top_entries t + 2) ts
 heavy_node : (g : Format) (l : ℕ) (es : Entries) (ts : List Tree) → heavy (node g l es ∷ ts) ≡ entry_count es + 2 + heavy ts
 heavy_node g l es ts = sum_by-cons (λ t. top_entries t + 2) (node g l es) ts
 
-side_le : (n : ℕ) (whole : Bool) → side_rows n whole ≤ n + 1
+pub side_le : (n : ℕ) (whole : Bool) → side_rows n whole ≤ n + 1
 side_le n whole = cond_both ((n == 0) || whole) 0 (n + 1) (λ r. r ≤ n + 1) (λ e. omega arith) (λ e. omega arith)
 
 -- ---- split and put
 
-split_count : (es : Entries) (k : List ℕ) → entry_count (entries_below k es) + entry_count (entries_above k es) ≤ entry_count es
+pub split_count : (es : Entries) (k : List ℕ) → entry_count (entries_below k es) + entry_count (entries_above k es) ≤ entry_count es
 split_count (last child) k = omega arith
 split_count (entry child key value rest) k =
     at_order (λ r. entry_count (by_order r (last (below k child)) (last child) (entry child key value (entries_below k rest))) + entry_count (by_order r (entry (above k child) key value rest) rest (entries_above k rest)) ≤ entry_count rest + 1) k key

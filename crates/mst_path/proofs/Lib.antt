@@ -51,3 +51,4 @@ pub mod Reached
 pub mod FreeCounts
 pub mod Versions
 pub mod Removed
+pub mod Inserted

@@ -1,13 +1,13 @@
--- A remove makes no more rows new than its tree has.
-use Rattle.std.proofs.Common.{◌≡◌, ℕ, zero, suc, ◌+◌, ◌≤◌, false, List, length, refl, arith, length-append}
+-- A remove makes no more rows new than its tree has, and a put no more than twice as many and two.
+use Rattle.std.proofs.Common.{◌≡◌, ℕ, ◌+◌, ◌*◌, ◌≤◌, false, List, length, refl, arith, length-append}
 use Rattle.mst_key.specs.declared.format.Format.TheVariants.{One}
 use Rattle.mst_node.specs.Tree.{Tree, empty, node, Entries, last, entry, entry_count}
 use Rattle.mst_node.specs.Trail.{by_order}
 use Rattle.mst_arena.specs.Standing.{Placed, none, head, Chain, end, cell, tree_of, entries_of, used, chain_used}
-use Rattle.mst_path.specs.Paths.{first_child, last_child, with_first, join, tree_remove, entries_remove}
-use Rattle.mst_path.specs.PathsCost.{side_rows, join_node_rows, join_first_rows, join_rows, join_last_rows, remove_rows, entries_remove_rows}
-use Rattle.mst_path.proofs.Meetings.{side_some}
-use Rattle.mst_path.proofs.SplitEqs.{at_order, at_layer, with_first_count}
+use Rattle.mst_path.specs.Paths.{first_child, last_child, with_first, below, above, entries_below, entries_above, join, tree_remove, entries_remove}
+use Rattle.mst_path.specs.PathsCost.{is_empty, split_rows, gap_rows, put_among_rows, put_rows, put_gap_rows, join_node_rows, join_first_rows, join_rows, join_last_rows, remove_rows, entries_remove_rows}
+use Rattle.mst_path.proofs.CostBounds.{side_le, split_count}
+use Rattle.mst_path.proofs.SplitEqs.{at_order, at_layer, seam_count, with_first_count}
 
 -- how many rows a tree has
 abbrev mutual
@@ -72,14 +72,10 @@ mutual
 
 -- ---- remove
 
-side_le : (n : ℕ) → side_rows n false ≤ n + 1
-side_le zero = omega arith
-side_le (suc n) = omega (arith, side_some (suc n) (omega arith))
-
 mutual
   pub remove_le : (t : Tree) (k : List ℕ) → remove_rows t k ≤ size t
   remove_le empty k = omega arith
-  remove_le (node g l es) k = omega (arith, side_le (entry_count (entries_remove es k)), entries_remove_le es k)
+  remove_le (node g l es) k = omega (arith, side_le (entry_count (entries_remove es k)) false, entries_remove_le es k)
 
   -- the entries that are left, and the rows below
   entries_remove_le : (es : Entries) (k : List ℕ) → entry_count (entries_remove es k) + entries_remove_rows es k ≤ entries_size es
@@ -89,3 +85,43 @@ mutual
       (λ less. omega (arith, remove_le child k, counted rest))
       (λ same. omega (arith, join_le child (first_child rest), with_first_count rest (join child (first_child rest)), with_first_size rest))
       (λ more. omega (arith, entries_remove_le rest k))
+
+-- ---- split and put
+
+mutual
+  split_le : (t : Tree) (k : List ℕ) → split_rows k t ≤ 2 * size t
+  split_le empty k = omega arith
+  split_le (node g l es) k =
+      omega (arith, side_le (entry_count (entries_below k es)) (is_empty (above k (node g l es))), side_le (entry_count (entries_above k es)) (is_empty (below k (node g l es))), split_count es k, gap_le es k)
+
+  -- the entries, and the rows below
+  gap_le : (es : Entries) (k : List ℕ) → entry_count es + gap_rows k es ≤ 2 * entries_size es
+  gap_le (last child) k = omega (arith, split_le child k)
+  gap_le (entry child key value rest) k =
+      at_order (λ r. entry_count rest + 1 + by_order r (split_rows k child) 0 (gap_rows k rest) ≤ 2 * (size child + 1 + entries_size rest)) k key
+      (λ less. omega (arith, split_le child k, counted rest))
+      (λ same. omega (arith, counted rest))
+      (λ more. omega (arith, gap_le rest k))
+
+among_le : (es : Entries) (k v : List ℕ) → put_among_rows k v es ≤ 2 * entries_size es + 2
+among_le es k v =
+    let low = entries_below k es in
+    omega (arith, seam_count low (entry (last_child low) k v (entries_above k es)), split_count es k, gap_le es k)
+
+mutual
+  pub put_le : (t : Tree) (l : ℕ) (k v : List ℕ) → put_rows l k v t ≤ 2 * size t + 2
+  put_le empty l k v = omega arith
+  put_le (node g j es) l k v =
+      at_layer (λ r. r ≤ 2 * (entries_size es + 1) + 2) j l
+      (put_among_rows k v (last (node g j es))) (put_among_rows k v es) (entry_count es + 1 + put_gap_rows l k v es)
+      (λ less. omega (arith, among_le (last (node g j es)) k v))
+      (λ same. omega (arith, among_le es k v))
+      (λ more. omega (arith, put_gap_le es l k v))
+
+  put_gap_le : (es : Entries) (l : ℕ) (k v : List ℕ) → entry_count es + put_gap_rows l k v es ≤ 2 * entries_size es + 2
+  put_gap_le (last child) l k v = omega (arith, put_le child l k v)
+  put_gap_le (entry child key value rest) l k v =
+      at_order (λ r. entry_count rest + 1 + by_order r (put_rows l k v child) 0 (put_gap_rows l k v rest) ≤ 2 * (size child + 1 + entries_size rest) + 2) k key
+      (λ less. omega (arith, put_le child l k v, counted rest))
+      (λ same. omega (arith, counted rest))
+      (λ more. omega (arith, put_gap_le rest l k v))

@@ -1,8 +1,15 @@
 //! Trees in the rows of the shared arena: how they are written, and how they change by path copying.
 //!
-//! [`plant`] writes a whole tree into free rows, and [`remove`] takes a key out of the map that stands. A node is written entry by entry, and its text is fed to the hash on the way, so that no call takes memory.
+//! [`plant`] writes a whole tree into free rows, [`put`] puts a pair into the map that stands at a root, and [`remove`] takes a key out of it. A node is written entry by entry, and its text is fed to the hash on the way, so that no call takes memory.
 //!
-//! The tree of the map after a put or a remove is made from the old one along one path, which is split or joined from the top down; all beside the path is shared. `specs/Paths` defines these trees, `specs/PathsCost` counts the rows of the nodes that are made new, and `specs/PathsCuts` says where a key stands among the entries of a node. The laws below say what these definitions come to. `cut`, `making`, `frames`, `split`, `putting`, `joining` and `removing` do it over rows, for `removal`.
+//! The tree of the map after a put or a remove is made from the old one along one path, which is split or joined from the top down; all beside the path is shared. `specs/Paths` defines these trees, `specs/PathsCost` counts the rows of the nodes that are made new, and `specs/PathsCuts` says where a key stands among the entries of a node. The laws, [`split_laws`], [`join_laws`], [`path_laws`] and [`cost_laws`], say what these definitions come to.
+//!
+//! Below the calls, from the top down:
+//!
+//! - `insertion` and `removal` look for the key (`finding`), count the rows that are needed (`counting`, `removing`), and only then write.
+//! - `putting`, `split`, `removing` and `joining` go down the path, with where the key stands among the entries of a node (`cut`).
+//! - `frames` has what is left of a node round the gap whose tree changes; `making` makes a new node of such parts.
+//! - `node_writer` writes the rows of one node, for `copying`, which moves the entries of an old node, and for `whole_tree`, which plants.
 #![tactic(auto)]
 
 mod copying;
@@ -11,6 +18,7 @@ mod cut;
 mod faults;
 mod finding;
 mod frames;
+mod insertion;
 mod joining;
 mod laws;
 mod making;
@@ -24,6 +32,7 @@ mod tests;
 mod whole_tree;
 
 pub use faults::NoRoom;
+pub use insertion::put;
 pub use laws::{cost_laws, join_laws, path_laws, reach_laws, split_laws, version_laws};
 pub use mst_arena::Root;
 pub use removal::remove;

@@ -32,12 +32,19 @@ impl<A: Allocator> Model for Reader<A> {
     ghost invariant = { λ r. (r.at ≤ r.end) × (r.end ≤ length r.piece.items) × (0 < length r.piece.items) };
 }
 
+// The memory that is read into, a piece at a time.
+fn blank_piece<A: Allocator>(alloc: A) -> Result<Vec<u8, A>, AllocError>
+    ensures size { IfOk result (λ piece. length piece.items ≡ 65536) }
+{
+    vec![in alloc; 0; PIECE]
+}
+
 impl<A: Allocator> Reader<A> {
     /// Takes all the memory. Nothing was read yet.
     pub fn new(alloc: A) -> Result<Reader<A>, AllocError>
         ensures empty { IfOk result (λ r. r ≡ []) }
     {
-        let piece = vec![in alloc; 0; PIECE]?;
+        let piece = blank_piece(alloc)?;
         Ok(Reader {
             piece,
             at: 0,

@@ -84,6 +84,26 @@ const ROOT_OF_BOTH: [u8; 32] = [
     0x54, 0x2d, 0xe1, 0xcd, 0xaf, 0x28, 0xdf, 0x10, 0x0b, 0xe5, 0x47, 0x2e, 0x47, 0xb7, 0x25, 0x03,
 ];
 
+// The key and the value that a pass puts.
+fn pair_of(number: u32) -> (&'static [u8], &'static [u8]) {
+    if number == 1 { (b"abc", b"x") } else { (b"a", b"1") }
+}
+
+// Each of two passes puts its pair. Settled, each has the second version, and the root digest of both pairs.
+fn have_one_version_and_root(rt: &impl Abort, passes: &mut [Pass<Global>])
+    requires whole { AreAllPasses passes.old }
+{
+    for pass in passes.iter_mut() {
+        let (k, v) = pair_of(pass.number());
+        assert!(rt; puts(pass, &key(rt, k), &value(rt, v)));
+    }
+    settle(passes);
+    for pass in passes.iter_mut() {
+        assert!(rt; pass.version() == Ok(2));
+        assert!(rt; pass.root() == Ok(ROOT_OF_BOTH));
+    }
+}
+
 #[test]
 fn settled_passes_have_one_version_and_root(rt: HostRuntime) -> Result<(), Fail> {
     let Ok((store, seats)) = Store::open(rt.alloc(), Shape { rows: 4, passes: 2 }) else {
@@ -93,14 +113,6 @@ fn settled_passes_have_one_version_and_root(rt: HostRuntime) -> Result<(), Fail>
         panic!(rt; "no memory")
     };
     assert!(rt; passes.len() == 2);
-    let (front, back) = passes.split_at_mut(1);
-    let (abc, x) = (key(&rt, b"abc"), value(&rt, b"x"));
-    let (a, one) = (key(&rt, b"a"), value(&rt, b"1"));
-    assert!(rt; puts(&mut front[0], &abc, &x) && puts(&mut back[0], &a, &one));
-    settle(&mut passes);
-    for pass in passes.iter_mut() {
-        assert!(rt; pass.version() == Ok(2));
-        assert!(rt; pass.root() == Ok(ROOT_OF_BOTH));
-    }
+    have_one_version_and_root(&rt, &mut passes);
     Ok(())
 }

@@ -75,7 +75,7 @@ impl Write for Writer {
 /// Runs a command between such devices, and answers the exit status.
 fn command_status(
     alloc: Global,
-    name: &str,
+    words: &[&str],
     reader: Reader<'_>,
     out: &mut Writer,
     err: &mut Writer,
@@ -83,12 +83,12 @@ fn command_status(
     let mut source = StdSource::new(reader);
     let mut out = StdSink::new(out);
     let mut err = StdSink::new(err);
-    command(alloc, &["mst", name], &mut source, &mut out, &mut err)
+    command(alloc, words, &mut source, &mut out, &mut err)
 }
 
 /// Runs the script between such devices, and answers the exit status.
 fn status_of(alloc: Global, reader: Reader<'_>, out: &mut Writer, err: &mut Writer) -> u8 {
-    command_status(alloc, "run", reader, out, err)
+    command_status(alloc, &["mst", "run"], reader, out, err)
 }
 
 // One byte at a read and one at a write.
@@ -187,7 +187,7 @@ fn devices_of_a_replay_fail(rt: HostRuntime) -> Result<(), Fail> {
         let mut out = Writer::new(rt.alloc(), 1, writes, false);
         let mut err = Writer::new(rt.alloc(), 64, u64::MAX, false);
         assert_eq!(rt;
-            command_status(rt.alloc(), "replay", reader, &mut out, &mut err),
+            command_status(rt.alloc(), &["mst", "replay"], reader, &mut out, &mut err),
             status
         );
         assert_eq!(rt;
@@ -195,6 +195,38 @@ fn devices_of_a_replay_fail(rt: HostRuntime) -> Result<(), Fail> {
             &answers[..answered],
             "after {reads} reads"
         );
+    }
+    Ok(())
+}
+
+// With a read of a proof that fails, nothing is written, and with a write a beginning.
+#[test]
+fn devices_of_a_proof_fail(rt: HostRuntime) -> Result<(), Fail> {
+    let root = "e3b0c44298fc1c149afbf4c8996fb92427ae41e4649b934ca495991b7852b855";
+    for (reads, writes, by_zero, written, status) in [
+        (0, u64::MAX, false, 0, 3),
+        (1, u64::MAX, false, 0, 3),
+        (2, u64::MAX, false, 0, 3),
+        (3, u64::MAX, false, 7, 0),
+        (u64::MAX, 0, false, 0, 3),
+        (u64::MAX, 0, true, 0, 3),
+        (u64::MAX, 6, false, 6, 3),
+        (u64::MAX, 6, true, 6, 3),
+        (u64::MAX, 7, false, 7, 0),
+    ] {
+        let reader = Reader {
+            rest: b"0100",
+            most: 2,
+            reads,
+        };
+        let mut out = Writer::new(rt.alloc(), 1, writes, by_zero);
+        let mut err = Writer::new(rt.alloc(), 64, u64::MAX, false);
+        let words = ["mst", "verify", root, "61"];
+        let got = command_status(rt.alloc(), words.as_slice(), reader, &mut out, &mut err);
+        assert_eq!(rt; got, status, "after {reads} reads");
+        assert_eq!(rt; out.bytes.as_slice(), &b"absent\n".as_slice()[..written]);
+        let said = if status == 3 { "device\n" } else { "" };
+        assert_eq!(rt; err.bytes.as_slice(), said.as_bytes());
     }
     Ok(())
 }

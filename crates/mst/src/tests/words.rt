@@ -8,6 +8,7 @@ Usage: mst <COMMAND>
 
 Commands:
   run     Answers the lines of standard input, each of them a command of a pass
+  verify  Says what the proof on standard input, in hexadecimal, shows of a key
   replay  Answers the lines of standard input, each of them an event of the core of pins
   help    Print this message or the help of the given subcommand(s)
 
@@ -64,6 +65,33 @@ Usage: mst replay
 For more information, try '--help'.
 ";
 
+const VERIFY_HELP: &str = "Says what the proof on standard input, in hexadecimal, shows of a key
+
+Usage: mst verify <ROOT> <KEY>
+
+Arguments:
+  <ROOT>  The root digest of the map, 64 hexadecimal digits
+  <KEY>   The key, 1 to 32 bytes of two hexadecimal digits each
+
+Options:
+  -h, --help  Print help
+";
+
+const NO_KEY: &str = "error: the following required arguments were not provided:
+  <KEY>
+
+Usage: mst verify <ROOT> <KEY>
+
+For more information, try '--help'.
+";
+
+const THIRD_WORD: &str = "error: unexpected argument 'c' found
+
+Usage: mst verify <ROOT> <KEY>
+
+For more information, try '--help'.
+";
+
 const NO_COMMAND: &str = "error: unrecognized subcommand 'frob'
 
 Usage: mst <COMMAND>
@@ -109,6 +137,67 @@ fn words_are_read(rt: HostRuntime) -> Result<(), Fail> {
         assert_eq!(rt; outcome.out.as_slice(), out.as_bytes(), "in {words:?}");
         assert_eq!(rt; outcome.err.as_slice(), err.as_bytes(), "in {words:?}");
         assert_eq!(rt; outcome.status, status, "in {words:?}");
+    }
+    Ok(())
+}
+
+const ROOT: &str = "e3b0c44298fc1c149afbf4c8996fb92427ae41e4649b934ca495991b7852b855";
+
+const LONGEST_KEY: &str = "000102030405060708090a0b0c0d0e0f101112131415161718191A1B1C1D1E1F";
+
+// The words behind `verify`, the status, and what stands on the two outputs where the input is the proof of the empty map.
+#[test]
+fn words_of_verify_are_read(rt: HostRuntime) -> Result<(), Fail> {
+    let rows: [(&[&str], u8, &str, &str); 20] = [
+        (&[ROOT, "61"], 0, "absent\n", ""),
+        (&["--", ROOT, "61"], 0, "absent\n", ""),
+        (&[ROOT, "--", "61"], 0, "absent\n", ""),
+        (&[ROOT, "61", "--"], 0, "absent\n", ""),
+        (&[ROOT, LONGEST_KEY], 0, "absent\n", ""),
+        (&[&ROOT[1..], "61"], 2, "", "bad root\n"),
+        (&[&ROOT[2..], "61"], 2, "", "bad root\n"),
+        (&["", "61"], 2, "", "bad root\n"),
+        (&["61", ROOT], 2, "", "bad root\n"),
+        (&["", ""], 2, "", "bad root\n"),
+        (&["--", "--", "61"], 2, "", "bad root\n"),
+        (&[ROOT, ""], 2, "", "bad key\n"),
+        (&[ROOT, "-"], 2, "", "bad key\n"),
+        (&[ROOT, "6"], 2, "", "bad key\n"),
+        (&[ROOT, "6g"], 2, "", "bad key\n"),
+        (&["--", ROOT, "--"], 2, "", "bad key\n"),
+        (&[ROOT], 2, "", NO_KEY),
+        (&["a", "b", "c"], 2, "", THIRD_WORD),
+        (&["--help"], 0, VERIFY_HELP, ""),
+        (&[ROOT, "61", "--help"], 0, VERIFY_HELP, ""),
+    ];
+    for (behind, status, out, err) in rows {
+        let mut words = Vec::new(rt.alloc());
+        words.extend_from_slice(&["mst", "verify"])?;
+        words.extend_from_slice(behind)?;
+        let outcome = outcome_of(rt.alloc(), words.as_slice(), b"0100")?;
+        assert_eq!(rt; outcome.out.as_slice(), out.as_bytes(), "in {behind:?}");
+        assert_eq!(rt; outcome.err.as_slice(), err.as_bytes(), "in {behind:?}");
+        assert_eq!(rt; outcome.status, status, "in {behind:?}");
+    }
+    Ok(())
+}
+
+// A key of 33 bytes, and digits that are none.
+#[test]
+fn keys_and_roots_of_a_wrong_form(rt: HostRuntime) -> Result<(), Fail> {
+    let long = "000102030405060708090a0b0c0d0e0f101112131415161718191A1B1C1D1E1F20";
+    let other = "e3b0c44298fc1c149afbf4c8996fb92427ae41e4649b934ca495991b7852b85x";
+    for (root, key, err) in [
+        (ROOT, long, "bad key\n"),
+        (other, "61", "bad root\n"),
+        (other, long, "bad root\n"),
+        (long, "61", "bad root\n"),
+    ] {
+        let words = ["mst", "verify", root, key];
+        let outcome = outcome_of(rt.alloc(), words.as_slice(), b"0100")?;
+        assert_eq!(rt; outcome.out.len(), 0);
+        assert_eq!(rt; outcome.err.as_slice(), err.as_bytes());
+        assert_eq!(rt; outcome.status, 2);
     }
     Ok(())
 }

@@ -76,7 +76,7 @@ impl<R: Read> Source for StdSource<R> {
 #[derive(Drop)]
 pub struct StdSink<W: Write> {
     output: W,
-    failures: u64,
+    failed_writes: u64,
 }
 
 impl<W: Write> StdSink<W> {
@@ -86,7 +86,7 @@ impl<W: Write> StdSink<W> {
     {
         StdSink {
             output,
-            failures: 0,
+            failed_writes: 0,
         }
     }
 }
@@ -97,7 +97,7 @@ impl<W: Write> Model for StdSink<W> {
 
     ghost Value = { ℕ };
 
-    ghost view = { λ s. s.failures };
+    ghost view = { λ s. s.failed_writes };
 }
 
 // No clause says what reaches a terminal or a pipe.
@@ -109,7 +109,7 @@ impl<W: Write> Sink for StdSink<W> {
     fn write(&mut self, bytes: &[u8]) -> Result<usize, Device> {
         match self.output.write(bytes) {
             Ok(0) | Err(_) => {
-                self.failures += 1;
+                self.failed_writes += 1;
                 Err(Device)
             }
             Ok(count) => Ok(count),

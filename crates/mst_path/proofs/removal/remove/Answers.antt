@@ -3,8 +3,8 @@ use Rattle.mst_arena.specs.Content.{Content}
 use Rattle.mst_arena.specs.Lives.{State, free_count}
 use Rattle.mst_path.specs.Making.{Grown}
 use Rattle.mst_path.specs.Removing.{SearchTree, in_tree, without, without_rows}
-use Rattle.mst_path.proofs.Changes.{any_old, search_at}
-use Rattle.mst_path.proofs.Removed.{rises, few_new, cost_found, AfterRemove, after_found, after_none, says}
+use Rattle.mst_path.proofs.Changes.{any_old, search_at, rises, says}
+use Rattle.mst_path.proofs.Removed.{few_new, cost_found, AfterRemove, after_found, after_none}
 use Rattle.mst_path.proofs.removal.remove.Given.{Over}
 use Rattle.mst_path.proofs.removal.remove.Goals as goal
 
@@ -13,7 +13,7 @@ find-requires g c =
     let content = g.R.Rows.content c.args.rows.now in
     let s = c.args.desk.now in
     let one = c.requires.stands in
-    record { tree = (s, search_at content s c.args.root.now one.0 one.1 one.2, rises content s c.args.root.now one.0 one.1 c.args.key.now) }
+    record { tree = (s, search_at content s c.args.root.now one.0 one.1 one.2, rises content c.args.root.now one.0 one.1) }
 
 -- ---- the key has no value
 
@@ -87,7 +87,7 @@ removed g c =
     let k = c.args.key.now in
     let found = says content s root k c.requires.stands c.find.result c.find.ensures.found in
     let done = subst (λ (x : Content). (t : SearchTree x s root.link) → Grown x (g.R.Rows.content c.remove_at-new.new.rows) s c.remove_at-new.new.desk (without t k) c.remove_at-new.result (in_tree t) (without_rows t k)) (ap g.R.Rows.content (c.remove_cost.ensures.same ∙ c.find.ensures.same)) c.remove_at-new.ensures.removed in
-    after_found content (g.R.Rows.content c.remove_at-new.new.rows) s c.remove_at-new.new.desk root c.remove_at-new.result k c.requires.stands c.in-Some.value (λ m st. found m st ∙ c.in-Some.is) done
+    after_found content s root k c.requires.stands (g.R.Rows.content c.remove_at-new.new.rows) c.remove_at-new.new.desk c.remove_at-new.result c.in-Some.value (λ m st. found m st ∙ c.in-Some.is) done
 
 pub returns-clause-stands : goal.returns-clause-stands
 returns-clause-stands g c = (removed g c).stands

@@ -1,0 +1,223 @@
+//! Proofs that are verified.
+use super::outcome_of;
+use crate::command::complain;
+use crate::verify::run_verify;
+use linked_list_allocator::LocalHeap;
+use mst_script::{BytesSink, BytesSource};
+use std::alloc::Global;
+use std::process::Abort;
+use std::test::Fail;
+
+const NOTHING: &str = "e3b0c44298fc1c149afbf4c8996fb92427ae41e4649b934ca495991b7852b855";
+
+const ZEROS: &str = "0000000000000000000000000000000000000000000000000000000000000000";
+
+/// The root digest of the map of `a` and `abc`, with the values `1` and `x`.
+const TWO: &str = "d4a8a9fc55058427163bd8a1f09ca5ec542de1cdaf28df100be5472e47b72503";
+
+/// The proof of that map for any key.
+const TWO_PROOF: &str = "0101000000110100000200016101310003616263017800";
+
+/// The root digest of the map of `1`, `39` and `a`, with the values `x`, `y` and `z`.
+const THREE: &str = "373a7faf30fc0998ad7513e8fd54287fac4ef22030d6b13b63a2e861398714ac";
+
+/// The proof of that map for the key `1`.
+const THREE_PROOF: &str =
+    "01020000004b01010001017dfdf041db1f9c4de0e5e646a376510cfb7c4e47760ef8f74cb3181b74c061e6023339017901d2c0950048c47bae86f8557f6e7357048963954bbb6f1328ea6cc19d8898c5d80000000a01000001000131017800";
+
+/// Verifies each proof, and compares the line and the status.
+fn compare(
+    rt: &impl Abort,
+    alloc: Global,
+    rows: &[(&str, &str, &str, &str, u8)],
+) -> Result<(), Fail> {
+    for (root, key, proof, line, status) in rows {
+        let words = ["mst", "verify", *root, *key];
+        let outcome = outcome_of(alloc, words.as_slice(), proof.as_bytes())?;
+        assert_eq!(rt; outcome.out.as_slice(), line.as_bytes(), "{key} in {proof}");
+        assert_eq!(rt; outcome.err.len(), 0);
+        assert_eq!(rt; outcome.status, *status);
+    }
+    Ok(())
+}
+
+#[test]
+fn proofs_of_one_node(rt: HostRuntime) -> Result<(), Fail> {
+    let other = "d4a8a9fc55058427163bd8a1f09ca5ec542de1cdaf28df100be5472e47b72502";
+    compare(
+        &rt,
+        rt.alloc(),
+        &[
+            (TWO, "62", TWO_PROOF, "absent\n", 0),
+            (TWO, "61", TWO_PROOF, "present 31\n", 0),
+            (
+                TWO,
+                "62",
+                "01010000001101000002000161013100036162630178",
+                "P2\n",
+                1,
+            ),
+            (
+                TWO,
+                "62",
+                "010100000011010000020001610131000361626301780000",
+                "P3\n",
+                1,
+            ),
+            (
+                TWO,
+                "62",
+                "0201000000110100000200016101310003616263017800",
+                "P1\n",
+                1,
+            ),
+            (other, "62", TWO_PROOF, "P5\n", 1),
+            (
+                TWO,
+                "62",
+                "0101000000110101000200016101310003616263017800",
+                "P4\n",
+                1,
+            ),
+            (
+                "709242a088b9aaa7b047ac1555a1adf76d12bc159c241a1ce1237eac41313955",
+                "61",
+                "010100000009010000010001610000",
+                "present -\n",
+                0,
+            ),
+        ],
+    )
+}
+
+#[test]
+fn proofs_of_the_empty_map(rt: HostRuntime) -> Result<(), Fail> {
+    compare(
+        &rt,
+        rt.alloc(),
+        &[
+            (NOTHING, "61", "0100", "absent\n", 0),
+            (NOTHING, "61", "", "P2\n", 1),
+            (NOTHING, "61", "01", "P2\n", 1),
+            (NOTHING, "61", "0200", "P1\n", 1),
+            (NOTHING, "61", "010000", "P3\n", 1),
+            (ZEROS, "61", "0100", "P5\n", 1),
+        ],
+    )
+}
+
+#[test]
+fn proofs_of_two_nodes(rt: HostRuntime) -> Result<(), Fail> {
+    compare(
+        &rt,
+        rt.alloc(),
+        &[
+            (THREE, "31", THREE_PROOF, "present 78\n", 0),
+            (
+                THREE,
+                "31",
+                "01010000004b01010001017dfdf041db1f9c4de0e5e646a376510cfb7c4e47760ef8f74cb3181b74c061e6023339017901d2c0950048c47bae86f8557f6e7357048963954bbb6f1328ea6cc19d8898c5d8",
+                "P8\n",
+                1,
+            ),
+            (THREE, "3339", THREE_PROOF, "P9\n", 1),
+            // the child has the layer of the node above
+            (
+                "984531d45a4ee3ae0c017e13f3756a2a5169e0a1c7ba7f913a5be8909d5d92fe",
+                "31",
+                "01020000002a01000001017dfdf041db1f9c4de0e5e646a376510cfb7c4e47760ef8f74cb3181b74c061e60161017a000000000a01000001000131017800",
+                "P6\n",
+                1,
+            ),
+            // the child's key lies behind the gap
+            (
+                "c16dbc427bb1069f94e13c7dca37c85ba8d6c0a56bfd54e235b8fbaf222d8b90",
+                "31",
+                "01020000002b0101000101d2c0950048c47bae86f8557f6e7357048963954bbb6f1328ea6cc19d8898c5d80233390179000000000a01000001000161017a00",
+                "P7\n",
+                1,
+            ),
+        ],
+    )
+}
+
+// Digits in either case, and one newline behind them.
+#[test]
+fn texts_are_read(rt: HostRuntime) -> Result<(), Fail> {
+    let upper = "E3B0C44298FC1C149AFBF4C8996FB92427AE41E4649B934CA495991B7852B855";
+    compare(
+        &rt,
+        rt.alloc(),
+        &[
+            (upper, "6A", "0100\n", "absent\n", 0),
+            (NOTHING, "61", "\n", "P2\n", 1),
+            (TWO, "62", "010", "fault hex\n", 1),
+            (NOTHING, "61", "0100\n\n", "fault hex\n", 1),
+            (NOTHING, "61", "0100\r\n", "fault hex\n", 1),
+            (NOTHING, "61", "0100 ", "fault hex\n", 1),
+            (NOTHING, "61", "0x00", "fault hex\n", 1),
+            (NOTHING, "61", "-", "fault hex\n", 1),
+            (TWO, "61", "\n0101", "fault hex\n", 1),
+        ],
+    )
+}
+
+// More than 33,554,432 bytes, the newline among them, are too many, whatever they are.
+#[test]
+fn long_texts(rt: HostRuntime) -> Result<(), Fail> {
+    for (digits, end, line) in [
+        (33_554_432, "", "P1\n"),
+        (33_554_432, "\n", "fault long\n"),
+        (33_554_430, "\n", "P1\n"),
+        (33_554_433, "", "fault long\n"),
+    ] {
+        let mut text = Vec::new(rt.alloc());
+        text.resize(digits, b'0')?;
+        text.extend_from_slice(end.as_bytes())?;
+        let words = ["mst", "verify", TWO, "62"];
+        let outcome = outcome_of(rt.alloc(), words.as_slice(), text.as_slice())?;
+        assert_eq!(rt; outcome.out.as_slice(), line.as_bytes(), "{digits}");
+        assert_eq!(rt; outcome.status, 1);
+    }
+    Ok(())
+}
+
+/// The status of a proof that is verified in a heap of so many bytes.
+fn status_in(
+    alloc: Global,
+    size: usize,
+    text: &[u8],
+    out: &mut BytesSink<Global>,
+) -> Result<u8, Fail> {
+    let heap = LocalHeap::new(alloc, size)?;
+    let mut source = BytesSource::new(text);
+    let mut err = BytesSink::new(alloc, 64)?;
+    match run_verify(&heap, TWO, "62", &mut source, out) {
+        Ok(_) => Ok(0),
+        Err(why) => Ok(complain(&mut err, &why)),
+    }
+}
+
+// A heap of each size: too small for one growth after another, and then large enough for all.
+#[test]
+fn growths_of_a_proof_are_refused(rt: HostRuntime) -> Result<(), Fail> {
+    let mut text = Vec::new(rt.alloc());
+    text.resize(40_000, b'0')?;
+    let mut was_short = false;
+    let mut was_enough = false;
+    for step in 0..60 {
+        let mut out = BytesSink::new(rt.alloc(), 64)?;
+        let status = status_in(rt.alloc(), 64 + 4_096 * step, text.as_slice(), &mut out)?;
+        if status == 0 {
+            was_enough = true;
+            assert_eq!(rt; out.bytes(), b"P1\n".as_slice());
+        } else {
+            was_short = true;
+            assert_eq!(rt; status, 4);
+            assert_eq!(rt; out.bytes().len(), 0);
+            assert!(rt; !was_enough);
+        }
+    }
+    assert!(rt; was_short && was_enough);
+    Ok(())
+}

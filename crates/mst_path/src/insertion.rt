@@ -1,0 +1,90 @@
+//! A key put into the map that stands at a root.
+ghost use Rattle.std.specs.Prelude.{◌≡◌, ◌<◌, ◌+◌, List, Some, IfOk, IfErr, false};
+ghost use Rattle.std.specs.Option.{option_map_or};
+ghost use Rattle.mst_key.specs.Bytes.{IsKey, IsValue};
+ghost use Rattle.mst_key.specs.Map.{Pair, look};
+ghost use Rattle.mst_key.specs.Map as map;
+ghost use Rattle.mst_key.specs.declared.format.Format.TheVariants.{One};
+ghost use Rattle.mst_node.specs.Cost.{same_bytes, cost};
+ghost use Rattle.mst_arena.specs.Lives.{free_count};
+ghost use Rattle.mst_arena.specs.Standing.{Stands, numbers};
+ghost use Rattle.mst_path.specs.Takes.{FreeIsBlank};
+ghost use Rattle.mst_path.specs.Changing.{MapStands, AreTaken, AreKilled, OthersLive, OnlyFreeWritten, SameVersions};
+
+use crate::counting::put_cost;
+use crate::faults::NoRoom;
+use crate::finding::find;
+use crate::putting::put_at;
+use mst_arena::{Desk, Root, Rows};
+use mst_key::{Key, Value};
+use std::alloc::Allocator;
+
+/// Says that the key and the value are within their limits, as they are by their types.
+fn within_limits(key: &Key, value: &Value)
+    ensures key { IsKey key.now }
+    ensures value { IsValue value.now }
+{
+    let _key = key.bytes();
+    let _value = value.bytes();
+}
+
+/// Whether a value was found, and is this one.
+fn is_same(found: &Option<Value>, value: &Value) -> bool
+    ensures same { result ≡ option_map_or (same_bytes value.now) found.now false }
+{
+    match found {
+        Some(old) => value == old,
+        None => false,
+    }
+}
+
+/// Puts a pair into the map that stands at a root. It answers the root at which the map with the pair stands, and the value that the key had.
+///
+/// The rows that stand at the root were born with the current version or an earlier one and are not dead, and the desk's free rows may be written. Nodes along the path to the key's place, and along the path on which the tree below that place is split, are made anew, in rows that are born with the version to come; the rows that only the old tree uses die with that version. All else is shared. Where the key has this value already nothing is changed, and the root stays.
+///
+/// It takes exactly one row for each entry and one for each node that is made anew. `NoRoom` comes exactly where fewer rows are free; then rows and desk are as before.
+///
+/// No memory is taken, and calls nest no deeper than the layers, 65 at the most. The path is read three times: for the value, to count, and to make the new nodes; only the last time hashes nodes, each new one once. The key is hashed once, for its layer.
+pub fn put<R: Rows, A: Allocator>(
+    rows: &mut R,
+    desk: &mut Desk<A>,
+    root: &Root,
+    key: &Key,
+    value: &Value,
+) -> Result<(Root, Option<Value>), NoRoom>
+    requires stands { MapStands (R.content rows.old) desk.old root.now }
+    requires free { FreeIsBlank desk.old.lives (R.blank rows.old) }
+    ensures stands { IfOk result (λ done. (m : List Pair) → Stands One (R.content rows.old) root.now m
+        → Stands One (R.content rows.new) done.0 (map.put m key.now value.now)) }
+    ensures value { IfOk result (λ done. (m : List Pair) → Stands One (R.content rows.old) root.now m → done.1 ≡ look m key.now) }
+    ensures written { OnlyFreeWritten desk.old (R.content rows.old) (R.content rows.new) }
+    // as many rows as the nodes that are new have entries and heads
+    ensures cost { IfOk result (λ _. (m : List Pair) → Stands One (R.content rows.old) root.now m
+        → free_count desk.new.lives + cost One m (map.put m key.now value.now) ≡ free_count desk.old.lives) }
+    ensures taken { IfOk result (λ done. (m n : List Pair) (old : Stands One (R.content rows.old) root.now m)
+        (new : Stands One (R.content rows.new) done.0 n) → AreTaken desk.old desk.new (numbers old) (numbers new)) }
+    ensures killed { IfOk result (λ done. (m n : List Pair) (old : Stands One (R.content rows.old) root.now m)
+        (new : Stands One (R.content rows.new) done.0 n) → AreKilled desk.old desk.new (numbers old) (numbers new)) }
+    ensures others { IfOk result (λ done. (m n : List Pair) (old : Stands One (R.content rows.old) root.now m)
+        (new : Stands One (R.content rows.new) done.0 n) → OthersLive desk.old desk.new (numbers old) (numbers new)) }
+    ensures versions { SameVersions desk.old desk.new }
+    ensures same_value { IfOk result (λ done. (m : List Pair) → Stands One (R.content rows.old) root.now m → look m key.now ≡ Some value.now
+        → (done.0 ≡ root.now) × (desk.new ≡ desk.old) × (rows.new ≡ rows.old)) }
+    ensures blank { R.blank rows.new ≡ R.blank rows.old }
+    ensures no_room { IfErr result (λ _. (m : List Pair) → Stands One (R.content rows.old) root.now m
+        → free_count desk.old.lives < cost One m (map.put m key.now value.now)) }
+    ensures untouched { IfErr result (λ _. (desk.new ≡ desk.old) × (rows.new ≡ rows.old)) }
+{
+    within_limits(key, value);
+    let old = find(rows, root.link, key);
+    if is_same(&old, value) {
+        return Ok((*root, old));
+    }
+    let layer = key.layer();
+    let free = desk.free();
+    if put_cost(rows, root.link, layer, key) > free {
+        return Err(NoRoom);
+    }
+    let new = put_at(rows, desk, root.link, layer, key, value);
+    Ok((new, old))
+}
