@@ -6,14 +6,15 @@ use Rattle.std.proofs.lemmas.Bool.Decides.{nat_tests}
 use Rattle.std.proofs.lemmas.List.{get_or-set_same}
 use Rattle.std.proofs.lemmas.Option.{slice_get-map, slice_get-get_or}
 use Rattle.mst_arena.specs.Lives.{State, version, next, reaches, reached_at, reaches_life, SameReach, swept}
+use Rattle.mst_arena.specs.Content.{Content}
 use Rattle.mst_arena.specs.Lists.{times, bit}
 use Rattle.mst_arena.specs.declared.life.Life.{Life}
 use Rattle.mst_arena.specs.declared.life.Life.TheVariants.{Free, Born, Dead}
 use Rattle.mst_arena.proofs.Reach.{born_later, dies_later, died, same_sweep}
-use Rattle.mst_path.specs.Takes.{Takes}
+use Rattle.mst_path.specs.Takes.{Takes, KeepsBut}
 use Rattle.mst_path.specs.Moves.{In, IsKilled, Moves}
-use Rattle.mst_path.specs.Changing.{AreOld, IsOnlyIn, IsTaken}
-use Rattle.mst_path.proofs.Moving.{moves_takes, not_in}
+use Rattle.mst_path.specs.Changing.{AreOld, IsOnlyIn, IsTaken, OnlyFreeWritten}
+use Rattle.mst_path.proofs.Moving.{moves_takes, not_in, out_of_times}
 use Rattle.mst_path.specs.Reached.{ReachesExactly, Changes, advanced, swept_by, IsPast, IsSettled}
 
 -- ---- a life that is past
@@ -115,6 +116,9 @@ module _ (old new : State) (rows : List ℕ) (takes : Takes old new rows) where
     others = λ r both. moves.others r (not_in r rows (λ i. absurd (omega (arith, both.1 i)))) (omega arith);
     versions = (moves.current, moves.versions);
   }
+
+  pub planted_written : (c c' : Content) → KeepsBut rows c c' → OnlyFreeWritten old c c'
+  planted_written c c' keeps r other = keeps r (out_of_times r rows (not_in r rows (λ i. other (moves.free r i))))
 
 -- ---- a sweep
 

@@ -1,5 +1,5 @@
 -- The maps of versions, from one write to the next.
-use Rattle.std.proofs.Common.{◌≡◌, ℕ, zero, suc, ◌+◌, ◌<◌, ◌≤◌, Bool, true, false, eqb, List, [], ◌∷◌, ◌++◌, length, Some, refl, sym, ◌∙◌, ap, arith, inl, inr}
+use Rattle.std.proofs.Common.{◌≡◌, ℕ, zero, suc, ◌+◌, ◌<◌, ◌≤◌, Bool, true, false, eqb, List, [], ◌∷◌, ◌++◌, length, Some, refl, sym, ◌∙◌, ap, subst, arith, inl, inr}
 use Rattle.std.specs.Prelude.{◌↔◌, slice_get, slice_index, replicate}
 use Rattle.std.specs.List.{AllByRecursion}
 use Rattle.std.proofs.lemmas.Bool.Decides.{nat_tests}
@@ -16,13 +16,14 @@ use Rattle.mst_arena.specs.declared.row.Root.{Root}
 use Rattle.mst_arena.specs.Standing.{Placed, none, head, tree_of, used, IsDistinct, Stands, numbers}
 use Rattle.mst_arena.proofs.Stands.{placed_frame, all-append, all-front, all-back}
 use Rattle.mst_arena.proofs.ListLemmas.{times-append}
+use Rattle.mst_path.specs.Takes.{Takes, KeepsBut}
 use Rattle.mst_path.specs.Moves.{In}
 use Rattle.mst_path.specs.Changing.{OnlyFreeWritten}
 use Rattle.mst_path.specs.Reached.{IsReached, Changes, advanced, swept_by, IsPast, IsSettled}
 use Rattle.mst_path.specs.Versions.{HasMap, Kept, numbers_kept, AreNumbers, HaveMaps, rows_kept, Keeps}
 use Rattle.mst_path.proofs.Copies.{all_in}
 use Rattle.mst_path.proofs.Moving.{in_either, not_in}
-use Rattle.mst_path.proofs.Reached.{older, newest, version_after, settled_after, same_swept, settled_swept, free_swept}
+use Rattle.mst_path.proofs.Reached.{older, newest, version_after, settled_after, same_swept, settled_swept, free_swept, planted, planted_written}
 use Rattle.mst_path.proofs.FreeCounts.{count_swept, alone}
 use Rattle.mst_path.proofs.Nodes.{used_count}
 use Rattle.mst_path.specs.Planting.{node_count, rows_needed}
@@ -190,9 +191,9 @@ no_tree : nodes.tree One [] ≡ empty
 unfolding nodes.tree nodes.tree_within
 no_tree = refl
 
-no_rows : (p : Placed) (r : ℕ) → tree_of One p ≡ empty → times r (used p) ≡ 0
-no_rows none r is = refl
-no_rows (head at layer chain) r is = cc
+no_rows : (p : Placed) → tree_of One p ≡ empty → used p ≡ []
+no_rows none is = refl
+no_rows (head at layer chain) is = cc
 
 first_is : (n v : ℕ) → 0 < n → slice_index (replicate n v) 0 ≡ v
 first_is zero v lt = absurd (omega (arith, lt))
@@ -208,8 +209,14 @@ keeps_empty c at rows records v some stands =
       maps = (
         record {
           stands = stands;
-          rows = λ r. (λ is. let not = unreached v rows r in cc, λ i. absurd (omega (arith, i, no_rows stands.tree.placed r (stands.tree.is ∙ no_tree))));
+          rows = λ r. (λ is. let not = unreached v rows r in cc, λ i. absurd (omega (arith, i, ap (times r) (no_rows stands.tree.placed (stands.tree.is ∙ no_tree)))));
         },
         tt,
       );
     }
+
+pub keeps_plant : (old new : State) (c c' : Content) (root at : Root) (n : List Pair) (kept : List Kept) (into : ℕ) (stands : Stands One c' at n) → HasMap c old.lives (version old) root [] → Takes old new (numbers stands) → KeepsBut (numbers stands) c c' → into < length old.versions → Keeps c old kept → Keeps c' (advanced into new) (record { number = next old; root = at; pairs = n } ∷ kept)
+keeps_plant old new c c' root at n kept into stands has takes but there keeps =
+    let none_before : numbers has.stands ≡ [] = no_rows has.stands.tree.placed (has.stands.tree.is ∙ no_tree) in
+    let change : Changes old new (numbers has.stands) (numbers stands) = subst (λ (rows : List ℕ). Changes old new rows (numbers stands)) (sym none_before) (planted old new (numbers stands) takes) in
+    keeps_write old new c c' root at [] n has stands change kept into there (planted_written old new (numbers stands) takes c c' but) keeps

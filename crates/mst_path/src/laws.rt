@@ -16,7 +16,7 @@ ghost use Rattle.mst_arena.specs.declared.row.Root.{Root};
 ghost use Rattle.mst_arena.specs.Standing.{IsDistinct, Stands, numbers};
 ghost use Rattle.mst_path.specs.Moves.{In};
 ghost use Rattle.mst_path.specs.Changing.{AreOld, OnlyFreeWritten};
-ghost use Rattle.mst_path.specs.Takes.{Takes};
+ghost use Rattle.mst_path.specs.Takes.{Takes, KeepsBut};
 ghost use Rattle.mst_path.specs.Planting.{node_count};
 ghost use Rattle.mst_path.specs.Reached.{ReachesExactly, TogetherReach, Changes, advanced, swept_by, IsSettled};
 ghost use Rattle.mst_path.specs.Versions.{HasMap, Kept, numbers_kept, AreNumbers, rows_kept, Keeps};
@@ -124,6 +124,12 @@ pub fn version_laws()
     ensures write { (old new : State) (before after : Content) (root at : Root) (m n : List Pair) (kept : List Kept) (into : ℕ)
         (has : HasMap before old.lives (version old) root m) (stands : Stands One after at n)
         → Changes old new (numbers has.stands) (numbers stands) → OnlyFreeWritten old before after
+        → into < length old.versions → Keeps before old kept
+        → Keeps after (advanced into new) (record { number = next old; root = at; pairs = n } ∷ kept) }
+    // and so does a map that is planted where the empty map stands
+    ensures plant { (old new : State) (before after : Content) (root at : Root) (n : List Pair) (kept : List Kept) (into : ℕ)
+        (stands : Stands One after at n) → HasMap before old.lives (version old) root []
+        → Takes old new (numbers stands) → KeepsBut (numbers stands) before after
         → into < length old.versions → Keeps before old kept
         → Keeps after (advanced into new) (record { number = next old; root = at; pairs = n } ∷ kept) }
     // a version that is not the current one may be forgotten

@@ -1,4 +1,4 @@
-use Rattle.mst_path.proofs.Versions.{keeps_empty, keeps_write, keeps_fewer, keeps_sweep, free_kept, count_kept, rows_of_map, room_alone}
+use Rattle.mst_path.proofs.Versions.{keeps_empty, keeps_write, keeps_plant, keeps_fewer, keeps_sweep, free_kept, count_kept, rows_of_map, room_alone}
 use Rattle.mst_path.proofs.laws.version_laws.Goals as goal
 
 pub returns-clause-open : goal.returns-clause-open
@@ -7,6 +7,10 @@ returns-clause-open c content at rows records first some stands = keeps_empty co
 pub returns-clause-write : goal.returns-clause-write
 returns-clause-write c old new before after root at m n kept into has stands change written there keeps =
     keeps_write old new before after root at m n has stands change kept into there written keeps
+
+pub returns-clause-plant : goal.returns-clause-plant
+returns-clause-plant c old new before after root at n kept into stands has takes but there keeps =
+    keeps_plant old new before after root at n kept into stands has takes but there keeps
 
 pub returns-clause-forget : goal.returns-clause-forget
 returns-clause-forget c content s k xs ys current keeps = keeps_fewer content s xs ys k current keeps
