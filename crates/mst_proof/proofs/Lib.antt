@@ -12,3 +12,4 @@ pub mod NoOther
 pub mod Walks
 pub mod Stepwise
 pub mod Nodewise
+pub mod Around

@@ -3,3 +3,4 @@ pub mod Verdict
 pub mod Accepted
 pub mod Theorem
 pub mod Beside
+pub mod Spans

@@ -8,11 +8,13 @@
 mod collision;
 mod expected;
 mod fault;
+mod laws;
 mod texts;
 mod verifier;
 
 pub use collision::{Pair, collide};
 pub use fault::ProofFault;
+pub use laws::trail_by_spans;
 pub use verifier::verify;
 
 #[cfg(test)]
