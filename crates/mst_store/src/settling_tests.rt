@@ -36,7 +36,13 @@ fn each_gets_what_all_put(rt: &impl Abort, passes: &mut [Pass<Global>], order: &
 
 #[test]
 fn settled_passes_get_what_each_put(rt: HostRuntime) -> Result<(), Fail> {
-    let Ok((store, seats)) = Store::open(rt.alloc(), Shape { rows: 4, passes: 2 }) else {
+    let Ok((store, seats)) = Store::open(
+        rt.alloc(),
+        Shape {
+            rows: 16,
+            passes: 2,
+        },
+    ) else {
         panic!(rt; "no memory")
     };
     let Ok(mut passes) = store.deal(rt.alloc(), seats) else {
@@ -48,7 +54,13 @@ fn settled_passes_get_what_each_put(rt: HostRuntime) -> Result<(), Fail> {
 
 #[test]
 fn passes_settle_in_any_order(rt: HostRuntime) -> Result<(), Fail> {
-    let Ok((store, seats)) = Store::open(rt.alloc(), Shape { rows: 4, passes: 3 }) else {
+    let Ok((store, seats)) = Store::open(
+        rt.alloc(),
+        Shape {
+            rows: 16,
+            passes: 3,
+        },
+    ) else {
         panic!(rt; "no memory")
     };
     let Ok(mut passes) = store.deal(rt.alloc(), seats) else {
@@ -63,7 +75,13 @@ fn passes_settle_in_any_order(rt: HostRuntime) -> Result<(), Fail> {
 
 #[test]
 fn passes_that_met_get_what_both_put(rt: HostRuntime) -> Result<(), Fail> {
-    let Ok((store, seats)) = Store::open(rt.alloc(), Shape { rows: 4, passes: 3 }) else {
+    let Ok((store, seats)) = Store::open(
+        rt.alloc(),
+        Shape {
+            rows: 16,
+            passes: 3,
+        },
+    ) else {
         panic!(rt; "no memory")
     };
     let Ok(mut passes) = store.deal(rt.alloc(), seats) else {
@@ -106,7 +124,13 @@ fn have_one_version_and_root(rt: &impl Abort, passes: &mut [Pass<Global>])
 
 #[test]
 fn settled_passes_have_one_version_and_root(rt: HostRuntime) -> Result<(), Fail> {
-    let Ok((store, seats)) = Store::open(rt.alloc(), Shape { rows: 4, passes: 2 }) else {
+    let Ok((store, seats)) = Store::open(
+        rt.alloc(),
+        Shape {
+            rows: 16,
+            passes: 2,
+        },
+    ) else {
         panic!(rt; "no memory")
     };
     let Ok(mut passes) = store.deal(rt.alloc(), seats) else {
