@@ -179,20 +179,17 @@ fn long_texts(rt: HostRuntime) -> Result<(), Fail> {
     Ok(())
 }
 
-/// The status of a proof that is verified in a heap of so many bytes.
-fn status_in(
-    alloc: Global,
-    size: usize,
-    text: &[u8],
-    out: &mut BytesSink<Global>,
-) -> Result<u8, Fail> {
+/// The status of a proof that is verified in a heap of so many bytes, and what was written.
+fn outcome_in(alloc: Global, size: usize, text: &[u8]) -> Result<(u8, Vec<u8>), Fail> {
     let heap = LocalHeap::new(alloc, size)?;
     let mut source = BytesSource::new(text);
+    let mut out = BytesSink::new(alloc, 64)?;
     let mut err = BytesSink::new(alloc, 64)?;
-    match run_verify(&heap, TWO, "62", &mut source, out) {
-        Ok(_) => Ok(0),
-        Err(why) => Ok(complain(&mut err, &why)),
-    }
+    let status = match run_verify(&heap, TWO, "62", &mut source, &mut out) {
+        Ok(_) => 0,
+        Err(why) => complain(&mut err, &why),
+    };
+    Ok((status, out.bytes().to_vec(alloc)?))
 }
 
 // A heap of each size: too small for one growth after another, and then large enough for all.
@@ -203,15 +200,14 @@ fn growths_of_a_proof_are_refused(rt: HostRuntime) -> Result<(), Fail> {
     let mut was_short = false;
     let mut was_enough = false;
     for step in 0..60 {
-        let mut out = BytesSink::new(rt.alloc(), 64)?;
-        let status = status_in(rt.alloc(), 64 + 4_096 * step, text.as_slice(), &mut out)?;
+        let (status, written) = outcome_in(rt.alloc(), 64 + 4_096 * step, text.as_slice())?;
         if status == 0 {
             was_enough = true;
-            assert_eq!(rt; out.bytes(), b"P1\n".as_slice());
+            assert_eq!(rt; written.as_slice(), b"P1\n".as_slice());
         } else {
             was_short = true;
             assert_eq!(rt; status, 4);
-            assert_eq!(rt; out.bytes().len(), 0);
+            assert_eq!(rt; written.len(), 0);
             assert!(rt; !was_enough);
         }
     }
