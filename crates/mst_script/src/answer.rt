@@ -45,6 +45,9 @@ pub enum Answer<A: Allocator> {
 /// A line of an answer: the longest is `pair ` with the 64 digits of a key, a blank, the 128 digits of a value and the newline.
 pub type Text = ArrayVec<u8, 208>;
 
+/// Of how many bytes the digits are put at a time; they fit a `Text`.
+const PIECE: usize = 64;
+
 // The words of a fault.
 fn fault_words(fault: Fault) -> &'static [u8]
     ensures words { result.now ≡ words_of_fault fault }
@@ -223,7 +226,7 @@ fn put_digits<W: Sink, A: Allocator>(
     let mut at = 0;
     while at < bytes.len() {
         let (_, rest) = bytes.split_at(at);
-        let (piece, _) = rest.split_at(rest.len().min(64));
+        let (piece, _) = rest.split_at(rest.len().min(PIECE));
         pending.put(sink, piece_digits(piece).as_slice())?;
         at += piece.len();
     }
