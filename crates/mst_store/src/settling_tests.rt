@@ -36,13 +36,7 @@ fn each_gets_what_all_put(rt: &impl Abort, passes: &mut [Pass<Global>], order: &
 
 #[test]
 fn settled_passes_get_what_each_put(rt: HostRuntime) -> Result<(), Fail> {
-    let Ok((store, seats)) = Store::open(
-        rt.alloc(),
-        Shape {
-            rows: 16,
-            passes: 2,
-        },
-    ) else {
+    let Ok((store, seats)) = Store::open(rt.alloc(), Shape { rows: 9, passes: 2 }) else {
         panic!(rt; "no memory")
     };
     let Ok(mut passes) = store.deal(rt.alloc(), seats) else {
@@ -54,13 +48,7 @@ fn settled_passes_get_what_each_put(rt: HostRuntime) -> Result<(), Fail> {
 
 #[test]
 fn passes_settle_in_any_order(rt: HostRuntime) -> Result<(), Fail> {
-    let Ok((store, seats)) = Store::open(
-        rt.alloc(),
-        Shape {
-            rows: 16,
-            passes: 3,
-        },
-    ) else {
+    let Ok((store, seats)) = Store::open(rt.alloc(), Shape { rows: 9, passes: 3 }) else {
         panic!(rt; "no memory")
     };
     let Ok(mut passes) = store.deal(rt.alloc(), seats) else {
@@ -75,13 +63,7 @@ fn passes_settle_in_any_order(rt: HostRuntime) -> Result<(), Fail> {
 
 #[test]
 fn passes_that_met_get_what_both_put(rt: HostRuntime) -> Result<(), Fail> {
-    let Ok((store, seats)) = Store::open(
-        rt.alloc(),
-        Shape {
-            rows: 16,
-            passes: 3,
-        },
-    ) else {
+    let Ok((store, seats)) = Store::open(rt.alloc(), Shape { rows: 9, passes: 3 }) else {
         panic!(rt; "no memory")
     };
     let Ok(mut passes) = store.deal(rt.alloc(), seats) else {
@@ -102,18 +84,17 @@ const ROOT_OF_BOTH: [u8; 32] = [
     0x54, 0x2d, 0xe1, 0xcd, 0xaf, 0x28, 0xdf, 0x10, 0x0b, 0xe5, 0x47, 0x2e, 0x47, 0xb7, 0x25, 0x03,
 ];
 
-// The key and the value that a pass puts.
-fn pair_of(number: u32) -> (&'static [u8], &'static [u8]) {
-    if number == 1 { (b"abc", b"x") } else { (b"a", b"1") }
-}
-
-// Each of two passes puts its pair. Settled, each has the second version, and the root digest of both pairs.
-fn have_one_version_and_root(rt: &impl Abort, passes: &mut [Pass<Global>])
+// The first pass puts abc and the others a. Settled, all have the version and the root of both.
+fn all_have_the_root_of_both(rt: &impl Abort, passes: &mut [Pass<Global>])
     requires whole { AreAllPasses passes.old }
 {
     for pass in passes.iter_mut() {
-        let (k, v) = pair_of(pass.number());
-        assert!(rt; puts(pass, &key(rt, k), &value(rt, v)));
+        let (new, bytes): (&[u8], &[u8]) = if pass.number() == 1 {
+            (b"abc", b"x")
+        } else {
+            (b"a", b"1")
+        };
+        assert!(rt; puts(pass, &key(rt, new), &value(rt, bytes)));
     }
     settle(passes);
     for pass in passes.iter_mut() {
@@ -124,19 +105,12 @@ fn have_one_version_and_root(rt: &impl Abort, passes: &mut [Pass<Global>])
 
 #[test]
 fn settled_passes_have_one_version_and_root(rt: HostRuntime) -> Result<(), Fail> {
-    let Ok((store, seats)) = Store::open(
-        rt.alloc(),
-        Shape {
-            rows: 16,
-            passes: 2,
-        },
-    ) else {
+    let Ok((store, seats)) = Store::open(rt.alloc(), Shape { rows: 9, passes: 2 }) else {
         panic!(rt; "no memory")
     };
     let Ok(mut passes) = store.deal(rt.alloc(), seats) else {
         panic!(rt; "no memory")
     };
-    assert!(rt; passes.len() == 2);
-    have_one_version_and_root(&rt, &mut passes);
+    all_have_the_root_of_both(&rt, &mut passes);
     Ok(())
 }

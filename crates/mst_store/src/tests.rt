@@ -277,6 +277,37 @@ fn a_refused_range_leaves_the_pass_as_it_was(rt: HostRuntime) -> Result<(), Fail
     Ok(())
 }
 
+// The proof of a key of the map of abc and a: the version 1, the number 1 of texts, the length of the one text, and the text of the node of both.
+const PROOF: [u8; 23] = [
+    1, 1, 0, 0, 0, 17, 1, 0, 0, 2, 0, 1, 0x61, 1, 0x31, 0, 3, 0x61, 0x62, 0x63, 1, 0x78, 0,
+];
+
+#[test]
+fn a_refused_proof_leaves_the_pass_as_it_was(rt: HostRuntime) -> Result<(), Fail> {
+    let (Ok(heap), Ok((store, seats))) = (
+        LocalHeap::new(rt.alloc(), 16),
+        Store::open(rt.alloc(), SMALL),
+    ) else {
+        panic!(rt; "no memory")
+    };
+    let Ok(mut passes) = store.deal(rt.alloc(), seats) else {
+        panic!(rt; "no memory")
+    };
+    let Some(mut pass) = passes.pop() else {
+        panic!(rt; "two passes")
+    };
+    let (abc, a) = (key(&rt, b"abc"), key(&rt, b"a"));
+    assert!(rt; pass.try_put(&abc, &value(&rt, b"x")) == Ok(None));
+    assert!(rt; pass.try_put(&a, &value(&rt, b"1")) == Ok(None));
+    assert!(rt; matches!(pass.prove(&heap, &abc), Err(ReadFault::Memory)));
+    let Ok(proof) = pass.prove(rt.alloc(), &abc) else {
+        panic!(rt; "no memory")
+    };
+    assert!(rt; proof.as_slice() == PROOF.as_slice());
+    assert!(rt; pass.rows() == Ok(Some(3)));
+    Ok(())
+}
+
 // Puts the values 0 to 99 at the key, each until it goes through, and answers how often another pass had the turn.
 fn put_all(pass: &mut Pass<Global>, key: &Key) -> u32 {
     let mut busy = 0u32;
