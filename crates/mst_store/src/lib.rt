@@ -4,6 +4,10 @@
 mod faults;
 mod map_rows;
 mod pass;
+#[cfg(test)]
+mod plain_list;
+#[cfg(test)]
+mod room_tests;
 mod settling;
 #[cfg(test)]
 mod settling_tests;

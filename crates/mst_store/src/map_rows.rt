@@ -188,12 +188,12 @@ impl<A: Allocator> MapRows<A> {
             → IfErr result (λ fault. Blocks fault rows log (Remove key.now)) }
         ensures kept { OnErr result (self.new ≡ self.old) }
     {
-        let Ok((root, old)) = mst_path::remove(&mut self.rows, &mut self.desk, &self.root, key)
+        let Ok((root, taken)) = mst_path::remove(&mut self.rows, &mut self.desk, &self.root, key)
         else {
             return Err(WriteFault::NoRoom);
         };
         self.advance(root);
-        Ok(old)
+        Ok(taken)
     }
 
     /// Makes the change, which is the next version, and answers the value that its key had.

@@ -36,7 +36,7 @@ fn each_gets_what_all_put(rt: &impl Abort, passes: &mut [Pass<Global>], order: &
 
 #[test]
 fn settled_passes_get_what_each_put(rt: HostRuntime) -> Result<(), Fail> {
-    let Ok((store, seats)) = Store::open(rt.alloc(), Shape { rows: 4, passes: 2 }) else {
+    let Ok((store, seats)) = Store::open(rt.alloc(), Shape { rows: 9, passes: 2 }) else {
         panic!(rt; "no memory")
     };
     let Ok(mut passes) = store.deal(rt.alloc(), seats) else {
@@ -48,7 +48,7 @@ fn settled_passes_get_what_each_put(rt: HostRuntime) -> Result<(), Fail> {
 
 #[test]
 fn passes_settle_in_any_order(rt: HostRuntime) -> Result<(), Fail> {
-    let Ok((store, seats)) = Store::open(rt.alloc(), Shape { rows: 4, passes: 3 }) else {
+    let Ok((store, seats)) = Store::open(rt.alloc(), Shape { rows: 9, passes: 3 }) else {
         panic!(rt; "no memory")
     };
     let Ok(mut passes) = store.deal(rt.alloc(), seats) else {
@@ -63,7 +63,7 @@ fn passes_settle_in_any_order(rt: HostRuntime) -> Result<(), Fail> {
 
 #[test]
 fn passes_that_met_get_what_both_put(rt: HostRuntime) -> Result<(), Fail> {
-    let Ok((store, seats)) = Store::open(rt.alloc(), Shape { rows: 4, passes: 3 }) else {
+    let Ok((store, seats)) = Store::open(rt.alloc(), Shape { rows: 9, passes: 3 }) else {
         panic!(rt; "no memory")
     };
     let Ok(mut passes) = store.deal(rt.alloc(), seats) else {
@@ -84,23 +84,33 @@ const ROOT_OF_BOTH: [u8; 32] = [
     0x54, 0x2d, 0xe1, 0xcd, 0xaf, 0x28, 0xdf, 0x10, 0x0b, 0xe5, 0x47, 0x2e, 0x47, 0xb7, 0x25, 0x03,
 ];
 
+// The first pass puts abc and the others a. Settled, all have the version and the root of both.
+fn all_have_the_root_of_both(rt: &impl Abort, passes: &mut [Pass<Global>])
+    requires whole { AreAllPasses passes.old }
+{
+    for pass in passes.iter_mut() {
+        let (new, bytes): (&[u8], &[u8]) = if pass.number() == 1 {
+            (b"abc", b"x")
+        } else {
+            (b"a", b"1")
+        };
+        assert!(rt; puts(pass, &key(rt, new), &value(rt, bytes)));
+    }
+    settle(passes);
+    for pass in passes.iter_mut() {
+        assert!(rt; pass.version() == Ok(2));
+        assert!(rt; pass.root() == Ok(ROOT_OF_BOTH));
+    }
+}
+
 #[test]
 fn settled_passes_have_one_version_and_root(rt: HostRuntime) -> Result<(), Fail> {
-    let Ok((store, seats)) = Store::open(rt.alloc(), Shape { rows: 4, passes: 2 }) else {
+    let Ok((store, seats)) = Store::open(rt.alloc(), Shape { rows: 9, passes: 2 }) else {
         panic!(rt; "no memory")
     };
     let Ok(mut passes) = store.deal(rt.alloc(), seats) else {
         panic!(rt; "no memory")
     };
-    assert!(rt; passes.len() == 2);
-    let (front, back) = passes.split_at_mut(1);
-    let (abc, x) = (key(&rt, b"abc"), value(&rt, b"x"));
-    let (a, one) = (key(&rt, b"a"), value(&rt, b"1"));
-    assert!(rt; puts(&mut front[0], &abc, &x) && puts(&mut back[0], &a, &one));
-    settle(&mut passes);
-    for pass in passes.iter_mut() {
-        assert!(rt; pass.version() == Ok(2));
-        assert!(rt; pass.root() == Ok(ROOT_OF_BOTH));
-    }
+    all_have_the_root_of_both(&rt, &mut passes);
     Ok(())
 }

@@ -6,7 +6,7 @@ use std::process::Abort;
 use std::test::Fail;
 use std::thread::join;
 
-const SMALL: Shape = Shape { rows: 4, passes: 2 };
+const SMALL: Shape = Shape { rows: 8, passes: 2 };
 
 pub(crate) fn key(rt: &impl Abort, bytes: &[u8]) -> Key {
     let Ok(key) = Key::new(bytes) else {
@@ -46,30 +46,6 @@ fn passes_share_a_map(rt: HostRuntime) -> Result<(), Fail> {
     assert!(rt; second.try_put(&abc, &empty) == Ok(Some(x)));
     assert!(rt; gets(&mut first, &abc, &empty));
     assert!(rt; first.get(&key(&rt, b"a")) == Ok(None));
-    Ok(())
-}
-
-#[test]
-fn a_full_store_refuses_new_keys_alone(rt: HostRuntime) -> Result<(), Fail> {
-    let Ok((store, seats)) = Store::open(rt.alloc(), SMALL) else {
-        panic!(rt; "no memory")
-    };
-    let Ok(mut passes) = store.deal(rt.alloc(), seats) else {
-        panic!(rt; "no memory")
-    };
-    let Some(mut pass) = passes.pop() else {
-        panic!(rt; "two passes")
-    };
-    let (x, y) = (value(&rt, b"x"), value(&rt, b"y"));
-    for byte in b"bdac" {
-        assert!(rt; pass.try_put(&key(&rt, &[*byte]), &x) == Ok(None));
-    }
-    assert!(rt; pass.try_put(&key(&rt, b"e"), &x) == Err(WriteFault::NoRoom));
-    assert!(rt; pass.get(&key(&rt, b"e")) == Ok(None));
-    assert!(rt; pass.try_put(&key(&rt, b"c"), &y) == Ok(Some(x.copy())));
-    for (bytes, wanted) in [(b"a", &x), (b"b", &x), (b"c", &y), (b"d", &x)] {
-        assert!(rt; gets(&mut pass, &key(&rt, bytes), wanted));
-    }
     Ok(())
 }
 
@@ -136,9 +112,9 @@ fn opens_in<R: Abort + AllocGlobal>(rt: &R, bytes: usize) -> bool {
 
 #[test]
 fn each_growth_of_open_is_refused_in_turn(rt: HostRuntime) -> Result<(), Fail> {
-    // The list takes 448 bytes, so growths beyond the first are refused too.
+    // The rows alone take more than a kilobyte, so growths beyond the first are refused too.
     let mut refused = 0u32;
-    for step in 1..64usize {
+    for step in 1..256usize {
         if !opens_in(&rt, step * 16) {
             assert!(rt;
                 refused as usize == step - 1,
@@ -147,7 +123,7 @@ fn each_growth_of_open_is_refused_in_turn(rt: HostRuntime) -> Result<(), Fail> {
             refused = step as u32;
         }
     }
-    assert!(rt; 30 <= refused && refused < 63);
+    assert!(rt; 64 <= refused && refused < 255);
     Ok(())
 }
 
@@ -298,6 +274,37 @@ fn a_refused_range_leaves_the_pass_as_it_was(rt: HostRuntime) -> Result<(), Fail
         panic!(rt; "no memory")
     };
     assert!(rt; pairs.len() == 1 && is_pair(&pairs[0], b"abc", b"x"));
+    Ok(())
+}
+
+// The proof of a key of the map of abc and a: the version 1, the number 1 of texts, the length of the one text, and the text of the node of both.
+const PROOF: [u8; 23] = [
+    1, 1, 0, 0, 0, 17, 1, 0, 0, 2, 0, 1, 0x61, 1, 0x31, 0, 3, 0x61, 0x62, 0x63, 1, 0x78, 0,
+];
+
+#[test]
+fn a_refused_proof_leaves_the_pass_as_it_was(rt: HostRuntime) -> Result<(), Fail> {
+    let (Ok(heap), Ok((store, seats))) = (
+        LocalHeap::new(rt.alloc(), 16),
+        Store::open(rt.alloc(), SMALL),
+    ) else {
+        panic!(rt; "no memory")
+    };
+    let Ok(mut passes) = store.deal(rt.alloc(), seats) else {
+        panic!(rt; "no memory")
+    };
+    let Some(mut pass) = passes.pop() else {
+        panic!(rt; "two passes")
+    };
+    let (abc, a) = (key(&rt, b"abc"), key(&rt, b"a"));
+    assert!(rt; pass.try_put(&abc, &value(&rt, b"x")) == Ok(None));
+    assert!(rt; pass.try_put(&a, &value(&rt, b"1")) == Ok(None));
+    assert!(rt; matches!(pass.prove(&heap, &abc), Err(ReadFault::Memory)));
+    let Ok(proof) = pass.prove(rt.alloc(), &abc) else {
+        panic!(rt; "no memory")
+    };
+    assert!(rt; proof.as_slice() == PROOF.as_slice());
+    assert!(rt; pass.rows() == Ok(Some(3)));
     Ok(())
 }
 
