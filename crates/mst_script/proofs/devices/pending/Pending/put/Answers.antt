@@ -5,7 +5,8 @@ use Rattle.mst_script.proofs.devices.pending.Pending.put.Goals as goal
 pub returns-clause-ok : goal.returns-clause-ok
 returns-clause-ok g c =
     let same : c.append.new.self ≡ c.args.self.now = c.if-append.ensures in
-    let is : c.append-2.new.self ≡ [] = c.if-append-2.ensures ∙ c.in_ok-flush.ensures.empty in
+    let same-2 : c.append-2.new.self ≡ c.flush.new.self = c.if-append-2.ensures in
+    let is : c.append-2.new.self ≡ [] = same-2 ∙ c.in_ok-flush.ensures.empty in
     let flushed = subst (λ (l : List ℕ). g.W.Sink.takes c.args.sink.now l c.flush.new.sink) same c.in_ok-flush.ensures.ok in
     map_ok c.write_all.result c.write_all.ensures.ok (λ y.
     both_taken g.W.Sink.takes g.met.W.Sink.takes_more c.args.sink.now c.flush.new.sink c.write_all.new.sink c.args.self.now c.args.text.now c.append-2.new.self flushed y is)
