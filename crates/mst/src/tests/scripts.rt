@@ -35,13 +35,13 @@ fn scripts_are_answered(rt: HostRuntime) -> Result<(), Fail> {
     Ok(())
 }
 
-// Four rows hold four keys, and a value can still be changed.
+// Six rows hold the node of two keys, and three more for a change of it, but not four for a third key.
 #[test]
 fn rows_run_out(rt: HostRuntime) -> Result<(), Fail> {
     let script =
-        b"1 put 61 -\n1 put 62 -\n1 put 63 -\n1 put 64 -\n1 put 65 -\n1 put 64 31\n1 get 65\n1 del 61\n1 put 65 -\n";
-    let outcome = outcome_of(rt.alloc(), &["mst", "run", "--rows=4"], script)?;
-    let answers = b"none\nnone\nnone\nnone\nnoroom\nsome -\nnone\nsome -\nnone\n";
+        b"1 put 61 -\n1 put 62 -\n1 put 63 -\n1 put 61 31\n1 get 63\n1 del 62\n1 put 63 -\n1 rows\n";
+    let outcome = outcome_of(rt.alloc(), &["mst", "run", "--rows=6"], script)?;
+    let answers = b"none\nnone\nnoroom\nsome -\nnone\nsome -\nnone\nrows 3\n";
     assert_eq!(rt; outcome.out.as_slice(), answers.as_slice());
     assert_eq!(rt; outcome.status, 0);
     Ok(())
