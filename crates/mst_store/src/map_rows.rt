@@ -1,5 +1,5 @@
 //! The map in rows: what lies in the table's slot.
-ghost use Rattle.std.specs.Prelude.{◌≡◌, ◌+◌, ◌<◌, ◌≤◌, [], length, Some, None, IfOk, IfErr, OnOk, OnErr, ℕ};
+ghost use Rattle.std.specs.Prelude.{◌≡◌, ◌<◌, ◌≤◌, [], length, IfOk, IfErr, OnOk, OnErr, ℕ};
 ghost use Rattle.std.specs.Option.{option_copied};
 ghost use Rattle.mst_key.specs.declared.format.Format.TheVariants.{One};
 ghost use Rattle.mst_key.specs.declared.history.Change.TheVariants.{Put, Remove};
@@ -15,7 +15,6 @@ use crate::faults::WriteFault;
 use mst_arena::{Desk, PlainRows, Root, VersionsSpent};
 use mst_key::{Change, Key, Memory, Value};
 use mst_node::root_of;
-use mst_path::NoRoom;
 use std::alloc::Allocator;
 
 /// How many records the desk has: the current version's, and one for the version to come.
