@@ -14,7 +14,8 @@ use Rattle.mst_arena.specs.declared.row.Row.{Row}
 use Rattle.mst_arena.specs.declared.row.Row.TheVariants.{Entry}
 use Rattle.mst_arena.specs.Standing.{Chain, end, cell, tree_of, entries_of, link_of, first_of, rows_of, chain_rows, HasRows}
 use Rattle.mst_arena.proofs.Stands.{all-front, all-back}
-use Rattle.mst_read.specs.Search.{Lies, by_cmp, place}
+use Rattle.mst_node.specs.Trail.{by_order}
+use Rattle.mst_read.specs.Search.{Lies, place}
 use Rattle.mst_read.specs.declared.lookup.Place.TheVariants.{Held, Gap}
 use Rattle.mst_read.proofs.Descend.{Ahead}
 
@@ -56,7 +57,7 @@ module _ (format : Format) (content : Content) (k : List ℕ) where
       back : List Pair
       back = entries_pairs (entries_of format c)
 
-      go : (o : Ordering) → key_cmp k key ≡ o → by_cmp o (Gap (link_of p)) (Held at) (place k c) ≡ Gap link → (place k c ≡ Gap link → InGap l link back) → InGap l link (front ++ (key, v) ∷ back)
+      go : (o : Ordering) → key_cmp k key ≡ o → by_order o (Gap (link_of p)) (Held at) (place k c) ≡ Gap link → (place k c ≡ Gap link → InGap l link back) → InGap l link (front ++ (key, v) ∷ back)
       go Less e is further =
           let here : link_of p ≡ link = cc in
           let lies : Lies format content link p = record { at = here; rows = all-front _ (rows_of format p) (chain_rows format c) rows.1 } in
@@ -85,7 +86,7 @@ module _ (format : Format) (content : Content) (k : List ℕ) where
       back : List Pair
       back = entries_pairs (entries_of format c)
 
-      go : (o : Ordering) → key_cmp k key ≡ o → by_cmp o (Gap (link_of p)) (Held at) (place k c) ≡ Held row → (place k c ≡ Held row → part_at entry_value content row ≡ look back k) → part_at entry_value content row ≡ look (front ++ (key, v) ∷ back) k
+      go : (o : Ordering) → key_cmp k key ≡ o → by_order o (Gap (link_of p)) (Held at) (place k c) ≡ Held row → (place k c ≡ Held row → part_at entry_value content row ≡ look back k) → part_at entry_value content row ≡ look (front ++ (key, v) ∷ back) k
       go Less e is further = let no : Gap (link_of p) ≡ Held row = is in cc
       go Equal e is further =
           let same : at ≡ row = cc in
@@ -99,7 +100,7 @@ module _ (format : Format) (content : Content) (k : List ℕ) where
   held_there row (cell at p key v c) rows is =
       go (key_cmp k key) is (held_there row c (all-back _ (rows_of format p) (chain_rows format c) rows.1))
     where
-      go : (o : Ordering) → by_cmp o (Gap (link_of p)) (Held at) (place k c) ≡ Held row → (place k c ≡ Held row → IsSome (part_at entry_value content row)) → IsSome (part_at entry_value content row)
+      go : (o : Ordering) → by_order o (Gap (link_of p)) (Held at) (place k c) ≡ Held row → (place k c ≡ Held row → IsSome (part_at entry_value content row)) → IsSome (part_at entry_value content row)
       go Less is further = let no : Gap (link_of p) ≡ Held row = is in cc
       go Equal is further =
           let same : at ≡ row = cc in

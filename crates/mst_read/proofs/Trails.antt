@@ -16,7 +16,7 @@ use Rattle.mst_arena.specs.declared.row.Root.{Root}
 use Rattle.mst_arena.specs.declared.row.HeadLinks.{HeadLinks}
 use Rattle.mst_arena.specs.Standing.{Placed, none, head, Chain, end, cell, tree_of, entries_of, link_of, first_of, tail_of, count_of, rows_of, chain_rows, HasRows, Stands}
 use Rattle.mst_arena.proofs.Stands.{all-front, all-back}
-use Rattle.mst_read.specs.Search.{Lies, LiesBehind, head_of, by_cmp, place, gap_placed}
+use Rattle.mst_read.specs.Search.{Lies, LiesBehind, head_of, place, gap_placed}
 use Rattle.mst_read.specs.declared.lookup.Place.TheVariants.{Held, Gap}
 use Rattle.mst_read.proofs.Descend.{falls, depth}
 
@@ -26,7 +26,7 @@ pub gap_held : (k : List ℕ) (row : ℕ) (c : Chain) → place k c ≡ Held row
 gap_held k row (end p) is = let no : Gap (link_of p) ≡ Held row = is in cc
 gap_held k row (cell at p key v c) is = go (key_cmp k key) is (gap_held k row c)
   where
-    go : (o : Ordering) → by_cmp o (Gap (link_of p)) (Held at) (place k c) ≡ Held row → (place k c ≡ Held row → gap_placed k c ≡ none) → by_cmp o p none (gap_placed k c) ≡ none
+    go : (o : Ordering) → by_order o (Gap (link_of p)) (Held at) (place k c) ≡ Held row → (place k c ≡ Held row → gap_placed k c ≡ none) → by_order o p none (gap_placed k c) ≡ none
     go Less is further = let no : Gap (link_of p) ≡ Held row = is in cc
     go Equal is further = refl
     go Greater is further = further is
@@ -36,7 +36,7 @@ gap_lies format content k link (end p) rows is = let at : link_of p ≡ link = c
 gap_lies format content k link (cell at p key v c) rows is =
     go (key_cmp k key) is (gap_lies format content k link c (all-back _ (rows_of format p) (chain_rows format c) rows.1))
   where
-    go : (o : Ordering) → by_cmp o (Gap (link_of p)) (Held at) (place k c) ≡ Gap link → (place k c ≡ Gap link → Lies format content link (gap_placed k c)) → Lies format content link (by_cmp o p none (gap_placed k c))
+    go : (o : Ordering) → by_order o (Gap (link_of p)) (Held at) (place k c) ≡ Gap link → (place k c ≡ Gap link → Lies format content link (gap_placed k c)) → Lies format content link (by_order o p none (gap_placed k c))
     go Less is further = let here : link_of p ≡ link = cc in record { at = here; rows = all-front _ (rows_of format p) (chain_rows format c) rows.1 }
     go Equal is further = let no : Held at ≡ Gap link = is in cc
     go Greater is further = further is
@@ -53,7 +53,7 @@ in_gap content k l (end p) rows mst = record { rows = rows; mst = mst.1; under =
 in_gap content k l (cell at p key v c) rows mst =
     go (key_cmp k key) (in_gap content k l c (all-back _ (rows_of One p) (chain_rows One c) rows.1) mst.3)
   where
-    go : (o : Ordering) → InGap content k l (gap_placed k c) (met_in_gap k (entries_of One c)) → InGap content k l (by_cmp o p none (gap_placed k c)) (by_order o (nodes_met k (tree_of One p)) [] (met_in_gap k (entries_of One c)))
+    go : (o : Ordering) → InGap content k l (gap_placed k c) (met_in_gap k (entries_of One c)) → InGap content k l (by_order o p none (gap_placed k c)) (by_order o (nodes_met k (tree_of One p)) [] (met_in_gap k (entries_of One c)))
     go Less further = record { rows = all-front _ (rows_of One p) (chain_rows One c) rows.1; mst = mst.1; under = mst.0; trail = refl }
     go Equal further = record { rows = tt; mst = tt; under = tt; trail = refl }
     go Greater further = further

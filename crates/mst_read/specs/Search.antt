@@ -1,9 +1,8 @@
 -- Rows that stand for a map at a root, and where a search comes to in the rows of a node.
 use Rattle.std.specs.Prelude.{◌≡◌, ℕ, if◌then◌else◌, List, Option, Some, None}
-use Rattle.std.specs.declared.cmp.Ordering.{Ordering}
-use Rattle.std.specs.declared.cmp.Ordering.TheVariants.{Less, Equal, Greater}
 use Rattle.mst_key.specs.declared.format.Format.{Format}
 use Rattle.mst_key.specs.Map.{Pair, key_cmp, above}
+use Rattle.mst_node.specs.Trail.{by_order}
 use Rattle.mst_arena.specs.Content.{Content}
 use Rattle.mst_arena.specs.Standing.{Placed, none, head, Chain, end, cell, link_of, first_of, tail_of, count_of, rows_of, chain_rows, HasRows, Stands}
 use Rattle.mst_arena.specs.declared.row.EntryLinks.{EntryLinks}
@@ -43,16 +42,10 @@ head_of (head at layer chain) = Some (record { layer = layer; count = count_of c
 
 -- ---- where a search comes to
 
--- what is chosen by a comparison
-abbrev pub by_cmp : {A : Type 0} → Ordering → A → A → A → A
-by_cmp Less less equal greater = less
-by_cmp Equal less equal greater = equal
-by_cmp Greater less equal greater = greater
-
 -- the row that has the key, or the link of the tree in the gap in which the key would lie
 abbrev pub place : List ℕ → Chain → Place
 place k (end child) = Gap (link_of child)
-place k (cell at child key value rest) = by_cmp (key_cmp k key) (Gap (link_of child)) (Held at) (place k rest)
+place k (cell at child key value rest) = by_order (key_cmp k key) (Gap (link_of child)) (Held at) (place k rest)
 
 -- the first entry whose key is above the bound, and its row
 abbrev pub entry_above : Option (List ℕ) → Chain → Option (ℕ × EntryLinks)
@@ -64,4 +57,4 @@ entry_above bound (cell at child key value rest) =
 -- the tree in the gap in which the key would lie; the empty tree where an entry has the key
 abbrev pub gap_placed : List ℕ → Chain → Placed
 gap_placed k (end child) = child
-gap_placed k (cell at child key value rest) = by_cmp (key_cmp k key) child none (gap_placed k rest)
+gap_placed k (cell at child key value rest) = by_order (key_cmp k key) child none (gap_placed k rest)

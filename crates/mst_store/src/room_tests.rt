@@ -16,14 +16,13 @@ struct Both<'a> {
 }
 
 impl<'a> Both<'a> {
-    /// Puts, or removes where no value is given, by one of the passes. `thorough` compares all that the store tells of the map, and whether there was room.
+    /// Puts, or removes where no value is given, by one of the passes, and compares whether there was room and all that the store then tells of the map.
     fn change(
         &mut self,
         rt: &(impl Abort + AllocGlobal),
         by: usize,
         key: &Key,
         new: Option<&Value>,
-        thorough: bool,
     ) -> Result<Result<Option<Value>, WriteFault>, Fail> {
         let Some(pass) = self.passes.get_mut(by) else {
             panic!(rt; "no such pass")
@@ -33,21 +32,17 @@ impl<'a> Both<'a> {
             None => pass.try_remove(key),
         };
         let list = self.list.with(rt.alloc(), key, new)?;
-        if thorough || answer.is_err() {
-            let needed = self
-                .list
-                .cost(None)
-                .saturating_add(list.cost(Some(&self.list)));
-            assert!(rt; answer.is_ok() == (needed <= self.rows));
-        }
+        let needed = self
+            .list
+            .cost(None)
+            .saturating_add(list.cost(Some(&self.list)));
+        assert!(rt; answer.is_ok() == (needed <= self.rows));
         if let Ok(old) = &answer {
             assert!(rt; *old == self.list.get(key));
             self.list = list;
         }
-        if thorough {
-            assert!(rt; pass.root() == Ok(self.list.root(rt, rt.alloc())?));
-            assert!(rt; pass.get(key) == Ok(self.list.get(key)));
-        }
+        assert!(rt; pass.root() == Ok(self.list.root(rt, rt.alloc())?));
+        assert!(rt; pass.get(key) == Ok(self.list.get(key)));
         Ok(answer)
     }
 
@@ -104,7 +99,7 @@ fn runs(rt: &(impl Abort + AllocGlobal), rows: u32, steps: &[Step]) -> Result<()
             Some(bytes) => Some(value(rt, bytes)),
             None => None,
         };
-        let answer = both.change(rt, 0, &key(rt, bytes), new.as_ref(), true)?;
+        let answer = both.change(rt, 0, &key(rt, bytes), new.as_ref())?;
         assert!(rt; is_wanted(&answer, *wanted));
         assert!(rt; both.rows(rt) == *taken);
     }
@@ -178,7 +173,7 @@ fn random_changes(
 ) -> Result<u32, Fail> {
     let keys = keys(rt)?;
     let (mut state, mut refused) = (seed, 0u32);
-    for step in 0..steps {
+    for _ in 0..steps {
         state = state
             .wrapping_mul(6_364_136_223_846_793_005)
             .wrapping_add(1_442_695_040_888_963_407);
@@ -190,7 +185,7 @@ fn random_changes(
         // two puts for each remove
         let new = if bytes[0] % 3 < 2 { Some(&new) } else { None };
         let by = usize::from(bytes[1] % 2);
-        let answer = both.change(rt, by, key, new, step % 16 == 0)?;
+        let answer = both.change(rt, by, key, new)?;
         if answer.is_err() {
             refused = refused.saturating_add(1);
         }

@@ -156,20 +156,20 @@ fn is_pair(pair: &(Key, Value), key: &[u8], value: &[u8]) -> bool {
 }
 
 #[test]
-fn reads_are_in_the_order_of_keys(rt: HostRuntime) -> Result<(), Fail> {
+fn ranges_are_in_the_order_of_keys(rt: HostRuntime) -> Result<(), Fail> {
     let Ok((store, seats)) = Store::open(rt.alloc(), SMALL) else {
         panic!(rt; "no memory")
     };
     let Ok(mut passes) = store.deal(rt.alloc(), seats) else {
         panic!(rt; "no memory")
     };
-    let (Some(mut second), Some(mut first)) = (passes.pop(), passes.pop()) else {
+    let Some(mut pass) = passes.pop() else {
         panic!(rt; "two passes")
     };
     let (abc, a, b) = (key(&rt, b"abc"), key(&rt, b"a"), key(&rt, b"b"));
     let (x, one) = (value(&rt, b"x"), value(&rt, b"1"));
-    assert!(rt; first.try_put(&abc, &x) == Ok(None) && first.try_put(&a, &one) == Ok(None));
-    let Ok(all) = first.range(rt.alloc(), None, None, 10) else {
+    assert!(rt; pass.try_put(&abc, &x) == Ok(None) && pass.try_put(&a, &one) == Ok(None));
+    let Ok(all) = pass.range(rt.alloc(), None, None, 10) else {
         panic!(rt; "no memory")
     };
     assert!(rt; all.len() == 2 && is_pair(&all[0], b"a", b"1") && is_pair(&all[1], b"abc", b"x"));
@@ -181,11 +181,28 @@ fn reads_are_in_the_order_of_keys(rt: HostRuntime) -> Result<(), Fail> {
         (Some(&abc), None, 10, 1),
         (Some(&b), None, 10, 0),
     ] {
-        let Ok(some) = first.range(rt.alloc(), from, to, limit) else {
+        let Ok(some) = pass.range(rt.alloc(), from, to, limit) else {
             panic!(rt; "no memory")
         };
         assert!(rt; some.len() == count, "{count} of {limit}");
     }
+    Ok(())
+}
+
+#[test]
+fn next_goes_from_key_to_key(rt: HostRuntime) -> Result<(), Fail> {
+    let Ok((store, seats)) = Store::open(rt.alloc(), SMALL) else {
+        panic!(rt; "no memory")
+    };
+    let Ok(mut passes) = store.deal(rt.alloc(), seats) else {
+        panic!(rt; "no memory")
+    };
+    let (Some(mut second), Some(mut first)) = (passes.pop(), passes.pop()) else {
+        panic!(rt; "two passes")
+    };
+    let (abc, a) = (key(&rt, b"abc"), key(&rt, b"a"));
+    let (x, one) = (value(&rt, b"x"), value(&rt, b"1"));
+    assert!(rt; first.try_put(&abc, &x) == Ok(None) && first.try_put(&a, &one) == Ok(None));
     for (after, wanted) in [(None, Some(&a)), (Some(&a), Some(&abc)), (Some(&abc), None)] {
         let Ok(found) = second.next(after) else {
             panic!(rt; "one thread")
@@ -254,11 +271,8 @@ fn the_root_depends_on_the_pairs_alone(rt: HostRuntime) -> Result<(), Fail> {
 }
 
 #[test]
-fn a_refused_range_leaves_the_pass_as_it_was(rt: HostRuntime) -> Result<(), Fail> {
-    let (Ok(heap), Ok((store, seats))) = (
-        LocalHeap::new(rt.alloc(), 16),
-        Store::open(rt.alloc(), SMALL),
-    ) else {
+fn each_growth_of_a_range_is_refused(rt: HostRuntime) -> Result<(), Fail> {
+    let Ok((store, seats)) = Store::open(rt.alloc(), SMALL) else {
         panic!(rt; "no memory")
     };
     let Ok(mut passes) = store.deal(rt.alloc(), seats) else {
@@ -269,12 +283,17 @@ fn a_refused_range_leaves_the_pass_as_it_was(rt: HostRuntime) -> Result<(), Fail
     };
     let (abc, x) = (key(&rt, b"abc"), value(&rt, b"x"));
     assert!(rt; pass.try_put(&abc, &x) == Ok(None));
-    assert!(rt; matches!(pass.range(&heap, None, None, 10), Err(ReadFault::Memory)));
-    let Ok(pairs) = pass.range(rt.alloc(), None, None, 10) else {
-        panic!(rt; "no memory")
-    };
-    assert!(rt; pairs.len() == 1 && is_pair(&pairs[0], b"abc", b"x"));
-    Ok(())
+    for units in 1..64usize {
+        let heap = LocalHeap::new(rt.alloc(), units * 16)?;
+        match pass.range(&heap, None, None, 10) {
+            Ok(pairs) => {
+                assert!(rt; units > 1 && pairs.len() == 1 && is_pair(&pairs[0], b"abc", b"x"));
+                return Ok(());
+            }
+            Err(fault) => assert!(rt; matches!(fault, ReadFault::Memory)),
+        }
+    }
+    panic!(rt; "refused with ample memory")
 }
 
 // The proof of a key of the map of abc and a: the version 1, the number 1 of texts, the length of the one text, and the text of the node of both.
@@ -283,11 +302,8 @@ const PROOF: [u8; 23] = [
 ];
 
 #[test]
-fn a_refused_proof_leaves_the_pass_as_it_was(rt: HostRuntime) -> Result<(), Fail> {
-    let (Ok(heap), Ok((store, seats))) = (
-        LocalHeap::new(rt.alloc(), 16),
-        Store::open(rt.alloc(), SMALL),
-    ) else {
+fn each_growth_of_a_proof_is_refused(rt: HostRuntime) -> Result<(), Fail> {
+    let Ok((store, seats)) = Store::open(rt.alloc(), SMALL) else {
         panic!(rt; "no memory")
     };
     let Ok(mut passes) = store.deal(rt.alloc(), seats) else {
@@ -299,13 +315,18 @@ fn a_refused_proof_leaves_the_pass_as_it_was(rt: HostRuntime) -> Result<(), Fail
     let (abc, a) = (key(&rt, b"abc"), key(&rt, b"a"));
     assert!(rt; pass.try_put(&abc, &value(&rt, b"x")) == Ok(None));
     assert!(rt; pass.try_put(&a, &value(&rt, b"1")) == Ok(None));
-    assert!(rt; matches!(pass.prove(&heap, &abc), Err(ReadFault::Memory)));
-    let Ok(proof) = pass.prove(rt.alloc(), &abc) else {
-        panic!(rt; "no memory")
-    };
-    assert!(rt; proof.as_slice() == PROOF.as_slice());
-    assert!(rt; pass.rows() == Ok(Some(3)));
-    Ok(())
+    for units in 1..64usize {
+        let heap = LocalHeap::new(rt.alloc(), units * 16)?;
+        match pass.prove(&heap, &abc) {
+            Ok(proof) => {
+                assert!(rt; units > 1 && proof.as_slice() == PROOF.as_slice());
+                assert!(rt; pass.rows() == Ok(Some(3)));
+                return Ok(());
+            }
+            Err(fault) => assert!(rt; matches!(fault, ReadFault::Memory)),
+        }
+    }
+    panic!(rt; "refused with ample memory")
 }
 
 // Puts the values 0 to 99 at the key, each until it goes through, and answers how often another pass had the turn.

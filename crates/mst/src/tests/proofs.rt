@@ -41,51 +41,32 @@ fn compare(
     Ok(())
 }
 
+/// That proof without its last byte, with a byte more, and with another first and another eighth byte: the version, and the layer.
+const CUT_SHORT: &str = "01010000001101000002000161013100036162630178";
+
+const LEFT_OVER: &str = "010100000011010000020001610131000361626301780000";
+
+const OF_VERSION_2: &str = "0201000000110100000200016101310003616263017800";
+
+const OF_LAYER_1: &str = "0101000000110101000200016101310003616263017800";
+
 #[test]
 fn proofs_of_one_node(rt: HostRuntime) -> Result<(), Fail> {
     let other = "d4a8a9fc55058427163bd8a1f09ca5ec542de1cdaf28df100be5472e47b72502";
+    let empty_value = "709242a088b9aaa7b047ac1555a1adf76d12bc159c241a1ce1237eac41313955";
+    let empty_proof = "010100000009010000010001610000";
     compare(
         &rt,
         rt.alloc(),
         &[
             (TWO, "62", TWO_PROOF, "absent\n", 0),
             (TWO, "61", TWO_PROOF, "present 31\n", 0),
-            (
-                TWO,
-                "62",
-                "01010000001101000002000161013100036162630178",
-                "P2\n",
-                1,
-            ),
-            (
-                TWO,
-                "62",
-                "010100000011010000020001610131000361626301780000",
-                "P3\n",
-                1,
-            ),
-            (
-                TWO,
-                "62",
-                "0201000000110100000200016101310003616263017800",
-                "P1\n",
-                1,
-            ),
+            (TWO, "62", CUT_SHORT, "P2\n", 1),
+            (TWO, "62", LEFT_OVER, "P3\n", 1),
+            (TWO, "62", OF_VERSION_2, "P1\n", 1),
             (other, "62", TWO_PROOF, "P5\n", 1),
-            (
-                TWO,
-                "62",
-                "0101000000110101000200016101310003616263017800",
-                "P4\n",
-                1,
-            ),
-            (
-                "709242a088b9aaa7b047ac1555a1adf76d12bc159c241a1ce1237eac41313955",
-                "61",
-                "010100000009010000010001610000",
-                "present -\n",
-                0,
-            ),
+            (TWO, "62", OF_LAYER_1, "P4\n", 1),
+            (empty_value, "61", empty_proof, "present -\n", 0),
         ],
     )
 }
