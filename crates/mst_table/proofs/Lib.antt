@@ -1,0 +1,15 @@
+pub mod Histories
+pub mod Worlds
+pub mod Bits
+pub mod Seats
+pub mod Turns
+pub mod PinParts
+pub mod PinMoves
+pub mod RowParts
+pub mod Marks
+pub mod Steps
+pub mod HoldSteps
+pub mod PinSteps
+pub mod TurnSteps
+pub mod Hearing
+pub mod Opens

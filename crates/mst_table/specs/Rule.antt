@@ -1,0 +1,43 @@
+-- The rule of the table, in parts: the turn, the pins, the records and rows, and the world. Word 0 is the turn, word 1 the current record and the mask of its pins; then come 34 words DONE, 34 records of 6 words, and from word 240 on the rows, of 16 words each.
+use Rattle.std.specs.Prelude.{◌≡◌, ℕ, ◌+◌, ◌*◌, ◌%◌, ◌<◌, true, List, [], ◌∷◌, length, slice_index, Option, Some, None}
+use mathlib.Core.Option.{none, some}
+use Rattle.atomic_table.specs.Table.{State}
+use Rattle.mst_key.specs.History.{History}
+use Rattle.mst_table.specs.declared.view.View.{View}
+use Rattle.mst_table.specs.declared.view.DeskState.{DeskState}
+use Rattle.mst_table.specs.World.{SeatAt, World}
+use Rattle.mst_table.specs.Pins.{Pins, Clear, Counts}
+use Rattle.mst_table.specs.Path.{Path}
+use Rattle.mst_table.specs.Records.{Meaning, Rows}
+
+-- with one pass, the word of the current record is as the holder of the turn has noted it
+pub record Still (n word : ℕ) (views : List View) : Type 0 where
+  pub noted : (i : ℕ) (v : View) → SeatAt views i v → v.turn ≡ true → n ≡ 1 → (w : ℕ) → v.noted ≡ Some w → w ≡ word
+
+module _ {S : Type 0} (T : Meaning S) (R n : ℕ) where
+  -- While the turn is free, the slot is at home with the desk, and no transfer waits. Else the turn names the one pass that has the slot, and that pass has seen the whole history and knows the desk
+  pub record Turn (word : ℕ) (homes : List (mathlib.Core.Option.Option S)) (desk : DeskState) (due : Option ℕ) (log : History) (views : List View) : Type 0 where
+    pub free : word ≡ 0 → (x : S) × (homes ≡ some x ∷ []) × T.IsDesk x R n desk × (due ≡ None)
+    pub taken : 0 < word → (homes ≡ none ∷ []) × ((i : ℕ) × (v : View) × SeatAt views i v × (v.turn ≡ true))
+    pub holder : (i : ℕ) (v : View) → SeatAt views i v → v.turn ≡ true → (0 < word) × (v.number ≡ word) × (v.seen ≡ log) × (v.desk ≡ desk)
+
+  -- there is one history, for which the parts hold
+  pub record Ruled (s : State S View) : Type 0 where
+    pub log : History
+    pub next : ℕ
+    pub cur : ℕ
+    pub mask : ℕ
+    pub due : Option ℕ
+    pub beside : ℕ → ℕ
+    pub desk : DeskState
+    pub place : ℕ → History
+    pub used : ℕ → List ℕ
+    pub wide : length s.words ≡ R * 16 + 240
+    pub turn : Turn (slice_index s.words 0) s.homes desk due log s.views
+    pub pins : Pins n cur mask due beside s.words s.views
+    pub rows : Rows T R n cur s.words log desk place used s.views
+    pub world : World R n next log s.views
+    pub clear : Clear n beside s.words s.views
+    pub counts : Counts n cur s.views
+    pub path : Path n cur due s.views
+    pub still : Still n (slice_index s.words 1) s.views

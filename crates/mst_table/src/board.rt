@@ -1,0 +1,113 @@
+//! The table, and the steps of the turn.
+ghost use Rattle.std.specs.Prelude.{◌≡◌, ◌∷◌, ◌+◌, ◌*◌, [], true, false, Option, Some, None};
+ghost use Rattle.mst_table.specs.Stored.{stored};
+ghost use Rattle.mst_arena.specs.Lives.{State};
+ghost use Rattle.mst_table.specs.Steps.{IsFree, IsDealer, IsGiving, Takes, Misses, Gives};
+ghost use Rattle.mst_table.specs.World.{having_dealt, newcomer};
+ghost use Rattle.mst_table.specs.declared.view.DeskState.{DeskState};
+
+use crate::plays::{Deal, GiveTurn, TakeTurn};
+use crate::rule::Law;
+use crate::view::{Shape, View};
+use atomic_table::{Seat, Table};
+use mst_arena::Desk;
+use std::alloc::Allocator;
+use std::marker::Model;
+
+/// A pass's seat at one table: a token of no bytes, which carries what the pass knows.
+pub type PassSeat<A> = Seat<Option<Desk<A>>, View>;
+
+/// The place of the turn among the words.
+pub(crate) const TURN: usize = 0;
+
+/// The place of the one slot.
+const SLOT: usize = 0;
+
+/// The table: the words of the turn, of pins, records and rows, and the slot in which the desk lies.
+#[derive(Drop)]
+pub struct Board<A: Allocator + Copy> {
+    pub(crate) table: Table<Option<Desk<A>>, View, Shape, Law<A>, A>,
+}
+
+impl<A: Allocator + Copy> Model for Board<A> {
+    ghost use Rattle.std.specs.Prelude.{◌≡◌};
+    ghost use Rattle.atomic_table.specs.Seated.{TableId, table_id_coded};
+
+    ghost Value = { TableId };
+
+    ghost coded = { table_id_coded };
+
+    ghost view = { λ b. b.table.shared.table_id };
+
+    ghost invariant = { λ b. b.table.shared.table_id.slots ≡ 1 };
+}
+
+impl<A: Allocator + Copy> Board<A> {
+    /// A seat for the next pass. It costs one load.
+    pub fn deal(&self, seat: &mut PassSeat<A>) -> PassSeat<A>
+        requires own { seat.old.table_id ≡ self.now }
+        requires wide { self.now.words ≡ seat.old.me.0.rows * 16 + 240 }
+        requires dealer { IsDealer seat.old.me }
+        ensures same { seat.new.table_id ≡ seat.old.table_id }
+        ensures dealer { seat.new.me ≡ (having_dealt seat.old.me.0, []) }
+        ensures own { result.table_id ≡ seat.old.table_id }
+        ensures dealt { result.me ≡ (newcomer seat.old.me.0, []) }
+    {
+        self.table.shared.split_seat::<Deal>(seat)
+    }
+
+    /// Takes the turn: one compare-exchange of its word from 0 to the pass's number. True where the turn is then the pass's.
+    pub fn take_turn(&self, seat: &mut PassSeat<A>, number: u32) -> bool
+        requires own { seat.old.table_id ≡ self.now }
+        requires wide { self.now.words ≡ seat.old.me.0.rows * 16 + 240 }
+        requires free { IsFree number seat.old.me }
+        ensures same { (seat.new.table_id ≡ seat.old.table_id) × (seat.new.id ≡ seat.old.id) }
+        ensures taken { result ≡ true → Takes stored seat.old.me seat.new.me }
+        ensures missed { result ≡ false → Misses seat.old.me seat.new.me }
+    {
+        let found = self
+            .table
+            .shared
+            .compare_exchange::<TakeTurn>(seat, TURN, 0, u64::from(number));
+        found == 0
+    }
+
+    /// Takes the desk out of the slot: one exchange.
+    pub fn take_desk(&self, seat: &mut PassSeat<A>) -> Desk<A>
+        requires own { seat.old.table_id ≡ self.now }
+        requires holds { (d : State) × (seat.old.me.1 ≡ (0, Some d) ∷ []) }
+        ensures same { (seat.new.table_id ≡ seat.old.table_id) × (seat.new.id ≡ seat.old.id) }
+        ensures desk { seat.old.me.1 ≡ (0, Some result) ∷ [] }
+        ensures left { seat.new.me ≡ (seat.old.me.0, (0, None) ∷ []) }
+    {
+        let Some(desk) = self.table.shared.exchange(seat, SLOT, None) else {
+            unreachable!()
+        };
+        desk
+    }
+
+    /// Lays the desk back into the slot: one exchange.
+    pub fn return_desk(&self, seat: &mut PassSeat<A>, desk: Desk<A>)
+        requires own { seat.old.table_id ≡ self.now }
+        requires holds { seat.old.me.1 ≡ (0, None) ∷ [] }
+        ensures same { (seat.new.table_id ≡ seat.old.table_id) × (seat.new.id ≡ seat.old.id) }
+        ensures returned { seat.new.me ≡ (seat.old.me.0, (0, Some desk) ∷ []) }
+    {
+        let None = self.table.shared.exchange(seat, SLOT, Some(desk)) else {
+            unreachable!()
+        };
+    }
+
+    /// Gives the turn back: one store of 0 to its word.
+    ///
+    /// The desk in the slot has to say of each record that was not found drained, that its version reaches the same rows as when the turn was taken.
+    pub fn give_turn(&self, seat: &mut PassSeat<A>)
+        requires own { seat.old.table_id ≡ self.now }
+        requires wide { self.now.words ≡ seat.old.me.0.rows * 16 + 240 }
+        requires giving { (x : Option State) × (d : DeskState) × IsGiving stored x d seat.old.me }
+        ensures same { (seat.new.table_id ≡ seat.old.table_id) × (seat.new.id ≡ seat.old.id) }
+        ensures gave { Gives seat.old.me seat.new.me }
+    {
+        self.table.shared.store::<GiveTurn>(seat, TURN, 0);
+    }
+}

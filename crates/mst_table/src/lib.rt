@@ -1,0 +1,15 @@
+//! The table that the passes of a store share without locks: its words, its rule, and one call for each atomic step.
+#![tactic(auto)]
+
+mod board;
+mod notes;
+mod pins;
+mod plays;
+mod publishing;
+mod rule;
+mod view;
+
+pub use board::{Board, PassSeat};
+pub use notes::Telling;
+pub use plays::Naming;
+pub use view::{DeskState, Shape, View};

@@ -1,0 +1,84 @@
+//! The steps of a pass that pins: the pin, the loads of words, and the end of the pin.
+ghost use Rattle.std.specs.Prelude.{◌≡◌, ◌≢◌, ◌+◌, ◌*◌, ◌^◌, ◌<◌, ◌-◌, ℕ, [], true, false, slice_index, Some, None};
+ghost use Rattle.mst_table.specs.Stored.{stored};
+ghost use Rattle.mst_table.specs.Steps.{IsFree, IsPinned, PinsNow, Unpins, Forgets, IsReadable};
+
+use crate::board::{Board, PassSeat};
+use crate::plays::{Forget, Pin, Read, Unpin};
+use std::alloc::Allocator;
+
+/// The place of the word of the current record: its number * 2^32 + the mask of its pins.
+pub(crate) const CURRENT: usize = 1;
+
+/// The place of the word DONE of record 0.
+pub(crate) const FIRST_DONE: usize = 2;
+
+/// The bit of a pass in the masks: pass p has bit p - 1.
+fn bit_of(number: u32) -> u64
+    requires some { 0 < number }
+    requires few { number < 33 }
+    ensures bit { result ≡ 2 ^ (number - 1) }
+{
+    1 << (number - 1)
+}
+
+impl<A: Allocator + Copy> Board<A> {
+    /// Pins the current record: one xor of the pass's bit into the word of the current record. It answers the record.
+    pub fn pin(&self, seat: &mut PassSeat<A>, number: u32) -> u32
+        requires own { seat.old.table_id ≡ self.now }
+        requires wide { self.now.words ≡ seat.old.me.0.rows * 16 + 240 }
+        requires free { IsFree number seat.old.me }
+        requires few { number < 33 }
+        ensures same { (seat.new.table_id ≡ seat.old.table_id) × (seat.new.id ≡ seat.old.id) }
+        ensures pinned { (found : ℕ) × (p : PinsNow stored seat.old.me found seat.new.me) × (p.cur ≡ result) }
+    {
+        let found = self
+            .table
+            .shared
+            .fetch_xor::<Pin>(seat, CURRENT, bit_of(number));
+        (found >> 32) as u32
+    }
+
+    /// Ends the pin: one xor of the pass's bit into the record's word DONE. The pass has then seen the history at its pin.
+    pub fn unpin(&self, seat: &mut PassSeat<A>, number: u32, which: u32)
+        requires own { seat.old.table_id ≡ self.now }
+        requires wide { self.now.words ≡ seat.old.me.0.rows * 16 + 240 }
+        requires pinned { IsPinned number which seat.old.me }
+        requires some { 0 < number }
+        requires few { number < 33 }
+        requires there { which < 34 }
+        ensures same { (seat.new.table_id ≡ seat.old.table_id) × (seat.new.id ≡ seat.old.id) }
+        ensures free { Unpins seat.old.me seat.new.me }
+    {
+        self.table
+            .shared
+            .fetch_xor::<Unpin>(seat, which as usize + FIRST_DONE, bit_of(number));
+    }
+
+    /// Ends the pin as [`Board::unpin`] does, but the pass has seen no more than before its pin.
+    pub fn forget(&self, seat: &mut PassSeat<A>, number: u32, which: u32)
+        requires own { seat.old.table_id ≡ self.now }
+        requires wide { self.now.words ≡ seat.old.me.0.rows * 16 + 240 }
+        requires pinned { IsPinned number which seat.old.me }
+        requires some { 0 < number }
+        requires few { number < 33 }
+        requires there { which < 34 }
+        ensures same { (seat.new.table_id ≡ seat.old.table_id) × (seat.new.id ≡ seat.old.id) }
+        ensures free { Forgets seat.old.me seat.new.me }
+    {
+        self.table
+            .shared
+            .fetch_xor::<Forget>(seat, which as usize + FIRST_DONE, bit_of(number));
+    }
+
+    /// Loads a word of a record or of a row: one load.
+    pub fn read(&self, seat: &mut PassSeat<A>, word: usize) -> u64
+        requires own { seat.old.table_id ≡ self.now }
+        requires there { word < self.now.words }
+        requires readable { IsReadable seat.old.me.0 word }
+        ensures same { (seat.new.table_id ≡ seat.old.table_id) × (seat.new.id ≡ seat.old.id) × (seat.new.me ≡ seat.old.me) }
+        ensures value { result ≡ slice_index seat.old.me.0.held word }
+    {
+        self.table.shared.load::<Read>(seat, word)
+    }
+}

@@ -1,0 +1,105 @@
+//! The steps of the holder of the turn between taking it and giving it back.
+ghost use Rattle.std.specs.Prelude.{◌≡◌, ◌≢◌, ◌+◌, ◌*◌, ◌<◌, ℕ, List, [], true, false, slice_set, Some, None};
+ghost use Rattle.mst_table.specs.Stored.{stored, desk_state};
+ghost use Rattle.mst_table.specs.Pins.{In};
+ghost use Rattle.mst_table.specs.Steps.{IsHolder, IsWritable, IsReady, Publishes, Transfers, Drained, Blocked, NotesCurrent, AsksCurrent};
+
+use crate::board::{Board, PassSeat};
+use crate::pins::{CURRENT, FIRST_DONE};
+use crate::plays::{Ask, AskCurrent, Naming, NoteCurrent, Publish, Transfer, Write};
+use mst_arena::Desk;
+use mst_key::Event;
+use std::alloc::Allocator;
+
+impl<A: Allocator + Copy> Board<A> {
+    /// Stores a word of a blank row or of a drained record: one store.
+    pub fn write(&self, seat: &mut PassSeat<A>, word: usize, value: u64)
+        requires own { seat.old.table_id ≡ self.now }
+        requires there { word < self.now.words }
+        requires holder { IsHolder seat.old.me }
+        requires writable { IsWritable stored seat.old.me.0 word }
+        ensures same { (seat.new.table_id ≡ seat.old.table_id) × (seat.new.id ≡ seat.old.id) }
+        ensures written { seat.new.me ≡ (record seat.old.me.0 { held = slice_set seat.old.me.0.held word value }, seat.old.me.1) }
+    {
+        self.table.shared.store::<Write>(seat, word, value);
+    }
+
+    /// Asks whether a record other than the current one is drained: one load of its word DONE.
+    pub fn ask(&self, seat: &mut PassSeat<A>, which: u32) -> bool
+        requires own { seat.old.table_id ≡ self.now }
+        requires wide { self.now.words ≡ seat.old.me.0.rows * 16 + 240 }
+        requires holder { IsHolder seat.old.me }
+        requires there { which < seat.old.me.0.passes + 2 }
+        requires few { which < 34 }
+        requires other { which ≢ seat.old.me.0.desk.current }
+        requires new { In which seat.old.me.0.blocked → ⊥ }
+        ensures same { (seat.new.table_id ≡ seat.old.table_id) × (seat.new.id ≡ seat.old.id) }
+        ensures drained { result ≡ true → Drained which seat.old.me seat.new.me }
+        ensures blocked { result ≡ false → Blocked which seat.old.me seat.new.me }
+    {
+        self.table
+            .shared
+            .load::<Ask>(seat, which as usize + FIRST_DONE)
+            == 0
+    }
+
+    /// Publishes a drained record: one swap of the word of the current record, with an empty mask. It answers the word that was there: the record that was current, and the mask of its pins.
+    pub fn publish<J: Naming>(
+        &self,
+        seat: &mut PassSeat<A>,
+        into: u32,
+        event: &Event,
+        desk: &Desk<A>,
+    ) -> u64
+        requires own { seat.old.table_id ≡ self.now }
+        requires wide { self.now.words ≡ seat.old.me.0.rows * 16 + 240 }
+        requires named { (J.event ≡ event.now) × (J.desk ≡ desk_state desk.now) }
+        requires ready { (used : List ℕ) × IsReady stored into event.now (desk_state desk.now) used seat.old.me.0 }
+        ensures same { (seat.new.table_id ≡ seat.old.table_id) × (seat.new.id ≡ seat.old.id) }
+        ensures published { Publishes event.now (desk_state desk.now) seat.old.me result seat.new.me }
+    {
+        self.table
+            .shared
+            .swap::<Publish<J>>(seat, CURRENT, u64::from(into) * 4_294_967_296)
+    }
+
+    /// Moves the mask that a publication brought back into the old record's word DONE: one xor.
+    pub fn transfer(&self, seat: &mut PassSeat<A>, old: u32, mask: u64)
+        requires own { seat.old.table_id ≡ self.now }
+        requires wide { self.now.words ≡ seat.old.me.0.rows * 16 + 240 }
+        requires there { old < 34 }
+        requires due { (seat.old.me.0.turn ≡ true) × (seat.old.me.0.due ≡ Some old) × (mask ≡ seat.old.me.0.mask) }
+        ensures same { (seat.new.table_id ≡ seat.old.table_id) × (seat.new.id ≡ seat.old.id) }
+        ensures settled { Transfers seat.old.me seat.new.me }
+    {
+        self.table
+            .shared
+            .fetch_xor::<Transfer>(seat, old as usize + FIRST_DONE, mask);
+    }
+
+    /// Notes the word of the current record: one load. It answers the word.
+    pub fn note_current(&self, seat: &mut PassSeat<A>) -> u64
+        requires own { seat.old.table_id ≡ self.now }
+        requires wide { self.now.words ≡ seat.old.me.0.rows * 16 + 240 }
+        requires holder { IsHolder seat.old.me }
+        ensures same { (seat.new.table_id ≡ seat.old.table_id) × (seat.new.id ≡ seat.old.id) }
+        ensures noted { NotesCurrent seat.old.me result seat.new.me }
+    {
+        self.table.shared.load::<NoteCurrent>(seat, CURRENT)
+    }
+
+    /// Loads the current record's own word DONE. Together with the mask that was noted it tells who pins the record.
+    pub fn ask_current(&self, seat: &mut PassSeat<A>, current: u32) -> u64
+        requires own { seat.old.table_id ≡ self.now }
+        requires wide { self.now.words ≡ seat.old.me.0.rows * 16 + 240 }
+        requires holder { IsHolder seat.old.me }
+        requires there { current < 34 }
+        requires current { current ≡ seat.old.me.0.desk.current }
+        ensures same { (seat.new.table_id ≡ seat.old.table_id) × (seat.new.id ≡ seat.old.id) }
+        ensures asked { AsksCurrent seat.old.me result seat.new.me }
+    {
+        self.table
+            .shared
+            .load::<AskCurrent>(seat, current as usize + FIRST_DONE)
+    }
+}

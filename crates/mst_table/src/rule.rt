@@ -1,0 +1,21 @@
+//! The rule of the table.
+use crate::view::{Shape, View};
+use atomic_table::TableRule;
+use mst_arena::Desk;
+use std::alloc::Allocator;
+use std::marker::PhantomData;
+
+/// It holds between any two steps, whichever seats make them.
+pub struct Law<A: Allocator> {
+    desk: PhantomData<A>,
+}
+
+impl<A: Allocator> TableRule<Option<Desk<A>>, View, Shape> for Law<A> {
+    ghost use Rattle.mst_table.specs.Rule.{Ruled};
+    ghost use Rattle.mst_table.specs.Stored.{stored};
+    ghost use Rattle.mst_table.specs.World.{dealer};
+
+    ghost holds = { λ shape s. Ruled stored shape.rows shape.passes s };
+
+    ghost first = { λ shape. dealer shape.rows shape.passes 1 };
+}
