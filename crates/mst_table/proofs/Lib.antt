@@ -1,5 +1,6 @@
 pub mod Histories
 pub mod Worlds
+pub mod Framed
 pub mod Bits
 pub mod Seats
 pub mod Turns
