@@ -27,6 +27,7 @@ use Rattle.mst_table.proofs.RowParts.{kept_upper, held_upper, agrees_same, stand
 use Rattle.mst_table.proofs.Steps.{stays, live_not_drained, unmoved, St}
 use Rattle.mst_table.proofs.Marks.{clear_same, counts_set, counts_same, counts_none, blamed_keep, blamed_more, blamed_few}
 use Rattle.mst_table.proofs.Paths.{path_same, path_publish, path_transfer}
+use Rattle.mst_table.proofs.Looked.{looked}
 use Rattle.mst_table.proofs.Stills.{still_new, still_set, still_same}
 
 module _ {S : Type 0} (T : Meaning S) (framed : IsFramed T) (R N : ℕ) where
@@ -111,33 +112,6 @@ module _ {S : Type 0} (T : Meaning S) (framed : IsFramed T) (R N : ℕ) where
         refl,
       )
 
-  -- ---- a step that changes no word, no pin and nothing that the turn ties
-  pub looked : (s : St T framed R N) (q : Ruled T R N s) (id i : ℕ) (cs : List (ℕ × S)) (v w : View) → get_elem? s.views id ≡ some v → w.rows ≡ v.rows → w.passes ≡ v.passes → w.number ≡ v.number → w.deals ≡ v.deals → w.pin ≡ v.pin → w.place ≡ v.place → w.stood ≡ v.stood
-      → w.held ≡ v.held → w.turn ≡ v.turn → (v.turn ≡ true → (w.seen ≡ q.log) × (w.desk ≡ v.desk)) → Begins w.seen q.log → w.mine ≡ v.mine → (w.turn ≡ true → Drains q.cur q.due q.beside (set s.views id w) w) → Counts N q.cur (set s.views id w)
-      → Ruled T R N (stepped s i (get_or s.words i 0) id cs w keeps)
-  looked s q id i cs v w at room passes number deals pin place rows held turn kept later mine drains counts = subst (λ (z : List ℕ). Ruled T R N record { words = z; homes = s.homes; views = set s.views id w }) (sym (set-get_or s.words i 0)) record {
-    log = q.log;
-    next = q.next;
-    cur = q.cur;
-    mask = q.mask;
-    due = q.due;
-    beside = q.beside;
-    desk = q.desk;
-    place = q.place;
-    used = q.used;
-    wide = q.wide;
-    turn = turn_same T R N _ s.homes q.desk q.due q.log s.views id v w q.turn at number turn kept;
-    pins = pins_same N q.cur q.mask q.due q.beside s.words s.words s.views id v w q.pins at refl (λ _ _. refl) number pin drains;
-    rows = rows_upper T framed R N q.cur s.words q.log q.desk q.place q.used s.views id v q.rows at s.words w (λ k _. refl) refl
-        (pin_stays T framed R N q.cur s.words q.log q.desk q.place q.used s.views id v q.rows at s.words w (λ k _. refl) pin place rows held)
-        (λ on. held_upper T framed R N s.words s.words v w (λ k _. refl) refl held (q.rows.held id v at (sym turn ∙ on)));
-    world = world_set q.next q.log s.views id v w q.world at number deals (later, ap (λ (z : ℕ). events_of z q.log) number ∙ (q.world.fits id v at).own ∙ sym mine);
-    clear = clear_same N q.beside q.beside s.words s.words s.views id v w q.clear at (λ r k _. refl) number pin;
-    counts = counts;
-    path = path_same N q.cur q.due s.views id v w q.path at number pin;
-    sizes = sizes_same R N s.views id v w q.sizes at room passes number;
-  }
-
   -- ---- K10
 
   -- a DONE that is not 0 has a bit, and a seat pins by it
@@ -179,15 +153,3 @@ module _ {S : Type 0} (T : Meaning S) (framed : IsFramed T) (R N : ℕ) where
             (counts_set N q.cur s.views id v w q.counts at refl (inl refl) (λ _. (t.1.number ∷ b.0, blamed_keep N v.number q.cur s.views id v w at refl (inl refl) (t.1.number ∷ b.0) w.blocked more))),
         (r, refl, (λ zero_there. absurd (some_there zero_there)), (λ _. (refl, (let a = left s q id v t.1 r b.0 at on more in let f = q.pins.few in omega arith), (let e = (q.world.placed id v at).passes_is in subst (λ (z : ℕ). length v.blocked + 1 < z) (sym e) (left s q id v t.1 r b.0 at on more))))),
       ))
-
-  -- ---- K11
-  pub looks_allows : (slots id : ℕ) (me : Me S View) → Allows (Ruled T R N) slots id me 1 (λ n. n) (looks (step slots 1 0 0 none) me)
-  looks_allows slots id me s q _ at _ = let v : View = me.0 in let w : View = record v { seen = q.log } in (
-    w,
-    keeps,
-    tt,
-    looked s q id 1 me.1 v w at refl refl refl refl refl refl refl refl refl (λ _. (refl, refl)) (Begins-itself q.log) refl
-        (drains_same N q.cur q.mask q.due q.beside s.words s.words s.views id v w q.pins at refl refl refl refl refl)
-        (counts_same N q.cur s.views id v w q.counts at refl (inl refl) refl refl),
-    (q.log, (q.world.fits id v at).seen, (q.world.fits id v at).own, refl),
-  )

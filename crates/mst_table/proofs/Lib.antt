@@ -1,5 +1,6 @@
 pub mod Histories
 pub mod Worlds
+pub mod Framed
 pub mod Bits
 pub mod Seats
 pub mod Turns
@@ -17,4 +18,3 @@ pub mod Looked
 pub mod Seated
 pub mod Hearing
 pub mod Opens
-pub mod Framed
