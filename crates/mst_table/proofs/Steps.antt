@@ -14,7 +14,7 @@ use Rattle.mst_table.specs.Pins.{In, Drains}
 use Rattle.mst_table.specs.Records.{Meaning, IsFramed, IsLive, IsBlank}
 use Rattle.mst_table.specs.Rule.{Turn, Ruled}
 use Rattle.mst_table.specs.Steps.{IsWritable, reads, writes}
-use Rattle.mst_table.proofs.Worlds.{in_place, world_set}
+use Rattle.mst_table.proofs.Worlds.{world_set}
 use Rattle.mst_table.proofs.Turns.{turn_same, only_one}
 use Rattle.mst_table.proofs.PinParts.{bits_stay, pins_same, drains_same}
 use Rattle.mst_table.proofs.RowParts.{Kept, kept_else, agrees_same, rows_to}
@@ -96,7 +96,7 @@ module _ {S : Type 0} (T : Meaning S) (framed : IsFramed T) (R N : ℕ) where
                     (λ not. stays s.words i x k not ∙ h.1 k l ∙ sym (stays v.held i x k not)),
               ))
               (λ j u other e own. absurd (other (only j u e own)));
-          world = world_set R N q.next q.log s.views id v w q.world at (in_place v) (q.world.fits id v at);
+          world = world_set R N q.next q.log s.views id v w q.world at (record { number = refl; deals = refl; rows = refl; passes = refl }) (record { seen = (q.world.fits id v at).seen; told = (q.world.fits id v at).told; own = (q.world.fits id v at).own });
           clear = clear_same N q.beside q.beside s.words ws s.views id v w q.clear at (λ r k l. bits_stay q.beside s.words ws r k (low (r + 2) (let few = q.pins.few in omega arith))) refl refl;
           counts = counts_same N q.cur s.views id v w q.counts at refl (inl refl) refl refl;
           path = path_same N q.cur q.due s.views id v w q.path at refl refl;

@@ -15,7 +15,7 @@ use Rattle.mst_table.specs.Pins.{In, done, pin_bit, Drains, Counts, Blamed}
 use Rattle.mst_table.specs.Records.{Meaning, IsFramed, IsLive, Agrees, Standing}
 use Rattle.mst_table.specs.Rule.{Turn, Ruled, Still}
 use Rattle.mst_table.specs.Steps.{IsFree, takes_turn, IsGiving, gives_turn, IsReady, publishes, transfers, asks, notes_current, asks_current}
-use Rattle.mst_table.proofs.Worlds.{in_place, world_set, world_add}
+use Rattle.mst_table.proofs.Worlds.{world_set, world_add}
 use Rattle.mst_key.proofs.HistoryLaws.{Begins-itself}
 use Rattle.mst_table.proofs.Seats.{same_view}
 use Rattle.mst_table.proofs.Turns.{turn_same, turn_held, turn_taken, turn_given, only_one}
@@ -57,7 +57,7 @@ module _ {S : Type 0} (T : Meaning S) (framed : IsFramed T) (R N : ℕ) where
         rows = rows_upper T framed R N q.cur s.words q.log q.desk q.place q.used s.views id v q.rows at ws w upper (length-set s.words 0 p)
             (λ r e. absurd (let f : None ≡ Some r = sym unpinned ∙ e in cc))
             (λ _. (sym (length-set s.words 0 p), upper));
-        world = world_set R N q.next q.log s.views id v w q.world at (in_place v) (record { seen = Begins-itself q.log; told = (q.world.fits id v at).told; own = (q.world.fits id v at).own });
+        world = world_set R N q.next q.log s.views id v w q.world at (record { number = refl; deals = refl; rows = refl; passes = refl }) (record { seen = Begins-itself q.log; told = (q.world.fits id v at).told; own = (q.world.fits id v at).own });
         clear = clear_same N q.beside q.beside s.words ws s.views id v w q.clear at (λ r k l. bits_stay q.beside s.words ws r k (stays s.words 0 p (r + 2) (λ f. omega arith))) refl refl;
         counts = counts_set N q.cur s.views id v w q.counts at refl (inl refl) (λ _. ([], tt));
         path = path_same N q.cur q.due s.views id v w q.path at refl refl;
@@ -134,7 +134,7 @@ module _ {S : Type 0} (T : Meaning S) (framed : IsFramed T) (R N : ℕ) where
             (λ r e. (inr (id, v, at, e), reads_to T framed R N s.words ws r (q.place r) (q.used r) v w (q.rows.reads id v at r e) (kept_upper s.words ws upper r (q.used r)) refl refl refl))
             (λ own. absurd (let c : false ≡ true = own in cc))
             (λ i u _ e own. held_upper T framed R N s.words ws u u upper (length-set s.words 0 0) refl (q.rows.held i u e own));
-        world = world_set R N q.next q.log s.views id v w q.world at (in_place v) (q.world.fits id v at);
+        world = world_set R N q.next q.log s.views id v w q.world at (record { number = refl; deals = refl; rows = refl; passes = refl }) (record { seen = (q.world.fits id v at).seen; told = (q.world.fits id v at).told; own = (q.world.fits id v at).own });
         clear = clear_same N q.beside q.beside s.words ws s.views id v w q.clear at (λ r k l. bits_stay q.beside s.words ws r k (stays s.words 0 0 (r + 2) (λ f. omega arith))) refl refl;
         counts = counts_set N q.cur s.views id v w q.counts at refl (inl refl) (λ own. absurd (let c : false ≡ true = own in cc));
         path = path_same N q.cur q.due s.views id v w q.path at refl refl;
