@@ -7,6 +7,7 @@ pub mod PinParts
 pub mod PinMoves
 pub mod RowParts
 pub mod Marks
+pub mod Paths
 pub mod Steps
 pub mod HoldSteps
 pub mod PinSteps
