@@ -8,6 +8,7 @@ pub mod PinMoves
 pub mod RowParts
 pub mod Marks
 pub mod Paths
+pub mod Stills
 pub mod Steps
 pub mod HoldSteps
 pub mod PinSteps
