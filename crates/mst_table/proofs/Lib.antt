@@ -1,5 +1,6 @@
 pub mod Histories
 pub mod Worlds
+pub mod Framed
 pub mod Bits
 pub mod Seats
 pub mod Turns
@@ -13,5 +14,7 @@ pub mod Steps
 pub mod HoldSteps
 pub mod PinSteps
 pub mod TurnSteps
+pub mod Looked
+pub mod Seated
 pub mod Hearing
 pub mod Opens

@@ -1,10 +1,10 @@
--- The part Still: with one pass the word of the current record is as its holder noted it, so its word DONE is the mask that was noted.
-use Rattle.std.proofs.Common.{◌≡◌, ℕ, ◌+◌, ◌*◌, ◌%◌, ◌<◌, ◌≤◌, ◌≢◌, true, false, List, Option, Some, None, set, sym, refl, ap, ◌∙◌, subst, arith, get_or}
+-- The part Still: in a store of one pass the word of the current record is as its holder noted it, and that record's word DONE is the mask that was noted.
+use Rattle.std.proofs.Common.{◌≡◌, ℕ, ◌+◌, ◌*◌, ◌%◌, ◌<◌, ◌≤◌, ◌≢◌, true, false, List, Option, Some, None, set, get_or, sym, ap, ◌∙◌, subst, arith}
 use Rattle.std.specs.Int.{bit_at}
 use mathlib.Core.Logic.{dite}
 use native.Mathlib.Decide.{ℕ_discrete}
 use Rattle.std.proofs.lemmas.Nat.Bits.{bit_at-lt, same_from_bits}
-use Rattle.std.proofs.lemmas.Option.{same_Some, none-some}
+use Rattle.std.proofs.lemmas.Option.{none-some}
 use Rattle.atomic_table.specs.Table.{State}
 use Rattle.mst_table.specs.declared.view.View.{View}
 use Rattle.mst_table.specs.declared.view.DeskState.{DeskState}
@@ -14,44 +14,28 @@ use Rattle.mst_table.specs.Records.{Meaning}
 use Rattle.mst_table.specs.Rule.{Still, Ruled}
 use Rattle.mst_table.proofs.Seats.{each_seat, same_view}
 
--- ---- one view changes
+-- what is noted at a seat is the word
+abbrev pub Notes : ℕ → ℕ → View → Type 0
+Notes n word v = v.turn ≡ true → n ≡ 1 → (w : ℕ) → v.noted ≡ Some w → w ≡ word
 
--- what the view has noted is the new word, and no other seat has the turn in a store of one pass
-pub still_new : (n word : ℕ) (vs : List View) (id : ℕ) (w : View) → (w.turn ≡ true → n ≡ 1 → (x : ℕ) → w.noted ≡ Some x → x ≡ word) → ((i : ℕ) (u : View) → i ≢ id → SeatAt vs i u → u.turn ≡ true → n ≡ 1 → ⊥) → Still n word (set vs id w)
-still_new n word vs id w mine alone = record {
-  noted = each_seat (λ i u. u.turn ≡ true → n ≡ 1 → (x : ℕ) → u.noted ≡ Some x → x ≡ word) vs id w mine (λ i u other e on one. absurd (alone i u other e on one));
-}
+module _ (n word word' : ℕ) (vs : List View) (id : ℕ) (w : View) where
+  -- the word changes, and in a store of one pass no other seat has the turn
+  pub still_new : Notes n word' w → ((i : ℕ) (u : View) → i ≢ id → SeatAt vs i u → u.turn ≡ true → n ≡ 1 → ⊥) → Still n word' (set vs id w)
+  still_new mine others = record { noted = each_seat (λ i u. Notes n word' u) vs id w mine (λ i u away e on one k is. absurd (others i u away e on one)) }
 
--- the word stays, and what the view has noted is the word
-pub still_set : (n word word' : ℕ) (vs : List View) (id : ℕ) (w : View) → Still n word vs → word' ≡ word → (w.turn ≡ true → n ≡ 1 → (x : ℕ) → w.noted ≡ Some x → x ≡ word) → Still n word' (set vs id w)
-still_set n word word' vs id w q stays mine = record {
-  noted = each_seat (λ i u. u.turn ≡ true → n ≡ 1 → (x : ℕ) → u.noted ≡ Some x → x ≡ word') vs id w (λ on one x e. mine on one x e ∙ sym stays) (λ i u _ e on one x f. q.noted i u e on one x f ∙ sym stays);
-}
+  -- the word stays, and one view changes
+  pub still_set : Still n word vs → word' ≡ word → Notes n word' w → Still n word' (set vs id w)
+  still_set q same mine = record { noted = each_seat (λ i u. Notes n word' u) vs id w mine (λ i u _ e on one k is. q.noted i u e on one k is ∙ sym same) }
 
-pub still_same : (n word word' : ℕ) (vs : List View) (id : ℕ) (v w : View) → Still n word vs → SeatAt vs id v → word' ≡ word → w.turn ≡ v.turn → w.noted ≡ v.noted → Still n word' (set vs id w)
-still_same n word word' vs id v w q at stays turn noted = still_set n word word' vs id w q stays (λ on one x e. q.noted id v at (sym turn ∙ on) one x (sym noted ∙ e))
+  -- the word stays, and the view knows of it what it knew
+  pub still_same : (v : View) → Still n word vs → SeatAt vs id v → word' ≡ word → w.turn ≡ v.turn → w.noted ≡ v.noted → Still n word' (set vs id w)
+  still_same v q at same turn noted = still_set q same (λ on one k is. q.noted id v at (sym turn ∙ on) one k (sym noted ∙ is) ∙ sym same)
 
--- the view has noted nothing
-pub still_none : (n word word' : ℕ) (vs : List View) (id : ℕ) (w : View) → Still n word vs → word' ≡ word → w.noted ≡ None → Still n word' (set vs id w)
-still_none n word word' vs id w q stays noted = still_set n word word' vs id w q stays (λ on one x e. absurd (none-some x (sym noted ∙ e)))
-
--- the view does not have the turn
-pub still_off : (n word word' : ℕ) (vs : List View) (id : ℕ) (w : View) → Still n word vs → word' ≡ word → w.turn ≡ false → Still n word' (set vs id w)
-still_off n word word' vs id w q stays off = still_set n word word' vs id w q stays (λ on one x e. absurd (let c : true ≡ false = sym on ∙ off in cc))
-
--- the word is noted
-pub still_note : (n word word' : ℕ) (vs : List View) (id : ℕ) (w : View) → Still n word vs → word' ≡ word → w.noted ≡ Some word → Still n word' (set vs id w)
-still_note n word word' vs id w q stays noted = still_set n word word' vs id w q stays (λ on one x e. same_Some x word (sym e ∙ noted))
-
--- the word is another, and the holder of the turn has noted nothing
-pub still_publish : (n word : ℕ) (vs : List View) (id : ℕ) (w : View) → w.noted ≡ None → ((i : ℕ) (u : View) → SeatAt vs i u → u.turn ≡ true → i ≡ id) → Still n word (set vs id w)
-still_publish n word vs id w noted only = still_new n word vs id w (λ on one x e. absurd (none-some x (sym noted ∙ e))) (λ i u other e on one. other (only i u e on))
-
--- the word is another by a pass that does not have the turn: then no pass has it, if there is one
-pub still_pin : (n word : ℕ) (vs : List View) (id : ℕ) (v w : View) → w.turn ≡ false → 0 < v.number → v.number ≤ n → ((i : ℕ) (u : View) → i ≢ id → SeatAt vs i u → u.number ≢ v.number)
-    → ((i : ℕ) (u : View) → SeatAt vs i u → u.turn ≡ true → (0 < u.number) × (u.number ≤ n)) → Still n word (set vs id w)
-still_pin n word vs id v w off pos small apart holders = still_new n word vs id w (λ on one x e. absurd (let c : true ≡ false = sym on ∙ off in cc))
-    (λ i u other e on one. apart i u other e (let h = holders i u e on in let a = h.0 in let b = h.1 in omega arith))
+  -- the word changes by a pass that does not have the turn: then no pass has it, if there is one
+  pub still_pin : (v : View) → w.turn ≡ false → 0 < v.number → v.number ≤ n → ((i : ℕ) (u : View) → i ≢ id → SeatAt vs i u → u.number ≢ v.number)
+      → ((i : ℕ) (u : View) → SeatAt vs i u → u.turn ≡ true → (0 < u.number) × (u.number ≤ n)) → Still n word' (set vs id w)
+  still_pin v off pos small apart holders = still_new (λ on one x e. absurd (let c : true ≡ false = sym on ∙ off in cc))
+      (λ i u other e on one. apart i u other e (let h = holders i u e on in let a = h.0 in let b = h.1 in omega arith))
 
 -- ---- a pass that pins nothing, and is the only one
 
