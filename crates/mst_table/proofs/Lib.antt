@@ -8,9 +8,13 @@ pub mod PinParts
 pub mod PinMoves
 pub mod RowParts
 pub mod Marks
+pub mod Paths
+pub mod Stills
 pub mod Steps
 pub mod HoldSteps
 pub mod PinSteps
 pub mod TurnSteps
+pub mod Looked
+pub mod Seated
 pub mod Hearing
 pub mod Opens
