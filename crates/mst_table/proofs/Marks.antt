@@ -1,53 +1,53 @@
--- The parts Clear, Counts and Path.
-use Rattle.std.proofs.Common.{◌≡◌, ℕ, suc, ◌||◌, ◌+◌, ◌<◌, ◌≤◌, ◌≢◌, ◌⊎◌, inl, inr, Bool, true, false, cond, eqb, eq-eqb, ne_eqb, List, [], ◌∷◌, length, set, sym, refl, ap, ◌∙◌, subst, ⊎_elim, arith}
+-- The parts Clear and Counts.
+use Rattle.std.proofs.Common.{◌≡◌, ℕ, suc, ◌||◌, ◌+◌, ◌<◌, ◌≤◌, ◌≢◌, ◌⊎◌, inl, inr, Bool, true, false, eqb, ne_eqb, List, [], ◌∷◌, Option, Some, None, length, set, sym, refl, ap, ◌∙◌, subst, ⊎_elim, arith}
 use Rattle.std.specs.List.{list_any, IsDistinct, AllByRecursion}
 use Rattle.std.proofs.lemmas.Map.Steps.{length-le_from_distinct_below}
+use Rattle.std.proofs.lemmas.Option.{same_Some, none-some}
 use mathlib.Core.Logic.{dite}
-use mathlib.Core.Option.{some}
 use native.Mathlib.Decide.{ℕ_discrete}
-use lib.ListN.{get_elem?}
 use Rattle.atomic_table.proofs.Lists.{set_here, set_else}
 use Rattle.mst_table.specs.declared.view.View.{View}
-use Rattle.mst_table.specs.Rule.{In, Sizes, pin_bit, Clear, Blamed, Counts, Pinning, Unpinning, Publishing, Transferring, with_pin, core_after, Path}
+use Rattle.mst_table.specs.World.{SeatAt}
+use Rattle.mst_table.specs.Pins.{In, pin_bit, Clear, Blamed, Counts}
 use Rattle.mst_table.proofs.Seats.{each_seat, same_view}
 use Rattle.mst_table.proofs.Worlds.{within}
 
 -- where a seat of a number and a pin stood, one still stands, if the changed view keeps both
-seat_stays : (vs : List View) (id : ℕ) (v w : View) → get_elem? vs id ≡ some v → w.number ≡ v.number → w.pin ≡ v.pin → (n p : ℕ) → ((i : ℕ) × (u : View) × (get_elem? vs i ≡ some u) × (u.number ≡ n) × (u.pin ≡ p))
-    → (i : ℕ) × (u : View) × (get_elem? (set vs id w) i ≡ some u) × (u.number ≡ n) × (u.pin ≡ p)
+seat_stays : (vs : List View) (id : ℕ) (v w : View) → SeatAt vs id v → w.number ≡ v.number → w.pin ≡ v.pin → (n : ℕ) (p : Option ℕ) → ((i : ℕ) × (u : View) × (SeatAt vs i u) × (u.number ≡ n) × (u.pin ≡ p))
+    → (i : ℕ) × (u : View) × (SeatAt (set vs id w) i u) × (u.number ≡ n) × (u.pin ≡ p)
 seat_stays vs id v w at number pin n p (i, u, e, is, pins) = dite (ℕ_discrete i id)
-    (λ same. let v_is = same_view vs id v u at (subst (λ (z : ℕ). get_elem? vs z ≡ some u) same e) in (id, w, set_here vs id w (within vs id v at), number ∙ ap (λ (z : View). z.number) v_is ∙ is, pin ∙ ap (λ (z : View). z.pin) v_is ∙ pins))
+    (λ same. let v_is = same_view vs id v u at (subst (λ (z : ℕ). SeatAt vs z u) same e) in (id, w, set_here vs id w (within vs id v at), number ∙ ap (λ (z : View). z.number) v_is ∙ is, pin ∙ ap (λ (z : View). z.pin) v_is ∙ pins))
     (λ not. (i, u, set_else vs id i w not ∙ e, is, pins))
 
 -- the same for a seat that is not the one that changes
-seat_else : (vs : List View) (id : ℕ) (v w : View) → get_elem? vs id ≡ some v → (n p : ℕ) → ((v.number ≡ n) → (v.pin ≡ p) → ⊥) → ((i : ℕ) × (u : View) × (get_elem? vs i ≡ some u) × (u.number ≡ n) × (u.pin ≡ p))
-    → (i : ℕ) × (u : View) × (get_elem? (set vs id w) i ≡ some u) × (u.number ≡ n) × (u.pin ≡ p)
+seat_else : (vs : List View) (id : ℕ) (v w : View) → SeatAt vs id v → (n : ℕ) (p : Option ℕ) → ((v.number ≡ n) → (v.pin ≡ p) → ⊥) → ((i : ℕ) × (u : View) × (SeatAt vs i u) × (u.number ≡ n) × (u.pin ≡ p))
+    → (i : ℕ) × (u : View) × (SeatAt (set vs id w) i u) × (u.number ≡ n) × (u.pin ≡ p)
 seat_else vs id v w at n p other (i, u, e, is, pins) = dite (ℕ_discrete i id)
-    (λ same. let v_is = same_view vs id v u at (subst (λ (z : ℕ). get_elem? vs z ≡ some u) same e) in absurd (other (ap (λ (z : View). z.number) v_is ∙ is) (ap (λ (z : View). z.pin) v_is ∙ pins)))
+    (λ same. let v_is = same_view vs id v u at (subst (λ (z : ℕ). SeatAt vs z u) same e) in absurd (other (ap (λ (z : View). z.number) v_is ∙ is) (ap (λ (z : View). z.pin) v_is ∙ pins)))
     (λ not. (i, u, set_else vs id i w not ∙ e, is, pins))
 
 -- ---- Clear
 
-module _ (beside beside' : ℕ → ℕ) (ws ws' : List ℕ) (vs : List View) (id : ℕ) (v w : View) (q : Clear beside ws vs) (at : get_elem? vs id ≡ some v) where
-  pub clear_same : ((r k : ℕ) → r < N + 2 → pin_bit beside' ws' r k ≡ pin_bit beside ws r k) → w.number ≡ v.number → w.pin ≡ v.pin → Clear beside' ws' (set vs id w)
-  clear_same bits number pin = record { seat_of = λ r k l e. seat_stays vs id v w at number pin (k + 1) (r + 1) (q.seat_of r k l (sym (bits r k l) ∙ e)) }
+module _ (N : ℕ) (beside beside' : ℕ → ℕ) (ws ws' : List ℕ) (vs : List View) (id : ℕ) (v w : View) (q : Clear N beside ws vs) (at : SeatAt vs id v) where
+  pub clear_same : ((r k : ℕ) → r < N + 2 → pin_bit beside' ws' r k ≡ pin_bit beside ws r k) → w.number ≡ v.number → w.pin ≡ v.pin → Clear N beside' ws' (set vs id w)
+  clear_same bits number pin = record { seat_of = λ r k l e. seat_stays vs id v w at number pin (k + 1) (Some r) (q.seat_of r k l (sym (bits r k l) ∙ e)) }
 
   -- one bit is set, or cleared, and its seat pins, or not
   pub clear_set : (o b : ℕ) → ((r k : ℕ) → r < N + 2 → k ≢ b → pin_bit beside' ws' r k ≡ pin_bit beside ws r k) → ((r k : ℕ) → r < N + 2 → r ≢ o → pin_bit beside' ws' r k ≡ pin_bit beside ws r k)
-      → v.number ≡ b + 1 → w.number ≡ v.number → ((r : ℕ) → v.pin ≡ Some r → r ≡ o) → (w.pin ≡ Some o) ⊎ (pin_bit beside' ws' o b ≡ 0) → Clear beside' ws' (set vs id w)
+      → v.number ≡ b + 1 → w.number ≡ v.number → ((r : ℕ) → v.pin ≡ Some r → r ≡ o) → (w.pin ≡ Some o) ⊎ (pin_bit beside' ws' o b ≡ 0) → Clear N beside' ws' (set vs id w)
   clear_set o b others elsewhere is number pin turned = record {
     seat_of = λ r k l e. dite (ℕ_discrete k b)
         (λ same. dite (ℕ_discrete r o)
         (λ here. ⊎_elim
-        (λ (now : w.pin ≡ Some o). (id, w, set_here vs id w (within vs id v at), number ∙ is ∙ ap (λ (z : ℕ). z + 1) (sym same), now ∙ ap (λ (z : ℕ). z + 1) (sym here)))
+        (λ (now : w.pin ≡ Some o). (id, w, set_here vs id w (within vs id v at), number ∙ is ∙ ap (λ (z : ℕ). z + 1) (sym same), now ∙ ap (λ (z : ℕ). Some z) (sym here)))
         (λ (zero_there : pin_bit beside' ws' o b ≡ 0). absurd (let c : 1 ≡ 0 = sym e ∙ ap (λ (z : ℕ). pin_bit beside' ws' z k) here ∙ ap (pin_bit beside' ws' o) same ∙ zero_there in omega arith)) turned)
-        (λ not. seat_else vs id v w at (k + 1) (r + 1) (λ _ f. not (pin r f)) (q.seat_of r k l (sym (elsewhere r k l not) ∙ e))))
-        (λ not. seat_else vs id v w at (k + 1) (r + 1) (λ f _. not (let g : b + 1 ≡ k + 1 = sym is ∙ f in omega arith)) (q.seat_of r k l (sym (others r k l not) ∙ e)));
+        (λ not. seat_else vs id v w at (k + 1) (Some r) (λ _ f. not (pin r f)) (q.seat_of r k l (sym (elsewhere r k l not) ∙ e))))
+        (λ not. seat_else vs id v w at (k + 1) (Some r) (λ f _. not (let g : b + 1 ≡ k + 1 = sym is ∙ f in omega arith)) (q.seat_of r k l (sym (others r k l not) ∙ e)));
   }
 
 -- ---- Counts
 
-pub blamed_keep : (n self cur : ℕ) (vs : List View) (id : ℕ) (v w : View) → get_elem? vs id ≡ some v → w.number ≡ v.number → (w.pin ≡ v.pin) ⊎ ((w.pin ≡ None) ⊎ (w.pin ≡ Some cur)) → (ps rs : List ℕ) → Blamed n self cur vs ps rs → Blamed n self cur (set vs id w) ps rs
+pub blamed_keep : (n self cur : ℕ) (vs : List View) (id : ℕ) (v w : View) → SeatAt vs id v → w.number ≡ v.number → (w.pin ≡ v.pin) ⊎ ((w.pin ≡ None) ⊎ (w.pin ≡ Some cur)) → (ps rs : List ℕ) → Blamed n self cur vs ps rs → Blamed n self cur (set vs id w) ps rs
 blamed_keep n self cur vs id v w at number pin [] [] h = tt
 blamed_keep n self cur vs id v w at number pin [] (r ∷ rs) h = absurd h
 blamed_keep n self cur vs id v w at number pin (p ∷ ps) [] h = absurd h
@@ -57,12 +57,12 @@ blamed_keep n self cur vs id v w at number pin (p ∷ ps) (r ∷ rs) h = (
   h.2,
   h.3,
   each_seat (λ i u. u.number ≡ p → (u.pin ≡ Some r) ⊎ ((u.pin ≡ None) ⊎ (u.pin ≡ Some cur))) vs id w
-      (λ is. ⊎_elim (λ (same : w.pin ≡ v.pin). subst (λ (z : ℕ). (z ≡ r + 1) ⊎ ((z ≡ 0) ⊎ (z ≡ cur + 1))) (sym same) (h.4 id v at (sym number ∙ is))) (λ (t : (w.pin ≡ None) ⊎ (w.pin ≡ Some cur)). inr t) pin)
+      (λ is. ⊎_elim (λ (same : w.pin ≡ v.pin). subst (λ (z : Option ℕ). (z ≡ Some r) ⊎ ((z ≡ None) ⊎ (z ≡ Some cur))) (sym same) (h.4 id v at (sym number ∙ is))) (λ (t : (w.pin ≡ None) ⊎ (w.pin ≡ Some cur)). inr t) pin)
       (λ i u _ e. h.4 i u e),
   blamed_keep n self cur vs id v w at number pin ps rs h.5,
 )
 
-pub counts_set : (n cur : ℕ) (vs : List View) (id : ℕ) (v w : View) → Counts n cur vs → get_elem? vs id ≡ some v → w.number ≡ v.number → (w.pin ≡ v.pin) ⊎ ((w.pin ≡ None) ⊎ (w.pin ≡ Some cur))
+pub counts_set : (n cur : ℕ) (vs : List View) (id : ℕ) (v w : View) → Counts n cur vs → SeatAt vs id v → w.number ≡ v.number → (w.pin ≡ v.pin) ⊎ ((w.pin ≡ None) ⊎ (w.pin ≡ Some cur))
     → (w.turn ≡ true → (by : List ℕ) × Blamed n w.number cur (set vs id w) by w.blocked) → Counts n cur (set vs id w)
 counts_set n cur vs id v w q at number pin mine = record {
   blamed = each_seat (λ i u. u.turn ≡ true → (by : List ℕ) × Blamed n u.number cur (set vs id w) by u.blocked) vs id w mine
@@ -70,12 +70,12 @@ counts_set n cur vs id v w q at number pin mine = record {
 }
 
 -- the view keeps what it knows
-pub counts_same : (n cur : ℕ) (vs : List View) (id : ℕ) (v w : View) → Counts n cur vs → get_elem? vs id ≡ some v → w.number ≡ v.number → (w.pin ≡ v.pin) ⊎ ((w.pin ≡ None) ⊎ (w.pin ≡ Some cur)) → w.turn ≡ v.turn → w.blocked ≡ v.blocked → Counts n cur (set vs id w)
+pub counts_same : (n cur : ℕ) (vs : List View) (id : ℕ) (v w : View) → Counts n cur vs → SeatAt vs id v → w.number ≡ v.number → (w.pin ≡ v.pin) ⊎ ((w.pin ≡ None) ⊎ (w.pin ≡ Some cur)) → w.turn ≡ v.turn → w.blocked ≡ v.blocked → Counts n cur (set vs id w)
 counts_same n cur vs id v w q at number pin turn blocked = counts_set n cur vs id v w q at number pin
     (λ on. let b = q.blamed id v at (sym turn ∙ on) in (b.0, blamed_keep n w.number cur vs id v w at number pin b.0 w.blocked (subst (λ (z : ℕ). Blamed n z cur vs b.0 w.blocked) (sym number) (subst (Blamed n v.number cur vs b.0) (sym blocked) b.1))))
 
 -- only the holder has such knowledge, and it has none now
-pub counts_none : (n cur cur' : ℕ) (vs : List View) (id : ℕ) (w : View) → w.blocked ≡ [] → ((i : ℕ) (u : View) → get_elem? vs i ≡ some u → u.turn ≡ true → i ≡ id) → Counts n cur' (set vs id w)
+pub counts_none : (n cur cur' : ℕ) (vs : List View) (id : ℕ) (w : View) → w.blocked ≡ [] → ((i : ℕ) (u : View) → SeatAt vs i u → u.turn ≡ true → i ≡ id) → Counts n cur' (set vs id w)
 counts_none n cur cur' vs id w nothing only = record {
   blamed = each_seat (λ i u. u.turn ≡ true → (by : List ℕ) × Blamed n u.number cur' (set vs id w) by u.blocked) vs id w
       (λ _. ([], subst (Blamed n w.number cur' (set vs id w) []) (sym nothing) tt))
@@ -83,23 +83,23 @@ counts_none n cur cur' vs id w nothing only = record {
 }
 
 -- a pass that pins another record than any that was found pinned is not blamed yet
-not_blamed : (n self cur : ℕ) (vs : List View) (i : ℕ) (u : View) (r : ℕ) → get_elem? vs i ≡ some u → u.pin ≡ Some r → r ≢ cur → (ps rs : List ℕ) → Blamed n self cur vs ps rs → (In r rs → ⊥) → In u.number ps → ⊥
+not_blamed : (n self cur : ℕ) (vs : List View) (i : ℕ) (u : View) (r : ℕ) → SeatAt vs i u → u.pin ≡ Some r → r ≢ cur → (ps rs : List ℕ) → Blamed n self cur vs ps rs → (In r rs → ⊥) → In u.number ps → ⊥
 not_blamed n self cur vs i u r e pins other [] rs h new within = within
 not_blamed n self cur vs i u r e pins other (p ∷ ps) [] h new within = h
 not_blamed n self cur vs i u r e pins other (p ∷ ps) (x ∷ rs) h new within = ⊎_elim
-    (λ (is : u.number ≡ p). ⊎_elim (λ (t : u.pin ≡ Some x). new (inl (let f : r + 1 ≡ x + 1 = sym pins ∙ t in let g : r ≡ x = omega arith in g)))
-    (λ (t : (u.pin ≡ None) ⊎ (u.pin ≡ Some cur)). ⊎_elim (λ (z : u.pin ≡ None). absurd (let f : r + 1 ≡ 0 = sym pins ∙ z in omega arith)) (λ (z : u.pin ≡ Some cur). other (let f : r + 1 ≡ cur + 1 = sym pins ∙ z in omega arith)) t) (h.4 i u e is))
+    (λ (is : u.number ≡ p). ⊎_elim (λ (t : u.pin ≡ Some x). new (inl (same_Some r x (sym pins ∙ t))))
+    (λ (t : (u.pin ≡ None) ⊎ (u.pin ≡ Some cur)). ⊎_elim (λ (z : u.pin ≡ None). none-some r (sym z ∙ pins)) (λ (z : u.pin ≡ Some cur). other (same_Some r cur (sym pins ∙ z))) t) (h.4 i u e is))
     (λ (t : In u.number ps). not_blamed n self cur vs i u r e pins other ps rs h.5 (λ b. new (inr b)) t) within
 
 -- one record more is found pinned
-pub blamed_more : (n self cur : ℕ) (vs : List View) (i : ℕ) (u : View) (r : ℕ) → get_elem? vs i ≡ some u → u.pin ≡ Some r → r ≢ cur → 0 < u.number → u.number < n + 1 → u.number ≢ self → ((j : ℕ) (x : View) → get_elem? vs j ≡ some x → x.number ≡ u.number → j ≡ i)
+pub blamed_more : (n self cur : ℕ) (vs : List View) (i : ℕ) (u : View) (r : ℕ) → SeatAt vs i u → u.pin ≡ Some r → r ≢ cur → 0 < u.number → u.number < n + 1 → u.number ≢ self → ((j : ℕ) (x : View) → SeatAt vs j x → x.number ≡ u.number → j ≡ i)
     → (ps rs : List ℕ) → Blamed n self cur vs ps rs → (In r rs → ⊥) → Blamed n self cur vs (u.number ∷ ps) (r ∷ rs)
 blamed_more n self cur vs i u r e pins other some_pass small not_self apart ps rs h new = (
   some_pass,
   small,
   not_self,
   not_blamed n self cur vs i u r e pins other ps rs h new,
-  (λ j x f is. inl (ap (λ (z : View). z.pin) (same_view vs i x u (subst (λ (z : ℕ). get_elem? vs z ≡ some x) (apart j x f is) f) e) ∙ pins)),
+  (λ j x f is. inl (ap (λ (z : View). z.pin) (same_view vs i x u (subst (λ (z : ℕ). SeatAt vs z x) (apart j x f is) f) e) ∙ pins)),
   h,
 )
 
@@ -131,92 +131,3 @@ blamed_few n self cur vs ps rs some_pass small h = let t = blamed_distinct n sel
     (none_of 0 (self ∷ ps) (λ within. ⊎_elim (λ (is : 0 ≡ self). absurd (let l = some_pass in omega arith)) (λ (b : In 0 ps). let l = (t.1 0 b).0 in omega arith) within), (none_of self ps (λ within. (t.1 self within).2 refl), t.0))
     (λ p e. ⊎_elim (λ (is : p ≡ 0). omega arith) (λ (b : (p ≡ self) ⊎ In p ps). ⊎_elim (λ (is : p ≡ self). omega arith) (λ (b : In p ps). (t.1 p b).1) b) (in_any p (0 ∷ self ∷ ps) e)) in
     let l : suc (suc (length ps)) ≤ n + 1 = m in let same = t.2 in omega arith
-
--- ---- Sizes
-
-pub sizes_same : (R N : ℕ) (vs : List View) (id : ℕ) (v w : View) → Sizes R N vs → get_elem? vs id ≡ some v → w.rows ≡ v.rows → w.passes ≡ v.passes → w.number ≡ v.number → Sizes R N (set vs id w)
-sizes_same R N vs id v w q at room passes number = record {
-  few = q.few;
-  same = each_seat (λ i u. (u.rows ≡ R) × (u.passes ≡ N) × (u.number < N + 1)) vs id w (let h = q.same id v at in (room ∙ h.0, passes ∙ h.1, subst (λ (z : ℕ). z < N + 1) (sym number) h.2)) (λ i u _ e. q.same i u e);
-}
-
--- ---- Path
-
-module _ (cur due : ℕ) (vs : List View) (id : ℕ) (v w : View) (q : Path cur due vs) (at : get_elem? vs id ≡ some v) where
-  number_stays : w.number ≡ v.number → (p : ℕ) → ((i : ℕ) × (u : View) × (get_elem? vs i ≡ some u) × (u.number ≡ p)) → (i : ℕ) × (u : View) × (get_elem? (set vs id w) i ≡ some u) × (u.number ≡ p)
-  number_stays number p (i, u, e, is) = dite (ℕ_discrete i id)
-      (λ same. (id, w, set_here vs id w (within vs id v at), number ∙ ap (λ (z : View). z.number) (same_view vs id v u at (subst (λ (z : ℕ). get_elem? vs z ≡ some u) same e)) ∙ is))
-      (λ not. (i, u, set_else vs id i w not ∙ e, is))
-
-  -- no pin changes; the core takes no step
-  pub path_same : w.number ≡ v.number → w.pin ≡ v.pin → Path cur due (set vs id w)
-  path_same number pin = record {
-    core = q.core;
-    steps = q.steps;
-    runs = q.runs;
-    cur_is = q.cur_is;
-    due_is = q.due_is;
-    pins_are = each_seat (λ i u. q.core.pins u.number ≡ u.pin) vs id w (ap q.core.pins number ∙ q.pins_are id v at ∙ sym pin) (λ i u _ e. q.pins_are i u e);
-    seats_are = λ p r e. number_stays number p (q.seats_are p r e);
-  }
-
-  there : (f : ℕ → ℕ) (p n x : ℕ) → x ≡ p → with_pin f p n x ≡ n
-  there f p n x is = ap (λ (b : Bool). cond b n (f x)) (eq-eqb x p is)
-
-  else_ : (f : ℕ → ℕ) (p n x : ℕ) → x ≢ p → with_pin f p n x ≡ f x
-  else_ f p n x not = ap (λ (b : Bool). cond b n (f x)) (ne_eqb x p not)
-
-  seats_with : (n : ℕ) → w.number ≡ v.number → (p r : ℕ) → with_pin q.core.pins v.number n p ≡ r + 1 → (i : ℕ) × (u : View) × (get_elem? (set vs id w) i ≡ some u) × (u.number ≡ p)
-  seats_with n number p r e = dite (ℕ_discrete p v.number)
-      (λ is. (id, w, set_here vs id w (within vs id v at), number ∙ sym is))
-      (λ not. number_stays number p (q.seats_are p r (sym (else_ q.core.pins v.number n p not) ∙ e)))
-
-  pub path_pin : w.number ≡ v.number → v.pin ≡ None → w.pin ≡ Some cur → ((i : ℕ) (u : View) → i ≢ id → get_elem? vs i ≡ some u → u.number ≢ v.number) → Path cur due (set vs id w)
-  path_pin number free pins apart = record {
-    core = core_after q.core (Pinning v.number);
-    steps = Pinning v.number ∷ q.steps;
-    runs = (q.core, q.runs, q.pins_are id v at ∙ free, refl);
-    cur_is = q.cur_is;
-    due_is = q.due_is;
-    pins_are = each_seat (λ i u. with_pin q.core.pins v.number (q.core.cur + 1) u.number ≡ u.pin) vs id w
-        (there q.core.pins v.number (q.core.cur + 1) w.number number ∙ ap (λ (z : ℕ). z + 1) q.cur_is ∙ sym pins)
-        (λ i u other e. else_ q.core.pins v.number (q.core.cur + 1) u.number (apart i u other e) ∙ q.pins_are i u e);
-    seats_are = seats_with (q.core.cur + 1) number;
-  }
-
-  pub path_unpin : (r : ℕ) → w.number ≡ v.number → v.pin ≡ Some r → w.pin ≡ None → ((i : ℕ) (u : View) → i ≢ id → get_elem? vs i ≡ some u → u.number ≢ v.number) → Path cur due (set vs id w)
-  path_unpin r number pinned free apart = record {
-    core = core_after q.core (Unpinning v.number);
-    steps = Unpinning v.number ∷ q.steps;
-    runs = (q.core, q.runs, (r, q.pins_are id v at ∙ pinned), refl);
-    cur_is = q.cur_is;
-    due_is = q.due_is;
-    pins_are = each_seat (λ i u. with_pin q.core.pins v.number 0 u.number ≡ u.pin) vs id w
-        (there q.core.pins v.number 0 w.number number ∙ sym free)
-        (λ i u other e. else_ q.core.pins v.number 0 u.number (apart i u other e) ∙ q.pins_are i u e);
-    seats_are = seats_with 0 number;
-  }
-
-  pub path_publish : (r : ℕ) → w.number ≡ v.number → w.pin ≡ v.pin → due ≡ None → r < N + 2 → r ≢ cur → ((i : ℕ) (u : View) → get_elem? vs i ≡ some u → u.pin ≢ Some r) → Path r (cur + 1) (set vs id w)
-  unfolding path_same
-  path_publish r number pin settled inside other free = let p = path_same number pin in record {
-    core = core_after q.core (Publishing r);
-    steps = Publishing r ∷ q.steps;
-    runs = (q.core, q.runs, (q.due_is ∙ settled, inside, (λ e. other (e ∙ q.cur_is)), (λ x e. let s = q.seats_are x r e in free s.0 s.1 s.2 (sym (q.pins_are s.0 s.1 s.2) ∙ ap q.core.pins s.3 ∙ e))), refl);
-    cur_is = refl;
-    due_is = ap (λ (z : ℕ). z + 1) q.cur_is;
-    pins_are = p.pins_are;
-    seats_are = p.seats_are;
-  }
-
-  pub path_transfer : (o : ℕ) → w.number ≡ v.number → w.pin ≡ v.pin → due ≡ Some o → Path cur 0 (set vs id w)
-  unfolding path_same
-  path_transfer o number pin is = let p = path_same number pin in record {
-    core = core_after q.core Transferring;
-    steps = Transferring ∷ q.steps;
-    runs = (q.core, q.runs, (o, q.due_is ∙ is), refl);
-    cur_is = q.cur_is;
-    due_is = refl;
-    pins_are = p.pins_are;
-    seats_are = p.seats_are;
-  }

@@ -1,5 +1,5 @@
 -- Each step keeps the rule.
-use Rattle.std.proofs.Common.{◌≡◌, ℕ, ◌+◌, ◌*◌, ◌<◌, ◌≢◌, ◌⊎◌, inl, true, List, length, set, get_or, sym, refl, ap, ◌∙◌, subst, ⊎_elim, arith, length-set, get_or-set_same, get_or-set_other}
+use Rattle.std.proofs.Common.{◌≡◌, ℕ, ◌+◌, ◌*◌, ◌<◌, ◌≢◌, ◌⊎◌, inl, true, Option, Some, None, List, length, set, get_or, sym, refl, ap, ◌∙◌, subst, ⊎_elim, arith, length-set, get_or-set_same, get_or-set_other}
 use mathlib.Core.Logic.{dite}
 use mathlib.Core.Option.{some, none}
 use native.Mathlib.Decide.{ℕ_discrete}
@@ -9,13 +9,18 @@ use Rattle.atomic_table.specs.Table.{State, Me, step, keeps, stepped, Allows, Sp
 use Rattle.atomic_table.proofs.Lists.{set_again}
 use Rattle.mst_table.specs.declared.view.View.{View}
 use Rattle.mst_table.specs.declared.view.DeskState.{DeskState}
-use Rattle.mst_table.specs.Rule.{Meaning, In, IsLive, IsBlank, Turn, Drains, Ruled, Lawful}
-use Rattle.mst_table.specs.Plays.{IsWritable, reads, writes}
+use Rattle.mst_key.specs.History.{History}
+use Rattle.mst_table.specs.Pins.{In, Drains}
+use Rattle.mst_table.specs.Records.{Meaning, IsFramed, IsLive, IsBlank}
+use Rattle.mst_table.specs.Rule.{Turn, Ruled}
+use Rattle.mst_table.specs.Steps.{IsWritable, reads, writes}
 use Rattle.mst_table.proofs.Worlds.{world_set}
 use Rattle.mst_table.proofs.Turns.{turn_same, only_one}
 use Rattle.mst_table.proofs.PinParts.{bits_stay, pins_same, drains_same}
 use Rattle.mst_table.proofs.RowParts.{Kept, kept_else, agrees_same, rows_to}
-use Rattle.mst_table.proofs.Marks.{clear_same, counts_same, sizes_same, path_same}
+use Rattle.mst_table.proofs.Marks.{clear_same, counts_same}
+use Rattle.mst_table.proofs.Paths.{path_same}
+use Rattle.mst_table.proofs.Stills.{still_same}
 
 -- ---- one word changes
 
@@ -23,25 +28,17 @@ pub stays : (ws : List ℕ) (i n j : ℕ) → j ≢ i → get_or (set ws i n) j 
 stays ws i n j other = get_or-set_other ws i j n 0 other
 
 -- a record that is live was not found drained
-pub live_not_drained : (cur due : ℕ) (beside : ℕ → ℕ) (vs : List View) (v : View) → Drains cur due beside vs v → (r : ℕ) → IsLive cur vs r → In r v.drained → ⊥
-live_not_drained cur due beside vs v h r l within = let d = h.drained r within in ⊎_elim d.1 (λ (t : (i : ℕ) × (u : View) × (get_elem? vs i ≡ some u) × (u.pin ≡ Some r)). d.3 t.0 t.1 t.2 t.3) l
+pub live_not_drained : (N cur : ℕ) (due : Option ℕ) (beside : ℕ → ℕ) (vs : List View) (v : View) → Drains N cur due beside vs v → (r : ℕ) → IsLive cur vs r → In r v.drained → ⊥
+live_not_drained N cur due beside vs v h r l within = let d = h.drained r within in ⊎_elim d.1 (λ (t : (i : ℕ) × (u : View) × (get_elem? vs i ≡ some u) × (u.pin ≡ Some r)). d.3 t.0 t.1 t.2 t.3) l
 
-module _ {S : Type 0} (T : Meaning S) where
-  -- what holds for every size
-  pub any_size : (slots id i : ℕ) (me : Me S View) (f : ℕ → ℕ) (then : ℕ → Me S View → Type 0) → ((R N : ℕ) → Allows (Ruled T R N) slots id me i f then) → Allows (Lawful T) slots id me i f then
-  any_size slots id i me f then h s q long at small = let r = h q.0 q.1 s q.2 long at small in (r.0, r.1, r.2, (q.0, q.1, r.3), r.4)
-
-  pub any_split : (id : ℕ) (v left right : View) → ((R N : ℕ) → Splits (Ruled T R N) id v left right) → Splits (Lawful T) id v left right
-  any_split id v left right h s q at = (q.0, q.1, h q.0 q.1 s q.2 at)
-
-module _ {S : Type 0} (T : Meaning S) (R N : ℕ) where
+module _ {S : Type 0} (T : Meaning S) (framed : IsFramed T) (R N : ℕ) where
   abbrev pub St : Type 0
   St = State S View
 
   -- the holder's blank rows are in no live version
   pub blank_apart : (s : St) (q : Ruled T R N s) (id : ℕ) (v : View) → get_elem? s.views id ≡ some v → v.turn ≡ true → (x : ℕ) → IsBlank T v x → (r : ℕ) → IsLive q.cur s.views r → In x (q.used r) → ⊥
   blank_apart s q id v at on x blank r l within = let h = q.rows.live r l in
-      blank.1 r h.numbered (live_not_drained q.cur q.due q.beside s.views v (q.pins.holder id v at on) r l)
+      blank.1 r (subst (λ (n : ℕ). r < n + 2) (sym (q.world.placed id v at).passes_is) h.numbered) (live_not_drained N q.cur q.due q.beside s.views v (q.pins.holder id v at on) r l)
       (subst (λ (n : ℕ). T.Reaches v.desk n x) (sym h.filed ∙ ap (λ (d : DeskState). T.version d r) (sym (q.turn.holder id v at on).3)) (subst (λ (d : DeskState). T.Reaches d (length (q.place r)) x) (sym (q.turn.holder id v at on).3) (h.reached x within)))
 
   -- nothing changes
@@ -71,7 +68,7 @@ module _ {S : Type 0} (T : Meaning S) (R N : ℕ) where
   -- ---- K7
   pub writes_allows : (slots id i x : ℕ) (me : Me S View) → me.0.turn ≡ true → me.0.pin ≡ None → IsWritable T me.0 i → Allows (Ruled T R N) slots id me i (λ _. x) (λ _. writes (step slots i x 0 none) me x)
   writes_allows slots id i x me on free can s q _ at _ = let v : View = me.0 in let inside = below s q at in let w : View = record v { held = set v.held i x } in let ws : List ℕ = set s.words i x in
-      let h = q.rows.held id v at on in let known = q.pins.holder id v at on in let only = only_one T _ _ _ _ _ s.views id v q.turn at on q.world.apart in (
+      let h = q.rows.held id v at on in let known = q.pins.holder id v at on in let only = only_one T R N _ _ _ _ _ s.views id v q.turn at on q.world.apart in (
         w,
         keeps,
         tt,
@@ -86,12 +83,12 @@ module _ {S : Type 0} (T : Meaning S) (R N : ℕ) where
           place = q.place;
           used = q.used;
           wide = length-set s.words i x ∙ q.wide;
-          turn = subst (λ (z : ℕ). Turn T z s.homes q.desk q.due q.log (set s.views id w)) (sym (low 0 (omega arith)))
-              (turn_same T _ s.homes q.desk q.due q.log s.views id v w q.turn at refl refl (λ _. ((q.turn.holder id v at on).2, refl)));
-          pins = pins_same q.cur q.mask q.due q.beside s.words ws s.views id v w q.pins at (low 1 (omega arith)) (λ r l. low (r + 2) (omega arith)) refl refl
-              (drains_same q.cur q.mask q.due q.beside s.words ws s.views id v w q.pins at refl refl refl refl refl);
-          rows = rows_to T R q.cur s.words q.log q.desk q.place q.used s.views id v q.rows at ws q.desk w q.rows.desk_at kept (λ r _. agrees_same T R q.desk r)
-              (λ r e. absurd (let f = free in omega arith))
+          turn = subst (λ (z : ℕ). Turn T R N z s.homes q.desk q.due q.log (set s.views id w)) (sym (low 0 (omega arith)))
+              (turn_same T R N _ s.homes q.desk q.due q.log s.views id v w q.turn at refl refl (λ _. ((q.turn.holder id v at on).2, refl)));
+          pins = pins_same N q.cur q.mask q.due q.beside s.words ws s.views id v w q.pins at (low 1 (omega arith)) (λ r l. low (r + 2) (let few = q.pins.few in omega arith)) refl refl
+              (drains_same N q.cur q.mask q.due q.beside s.words ws s.views id v w q.pins at refl refl refl refl refl);
+          rows = rows_to T framed R N q.cur s.words q.log q.desk q.place q.used s.views id v q.rows at ws q.desk w q.rows.desk_at kept (λ r _. agrees_same T framed R N q.desk r)
+              (λ r e. absurd (let f : None ≡ Some r = sym free ∙ e in cc))
               (λ _. (
                 length-set v.held i x ∙ h.0 ∙ sym (length-set s.words i x),
                 λ k l. dite (ℕ_discrete k i)
@@ -99,17 +96,17 @@ module _ {S : Type 0} (T : Meaning S) (R N : ℕ) where
                     (λ not. stays s.words i x k not ∙ h.1 k l ∙ sym (stays v.held i x k not)),
               ))
               (λ j u other e own. absurd (other (only j u e own)));
-          world = world_set q.next q.log s.views id v w q.world at refl refl (q.world.fits id v at);
-          clear = clear_same q.beside q.beside s.words ws s.views id v w q.clear at (λ r k l. bits_stay q.beside s.words ws r k (low (r + 2) (omega arith))) refl refl;
+          world = world_set R N q.next q.log s.views id v w q.world at (record { number = refl; deals = refl; rows = refl; passes = refl }) (record { seen = (q.world.fits id v at).seen; told = (q.world.fits id v at).told; own = (q.world.fits id v at).own });
+          clear = clear_same N q.beside q.beside s.words ws s.views id v w q.clear at (λ r k l. bits_stay q.beside s.words ws r k (low (r + 2) (let few = q.pins.few in omega arith))) refl refl;
           counts = counts_same N q.cur s.views id v w q.counts at refl (inl refl) refl refl;
-          path = path_same q.cur q.due s.views id v w q.path at refl refl;
-          sizes = sizes_same R N s.views id v w q.sizes at refl refl refl;
+          path = path_same N q.cur q.due s.views id v w q.path at refl refl;
+          still = still_same N (get_or s.words 1 0) (get_or ws 1 0) s.views id w v q.still at (low 1 (omega arith)) refl refl;
         },
         refl,
       )
     where
       below : (s : St) (q : Ruled T R N s) → get_elem? s.views id ≡ some me.0 → i < R * 16 + 240
-      below s q at = let e = (q.sizes.same id me.0 at).0 in ⊎_elim (λ (t : (x k : ℕ) × IsBlank T me.0 x × (k < 16) × (i ≡ x * 16 + k + 240)). let a = t.4 in let b = t.3 in let c = t.2.0 in omega arith)
+      below s q at = let e = (q.world.placed id me.0 at).rows_is in let few = q.pins.few in ⊎_elim (λ (t : (x k : ℕ) × IsBlank T me.0 x × (k < 16) × (i ≡ x * 16 + k + 240)). let a = t.4 in let b = t.3 in let c = t.2.0 in omega arith)
           (λ (t : (r k : ℕ) × In r me.0.drained × (k < 6) × (i ≡ r * 6 + k + 36)). let a = t.4 in let b = t.3 in let c = ((q.pins.holder id me.0 at on).drained t.0 t.2).0 in omega arith) can
 
       above : 35 < i
@@ -121,10 +118,10 @@ module _ {S : Type 0} (T : Meaning S) (R N : ℕ) where
       kept : (r : ℕ) → IsLive q.cur s.views r → Kept s.words (set s.words i x) r (q.used r)
       kept r live = ⊎_elim
           (λ (t : (x k : ℕ) × IsBlank T me.0 x × (k < 16) × (i ≡ x * 16 + k + 240)). kept_else s.words i x r (q.used r)
-          (λ k l e. let a = t.4 in let b = (q.rows.live r live).numbered in omega arith)
+          (λ k l e. let a = t.4 in let b = (q.rows.live r live).numbered in let few = q.pins.few in omega arith)
           (λ y within k l e. let a = t.4 in let b = t.3 in let same : y ≡ t.0 = omega arith in blank_apart s q id me.0 at on t.0 t.2 r live (subst (λ (z : ℕ). In z (q.used r)) same within))
           (λ j other. stays s.words i x j other))
           (λ (t : (r k : ℕ) × In r me.0.drained × (k < 6) × (i ≡ r * 6 + k + 36)). kept_else s.words i x r (q.used r)
-          (λ k l e. let a = t.4 in let b = t.3 in let same : t.0 ≡ r = omega arith in live_not_drained q.cur q.due q.beside s.views me.0 (q.pins.holder id me.0 at on) r live (subst (λ (z : ℕ). In z me.0.drained) same t.2))
-          (λ y within k l e. let a = t.4 in let b = t.3 in let c = ((q.pins.holder id me.0 at on).drained t.0 t.2).0 in omega arith)
+          (λ k l e. let a = t.4 in let b = t.3 in let same : t.0 ≡ r = omega arith in live_not_drained N q.cur q.due q.beside s.views me.0 (q.pins.holder id me.0 at on) r live (subst (λ (z : ℕ). In z me.0.drained) same t.2))
+          (λ y within k l e. let a = t.4 in let b = t.3 in let c = ((q.pins.holder id me.0 at on).drained t.0 t.2).0 in let few = q.pins.few in omega arith)
           (λ j other. stays s.words i x j other)) can
