@@ -18,3 +18,4 @@ pub mod Looked
 pub mod Seated
 pub mod Hearing
 pub mod Opens
+pub mod Cursors
