@@ -4,7 +4,8 @@ use Rattle.std.specs.List.{list_any, range_with_len}
 use mathlib.Core.Logic.{dite}
 use native.Mathlib.Decide.{ℕ_discrete}
 use Rattle.std.proofs.lemmas.Bool.{ltb-true, lt-ltb}
-use Rattle.std.proofs.lemmas.List.FromFn.{fill_by_all}
+use Rattle.std.proofs.lemmas.List.{ext_get_or}
+use Rattle.std.proofs.lemmas.List.FromFn.{fill_by_all, length-map-range_with_len, get_or-map-range_with_len}
 use Rattle.mst_arena.specs.Lives as lives
 use Rattle.mst_arena.specs.Content.{Writes}
 use Rattle.mst_arena.specs.Words.{row_in}
@@ -115,3 +116,11 @@ written v x value words held blank long spelt s = let b = blank_parts v x blank 
 
     elsewhere : (k : ℕ) → k ≢ x → rows_in (records.row held) k ≡ rows_in (records.row v.held) k
     elsewhere k other = same_row (records.row v.held) (records.row held) k (λ j lt. same_word k j other lt)
+
+-- a list that is known index by index, from some number on
+pub fill_from : (f : ℕ → ℕ) (xs : List ℕ) (a n : ℕ) → length xs ≡ n → ((k : ℕ) → k < n → get_or xs k 0 ≡ f (a + k)) → xs ≡ map f (range_with_len a n)
+fill_from f xs a n long h = ext_get_or 0 xs (map f (range_with_len a n)) (long ∙ sym (length-map-range_with_len f a n)) (λ k lt. h k (omega arith) ∙ sym (get_or-map-range_with_len f a n k (a + k) 0 (omega arith) refl))
+
+-- what is blank depends on no word
+pub blank_stays : (v w : View) → w ≡ record v { held = w.held } → is_blank w ≡ is_blank v
+blank_stays v w same = ap is_blank same

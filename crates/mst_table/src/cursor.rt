@@ -1,5 +1,5 @@
 //! The rows of the table, as a pass reads and writes them.
-ghost use Rattle.std.specs.Prelude.{◌≡◌, ◌+◌, ◌*◌, ◌<◌, map, slice_set, true, IsTrue};
+ghost use Rattle.std.specs.Prelude.{◌≡◌, ◌+◌, ◌*◌, ◌<◌, ◌≤◌, length, map, slice_set, true, IsTrue};
 ghost use Rattle.std.specs.List.{range_with_len};
 ghost use Rattle.mst_table.specs.Records as records;
 ghost use Rattle.mst_table.specs.Cursor.{may_read, is_blank};
@@ -26,14 +26,14 @@ pub struct Cursor<'a, A: Allocator + Copy> {
 
 /// Contracts see what the pass knows.
 impl<'a, A: Allocator + Copy> Model for Cursor<'a, A> {
-    ghost use Rattle.std.specs.Prelude.{◌≡◌, ◌+◌, ◌*◌};
+    ghost use Rattle.std.specs.Prelude.{◌≡◌, ◌+◌, ◌*◌, length};
     ghost use Rattle.mst_table.specs.declared.view.View.{View};
 
     ghost Value = { View };
 
     ghost view = { λ c. c.seat.now.me.0 };
 
-    ghost invariant = { λ c. (c.seat.now.table_id ≡ c.board.now) × (c.board.now.words ≡ c.seat.now.me.0.rows * 16 + 240) };
+    ghost invariant = { λ c. (c.seat.now.table_id ≡ c.board.now) × (c.board.now.words ≡ c.seat.now.me.0.rows * 16 + 240) × (length c.seat.now.me.0.held ≡ c.seat.now.me.0.rows * 16 + 240) };
 }
 
 impl<'a, A: Allocator + Copy> Cursor<'a, A> {
@@ -67,6 +67,7 @@ impl<'a, A: Allocator + Copy> Cursor<'a, A> {
         requires blank { IsTrue (is_blank self.old row) }
         requires there { k < 16 }
         ensures stored { self.new ≡ record self.old { held = slice_set self.old.held (row * 16 + k + 240) value } }
+        ensures wide { row * 16 + 256 ≤ length self.old.held }
     {
         self.board
             .write(self.seat, row as usize * ROW_WORDS + k + FIRST_ROW, value);
