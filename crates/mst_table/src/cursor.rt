@@ -5,7 +5,8 @@ ghost use Rattle.mst_table.specs.Records as records;
 ghost use Rattle.mst_table.specs.Cursor.{may_read, is_blank};
 
 use crate::board::{Board, PassSeat};
-use mst_arena::{Row, Rows};
+use mst_arena::{EntryLinks, HeadLinks, Row, Rows};
+use mst_key::Value;
 use std::alloc::Allocator;
 use std::marker::Model;
 
@@ -92,6 +93,32 @@ impl<'a, A: Allocator + Copy> Rows for Cursor<'a, A> {
         let words = value.words();
         for k in 0..ROW_WORDS {
             self.store(row, k, words[k]);
+        }
+    }
+
+    fn head(&mut self, row: u32) -> HeadLinks {
+        match HeadLinks::read(&self.words(row, 1)) {
+            Some(links) => links,
+            None => unreachable!(),
+        }
+    }
+
+    fn digest(&mut self, row: u32) -> [u8; 32] {
+        Row::read_digest(&self.words(row, 5))
+    }
+
+    fn entry(&mut self, row: u32) -> EntryLinks {
+        match EntryLinks::read(&self.words(row, 1)) {
+            Some(links) => links,
+            None => unreachable!(),
+        }
+    }
+
+    fn value(&mut self, row: u32) -> Value {
+        let lengths = self.word(row, 3);
+        match Row::read_value(lengths, &self.words(row, 8)) {
+            Some(value) => value,
+            None => unreachable!(),
         }
     }
 }
