@@ -1,11 +1,19 @@
 -- What a pass may read and write of the rows, by what it knows of the words.
 use Rattle.std.specs.Prelude.{ℕ, zero, suc, ◌+◌, is_some, is_none, Bool, true, false, ◌&&◌, ◌||◌, not, nat_lt, eqb, if◌then◌else◌, List, Option, Some, None}
 use Rattle.std.specs.List.{list_any}
+use Rattle.atomic_table.specs.Seated.{TableId}
+use Rattle.atomic_table.specs.Table.{Me}
 use Rattle.mst_arena.specs.Content.{Content}
 use Rattle.mst_arena.specs.Lives as lives
 use Rattle.mst_table.specs.declared.view.View.{View}
 use Rattle.mst_table.specs.Records.{row}
 use Rattle.mst_table.specs.Stored.{rows_in, version_of}
+
+-- a seat at a table: which table, its place there, and what the pass knows and holds of the slot
+pub record Seated : Type 0 where
+  pub table : TableId
+  pub id : ℕ
+  pub me : Me (Option lives.State) View
 
 -- the holder of the turn may read every row, and a pinned pass the rows that stand for its version
 abbrev pub may_read : View → ℕ → Bool

@@ -25,24 +25,34 @@ pub struct Cursor<'a, A: Allocator + Copy> {
     seat: &'a mut PassSeat<A>,
 }
 
-/// Contracts see what the pass knows.
+/// Contracts see the seat: its table, its place there, and what the pass knows and holds.
 impl<'a, A: Allocator + Copy> Model for Cursor<'a, A> {
     ghost use Rattle.std.specs.Prelude.{◌≡◌, ◌+◌, ◌*◌, length};
-    ghost use Rattle.mst_table.specs.declared.view.View.{View};
+    ghost use Rattle.mst_table.specs.Cursor.{Seated};
 
-    ghost Value = { View };
+    ghost Value = { Seated };
 
-    ghost view = { λ c. c.seat.now.me.0 };
+    ghost view = { λ c. record { table = c.seat.now.table_id; id = c.seat.now.id; me = c.seat.now.me } };
 
     ghost invariant = { λ c. (c.seat.now.table_id ≡ c.board.now) × (c.board.now.words ≡ c.seat.now.me.0.rows * 16 + 240) × (length c.seat.now.me.0.held ≡ c.seat.now.me.0.rows * 16 + 240) };
 }
 
 impl<'a, A: Allocator + Copy> Cursor<'a, A> {
+    /// The rows as the pass of this seat reads and writes them.
+    pub fn new(board: &'a Board<A>, seat: &'a mut PassSeat<A>) -> Cursor<'a, A>
+        requires own { seat.old.table_id ≡ board.now }
+        requires wide { board.now.words ≡ seat.old.me.0.rows * 16 + 240 }
+        requires held { length seat.old.me.0.held ≡ seat.old.me.0.rows * 16 + 240 }
+        ensures seated { result ≡ record { table = seat.old.table_id; id = seat.old.id; me = seat.old.me } }
+    {
+        Cursor { board, seat }
+    }
+
     // Word k of a row: one load.
     fn word(&mut self, row: u32, k: usize) -> u64
-        requires readable { may_read self.old row ≡ true }
+        requires readable { may_read self.old.me.0 row ≡ true }
         requires there { k < 16 }
-        ensures word { result ≡ records.row self.old.held row k }
+        ensures word { result ≡ records.row self.old.me.0.held row k }
         ensures same { self.new ≡ self.old }
     {
         self.board
@@ -51,9 +61,9 @@ impl<'a, A: Allocator + Copy> Cursor<'a, A> {
 
     // The words of a row from one on: a load for each.
     fn words<const N: usize>(&mut self, row: u32, from: usize) -> [u64; N]
-        requires readable { may_read self.old row ≡ true }
+        requires readable { may_read self.old.me.0 row ≡ true }
         requires there { from + N < 17 }
-        ensures words { result ≡ map (records.row self.old.held row) (range_with_len from N) }
+        ensures words { result ≡ map (records.row self.old.me.0.held row) (range_with_len from N) }
         ensures same { self.new ≡ self.old }
     {
         let mut words = [0; N];
@@ -65,10 +75,10 @@ impl<'a, A: Allocator + Copy> Cursor<'a, A> {
 
     // Stores word k of a blank row.
     fn store(&mut self, row: u32, k: usize, value: u64)
-        requires blank { IsTrue (is_blank self.old row) }
+        requires blank { IsTrue (is_blank self.old.me.0 row) }
         requires there { k < 16 }
-        ensures stored { self.new ≡ record self.old { held = slice_set self.old.held (row * 16 + k + 240) value } }
-        ensures wide { row * 16 + 256 ≤ length self.old.held }
+        ensures stored { self.new ≡ record self.old { me = (record self.old.me.0 { held = slice_set self.old.me.0.held (row * 16 + k + 240) value }, self.old.me.1) } }
+        ensures wide { row * 16 + 256 ≤ length self.old.me.0.held }
     {
         self.board
             .write(self.seat, row as usize * ROW_WORDS + k + FIRST_ROW, value);
@@ -78,9 +88,9 @@ impl<'a, A: Allocator + Copy> Cursor<'a, A> {
 impl<'a, A: Allocator + Copy> Rows for Cursor<'a, A> {
     ghost use Rattle.mst_table.specs.Cursor.{content_of, is_blank};
 
-    ghost content = { content_of };
+    ghost content = { λ c. content_of c.me.0 };
 
-    ghost blank = { is_blank };
+    ghost blank = { λ c. is_blank c.me.0 };
 
     fn read(&mut self, row: u32) -> Row {
         match Row::read(&self.words(row, 0)) {
