@@ -1,6 +1,7 @@
 -- The sixteen words of a row.
-use Rattle.std.specs.Prelude.{ℕ, ◌+◌, ◌*◌, ◌/◌, ◌%◌, List, [], ◌∷◌, length, slice_index}
+use Rattle.std.specs.Prelude.{ℕ, ◌+◌, ◌*◌, ◌/◌, ◌%◌, Bool, ◌==◌, nat_le, nat_lt, ◌&&◌, if◌then◌else◌, List, [], ◌∷◌, length, take, flat_map, slice_index, slice_range, Option, Some, None}
 use Rattle.std.specs.Int.{w64, from_be_bytes, to_be_bytes}
+use Rattle.std.specs.Str.{bytes_eq as same_words}
 use Rattle.mst_arena.specs.declared.row.Row.{Row}
 use Rattle.mst_arena.specs.declared.row.Row.TheVariants.{Entry, Head}
 
@@ -26,6 +27,44 @@ words_of (Head layer count first tail digest) =
     ∷ word_from digest 0 ∷ word_from digest 8 ∷ word_from digest 16 ∷ word_from digest 24
     ∷ 0 ∷ 0 ∷ 0 ∷ 0 ∷ 0 ∷ 0 ∷ 0 ∷ []
 
+-- ---- back from words
+
 -- byte i of words, the highest byte of each word first
 abbrev pub byte_of_words : List ℕ → ℕ → ℕ
 byte_of_words words i = slice_index (to_be_bytes w64 (slice_index words (i / 8))) (i % 8)
+
+-- all bytes of words, in the same order
+abbrev pub bytes_in : List ℕ → List ℕ
+bytes_in words = flat_map (to_be_bytes w64) words
+
+-- the entry whose parts stand in these words
+abbrev pub entry_in : List ℕ → Row
+entry_in words = Entry
+    (slice_index words 1)
+    (slice_index words 2)
+    (take (slice_index words 3 % 256) (bytes_in (slice_range words 4 8)))
+    (take (slice_index words 3 / 256) (bytes_in (slice_range words 8 16)))
+
+-- the head whose parts stand in these words
+abbrev pub head_in : List ℕ → Row
+head_in words = Head
+    (slice_index words 1)
+    (slice_index words 2)
+    (slice_index words 3)
+    (slice_index words 4)
+    (bytes_in (slice_range words 5 9))
+
+-- the only row that words may be of: an entry where the first of them is 1, and else a head
+abbrev pub candidate : List ℕ → Row
+candidate words = if slice_index words 0 == 1 then entry_in words else head_in words
+
+-- whether a row is within its limits, and its bytes are as many as those of a key and a value, or of a digest
+abbrev pub has_limits : Row → Bool
+has_limits (Entry child next key value) =
+    nat_le child 65535 && nat_le next 65535 && nat_lt 0 (length key) && nat_le (length key) 32 && nat_le (length value) 64
+has_limits (Head layer count first tail digest) =
+    nat_le layer 64 && nat_lt 0 count && nat_le count 65534 && nat_lt 0 first && nat_le first 65535 && nat_le tail 65535 && length digest == 32
+
+-- the row that sixteen words spell: the only one that they may be of, where it is within its limits and has exactly these words
+unfoldable pub row_in : List ℕ → Option Row
+row_in words = if has_limits (candidate words) && same_words (words_of (candidate words)) words then Some (candidate words) else None

@@ -1,4 +1,4 @@
-//! Laws of the definitions that the contracts cite: which version reaches which row, and what rows stand for.
+//! Laws of the definitions that the contracts cite: which row words spell, which version reaches which row, and what rows stand for.
 //!
 //! The functions here do nothing. Each clause is a proved law, by which a reader can judge the definitions of `specs/`.
 ghost use Rattle.std.specs.Prelude.{◌≡◌, ◌≢◌, ◌≤◌, ◌<◌, ◌==◌, ℕ, List, Some, false, true, map, slice_get, slice_set};
@@ -9,11 +9,20 @@ ghost use Rattle.mst_node.specs.Tree.{Tree};
 ghost use Rattle.mst_arena.specs.Content.{Content, Writes};
 ghost use Rattle.mst_arena.specs.Lives.{reaches, SameReach, swept};
 ghost use Rattle.mst_arena.specs.Standing.{Stands, StandsAt, Placed, head, cell, end, HasRows, rows_of, head_row, link_of, numbers};
+ghost use Rattle.mst_arena.specs.Row.{IsRow, HasBytes};
+ghost use Rattle.mst_arena.specs.Words.{words_of, row_in};
 ghost use Rattle.mst_arena.specs.declared.life.Life.{Life};
 ghost use Rattle.mst_arena.specs.declared.life.Life.TheVariants.{Free, Born, Dead};
 ghost use Rattle.mst_arena.specs.declared.row.Root.{Root};
 ghost use Rattle.mst_arena.specs.declared.row.Row.{Row};
 ghost use Rattle.mst_arena.specs.declared.row.Row.TheVariants.{Entry};
+
+/// Each row has words that spell it and no other row, and words that spell a row are the words of that row.
+pub fn words_laws()
+    ensures row { (row : Row) → IsRow row → HasBytes row → row_in (words_of row) ≡ Some row }
+    ensures words { (words : List ℕ) (row : Row) → row_in words ≡ Some row
+        → IsRow row × HasBytes row × (words_of row ≡ words) }
+{}
 
 /// What the calls of a desk do to the rows that a version reaches, for any set of live versions. `next` is the version to come.
 pub fn life_laws()

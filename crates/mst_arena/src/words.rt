@@ -1,9 +1,9 @@
 //! The sixteen words of a row.
-ghost use Rattle.std.specs.Prelude.{◌≡◌, ◌≢◌, ◌↔◌, ◌<◌, ◌≤◌, ◌*◌, length, slice_index, map, Some, IfSome, IfNone};
+ghost use Rattle.std.specs.Prelude.{◌≡◌, ◌≢◌, ◌↔◌, ◌<◌, ◌≤◌, ◌*◌, length, slice_index, map, Some, IsSome, IfSome, IfNone};
 ghost use Rattle.std.specs.List.{range_with_len};
 ghost use Rattle.mst_arena.specs.declared.row.Row.{Row};
 ghost use Rattle.mst_arena.specs.Row.{IsRow, HasBytes};
-ghost use Rattle.mst_arena.specs.Words.{word_from, words_of, byte_of_words};
+ghost use Rattle.mst_arena.specs.Words.{word_from, words_of, byte_of_words, row_in};
 
 use crate::row::Row;
 use mst_key::{Key, Value};
@@ -90,6 +90,17 @@ fn head_of(words: &[u64; 16]) -> Option<Row>
     })
 }
 
+/// The row that these words may be of. Nothing is said of words that spell none.
+fn candidate(words: &[u64; 16]) -> Option<Row>
+    ensures exact { IsSome (row_in words.now) → row_in words.now ≡ result }
+{
+    match words[0] {
+        1 => entry_of(words),
+        2 => head_of(words),
+        _ => None,
+    }
+}
+
 impl Row {
     /// The sixteen words of a row.
     ///
@@ -97,6 +108,7 @@ impl Row {
     pub fn words(&self) -> [u64; 16]
         requires limits { IsRow self.now }
         ensures words { result ≡ words_of self.now }
+        ensures row { row_in result ≡ Some self.now }
     {
         match self {
             Row::Entry {
@@ -111,24 +123,7 @@ impl Row {
                 first,
                 tail,
                 digest,
-            } => [
-                2,
-                u64::from(*layer),
-                u64::from(*count),
-                u64::from(*first),
-                u64::from(*tail),
-                word_from(digest, 0),
-                word_from(digest, 8),
-                word_from(digest, 16),
-                word_from(digest, 24),
-                0,
-                0,
-                0,
-                0,
-                0,
-                0,
-                0,
-            ],
+            } => head_words(*layer, *count, *first, *tail, digest),
         }
     }
 
@@ -137,12 +132,9 @@ impl Row {
         ensures some { IfSome result (λ row. IsRow row × (words_of row ≡ words.now)) }
         ensures none { IfNone result ((row : Row) → IsRow row → HasBytes row
             → words_of row ≢ words.now) }
+        ensures row { result ≡ row_in words.now }
     {
-        let row = match words[0] {
-            1 => entry_of(words)?,
-            2 => head_of(words)?,
-            _ => return None,
-        };
+        let row = candidate(words)?;
         if row.is_within_limits() && row.words() == *words {
             Some(row)
         } else {
@@ -154,6 +146,7 @@ impl Row {
 /// The sixteen words of an entry.
 fn entry_words(child: u32, next: u32, key: &Key, value: &Value) -> [u64; 16]
     ensures words { result ≡ words_of (Row.Entry child next key.now value.now) }
+    ensures bytes { HasBytes (Row.Entry child next key.now value.now) }
 {
     let (key, value) = (key.bytes(), value.bytes());
     [
@@ -173,5 +166,30 @@ fn entry_words(child: u32, next: u32, key: &Key, value: &Value) -> [u64; 16]
         word_from(value, 40),
         word_from(value, 48),
         word_from(value, 56),
+    ]
+}
+
+/// The sixteen words of a head.
+fn head_words(layer: u8, count: u32, first: u32, tail: u32, digest: &[u8; 32]) -> [u64; 16]
+    ensures words { result ≡ words_of (Row.Head layer count first tail digest.now) }
+    ensures bytes { HasBytes (Row.Head layer count first tail digest.now) }
+{
+    [
+        2,
+        u64::from(layer),
+        u64::from(count),
+        u64::from(first),
+        u64::from(tail),
+        word_from(digest, 0),
+        word_from(digest, 8),
+        word_from(digest, 16),
+        word_from(digest, 24),
+        0,
+        0,
+        0,
+        0,
+        0,
+        0,
+        0,
     ]
 }

@@ -28,7 +28,7 @@ use Rattle.mst_table.proofs.Steps.{stays, live_not_drained, unmoved, St}
 use Rattle.mst_table.proofs.Marks.{clear_same, counts_set, counts_same, counts_none, blamed_keep, blamed_more, blamed_few}
 use Rattle.mst_table.proofs.Paths.{path_same, path_publish, path_transfer}
 use Rattle.mst_table.proofs.Looked.{looked}
-use Rattle.mst_table.proofs.Stills.{still_new, still_set, still_same}
+use Rattle.mst_table.proofs.Stills.{still_new, still_set, still_same, alone}
 
 module _ {S : Type 0} (T : Meaning S) (framed : IsFramed T) (R N : ℕ) where
   -- ---- K8
@@ -143,10 +143,11 @@ module _ {S : Type 0} (T : Meaning S) (framed : IsFramed T) (R N : ℕ) where
         w,
         keeps,
         tt,
-        looked T framed R N s q id (r + 2) me.1 v w at (record { number = refl; deals = refl; rows = refl; passes = refl }) (record { pin = refl; place = refl; stood = refl; held = refl; turn = refl }) (λ _. (h.2, refl))
-            (record { seen = fits.seen; told = fits.told; own = fits.own })
+        looked T framed R N s q id (r + 2) me.1 v w at refl refl refl refl refl refl refl refl refl (λ _. (h.2, refl))
+            fits.seen fits.told refl
             (λ _. drains_ask N q.cur q.mask q.due q.beside s.words s.words s.views id v w q.pins at r zero_there not_cur inside on settled refl refl refl refl)
-            (counts_same N q.cur s.views id v w q.counts at refl (inl refl) refl refl) (λ _. q.still.noted id v at on),
+            (counts_same N q.cur s.views id v w q.counts at refl (inl refl) refl refl)
+            (still_same N (get_or s.words 1 0) (get_or s.words 1 0) s.views id w v q.still at refl refl refl),
         (r, refl, (λ _. refl), (λ not. absurd (not zero_there))),
       ))
       (λ some_there. let w : View = record v { blocked = r ∷ v.blocked } in let not_due : q.due ≢ Some r = (λ e. let f : None ≡ Some r = sym settled ∙ (q.pins.holder id v at on).due_is ∙ e in absurd (let c = f in cc)) in
@@ -157,10 +158,11 @@ module _ {S : Type 0} (T : Meaning S) (framed : IsFramed T) (R N : ℕ) where
             w,
             keeps,
             tt,
-            looked T framed R N s q id (r + 2) me.1 v w at (record { number = refl; deals = refl; rows = refl; passes = refl }) (record { pin = refl; place = refl; stood = refl; held = refl; turn = refl }) (λ _. (h.2, refl))
-                (record { seen = fits.seen; told = fits.told; own = fits.own })
+            looked T framed R N s q id (r + 2) me.1 v w at refl refl refl refl refl refl refl refl refl (λ _. (h.2, refl))
+                fits.seen fits.told refl
                 (drains_same N q.cur q.mask q.due q.beside s.words s.words s.views id v w q.pins at refl refl refl refl refl)
-                (counts_set N q.cur s.views id v w q.counts at refl (inl refl) (λ _. (t.1.number ∷ b.0, blamed_keep N v.number q.cur s.views id v w at refl (inl refl) (t.1.number ∷ b.0) w.blocked more))) (λ _. q.still.noted id v at on),
+                (counts_set N q.cur s.views id v w q.counts at refl (inl refl) (λ _. (t.1.number ∷ b.0, blamed_keep N v.number q.cur s.views id v w at refl (inl refl) (t.1.number ∷ b.0) w.blocked more)))
+                (still_same N (get_or s.words 1 0) (get_or s.words 1 0) s.views id w v q.still at refl refl refl),
             (r, refl, (λ zero_there. absurd (some_there zero_there)), (λ _. record { fewer = subst (λ (z : ℕ). length v.blocked + 1 < z) (sym (q.world.placed id v at).passes_is) (left s q id v t.1 r b.0 at on more); is = refl })),
           ))
 
@@ -171,10 +173,20 @@ module _ {S : Type 0} (T : Meaning S) (framed : IsFramed T) (R N : ℕ) where
         w,
         keeps,
         tt,
-        looked T framed R N s q id 1 me.1 v w at (record { number = refl; deals = refl; rows = refl; passes = refl }) (record { pin = refl; place = refl; stood = refl; held = refl; turn = refl }) (λ _. (h.2, refl))
-            (record { seen = fits.seen; told = fits.told; own = fits.own })
+        looked T framed R N s q id 1 me.1 v w at refl refl refl refl refl refl refl refl refl (λ _. (h.2, refl))
+            fits.seen fits.told refl
             (drains_same N q.cur q.mask q.due q.beside s.words s.words s.views id v w q.pins at refl refl refl refl refl)
             (counts_same N q.cur s.views id v w q.counts at refl (inl refl) refl refl)
-            (λ _ _ k is. (let c : Some (get_or s.words 1 0) ≡ Some k = is in let d : k ≡ get_or s.words 1 0 = cc in d)),
+            (still_set N (get_or s.words 1 0) (get_or s.words 1 0) s.views id w q.still refl (λ _ _ k is. (let c : Some (get_or s.words 1 0) ≡ Some k = is in let d : k ≡ get_or s.words 1 0 = cc in d))),
         record { mask = q.mask; small = q.pins.small; found = q.pins.current ∙ ap (λ (z : ℕ). z * 4294967296 + q.mask) cur_now; is = refl },
       )
+
+  -- ---- K10 of the current record
+  pub asks_current_allows : (slots id r : ℕ) (me : Me S View) → IsHolder me → r ≡ me.0.desk.current → Allows (Ruled T R N) slots id me (r + 2) (λ n. n) (asks_current (step slots (r + 2) 0 0 none) me)
+  asks_current_allows slots id r me holder here s q _ at _ = (
+    me.0,
+    keeps,
+    tt,
+    unmoved T framed R N s q id (r + 2) me.1 me.0 at,
+    record { same = refl; alone = λ one mask small noted. ap (done s.words) here ∙ alone T R N s q id me.0 at holder.0 holder.1 one mask small noted },
+  )

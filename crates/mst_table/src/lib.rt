@@ -2,6 +2,7 @@
 #![tactic(auto)]
 
 mod board;
+mod cursor;
 mod notes;
 mod pins;
 mod plays;
@@ -10,6 +11,7 @@ mod rule;
 mod view;
 
 pub use board::{Board, PassSeat};
+pub use cursor::Cursor;
 pub use notes::Telling;
 pub use plays::Naming;
 pub use view::{DeskState, Shape, View};

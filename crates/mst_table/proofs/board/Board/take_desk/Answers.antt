@@ -1,0 +1,8 @@
+use Rattle.std.proofs.Common.{rules, ◌∷◌, List, ℕ, ap, sym, ◌∙◌, Some, Option}
+use Rattle.atomic_table.specs.Table.{rest}
+use Rattle.mst_arena.specs.Lives.{State}
+use Rattle.mst_table.proofs.board.Board.take_desk.Goals as goal
+
+pub exchange-requires : goal.exchange-requires
+exchange-requires g c = let h = c.requires.holds in
+    (search rules, (Some h.0, h.1 ∙ ap (λ (l : List (ℕ × Option State)). (0, Some h.0) ∷ rest l) (sym h.1)))
