@@ -14,6 +14,7 @@ use Rattle.mst_table.specs.Notes.{note_of, having_heard, IsOfPasses, Finds, sees
 use Rattle.mst_table.proofs.Histories.{events_none}
 use Rattle.mst_table.proofs.PinParts.{drains_same}
 use Rattle.mst_table.proofs.Marks.{counts_same}
+use Rattle.mst_table.proofs.Stills.{still_same}
 use Rattle.mst_table.proofs.Looked.{view_set, looked}
 use Rattle.mst_table.proofs.Seated.{off_true, turn_more, rows_more, pins_more, clear_more, counts_more, path_more, still_more}
 
@@ -48,10 +49,9 @@ module _ {S : Type 0} (T : Meaning S) (framed : IsFramed T) (R N : ℕ) where
   seen_set : (s : State S View) (q : Ruled T R N s) (id i : ℕ) (cs : List (ℕ × S)) (v : View) (seen : History) → SeatAt s.views id v → v.turn ≡ false → Begins seen q.log
       → Ruled T R N (stepped s i (get_or s.words i 0) id cs (record v { seen = seen }) keeps)
   seen_set s q id i cs v seen at off begins = let w : View = record v { seen = seen } in
-      let fits = q.world.fits id v at in
-      looked T framed R N s q id i cs v w at (record { number = refl; deals = refl; rows = refl; passes = refl }) (record { pin = refl; place = refl; stood = refl; held = refl; turn = refl })
-      (λ on. off_true v off on) (record { seen = begins; told = fits.told; own = fits.own }) (off_true w off)
-      (counts_same N q.cur s.views id v w q.counts at refl (inl refl) refl refl) (λ on. off_true w off on)
+      looked T framed R N s q id i cs v w at refl refl refl refl refl refl refl refl refl (λ on. off_true v off on) begins (q.world.fits id v at).told refl (off_true w off)
+      (counts_same N q.cur s.views id v w q.counts at refl (inl refl) refl refl)
+      (still_same N (get_or s.words 1 0) (get_or s.words 1 0) s.views id w v q.still at refl refl refl)
 
   found : (s : State S View) (q : Ruled T R N s) (id : ℕ) (me : Me S View) → SeatAt s.views id me.0 → Finds me q.log
   found s q id me at = let f = q.world.fits id me.0 at in let few = q.world.few in record {
@@ -112,7 +112,7 @@ module _ {S : Type 0} (T : Meaning S) (framed : IsFramed T) (R N : ℕ) where
   note_joins id v other n s q at apart there = let w : View = having_heard v n in let f = q.world.fits id v at in
       let there' : SeatAt s.views other n = sym (set_else s.views id other w apart) ∙ there in
       subst (λ (l : List View). Ruled T R N record { words = s.words; homes = s.homes; views = l }) (sym (set_again (set s.views id w) other n there))
-      (view_set T framed R N s q id v w at (record { number = refl; deals = refl; rows = refl; passes = refl }) (record { pin = refl; place = refl; stood = refl; held = refl; turn = refl })
-      (λ on. ((q.turn.holder id v at on).2, refl)) (record { seen = f.seen; told = (q.world.fits other n there').seen; own = f.own })
+      (view_set T framed R N s q id v w at refl refl refl refl refl refl refl refl refl (λ on. ((q.turn.holder id v at on).2, refl)) f.seen (q.world.fits other n there').seen refl
       (drains_same N q.cur q.mask q.due q.beside s.words s.words s.views id v w q.pins at refl refl refl refl refl)
-      (counts_same N q.cur s.views id v w q.counts at refl (inl refl) refl refl) (q.still.noted id v at))
+      (counts_same N q.cur s.views id v w q.counts at refl (inl refl) refl refl)
+      (still_same N (get_or s.words 1 0) (get_or s.words 1 0) s.views id w v q.still at refl refl refl))
