@@ -1,6 +1,6 @@
 pub mod Packing
-pub mod Decoding
 pub mod Spelling
+pub mod Readers
 pub mod BitLemmas
 pub mod FlagLemmas
 pub mod SetLemmas

@@ -1,5 +1,5 @@
 -- The births and deaths of rows, which version reaches which row, and what a desk knows.
-use Rattle.std.specs.Prelude.{◌≡◌, ◌+◌, ◌^◌, ◌-◌, ℕ, Bool, true, false, ◌&&◌, nat_le, nat_lt, if◌then◌else◌, List, count_by, slice_set, slice_get, slice_index, Option, Some, None}
+use Rattle.std.specs.Prelude.{◌≡◌, ◌≤◌, ◌+◌, ◌^◌, ◌-◌, ℕ, Bool, true, false, ◌&&◌, nat_le, nat_lt, if◌then◌else◌, List, count_by, slice_set, slice_get, slice_index, Option, Some, None}
 use Rattle.std.specs.List.{list_any}
 use Rattle.mst_arena.specs.declared.life.Life.{Life}
 use Rattle.mst_arena.specs.declared.life.Life.TheVariants.{Free, Born, Dead}
@@ -66,3 +66,14 @@ last_version = 2 ^ 63 - 1
 -- the desk with another life of a row
 abbrev pub with_life : State → ℕ → Life → State
 with_life s row life = record s { lives = slice_set s.lives row life }
+
+-- a row was born with a version or an earlier one; if it is dead, it died with that version or an earlier one
+abbrev pub IsPast : ℕ → Option Life → Type 0
+IsPast v None = Unit {0}
+IsPast v (Some Free) = Unit {0}
+IsPast v (Some (Born b)) = b ≤ v
+IsPast v (Some (Dead b d)) = d ≤ v
+
+-- no write is under way: no row was born or died with the version to come
+abbrev pub IsSettled : State → Type 0
+IsSettled s = (r : ℕ) → IsPast (version s) (slice_get s.lives r)

@@ -1,5 +1,5 @@
 -- The sixteen words of a row.
-use Rattle.std.specs.Prelude.{ℕ, ◌+◌, ◌*◌, ◌/◌, ◌%◌, Bool, ◌==◌, nat_le, nat_lt, ◌&&◌, if◌then◌else◌, List, [], ◌∷◌, length, take, flat_map, slice_index, slice_range, Option, Some, None}
+use Rattle.std.specs.Prelude.{ℕ, ◌+◌, ◌*◌, ◌/◌, ◌%◌, Bool, ◌==◌, nat_le, nat_lt, ◌&&◌, if◌then◌else◌, List, [], ◌∷◌, length, take, flat_map, slice_index, slice_range, Option, Some, None, option_and_then}
 use Rattle.std.specs.Int.{w64, from_be_bytes, to_be_bytes}
 use Rattle.std.specs.Str.{bytes_eq as same_words}
 use Rattle.mst_arena.specs.declared.row.Row.{Row}
@@ -68,3 +68,7 @@ has_limits (Head layer count first tail digest) =
 -- the row that sixteen words spell: the only one that they may be of, where it is within its limits and has exactly these words
 unfoldable pub row_in : List ℕ → Option Row
 row_in words = if has_limits (candidate words) && same_words (words_of (candidate words)) words then Some (candidate words) else None
+
+-- a part of the row that words spell, where they spell one that has this part
+abbrev pub part_in : {A : Type 0} → (Row → Option A) → List ℕ → Option A
+part_in part words = option_and_then part (row_in words)

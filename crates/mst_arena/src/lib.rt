@@ -8,6 +8,7 @@ mod desk;
 mod free_rows;
 mod laws;
 mod life;
+mod parts;
 mod plain;
 mod row;
 mod rows;
@@ -15,6 +16,8 @@ mod sweep;
 #[cfg(test)]
 mod tests;
 mod words;
+#[cfg(test)]
+mod words_tests;
 
 pub use desk::{Desk, VersionsSpent};
 pub use laws::{life_laws, standing_laws, words_laws};

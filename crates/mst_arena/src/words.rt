@@ -5,9 +5,8 @@ ghost use Rattle.mst_arena.specs.declared.row.Row.{Row};
 ghost use Rattle.mst_arena.specs.Row.{IsRow, HasBytes};
 ghost use Rattle.mst_arena.specs.Words.{word_from, words_of, byte_of_words, row_in};
 
-use crate::row::Row;
+use crate::row::{EntryLinks, HeadLinks, Row};
 use mst_key::{Key, Value};
-use std::array;
 
 /// The byte at an index, and 0 past the end.
 fn byte_or_zero(bytes: &[u8], index: usize) -> u8
@@ -33,60 +32,52 @@ fn word_from(bytes: &[u8], index: usize) -> u64
     ])
 }
 
-/// Byte `index` of the words, the highest byte of each word first.
-fn byte_of_words(words: &[u64], index: usize) -> u8
-    requires there { index < 8 * length words.now }
-    ensures byte { result ≡ byte_of_words words.now index }
-{
-    words[index / 8].to_be_bytes()[index % 8]
-}
-
-/// The first 32 bytes of the words.
-fn bytes_of_words<const N: usize>(words: &[u64]) -> [u8; N]
-    requires there { N ≤ 8 * length words.now }
-    ensures bytes { result ≡ map (byte_of_words words.now) (range_with_len 0 N) }
-{
-    let mut bytes = [0; N];
-    for i in 0..N {
-        bytes[i] = byte_of_words(words, i);
-    }
-    bytes
-}
-
-/// The entry that these words may be of. Nothing is said of other words.
+/// The entry that these words may be of. Nothing is said of words that spell none.
 fn entry_of(words: &[u64; 16]) -> Option<Row>
-    ensures exact { (row : Row) → IsRow row → HasBytes row → words_of row ≡ words.now
-        → slice_index words.now 0 ≡ 1 → result ≡ Some row }
+    ensures exact { IsSome (row_in words.now) → slice_index words.now 0 ≡ 1
+        → row_in words.now ≡ result }
 {
-    let child = u32::try_from(words[1]).ok()?;
-    let next = u32::try_from(words[2]).ok()?;
-    let (key_len, value_len) = ((words[3] % 256) as usize, words[3] / 256);
-    let keys: [u8; 32] = bytes_of_words(&words[4..8]);
-    let values: [u8; 64] = bytes_of_words(&words[8..16]);
-    if key_len > 32 || value_len > 64 {
-        return None;
-    }
-    let key = Key::new(&keys[..key_len]).ok()?;
-    let value = Value::new(&values[..value_len as usize]).ok()?;
-    Some(Row::Entry {
+    let [
+        _,
         child,
         next,
-        key,
+        lengths,
+        k0,
+        k1,
+        k2,
+        k3,
+        v0,
+        v1,
+        v2,
+        v3,
+        v4,
+        v5,
+        v6,
+        v7,
+    ] = *words;
+    let links = EntryLinks::read(&[child, next, lengths, k0, k1, k2, k3])?;
+    let value = Row::read_value(lengths, &[v0, v1, v2, v3, v4, v5, v6, v7])?;
+    Some(Row::Entry {
+        child: links.child,
+        next: links.next,
+        key: links.key,
         value,
     })
 }
 
-/// The head that these words may be of. Nothing is said of other words.
+/// The head that these words may be of. Nothing is said of words that spell none.
 fn head_of(words: &[u64; 16]) -> Option<Row>
-    ensures exact { (row : Row) → IsRow row → HasBytes row → words_of row ≡ words.now
-        → slice_index words.now 0 ≡ 2 → result ≡ Some row }
+    ensures exact { IsSome (row_in words.now) → slice_index words.now 0 ≡ 2
+        → row_in words.now ≡ result }
 {
+    let [_, layer, count, first, tail, d0, d1, d2, d3, ..] = *words;
+    let links = HeadLinks::read(&[layer, count, first, tail])?;
     Some(Row::Head {
-        layer: u8::try_from(words[1]).ok()?,
-        count: u32::try_from(words[2]).ok()?,
-        first: u32::try_from(words[3]).ok()?,
-        tail: u32::try_from(words[4]).ok()?,
-        digest: bytes_of_words(&words[5..9]),
+        layer: links.layer,
+        count: links.count,
+        first: links.first,
+        tail: links.tail,
+        digest: Row::read_digest(&[d0, d1, d2, d3]),
     })
 }
 

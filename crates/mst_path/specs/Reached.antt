@@ -1,5 +1,6 @@
 -- Which rows a version reaches, beside the rows that stand for its tree.
 use Rattle.std.specs.Prelude.{◌≡◌, ◌≤◌, ◌↔◌, ℕ, true, List, map, slice_get, slice_set, Option, Some, None}
+pub use Rattle.mst_arena.specs.Lives.{IsPast, IsSettled}
 use Rattle.mst_arena.specs.Lives.{State, version, next, reaches, swept}
 use Rattle.mst_arena.specs.declared.life.Life.{Life}
 use Rattle.mst_arena.specs.declared.life.Life.TheVariants.{Free, Born, Dead}
@@ -34,14 +35,3 @@ advanced into s = record s { current = into; versions = slice_set s.versions int
 -- the dead rows that none of these versions reaches become free
 abbrev pub swept_by : List ℕ → State → State
 swept_by live s = record s { lives = map (swept live) s.lives }
-
--- a row was born with a version or an earlier one; if it is dead, it died with that version or an earlier one
-abbrev pub IsPast : ℕ → Option Life → Type 0
-IsPast v None = Unit {0}
-IsPast v (Some Free) = Unit {0}
-IsPast v (Some (Born b)) = b ≤ v
-IsPast v (Some (Dead b d)) = d ≤ v
-
--- no write is under way: no row was born or died with the version to come
-abbrev pub IsSettled : State → Type 0
-IsSettled s = (r : ℕ) → IsPast (version s) (slice_get s.lives r)

@@ -22,7 +22,7 @@ below_same zero f g same k = refl
 below_same (suc n) f g same zero = same 0 (omega arith)
 below_same (suc n) f g same (suc k) = below_same n (λ j. f (suc j)) (λ j. g (suc j)) (λ j l. same (suc j) (omega arith)) k
 
-same_row : (f g : ℕ → ℕ → ℕ) (x : ℕ) → ((k : ℕ) → k < 16 → g x k ≡ f x k) → rows_in g x ≡ rows_in f x
+pub same_row : (f g : ℕ → ℕ → ℕ) (x : ℕ) → ((k : ℕ) → k < 16 → g x k ≡ f x k) → rows_in g x ≡ rows_in f x
 same_row f g x same = λ i. rows_in (λ _ k. below_same 16 (f x) (g x) same k i) x
 
 same_root : (p q : ℕ → ℕ) → ((k : ℕ) → k < 6 → q k ≡ p k) → root_in q ≡ root_in p

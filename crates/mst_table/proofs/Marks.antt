@@ -108,7 +108,7 @@ none_of : (x : ℕ) (ps : List ℕ) → (In x ps → ⊥) → AllByRecursion (λ
 none_of x [] not = tt
 none_of x (p ∷ ps) not = (ne_eqb x p (λ is. not (inl is)), none_of x ps (λ b. not (inr b)))
 
-in_any : (x : ℕ) (ps : List ℕ) → list_any (eqb x) ps ≡ true → In x ps
+pub in_any : (x : ℕ) (ps : List ℕ) → list_any (eqb x) ps ≡ true → In x ps
 in_any x [] e = absurd (let c : false ≡ true = e in cc)
 in_any x (p ∷ ps) e = dite (ℕ_discrete x p) (λ is. inl is) (λ not. inr (in_any x ps (sym (ap (λ (b : Bool). b || list_any (eqb x) ps) (ne_eqb x p not)) ∙ e)))
 

@@ -1,24 +1,29 @@
 -- What a pass may read and write of the rows, by what it knows of the words.
-use Rattle.std.specs.Prelude.{ℕ, ◌+◌, Bool, true, false, ◌&&◌, ◌||◌, not, nat_lt, eqb, if◌then◌else◌, List, length, Option, Some, None}
-use Rattle.std.specs.List.{list_any, list_all, range_with_len}
+use Rattle.std.specs.Prelude.{ℕ, zero, suc, ◌+◌, is_some, is_none, Bool, true, false, ◌&&◌, ◌||◌, not, nat_lt, eqb, if◌then◌else◌, List, Option, Some, None}
+use Rattle.std.specs.List.{list_any}
 use Rattle.mst_arena.specs.Content.{Content}
 use Rattle.mst_arena.specs.Lives as lives
 use Rattle.mst_table.specs.declared.view.View.{View}
 use Rattle.mst_table.specs.Records.{row}
 use Rattle.mst_table.specs.Stored.{rows_in, version_of}
 
--- a pinned pass may read the rows that stand for its version, and the holder of the turn every row
+-- the holder of the turn may read every row, and a pinned pass the rows that stand for its version
 abbrev pub may_read : View → ℕ → Bool
-may_read v x = if v.turn then nat_lt x v.rows else list_any (eqb x) v.stood
+may_read v x = nat_lt x v.rows && (v.turn || (is_some v.pin && list_any (eqb x) v.stood))
 
 -- the rows that it may read, as the words spell them
 abbrev pub content_of : View → Content
 content_of v x = if may_read v x then rows_in (row v.held) x else None
 
--- a version that is kept, as far as the holder of the turn knows: that of a record which was not found drained
-abbrev pub is_kept : View → ℕ → Bool
-is_kept v r = not (list_any (eqb r) v.drained)
+-- for each number below n
+abbrev pub all_below : ℕ → (ℕ → Bool) → Bool
+all_below zero p = true
+all_below (suc n) p = p n && all_below n p
 
--- whether the holder of the turn may write a row: no version that is kept reaches it
+-- no version of a record reaches the row, but of records that were found drained
+abbrev pub is_unreached : View → ℕ → Bool
+is_unreached v x = all_below (v.passes + 2) (λ r. list_any (eqb r) v.drained || not (lives.reaches v.desk.lives (version_of v.desk r) x))
+
+-- the holder of the turn may write such rows, before it publishes
 abbrev pub is_blank : View → ℕ → Bool
-is_blank v x = v.turn && nat_lt x v.rows && list_all (λ r. not (is_kept v r && lives.reaches v.desk.lives (version_of v.desk r) x)) (range_with_len 0 (v.passes + 2))
+is_blank v x = nat_lt x v.rows && v.turn && is_none v.pin && is_none v.due && is_unreached v x

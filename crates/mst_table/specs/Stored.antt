@@ -4,7 +4,7 @@ use Rattle.std.specs.Int.{w64, to_be_bytes}
 use Rattle.mst_key.specs.declared.format.Format.TheVariants.{One}
 use Rattle.mst_key.specs.Map.{Pair}
 use Rattle.mst_key.specs.History.{after}
-use Rattle.mst_arena.specs.declared.row.Row.{Row}
+use Rattle.mst_arena.specs.Words.{row_in}
 use Rattle.mst_arena.specs.Content.{Content}
 use Rattle.mst_arena.specs.Lives as lives
 use Rattle.mst_arena.specs.declared.life.Life.TheVariants.{Free}
@@ -12,9 +12,6 @@ use Rattle.mst_arena.specs.Standing as standing
 use Rattle.mst_arena.specs.declared.row.Root.{Root}
 use Rattle.mst_table.specs.declared.view.DeskState.{DeskState}
 use Rattle.mst_table.specs.Records.{Meaning}
-
-abbrev row_in : List ℕ → Option Row
-row_in ws = None
 
 -- the rows that words spell, sixteen words a row
 abbrev pub rows_in : (ℕ → ℕ → ℕ) → Content
@@ -41,6 +38,7 @@ pub record IsDesk (x : Option lives.State) (rows passes : ℕ) (d : DeskState) :
   pub there : x ≡ Some (state_of d)
   pub rows_is : length d.lives ≡ rows
   pub records : length d.versions ≡ passes + 2
+  pub settled : lives.IsSettled (state_of d)
 
 -- the desk of a new store: record 0 is current, each record has version 0, and each row is free
 abbrev pub fresh_desk : ℕ → ℕ → lives.State

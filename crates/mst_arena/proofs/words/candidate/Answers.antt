@@ -4,10 +4,10 @@ use Rattle.mst_arena.proofs.Spelling.{from_exact}
 use Rattle.mst_arena.proofs.words.candidate.Goals as goal
 
 pub returns-in-1 : goal.returns-in-1
-returns-in-1 c = record { exact = from_exact c.args.words.now c.entry_of.result (λ row is has e. c.entry_of.ensures.exact row is has e c.in-1.is) }
+returns-in-1 c = record { exact = λ some. c.entry_of.ensures.exact some c.in-1.is }
 
 pub returns-in-2 : goal.returns-in-2
-returns-in-2 c = record { exact = from_exact c.args.words.now c.head_of.result (λ row is has e. c.head_of.ensures.exact row is has e c.in-2.is) }
+returns-in-2 c = record { exact = λ some. c.head_of.ensures.exact some c.in-2.is }
 
 pub returns-in_default : goal.returns-in_default
 returns-in_default c = record { exact = from_exact c.args.words.now None (λ row is has e. search rules) }

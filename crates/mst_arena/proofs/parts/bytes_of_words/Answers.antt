@@ -1,7 +1,7 @@
 use Rattle.std.proofs.Common.{arith}
 use Rattle.std.proofs.lemmas.List.FromFn.{fill_by_all}
 use Rattle.mst_arena.specs.Words.{byte_of_words}
-use Rattle.mst_arena.proofs.words.bytes_of_words.Goals as goal
+use Rattle.mst_arena.proofs.parts.bytes_of_words.Goals as goal
 
 pub returns : goal.returns
 returns g c =

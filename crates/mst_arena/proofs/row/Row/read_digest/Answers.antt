@@ -1,0 +1,5 @@
+use Rattle.mst_arena.proofs.Readers.{head_digest_of}
+use Rattle.mst_arena.proofs.row.Row.read_digest.Goals as goal
+
+pub returns : goal.returns
+returns c = record { part = λ all at some. head_digest_of c.args.words.now all c.bytes_of_words.result c.bytes_of_words.ensures.bytes at some }

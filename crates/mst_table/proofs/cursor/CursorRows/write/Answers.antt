@@ -1,0 +1,20 @@
+use Rattle.std.proofs.Common.{◌≡◌, ℕ, ◌+◌, ◌*◌, ◌<◌, List, length, set, get_or, rules, arith, sym, refl, ap, ◌∙◌, subst}
+use Rattle.mst_table.specs.declared.view.View.{View}
+use Rattle.mst_arena.specs.Content.{Writes}
+use Rattle.mst_table.specs.Cursor.{content_of}
+use Rattle.mst_table.proofs.Cursors.{Stored, stored_more, written, blank_stays}
+use Rattle.mst_table.proofs.cursor.CursorRows.write.Goals as goal
+
+pub loop-k-preserved : goal.loop-k-preserved
+loop-k-preserved g c = let old : View = c.args.self.now in let now : View = c.loop-k.self in let s = c.store.ensures.stored in let held = ap (λ (z : View). z.held) s in let k = c.loop-k.invariant in record {
+  kept = s ∙ ap (λ (z : View). record z { held = set now.held (c.args.row * 16 + c.loop-k.k + 240) (get_or c.words-words.result c.loop-k.k 0) }) k.kept ∙ ap (λ (h : List ℕ). record old { held = h }) (sym held);
+  stored = subst (λ (h : List ℕ). Stored c.args.row (c.loop-k.k + 1) c.words-words.result old.held h) (sym held)
+      (stored_more c.args.row c.loop-k.k c.words-words.result old.held now.held k.stored (omega arith) (let w = c.store.ensures.wide in let l = k.stored.long in omega arith) (get_or c.words-words.result c.loop-k.k 0) refl);
+}
+
+pub returns-clause-writes : goal.returns-clause-writes
+returns-clause-writes g c = let k = c.loop-k.invariant in subst (λ (z : View). Writes (content_of c.args.self.now) (content_of z) c.args.row c.args.value.now) (sym k.kept)
+    (written c.args.self.now c.args.row c.args.value.now c.words-words.result c.loop-k.self.held c.requires.blank (search rules) c.words-words.ensures.row (let e : c.loop-k.k ≡ 16 = (omega arith) in subst (λ (n : ℕ). Stored c.args.row n c.words-words.result c.args.self.now.held c.loop-k.self.held) e k.stored))
+
+pub returns-clause-blank : goal.returns-clause-blank
+returns-clause-blank g c = blank_stays c.args.self.now c.loop-k.self c.loop-k.invariant.kept
