@@ -1,18 +1,17 @@
 -- A new table: its words and its desk stand for the empty map, on no rows.
-use Rattle.std.proofs.Common.{◌≡◌, ℕ, ◌+◌, ◌*◌, ◌<◌, ◌≤◌, ◌≢◌, Bool, true, false, List, [], ◌∷◌, length, map, set, get_or, replicate, Option, Some, None, refl, sym, ap, ◌∙◌, arith, length-set, get_or-set_same, get_or-set_other}
+use Rattle.std.proofs.Common.{◌≡◌, ℕ, ◌+◌, ◌<◌, ◌≤◌, true, false, List, [], ◌∷◌, length, map, set, get_or, replicate, Option, Some, None, refl, sym, ap, ◌∙◌, subst, arith, length-set, get_or-set_same, get_or-set_other}
 use Rattle.std.specs.Prelude.{slice_index, slice_get}
 use Rattle.std.specs.List.{range_with_len}
 use Rattle.std.proofs.lemmas.List.{length-replicate, get_or-replicate}
 use Rattle.std.proofs.lemmas.Option.{slice_get-get_or, slice_get_past}
 use native.Mathlib.Decide.{dec_le}
-use Rattle.mst_key.specs.declared.format.Format.TheVariants.{One}
 use Rattle.mst_key.specs.Bytes.{IsBytes}
 use Rattle.mst_key.proofs.HistoryLaws.{Begins-nil}
 use Rattle.mst_node.specs.Text.{digest_of}
 use Rattle.mst_node.specs.Tree.{tree, tree_within}
 use Rattle.mst_arena.specs.declared.life.Life.{Life}
 use Rattle.mst_arena.specs.declared.life.Life.TheVariants.{Free}
-use Rattle.mst_arena.specs.Lives.{reached_at, reaches}
+use Rattle.mst_arena.specs.Lives.{reached_at, reaches, version, IsPast}
 use Rattle.mst_arena.specs.Standing.{none}
 use Rattle.mst_arena.specs.Words.{word_from, byte_of_words, bytes_in}
 use Rattle.mst_arena.proofs.Packing.{packed, bytes_back}
@@ -52,16 +51,16 @@ four_of (a ∷ b ∷ c ∷ d ∷ e ∷ l) long = absurd (omega arith)
 
 -- ---- what stands at the start
 
--- no version reaches a row of a fresh desk
-unreached : (n v x : ℕ) → reaches (replicate n Free) v x ≡ true → ⊥
-unreached n v x e = by (dec_le n x)
+-- a row of a fresh desk is free, and so no version reaches it, and none is born with the version to come
+at_free : (P : Option Life → Type 0) → P None → P (Some Free) → (n x : ℕ) → P (slice_get (replicate n Free) x)
+at_free P none_there free n x = by (dec_le n x)
   where
-    of : (life : Option Life) → slice_get (replicate n Free) x ≡ life → (reached_at life v ≡ true → ⊥) → ⊥
-    of life is not = not (sym (ap (λ (l : Option Life). reached_at l v) is) ∙ e)
+    by : Dec (n ≤ x) → P (slice_get (replicate n Free) x)
+    by (yes past) = subst P (sym (slice_get_past (replicate n Free) x (let l = length-replicate n Free in omega arith))) none_there
+    by (no within) = subst P (sym (slice_get-get_or (replicate n Free) x Free (let l = length-replicate n Free in omega arith) ∙ ap (λ (l : Life). Some l) (get_or-replicate n x Free Free (omega arith)))) free
 
-    by : Dec (n ≤ x) → ⊥
-    by (yes past) = of None (slice_get_past (replicate n Free) x (let l = length-replicate n Free in omega arith)) (λ t. let c : false ≡ true = t in cc)
-    by (no within) = of (Some Free) (slice_get-get_or (replicate n Free) x Free (let l = length-replicate n Free in omega arith) ∙ ap (λ (l : Life). Some l) (get_or-replicate n x Free Free (omega arith))) (λ t. let c : false ≡ true = t in cc)
+unreached : (n v x : ℕ) → reaches (replicate n Free) v x ≡ true → ⊥
+unreached n v x = at_free (λ l. reached_at l v ≡ true → ⊥) (λ e. let c : false ≡ true = e in cc) (λ e. let c : false ≡ true = e in cc) n x
 
 -- words that spell the empty root stand for the empty map, on no row
 empty_stands : (word : ℕ → ℕ → ℕ) (fields : ℕ → ℕ) → fields 1 ≡ 0 → bytes_in (fields 2 ∷ fields 3 ∷ fields 4 ∷ fields 5 ∷ []) ≡ digest_of [] → StandsOn word fields [] []
@@ -89,4 +88,4 @@ fresh_standing R N ws front digest = record {
 }
 
 pub fresh_is_desk : (R N : ℕ) → IsDesk (Some (fresh_desk R N)) R N (desk_state (fresh_desk R N))
-fresh_is_desk R N = record { there = refl; rows_is = length-replicate R Free; records = length-replicate (N + 2) 0 }
+fresh_is_desk R N = record { there = refl; rows_is = length-replicate R Free; records = length-replicate (N + 2) 0; settled = at_free (IsPast (version (fresh_desk R N))) tt tt R }

@@ -1,9 +1,9 @@
 -- The rule at the start, and a pass more.
-use Rattle.std.proofs.Common.{◌≡◌, ℕ, zero, suc, ◌+◌, ◌-◌, ◌*◌, ◌%◌, ◌<◌, ◌≤◌, ◌≢◌, ◌⊎◌, inl, true, false, List, [], ◌∷◌, ◌++◌, length, set, get_or, Option, Some, None, sym, refl, ap, ◌∙◌, subst, ⊎_elim, arith, lit<}
+use Rattle.std.proofs.Common.{◌≡◌, ℕ, zero, suc, ◌+◌, ◌-◌, ◌*◌, ◌%◌, ◌<◌, ◌≤◌, ◌≢◌, inl, true, false, List, [], ◌∷◌, length, set, get_or, Option, Some, None, sym, refl, ap, ◌∙◌, subst, ⊎_elim, arith, lit<}
 use Rattle.std.specs.Int.{bit_at}
 use Rattle.std.proofs.lemmas.Option.{none-some}
 use Rattle.std.proofs.lemmas.Nat.Bits.{bit_at-zero}
-use mathlib.Core.Option.{some, some-injective, some-ne-none}
+use mathlib.Core.Option.{some-injective, some-ne-none}
 use Rattle.atomic_table.specs.Table.{State, opening, Splits}
 use Rattle.mst_pin.specs.State as core
 use Rattle.mst_key.proofs.HistoryLaws.{Begins-nil}
