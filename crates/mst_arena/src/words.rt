@@ -1,5 +1,5 @@
 //! The sixteen words of a row.
-ghost use Rattle.std.specs.Prelude.{◌≡◌, ◌≢◌, ◌↔◌, ◌<◌, ◌≤◌, ◌*◌, length, slice_index, map, Some, IsSome, IfSome, IfNone};
+ghost use Rattle.std.specs.Prelude.{[], ◌∷◌, ◌≡◌, ◌≢◌, ◌↔◌, ◌<◌, ◌≤◌, ◌*◌, length, slice_index, map, Some, IsSome, IfSome, IfNone};
 ghost use Rattle.std.specs.List.{range_with_len};
 ghost use Rattle.mst_arena.specs.declared.row.Row.{Row};
 ghost use Rattle.mst_arena.specs.Row.{IsRow, HasBytes};
@@ -161,33 +161,9 @@ fn entry_words(child: u32, next: u32, key: &Key, value: &Value) -> [u64; 16]
     ]
 }
 
-/// The sixteen words of a head.
-fn head_words(layer: u8, count: u32, first: u32, tail: u32, digest: &[u8; 32]) -> [u64; 16]
-    ensures words { result ≡ words_of (Row.Head layer count first tail digest.now) }
-    ensures bytes { HasBytes (Row.Head layer count first tail digest.now) }
-{
-    [
-        2,
-        u64::from(layer),
-        u64::from(count),
-        u64::from(first),
-        u64::from(tail),
-        word_from(digest, 0),
-        word_from(digest, 8),
-        word_from(digest, 16),
-        word_from(digest, 24),
-        0,
-        0,
-        0,
-        0,
-        0,
-        0,
-        0,
-    ]
-}
-
 /// The four words of a digest.
 fn digest_words(digest: &[u8; 32]) -> [u64; 4]
+    ensures words { result ≡ word_from digest.now 0 ∷ word_from digest.now 8 ∷ word_from digest.now 16 ∷ word_from digest.now 24 ∷ [] }
     ensures bytes { bytes_in result ≡ digest.now }
 {
     [
@@ -195,6 +171,32 @@ fn digest_words(digest: &[u8; 32]) -> [u64; 4]
         word_from(digest, 8),
         word_from(digest, 16),
         word_from(digest, 24),
+    ]
+}
+
+/// The sixteen words of a head.
+fn head_words(layer: u8, count: u32, first: u32, tail: u32, digest: &[u8; 32]) -> [u64; 16]
+    ensures words { result ≡ words_of (Row.Head layer count first tail digest.now) }
+    ensures bytes { HasBytes (Row.Head layer count first tail digest.now) }
+{
+    let [d0, d1, d2, d3] = digest_words(digest);
+    [
+        2,
+        u64::from(layer),
+        u64::from(count),
+        u64::from(first),
+        u64::from(tail),
+        d0,
+        d1,
+        d2,
+        d3,
+        0,
+        0,
+        0,
+        0,
+        0,
+        0,
+        0,
     ]
 }
 
