@@ -10,7 +10,7 @@ use Rattle.mst_versions.specs.declared.reading.PinnedRoot.{PinnedRoot}
 
 -- The record is pinned. The map of the history at the pin stands at the root, on rows that the pass may read, and the version is the number of events.
 pub record HasPinned (at : PinnedRoot) (v : View) : Type 0 where
-  pub pin : v.pin ≡ Some at.record
+  pub pin : v.pin ≡ Some at.pinned
   pub version : at.version ≡ length v.place
   pub stands : Stands One (content_of v) at.root (after v.place)
   pub wide : length v.held ≡ v.rows * 16 + 240

@@ -18,7 +18,7 @@ use std::alloc::Allocator;
 #[derive(Clone, Copy, Debug, PartialEq, Eq)]
 pub struct PinnedRoot {
     /// The record that is pinned.
-    pub record: u32,
+    pub pinned: u32,
     /// The number of the version: how many events led to it.
     pub version: u64,
     pub root: Root,
@@ -39,10 +39,10 @@ pub fn pin<A: Allocator + Copy>(
     ensures same { (seat.new.table_id ≡ seat.old.table_id) × (seat.new.id ≡ seat.old.id) }
     ensures pinned { Pins seat.old.me result seat.new.me }
 {
-    let record = board.pin(seat, number);
-    let (version, root) = read_root(board, seat, record);
+    let pinned = board.pin(seat, number);
+    let (version, root) = read_root(board, seat, pinned);
     PinnedRoot {
-        record,
+        pinned,
         version,
         root,
     }
@@ -59,7 +59,7 @@ pub fn get<A: Allocator + Copy>(
     requires wide { board.now.words ≡ seat.old.me.0.rows * 16 + 240 }
     requires pinned { HasPinned at.now seat.old.me.0 }
     ensures found { result ≡ look (after seat.old.me.0.place) key.now }
-    ensures same { seat.new ≡ seat.old }
+    ensures same { (seat.new.table_id ≡ seat.old.table_id) × (seat.new.id ≡ seat.old.id) × (seat.new.me ≡ seat.old.me) }
 {
     mst_read::get(&mut Cursor::new(board, seat), &at.root, key)
 }
@@ -75,7 +75,7 @@ pub fn next<A: Allocator + Copy>(
     requires wide { board.now.words ≡ seat.old.me.0.rows * 16 + 240 }
     requires pinned { HasPinned at.now seat.old.me.0 }
     ensures found { result ≡ successor (after seat.old.me.0.place) (option_copied bound.entry) }
-    ensures same { seat.new ≡ seat.old }
+    ensures same { (seat.new.table_id ≡ seat.old.table_id) × (seat.new.id ≡ seat.old.id) × (seat.new.me ≡ seat.old.me) }
 {
     mst_read::next(&mut Cursor::new(board, seat), &at.root, bound)
 }
@@ -96,7 +96,7 @@ pub fn range<A: Allocator + Copy, B: Allocator>(
     requires wide { board.now.words ≡ seat.old.me.0.rows * 16 + 240 }
     requires pinned { HasPinned at.now seat.old.me.0 }
     ensures found { IfOk result (λ found. found.items ≡ span (after seat.old.me.0.place) (option_copied from.entry) (option_copied to.entry) limit) }
-    ensures same { seat.new ≡ seat.old }
+    ensures same { (seat.new.table_id ≡ seat.old.table_id) × (seat.new.id ≡ seat.old.id) × (seat.new.me ≡ seat.old.me) }
 {
     mst_read::range(alloc, &mut Cursor::new(board, seat), &at.root, from, to, limit)
 }
@@ -115,7 +115,7 @@ pub fn prove<A: Allocator + Copy, B: Allocator + Copy>(
     requires wide { board.now.words ≡ seat.old.me.0.rows * 16 + 240 }
     requires pinned { HasPinned at.now seat.old.me.0 }
     ensures proof { IfOk result (λ proof. proof.items ≡ proof_text One (after seat.old.me.0.place) key.now) }
-    ensures same { seat.new ≡ seat.old }
+    ensures same { (seat.new.table_id ≡ seat.old.table_id) × (seat.new.id ≡ seat.old.id) × (seat.new.me ≡ seat.old.me) }
 {
     mst_read::prove(alloc, &mut Cursor::new(board, seat), &at.root, key)
 }
