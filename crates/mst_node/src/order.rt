@@ -1,7 +1,8 @@
 //! The order of the keys of a list.
 ghost use Rattle.std.specs.Prelude.{◌≡◌, ◌↔◌, IsTrue};
 ghost use Rattle.std.specs.declared.cmp.Ordering.TheVariants.{Less};
-ghost use Rattle.mst_key.specs.Map.{key_cmp, IsAscending};
+ghost use Rattle.mst_key.specs.Bytes.{IsKey, IsValue};
+ghost use Rattle.mst_key.specs.Map.{key_cmp, IsAscending, IsMap};
 
 use mst_key::{Key, Value};
 use std::cmp::Ordering;
@@ -17,7 +18,7 @@ pub(crate) fn precedes(one: &Key, other: &Key) -> bool
 }
 
 /// Whether the keys of the list rise strictly, as those of the empty list do.
-pub fn ascending(pairs: &[(Key, Value)]) -> bool
+fn ascending(pairs: &[(Key, Value)]) -> bool
     ensures rising { IsTrue result ↔ IsAscending pairs.now }
 {
     for i in 1..pairs.len() {
@@ -26,4 +27,22 @@ pub fn ascending(pairs: &[(Key, Value)]) -> bool
         }
     }
     true
+}
+
+/// Says that the key and the value are within their limits, as all are by their types.
+fn within_limits(pair: &(Key, Value))
+    ensures limits { IsKey pair.now.0 × IsValue pair.now.1 }
+{
+    let _key = pair.0.bytes();
+    let _value = pair.1.bytes();
+}
+
+/// Whether the list is a map: whether its keys rise strictly.
+pub fn is_map(pairs: &[(Key, Value)]) -> bool
+    ensures map { IsTrue result ↔ IsMap pairs.now }
+{
+    for pair in pairs {
+        within_limits(pair);
+    }
+    ascending(pairs)
 }

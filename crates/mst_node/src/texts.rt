@@ -44,8 +44,8 @@ fn node_digest<A: Allocator>(node: &Node<A>) -> [u8; 32]
     hasher.finalize()
 }
 
-/// Appends a byte 1 and the digest of a child, or a byte 0 where there is none.
-fn push_child<A: Allocator>(out: &mut Vec<u8, A>, child: Option<[u8; 32]>) -> Result<(), Memory>
+/// Appends a byte 1 and the digest of a child, or a byte 0 where there is none, as a child stands in a node's text. `Memory` comes only where a growth was refused.
+pub fn push_child<A: Allocator>(out: &mut Vec<u8, A>, child: Option<[u8; 32]>) -> Result<(), Memory>
     ensures ok { OnOk result (out.new.items ≡ out.old.items ++ child_text child) }
 {
     match child {
@@ -61,8 +61,8 @@ fn push_child<A: Allocator>(out: &mut Vec<u8, A>, child: Option<[u8; 32]>) -> Re
     }
 }
 
-/// Appends bytes behind their number.
-fn push_counted<A: Allocator>(out: &mut Vec<u8, A>, bytes: &[u8]) -> Result<(), Memory>
+/// Appends bytes behind their number, at most 255, as a key and a value stand in a node's text. `Memory` comes only where a growth was refused.
+pub fn push_counted<A: Allocator>(out: &mut Vec<u8, A>, bytes: &[u8]) -> Result<(), Memory>
     requires few { length bytes.now ≤ 255 }
     ensures ok { OnOk result (out.new.items ≡ out.old.items ++ counted bytes.now) }
 {

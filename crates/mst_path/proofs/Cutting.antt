@@ -77,10 +77,10 @@ module _ (content : Content) (k : List ℕ) (links : HeadLinks) (es : List Place
   entries_are tail = ap (λ (l : List PlacedEntry). entries_to l tail) o.whole ∙ entries_to-append o.before o.rest tail
 
   -- nothing is left
-  pub cut_end : (tail : Placed) → link_of tail ≡ links.tail → all ≡ done → CutGap k es tail (record { first = links.first; count = links.count }) links.tail (record { first = link; count = 0 })
+  pub cut_end : (tail : Placed) → link_of tail ≡ links.tail → all ≡ done → CutGap k es tail (record { first = links.first; count = links.count }) links.tail (record { first = 0; count = 0 })
   cut_end tail tail_is end = go o.rest refl
     where
-      go : (l : List PlacedEntry) → o.rest ≡ l → CutGap k es tail (record { first = links.first; count = links.count }) links.tail (record { first = link; count = 0 })
+      go : (l : List PlacedEntry) → o.rest ≡ l → CutGap k es tail (record { first = links.first; count = links.count }) links.tail (record { first = 0; count = 0 })
       go (x ∷ xs) e = absurd (omega (arith, o.left, end, ap (λ (l : List PlacedEntry). length l) e))
       go [] e =
           let first : link_from 0 [] ≡ link = sym (ap (link_from 0) e) ∙ o.first in
@@ -89,7 +89,7 @@ module _ (content : Content) (k : List ℕ) (links : HeadLinks) (es : List Place
             behind = [];
             whole = o.whole ∙ ap (λ (l : List PlacedEntry). o.before ++ l) e;
             front_is = record { counted = omega (arith, o.passed, end, all_is); begins = ap (λ (n : ℕ). link_from n o.before) first ∙ begins };
-            back_is = record { counted = refl; begins = first };
+            back_is = record { counted = refl; begins = refl };
             child_at = tail_is;
             gap = record { whole = entries_are tail ∙ ap (λ (l : List PlacedEntry). with_entries (cells_of o.before) (entries_to l tail)) e; low = o.low; high = tt };
           }

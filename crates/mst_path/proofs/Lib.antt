@@ -48,6 +48,7 @@ pub mod Lookups
 pub mod Sizes
 pub mod Changes
 pub mod Reached
+pub mod RowCounts
 pub mod FreeCounts
 pub mod Versions
 pub mod Removed

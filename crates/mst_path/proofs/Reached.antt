@@ -56,7 +56,7 @@ module _ (old new : State) (before after : List ℕ) (change : Changes old new b
   same_version = rw (change.versions.0, change.versions.1)
 
   -- a row stands after the change alone, before it alone, or both or neither
-  by_place : (r : ℕ) (A : Type 0) → (IsOnlyIn r after before → A) → (IsOnlyIn r before after → A) → ((In r before ↔ In r after) → A) → A
+  pub by_place : (r : ℕ) (A : Type 0) → (IsOnlyIn r after before → A) → (IsOnlyIn r before after → A) → ((In r before ↔ In r after) → A) → A
   by_place r A new_one left both = go (times r before) (times r after) refl refl
     where
       go : (n m : ℕ) → times r before ≡ n → times r after ≡ m → A

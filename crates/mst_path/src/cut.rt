@@ -4,7 +4,7 @@ ghost use Rattle.mst_arena.specs.Standing.{Placed, link_of};
 ghost use Rattle.mst_path.specs.Writing.{PlacedEntry};
 ghost use Rattle.mst_path.specs.Cutting.{EntriesLie, IsCut};
 
-use crate::making::Run;
+use crate::making::{Run, no_run};
 use mst_arena::{HeadLinks, Rows};
 use mst_key::Key;
 use std::cmp::Ordering;
@@ -71,15 +71,10 @@ pub(crate) fn cut_at<R: Rows>(rows: &mut R, head: &HeadLinks, key: &Key) -> Cut
             Ordering::Greater => link = entry.next,
         }
     }
+    let count = head.count;
     Cut::Gap {
-        front: Run {
-            first,
-            count: head.count,
-        },
+        front: Run { first, count },
         child: head.tail,
-        back: Run {
-            first: link,
-            count: 0,
-        },
+        back: no_run(),
     }
 }

@@ -95,6 +95,8 @@ pub fn reach_laws()
         → ReachesExactly (advanced into new).lives (version (advanced into new)) after }
     ensures settled { (old new : State) (before after : List ℕ) (into : ℕ) → Changes old new before after
         → into < length old.versions → IsSettled old → IsSettled (advanced into new) }
+    // there are as many rows as before
+    ensures rows { (old new : State) (before after : List ℕ) → Changes old new before after → length new.lives ≡ length old.lives }
     // a tree that is planted is a change from no rows
     ensures planted { (old new : State) (rows : List ℕ) → Takes old new rows → Changes old new [] rows }
     // what the current version reaches may be changed: it is alive, and of that version or an earlier one

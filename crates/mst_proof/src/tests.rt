@@ -1,5 +1,5 @@
 //! Proofs spelt out by hand or by another program (Python's hashlib), forged ones, proofs of larger maps, and refused growths.
-ghost use Rattle.std.specs.Prelude.{◌≤◌, length, IsTrue};
+ghost use Rattle.std.specs.Prelude.{◌≤◌, length};
 ghost use Rattle.mst_key.specs.Map.{IsMap};
 
 mod collisions;
@@ -10,7 +10,7 @@ mod verdicts;
 use crate::{collide, verify};
 use linked_list_allocator::LocalHeap;
 use mst_key::{Key, Memory, Value};
-use mst_node::{ascending, build, text};
+use mst_node::{build, text};
 use std::alloc::Global;
 use std::cmp::Ordering;
 use std::process::Abort;
@@ -137,17 +137,6 @@ fn proof_for(
         }
     }
     Ok(proof)
-}
-
-/// Whether the list is a map: its keys rise, since keys and values are always within their limits.
-fn is_map(pairs: &[(Key, Value)]) -> bool
-    ensures map { IsTrue result → IsMap pairs.now }
-{
-    for pair in pairs {
-        let _ = pair.0.bytes();
-        let _ = pair.1.bytes();
-    }
-    ascending(pairs)
 }
 
 /// Whether `collide` finds a pair of texts beside no tree.

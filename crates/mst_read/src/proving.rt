@@ -1,9 +1,9 @@
 //! The proof of a key's answer.
-ghost use Rattle.std.specs.Prelude.{◌≡◌, ◌≤◌, ◌++◌, List, length, OnOk, IfOk};
+ghost use Rattle.std.specs.Prelude.{◌≡◌, ◌++◌, List, length, OnOk, IfOk};
 ghost use Rattle.mst_key.specs.declared.format.Format.TheVariants.{One};
 ghost use Rattle.mst_key.specs.Map.{Pair};
 ghost use Rattle.mst_node.specs.Tree.{node};
-ghost use Rattle.mst_node.specs.Text.{child_digest, child_text, counted, text};
+ghost use Rattle.mst_node.specs.Text.{child_digest, child_text, text};
 ghost use Rattle.mst_node.specs.Trail.{proof_text};
 ghost use Rattle.mst_arena.specs.Standing.{Placed, Chain, Stands, tree_of, entries_of};
 ghost use Rattle.std.specs.Int.{w32, to_be_bytes};
@@ -14,6 +14,7 @@ use crate::descent::head_at;
 use crate::lookup::{Place, seek};
 use mst_arena::{HeadLinks, Root, Rows};
 use mst_key::{Key, Memory};
+use mst_node::{push_child, push_counted};
 use std::alloc::Allocator;
 
 /// Appends a byte 1 and the digest of the tree at the link, or a byte 0 for the empty tree.
@@ -27,24 +28,12 @@ fn push_gap<R: Rows, A: Allocator>(
         → OnOk result (out.new.items ≡ out.old.items ++ child_text (child_digest (tree_of One p))) }
     ensures same { rows.new ≡ rows.old }
 {
-    if link == 0 {
-        out.push(0)?;
+    let child = if link == 0 {
+        None
     } else {
-        let digest = rows.digest(link - 1);
-        out.push(1)?;
-        out.extend_from_slice(digest.as_slice())?;
-    }
-    Ok(())
-}
-
-/// Appends at most 255 bytes behind their number.
-fn push_counted<A: Allocator>(out: &mut Vec<u8, A>, bytes: &[u8]) -> Result<(), Memory>
-    requires few { length bytes.now ≤ 255 }
-    ensures ok { OnOk result (out.new.items ≡ out.old.items ++ counted bytes.now) }
-{
-    out.push(bytes.len() as u8)?;
-    out.extend_from_slice(bytes)?;
-    Ok(())
+        Some(rows.digest(link - 1))
+    };
+    push_child(out, child)
 }
 
 /// The text of the node behind the head.

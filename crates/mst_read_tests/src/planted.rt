@@ -1,11 +1,8 @@
 //! A map planted in plain rows.
-ghost use Rattle.std.specs.Prelude.{◌≡◌, true};
-ghost use Rattle.mst_key.specs.Bytes.{IsKey, IsValue};
-ghost use Rattle.mst_key.specs.Map.{IsMap};
 
 use mst_arena::{Desk, PlainRows, Root};
 use mst_key::{Key, Memory, Value};
-use mst_node::{ascending, build};
+use mst_node::{build, is_map};
 use mst_path::plant;
 use std::alloc::{Allocator, Global};
 use std::marker::Model;
@@ -35,24 +32,6 @@ impl Model for Planted {
     ghost view = { λ p. (p.rows, p.root) };
 
     ghost invariant = { λ p. MapStands (listed p.rows) p.root × ((m : List Pair) × Stands One (listed p.rows) p.root m) };
-}
-
-/// Says that the key and the value are within their limits, as they are by their types.
-fn within_limits(pair: &(Key, Value))
-    ensures limits { IsKey pair.now.0 × IsValue pair.now.1 }
-{
-    let _key = pair.0.bytes();
-    let _value = pair.1.bytes();
-}
-
-/// Whether the list is a map: its keys rise.
-fn is_map(pairs: &[(Key, Value)]) -> bool
-    ensures map { result ≡ true → IsMap pairs.now }
-{
-    for pair in pairs {
-        within_limits(pair);
-    }
-    ascending(pairs)
 }
 
 impl Planted {

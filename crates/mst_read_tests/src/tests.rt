@@ -1,4 +1,6 @@
 //! Get, next, range and root of planted maps.
+mod proofs;
+
 use crate::planted::Planted;
 use linked_list_allocator::LocalHeap;
 use mst_key::{Key, Memory, Value};
@@ -219,30 +221,6 @@ fn each_growth_of_a_range_is_refused(rt: HostRuntime) -> Result<(), Fail> {
         assert_eq!(rt; heap.used(), 0, "nothing is kept");
         let found = planted.range(alloc, None, None, 3)?;
         assert_eq!(rt; found.len(), 3, "and the rows are as they were");
-    }
-    assert!(rt; false, "refused with ample memory");
-    Ok(())
-}
-
-#[test]
-fn each_growth_of_a_proof_is_refused(rt: HostRuntime) -> Result<(), Fail> {
-    let alloc = rt.alloc();
-    let pairs = generated(alloc, 200, 7)?;
-    let pairs = pairs.as_slice();
-    let key = Key::new(b"no key of the map")?;
-    let mut planted = Planted::new(&rt, alloc, pairs, 1_000)?;
-    let wanted = planted.prove(alloc, &key)?;
-    for units in 1..256usize {
-        let heap = LocalHeap::new(alloc, units * 64)?;
-        match planted.prove(&heap, &key) {
-            Ok(proof) => {
-                assert!(rt; proof.as_slice() == wanted.as_slice());
-                assert!(rt; units > 4, "refused before");
-                return Ok(());
-            }
-            Err(Memory) => {}
-        }
-        assert_eq!(rt; heap.used(), 0, "nothing is kept");
     }
     assert!(rt; false, "refused with ample memory");
     Ok(())

@@ -1,4 +1,3 @@
-pub mod Counting
 pub mod Sweeping
 pub mod Writes
 pub mod Taking

@@ -1,32 +1,20 @@
 -- What lies in the table's slot: the rows of the map, the root at which it stands, and the desk that keeps births and deaths of the rows.
-use Rattle.std.specs.Prelude.{◌≡◌, ℕ, ◌+◌, ◌-◌, ◌<◌, ◌≤◌, IsTrue, nat_lt, List, [], ◌∷◌, ◌++◌, length, slice_get, slice_set, Some}
+use Rattle.std.specs.Prelude.{◌≡◌, ℕ, ◌+◌, ◌-◌, ◌<◌, ◌≤◌, IsTrue, nat_lt, [], ◌∷◌, ◌++◌, length}
 use Rattle.mst_key.specs.declared.format.Format.TheVariants.{One}
 use Rattle.mst_key.specs.declared.history.Change.{Change}
 use Rattle.mst_key.specs.History.{History, after}
 use Rattle.mst_arena.specs.Content.{listed}
-use Rattle.mst_arena.specs.Lists.{times}
-use Rattle.mst_arena.specs.Lives.{State, version, next, free_count}
+use Rattle.mst_arena.specs.Lives.{State, version, free_count}
 use Rattle.mst_arena.specs.Standing as standing
 use Rattle.mst_arena.specs.Standing.{numbers}
-use Rattle.mst_arena.specs.declared.life.Life.{Life}
-use Rattle.mst_arena.specs.declared.life.Life.TheVariants.{Free, Born, Dead}
-use Rattle.mst_path.specs.Changing.{AreOld}
+use Rattle.mst_path.specs.Reached.{ReachesExactly, IsSettled}
+use Rattle.mst_path.specs.Reached as reached
 use Rattle.mst_store.specs.Room.{last_version, rows_of, LacksRoom}
 use Rattle.mst_store.specs.declared.faults.WriteFault.{WriteFault}
 use Rattle.mst_store.specs.declared.faults.WriteFault.TheVariants.{NoRoom, Busy, VersionsSpent}
 use Rattle.mst_store.specs.declared.map_rows.MapRows.{MapRows}
 
--- the row is free, or died with the version or an earlier one
-abbrev pub IsGone : ℕ → Life → Type 0
-IsGone version Free = Unit {0}
-IsGone version (Born b) = ⊥
-IsGone version (Dead b d) = d ≤ version
-
--- each row but these is free, or died with the current version or an earlier one
-abbrev pub OthersGone : State → List ℕ → Type 0
-OthersGone s rows = (r : ℕ) (life : Life) → slice_get s.lives r ≡ Some life → times r rows ≡ 0 → IsGone (version s) life
-
--- The map of the history stands at the root, and the desk's current version is the number of events. The rows of the map were born with that version or earlier ones and live, and no other row does. Each row may be written.
+-- The map of the history stands at the root, and the desk's current version is the number of events. That version reaches exactly the rows of the map, and no write is under way. Each row may be written.
 pub record Stands {A : Type 0} (kept : MapRows A) (rows : ℕ) (log : History) : Type 0 where
   pub few : rows ≤ 65535
   pub rows_is : kept.count ≡ rows
@@ -35,8 +23,8 @@ pub record Stands {A : Type 0} (kept : MapRows A) (rows : ℕ) (log : History) :
   pub numbered : length log ≤ last_version
   pub lives : length kept.desk.lives ≡ rows
   pub records : (length kept.desk.versions ≡ 2) × (kept.desk.current < 2)
-  pub alive : AreOld kept.desk (numbers map)
-  pub gone : OthersGone kept.desk (numbers map)
+  pub settled : IsSettled kept.desk
+  pub reached : ReachesExactly kept.desk.lives (version kept.desk) (numbers map)
   pub blank : (r : ℕ) → r < rows → IsTrue (nat_lt r (length kept.rows))
 
 abbrev pub stands : {A : Type 0} → MapRows A → ℕ → History → Type 0
@@ -53,7 +41,7 @@ SomeStands kept = (rows : ℕ) × (log : History) × Stands kept rows log
 
 -- the version to come is made the current one, in the other record
 abbrev pub advanced : State → State
-advanced s = record s { current = 1 - s.current; versions = slice_set s.versions (1 - s.current) (next s) }
+advanced s = reached.advanced (1 - s.current) s
 
 -- the rows stand for the history with this change behind it, whichever pass made it
 abbrev pub StandsWith : {A : Type 0} → MapRows A → ℕ → History → Change → Type 0

@@ -1,6 +1,7 @@
 pub mod Histories
 pub mod Worlds
 pub mod Framed
+pub mod Fresh
 pub mod Bits
 pub mod Seats
 pub mod Turns

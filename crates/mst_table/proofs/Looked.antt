@@ -1,8 +1,8 @@
 -- A step that changes no word, no pin and nothing that the turn ties keeps the rule.
-use Rattle.std.proofs.Common.{◌≡◌, ℕ, ◌<◌, true, List, set, get_or, sym, refl, ap, ◌∙◌, subst}
+use Rattle.std.proofs.Common.{◌≡◌, ℕ, true, List, set, get_or, sym, refl, ap, ◌∙◌, subst}
 use lib.Seq.{set-get_or}
 use Rattle.atomic_table.specs.Table.{State, keeps, stepped}
-use Rattle.mst_key.specs.History.{History, events_of, Begins}
+use Rattle.mst_key.specs.History.{events_of, Begins}
 use Rattle.mst_table.specs.declared.view.View.{View}
 use Rattle.mst_table.specs.World.{SeatAt}
 use Rattle.mst_table.specs.Pins.{Drains, Counts}

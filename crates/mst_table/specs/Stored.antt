@@ -1,5 +1,5 @@
 -- What the words of the store mean: rows that stand for the map of a history, at the root of a record; and the desk in the slot, with no write under way.
-use Rattle.std.specs.Prelude.{◌≡◌, ℕ, ◌+◌, List, [], ◌∷◌, ◌++◌, length, true, slice_index, slice_get, Option, Some, None}
+use Rattle.std.specs.Prelude.{◌≡◌, ℕ, ◌+◌, List, [], ◌∷◌, ◌++◌, length, true, slice_index, slice_get, replicate, Option, Some, None}
 use Rattle.std.specs.Int.{w64, to_be_bytes}
 use Rattle.mst_key.specs.declared.format.Format.TheVariants.{One}
 use Rattle.mst_key.specs.Map.{Pair}
@@ -7,6 +7,7 @@ use Rattle.mst_key.specs.History.{after}
 use Rattle.mst_arena.specs.Words.{row_in}
 use Rattle.mst_arena.specs.Content.{Content}
 use Rattle.mst_arena.specs.Lives as lives
+use Rattle.mst_arena.specs.declared.life.Life.TheVariants.{Free}
 use Rattle.mst_arena.specs.Standing as standing
 use Rattle.mst_arena.specs.declared.row.Root.{Root}
 use Rattle.mst_table.specs.declared.view.DeskState.{DeskState}
@@ -38,6 +39,10 @@ pub record IsDesk (x : Option lives.State) (rows passes : ℕ) (d : DeskState) :
   pub rows_is : length d.lives ≡ rows
   pub records : length d.versions ≡ passes + 2
   pub settled : lives.IsSettled (state_of d)
+
+-- the desk of a new store: record 0 is current, each record has version 0, and each row is free
+abbrev pub fresh_desk : ℕ → ℕ → lives.State
+fresh_desk rows passes = record { current = 0; versions = replicate (passes + 2) 0; lives = replicate rows Free }
 
 -- a version reaches a row
 abbrev pub Reaches : DeskState → ℕ → ℕ → Type 0

@@ -1,16 +1,18 @@
 //! The table, and the steps of the turn.
-ghost use Rattle.std.specs.Prelude.{◌≡◌, ◌∷◌, ◌+◌, ◌*◌, [], true, false, Option, Some, None};
-ghost use Rattle.mst_table.specs.Stored.{stored};
+ghost use Rattle.std.specs.Prelude.{◌≡◌, ◌∷◌, ◌+◌, ◌*◌, ◌<◌, ◌≤◌, [], true, false, IfOk, Option, Some, None};
+ghost use Rattle.mst_table.specs.Stored.{stored, fresh_desk};
 ghost use Rattle.mst_arena.specs.Lives.{State};
 ghost use Rattle.mst_table.specs.Steps.{IsFree, IsDealer, IsGiving, Takes, Misses, Gives};
-ghost use Rattle.mst_table.specs.World.{having_dealt, newcomer};
+ghost use Rattle.mst_table.specs.World.{dealer, having_dealt, newcomer};
 ghost use Rattle.mst_table.specs.declared.view.DeskState.{DeskState};
 
 use crate::plays::{Deal, GiveTurn, TakeTurn};
 use crate::rule::Law;
 use crate::view::{Shape, View};
+use crate::words::first_words;
 use atomic_table::{Seat, Table};
 use mst_arena::Desk;
+use mst_key::Memory;
 use std::alloc::Allocator;
 use std::marker::Model;
 
@@ -42,7 +44,35 @@ impl<A: Allocator + Copy> Model for Board<A> {
     ghost invariant = { λ b. b.table.shared.table_id.slots ≡ 1 };
 }
 
+/// The slot, with the desk.
+fn one_slot<A: Allocator>(alloc: A, desk: Desk<A>) -> Result<Vec<Option<Desk<A>>, A>, Memory>
+    ensures ok { IfOk result (λ v. v.items ≡ Some desk ∷ []) }
+{
+    let Ok(mut slots) = Vec::with_capacity(alloc, 1) else {
+        return Err(Memory);
+    };
+    slots.push_reserved(Some(desk));
+    Ok(slots)
+}
+
 impl<A: Allocator + Copy> Board<A> {
+    /// A table with an empty history, and the dealer's seat. It has 240 words, and 16 more for each row. `Memory` comes where a growth was refused.
+    pub fn open(alloc: A, shape: Shape, desk: Desk<A>) -> Result<(Board<A>, PassSeat<A>), Memory>
+        requires some_rows { 0 < shape.rows }
+        requires few_rows { shape.rows ≤ 65535 }
+        requires some_passes { 0 < shape.passes }
+        requires few_passes { shape.passes ≤ 32 }
+        requires fresh { desk ≡ fresh_desk shape.rows shape.passes }
+        ensures ok { IfOk result (λ r. (r.1.table_id ≡ r.0) × (r.0.words ≡ shape.rows * 16 + 240) × (r.1.me ≡ (dealer shape.rows shape.passes 1, []))) }
+    {
+        let words = first_words(alloc, shape.rows)?;
+        let slots = one_slot(alloc, desk)?;
+        let Ok((table, seat)) = Table::new(alloc, &words, slots, &shape) else {
+            return Err(Memory);
+        };
+        Ok((Board { table }, seat))
+    }
+
     /// A seat for the next pass. It costs one load.
     pub fn deal(&self, seat: &mut PassSeat<A>) -> PassSeat<A>
         requires own { seat.old.table_id ≡ self.now }

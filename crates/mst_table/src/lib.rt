@@ -9,6 +9,7 @@ mod plays;
 mod publishing;
 mod rule;
 mod view;
+mod words;
 
 pub use board::{Board, PassSeat};
 pub use cursor::Cursor;

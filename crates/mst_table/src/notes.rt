@@ -4,9 +4,9 @@ ghost use Rattle.mst_table.specs.Notes.{note_of, having_heard, SeesAll, SeesTold
 
 use crate::board::{Board, PassSeat};
 use crate::pins::CURRENT;
-use mst_arena::Desk;
 use crate::view::View;
 use atomic_table::{Join, Play, Split};
+use mst_arena::Desk;
 use std::alloc::Allocator;
 use std::marker::{Brand, PhantomData};
 

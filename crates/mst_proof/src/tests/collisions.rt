@@ -1,9 +1,8 @@
 //! Collisions that are not there, and growths that are refused to the search for one.
-use super::{
-    THREE_PROOF, TWO_PROOF, collided_in, collided_with_none, is_map, numbered, pair, proof_for,
-};
+use super::{THREE_PROOF, TWO_PROOF, collided_in, collided_with_none, numbered, pair, proof_for};
 use linked_list_allocator::LocalHeap;
 use mst_key::{Key, Memory};
+use mst_node::is_map;
 use std::test::Fail;
 
 #[test]

@@ -1,9 +1,9 @@
 //! The proofs of larger maps.
-use super::{collided_in, is_map, numbered, proof_for};
+use super::{collided_in, numbered, proof_for};
 use crate::verify;
 use linked_list_allocator::LocalHeap;
 use mst_key::{Key, Memory};
-use mst_node::root_of;
+use mst_node::{is_map, root_of};
 use std::test::Fail;
 
 #[test]

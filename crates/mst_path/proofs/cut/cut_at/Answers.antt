@@ -3,6 +3,8 @@ use Rattle.std.specs.declared.cmp.Ordering.TheVariants.{Less, Equal, Greater}
 use Rattle.mst_key.specs.Map.{key_cmp}
 use Rattle.mst_arena.specs.Content.{Content, part_at}
 use Rattle.mst_arena.specs.Row.{entry_links}
+use Rattle.mst_path.specs.declared.making.Run.{Run}
+use Rattle.mst_path.specs.Cutting.{CutGap}
 use Rattle.mst_path.proofs.Copies.{links_there}
 use Rattle.mst_path.proofs.Cutting.{onward_starts, at_entry, cut_end, cut_gap, cut_held, cut_on}
 use Rattle.mst_path.proofs.cut.cut_at.Goals as goal
@@ -52,4 +54,5 @@ loop-count-preserved g c =
 
 pub returns-clause-cut : goal.returns-clause-cut
 returns-clause-cut g c es tail lie tail_is =
-    cut_end _ _ _ es lie _ _ _ refl (c.loop-count.invariant.onward es lie) tail tail_is (omega (arith, c.loop-count-test.false, c.loop-count.auto.count-end))
+    subst (λ (back : Run). CutGap c.args.key.now es tail (record { first = c.args.head.now.first; count = c.args.head.now.count }) c.args.head.now.tail back) (sym c.no_run.ensures.none)
+    (cut_end _ _ _ es lie _ _ _ refl (c.loop-count.invariant.onward es lie) tail tail_is (omega (arith, c.loop-count-test.false, c.loop-count.auto.count-end)))

@@ -4,6 +4,7 @@ use Rattle.mst_arena.specs.Lives.{version}
 use Rattle.mst_arena.specs.Lists.{bit}
 use Rattle.mst_path.specs.Reached.{ReachesExactly}
 use Rattle.mst_path.proofs.Reached as reached
+use Rattle.mst_path.proofs.RowCounts.{as_many}
 use Rattle.mst_path.proofs.FreeCounts.{count_swept, alone}
 use Rattle.mst_path.proofs.laws.reach_laws.Goals as goal
 
@@ -19,6 +20,9 @@ returns-clause-newest c old new before after into change there settled exact =
 
 pub returns-clause-settled : goal.returns-clause-settled
 returns-clause-settled c old new before after into change there settled = reached.settled_after old new before after change into there settled
+
+pub returns-clause-rows : goal.returns-clause-rows
+returns-clause-rows c old new before after change = as_many old new before after change
 
 pub returns-clause-planted : goal.returns-clause-planted
 returns-clause-planted c old new rows takes = reached.planted old new rows takes

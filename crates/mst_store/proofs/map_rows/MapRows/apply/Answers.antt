@@ -13,6 +13,9 @@ returns-in-Err-clause-refused g c rows log st =
     let swept = c.sweep.ensures.swept rows log st in
     omega (arith, c.in-Err.ensures.answer, swept.stood.version_is)
 
+pub returns-in-Err-clause-kept : goal.returns-in-Err-clause-kept
+returns-in-Err-clause-kept g c rows log st = (c.sweep.ensures.swept rows log st).stood
+
 pub put-requires-clause-swept : goal.put-requires-clause-swept
 put-requires-clause-swept g c = let some = c.requires.stands in (some.0, some.1, c.sweep.ensures.swept some.0 some.1 some.2)
 

@@ -11,3 +11,6 @@ pub returns-clause-rows : goal.returns-clause-rows
 returns-clause-rows g c rows log st =
     let swept = c.sweep.ensures.swept rows log st in
     omega (arith, swept.free, swept.stood.rows_is, c.free.ensures.count)
+
+pub returns-clause-kept : goal.returns-clause-kept
+returns-clause-kept g c rows log st = (c.sweep.ensures.swept rows log st).stood

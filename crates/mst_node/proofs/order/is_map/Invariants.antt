@@ -1,7 +1,7 @@
 use Rattle.std.proofs.Common.{take}
 use Rattle.std.specs.List.{AllByRecursion}
 use Rattle.mst_key.specs.Bytes.{IsKey, IsValue}
-use Rattle.mst_read_tests.proofs.planted.is_map.Given as goal
+use Rattle.mst_node.proofs.order.is_map.Given as goal
 
 -- the pairs so far are within their limits
 abbrev pub invariant-loop-pair : goal.invariant-loop-pair

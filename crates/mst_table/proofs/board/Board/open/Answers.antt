@@ -1,0 +1,20 @@
+use Rattle.std.proofs.Common.{◌≡◌, ◌<◌, ◌∷◌, [], ℕ, List, Some, Option, refl, ap, ◌∙◌, sym, subst, arith}
+use Rattle.std.specs.Prelude.{slice_index}
+use Rattle.atomic_table.specs.Table.{opening}
+use Rattle.mst_arena.specs.Lives.{State}
+use Rattle.mst_table.specs.World.{dealer}
+use Rattle.mst_table.specs.Rule.{Ruled}
+use Rattle.mst_table.specs.Stored.{stored, fresh_desk, desk_state}
+use Rattle.mst_table.proofs.Framed.{stored_framed}
+use Rattle.mst_table.proofs.Fresh.{fresh_standing, fresh_is_desk}
+use Rattle.mst_table.proofs.Opens.{opens}
+use Rattle.mst_table.proofs.board.Board.open.Goals as goal
+
+pub new-requires : goal.new-requires
+new-requires g c =
+    let R : ℕ = c.args.shape.rows in let N : ℕ = c.args.shape.passes in let d : State = fresh_desk R N in let ws : List ℕ = c.in_ok-words.words.items in
+    let front : (i : ℕ) → i < 38 → slice_index ws i ≡ 0 = c.in_ok-words.ensures.front in
+    let slots : c.in_ok-slots.slots.items ≡ Some d ∷ [] = c.in_ok-slots.ensures.ok ∙ ap (λ (x : State). Some x ∷ []) c.requires.fresh in
+    subst (λ (z : List ℕ × List (Option State)). Ruled stored R N (opening z.0 z.1 (dealer R N 1))) (λ i. (sym c.deref.ensures.value i, sym slots i))
+    (opens stored stored_framed R N ws (Some d) (desk_state d) c.in_ok-words.ensures.long (λ i l. front i (omega arith)) (let few = c.requires.few_passes in omega arith) (fresh_is_desk R N) refl
+    (fresh_standing R N ws front c.in_ok-words.ensures.digest))

@@ -1,0 +1,69 @@
+//! The words of a new table.
+ghost use Rattle.std.specs.Prelude.{◌≡◌, ◌+◌, ◌*◌, ◌<◌, ◌≤◌, ℕ, [], ◌∷◌, length, replicate, slice_index, IfOk};
+ghost use Rattle.mst_node.specs.Text.{digest_of};
+ghost use Rattle.mst_arena.specs.Words.{word_from, bytes_in};
+
+use mst_key::Memory;
+use mst_node::empty_digest;
+use std::alloc::Allocator;
+
+/// The place of the first word of the digest in record 0.
+const FIRST_DIGEST: usize = 38;
+
+/// The word of the eight bytes of a digest from an index on, the first of them highest.
+fn word_from(digest: &[u8; 32], index: usize) -> u64
+    requires there { index ≤ 24 }
+    ensures word { result ≡ word_from digest.now index }
+{
+    u64::from_be_bytes([
+        digest[index],
+        digest[index + 1],
+        digest[index + 2],
+        digest[index + 3],
+        digest[index + 4],
+        digest[index + 5],
+        digest[index + 6],
+        digest[index + 7],
+    ])
+}
+
+/// The four words of a digest.
+fn digest_words(digest: &[u8; 32]) -> [u64; 4]
+    ensures bytes { bytes_in result ≡ digest.now }
+{
+    [
+        word_from(digest, 0),
+        word_from(digest, 8),
+        word_from(digest, 16),
+        word_from(digest, 24),
+    ]
+}
+
+/// So many words of 0.
+fn zeros<A: Allocator>(alloc: A, count: usize) -> Result<Vec<u64, A>, Memory>
+    ensures ok { IfOk result (λ v. v.items ≡ replicate count 0) }
+{
+    let Ok(mut words) = Vec::with_capacity(alloc, count) else {
+        return Err(Memory);
+    };
+    for _ in 0..count {
+        words.push_reserved(0);
+    }
+    Ok(words)
+}
+
+/// The words of a table with so many rows: all of them 0, but for the digest in record 0, which is that of the empty text. `Memory` comes where the growth was refused.
+pub(crate) fn first_words<A: Allocator>(alloc: A, rows: u32) -> Result<Vec<u64, A>, Memory>
+    requires few { rows ≤ 65535 }
+    ensures long { IfOk result (λ v. length v.items ≡ rows * 16 + 240) }
+    ensures front { IfOk result (λ v. (i : ℕ) → i < 38 → slice_index v.items i ≡ 0) }
+    ensures digest { IfOk result (λ v. bytes_in (slice_index v.items 38 ∷ slice_index v.items 39 ∷ slice_index v.items 40 ∷ slice_index v.items 41 ∷ []) ≡ digest_of []) }
+{
+    let [a, b, c, d] = digest_words(&empty_digest());
+    let mut words = zeros(alloc, rows as usize * 16 + 240)?;
+    words[FIRST_DIGEST] = a;
+    words[FIRST_DIGEST + 1] = b;
+    words[FIRST_DIGEST + 2] = c;
+    words[FIRST_DIGEST + 3] = d;
+    Ok(words)
+}
