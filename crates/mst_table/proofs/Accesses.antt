@@ -16,7 +16,7 @@ use Rattle.mst_table.specs.Records as records
 use Rattle.mst_table.specs.Records.{IsBlank}
 use Rattle.mst_table.specs.Steps.{IsReadable, IsWritable}
 use Rattle.mst_table.specs.Stored.{stored, rows_in, version_of}
-use Rattle.mst_table.specs.Cursor.{may_read, content_of, all_below, is_unreached, is_blank}
+use Rattle.mst_table.specs.Access.{may_read, content_of, all_below, is_unreached, is_blank}
 use Rattle.mst_table.proofs.Framed.{same_row}
 use Rattle.mst_table.proofs.Marks.{in_any}
 
@@ -51,6 +51,7 @@ each_below (suc n) p r all lt = let a = both (p n) (all_below n p) all in dite (
 
 -- what a blank row is, read off the parts of its definition
 pub record Blank (v : View) (x : ℕ) : Type 0 where
+  pub known : x * 16 + 255 < length v.held
   pub inside : x < v.rows
   pub on : v.turn ≡ true
   pub unpinned : v.pin ≡ None
@@ -58,9 +59,12 @@ pub record Blank (v : View) (x : ℕ) : Type 0 where
   pub unreached : is_unreached v x ≡ true
 
 pub blank_parts : (v : View) (x : ℕ) → is_blank v x ≡ true → Blank v x
-blank_parts v x h = let a = both (nat_lt x v.rows && v.turn && is_none v.pin && is_none v.due) (is_unreached v x) h in let b = both (nat_lt x v.rows && v.turn && is_none v.pin) (is_none v.due) a.0 in
-    let c = both (nat_lt x v.rows && v.turn) (is_none v.pin) b.0 in let d = both (nat_lt x v.rows) v.turn c.0 in record {
-      inside = ltb-true x v.rows d.0;
+blank_parts v x h = let a = both (nat_lt (x * 16 + 255) (length v.held) && nat_lt x v.rows && v.turn && is_none v.pin && is_none v.due) (is_unreached v x) h in
+    let b = both (nat_lt (x * 16 + 255) (length v.held) && nat_lt x v.rows && v.turn && is_none v.pin) (is_none v.due) a.0 in
+    let c = both (nat_lt (x * 16 + 255) (length v.held) && nat_lt x v.rows && v.turn) (is_none v.pin) b.0 in
+    let d = both (nat_lt (x * 16 + 255) (length v.held) && nat_lt x v.rows) v.turn c.0 in let e = both (nat_lt (x * 16 + 255) (length v.held)) (nat_lt x v.rows) d.0 in record {
+      known = ltb-true (x * 16 + 255) (length v.held) e.0;
+      inside = ltb-true x v.rows e.1;
       on = d.1;
       unpinned = gone v.pin c.1;
       settled = gone v.due b.1;
@@ -121,6 +125,6 @@ written v x value words held blank long spelt s = let b = blank_parts v x blank 
 pub fill_from : (f : ℕ → ℕ) (xs : List ℕ) (a n : ℕ) → length xs ≡ n → ((k : ℕ) → k < n → get_or xs k 0 ≡ f (a + k)) → xs ≡ map f (range_with_len a n)
 fill_from f xs a n long h = ext_get_or 0 xs (map f (range_with_len a n)) (long ∙ sym (length-map-range_with_len f a n)) (λ k lt. h k (omega arith) ∙ sym (get_or-map-range_with_len f a n k (a + k) 0 (omega arith) refl))
 
--- what is blank depends on no word
-pub blank_stays : (v w : View) → w ≡ record v { held = w.held } → is_blank w ≡ is_blank v
-blank_stays v w same = ap is_blank same
+-- what is blank depends on no word, but on how many are known
+pub blank_stays : (v w : View) → w ≡ record v { held = w.held } → length w.held ≡ length v.held → is_blank w ≡ is_blank v
+blank_stays v w same long = ap is_blank same ∙ ap {B = ℕ → Bool} (λ (n : ℕ) (x : ℕ). nat_lt (x * 16 + 255) n && nat_lt x v.rows && v.turn && is_none v.pin && is_none v.due && is_unreached v x) long

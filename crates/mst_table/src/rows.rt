@@ -2,13 +2,12 @@
 ghost use Rattle.std.specs.Prelude.{◌≡◌, ◌+◌, ◌*◌, ◌<◌, ◌≤◌, length, map, slice_set, true, IsTrue};
 ghost use Rattle.std.specs.List.{range_with_len};
 ghost use Rattle.mst_table.specs.Records as records;
-ghost use Rattle.mst_table.specs.Cursor.{may_read, is_blank};
+ghost use Rattle.mst_table.specs.Access.{may_read, is_blank};
 
-use crate::board::{Board, PassSeat};
+use crate::seat::PassSeat;
 use mst_arena::{EntryLinks, HeadLinks, Row, Rows};
 use mst_key::Value;
 use std::alloc::Allocator;
-use std::marker::Model;
 
 /// The place of the first row among the words.
 const FIRST_ROW: usize = 240;
@@ -16,38 +15,7 @@ const FIRST_ROW: usize = 240;
 /// How many words a row has.
 const ROW_WORDS: usize = 16;
 
-/// The rows of the table that a pass may read, and those that it may write, by its seat.
-///
-/// A pinned pass may read the rows that stand for its version. The holder of the turn may read every row, and write those that no version reaches but of records that it found drained.
-#[derive(Drop)]
-pub struct Cursor<'a, A: Allocator + Copy> {
-    board: &'a Board<A>,
-    seat: &'a mut PassSeat<A>,
-}
-
-/// Contracts see the seat: its table, its place there, and what the pass knows and holds.
-impl<'a, A: Allocator + Copy> Model for Cursor<'a, A> {
-    ghost use Rattle.std.specs.Prelude.{◌≡◌, ◌+◌, ◌*◌, length};
-    ghost use Rattle.mst_table.specs.Cursor.{Seated};
-
-    ghost Value = { Seated };
-
-    ghost view = { λ c. record { table = c.seat.now.table_id; id = c.seat.now.id; me = c.seat.now.me } };
-
-    ghost invariant = { λ c. (c.seat.now.table_id ≡ c.board.now) × (c.board.now.words ≡ c.seat.now.me.0.rows * 16 + 240) × (length c.seat.now.me.0.held ≡ c.seat.now.me.0.rows * 16 + 240) };
-}
-
-impl<'a, A: Allocator + Copy> Cursor<'a, A> {
-    /// The rows as the pass of this seat reads and writes them.
-    pub fn new(board: &'a Board<A>, seat: &'a mut PassSeat<A>) -> Cursor<'a, A>
-        requires own { seat.old.table_id ≡ board.now }
-        requires wide { board.now.words ≡ seat.old.me.0.rows * 16 + 240 }
-        requires held { length seat.old.me.0.held ≡ seat.old.me.0.rows * 16 + 240 }
-        ensures seated { result ≡ record { table = seat.old.table_id; id = seat.old.id; me = seat.old.me } }
-    {
-        Cursor { board, seat }
-    }
-
+impl<'a, A: Allocator + Copy> PassSeat<'a, A> {
     // Word k of a row: one load.
     fn word(&mut self, row: u32, k: usize) -> u64
         requires readable { may_read self.old.me.0 row ≡ true }
@@ -55,8 +23,7 @@ impl<'a, A: Allocator + Copy> Cursor<'a, A> {
         ensures word { result ≡ records.row self.old.me.0.held row k }
         ensures same { self.new ≡ self.old }
     {
-        self.board
-            .read(self.seat, row as usize * ROW_WORDS + k + FIRST_ROW)
+        self.load(row as usize * ROW_WORDS + k + FIRST_ROW)
     }
 
     // The words of a row from one on: a load for each.
@@ -74,19 +41,18 @@ impl<'a, A: Allocator + Copy> Cursor<'a, A> {
     }
 
     // Stores word k of a blank row.
-    fn store(&mut self, row: u32, k: usize, value: u64)
+    fn store_word(&mut self, row: u32, k: usize, value: u64)
         requires blank { IsTrue (is_blank self.old.me.0 row) }
         requires there { k < 16 }
         ensures stored { self.new ≡ record self.old { me = (record self.old.me.0 { held = slice_set self.old.me.0.held (row * 16 + k + 240) value }, self.old.me.1) } }
         ensures wide { row * 16 + 256 ≤ length self.old.me.0.held }
     {
-        self.board
-            .write(self.seat, row as usize * ROW_WORDS + k + FIRST_ROW, value);
+        self.store(row as usize * ROW_WORDS + k + FIRST_ROW, value);
     }
 }
 
-impl<'a, A: Allocator + Copy> Rows for Cursor<'a, A> {
-    ghost use Rattle.mst_table.specs.Cursor.{content_of, is_blank};
+impl<'a, A: Allocator + Copy> Rows for PassSeat<'a, A> {
+    ghost use Rattle.mst_table.specs.Access.{content_of, is_blank};
 
     ghost content = { λ c. content_of c.me.0 };
 
@@ -102,7 +68,7 @@ impl<'a, A: Allocator + Copy> Rows for Cursor<'a, A> {
     fn write(&mut self, row: u32, value: &Row) {
         let words = value.words();
         for k in 0..ROW_WORDS {
-            self.store(row, k, words[k]);
+            self.store_word(row, k, words[k]);
         }
     }
 
