@@ -4,8 +4,9 @@ ghost use Rattle.mst_arena.specs.Lives.{State};
 ghost use Rattle.mst_table.specs.Access.{IsSameSeat};
 ghost use Rattle.mst_table.specs.Notes.{SeesAll, SeesTold, note_of, having_heard};
 ghost use Rattle.mst_table.specs.Pins.{In};
-ghost use Rattle.mst_table.specs.Steps.{IsFree, IsPinned, IsHolder, IsReadable, IsWritable, IsGiving, IsReady, Takes, Misses, Gives, PinsNow, Unpins, Forgets, Publishes, Transfers, Drained, Blocked, NotesCurrent, AsksCurrent};
+ghost use Rattle.mst_table.specs.Steps.{IsDealer, IsFree, IsPinned, IsHolder, IsReadable, IsWritable, IsGiving, IsReady, Takes, Misses, Gives, PinsNow, Unpins, Forgets, Publishes, Transfers, Drained, Blocked, NotesCurrent, AsksCurrent};
 ghost use Rattle.mst_table.specs.Stored.{stored, desk_state};
+ghost use Rattle.mst_table.specs.World.{having_dealt, newcomer};
 ghost use Rattle.mst_table.specs.declared.view.DeskState.{DeskState};
 
 use crate::board::{Board, Token};
@@ -35,6 +36,22 @@ impl<'a, A: Allocator + Copy> Model for PassSeat<'a, A> {
     ghost view = { λ s. record { table = s.token.table_id; id = s.token.id; me = s.token.me } };
 
     ghost invariant = { λ s. (s.token.table_id ≡ s.board.now) × (s.board.now.words ≡ s.token.me.0.rows * 16 + 240) };
+}
+
+impl<A: Allocator + Copy> Board<A> {
+    /// A seat for the next pass, by the dealer's token. It costs one load.
+    pub fn deal<'a>(&'a self, dealer: &mut Token<A>) -> PassSeat<'a, A>
+        requires own { dealer.old.table_id ≡ self.now }
+        requires wide { self.now.words ≡ dealer.old.me.0.rows * 16 + 240 }
+        requires dealer { IsDealer dealer.old.me }
+        ensures same { dealer.new.table_id ≡ dealer.old.table_id }
+        ensures dealer { dealer.new.me ≡ (having_dealt dealer.old.me.0, []) }
+        ensures own { result.table ≡ dealer.old.table_id }
+        ensures dealt { result.me ≡ (newcomer dealer.old.me.0, []) }
+    {
+        let token = self.deal_token(dealer);
+        PassSeat { board: self, token }
+    }
 }
 
 impl<'a, A: Allocator + Copy> PassSeat<'a, A> {
