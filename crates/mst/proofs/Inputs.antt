@@ -1,5 +1,5 @@
 -- One read after those that are kept.
-use Rattle.std.proofs.Common.{◌≡◌, ℕ, ◌-◌, ◌<◌, ◌≤◌, List, [], ◌++◌, length, take, arith, ap, sym, subst, ◌∙◌, append-nil, length-append, length-take}
+use Rattle.std.proofs.Common.{◌≡◌, ℕ, ◌-◌, ◌<◌, ◌≤◌, List, ◌++◌, length, take, arith, ap, subst, ◌∙◌, append-nil, length-append, length-take}
 use Rattle.mst_script.specs.Device.{Gave}
 use Rattle.mst.specs.Reading.{GaveAll, GaveMore}
 

@@ -1,5 +1,6 @@
 -- What the words of a program ask for, and how it ends early.
-use Rattle.std.specs.Prelude.{◌≡◌, ℕ, ◌<◌, Bool, true, false, if◌then◌else◌, List, [], ◌∷◌, Option, Some, None, codes}
+use Rattle.std.specs.Prelude.{◌≡◌, ℕ, ◌<◌, ◌⊎◌, Bool, true, false, if◌then◌else◌, List, [], ◌∷◌, ◌++◌, Option, Some, None, codes, string_bytes}
+use Rattle.std.specs.List.{Contains}
 use Rattle.std.specs.Str.{bytes_eq}
 use denote.Ref.{Bor}
 use Rattle.mst.specs.declared.words.Task.{Task}
@@ -7,7 +8,7 @@ use Rattle.mst.specs.declared.words.Task.TheVariants.{Run, Verify, Replay}
 use Rattle.mst.specs.declared.command.Ending.{Ending}
 use Rattle.mst.specs.declared.command.Ending.TheVariants.{Done, ProofRefused}
 use Rattle.mst.specs.declared.command.Refusal.{Refusal}
-use Rattle.mst.specs.declared.command.Refusal.TheVariants.{Device, Memory}
+use Rattle.mst.specs.declared.command.Refusal.TheVariants.{Words, NotText, Shape, BadRoot, BadKey, Device, Memory}
 
 -- the first word behind the program's name is `replay`
 abbrev pub asks_replay : List (Bor (List ℕ)) → Bool
@@ -28,6 +29,14 @@ root_and_key _ = ([], [])
 abbrev pub asks_verify : List (Bor (List ℕ)) → Option (List ℕ × List ℕ)
 asks_verify (program ∷ name ∷ words) = if bytes_eq name.now (codes "verify") then Some (root_and_key (program ∷ name ∷ words)) else None
 asks_verify _ = None
+
+-- a word that asks for help: `help`, `--help`, or one that begins with `-h`
+abbrev pub IsHelp : List ℕ → Type 0
+IsHelp word = (word ≡ codes "help") ⊎ (word ≡ codes "--help") ⊎ ((rest : List ℕ) × (word ≡ codes "-h" ++ rest))
+
+-- some word asks for help
+abbrev pub AskHelp : List (Bor (List ℕ)) → Type 0
+AskHelp words = (word : Bor (List ℕ)) × Contains words word × IsHelp word.now
 
 abbrev pub is_replay : Task → Bool
 is_replay (Run shape) = false
@@ -54,6 +63,16 @@ abbrev pub Unread : {S : Type 0} → Refusal → S → S → Type 0
 Unread Device s t = Unit {0}
 Unread Memory s t = Unit {0}
 Unread _ s t = t ≡ s
+
+-- what is said on standard error
+abbrev pub told : Refusal → List ℕ
+told (Words text) = string_bytes text
+told NotText = codes "error: invalid UTF-8 was detected in one or more arguments" ++ 10 ∷ []
+told Shape = codes "shape" ++ 10 ∷ []
+told BadRoot = codes "bad root" ++ 10 ∷ []
+told BadKey = codes "bad key" ++ 10 ∷ []
+told Device = codes "device" ++ 10 ∷ []
+told Memory = codes "memory" ++ 10 ∷ []
 
 -- the exit status
 abbrev pub status_of : Refusal → ℕ

@@ -2,12 +2,12 @@
 ghost use Rattle.std.specs.Prelude.{◌≡◌, ◌<◌, ◌≤◌, ◌-◌, ◌+◌, ◌^◌, ◌↔◌, ◌⊎◌, ℕ, OnOk, OnErr, IfOk, IfErr, IsErrOf, IsOk, Some, None, true, false};
 ghost use Rattle.mst_store.specs.Passes.{IsShape};
 ghost use Rattle.mst.specs.Programs.{RanScript, RanReplay, RanVerify};
-ghost use Rattle.mst.specs.Commanding.{IsDevice, Untouched, Unread, status_of, asks_replay, asks_verify};
+ghost use Rattle.mst.specs.Commanding.{AskHelp, IsDevice, Untouched, Unread, status_of, told, asks_replay, asks_verify};
 ghost use Rattle.mst.specs.declared.command.Ending.TheVariants.{Done, ProofRefused};
 
 use crate::events::replay_events;
 use crate::verify::run_verify;
-use crate::words::{Task, task_in};
+use crate::words::{Task, ask_help, task_in};
 use clap::error::ErrorKind;
 use mst_replay::Replay;
 use mst_script::devices::pending::write_all;
@@ -112,15 +112,22 @@ pub fn run_replay<A: Allocator + Copy, S: Source, W: Sink>(
 // Writes a whole text.
 fn put_text<W: Sink>(sink: &mut W, text: &str) -> Result<(), Device>
     requires { W.failures sink.old < 2 ^ 64 - 1 }
+    ensures written { OnOk result (W.takes sink.old text.now sink.new) }
     ensures steady { OnOk result (W.failures sink.new ≡ W.failures sink.old) }
     ensures failed { OnErr result (W.failures sink.old < W.failures sink.new) }
 {
     write_all(sink, text.as_bytes())
 }
 
-// What clap answers words that name no task: help goes to standard output, and all else is a refusal.
-fn answer_words<W: Sink>(alloc: Global, error: &clap::Error, out: &mut W) -> Result<(), Refusal>
+// What clap answers words that name no task: help that was asked for goes to standard output, and all else is a refusal.
+fn answer_words<W: Sink>(
+    alloc: Global,
+    words: &[&str],
+    error: &clap::Error,
+    out: &mut W,
+) -> Result<(), Refusal>
     requires { W.failures out.old < 2 ^ 64 - 1 }
+    ensures help { OnOk result (AskHelp words.now) }
     ensures steady { OnOk result (W.failures out.new ≡ W.failures out.old) }
     ensures device { IfErr result (λ why. IsDevice why (W.failures out.old) (W.failures out.new)) }
     ensures unwritten { IfErr result (λ why. Untouched why out.old out.new) }
@@ -131,7 +138,7 @@ fn answer_words<W: Sink>(alloc: Global, error: &clap::Error, out: &mut W) -> Res
     let Ok(text) = format!(in alloc; "{error}") else {
         return Err(Refusal::Memory);
     };
-    if error.use_stderr() {
+    if error.use_stderr() || !ask_help(words) {
         return Err(Refusal::Words(text));
     }
     match put_text(out, text.as_str()) {
@@ -149,9 +156,9 @@ fn execute<S: Source, W: Sink>(
 ) -> Result<Ending, Refusal>
     requires source { S.failures source.old < 2 ^ 64 - 1 }
     requires out { W.failures out.old < 2 ^ 64 - 1 }
-    ensures ran { asks_replay words.now ≡ false → asks_verify words.now ≡ None → OnOk result (((shape : _) × RanScript S.gives W.takes shape source.old out.old source.new out.new × (S.left source.new ≡ 0)) ⊎ (source.new ≡ source.old)) }
-    ensures replayed { asks_replay words.now ≡ true → OnOk result ((RanReplay S.gives W.takes source.old out.old source.new out.new × (S.left source.new ≡ 0)) ⊎ (source.new ≡ source.old)) }
-    ensures verified { IfOk result (λ ending. (named : _) → asks_verify words.now ≡ Some named → RanVerify S.gives S.left W.takes named source.old out.old ending source.new out.new ⊎ ((source.new ≡ source.old) × (ending ≡ Done))) }
+    ensures ran { asks_replay words.now ≡ false → asks_verify words.now ≡ None → OnOk result (((shape : _) × RanScript S.gives W.takes shape source.old out.old source.new out.new × (S.left source.new ≡ 0)) ⊎ (AskHelp words.now × (source.new ≡ source.old))) }
+    ensures replayed { asks_replay words.now ≡ true → OnOk result ((RanReplay S.gives W.takes source.old out.old source.new out.new × (S.left source.new ≡ 0)) ⊎ (AskHelp words.now × (source.new ≡ source.old))) }
+    ensures verified { IfOk result (λ ending. (named : _) → asks_verify words.now ≡ Some named → RanVerify S.gives S.left W.takes named source.old out.old ending source.new out.new ⊎ (AskHelp words.now × (source.new ≡ source.old) × (ending ≡ Done))) }
     ensures others { IfOk result (λ ending. asks_verify words.now ≡ None → ending ≡ Done) }
     ensures steady { OnOk result (S.failures source.new + W.failures out.new ≡ S.failures source.old + W.failures out.old) }
     ensures device { IfErr result (λ why. IsDevice why (S.failures source.old + W.failures out.old) (S.failures source.new + W.failures out.new)) }
@@ -163,7 +170,7 @@ fn execute<S: Source, W: Sink>(
         Ok(Task::Run(shape)) => run_script(alloc, shape, source, out)?,
         Ok(Task::Replay) => run_replay(alloc, source, out)?,
         Ok(Task::Verify(root, key)) => return run_verify(alloc, root, key, source, out),
-        Err(error) => answer_words(alloc, &error, out)?,
+        Err(error) => answer_words(alloc, words, &error, out)?,
     }
     Ok(Ending::Done)
 }
@@ -172,6 +179,7 @@ fn execute<S: Source, W: Sink>(
 pub fn complain<W: Sink>(err: &mut W, why: &Refusal) -> u8
     requires { W.failures err.old < 2 ^ 64 - 1 }
     ensures status { (W.failures err.new ≡ W.failures err.old) → result ≡ status_of why.now }
+    ensures told { (W.failures err.new ≡ W.failures err.old) → W.takes err.old (told why.now) err.new }
     ensures failed { (W.failures err.new ≡ W.failures err.old) ⊎ ((W.failures err.old < W.failures err.new) × (result ≡ 3)) }
 {
     let text = match why {
@@ -206,9 +214,9 @@ pub fn command<S: Source, O: Sink, E: Sink>(
     requires err { E.failures err.old < 2 ^ 64 - 1 }
     ensures range { (result ≡ 0) ⊎ (result ≡ 1) ⊎ (result ≡ 2) ⊎ (result ≡ 3) ⊎ (result ≡ 4) }
     ensures device { (result ≡ 3) ↔ (S.failures source.old + O.failures out.old + E.failures err.old < S.failures source.new + O.failures out.new + E.failures err.new) }
-    ensures done { result ≡ 0 → asks_replay words.now ≡ false → asks_verify words.now ≡ None → ((shape : _) × RanScript S.gives O.takes shape source.old out.old source.new out.new × (S.left source.new ≡ 0)) ⊎ (source.new ≡ source.old) }
-    ensures replayed { result ≡ 0 → asks_replay words.now ≡ true → (RanReplay S.gives O.takes source.old out.old source.new out.new × (S.left source.new ≡ 0)) ⊎ (source.new ≡ source.old) }
-    ensures verified { result ≡ 0 → (named : _) → asks_verify words.now ≡ Some named → RanVerify S.gives S.left O.takes named source.old out.old Done source.new out.new ⊎ (source.new ≡ source.old) }
+    ensures done { result ≡ 0 → asks_replay words.now ≡ false → asks_verify words.now ≡ None → ((shape : _) × RanScript S.gives O.takes shape source.old out.old source.new out.new × (S.left source.new ≡ 0)) ⊎ (AskHelp words.now × (source.new ≡ source.old)) }
+    ensures replayed { result ≡ 0 → asks_replay words.now ≡ true → (RanReplay S.gives O.takes source.old out.old source.new out.new × (S.left source.new ≡ 0)) ⊎ (AskHelp words.now × (source.new ≡ source.old)) }
+    ensures verified { result ≡ 0 → (named : _) → asks_verify words.now ≡ Some named → RanVerify S.gives S.left O.takes named source.old out.old Done source.new out.new ⊎ (AskHelp words.now × (source.new ≡ source.old)) }
     ensures proof_refused { result ≡ 1 → (named : _) × (asks_verify words.now ≡ Some named) × RanVerify S.gives S.left O.takes named source.old out.old ProofRefused source.new out.new }
     ensures silent { (result ≡ 0) ⊎ (result ≡ 1) → err.new ≡ err.old }
     ensures refused { result ≡ 2 → (source.new ≡ source.old) × (out.new ≡ out.old) }

@@ -1,7 +1,7 @@
 //! The words of the command line.
-ghost use Rattle.std.specs.Prelude.{◌≡◌, IfOk};
+ghost use Rattle.std.specs.Prelude.{◌≡◌, IfOk, true};
 ghost use Rattle.std.specs.Option.{option_map};
-ghost use Rattle.mst.specs.Commanding.{asks_replay, asks_verify, is_replay, root_and_key as named_root_and_key, verified_words};
+ghost use Rattle.mst.specs.Commanding.{AskHelp, IsHelp, asks_replay, asks_verify, is_replay, root_and_key as named_root_and_key, verified_words};
 
 use clap::{Arg, ArgAction, ArgMatches, Command, Error, value_parser};
 use mst_store::Shape;
@@ -49,6 +49,28 @@ fn program<'a>(alloc: Global) -> Result<Command<'a>, AllocError> {
         .subcommand(run)?
         .subcommand(verify)?
         .subcommand(replay)
+}
+
+// Whether a word asks for help.
+fn is_help(word: &str) -> bool
+    ensures { result ≡ true → IsHelp word.now }
+{
+    match word.as_bytes() {
+        [b'-', b'h', ..] => true,
+        _ => word == "help" || word == "--help",
+    }
+}
+
+/// Whether some word asks for help.
+pub fn ask_help(words: &[&str]) -> bool
+    ensures help { result ≡ true → AskHelp words.now }
+{
+    for word in words {
+        if is_help(word) {
+            return true;
+        }
+    }
+    false
 }
 
 // The number that an option gives. Each option has a default, so there is one.
