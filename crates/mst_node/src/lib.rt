@@ -25,7 +25,7 @@ pub use hashing::{digest, empty_digest, feed_child, feed_counted};
 pub use laws::{one_text, one_tree, order_of_tree, tree_by_gaps};
 pub use making::build;
 pub use node::{Entry, Node};
-pub use order::is_map;
+pub use order::{ascending, is_map};
 pub use place::{Place, Span};
 pub use root::root_of;
 pub use texts::{push_child, push_counted, text};

@@ -18,7 +18,7 @@ pub(crate) fn precedes(one: &Key, other: &Key) -> bool
 }
 
 /// Whether the keys of the list rise strictly, as those of the empty list do.
-fn ascending(pairs: &[(Key, Value)]) -> bool
+pub fn ascending(pairs: &[(Key, Value)]) -> bool
     ensures rising { IsTrue result ↔ IsAscending pairs.now }
 {
     for i in 1..pairs.len() {

@@ -1,7 +1,9 @@
 //! Values from another program (Python's hashlib), large lists, texts outside the grammar, and refused growths.
 ghost use Rattle.std.specs.Prelude.{◌≤◌, length};
 
-use crate::{NodeFault, build, digest, empty_digest, is_map, read_text, root_of, text, top_text};
+use crate::{
+    NodeFault, ascending, build, digest, empty_digest, is_map, read_text, root_of, text, top_text,
+};
 use linked_list_allocator::LocalHeap;
 use mst_key::{Key, Memory, Value};
 use std::alloc::{Allocator, Global};
@@ -35,7 +37,7 @@ fn top<A: Allocator + Copy>(alloc: A, pairs: &[(Key, Value)]) -> Result<Option<V
 /// The root digest of the list, which is also that of its tree's text.
 fn root_in_hex(rt: &impl Abort, alloc: Global, pairs: &[(Key, Value)]) -> Result<String, Fail> {
     assert!(rt; pairs.len() <= 65535);
-    assert!(rt; is_map(pairs));
+    assert!(rt; ascending(pairs) && is_map(pairs));
     let root = root_of(pairs);
     match top(alloc, pairs)? {
         None => assert!(rt; root == empty_digest()),
