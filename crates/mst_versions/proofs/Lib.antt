@@ -1,1 +1,2 @@
 pub mod Pinning
+pub mod Filing

@@ -1,7 +1,11 @@
-//! Versions of the map in the shared table: the one that a pass pins.
+//! Versions of the map in the shared table: the one that a pass pins, and the one that the holder of the turn makes.
 #![tactic(auto)]
 
+mod publishing;
 mod reading;
 mod roots;
+mod turn;
 
+pub use publishing::publish;
 pub use reading::{PinnedRoot, get, next, pin, prove, range};
+pub use turn::Turn;

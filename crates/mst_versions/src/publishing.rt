@@ -3,6 +3,7 @@ ghost use Rattle.std.specs.Prelude.{◌≡◌, ◌+◌, ◌*◌, ◌<◌, ◌≤
 ghost use Rattle.mst_table.specs.Access.{IsSameSeat};
 ghost use Rattle.mst_versions.specs.Turns.{HasMade, Added};
 
+use crate::roots::write_root;
 use crate::turn::Turn;
 use mst_arena::Root;
 use mst_key::Event;

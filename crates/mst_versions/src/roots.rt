@@ -2,7 +2,9 @@
 ghost use Rattle.std.specs.Prelude.{◌≡◌, ◌+◌, ◌*◌, ◌<◌, ◌≤◌, ℕ};
 ghost use Rattle.mst_table.specs.Records.{field};
 ghost use Rattle.mst_table.specs.Stored.{root_in};
-ghost use Rattle.mst_table.specs.Steps.{IsReadable};
+ghost use Rattle.mst_table.specs.Pins.{In};
+ghost use Rattle.mst_table.specs.Steps.{IsReadable, IsHolder};
+ghost use Rattle.mst_versions.specs.Filing.{IsFiled, OthersKept};
 
 use mst_arena::Root;
 use mst_table::PassSeat;
@@ -49,4 +51,36 @@ pub fn read_root<A: Allocator + Copy>(
         field(seat, which, 5),
     ];
     (version, Root::read(&words))
+}
+
+// Stores words from a place on, all of them words of a drained record.
+fn store_all<A: Allocator + Copy>(seat: &mut PassSeat<'_, A>, which: u32, words: &[u64; 6])
+    requires there { which < 34 }
+    requires holder { IsHolder seat.old.me }
+    requires drained { In which seat.old.me.0.drained }
+    ensures kept { seat.new ≡ record seat.old { me = (record seat.old.me.0 { held = seat.new.me.0.held }, seat.old.me.1) } }
+    ensures stored { IsFiled which 6 words.now seat.old.me.0.held seat.new.me.0.held }
+{
+    for k in 0..RECORD_WORDS {
+        seat.store(which as usize * RECORD_WORDS + k + FIRST_RECORD, words[k]);
+    }
+}
+
+/// Stores the version number and the root of a drained record: a store for each of its six words.
+pub fn write_root<A: Allocator + Copy>(
+    seat: &mut PassSeat<'_, A>,
+    which: u32,
+    version: u64,
+    root: &Root,
+)
+    requires there { which < 34 }
+    requires holder { IsHolder seat.old.me }
+    requires drained { In which seat.old.me.0.drained }
+    ensures kept { seat.new ≡ record seat.old { me = (record seat.old.me.0 { held = seat.new.me.0.held }, seat.old.me.1) } }
+    ensures version { field seat.new.me.0.held which 0 ≡ version }
+    ensures root { root_in (field seat.new.me.0.held which) ≡ root.now }
+    ensures others { OthersKept which seat.old.me.0.held seat.new.me.0.held }
+{
+    let [link, first, second, third, last] = root.words();
+    store_all(seat, which, &[version, link, first, second, third, last]);
 }
