@@ -3,5 +3,7 @@
 
 mod reading;
 mod roots;
+mod turn;
 
 pub use reading::{PinnedRoot, get, next, pin, prove, range};
+pub use turn::{Turn, give_back};
