@@ -8,4 +8,4 @@ mod turn;
 
 pub use publishing::publish;
 pub use reading::{PinnedRoot, get, next, pin, prove, range};
-pub use turn::Turn;
+pub use turn::{Turn, give_back};

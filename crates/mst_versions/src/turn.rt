@@ -1,6 +1,17 @@
 //! The turn: from taking it with the desk to giving both back.
+ghost use Rattle.std.specs.Prelude.{◌≡◌, ◌<◌, ◌≤◌, ◌∷◌, [], IfSome, OnNone, None};
+ghost use Rattle.mst_table.specs.Access.{IsSameSeat};
+ghost use Rattle.mst_table.specs.Steps.{IsFree, Misses, Gives};
+ghost use Rattle.mst_versions.specs.Turns.{HasTurn, Begun};
+
+use crate::roots::read_root;
+use arrayvec::ArrayVec;
 use mst_arena::{Desk, Root};
+use mst_table::PassSeat;
 use std::alloc::Allocator;
+
+/// The most records that a table has: one for each of 32 passes, and two more.
+const MOST_RECORDS: usize = 34;
 
 /// What the holder of the turn has at hand.
 #[derive(Drop)]
@@ -11,4 +22,17 @@ pub struct Turn<A: Allocator> {
     pub root: Root,
     /// A record that nobody pins, for the version to come.
     pub into: u32,
+}
+
+/// Gives the turn back with the history as it was: one exchange and one store.
+pub fn give_back<A: Allocator + Copy>(
+    seat: &mut PassSeat<'_, A>,
+    turn: Turn<A>,
+)
+    requires turn { HasTurn turn seat.old.me }
+    ensures same { IsSameSeat seat.old seat.new }
+    ensures gave { seat.new.me ≡ (record seat.old.me.0 { turn = false }, []) }
+{
+    seat.return_desk(turn.desk);
+    seat.give_turn();
 }
