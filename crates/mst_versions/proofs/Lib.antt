@@ -1,3 +1,4 @@
 pub mod Members
 pub mod Pinning
 pub mod Filing
+pub mod Ready

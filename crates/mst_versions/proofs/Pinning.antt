@@ -40,7 +40,7 @@ reads_stood v r x pin within lt = ap (λ (b : Bool). if (b && (v.turn || (is_som
     ∙ ap (λ (b : Bool). if (v.turn || b) then rows_in (row v.held) x else None) (in_list x v.stood within)
     ∙ ap (λ (b : Bool). if b then rows_in (row v.held) x else None) (or-true v.turn)
 
-each : (P : ℕ → Type 0) (xs : List ℕ) → ((x : ℕ) → In x xs → P x) → AllByRecursion P xs
+pub each : (P : ℕ → Type 0) (xs : List ℕ) → ((x : ℕ) → In x xs → P x) → AllByRecursion P xs
 each P [] all = tt
 each P (x ∷ xs) all = (all x (inl refl), each P xs (λ y within. all y (inr within)))
 
@@ -74,3 +74,8 @@ pinned_root m m' found p at is version root = subst (λ (z : Me Slot View). at.v
       };
       rest = refl;
     }
+
+-- the holder of the turn may read every row
+pub reads_all : (v : View) (x : ℕ) → v.turn ≡ true → x < v.rows → content_of v x ≡ rows_in (row v.held) x
+reads_all v x on lt = ap (λ (b : Bool). if (b && (v.turn || (is_some v.pin && list_any (eqb x) v.stood))) then rows_in (row v.held) x else None) (lt-ltb x v.rows lt)
+    ∙ ap (λ (b : Bool). if (b || (is_some v.pin && list_any (eqb x) v.stood)) then rows_in (row v.held) x else None) on

@@ -1,5 +1,5 @@
 //! The words of a record.
-ghost use Rattle.std.specs.Prelude.{◌≡◌, ◌+◌, ◌*◌, ◌<◌, ◌≤◌, ℕ};
+ghost use Rattle.std.specs.Prelude.{◌≡◌, ◌+◌, ◌*◌, ◌<◌, ◌≤◌, ℕ, length};
 ghost use Rattle.mst_table.specs.Records.{field};
 ghost use Rattle.mst_table.specs.Stored.{root_in};
 ghost use Rattle.mst_table.specs.Pins.{In};
@@ -53,11 +53,12 @@ pub fn read_root<A: Allocator + Copy>(
     (version, Root::read(&words))
 }
 
-// Stores words from a place on, all of them words of a drained record.
+// Stores the six words of a drained record.
 fn store_all<A: Allocator + Copy>(seat: &mut PassSeat<'_, A>, which: u32, words: &[u64; 6])
     requires there { which < 34 }
     requires holder { IsHolder seat.old.me }
     requires drained { In which seat.old.me.0.drained }
+    requires wide { 240 ≤ length seat.old.me.0.held }
     ensures kept { seat.new ≡ record seat.old { me = (record seat.old.me.0 { held = seat.new.me.0.held }, seat.old.me.1) } }
     ensures stored { IsFiled which 6 words.now seat.old.me.0.held seat.new.me.0.held }
 {
@@ -76,6 +77,7 @@ pub fn write_root<A: Allocator + Copy>(
     requires there { which < 34 }
     requires holder { IsHolder seat.old.me }
     requires drained { In which seat.old.me.0.drained }
+    requires wide { 240 ≤ length seat.old.me.0.held }
     ensures kept { seat.new ≡ record seat.old { me = (record seat.old.me.0 { held = seat.new.me.0.held }, seat.old.me.1) } }
     ensures version { field seat.new.me.0.held which 0 ≡ version }
     ensures root { root_in (field seat.new.me.0.held which) ≡ root.now }

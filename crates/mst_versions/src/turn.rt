@@ -1,17 +1,11 @@
 //! The turn: from taking it with the desk to giving both back.
-ghost use Rattle.std.specs.Prelude.{◌≡◌, ◌<◌, ◌≤◌, ◌∷◌, [], IfSome, OnNone, None};
+ghost use Rattle.std.specs.Prelude.{◌≡◌, [], false};
 ghost use Rattle.mst_table.specs.Access.{IsSameSeat};
-ghost use Rattle.mst_table.specs.Steps.{IsFree, Misses, Gives};
-ghost use Rattle.mst_versions.specs.Turns.{HasTurn, Begun};
+ghost use Rattle.mst_versions.specs.Turns.{HasTurn};
 
-use crate::roots::read_root;
-use arrayvec::ArrayVec;
 use mst_arena::{Desk, Root};
 use mst_table::PassSeat;
 use std::alloc::Allocator;
-
-/// The most records that a table has: one for each of 32 passes, and two more.
-const MOST_RECORDS: usize = 34;
 
 /// What the holder of the turn has at hand.
 #[derive(Drop)]
