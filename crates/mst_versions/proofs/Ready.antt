@@ -113,11 +113,15 @@ module _ {A : Type 0} (t : Turn A) (root : Root) (e : Event) (m : Seat) (made : 
 
 -- what the pass holds when the desk is back and nothing was made
 pub giving_nothing : {A : Type 0} (t : Turn A) (m m' : Seat) → HasTurn t m → m' ≡ (m.0, (0, Some t.desk) ∷ []) → (x : Option State) × (d : DeskState) × IsGiving stored x d m'
-giving_nothing t m m' has same = let h = has.holds in (Some t.desk, desk_state t.desk, subst (λ (z : Seat). IsGiving stored (Some t.desk) (desk_state t.desk) z) (sym same) record {
-  on = h.holder.0;
-  settled = h.holder.2;
-  slot = refl;
-  is_desk = record { there = refl; rows_is = h.rows_is; records = h.records; settled = has.settled };
-  current = h.current;
-  agrees = h.agrees;
-})
+giving_nothing t m m' has same = let h = has.holds in (
+  Some t.desk,
+  desk_state t.desk,
+  subst (λ (z : Seat). IsGiving stored (Some t.desk) (desk_state t.desk) z) (sym same) record {
+    on = h.holder.0;
+    settled = h.holder.2;
+    slot = refl;
+    is_desk = record { there = refl; rows_is = h.rows_is; records = h.records; settled = has.settled };
+    current = h.current;
+    agrees = h.agrees;
+  },
+)

@@ -4,6 +4,8 @@
 mod publishing;
 mod reading;
 mod roots;
+#[cfg(test)]
+mod tests;
 mod turn;
 
 pub use publishing::publish;

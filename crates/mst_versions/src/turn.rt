@@ -19,10 +19,7 @@ pub struct Turn<A: Allocator> {
 }
 
 /// Gives the turn back with the history as it was: one exchange and one store.
-pub fn give_back<A: Allocator + Copy>(
-    seat: &mut PassSeat<'_, A>,
-    turn: Turn<A>,
-)
+pub fn give_back<A: Allocator + Copy>(seat: &mut PassSeat<'_, A>, turn: Turn<A>)
     requires turn { HasTurn turn seat.old.me }
     ensures same { IsSameSeat seat.old seat.new }
     ensures gave { seat.new.me ≡ (record seat.old.me.0 { turn = false }, []) }
