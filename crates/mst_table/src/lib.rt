@@ -8,6 +8,8 @@ mod pins;
 mod plays;
 mod publishing;
 mod rule;
+#[cfg(test)]
+mod tests;
 mod view;
 mod words;
 

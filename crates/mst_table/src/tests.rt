@@ -1,0 +1,101 @@
+ghost use Rattle.std.specs.Prelude.{◌≡◌, ◌+◌, ◌*◌, [], IfOk};
+ghost use Rattle.mst_table.specs.World.{dealer};
+
+use crate::{Board, PassSeat, Shape};
+use linked_list_allocator::LocalHeap;
+use mst_arena::Desk;
+use mst_key::Memory;
+use std::alloc::Allocator;
+use std::process::Abort;
+use std::test::Fail;
+
+const SMALL: Shape = Shape { rows: 4, passes: 2 };
+
+// A table for 4 rows and 2 passes, and the dealer's seat.
+fn opened<A: Allocator + Copy>(alloc: A) -> Result<(Board<A>, PassSeat<A>), Memory>
+    ensures ok { IfOk result (λ r. (r.1.table_id ≡ r.0) × (r.0.words ≡ 4 * 16 + 240) × (r.1.me ≡ (dealer 4 2 1, []))) }
+{
+    let desk = Desk::new(alloc, SMALL.rows, SMALL.passes + 2, 0)?;
+    Board::open(alloc, SMALL, desk)
+}
+
+#[test]
+fn a_pass_pins_the_first_record(rt: HostRuntime) -> Result<(), Fail> {
+    let Ok((board, mut dealer)) = opened(rt.alloc()) else {
+        panic!(rt; "no memory")
+    };
+    let mut first = board.deal(&mut dealer);
+    let record = board.pin(&mut first, 1);
+    assert!(rt; record == 0);
+    board.unpin(&mut first, 1, record);
+    let again = board.pin(&mut first, 1);
+    assert!(rt; again == 0);
+    board.forget(&mut first, 1, again);
+    Ok(())
+}
+
+#[test]
+fn the_turn_is_one_passs(rt: HostRuntime) -> Result<(), Fail> {
+    let Ok((board, mut dealer)) = opened(rt.alloc()) else {
+        panic!(rt; "no memory")
+    };
+    let mut first = board.deal(&mut dealer);
+    let mut second = board.deal(&mut dealer);
+    assert!(rt; board.take_turn(&mut second, 2));
+    assert!(rt; !board.take_turn(&mut first, 1));
+    let desk = board.take_desk(&mut second);
+    assert!(rt; desk.current() == (0, 0) && desk.free() == 4);
+    board.return_desk(&mut second, desk);
+    board.give_turn(&mut second);
+    assert!(rt; board.take_turn(&mut first, 1));
+    Ok(())
+}
+
+#[test]
+fn records_that_nobody_pins_are_drained(rt: HostRuntime) -> Result<(), Fail> {
+    let Ok((board, mut dealer)) = opened(rt.alloc()) else {
+        panic!(rt; "no memory")
+    };
+    let mut first = board.deal(&mut dealer);
+    let mut second = board.deal(&mut dealer);
+    assert!(rt; board.pin(&mut first, 1) == 0);
+    assert!(rt; board.take_turn(&mut second, 2));
+    // the word of the current record has its number, 0, and the bit of the pass that pins it
+    assert!(rt; board.note_current(&mut second) == 1);
+    assert!(rt; board.ask_current(&mut second, 0) == 0);
+    assert!(rt; board.ask(&mut second, 1));
+    assert!(rt; board.ask(&mut second, 2));
+    assert!(rt; board.ask(&mut second, 3));
+    Ok(())
+}
+
+// Whether a table of a heap of so many bytes is opened. If not, the answer is memory, and nothing is kept.
+fn opens_in<R: Abort + AllocGlobal>(rt: &R, bytes: usize) -> bool {
+    let Ok(heap) = LocalHeap::new(rt.alloc(), bytes) else {
+        panic!(rt; "no memory")
+    };
+    match opened(&heap) {
+        Ok(_) => true,
+        Err(Memory) => {
+            assert!(rt; heap.used() == 0);
+            false
+        }
+    }
+}
+
+#[test]
+fn each_growth_of_open_is_refused_in_turn(rt: HostRuntime) -> Result<(), Fail> {
+    // The words alone take more than two kilobytes, so growths beyond the first are refused too.
+    let mut refused = 0u32;
+    for step in 1..512usize {
+        if !opens_in(&rt, step * 16) {
+            assert!(rt;
+                refused as usize == step - 1,
+                "once opened, a larger heap serves too"
+            );
+            refused = step as u32;
+        }
+    }
+    assert!(rt; 152 <= refused && refused < 511);
+    Ok(())
+}
