@@ -6,6 +6,7 @@ use linked_list_allocator::LocalHeap;
 use mst_arena::Desk;
 use mst_key::Memory;
 use std::alloc::Allocator;
+use std::marker::Brand;
 use std::process::Abort;
 use std::test::Fail;
 
@@ -35,7 +36,7 @@ fn a_pass_pins_the_first_record(rt: HostRuntime) -> Result<(), Fail> {
 }
 
 #[test]
-fn the_turn_is_one_passs(rt: HostRuntime) -> Result<(), Fail> {
+fn one_pass_has_the_turn(rt: HostRuntime) -> Result<(), Fail> {
     let Ok((board, mut dealer)) = opened(rt.alloc()) else {
         panic!(rt; "no memory")
     };
@@ -66,6 +67,21 @@ fn records_that_nobody_pins_are_drained(rt: HostRuntime) -> Result<(), Fail> {
     assert!(rt; board.ask(&mut second, 1));
     assert!(rt; board.ask(&mut second, 2));
     assert!(rt; board.ask(&mut second, 3));
+    Ok(())
+}
+
+#[test]
+fn a_note_is_heard_and_seen(rt: HostRuntime) -> Result<(), Fail> {
+    let Ok((board, mut dealer)) = opened(rt.alloc()) else {
+        panic!(rt; "no memory")
+    };
+    let mut first = board.deal(&mut dealer);
+    let mut second = board.deal(&mut dealer);
+    board.see_all(&mut first);
+    let note = board.write_note(&mut first);
+    board.hear_note::<Brand>(&mut second, note);
+    board.see_told(&mut second);
+    assert!(rt; board.pin(&mut second, 2) == 0);
     Ok(())
 }
 
