@@ -7,7 +7,7 @@ use Rattle.mst.specs.declared.words.Task.TheVariants.{Run, Verify, Replay}
 use Rattle.mst.specs.declared.command.Ending.{Ending}
 use Rattle.mst.specs.declared.command.Ending.TheVariants.{Done, ProofRefused}
 use Rattle.mst.specs.declared.command.Refusal.{Refusal}
-use Rattle.mst.specs.declared.command.Refusal.TheVariants.{Words, NotText, Shape, BadRoot, BadKey, Device, Memory}
+use Rattle.mst.specs.declared.command.Refusal.TheVariants.{Device, Memory}
 
 -- the first word behind the program's name is `replay`
 abbrev pub asks_replay : List (Bor (List ℕ)) → Bool
@@ -42,42 +42,24 @@ verified_words Replay = None
 -- how many reads and writes had failed before and after: more where this is the reason, and else as many
 abbrev pub IsDevice : Refusal → ℕ → ℕ → Type 0
 IsDevice Device before after = before < after
-IsDevice (Words text) before after = after ≡ before
-IsDevice NotText before after = after ≡ before
-IsDevice Shape before after = after ≡ before
-IsDevice BadRoot before after = after ≡ before
-IsDevice BadKey before after = after ≡ before
-IsDevice Memory before after = after ≡ before
+IsDevice _ before after = after ≡ before
 
 -- a device before and after: as it was, but where a device failed
 abbrev pub Untouched : {S : Type 0} → Refusal → S → S → Type 0
 Untouched Device s t = Unit {0}
-Untouched (Words text) s t = t ≡ s
-Untouched NotText s t = t ≡ s
-Untouched Shape s t = t ≡ s
-Untouched BadRoot s t = t ≡ s
-Untouched BadKey s t = t ≡ s
-Untouched Memory s t = t ≡ s
+Untouched _ s t = t ≡ s
 
 -- a source before and after: as it was, but where a device failed or memory was refused
 abbrev pub Unread : {S : Type 0} → Refusal → S → S → Type 0
 Unread Device s t = Unit {0}
-Unread (Words text) s t = t ≡ s
-Unread NotText s t = t ≡ s
-Unread Shape s t = t ≡ s
-Unread BadRoot s t = t ≡ s
-Unread BadKey s t = t ≡ s
 Unread Memory s t = Unit {0}
+Unread _ s t = t ≡ s
 
 -- the exit status
 abbrev pub status_of : Refusal → ℕ
-status_of (Words text) = 2
-status_of NotText = 2
-status_of Shape = 2
-status_of BadRoot = 2
-status_of BadKey = 2
 status_of Device = 3
 status_of Memory = 4
+status_of _ = 2
 
 -- the exit status of a program that was not cut short
 abbrev pub status_at : Ending → ℕ

@@ -2,6 +2,7 @@
 use Rattle.std.specs.Prelude.{ℕ, ◌+◌, ◌*◌, ◌/◌, ◌%◌, Bool, ◌==◌, nat_le, nat_lt, ◌&&◌, if◌then◌else◌, List, [], ◌∷◌, length, take, flat_map, slice_index, slice_range, Option, Some, None, option_and_then}
 use Rattle.std.specs.Int.{w64, from_be_bytes, to_be_bytes}
 use Rattle.std.specs.Str.{bytes_eq as same_words}
+use Rattle.mst_arena.specs.declared.row.Root.{Root}
 use Rattle.mst_arena.specs.declared.row.Row.{Row}
 use Rattle.mst_arena.specs.declared.row.Row.TheVariants.{Entry, Head}
 
@@ -72,3 +73,9 @@ row_in words = if has_limits (candidate words) && same_words (words_of (candidat
 -- a part of the row that words spell, where they spell one that has this part
 abbrev pub part_in : {A : Type 0} → (Row → Option A) → List ℕ → Option A
 part_in part words = option_and_then part (row_in words)
+
+-- ---- a root
+
+-- the root that five words spell: its link, and its digest in four words
+abbrev pub root_in : List ℕ → Root
+root_in words = record { link = slice_index words 0; digest = bytes_in (slice_range words 1 5) }

@@ -17,7 +17,7 @@ fn byte_of_words(words: &[u64], index: usize) -> u8
 }
 
 /// The first `N` bytes of the words.
-fn bytes_of_words<const N: usize>(words: &[u64]) -> [u8; N]
+pub(crate) fn bytes_of_words<const N: usize>(words: &[u64]) -> [u8; N]
     requires there { N ≤ 8 * length words.now }
     ensures bytes { result ≡ map (byte_of_words words.now) (range_with_len 0 N) }
 {

@@ -1,11 +1,12 @@
 //! The sixteen words of a row.
-ghost use Rattle.std.specs.Prelude.{◌≡◌, ◌≢◌, ◌↔◌, ◌<◌, ◌≤◌, ◌*◌, length, slice_index, map, Some, IsSome, IfSome, IfNone};
+ghost use Rattle.std.specs.Prelude.{[], ◌∷◌, ◌≡◌, ◌≢◌, ◌↔◌, ◌<◌, ◌≤◌, ◌*◌, length, slice_index, map, Some, IsSome, IfSome, IfNone};
 ghost use Rattle.std.specs.List.{range_with_len};
 ghost use Rattle.mst_arena.specs.declared.row.Row.{Row};
 ghost use Rattle.mst_arena.specs.Row.{IsRow, HasBytes};
-ghost use Rattle.mst_arena.specs.Words.{word_from, words_of, byte_of_words, row_in};
+ghost use Rattle.mst_arena.specs.Words.{word_from, words_of, byte_of_words, bytes_in, row_in, root_in};
 
-use crate::row::{EntryLinks, HeadLinks, Row};
+use crate::parts::bytes_of_words;
+use crate::row::{EntryLinks, HeadLinks, Root, Row};
 use mst_key::{Key, Value};
 
 /// The byte at an index, and 0 past the end.
@@ -160,21 +161,35 @@ fn entry_words(child: u32, next: u32, key: &Key, value: &Value) -> [u64; 16]
     ]
 }
 
+/// The four words of a digest.
+fn digest_words(digest: &[u8; 32]) -> [u64; 4]
+    ensures words { result ≡ word_from digest.now 0 ∷ word_from digest.now 8 ∷ word_from digest.now 16 ∷ word_from digest.now 24 ∷ [] }
+    ensures bytes { bytes_in result ≡ digest.now }
+{
+    [
+        word_from(digest, 0),
+        word_from(digest, 8),
+        word_from(digest, 16),
+        word_from(digest, 24),
+    ]
+}
+
 /// The sixteen words of a head.
 fn head_words(layer: u8, count: u32, first: u32, tail: u32, digest: &[u8; 32]) -> [u64; 16]
     ensures words { result ≡ words_of (Row.Head layer count first tail digest.now) }
     ensures bytes { HasBytes (Row.Head layer count first tail digest.now) }
 {
+    let [d0, d1, d2, d3] = digest_words(digest);
     [
         2,
         u64::from(layer),
         u64::from(count),
         u64::from(first),
         u64::from(tail),
-        word_from(digest, 0),
-        word_from(digest, 8),
-        word_from(digest, 16),
-        word_from(digest, 24),
+        d0,
+        d1,
+        d2,
+        d3,
         0,
         0,
         0,
@@ -183,4 +198,26 @@ fn head_words(layer: u8, count: u32, first: u32, tail: u32, digest: &[u8; 32]) -
         0,
         0,
     ]
+}
+
+impl Root {
+    /// The five words of a root: the link, and the digest in four words, packed big-endian.
+    pub fn words(&self) -> [u64; 5]
+        ensures root { root_in result ≡ self.now }
+    {
+        let [first, second, third, last] = digest_words(&self.digest);
+        [u64::from(self.link), first, second, third, last]
+    }
+
+    /// The root of five words, of which the first is a link, at most 65,535.
+    pub fn read(words: &[u64; 5]) -> Root
+        requires link { slice_index words.now 0 ≤ 65535 }
+        ensures root { result ≡ root_in words.now }
+    {
+        let [link, first, second, third, last] = *words;
+        Root {
+            link: link as u32,
+            digest: bytes_of_words(&[first, second, third, last]),
+        }
+    }
 }

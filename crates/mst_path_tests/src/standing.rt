@@ -1,13 +1,11 @@
 //! A map that stands in plain rows, and is changed.
-ghost use Rattle.std.specs.Prelude.{◌≡◌, ◌≤◌, ◌<◌, length, true};
-ghost use Rattle.mst_key.specs.Bytes.{IsKey, IsValue};
-ghost use Rattle.mst_key.specs.Map.{IsMap};
+ghost use Rattle.std.specs.Prelude.{◌≡◌, ◌≤◌, ◌<◌, length};
 ghost use Rattle.mst_arena.specs.Lives.{next, last_version};
 ghost use Rattle.mst_path_tests.specs.Ready.{IsPublished};
 
 use mst_arena::{Desk, PlainRows, Root};
 use mst_key::{Key, Value};
-use mst_node::{ascending, build};
+use mst_node::{build, is_map};
 use mst_path::{NoRoom, plant, put, remove};
 use std::alloc::Global;
 use std::marker::Model;
@@ -35,24 +33,6 @@ impl Model for StandingMap {
     ghost view = { λ p. (p.rows, p.desk, p.root) };
 
     ghost invariant = { λ p. IsReady p.rows p.desk p.root };
-}
-
-/// Says that the key and the value are within their limits, as they are by their types.
-fn within_limits(pair: &(Key, Value))
-    ensures limits { IsKey pair.now.0 × IsValue pair.now.1 }
-{
-    let _key = pair.0.bytes();
-    let _value = pair.1.bytes();
-}
-
-/// Whether the list is a map: its keys rise.
-fn is_map(pairs: &[(Key, Value)]) -> bool
-    ensures map { result ≡ true → IsMap pairs.now }
-{
-    for pair in pairs {
-        within_limits(pair);
-    }
-    ascending(pairs)
 }
 
 /// Makes the version to come the current one, and frees the rows that it does not reach.

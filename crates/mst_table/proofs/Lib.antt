@@ -19,4 +19,4 @@ pub mod Looked
 pub mod Seated
 pub mod Hearing
 pub mod Opens
-pub mod Cursors
+pub mod Accesses

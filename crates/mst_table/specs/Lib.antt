@@ -6,4 +6,4 @@ pub mod Rule
 pub mod Steps
 pub mod Notes
 pub mod Stored
-pub mod Cursor
+pub mod Access

@@ -1,9 +1,9 @@
 -- What the words of the store mean: rows that stand for the map of a history, at the root of a record; and the desk in the slot, with no write under way.
 use Rattle.std.specs.Prelude.{◌≡◌, ℕ, ◌+◌, List, [], ◌∷◌, ◌++◌, length, true, slice_index, slice_get, replicate, Option, Some, None}
-use Rattle.std.specs.Int.{w64, to_be_bytes}
 use Rattle.mst_key.specs.declared.format.Format.TheVariants.{One}
 use Rattle.mst_key.specs.Map.{Pair}
 use Rattle.mst_key.specs.History.{after}
+use Rattle.mst_arena.specs.Words as words
 use Rattle.mst_arena.specs.Words.{row_in}
 use Rattle.mst_arena.specs.Content.{Content}
 use Rattle.mst_arena.specs.Lives as lives
@@ -18,9 +18,9 @@ abbrev pub rows_in : (ℕ → ℕ → ℕ) → Content
 rows_in word x = row_in (word x 0 ∷ word x 1 ∷ word x 2 ∷ word x 3 ∷ word x 4 ∷ word x 5 ∷ word x 6 ∷ word x 7
     ∷ word x 8 ∷ word x 9 ∷ word x 10 ∷ word x 11 ∷ word x 12 ∷ word x 13 ∷ word x 14 ∷ word x 15 ∷ [])
 
--- the root that the words of a record spell: a link, and a digest of 32 bytes in four words
+-- the root that the words of a record spell, behind its version number
 abbrev pub root_in : (ℕ → ℕ) → Root
-root_in field = record { link = field 1; digest = to_be_bytes w64 (field 2) ++ to_be_bytes w64 (field 3) ++ to_be_bytes w64 (field 4) ++ to_be_bytes w64 (field 5) }
+root_in field = words.root_in (field 1 ∷ field 2 ∷ field 3 ∷ field 4 ∷ field 5 ∷ [])
 
 -- the words of rows and of a record stand for a map, on exactly these rows
 abbrev pub StandsOn : (ℕ → ℕ → ℕ) → (ℕ → ℕ) → List Pair → List ℕ → Type 0

@@ -16,8 +16,8 @@ use mst_key::Memory;
 use std::alloc::Allocator;
 use std::marker::Model;
 
-/// A pass's seat at one table: a token of no bytes, which carries what the pass knows.
-pub type PassSeat<A> = Seat<Option<Desk<A>>, View>;
+/// The token of a seat at one table: it has no bytes, and carries what the seat knows. The dealer's is one.
+pub type Token<A> = Seat<Option<Desk<A>>, View>;
 
 /// The place of the turn among the words.
 pub(crate) const TURN: usize = 0;
@@ -57,7 +57,7 @@ fn one_slot<A: Allocator>(alloc: A, desk: Desk<A>) -> Result<Vec<Option<Desk<A>>
 
 impl<A: Allocator + Copy> Board<A> {
     /// A table with an empty history, and the dealer's seat. It has 240 words, and 16 more for each row. `Memory` comes where a growth was refused.
-    pub fn open(alloc: A, shape: Shape, desk: Desk<A>) -> Result<(Board<A>, PassSeat<A>), Memory>
+    pub fn open(alloc: A, shape: Shape, desk: Desk<A>) -> Result<(Board<A>, Token<A>), Memory>
         requires some_rows { 0 < shape.rows }
         requires few_rows { shape.rows ≤ 65535 }
         requires some_passes { 0 < shape.passes }
@@ -74,7 +74,7 @@ impl<A: Allocator + Copy> Board<A> {
     }
 
     /// A seat for the next pass. It costs one load.
-    pub fn deal(&self, seat: &mut PassSeat<A>) -> PassSeat<A>
+    pub(crate) fn deal_token(&self, seat: &mut Token<A>) -> Token<A>
         requires own { seat.old.table_id ≡ self.now }
         requires wide { self.now.words ≡ seat.old.me.0.rows * 16 + 240 }
         requires dealer { IsDealer seat.old.me }
@@ -87,7 +87,7 @@ impl<A: Allocator + Copy> Board<A> {
     }
 
     /// Takes the turn: one compare-exchange of its word from 0 to the pass's number. True where the turn is then the pass's.
-    pub fn take_turn(&self, seat: &mut PassSeat<A>, number: u32) -> bool
+    pub(crate) fn take_turn(&self, seat: &mut Token<A>, number: u32) -> bool
         requires own { seat.old.table_id ≡ self.now }
         requires wide { self.now.words ≡ seat.old.me.0.rows * 16 + 240 }
         requires free { IsFree number seat.old.me }
@@ -103,7 +103,7 @@ impl<A: Allocator + Copy> Board<A> {
     }
 
     /// Takes the desk out of the slot: one exchange.
-    pub fn take_desk(&self, seat: &mut PassSeat<A>) -> Desk<A>
+    pub(crate) fn take_desk(&self, seat: &mut Token<A>) -> Desk<A>
         requires own { seat.old.table_id ≡ self.now }
         requires holds { (d : State) × (seat.old.me.1 ≡ (0, Some d) ∷ []) }
         ensures same { (seat.new.table_id ≡ seat.old.table_id) × (seat.new.id ≡ seat.old.id) }
@@ -117,7 +117,7 @@ impl<A: Allocator + Copy> Board<A> {
     }
 
     /// Lays the desk back into the slot: one exchange.
-    pub fn return_desk(&self, seat: &mut PassSeat<A>, desk: Desk<A>)
+    pub(crate) fn return_desk(&self, seat: &mut Token<A>, desk: Desk<A>)
         requires own { seat.old.table_id ≡ self.now }
         requires holds { seat.old.me.1 ≡ (0, None) ∷ [] }
         ensures same { (seat.new.table_id ≡ seat.old.table_id) × (seat.new.id ≡ seat.old.id) }
@@ -131,7 +131,7 @@ impl<A: Allocator + Copy> Board<A> {
     /// Gives the turn back: one store of 0 to its word.
     ///
     /// The desk in the slot has to say of each record that was not found drained, that its version reaches the same rows as when the turn was taken.
-    pub fn give_turn(&self, seat: &mut PassSeat<A>)
+    pub(crate) fn give_turn(&self, seat: &mut Token<A>)
         requires own { seat.old.table_id ≡ self.now }
         requires wide { self.now.words ≡ seat.old.me.0.rows * 16 + 240 }
         requires giving { (x : Option State) × (d : DeskState) × IsGiving stored x d seat.old.me }

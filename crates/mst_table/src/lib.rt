@@ -2,19 +2,20 @@
 #![tactic(auto)]
 
 mod board;
-mod cursor;
 mod notes;
 mod pins;
 mod plays;
 mod publishing;
+mod rows;
 mod rule;
+mod seat;
 #[cfg(test)]
 mod tests;
 mod view;
 mod words;
 
-pub use board::{Board, PassSeat};
-pub use cursor::Cursor;
+pub use board::{Board, Token};
 pub use notes::Telling;
 pub use plays::Naming;
+pub use seat::PassSeat;
 pub use view::{DeskState, Shape, View};

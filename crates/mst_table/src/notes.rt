@@ -2,7 +2,7 @@
 ghost use Rattle.std.specs.Prelude.{◌≡◌, ◌+◌, ◌*◌, [], false};
 ghost use Rattle.mst_table.specs.Notes.{note_of, having_heard, SeesAll, SeesTold};
 
-use crate::board::{Board, PassSeat};
+use crate::board::{Board, Token};
 use crate::pins::CURRENT;
 use crate::view::View;
 use atomic_table::{Join, Play, Split};
@@ -67,7 +67,7 @@ impl<J: Telling> Join<View> for HearNote<J> {
 
 impl<A: Allocator + Copy> Board<A> {
     /// Sees the whole history.
-    pub fn see_all(&self, seat: &mut PassSeat<A>)
+    pub(crate) fn see_all(&self, seat: &mut Token<A>)
         requires own { seat.old.table_id ≡ self.now }
         requires wide { self.now.words ≡ seat.old.me.0.rows * 16 + 240 }
         requires off { seat.old.me.0.turn ≡ false }
@@ -78,7 +78,7 @@ impl<A: Allocator + Copy> Board<A> {
     }
 
     /// Sees the history that a note told of, and no more.
-    pub fn see_told(&self, seat: &mut PassSeat<A>)
+    pub(crate) fn see_told(&self, seat: &mut Token<A>)
         requires own { seat.old.table_id ≡ self.now }
         requires wide { self.now.words ≡ seat.old.me.0.rows * 16 + 240 }
         requires off { seat.old.me.0.turn ≡ false }
@@ -89,7 +89,7 @@ impl<A: Allocator + Copy> Board<A> {
     }
 
     /// Writes a note of what the seat has seen.
-    pub fn write_note(&self, seat: &mut PassSeat<A>) -> PassSeat<A>
+    pub(crate) fn write_note(&self, seat: &mut Token<A>) -> Token<A>
         requires own { seat.old.table_id ≡ self.now }
         requires wide { self.now.words ≡ seat.old.me.0.rows * 16 + 240 }
         ensures same { (seat.new.table_id ≡ seat.old.table_id) × (seat.new.id ≡ seat.old.id) }
@@ -101,7 +101,7 @@ impl<A: Allocator + Copy> Board<A> {
     }
 
     /// Hears a note: the seat is told of the history that the note's writer had seen.
-    pub fn hear_note<J: Telling>(&self, seat: &mut PassSeat<A>, note: PassSeat<A>)
+    pub(crate) fn hear_note<J: Telling>(&self, seat: &mut Token<A>, note: Token<A>)
         requires own { (seat.old.table_id ≡ self.now) × (note.table_id ≡ self.now) }
         requires wide { self.now.words ≡ seat.old.me.0.rows * 16 + 240 }
         requires named { J.note ≡ note.me.0 }

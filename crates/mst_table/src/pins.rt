@@ -3,7 +3,7 @@ ghost use Rattle.std.specs.Prelude.{◌≡◌, ◌≢◌, ◌+◌, ◌*◌, ◌^
 ghost use Rattle.mst_table.specs.Stored.{stored};
 ghost use Rattle.mst_table.specs.Steps.{IsFree, IsPinned, PinsNow, Unpins, Forgets, IsReadable};
 
-use crate::board::{Board, PassSeat};
+use crate::board::{Board, Token};
 use crate::plays::{Forget, Pin, Read, Unpin};
 use std::alloc::Allocator;
 
@@ -24,7 +24,7 @@ fn bit_of(number: u32) -> u64
 
 impl<A: Allocator + Copy> Board<A> {
     /// Pins the current record: one xor of the pass's bit into the word of the current record. It answers the record.
-    pub fn pin(&self, seat: &mut PassSeat<A>, number: u32) -> u32
+    pub(crate) fn pin(&self, seat: &mut Token<A>, number: u32) -> u32
         requires own { seat.old.table_id ≡ self.now }
         requires wide { self.now.words ≡ seat.old.me.0.rows * 16 + 240 }
         requires free { IsFree number seat.old.me }
@@ -40,7 +40,7 @@ impl<A: Allocator + Copy> Board<A> {
     }
 
     /// Ends the pin: one xor of the pass's bit into the record's word DONE. The pass has then seen the history at its pin.
-    pub fn unpin(&self, seat: &mut PassSeat<A>, number: u32, which: u32)
+    pub(crate) fn unpin(&self, seat: &mut Token<A>, number: u32, which: u32)
         requires own { seat.old.table_id ≡ self.now }
         requires wide { self.now.words ≡ seat.old.me.0.rows * 16 + 240 }
         requires pinned { IsPinned number which seat.old.me }
@@ -56,7 +56,7 @@ impl<A: Allocator + Copy> Board<A> {
     }
 
     /// Ends the pin as [`Board::unpin`] does, but the pass has seen no more than before its pin.
-    pub fn forget(&self, seat: &mut PassSeat<A>, number: u32, which: u32)
+    pub(crate) fn forget(&self, seat: &mut Token<A>, number: u32, which: u32)
         requires own { seat.old.table_id ≡ self.now }
         requires wide { self.now.words ≡ seat.old.me.0.rows * 16 + 240 }
         requires pinned { IsPinned number which seat.old.me }
@@ -72,7 +72,7 @@ impl<A: Allocator + Copy> Board<A> {
     }
 
     /// Loads a word of a record or of a row: one load.
-    pub fn read(&self, seat: &mut PassSeat<A>, word: usize) -> u64
+    pub(crate) fn read(&self, seat: &mut Token<A>, word: usize) -> u64
         requires own { seat.old.table_id ≡ self.now }
         requires there { word < self.now.words }
         requires readable { IsReadable seat.old.me.0 word }

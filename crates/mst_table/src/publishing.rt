@@ -4,7 +4,7 @@ ghost use Rattle.mst_table.specs.Stored.{stored, desk_state};
 ghost use Rattle.mst_table.specs.Pins.{In};
 ghost use Rattle.mst_table.specs.Steps.{IsHolder, IsWritable, IsReady, Publishes, Transfers, Drained, Blocked, NotesCurrent, AsksCurrent};
 
-use crate::board::{Board, PassSeat};
+use crate::board::{Board, Token};
 use crate::pins::{CURRENT, FIRST_DONE};
 use crate::plays::{Ask, AskCurrent, Naming, NoteCurrent, Publish, Transfer, Write};
 use mst_arena::Desk;
@@ -13,7 +13,7 @@ use std::alloc::Allocator;
 
 impl<A: Allocator + Copy> Board<A> {
     /// Stores a word of a blank row or of a drained record: one store.
-    pub fn write(&self, seat: &mut PassSeat<A>, word: usize, value: u64)
+    pub(crate) fn write(&self, seat: &mut Token<A>, word: usize, value: u64)
         requires own { seat.old.table_id ≡ self.now }
         requires there { word < self.now.words }
         requires holder { IsHolder seat.old.me }
@@ -25,7 +25,7 @@ impl<A: Allocator + Copy> Board<A> {
     }
 
     /// Asks whether a record other than the current one is drained: one load of its word DONE.
-    pub fn ask(&self, seat: &mut PassSeat<A>, which: u32) -> bool
+    pub(crate) fn ask(&self, seat: &mut Token<A>, which: u32) -> bool
         requires own { seat.old.table_id ≡ self.now }
         requires wide { self.now.words ≡ seat.old.me.0.rows * 16 + 240 }
         requires holder { IsHolder seat.old.me }
@@ -44,9 +44,9 @@ impl<A: Allocator + Copy> Board<A> {
     }
 
     /// Publishes a drained record: one swap of the word of the current record, with an empty mask. It answers the word that was there: the record that was current, and the mask of its pins.
-    pub fn publish<J: Naming>(
+    pub(crate) fn publish<J: Naming>(
         &self,
-        seat: &mut PassSeat<A>,
+        seat: &mut Token<A>,
         into: u32,
         event: &Event,
         desk: &Desk<A>,
@@ -64,7 +64,7 @@ impl<A: Allocator + Copy> Board<A> {
     }
 
     /// Moves the mask that a publication brought back into the old record's word DONE: one xor.
-    pub fn transfer(&self, seat: &mut PassSeat<A>, old: u32, mask: u64)
+    pub(crate) fn transfer(&self, seat: &mut Token<A>, old: u32, mask: u64)
         requires own { seat.old.table_id ≡ self.now }
         requires wide { self.now.words ≡ seat.old.me.0.rows * 16 + 240 }
         requires there { old < 34 }
@@ -78,7 +78,7 @@ impl<A: Allocator + Copy> Board<A> {
     }
 
     /// Notes the word of the current record: one load. It answers the word.
-    pub fn note_current(&self, seat: &mut PassSeat<A>) -> u64
+    pub(crate) fn note_current(&self, seat: &mut Token<A>) -> u64
         requires own { seat.old.table_id ≡ self.now }
         requires wide { self.now.words ≡ seat.old.me.0.rows * 16 + 240 }
         requires holder { IsHolder seat.old.me }
@@ -89,7 +89,7 @@ impl<A: Allocator + Copy> Board<A> {
     }
 
     /// Loads the current record's own word DONE. Together with the mask that was noted it tells who pins the record.
-    pub fn ask_current(&self, seat: &mut PassSeat<A>, current: u32) -> u64
+    pub(crate) fn ask_current(&self, seat: &mut Token<A>, current: u32) -> u64
         requires own { seat.old.table_id ≡ self.now }
         requires wide { self.now.words ≡ seat.old.me.0.rows * 16 + 240 }
         requires holder { IsHolder seat.old.me }

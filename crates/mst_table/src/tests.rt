@@ -1,7 +1,7 @@
 ghost use Rattle.std.specs.Prelude.{◌≡◌, ◌+◌, ◌*◌, [], IfOk};
 ghost use Rattle.mst_table.specs.World.{dealer};
 
-use crate::{Board, PassSeat, Shape};
+use crate::{Board, Shape, Token};
 use linked_list_allocator::LocalHeap;
 use mst_arena::Desk;
 use mst_key::Memory;
@@ -12,8 +12,8 @@ use std::test::Fail;
 
 const SMALL: Shape = Shape { rows: 4, passes: 2 };
 
-// A table for 4 rows and 2 passes, and the dealer's seat.
-fn opened<A: Allocator + Copy>(alloc: A) -> Result<(Board<A>, PassSeat<A>), Memory>
+// A table for 4 rows and 2 passes, and the dealer's token.
+fn opened<A: Allocator + Copy>(alloc: A) -> Result<(Board<A>, Token<A>), Memory>
     ensures ok { IfOk result (λ r. (r.1.table_id ≡ r.0) × (r.0.words ≡ 4 * 16 + 240) × (r.1.me ≡ (dealer 4 2 1, []))) }
 {
     let desk = Desk::new(alloc, SMALL.rows, SMALL.passes + 2, 0)?;
@@ -26,12 +26,12 @@ fn a_pass_pins_the_first_record(rt: HostRuntime) -> Result<(), Fail> {
         panic!(rt; "no memory")
     };
     let mut first = board.deal(&mut dealer);
-    let record = board.pin(&mut first, 1);
+    let record = first.pin(1);
     assert!(rt; record == 0);
-    board.unpin(&mut first, 1, record);
-    let again = board.pin(&mut first, 1);
+    first.unpin(1, record);
+    let again = first.pin(1);
     assert!(rt; again == 0);
-    board.forget(&mut first, 1, again);
+    first.forget(1, again);
     Ok(())
 }
 
@@ -42,13 +42,13 @@ fn one_pass_has_the_turn(rt: HostRuntime) -> Result<(), Fail> {
     };
     let mut first = board.deal(&mut dealer);
     let mut second = board.deal(&mut dealer);
-    assert!(rt; board.take_turn(&mut second, 2));
-    assert!(rt; !board.take_turn(&mut first, 1));
-    let desk = board.take_desk(&mut second);
+    assert!(rt; second.take_turn(2));
+    assert!(rt; !first.take_turn(1));
+    let desk = second.take_desk();
     assert!(rt; desk.current() == (0, 0) && desk.free() == 4);
-    board.return_desk(&mut second, desk);
-    board.give_turn(&mut second);
-    assert!(rt; board.take_turn(&mut first, 1));
+    second.return_desk(desk);
+    second.give_turn();
+    assert!(rt; first.take_turn(1));
     Ok(())
 }
 
@@ -59,14 +59,14 @@ fn records_that_nobody_pins_are_drained(rt: HostRuntime) -> Result<(), Fail> {
     };
     let mut first = board.deal(&mut dealer);
     let mut second = board.deal(&mut dealer);
-    assert!(rt; board.pin(&mut first, 1) == 0);
-    assert!(rt; board.take_turn(&mut second, 2));
+    assert!(rt; first.pin(1) == 0);
+    assert!(rt; second.take_turn(2));
     // the word of the current record has its number, 0, and the bit of the pass that pins it
-    assert!(rt; board.note_current(&mut second) == 1);
-    assert!(rt; board.ask_current(&mut second, 0) == 0);
-    assert!(rt; board.ask(&mut second, 1));
-    assert!(rt; board.ask(&mut second, 2));
-    assert!(rt; board.ask(&mut second, 3));
+    assert!(rt; second.note_current() == 1);
+    assert!(rt; second.ask_current(0) == 0);
+    assert!(rt; second.ask(1));
+    assert!(rt; second.ask(2));
+    assert!(rt; second.ask(3));
     Ok(())
 }
 
@@ -77,11 +77,11 @@ fn a_note_is_heard_and_seen(rt: HostRuntime) -> Result<(), Fail> {
     };
     let mut first = board.deal(&mut dealer);
     let mut second = board.deal(&mut dealer);
-    board.see_all(&mut first);
-    let note = board.write_note(&mut first);
-    board.hear_note::<Brand>(&mut second, note);
-    board.see_told(&mut second);
-    assert!(rt; board.pin(&mut second, 2) == 0);
+    first.see_all();
+    let note = first.write_note();
+    second.hear_note::<Brand>(note);
+    second.see_told();
+    assert!(rt; second.pin(2) == 0);
     Ok(())
 }
 

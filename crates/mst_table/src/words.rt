@@ -1,8 +1,9 @@
 //! The words of a new table.
 ghost use Rattle.std.specs.Prelude.{◌≡◌, ◌+◌, ◌*◌, ◌<◌, ◌≤◌, ℕ, [], ◌∷◌, length, replicate, slice_index, IfOk};
 ghost use Rattle.mst_node.specs.Text.{digest_of};
-ghost use Rattle.mst_arena.specs.Words.{word_from, bytes_in};
+ghost use Rattle.mst_arena.specs.Words.{bytes_in};
 
+use mst_arena::Root;
 use mst_key::Memory;
 use mst_node::empty_digest;
 use std::alloc::Allocator;
@@ -10,33 +11,16 @@ use std::alloc::Allocator;
 /// The place of the first word of the digest in record 0.
 const FIRST_DIGEST: usize = 38;
 
-/// The word of the eight bytes of a digest from an index on, the first of them highest.
-fn word_from(digest: &[u8; 32], index: usize) -> u64
-    requires there { index ≤ 24 }
-    ensures word { result ≡ word_from digest.now index }
+/// The four words of the digest of the empty text.
+fn empty_digest_words() -> [u64; 4]
+    ensures bytes { bytes_in result ≡ digest_of [] }
 {
-    u64::from_be_bytes([
-        digest[index],
-        digest[index + 1],
-        digest[index + 2],
-        digest[index + 3],
-        digest[index + 4],
-        digest[index + 5],
-        digest[index + 6],
-        digest[index + 7],
-    ])
-}
-
-/// The four words of a digest.
-fn digest_words(digest: &[u8; 32]) -> [u64; 4]
-    ensures bytes { bytes_in result ≡ digest.now }
-{
-    [
-        word_from(digest, 0),
-        word_from(digest, 8),
-        word_from(digest, 16),
-        word_from(digest, 24),
-    ]
+    let root = Root {
+        link: 0,
+        digest: empty_digest(),
+    };
+    let [_, a, b, c, d] = root.words();
+    [a, b, c, d]
 }
 
 /// So many words of 0.
@@ -59,7 +43,7 @@ pub(crate) fn first_words<A: Allocator>(alloc: A, rows: u32) -> Result<Vec<u64, 
     ensures front { IfOk result (λ v. (i : ℕ) → i < 38 → slice_index v.items i ≡ 0) }
     ensures digest { IfOk result (λ v. bytes_in (slice_index v.items 38 ∷ slice_index v.items 39 ∷ slice_index v.items 40 ∷ slice_index v.items 41 ∷ []) ≡ digest_of []) }
 {
-    let [a, b, c, d] = digest_words(&empty_digest());
+    let [a, b, c, d] = empty_digest_words();
     let mut words = zeros(alloc, rows as usize * 16 + 240)?;
     words[FIRST_DIGEST] = a;
     words[FIRST_DIGEST + 1] = b;

@@ -1,4 +1,5 @@
-use Rattle.mst.proofs.Fresh.{all_of, fresh_run}
+use Rattle.mst_script.proofs.AllOf.{all_of}
+use Rattle.mst.proofs.Fresh.{fresh_run}
 use Rattle.mst.proofs.command.run_script.Goals as goal
 
 pub run-requires-clause-whole : goal.run-requires-clause-whole

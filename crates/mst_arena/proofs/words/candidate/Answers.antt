@@ -3,11 +3,5 @@ use Rattle.std.specs.Prelude.{None}
 use Rattle.mst_arena.proofs.Spelling.{from_exact}
 use Rattle.mst_arena.proofs.words.candidate.Goals as goal
 
-pub returns-in-1 : goal.returns-in-1
-returns-in-1 c = record { exact = λ some. c.entry_of.ensures.exact some c.in-1.is }
-
-pub returns-in-2 : goal.returns-in-2
-returns-in-2 c = record { exact = λ some. c.head_of.ensures.exact some c.in-2.is }
-
 pub returns-in_default : goal.returns-in_default
 returns-in_default c = record { exact = from_exact c.args.words.now None (λ row is has e. search rules) }

@@ -9,7 +9,7 @@ use Rattle.mst_path_tests.proofs.standing.StandingMap.new.Given.{Over}
 ready : (g : Over) (c : goal.After-desk-3-1 g) → Begins c.plant.new.desk
 ready g c =
     let m = c.args.pairs.now in
-    let map : IsMap m = c.is_map.ensures.map (search rules) in
+    let map : IsMap m = c.is_map.ensures.map.0 (search rules) in
     let stands = c.in_ok-root.ensures.stands m map (search rules) in
     begins c.in_ok-desk.desk c.plant.new.desk c.args.size (numbers stands) c.in_ok-desk.ensures.ok (c.in_ok-root.ensures.takes m stands)
 
@@ -25,7 +25,7 @@ publish-requires-clause-more g c = (ready g c).more
 pub invariant_of-result : goal.invariant_of-result
 invariant_of-result g c =
     let m = c.args.pairs.now in
-    let map : IsMap m = c.is_map.ensures.map (search rules) in
+    let map : IsMap m = c.is_map.ensures.map.0 (search rules) in
     let stands = c.in_ok-root.ensures.stands m map (search rules) in
     let s = c.in_ok-desk.desk in
     let places = c.in_ok-rows.rows in

@@ -1,8 +1,0 @@
-use Rattle.std.proofs.Common.{take}
-use Rattle.std.specs.List.{AllByRecursion}
-use Rattle.mst_key.specs.Bytes.{IsKey, IsValue}
-use Rattle.mst_path_tests.proofs.standing.is_map.Given as goal
-
--- the pairs so far are within their limits
-abbrev pub invariant-loop-pair : goal.invariant-loop-pair
-invariant-loop-pair l = AllByRecursion (λ p. IsKey p.0 × IsValue p.1) (take l.pair-index l.pairs)

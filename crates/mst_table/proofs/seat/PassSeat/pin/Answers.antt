@@ -1,0 +1,11 @@
+use Rattle.std.proofs.Common.{◌≡◌, ℕ, Option, ap, subst}
+use Rattle.atomic_table.specs.Table.{Me}
+use Rattle.mst_arena.specs.Lives.{State}
+use Rattle.mst_table.specs.declared.view.View.{View}
+use Rattle.mst_table.specs.Access.{Seated}
+use Rattle.mst_table.specs.Steps.{PinsNow}
+use Rattle.mst_table.specs.Stored.{stored}
+use Rattle.mst_table.proofs.seat.PassSeat.pin.Goals as goal
+
+pub returns-clause-pinned : goal.returns-clause-pinned
+returns-clause-pinned g c = subst (λ (m : Me (Option State) View). (x : ℕ) × (p : PinsNow {S = Option State} stored m x c.pin.new.seat.me) × (p.cur ≡ c.pin.result)) (ap (λ (z : Seated). z.me) c.self.view_is) c.pin.ensures.pinned

@@ -1,0 +1,41 @@
+-- What a pass may read and write of the rows, by what it knows of the words.
+use Rattle.std.specs.Prelude.{◌≡◌, ◌*◌, length, ℕ, zero, suc, ◌+◌, is_some, is_none, Bool, true, false, ◌&&◌, ◌||◌, not, nat_lt, eqb, if◌then◌else◌, List, Option, Some, None}
+use Rattle.std.specs.List.{list_any}
+use Rattle.atomic_table.specs.Seated.{TableId}
+use Rattle.atomic_table.specs.Table.{Me}
+use Rattle.mst_arena.specs.Content.{Content}
+use Rattle.mst_arena.specs.Lives as lives
+use Rattle.mst_table.specs.declared.view.View.{View}
+use Rattle.mst_table.specs.Records.{row}
+use Rattle.mst_table.specs.Stored.{rows_in, version_of}
+
+-- a seat at a table: which table, its place there, and what the pass knows and holds of the slot
+pub record Seated : Type 0 where
+  pub table : TableId
+  pub id : ℕ
+  pub me : Me (Option lives.State) View
+
+-- the same seat of the same table
+abbrev pub IsSameSeat : Seated → Seated → Type 0
+IsSameSeat p q = (q.table ≡ p.table) × (q.id ≡ p.id)
+
+-- the holder of the turn may read every row, and a pinned pass the rows that stand for its version
+abbrev pub may_read : View → ℕ → Bool
+may_read v x = nat_lt x v.rows && (v.turn || (is_some v.pin && list_any (eqb x) v.stood))
+
+-- the rows that it may read, as the words spell them
+abbrev pub content_of : View → Content
+content_of v x = if may_read v x then rows_in (row v.held) x else None
+
+-- for each number below n
+abbrev pub all_below : ℕ → (ℕ → Bool) → Bool
+all_below zero p = true
+all_below (suc n) p = p n && all_below n p
+
+-- no version of a record reaches the row, but of records that were found drained
+abbrev pub is_unreached : View → ℕ → Bool
+is_unreached v x = all_below (v.passes + 2) (λ r. list_any (eqb r) v.drained || not (lives.reaches v.desk.lives (version_of v.desk r) x))
+
+-- the holder of the turn, which knows the words, may write such rows, before it publishes
+abbrev pub is_blank : View → ℕ → Bool
+is_blank v x = nat_lt (x * 16 + 255) (length v.held) && nat_lt x v.rows && v.turn && is_none v.pin && is_none v.due && is_unreached v x

@@ -1,0 +1,121 @@
+//! The version that a pass pins.
+ghost use Rattle.std.specs.Prelude.{◌≡◌, ◌+◌, ◌*◌, ◌<◌, ◌≤◌, IfOk};
+ghost use Rattle.std.specs.Option.{option_copied};
+ghost use Rattle.mst_key.specs.Map.{look, successor, span};
+ghost use Rattle.mst_key.specs.History.{after};
+ghost use Rattle.mst_key.specs.declared.format.Format.TheVariants.{One};
+ghost use Rattle.mst_node.specs.Trail.{proof_text};
+ghost use Rattle.mst_table.specs.Steps.{IsFree};
+ghost use Rattle.mst_versions.specs.Pinned.{HasPinned, Pins};
+
+use crate::roots::read_root;
+use mst_arena::Root;
+use mst_key::{Key, Memory, Value};
+use mst_table::{Board, Cursor, PassSeat};
+use std::alloc::Allocator;
+
+/// Where the map of a pinned version stands.
+#[derive(Clone, Copy, Debug, PartialEq, Eq)]
+pub struct PinnedRoot {
+    /// The record that is pinned.
+    pub pinned: u32,
+    /// The number of the version: how many events led to it.
+    pub version: u64,
+    pub root: Root,
+}
+
+/// Pins the current version and reads where its map stands: one xor and six loads.
+pub fn pin<A: Allocator + Copy>(
+    board: &Board<A>,
+    seat: &mut PassSeat<A>,
+    number: u32,
+) -> PinnedRoot
+    requires own { seat.old.table_id ≡ board.now }
+    requires wide { board.now.words ≡ seat.old.me.0.rows * 16 + 240 }
+    requires free { IsFree number seat.old.me }
+    requires few { number < 33 }
+    requires few_rows { seat.old.me.0.rows ≤ 65535 }
+    requires few_passes { seat.old.me.0.passes ≤ 32 }
+    ensures same { (seat.new.table_id ≡ seat.old.table_id) × (seat.new.id ≡ seat.old.id) }
+    ensures pinned { Pins seat.old.me result seat.new.me }
+{
+    let pinned = board.pin(seat, number);
+    let (version, root) = read_root(board, seat, pinned);
+    PinnedRoot {
+        pinned,
+        version,
+        root,
+    }
+}
+
+/// The value of the key in the pinned version.
+pub fn get<A: Allocator + Copy>(
+    board: &Board<A>,
+    seat: &mut PassSeat<A>,
+    at: &PinnedRoot,
+    key: &Key,
+) -> Option<Value>
+    requires own { seat.old.table_id ≡ board.now }
+    requires wide { board.now.words ≡ seat.old.me.0.rows * 16 + 240 }
+    requires pinned { HasPinned at.now seat.old.me.0 }
+    ensures found { result ≡ look (after seat.old.me.0.place) key.now }
+    ensures same { (seat.new.table_id ≡ seat.old.table_id) × (seat.new.id ≡ seat.old.id) × (seat.new.me ≡ seat.old.me) }
+{
+    mst_read::get(&mut Cursor::new(board, seat), &at.root, key)
+}
+
+/// The pair of the least key above the bound in the pinned version; with no bound, of the least key.
+pub fn next<A: Allocator + Copy>(
+    board: &Board<A>,
+    seat: &mut PassSeat<A>,
+    at: &PinnedRoot,
+    bound: Option<&Key>,
+) -> Option<(Key, Value)>
+    requires own { seat.old.table_id ≡ board.now }
+    requires wide { board.now.words ≡ seat.old.me.0.rows * 16 + 240 }
+    requires pinned { HasPinned at.now seat.old.me.0 }
+    ensures found { result ≡ successor (after seat.old.me.0.place) (option_copied bound.entry) }
+    ensures same { (seat.new.table_id ≡ seat.old.table_id) × (seat.new.id ≡ seat.old.id) × (seat.new.me ≡ seat.old.me) }
+{
+    mst_read::next(&mut Cursor::new(board, seat), &at.root, bound)
+}
+
+/// The first pairs of the pinned version, at most `limit`, of the keys that are at least `from` and below `to`. A bound that is not given does not bind.
+///
+/// `Memory` comes where the growth of the list was refused.
+pub fn range<A: Allocator + Copy, B: Allocator>(
+    board: &Board<A>,
+    seat: &mut PassSeat<A>,
+    alloc: B,
+    at: &PinnedRoot,
+    from: Option<&Key>,
+    to: Option<&Key>,
+    limit: usize,
+) -> Result<Vec<(Key, Value), B>, Memory>
+    requires own { seat.old.table_id ≡ board.now }
+    requires wide { board.now.words ≡ seat.old.me.0.rows * 16 + 240 }
+    requires pinned { HasPinned at.now seat.old.me.0 }
+    ensures found { IfOk result (λ found. found.items ≡ span (after seat.old.me.0.place) (option_copied from.entry) (option_copied to.entry) limit) }
+    ensures same { (seat.new.table_id ≡ seat.old.table_id) × (seat.new.id ≡ seat.old.id) × (seat.new.me ≡ seat.old.me) }
+{
+    mst_read::range(alloc, &mut Cursor::new(board, seat), &at.root, from, to, limit)
+}
+
+/// The proof of the pinned version's answer for the key, against its root digest.
+///
+/// `Memory` comes where a growth was refused.
+pub fn prove<A: Allocator + Copy, B: Allocator + Copy>(
+    board: &Board<A>,
+    seat: &mut PassSeat<A>,
+    alloc: B,
+    at: &PinnedRoot,
+    key: &Key,
+) -> Result<Vec<u8, B>, Memory>
+    requires own { seat.old.table_id ≡ board.now }
+    requires wide { board.now.words ≡ seat.old.me.0.rows * 16 + 240 }
+    requires pinned { HasPinned at.now seat.old.me.0 }
+    ensures proof { IfOk result (λ proof. proof.items ≡ proof_text One (after seat.old.me.0.place) key.now) }
+    ensures same { (seat.new.table_id ≡ seat.old.table_id) × (seat.new.id ≡ seat.old.id) × (seat.new.me ≡ seat.old.me) }
+{
+    mst_read::prove(alloc, &mut Cursor::new(board, seat), &at.root, key)
+}
