@@ -10,5 +10,5 @@ use Rattle.mst_table.proofs.tests.one_pass_has_the_turn.Goals as goal
 has_desk : (m m' : Me (Option State) View) → Takes stored m m' → (d : State) × (m'.1 ≡ (0, Some d) ∷ [])
 has_desk m m' t = (state_of t.desk, ap (λ (n : Me (Option State) View). n.1) t.is ∙ ap (λ (x : Option State). (0, x) ∷ []) t.is_desk.there)
 
-pub take_desk-desk-requires-clause-holds : goal.take_desk-desk-requires-clause-holds
-take_desk-desk-requires-clause-holds g c = has_desk _ _ (c.take_turn.ensures.taken (search rules))
+pub take_desk-desk-requires : goal.take_desk-desk-requires
+take_desk-desk-requires g c = record { holds = has_desk _ _ (c.take_turn.ensures.taken (search rules)) }
