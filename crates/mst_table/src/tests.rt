@@ -3,7 +3,7 @@ ghost use Rattle.mst_table.specs.World.{dealer};
 
 use crate::{Board, Shape, Token};
 use linked_list_allocator::LocalHeap;
-use mst_arena::Desk;
+use mst_arena::{Desk, Row, Rows};
 use mst_key::Memory;
 use std::alloc::Allocator;
 use std::marker::Brand;
@@ -67,6 +67,29 @@ fn records_that_nobody_pins_are_drained(rt: HostRuntime) -> Result<(), Fail> {
     assert!(rt; second.ask(1));
     assert!(rt; second.ask(2));
     assert!(rt; second.ask(3));
+    Ok(())
+}
+
+#[test]
+fn the_holder_of_the_turn_writes_a_row(rt: HostRuntime) -> Result<(), Fail> {
+    let Ok((board, mut dealer)) = opened(rt.alloc()) else {
+        panic!(rt; "no memory")
+    };
+    let mut first = board.deal(&mut dealer);
+    assert!(rt; first.take_turn(1));
+    let mut desk = first.take_desk();
+    let Some(row) = desk.take() else {
+        panic!(rt; "a free row")
+    };
+    let head = Row::Head {
+        layer: 2,
+        count: 1,
+        first: 3,
+        tail: 4,
+        digest: [7; 32],
+    };
+    first.write(row, &head);
+    assert!(rt; first.read(row) == head);
     Ok(())
 }
 
