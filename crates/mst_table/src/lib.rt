@@ -9,6 +9,8 @@ mod publishing;
 mod rows;
 mod rule;
 mod seat;
+#[cfg(test)]
+mod tests;
 mod view;
 mod words;
 

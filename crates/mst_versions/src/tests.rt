@@ -41,7 +41,7 @@ fn a_new_table_is_read_as_the_empty_map(rt: HostRuntime) -> Result<(), Fail> {
     let Ok(proof) = prove(&mut seat, rt.alloc(), &at, &key) else {
         panic!(rt; "no memory")
     };
-    assert!(rt; proof.as_slice() == [1u8, 0]);
+    assert!(rt; proof.as_slice() == [1u8, 0].as_slice());
     seat.unpin(1, at.pinned);
     Ok(())
 }
