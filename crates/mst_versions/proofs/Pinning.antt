@@ -69,6 +69,7 @@ pinned_root m m' found p at is version root = subst (λ (z : Me Slot View). at.v
       own = p.own;
       has = record {
         pin = ap Some is;
+        there = subst (λ (r : ℕ). r < m.0.passes + 2) is p.in_table;
         version = number ∙ ap (λ (r : ℕ). field p.words r 0) (sym is) ∙ p.version;
         stands = (stands_frame (rows_in (row p.words)) (content_of w) (root_in (field p.words p.cur)) at.root (after p.log) p.stands.0 content (here ∙ ap (λ (r : ℕ). root_in (field p.words r)) (sym is))).0;
       };

@@ -1,5 +1,5 @@
 -- What a pass knows of the version that it pins.
-use Rattle.std.specs.Prelude.{◌≡◌, length, Some}
+use Rattle.std.specs.Prelude.{◌≡◌, ◌+◌, ◌<◌, length, Some}
 use Rattle.atomic_table.specs.Table.{Me}
 use Rattle.mst_key.specs.declared.format.Format.TheVariants.{One}
 use Rattle.mst_key.specs.History.{after, events_of, Begins}
@@ -11,6 +11,7 @@ use Rattle.mst_versions.specs.declared.reading.PinnedRoot.{PinnedRoot}
 -- The record is pinned. The map of the history at the pin stands at the root, on rows that the pass may read, and the version is the number of events.
 pub record HasPinned (at : PinnedRoot) (v : View) : Type 0 where
   pub pin : v.pin ≡ Some at.pinned
+  pub there : at.pinned < v.passes + 2
   pub version : at.version ≡ length v.place
   pub stands : Stands One (content_of v) at.root (after v.place)
 
