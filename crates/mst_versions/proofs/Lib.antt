@@ -1,2 +1,4 @@
+pub mod Asked
+pub mod Beginning
 pub mod Members
 pub mod Pinning

@@ -28,7 +28,7 @@ link_inside (head at layer chain) n inside = let l = inside at (inl refl) in ome
 pub link_of_root : (word : ℕ → ℕ → ℕ) (words : ℕ → ℕ) (m : List Pair) (rows : List ℕ) (n : ℕ) → StandsOn word words m rows → ((x : ℕ) → In x rows → x < n) → words 1 ≤ n
 link_of_root word words m rows n s inside = subst (λ (l : ℕ). l ≤ n) s.0.tree.at (link_inside s.0.tree.placed n (λ x within. inside x (subst (In x) s.1 within)))
 
-in_list : (x : ℕ) (xs : List ℕ) → In x xs → list_any (eqb x) xs ≡ true
+pub in_list : (x : ℕ) (xs : List ℕ) → In x xs → list_any (eqb x) xs ≡ true
 in_list x [] within = absurd within
 in_list x (y ∷ ys) within = ⊎_elim (λ (is : x ≡ y). ap (λ (b : Bool). b || list_any (eqb x) ys) (eq-eqb x y is))
     (λ (t : In x ys). ap (λ (b : Bool). eqb x y || b) (in_list x ys t) ∙ or-true (eqb x y)) within
@@ -40,7 +40,7 @@ reads_stood v r x pin within lt = ap (λ (b : Bool). if (b && (v.turn || (is_som
     ∙ ap (λ (b : Bool). if (v.turn || b) then rows_in (row v.held) x else None) (in_list x v.stood within)
     ∙ ap (λ (b : Bool). if b then rows_in (row v.held) x else None) (or-true v.turn)
 
-each : (P : ℕ → Type 0) (xs : List ℕ) → ((x : ℕ) → In x xs → P x) → AllByRecursion P xs
+pub each : (P : ℕ → Type 0) (xs : List ℕ) → ((x : ℕ) → In x xs → P x) → AllByRecursion P xs
 each P [] all = tt
 each P (x ∷ xs) all = (all x (inl refl), each P xs (λ y within. all y (inr within)))
 

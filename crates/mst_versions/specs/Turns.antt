@@ -56,7 +56,7 @@ pub record Begun {A : Type 0} (m : Seat) (t : Turn A) (m' : Seat) : Type 0 where
 pub record HasMade {A : Type 0} (t : Turn A) (root : Root) (e : Event) (m : Seat) : Type 0 where
   pub holds : HoldsDesk t m
   pub mine : e.pass ≡ m.0.number
-  pub open : length m.0.seen < last_version
+  pub room : length m.0.seen < last_version
   pub stands : Stands One (content_of m.0) root (after (m.0.seen ++ e ∷ []))
   pub reached : ReachesExactly t.desk.lives (next t.desk) (numbers stands)
   pub settled : IsSettled (advanced t.into t.desk)

@@ -6,4 +6,4 @@ mod roots;
 mod turn;
 
 pub use reading::{PinnedRoot, get, next, pin, prove, range};
-pub use turn::{Turn, give_back};
+pub use turn::{Turn, begin, give_back};
