@@ -6,22 +6,21 @@ use Rattle.std.proofs.lemmas.Bool.{lt-ltb}
 use Rattle.std.proofs.lemmas.Bool.Decides.{nat_tests}
 use Rattle.std.proofs.lemmas.Option.{slice_get_within}
 use Rattle.std.proofs.lemmas.List.{length-map}
-use Rattle.mst_key.specs.declared.format.Format.TheVariants.{One}
 use Rattle.mst_key.specs.History.{after}
 use Rattle.mst_arena.specs.Lives.{State, version, reaches, reached_at, swept, IsSettled}
 use Rattle.mst_arena.specs.declared.life.Life.{Life}
 use Rattle.mst_arena.specs.declared.life.Life.TheVariants.{Free}
-use Rattle.mst_arena.specs.Standing.{Stands, numbers}
+use Rattle.mst_arena.specs.Standing.{numbers}
 use Rattle.mst_arena.specs.declared.row.Root.{Root}
 use Rattle.mst_path.specs.Moves as moves
 use Rattle.mst_path.specs.Reached.{swept_by}
 use Rattle.mst_path.proofs.Reached.{same_swept, settled_swept, free_swept}
 use Rattle.mst_table.specs.declared.view.View.{View}
 use Rattle.mst_table.specs.Pins.{In}
-use Rattle.mst_table.specs.Records.{row, field, Agrees}
+use Rattle.mst_table.specs.Records.{row, field}
 use Rattle.mst_table.specs.Steps.{Takes, IsGiving}
 use Rattle.mst_table.specs.Stored.{rows_in, root_in, stored, state_of, desk_state}
-use Rattle.mst_table.specs.Access.{may_read, content_of, all_below, is_unreached, is_blank}
+use Rattle.mst_table.specs.Access.{content_of, all_below, is_unreached, is_blank}
 use Rattle.mst_table.proofs.Framed.{stands_frame}
 use Rattle.mst_versions.specs.declared.turn.Asked.{Asked}
 use Rattle.mst_versions.specs.declared.turn.Turn.{Turn}
@@ -132,9 +131,11 @@ module _ (before taken : Seat) (p : Takes stored before taken) where
         rows_is = length-map p.desk.lives (swept a.live.items) ∙ p.is_desk.rows_is;
         records = p.is_desk.records;
         version_is = p.stands.filed;
-        agrees = λ r l out. (refl,
+        agrees = λ r l out. (
+          refl,
           (λ x i. same_rows (before.0.passes + 2) (state_of p.desk) a (asked_seat drained blocked) h r x l out ∙ i),
-          (λ x i. sym (same_rows (before.0.passes + 2) (state_of p.desk) a (asked_seat drained blocked) h r x l out) ∙ i));
+          (λ x i. sym (same_rows (before.0.passes + 2) (state_of p.desk) a (asked_seat drained blocked) h r x l out) ∙ i),
+        );
         into_drained = into;
         into_in = (h.drained a.into into).0;
         into_other = (h.drained a.into into).1;
@@ -146,7 +147,7 @@ module _ (before taken : Seat) (p : Takes stored before taken) where
       let same : reaches (map (swept a.live.items) p.desk.lives) (version (state_of p.desk)) x ≡ reaches p.desk.lives (version (state_of p.desk)) x = same_swept (state_of p.desk) a.live.items (version (state_of p.desk)) x now in
       let number : version (state_of p.desk) ≡ length p.log = p.stands.filed in (
         λ is. let old : reaches p.desk.lives (length p.log) x ≡ true = subst (λ (v : ℕ). reaches p.desk.lives v x ≡ true) number (sym same ∙ is) in
-        counted x p.used (p.stands.exactly x (let inside = reached_inside p.desk.lives (length p.log) x old in let r = p.is_desk.rows_is in omega (arith, inside, r)) old),
+            counted x p.used (p.stands.exactly x (let inside = reached_inside p.desk.lives (length p.log) x old in let r = p.is_desk.rows_is in omega (arith, inside, r)) old),
         λ i. same ∙ subst (λ (v : ℕ). reaches p.desk.lives v x ≡ true) (sym number) (p.stands.reached x (found x p.used i)),
       )
 
@@ -156,7 +157,7 @@ module _ (before taken : Seat) (p : Takes stored before taken) where
       let v : View = asked_view drained blocked in
       let s = p.stands.stands in
       let content : AllByRecursion (λ x. content_of v x ≡ rows_in (row p.words) x) (numbers s.0) = subst (AllByRecursion (λ x. content_of v x ≡ rows_in (row p.words) x)) (sym s.1)
-          (each (λ x. content_of v x ≡ rows_in (row p.words) x) p.used (λ x within. reads_held v x refl (p.stands.inside x within))) in
+      (each (λ x. content_of v x ≡ rows_in (row p.words) x) p.used (λ x within. reads_held v x refl (p.stands.inside x within))) in
       let t = stands_frame (rows_in (row p.words)) (content_of v) (root_in (field p.words p.desk.current)) root (after p.log) s.0 content here in
       record {
         holds = holds {A = A} drained blocked a root h;
@@ -193,7 +194,7 @@ module _ (before taken : Seat) (p : Takes stored before taken) where
       let w : m ≡ asked_seat m.0.drained m.0.blocked = whole m is in
       let n : passes ≡ before.0.passes = few ∙ ap (λ (z : Seat). z.0.passes) p.is in
       let asked : HasAsked (before.0.passes + 2) (state_of p.desk) a (asked_seat m.0.drained m.0.blocked) = subst (λ (z : Seat). HasAsked (before.0.passes + 2) (state_of p.desk) a z) w
-          (subst (λ (s : State). HasAsked (before.0.passes + 2) s a m) d (subst (λ (k : ℕ). HasAsked (k + 2) desk a m) n h)) in
+      (subst (λ (s : State). HasAsked (before.0.passes + 2) s a m) d (subst (λ (k : ℕ). HasAsked (k + 2) desk a m) n h)) in
       let root_is : root ≡ root_in (field p.words p.desk.current) = here ∙ ap (λ (z : Seat). root_in (field z.0.held which)) w ∙ ap (λ (r : ℕ). root_in (field p.words r)) (current ∙ ap (λ (s : State). s.current) d) in
       let swept_is : swept ≡ swept_by a.live.items (state_of p.desk) = by ∙ ap (λ (l : List ℕ). swept_by l desk) all ∙ ap (λ (s : State). swept_by a.live.items s) d in
       subst (λ (s : State). HasTurn (of_turn {A = A} s root a.into) m) (sym swept_is)

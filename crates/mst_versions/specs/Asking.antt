@@ -1,5 +1,5 @@
 -- What the holder of the turn learns of the records other than the current one, as it asks them one after another.
-use Rattle.std.specs.Prelude.{◌≡◌, ◌≢◌, ℕ, ◌+◌, ◌<◌, ◌≤◌, List, [], length, slice_index}
+use Rattle.std.specs.Prelude.{◌≡◌, ◌≢◌, ℕ, ◌+◌, ◌<◌, ◌≤◌, length, slice_index}
 use Rattle.mst_arena.specs.Lives.{State, version}
 use Rattle.mst_path.specs.Moves as moves
 use Rattle.mst_table.specs.Pins.{In}

@@ -1,10 +1,10 @@
 -- What the holder of the turn has at hand, from the turn's taking to the publication of the next version.
-use Rattle.std.specs.Prelude.{◌≡◌, ◌≢◌, ◌↔◌, ℕ, ◌+◌, ◌*◌, ◌<◌, ◌≤◌, true, false, List, [], ◌∷◌, ◌++◌, length, Option, Some, None}
+use Rattle.std.specs.Prelude.{◌≡◌, ◌≢◌, ℕ, ◌+◌, ◌*◌, ◌<◌, ◌≤◌, true, false, [], ◌∷◌, ◌++◌, length, Option, None}
 use Rattle.atomic_table.specs.Table.{Me}
 use Rattle.mst_key.specs.declared.format.Format.TheVariants.{One}
 use Rattle.mst_key.specs.declared.history.Event.{Event}
-use Rattle.mst_key.specs.History.{History, after, events_of, Begins}
-use Rattle.mst_arena.specs.Lives.{State, version, next, last_version, reaches, IsSettled}
+use Rattle.mst_key.specs.History.{after, events_of, Begins}
+use Rattle.mst_arena.specs.Lives.{State, version, next, last_version, IsSettled}
 use Rattle.mst_arena.specs.Standing.{Stands, numbers}
 use Rattle.mst_arena.specs.declared.row.Root.{Root}
 use Rattle.mst_path.specs.Takes.{FreeIsBlank}

@@ -26,10 +26,7 @@ pub struct PinnedRoot {
 }
 
 /// Pins the current version and reads where its map stands: one xor and six loads.
-pub fn pin<A: Allocator + Copy>(
-    seat: &mut PassSeat<'_, A>,
-    number: u32,
-) -> PinnedRoot
+pub fn pin<A: Allocator + Copy>(seat: &mut PassSeat<'_, A>, number: u32) -> PinnedRoot
     requires free { IsFree number seat.old.me }
     requires few { number < 33 }
     requires few_rows { seat.old.me.0.rows ≤ 65535 }

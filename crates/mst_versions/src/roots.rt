@@ -15,11 +15,7 @@ const FIRST_RECORD: usize = 36;
 const RECORD_WORDS: usize = 6;
 
 // Word k of a record: one load.
-fn field<A: Allocator + Copy>(
-    seat: &mut PassSeat<'_, A>,
-    which: u32,
-    k: usize,
-) -> u64
+fn field<A: Allocator + Copy>(seat: &mut PassSeat<'_, A>, which: u32, k: usize) -> u64
     requires there { (which < 34) × (k < 6) }
     requires readable { (j : ℕ) → j < 6 → IsReadable seat.old.me.0 (which * 6 + j + 36) }
     ensures word { result ≡ field seat.old.me.0.held which k }
@@ -29,10 +25,7 @@ fn field<A: Allocator + Copy>(
 }
 
 /// The version number and the root of a record.
-pub fn read_root<A: Allocator + Copy>(
-    seat: &mut PassSeat<'_, A>,
-    which: u32,
-) -> (u64, Root)
+pub fn read_root<A: Allocator + Copy>(seat: &mut PassSeat<'_, A>, which: u32) -> (u64, Root)
     requires there { which < 34 }
     requires readable { (k : ℕ) → k < 6 → IsReadable seat.old.me.0 (which * 6 + k + 36) }
     requires link { field seat.old.me.0.held which 1 ≤ 65535 }

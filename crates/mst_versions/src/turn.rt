@@ -37,12 +37,7 @@ struct Asked {
 
 impl Asked {
     // Asks the next record; the current one is passed over.
-    fn ask<A: Allocator + Copy>(
-        &mut self,
-        seat: &mut PassSeat<'_, A>,
-        desk: &Desk<A>,
-        which: u32,
-    )
+    fn ask<A: Allocator + Copy>(&mut self, seat: &mut PassSeat<'_, A>, desk: &Desk<A>, which: u32)
         requires asked { HasAsked which desk.now self.old seat.old.me }
         requires there { which < seat.old.me.0.passes + 2 }
         ensures same { IsSameSeat seat.old seat.new }
@@ -62,11 +57,7 @@ impl Asked {
 }
 
 // Asks each record but the current one: one load each.
-fn ask_others<A: Allocator + Copy>(
-    seat: &mut PassSeat<'_, A>,
-    desk: &Desk<A>,
-    passes: u32,
-) -> Asked
+fn ask_others<A: Allocator + Copy>(seat: &mut PassSeat<'_, A>, desk: &Desk<A>, passes: u32) -> Asked
     requires knows { KnowsRecords desk.now seat.old.me }
     requires passes { passes ≡ seat.old.me.0.passes }
     requires none { (seat.old.me.0.drained ≡ []) × (seat.old.me.0.blocked ≡ []) }
@@ -77,7 +68,10 @@ fn ask_others<A: Allocator + Copy>(
     let (current, version) = desk.current();
     let mut live = ArrayVec::new();
     live.push(version);
-    let mut asked = Asked { live, into: current };
+    let mut asked = Asked {
+        live,
+        into: current,
+    };
     for which in 0..passes + 2 {
         asked.ask(seat, desk, which);
     }
@@ -85,10 +79,7 @@ fn ask_others<A: Allocator + Copy>(
 }
 
 // Makes the holder of the turn ready for a write: the desk is taken, a record is found for the version to come, and the rows that no version reaches are freed.
-fn make_ready<A: Allocator + Copy>(
-    seat: &mut PassSeat<'_, A>,
-    passes: u32,
-) -> Turn<A>
+fn make_ready<A: Allocator + Copy>(seat: &mut PassSeat<'_, A>, passes: u32) -> Turn<A>
     requires holder { IsHolder seat.old.me }
     requires taken { (before : Seat) × Takes stored before seat.old.me }
     requires passes { passes ≡ seat.old.me.0.passes }
@@ -132,10 +123,7 @@ pub fn begin<A: Allocator + Copy>(
 }
 
 /// Gives the turn back with the history as it was: one exchange and one store.
-pub fn give_back<A: Allocator + Copy>(
-    seat: &mut PassSeat<'_, A>,
-    turn: Turn<A>,
-)
+pub fn give_back<A: Allocator + Copy>(seat: &mut PassSeat<'_, A>, turn: Turn<A>)
     requires turn { HasTurn turn seat.old.me }
     ensures same { IsSameSeat seat.old seat.new }
     ensures gave { seat.new.me ≡ (record seat.old.me.0 { turn = false }, []) }

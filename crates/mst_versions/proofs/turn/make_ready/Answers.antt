@@ -1,5 +1,4 @@
-use Rattle.std.proofs.Common.{◌≡◌, ℕ, ◌∷◌, [], sym, ap, subst}
-use Rattle.mst_arena.specs.Lives.{State}
+use Rattle.std.proofs.Common.{sym, ap, subst}
 use Rattle.mst_table.specs.Access.{Seated}
 use Rattle.mst_table.specs.Stored.{state_of}
 use Rattle.mst_versions.specs.Turns.{HasTurn}
