@@ -1,3 +1,5 @@
+pub mod Asked
+pub mod Beginning
 pub mod Members
 pub mod Pinning
 pub mod Filing

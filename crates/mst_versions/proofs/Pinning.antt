@@ -1,24 +1,22 @@
 -- What a pin tells, as the reads ask for it.
-use Rattle.std.proofs.Common.{◌≡◌, ℕ, zero, suc, ◌+◌, ◌*◌, ◌<◌, ◌≤◌, ◌⊎◌, inl, inr, Bool, true, ◌&&◌, ◌||◌, is_some, nat_lt, eqb, if◌then◌else◌, Option, Some, None, List, [], ◌∷◌, length, refl, sym, ap, ◌∙◌, subst, ⊎_elim, arith}
+use Rattle.std.proofs.Common.{◌≡◌, ℕ, ◌<◌, ◌≤◌, inl, inr, Bool, true, ◌&&◌, ◌||◌, is_some, eqb, if◌then◌else◌, Option, Some, None, List, [], ◌∷◌, refl, sym, ap, ◌∙◌, subst, ⊎_elim, arith}
 use Rattle.std.specs.List.{AllByRecursion, list_any}
 use Rattle.std.proofs.lemmas.Bool.{lt-ltb, eq-eqb}
 use Rattle.std.proofs.Math.Bool.{or-true}
 use Rattle.atomic_table.specs.Table.{Me}
-use Rattle.mst_key.specs.declared.format.Format.TheVariants.{One}
 use Rattle.mst_key.specs.Map.{Pair}
-use Rattle.mst_key.specs.History.{History, after}
+use Rattle.mst_key.specs.History.{after}
 use Rattle.mst_arena.specs.Lives as lives
-use Rattle.mst_arena.specs.Standing.{Placed, none, head, link_of, used, Stands, numbers}
-use Rattle.mst_arena.specs.declared.row.Root.{Root}
+use Rattle.mst_arena.specs.Standing.{Placed, none, head, link_of, used, numbers}
 use Rattle.mst_table.specs.declared.view.View.{View}
 use Rattle.mst_table.specs.Pins.{In}
 use Rattle.mst_table.specs.Records.{row, field}
 use Rattle.mst_table.specs.Steps.{PinsNow}
 use Rattle.mst_table.specs.Stored.{rows_in, root_in, StandsOn, stored}
-use Rattle.mst_table.specs.Access.{may_read, content_of}
+use Rattle.mst_table.specs.Access.{content_of}
 use Rattle.mst_table.proofs.Framed.{stands_frame}
 use Rattle.mst_versions.specs.declared.reading.PinnedRoot.{PinnedRoot}
-use Rattle.mst_versions.specs.Pinned.{HasPinned, Pins}
+use Rattle.mst_versions.specs.Pinned.{Pins}
 
 -- a tree stands at no link beyond the rows
 link_inside : (p : Placed) (n : ℕ) → ((x : ℕ) → In x (used p) → x < n) → link_of p ≤ n
@@ -28,7 +26,7 @@ link_inside (head at layer chain) n inside = let l = inside at (inl refl) in ome
 pub link_of_root : (word : ℕ → ℕ → ℕ) (words : ℕ → ℕ) (m : List Pair) (rows : List ℕ) (n : ℕ) → StandsOn word words m rows → ((x : ℕ) → In x rows → x < n) → words 1 ≤ n
 link_of_root word words m rows n s inside = subst (λ (l : ℕ). l ≤ n) s.0.tree.at (link_inside s.0.tree.placed n (λ x within. inside x (subst (In x) s.1 within)))
 
-in_list : (x : ℕ) (xs : List ℕ) → In x xs → list_any (eqb x) xs ≡ true
+pub in_list : (x : ℕ) (xs : List ℕ) → In x xs → list_any (eqb x) xs ≡ true
 in_list x [] within = absurd within
 in_list x (y ∷ ys) within = ⊎_elim (λ (is : x ≡ y). ap (λ (b : Bool). b || list_any (eqb x) ys) (eq-eqb x y is))
     (λ (t : In x ys). ap (λ (b : Bool). eqb x y || b) (in_list x ys t) ∙ or-true (eqb x y)) within

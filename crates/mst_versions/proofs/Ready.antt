@@ -20,7 +20,7 @@ use Rattle.mst_table.specs.Steps.{IsReady, IsGiving}
 use Rattle.mst_table.specs.Stored.{stored, desk_state, rows_in, root_in, version_of}
 use Rattle.mst_table.proofs.Framed.{stands_frame, same_row}
 use Rattle.mst_versions.specs.declared.turn.Turn.{Turn}
-use Rattle.mst_versions.specs.Turns.{Seat, HoldsDesk, HasTurn, HasMade}
+use Rattle.mst_versions.specs.Turns.{Seat, HoldsDesk, HasMade}
 use Rattle.mst_versions.specs.Filing.{OthersKept}
 use Rattle.mst_versions.proofs.Members.{counted, found}
 use Rattle.mst_versions.proofs.Pinning.{each, reads_all}
@@ -80,7 +80,7 @@ module _ {A : Type 0} (t : Turn A) (root : Root) (e : Event) (m : Seat) (made : 
     settled = holds.holder.2;
     drained = holds.into_drained;
     mine = made.mine;
-    room = (let l = made.more in omega arith);
+    room = (let l = made.room in omega arith);
     desk_at = refl;
     stands = standing;
     agrees = agree;
@@ -110,18 +110,3 @@ module _ {A : Type 0} (t : Turn A) (root : Root) (e : Event) (m : Seat) (made : 
 
   pub giving : (s : State) (mask : ℕ) (m' : Seat) → s ≡ advanced t.into t.desk → m' ≡ given s mask → (x : Option State) × (d : DeskState) × IsGiving stored x d m'
   giving s mask m' is same = (Some s, desk_state s, subst (λ (z : Seat). IsGiving stored (Some s) (desk_state s) z) (sym same) (subst (λ (d : State). IsGiving stored (Some d) (desk_state d) (given d mask)) (sym is) (given_back mask)))
-
--- what the pass holds when the desk is back and nothing was made
-pub giving_nothing : {A : Type 0} (t : Turn A) (m m' : Seat) → HasTurn t m → m' ≡ (m.0, (0, Some t.desk) ∷ []) → (x : Option State) × (d : DeskState) × IsGiving stored x d m'
-giving_nothing t m m' has same = let h = has.holds in (
-  Some t.desk,
-  desk_state t.desk,
-  subst (λ (z : Seat). IsGiving stored (Some t.desk) (desk_state t.desk) z) (sym same) record {
-    on = h.holder.0;
-    settled = h.holder.2;
-    slot = refl;
-    is_desk = record { there = refl; rows_is = h.rows_is; records = h.records; settled = has.settled };
-    current = h.current;
-    agrees = h.agrees;
-  },
-)

@@ -1,10 +1,10 @@
 -- What the holder of the turn has at hand, from the turn's taking to the publication of the next version.
-use Rattle.std.specs.Prelude.{◌≡◌, ◌≢◌, ◌↔◌, ℕ, ◌+◌, ◌*◌, ◌<◌, ◌≤◌, true, false, List, [], ◌∷◌, ◌++◌, length, Option, Some, None}
+use Rattle.std.specs.Prelude.{◌≡◌, ◌≢◌, ℕ, ◌+◌, ◌*◌, ◌<◌, ◌≤◌, true, false, [], ◌∷◌, ◌++◌, length, Option, None}
 use Rattle.atomic_table.specs.Table.{Me}
 use Rattle.mst_key.specs.declared.format.Format.TheVariants.{One}
 use Rattle.mst_key.specs.declared.history.Event.{Event}
-use Rattle.mst_key.specs.History.{History, after, events_of, Begins}
-use Rattle.mst_arena.specs.Lives.{State, version, next, last_version, reaches, IsSettled}
+use Rattle.mst_key.specs.History.{after, events_of, Begins}
+use Rattle.mst_arena.specs.Lives.{State, version, next, last_version, IsSettled}
 use Rattle.mst_arena.specs.Standing.{Stands, numbers}
 use Rattle.mst_arena.specs.declared.row.Root.{Root}
 use Rattle.mst_path.specs.Takes.{FreeIsBlank}
@@ -56,7 +56,7 @@ pub record Begun {A : Type 0} (m : Seat) (t : Turn A) (m' : Seat) : Type 0 where
 pub record HasMade {A : Type 0} (t : Turn A) (root : Root) (e : Event) (m : Seat) : Type 0 where
   pub holds : HoldsDesk t m
   pub mine : e.pass ≡ m.0.number
-  pub more : length m.0.seen < last_version
+  pub room : length m.0.seen < last_version
   pub stands : Stands One (content_of m.0) root (after (m.0.seen ++ e ∷ []))
   pub reached : ReachesExactly t.desk.lives (next t.desk) (numbers stands)
   pub settled : IsSettled (advanced t.into t.desk)

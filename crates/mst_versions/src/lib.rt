@@ -10,4 +10,4 @@ mod turn;
 
 pub use publishing::publish;
 pub use reading::{PinnedRoot, get, next, pin, prove, range};
-pub use turn::{Turn, give_back};
+pub use turn::{Turn, begin, give_back};

@@ -1,4 +1,4 @@
-use Rattle.std.proofs.Common.{◌≡◌, sym, ap, ◌∙◌, subst}
+use Rattle.std.proofs.Common.{sym, subst}
 use Rattle.mst_table.specs.Access.{Seated}
 use Rattle.mst_versions.specs.Pinned.{Pins}
 use Rattle.mst_versions.proofs.Pinning.{pinned_link, pinned_root}

@@ -1,4 +1,4 @@
-use Rattle.std.proofs.Common.{ℕ, ◌+◌, ◌*◌, ◌<◌, sym, ap, ◌∙◌, subst}
+use Rattle.std.proofs.Common.{ℕ, ◌+◌, ◌*◌, ◌<◌, sym, ◌∙◌, subst}
 use Rattle.mst_table.specs.Access.{Seated}
 use Rattle.mst_table.specs.Steps.{IsReadable}
 use Rattle.mst_versions.proofs.roots.read_root.Goals as goal
