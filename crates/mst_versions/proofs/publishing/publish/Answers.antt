@@ -1,6 +1,5 @@
-use Rattle.std.proofs.Common.{◌≡◌, ℕ, ◌+◌, Option, Some, None, List, [], ◌∷◌, ◌++◌, rules, arith, sym, refl, ap, ◌∙◌, subst}
+use Rattle.std.proofs.Common.{ℕ, ◌+◌, Some, None, [], ◌∷◌, ◌++◌, ap, ◌∙◌}
 use Rattle.mst_arena.specs.Lives.{State}
-use Rattle.mst_table.specs.declared.view.View.{View}
 use Rattle.mst_table.specs.Access.{Seated}
 use Rattle.mst_table.specs.Stored.{desk_state}
 use Rattle.mst_versions.specs.Turns.{Seat}

@@ -1,4 +1,4 @@
-use Rattle.std.proofs.Common.{◌≡◌, ℕ, ◌+◌, ◌*◌, ◌<◌, List, inr, length, set, get_or, rules, arith, sym, refl, ap, ◌∙◌, subst}
+use Rattle.std.proofs.Common.{ℕ, ◌+◌, ◌*◌, List, inr, set, get_or, arith, sym, refl, ap, ◌∙◌, subst}
 use Rattle.mst_table.specs.Access.{Seated}
 use Rattle.mst_table.specs.Pins.{In}
 use Rattle.mst_table.specs.Steps.{IsHolder}
