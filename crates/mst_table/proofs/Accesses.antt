@@ -1,5 +1,5 @@
 -- What a pass may read and write of the rows, as the steps ask for it.
-use Rattle.std.proofs.Common.{◌≡◌, ℕ, zero, suc, ◌+◌, ◌*◌, ◌<◌, ◌≤◌, ◌≢◌, ◌⊎◌, inl, inr, Bool, true, false, cond, not, ◌&&◌, ◌||◌, eqb, is_some, is_none, nat_lt, Option, Some, None, List, [], ◌∷◌, length, map, set, get_or, refl, sym, ap, ◌∙◌, subst, arith, ⊎_elim, if◌then◌else◌, length-set, get_or-set_same, get_or-set_other}
+use Rattle.std.proofs.Common.{◌≡◌, ℕ, zero, suc, ◌+◌, ◌*◌, ◌<◌, ◌≤◌, ◌≢◌, ◌⊎◌, inl, inr, Bool, true, false, not, ◌&&◌, ◌||◌, eqb, is_some, is_none, nat_lt, Option, Some, None, List, length, map, set, get_or, refl, sym, ap, ◌∙◌, arith, ⊎_elim, if◌then◌else◌, length-set, get_or-set_same, get_or-set_other}
 use Rattle.std.specs.List.{list_any, range_with_len}
 use mathlib.Core.Logic.{dite}
 use native.Mathlib.Decide.{ℕ_discrete}
@@ -11,7 +11,6 @@ use Rattle.mst_arena.specs.Content.{Writes}
 use Rattle.mst_arena.specs.Words.{row_in}
 use Rattle.mst_arena.specs.declared.row.Row.{Row}
 use Rattle.mst_table.specs.declared.view.View.{View}
-use Rattle.mst_table.specs.Pins.{In}
 use Rattle.mst_table.specs.Records as records
 use Rattle.mst_table.specs.Records.{IsBlank}
 use Rattle.mst_table.specs.Steps.{IsReadable, IsWritable}
@@ -75,9 +74,12 @@ pub writable : (v : View) (x k : ℕ) → is_blank v x ≡ true → k < 16 → I
 writable v x k h lt = let b = blank_parts v x h in inl (
   x,
   k,
-  (b.inside, (λ r small kept reached. ⊎_elim (λ (found : list_any (eqb r) v.drained ≡ true). kept (in_any r v.drained found))
-      (λ (none_reaches : not (lives.reaches v.desk.lives (version_of v.desk r) x) ≡ true). let c : not true ≡ true = sym (ap not reached) ∙ none_reaches in absurd (let d : false ≡ true = c in cc))
-      (either_of (list_any (eqb r) v.drained) (not (lives.reaches v.desk.lives (version_of v.desk r) x)) (each_below (v.passes + 2) (λ r. list_any (eqb r) v.drained || not (lives.reaches v.desk.lives (version_of v.desk r) x)) r b.unreached small)))),
+  (
+    b.inside,
+    (λ r small kept reached. ⊎_elim (λ (found : list_any (eqb r) v.drained ≡ true). kept (in_any r v.drained found))
+        (λ (none_reaches : not (lives.reaches v.desk.lives (version_of v.desk r) x) ≡ true). let c : not true ≡ true = sym (ap not reached) ∙ none_reaches in absurd (let d : false ≡ true = c in cc))
+        (either_of (list_any (eqb r) v.drained) (not (lives.reaches v.desk.lives (version_of v.desk r) x)) (each_below (v.passes + 2) (λ r. list_any (eqb r) v.drained || not (lives.reaches v.desk.lives (version_of v.desk r) x)) r b.unreached small))),
+  ),
   lt,
   refl,
 )

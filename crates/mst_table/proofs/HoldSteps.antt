@@ -1,32 +1,29 @@
 -- Publication, transfer and ask keep the rule.
-use Rattle.std.proofs.Common.{◌≡◌, ℕ, ◌+◌, ◌*◌, ◌%◌, ◌<◌, ◌≢◌, inl, true, Option, Some, None, List, [], ◌∷◌, ◌++◌, length, set, get_or, sym, refl, ap, ◌∙◌, subst, arith, bit_xor, length-set, get_or-set_same}
+use Rattle.std.proofs.Common.{◌≡◌, ℕ, ◌+◌, ◌*◌, ◌%◌, ◌<◌, ◌≢◌, inl, true, Some, None, List, [], ◌∷◌, ◌++◌, length, set, get_or, sym, refl, ap, ◌∙◌, subst, arith, bit_xor, length-set, get_or-set_same}
 use mathlib.Core.Logic.{dite}
 use mathlib.Core.Option.{some, none}
 use native.Mathlib.Decide.{ℕ_discrete}
 use lib.ListN.{get_elem?}
-use lib.Seq.{set-get_or}
 use Rattle.std.specs.Int.{bit_at, trailing_zeros, w64}
 use Rattle.std.proofs.lemmas.Nat.Bits.{bit_at-zero, bit_at-trailing_zeros}
-use Rattle.atomic_table.specs.Table.{Me, step, keeps, stepped, Allows}
+use Rattle.atomic_table.specs.Table.{Me, step, keeps, Allows}
 use Rattle.mst_table.specs.declared.view.View.{View}
 use Rattle.mst_key.specs.declared.history.Event.{Event}
 use Rattle.mst_table.specs.declared.view.DeskState.{DeskState}
-use Rattle.mst_key.specs.History.{History, Begins, events_of}
-use Rattle.mst_table.specs.World.{Fits}
-use Rattle.mst_table.specs.Pins.{In, done, pin_bit, Drains, Counts, Blamed}
+use Rattle.mst_key.specs.History.{History}
+use Rattle.mst_table.specs.Pins.{In, done, pin_bit, Blamed}
 use Rattle.mst_table.specs.Records.{Meaning, IsFramed, IsLive, Agrees, Standing}
-use Rattle.mst_table.specs.Rule.{Turn, Ruled, Still}
-use Rattle.mst_table.specs.Steps.{IsFree, takes_turn, IsGiving, gives_turn, IsReady, publishes, transfers, IsHolder, asks, notes_current, asks_current}
+use Rattle.mst_table.specs.Rule.{Turn, Ruled}
+use Rattle.mst_table.specs.Steps.{IsReady, publishes, transfers, IsHolder, asks, notes_current, asks_current}
 use Rattle.mst_table.proofs.Worlds.{world_set, world_add}
-use Rattle.mst_key.proofs.HistoryLaws.{Begins-itself}
 use Rattle.mst_table.proofs.Seats.{same_view}
-use Rattle.mst_table.proofs.Turns.{turn_same, turn_held, turn_taken, turn_given, only_one}
-use Rattle.mst_table.proofs.PinParts.{bits_stay, pins_same, drains_same}
+use Rattle.mst_table.proofs.Turns.{turn_held, only_one}
+use Rattle.mst_table.proofs.PinParts.{bits_stay, drains_same}
 use Rattle.mst_table.proofs.PinMoves.{cleared, transfer_bits, pins_publish, pins_transfer, drains_ask}
-use Rattle.mst_table.proofs.RowParts.{kept_upper, held_upper, agrees_same, standing_same, reads_to, rows_to, rows_upper, pin_stays, rows_publish}
+use Rattle.mst_table.proofs.RowParts.{kept_upper, held_upper, agrees_same, standing_same, rows_upper, pin_stays, rows_publish}
 use Rattle.mst_table.proofs.Steps.{stays, live_not_drained, unmoved, St}
 use Rattle.mst_table.proofs.Marks.{clear_same, counts_set, counts_same, counts_none, blamed_keep, blamed_more, blamed_few}
-use Rattle.mst_table.proofs.Paths.{path_same, path_publish, path_transfer}
+use Rattle.mst_table.proofs.Paths.{path_publish, path_transfer}
 use Rattle.mst_table.proofs.Looked.{looked}
 use Rattle.mst_table.proofs.Stills.{still_new, still_set, still_same, alone}
 
@@ -151,20 +148,20 @@ module _ {S : Type 0} (T : Meaning S) (framed : IsFramed T) (R N : ℕ) where
         (r, refl, (λ _. refl), (λ not. absurd (not zero_there))),
       ))
       (λ some_there. let w : View = record v { blocked = r ∷ v.blocked } in let not_due : q.due ≢ Some r = (λ e. let f : None ≡ Some r = sym settled ∙ (q.pins.holder id v at on).due_is ∙ e in absurd (let c = f in cc)) in
-          let t = some_seat s q r inside not_cur not_due some_there small in let b = q.counts.blamed id v at on in
-          let some_pass = ((q.pins.seats t.0 t.1 t.2).pinned r t.3).0 in
-          let more : Blamed N v.number q.cur s.views (t.1.number ∷ b.0) (r ∷ v.blocked) = blamed_more N v.number q.cur s.views t.0 t.1 r t.2 t.3 not_cur some_pass (dealt s q t.0 t.1 t.2) (apart_numbers s q id t.0 v t.1 r at t.2 free t.3)
-          (λ j x f same. q.world.apart j t.0 x t.1 f t.2 (subst (λ (z : ℕ). 0 < z) (sym same) some_pass) same) b.0 v.blocked b.1 new in (
-            w,
-            keeps,
-            tt,
-            looked T framed R N s q id (r + 2) me.1 v w at refl refl refl refl refl refl refl refl refl (λ _. (h.2, refl))
-                fits.seen fits.told refl
-                (drains_same N q.cur q.mask q.due q.beside s.words s.words s.views id v w q.pins at refl refl refl refl refl)
-                (counts_set N q.cur s.views id v w q.counts at refl (inl refl) (λ _. (t.1.number ∷ b.0, blamed_keep N v.number q.cur s.views id v w at refl (inl refl) (t.1.number ∷ b.0) w.blocked more)))
-                (still_same N (get_or s.words 1 0) (get_or s.words 1 0) s.views id w v q.still at refl refl refl),
-            (r, refl, (λ zero_there. absurd (some_there zero_there)), (λ _. record { fewer = subst (λ (z : ℕ). length v.blocked + 1 < z) (sym (q.world.placed id v at).passes_is) (left s q id v t.1 r b.0 at on more); is = refl })),
-          ))
+      let t = some_seat s q r inside not_cur not_due some_there small in let b = q.counts.blamed id v at on in
+      let some_pass = ((q.pins.seats t.0 t.1 t.2).pinned r t.3).0 in
+      let more : Blamed N v.number q.cur s.views (t.1.number ∷ b.0) (r ∷ v.blocked) = blamed_more N v.number q.cur s.views t.0 t.1 r t.2 t.3 not_cur some_pass (dealt s q t.0 t.1 t.2) (apart_numbers s q id t.0 v t.1 r at t.2 free t.3)
+      (λ j x f same. q.world.apart j t.0 x t.1 f t.2 (subst (λ (z : ℕ). 0 < z) (sym same) some_pass) same) b.0 v.blocked b.1 new in (
+        w,
+        keeps,
+        tt,
+        looked T framed R N s q id (r + 2) me.1 v w at refl refl refl refl refl refl refl refl refl (λ _. (h.2, refl))
+            fits.seen fits.told refl
+            (drains_same N q.cur q.mask q.due q.beside s.words s.words s.views id v w q.pins at refl refl refl refl refl)
+            (counts_set N q.cur s.views id v w q.counts at refl (inl refl) (λ _. (t.1.number ∷ b.0, blamed_keep N v.number q.cur s.views id v w at refl (inl refl) (t.1.number ∷ b.0) w.blocked more)))
+            (still_same N (get_or s.words 1 0) (get_or s.words 1 0) s.views id w v q.still at refl refl refl),
+        (r, refl, (λ zero_there. absurd (some_there zero_there)), (λ _. record { fewer = subst (λ (z : ℕ). length v.blocked + 1 < z) (sym (q.world.placed id v at).passes_is) (left s q id v t.1 r b.0 at on more); is = refl })),
+      ))
 
   -- ---- K11 by the holder of the turn: it notes the word of the current record
   pub notes_allows : (slots id : ℕ) (me : Me S View) → IsHolder me → Allows (Ruled T R N) slots id me 1 (λ n. n) (notes_current (step slots 1 0 0 none) me)

@@ -5,11 +5,10 @@ use mathlib.Core.Option.{some, none}
 use native.Mathlib.Decide.{ℕ_discrete}
 use lib.ListN.{get_elem?}
 use lib.Seq.{set-get_or}
-use Rattle.atomic_table.specs.Table.{State, Me, step, keeps, stepped, Allows, Splits}
+use Rattle.atomic_table.specs.Table.{State, Me, step, keeps, stepped, Allows}
 use Rattle.atomic_table.proofs.Lists.{set_again}
 use Rattle.mst_table.specs.declared.view.View.{View}
 use Rattle.mst_table.specs.declared.view.DeskState.{DeskState}
-use Rattle.mst_key.specs.History.{History}
 use Rattle.mst_table.specs.Pins.{In, Drains}
 use Rattle.mst_table.specs.Records.{Meaning, IsFramed, IsLive, IsBlank}
 use Rattle.mst_table.specs.Rule.{Turn, Ruled}

@@ -1,30 +1,26 @@
 -- Taking and giving back the turn keep the rule.
-use Rattle.std.proofs.Common.{◌≡◌, ℕ, ◌+◌, ◌*◌, ◌<◌, ◌≤◌, ◌≢◌, inl, inr, true, false, Option, Some, None, eqb, List, [], ◌∷◌, set, get_or, sym, refl, ap, ◌∙◌, subst, arith, length-set, get_or-set_same}
+use Rattle.std.proofs.Common.{◌≡◌, ℕ, ◌+◌, ◌*◌, ◌<◌, ◌≤◌, ◌≢◌, inl, inr, true, false, Some, None, eqb, List, [], ◌∷◌, set, get_or, sym, refl, ap, ◌∙◌, subst, arith, length-set, get_or-set_same}
 use mathlib.Core.Option.{some, none}
-use native.Mathlib.Decide.{dec_le}
 use lib.ListN.{get_elem?}
 use prog.Atomic.{either}
 use Rattle.atomic_table.specs.Table.{Me, step, Act, keeps, takes, gives, Valid, carried_after, rest, stepped, Allows}
 use Rattle.atomic_table.proofs.Lists.{exchanged}
 use Rattle.mst_table.specs.declared.view.View.{View}
-use Rattle.mst_key.specs.declared.history.Event.{Event}
 use Rattle.mst_table.specs.declared.view.DeskState.{DeskState}
-use Rattle.mst_key.specs.History.{History, Begins, events_of}
-use Rattle.mst_table.specs.World.{Fits}
-use Rattle.mst_table.specs.Pins.{In, done, pin_bit, Drains, Counts, Blamed}
-use Rattle.mst_table.specs.Records.{Meaning, IsFramed, IsLive, Agrees, Standing}
-use Rattle.mst_table.specs.Rule.{Turn, Ruled, Still}
-use Rattle.mst_table.specs.Steps.{IsFree, takes_turn, IsGiving, gives_turn, IsReady, publishes, transfers, asks, notes_current, asks_current}
-use Rattle.mst_table.proofs.Worlds.{world_set, world_add}
+use Rattle.mst_key.specs.History.{History}
+use Rattle.mst_table.specs.Pins.{In}
+use Rattle.mst_table.specs.Records.{Meaning, IsFramed, Agrees, Standing}
+use Rattle.mst_table.specs.Rule.{Turn, Ruled}
+use Rattle.mst_table.specs.Steps.{IsFree, takes_turn, IsGiving, gives_turn}
+use Rattle.mst_table.proofs.Worlds.{world_set}
 use Rattle.mst_key.proofs.HistoryLaws.{Begins-itself}
 use Rattle.mst_table.proofs.Seats.{same_view}
-use Rattle.mst_table.proofs.Turns.{turn_same, turn_held, turn_taken, turn_given, only_one}
-use Rattle.mst_table.proofs.PinParts.{bits_stay, pins_same, drains_same}
-use Rattle.mst_table.proofs.PinMoves.{cleared, transfer_bits, pins_publish, pins_transfer, drains_ask}
-use Rattle.mst_table.proofs.RowParts.{kept_upper, held_upper, agrees_same, standing_same, reads_to, rows_to, rows_upper, pin_stays, rows_publish}
+use Rattle.mst_table.proofs.Turns.{turn_taken, turn_given, only_one}
+use Rattle.mst_table.proofs.PinParts.{bits_stay, pins_same}
+use Rattle.mst_table.proofs.RowParts.{kept_upper, held_upper, reads_to, rows_to, rows_upper}
 use Rattle.mst_table.proofs.Steps.{stays, live_not_drained, unmoved, St}
-use Rattle.mst_table.proofs.Marks.{clear_same, counts_set, counts_same, counts_none, blamed_keep, blamed_more, blamed_few}
-use Rattle.mst_table.proofs.Paths.{path_same, path_publish, path_transfer}
+use Rattle.mst_table.proofs.Marks.{clear_same, counts_set}
+use Rattle.mst_table.proofs.Paths.{path_same}
 use Rattle.mst_table.proofs.Stills.{still_set}
 
 two_passes : (a b next passes : ℕ) → 0 < a → 0 < b → (a ≡ b → ⊥) → a < next → b < next → next ≤ passes + 1 → 1 < passes

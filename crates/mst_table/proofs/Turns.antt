@@ -6,7 +6,6 @@ use native.Mathlib.Decide.{ℕ_discrete}
 use lib.ListN.{get_elem?}
 use Rattle.atomic_table.proofs.Lists.{set_here, set_else}
 use Rattle.mst_table.specs.declared.view.View.{View}
-use Rattle.mst_key.specs.declared.history.Event.{Event}
 use Rattle.mst_table.specs.declared.view.DeskState.{DeskState}
 use Rattle.mst_key.specs.History.{History}
 use Rattle.mst_table.specs.Records.{Meaning}

@@ -1,5 +1,5 @@
 -- What a pass may read and write of the rows, by what it knows of the words.
-use Rattle.std.specs.Prelude.{◌≡◌, ◌*◌, length, ℕ, zero, suc, ◌+◌, is_some, is_none, Bool, true, false, ◌&&◌, ◌||◌, not, nat_lt, eqb, if◌then◌else◌, List, Option, Some, None}
+use Rattle.std.specs.Prelude.{◌≡◌, ◌*◌, length, ℕ, zero, suc, ◌+◌, is_some, is_none, Bool, true, ◌&&◌, ◌||◌, not, nat_lt, eqb, if◌then◌else◌, Option, None}
 use Rattle.std.specs.List.{list_any}
 use Rattle.atomic_table.specs.Seated.{TableId}
 use Rattle.atomic_table.specs.Table.{Me}

@@ -1,5 +1,5 @@
 -- How passes learn what others have seen: a seat looks at the whole history, or it hears a note and then sees what the note told.
-use Rattle.std.specs.Prelude.{◌≡◌, ℕ, ◌<◌, ◌≤◌, false, []}
+use Rattle.std.specs.Prelude.{◌≡◌, ℕ, ◌<◌, ◌≤◌}
 use Rattle.std.specs.List.{All}
 use Rattle.atomic_table.specs.Table.{Me, Step}
 use Rattle.mst_key.specs.History.{History, events_of, Begins}

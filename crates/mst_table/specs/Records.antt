@@ -1,5 +1,5 @@
 -- What the records and the rows of the table stand for: the current record and each pinned one for the map at its place in the history, on exactly the rows that the desk says its version reaches.
-use Rattle.std.specs.Prelude.{◌≡◌, ◌≢◌, ◌⊎◌, ℕ, ◌+◌, ◌*◌, ◌<◌, true, List, length, slice_index, Option, Some}
+use Rattle.std.specs.Prelude.{◌≡◌, ◌⊎◌, ℕ, ◌+◌, ◌*◌, ◌<◌, true, List, length, slice_index, Some}
 use Rattle.mst_key.specs.History.{History, Begins}
 use Rattle.mst_table.specs.declared.view.View.{View}
 use Rattle.mst_table.specs.declared.view.DeskState.{DeskState}

@@ -1,5 +1,5 @@
 -- The rule of the table, in parts: the turn, the pins, the records and rows, and the world. Word 0 is the turn, word 1 the current record and the mask of its pins; then come 34 words DONE, 34 records of 6 words, and from word 240 on the rows, of 16 words each.
-use Rattle.std.specs.Prelude.{◌≡◌, ℕ, ◌+◌, ◌*◌, ◌%◌, ◌<◌, true, List, [], ◌∷◌, length, slice_index, Option, Some, None}
+use Rattle.std.specs.Prelude.{◌≡◌, ℕ, ◌+◌, ◌*◌, ◌<◌, true, List, [], ◌∷◌, length, slice_index, Option, Some, None}
 use mathlib.Core.Option.{none, some}
 use Rattle.atomic_table.specs.Table.{State}
 use Rattle.mst_key.specs.History.{History}

@@ -1,5 +1,5 @@
 -- What each step tells the seat that makes it, as a relation between what the seat had before and after: its view, and what it holds of the slot.
-use Rattle.std.specs.Prelude.{◌≡◌, ◌≢◌, ◌⊎◌, ℕ, ◌+◌, ◌*◌, ◌<◌, ◌≤◌, true, false, List, [], ◌∷◌, ◌++◌, length, slice_index, slice_set, Option, Some, None}
+use Rattle.std.specs.Prelude.{◌≡◌, ◌≢◌, ◌⊎◌, ℕ, ◌+◌, ◌*◌, ◌<◌, ◌≤◌, true, false, List, [], ◌∷◌, ◌++◌, length, slice_index, slice_set, Some, None}
 use Rattle.atomic_table.specs.Table.{Me, Step}
 use Rattle.mst_key.specs.declared.history.Change.TheVariants.{Remove}
 use Rattle.mst_key.specs.declared.history.Event.{Event}

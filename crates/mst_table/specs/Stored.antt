@@ -1,5 +1,5 @@
 -- What the words of the store mean: rows that stand for the map of a history, at the root of a record; and the desk in the slot, with no write under way.
-use Rattle.std.specs.Prelude.{◌≡◌, ℕ, ◌+◌, List, [], ◌∷◌, ◌++◌, length, true, slice_index, slice_get, replicate, Option, Some, None}
+use Rattle.std.specs.Prelude.{◌≡◌, ℕ, ◌+◌, List, [], ◌∷◌, length, true, slice_index, replicate, Option, Some}
 use Rattle.mst_key.specs.declared.format.Format.TheVariants.{One}
 use Rattle.mst_key.specs.Map.{Pair}
 use Rattle.mst_key.specs.History.{after}

@@ -1,5 +1,5 @@
 -- What the passes know of the one history: each has seen a beginning of it, and its own events in it are its own list (Herlihy and Wing 1990, in a limited form: no order between passes that never met).
-use Rattle.std.specs.Prelude.{◌≡◌, ℕ, ◌+◌, ◌<◌, ◌≤◌, false, List, [], Option, Some, None}
+use Rattle.std.specs.Prelude.{◌≡◌, ℕ, ◌+◌, ◌<◌, ◌≤◌, false, List, [], None}
 use Rattle.std.specs.List.{All}
 use mathlib.Core.Option.{some}
 use lib.ListN.{get_elem?}
@@ -40,9 +40,24 @@ no_desk = record { current = 0; versions = []; lives = [] }
 -- a seat that has seen and done nothing
 abbrev pub idle : ℕ → ℕ → ℕ → ℕ → View
 idle rows passes number deals = record {
-  number = number; rows = rows; passes = passes; deals = deals; seen = []; mine = []; told = [];
-  pin = None; place = []; stood = []; held = []; turn = false; desk = no_desk;
-  due = None; mask = 0; drained = []; blocked = []; noted = None;
+  number = number;
+  rows = rows;
+  passes = passes;
+  deals = deals;
+  seen = [];
+  mine = [];
+  told = [];
+  pin = None;
+  place = [];
+  stood = [];
+  held = [];
+  turn = false;
+  desk = no_desk;
+  due = None;
+  mask = 0;
+  drained = [];
+  blocked = [];
+  noted = None;
 }
 
 -- the dealer's seat, which deals the pass of the number `next` next

@@ -1,5 +1,4 @@
-use Rattle.std.proofs.Common.{◌≡◌, ℕ, ◌+◌, ◌*◌, ◌<◌, List, length, set, get_or, rules, arith, sym, refl, ap, ◌∙◌, subst}
-use Rattle.mst_table.specs.declared.view.View.{View}
+use Rattle.std.proofs.Common.{◌≡◌, ℕ, ◌+◌, ◌*◌, List, set, get_or, rules, arith, sym, refl, ap, ◌∙◌, subst}
 use Rattle.mst_arena.specs.Content.{Writes}
 use Rattle.mst_table.specs.Access.{Seated, content_of}
 use Rattle.mst_table.proofs.Accesses.{Stored, stored_more, written, blank_stays}

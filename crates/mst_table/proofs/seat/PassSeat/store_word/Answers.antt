@@ -1,4 +1,4 @@
-use Rattle.std.proofs.Common.{length, arith}
+use Rattle.std.proofs.Common.{arith}
 use Rattle.mst_table.proofs.Accesses.{blank_parts, writable}
 use Rattle.mst_table.proofs.seat.PassSeat.store_word.Goals as goal
 
