@@ -1,8 +1,8 @@
-//! A new table, whose map is empty, read under a pin.
+//! A new table: its empty map read under a pin, and its turn taken and given back.
 ghost use Rattle.std.specs.Prelude.{◌≡◌, ◌+◌, ◌*◌, [], IfOk};
 ghost use Rattle.mst_table.specs.World.{dealer};
 
-use crate::{get, next, pin, prove, range};
+use crate::{begin, get, give_back, next, pin, prove, range};
 use mst_arena::Desk;
 use mst_key::{Key, Memory};
 use mst_node::empty_digest;
@@ -43,5 +43,27 @@ fn a_new_table_is_read_as_the_empty_map(rt: HostRuntime) -> Result<(), Fail> {
     };
     assert!(rt; proof.as_slice() == [1u8, 0].as_slice());
     seat.unpin(1, at.pinned);
+    Ok(())
+}
+
+#[test]
+fn one_pass_has_the_turn(rt: HostRuntime) -> Result<(), Fail> {
+    let Ok((board, mut dealer)) = opened(rt.alloc()) else {
+        panic!(rt; "no memory")
+    };
+    let mut first = board.deal(&mut dealer);
+    let mut second = board.deal(&mut dealer);
+    let Some(turn) = begin(&mut first, 1, 2) else {
+        panic!(rt; "the turn is free")
+    };
+    assert!(rt; turn.root.link == 0 && turn.into != 0 && turn.desk.free() == 4);
+    if let Some(_) = begin(&mut second, 2, 2) {
+        panic!(rt; "the first pass has the turn")
+    }
+    give_back(&mut first, turn);
+    let Some(turn) = begin(&mut first, 1, 2) else {
+        panic!(rt; "the turn is free again")
+    };
+    give_back(&mut first, turn);
     Ok(())
 }
