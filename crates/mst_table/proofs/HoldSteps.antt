@@ -28,7 +28,7 @@ use Rattle.mst_table.proofs.Looked.{looked}
 use Rattle.mst_table.proofs.Stills.{still_new, still_set, still_same, alone}
 
 module _ {S : Type 0} (T : Meaning S) (framed : IsFramed T) (R N : ℕ) where
-  -- ---- K8
+  -- ---- a publication
   pub publishes_allows : (slots id b into : ℕ) (e : Event) (d : DeskState) (u : List ℕ) (me : Me S View) → IsReady T into e d u me.0 → b ≡ into * 4294967296
       → Allows (Ruled T R N) slots id me 1 (λ _. b) (publishes e d (step slots 1 b 0 none) me)
   publishes_allows slots id b into e d u me ready is s q _ at _ = let v : View = me.0 in let on = ready.on in let place = q.world.placed id v at in let h = q.turn.holder id v at on in let known = q.pins.holder id v at on in
@@ -69,7 +69,7 @@ module _ {S : Type 0} (T : Meaning S) (framed : IsFramed T) (R N : ℕ) where
         record { mask = q.mask; small = q.pins.small; returned = q.pins.current ∙ ap (λ (z : ℕ). z * 4294967296 + q.mask) cur_now; is = refl },
       )
 
-  -- ---- K9
+  -- ---- the transfer
   pub transfers_allows : (slots id o b : ℕ) (me : Me S View) → me.0.turn ≡ true → me.0.due ≡ Some o → b ≡ me.0.mask → Allows (Ruled T R N) slots id me (o + 2) (λ n. bit_xor n b) (transfers (step slots (o + 2) b 0 none) me)
   transfers_allows slots id o b me on is_due is s q _ at _ = let v : View = me.0 in let w : View = record v { due = None } in let n : ℕ = bit_xor (get_or s.words (o + 2) 0) b in let ws : List ℕ = set s.words (o + 2) n in
       let h = q.turn.holder id v at on in let known = q.pins.holder id v at on in let inside : o < N + 2 = q.pins.due_in o (sym known.due_is ∙ is_due) in let few = q.pins.few in
@@ -109,7 +109,7 @@ module _ {S : Type 0} (T : Meaning S) (framed : IsFramed T) (R N : ℕ) where
         refl,
       )
 
-  -- ---- K10
+  -- ---- a record is asked
 
   -- a DONE that is not 0 has a bit, and a seat pins by it
   some_seat : (s : St T framed R N) (q : Ruled T R N s) (r : ℕ) → r < N + 2 → r ≢ q.cur → q.due ≢ Some r → done s.words r ≢ 0 → done s.words r < 18446744073709551616 → (i : ℕ) × (u : View) × (get_elem? s.views i ≡ some u) × (u.pin ≡ Some r)
@@ -163,7 +163,7 @@ module _ {S : Type 0} (T : Meaning S) (framed : IsFramed T) (R N : ℕ) where
         (r, refl, (λ zero_there. absurd (some_there zero_there)), (λ _. record { fewer = subst (λ (z : ℕ). length v.blocked + 1 < z) (sym (q.world.placed id v at).passes_is) (left s q id v t.1 r b.0 at on more); is = refl })),
       ))
 
-  -- ---- K11 by the holder of the turn: it notes the word of the current record
+  -- ---- the holder of the turn notes the word of the current record
   pub notes_allows : (slots id : ℕ) (me : Me S View) → IsHolder me → Allows (Ruled T R N) slots id me 1 (λ n. n) (notes_current (step slots 1 0 0 none) me)
   notes_allows slots id me holder s q _ at _ = let v : View = me.0 in let on = holder.0 in let w : View = record v { noted = Some (get_or s.words 1 0) } in let fits = q.world.fits id v at in let h = q.turn.holder id v at on in
       let cur_now : q.cur ≡ v.desk.current = sym q.rows.desk_at ∙ ap (λ (z : DeskState). z.current) (sym h.3) in (
@@ -178,7 +178,7 @@ module _ {S : Type 0} (T : Meaning S) (framed : IsFramed T) (R N : ℕ) where
         record { mask = q.mask; small = q.pins.small; found = q.pins.current ∙ ap (λ (z : ℕ). z * 4294967296 + q.mask) cur_now; is = refl },
       )
 
-  -- ---- K10 of the current record
+  -- ---- the current record is asked
   pub asks_current_allows : (slots id r : ℕ) (me : Me S View) → IsHolder me → r ≡ me.0.desk.current → Allows (Ruled T R N) slots id me (r + 2) (λ n. n) (asks_current (step slots (r + 2) 0 0 none) me)
   asks_current_allows slots id r me holder here s q _ at _ = (
     me.0,

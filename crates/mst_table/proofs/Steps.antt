@@ -45,7 +45,7 @@ module _ {S : Type 0} (T : Meaning S) (framed : IsFramed T) (R N : ℕ) where
   unmoved s q id i cs v at = subst (λ (z : List ℕ × List View). Ruled T R N record { words = z.0; homes = s.homes; views = z.1 })
       (λ j. (sym (set-get_or s.words i 0) j, sym (set_again s.views id v at) j)) q
 
-  -- ---- K6
+  -- ---- a word is loaded
   pub reads_allows : (slots id i : ℕ) (me : Me S View) → Allows (Ruled T R N) slots id me i (λ n. n) (reads (step slots i 0 0 none) me)
   reads_allows slots id i me s q _ at _ = let v : View = me.0 in (
     v,
@@ -64,7 +64,7 @@ module _ {S : Type 0} (T : Meaning S) (framed : IsFramed T) (R N : ℕ) where
     ),
   )
 
-  -- ---- K7
+  -- ---- a word is stored
   pub writes_allows : (slots id i x : ℕ) (me : Me S View) → me.0.turn ≡ true → me.0.pin ≡ None → IsWritable T me.0 i → Allows (Ruled T R N) slots id me i (λ _. x) (λ _. writes (step slots i x 0 none) me x)
   writes_allows slots id i x me on free can s q _ at _ = let v : View = me.0 in let inside = below s q at in let w : View = record v { held = set v.held i x } in let ws : List ℕ = set s.words i x in
       let h = q.rows.held id v at on in let known = q.pins.holder id v at on in let only = only_one T R N _ _ _ _ _ s.views id v q.turn at on q.world.apart in (

@@ -27,7 +27,7 @@ two_passes : (a b next passes : ℕ) → 0 < a → 0 < b → (a ≡ b → ⊥) �
 two_passes a b next passes p q apart l m few = omega (arith, apart)
 
 module _ {S : Type 0} (T : Meaning S) (framed : IsFramed T) (R N : ℕ) where
-  -- ---- K1
+  -- ---- the turn is taken
   taken : (s : St T framed R N) (q : Ruled T R N s) (id p : ℕ) (v : View) → get_elem? s.views id ≡ some v → v.number ≡ p → 0 < p → v.pin ≡ None → (x : S) → s.homes ≡ some x ∷ [] → q.due ≡ None → get_or s.words 0 0 ≡ 0
       → Ruled T R N (stepped s 0 p id [] (record v { seen = q.log; held = s.words; turn = true; desk = q.desk; due = None; mask = 0; drained = []; blocked = []; noted = None }) (takes 0 x))
   taken s q id p v at number some_pass unpinned x homes settled free = let w : View = record v { seen = q.log; held = s.words; turn = true; desk = q.desk; due = None; mask = 0; drained = []; blocked = []; noted = None } in let ws : List ℕ = set s.words 0 p in
@@ -105,7 +105,7 @@ module _ {S : Type 0} (T : Meaning S) (framed : IsFramed T) (R N : ℕ) where
         ((λ hit. absurd (miss hit)), (λ _. record { same = refl; others = other_holder s q id number me at free miss })),
       ))
 
-  -- ---- K3
+  -- ---- the turn is given back
   given : (s : St T framed R N) (q : Ruled T R N s) (id : ℕ) (v : View) (x : S) (d : DeskState) → get_elem? s.views id ≡ some v → v.turn ≡ true → v.due ≡ None → T.IsDesk x R N d → d.current ≡ v.desk.current
       → ((r : ℕ) → r < N + 2 → (In r v.drained → ⊥) → Agrees T v.desk d r) → Ruled T R N (stepped s 0 0 id ((0, x) ∷ []) (record v { turn = false }) gives)
   given s q id v x d at on settled is_desk current agrees = let w : View = record v { turn = false } in let ws : List ℕ = set s.words 0 0 in let h = q.turn.holder id v at on in let known = q.pins.holder id v at on in
