@@ -1,9 +1,8 @@
 -- Word after word of a record is stored.
-use Rattle.std.proofs.Common.{◌≡◌, ◌≢◌, ℕ, ◌+◌, ◌*◌, ◌<◌, ◌≤◌, List, [], ◌∷◌, length, set, get_or, refl, sym, ap, ◌∙◌, subst, arith, length-set, get_or-set_same, get_or-set_other}
+use Rattle.std.proofs.Common.{◌≡◌, ℕ, ◌+◌, ◌*◌, ◌<◌, List, length, set, get_or, refl, sym, ap, ◌∙◌, arith, length-set, get_or-set_same, get_or-set_other}
 use mathlib.Core.Logic.{dite}
 use native.Mathlib.Decide.{ℕ_discrete}
-use Rattle.mst_table.specs.Records.{field}
-use Rattle.mst_versions.specs.Filing.{OthersKept, IsFiled}
+use Rattle.mst_versions.specs.Filing.{IsFiled}
 
 pub filed_none : (which : ℕ) (words old : List ℕ) → IsFiled which 0 words old old
 filed_none which words old = record { kept = record { long = refl; others = λ i _. refl }; so_far = λ k l. absurd (omega arith) }

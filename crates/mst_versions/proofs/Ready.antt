@@ -1,13 +1,12 @@
 -- A version that is made stands ready to be published.
-use Rattle.std.proofs.Common.{◌≡◌, ◌≢◌, ℕ, ◌+◌, ◌*◌, ◌<◌, ◌≤◌, ◌↔◌, true, false, Option, Some, None, List, [], ◌∷◌, ◌++◌, length, set, get_or, slice_get, refl, sym, ap, ◌∙◌, subst, arith, length-set, get_or-set_same, get_or-set_other}
+use Rattle.std.proofs.Common.{◌≡◌, ℕ, ◌+◌, ◌*◌, ◌<◌, true, false, Option, Some, None, List, [], ◌∷◌, ◌++◌, length, slice_get, refl, sym, ap, ◌∙◌, subst, arith, length-set, get_or-set_same, get_or-set_other}
 use Rattle.std.specs.List.{AllByRecursion}
 use Rattle.std.proofs.lemmas.Option.{slice_get_within}
-use Rattle.mst_key.specs.declared.format.Format.TheVariants.{One}
 use Rattle.mst_key.specs.declared.history.Event.{Event}
 use Rattle.mst_key.specs.History.{History, after}
 use Rattle.mst_key.proofs.HistoryLaws.{Begins-itself}
-use Rattle.mst_arena.specs.Lives.{State, version, next, reaches, reached_at, last_version}
-use Rattle.mst_arena.specs.Standing.{Stands, numbers}
+use Rattle.mst_arena.specs.Lives.{State, version, next, reaches, reached_at}
+use Rattle.mst_arena.specs.Standing.{numbers}
 use Rattle.mst_arena.specs.declared.life.Life.{Life}
 use Rattle.mst_arena.specs.declared.row.Root.{Root}
 use Rattle.mst_path.specs.Reached.{advanced}
