@@ -1,0 +1,89 @@
+"""What the tools of this folder share: the crates as the toolchain's command `rt` sees them, and a check of one of them."""
+import importlib.machinery
+import importlib.util
+import os
+import re
+import resource
+import shutil
+import subprocess
+import sys
+
+sys.dont_write_bytecode = True
+
+
+def load_rt():
+    """Loads the toolchain's command as a module, so that an edit is judged by the gate's own code."""
+    path = os.path.realpath(shutil.which("rt"))
+    loader = importlib.machinery.SourceFileLoader("rt_command", path)
+    module = importlib.util.module_from_spec(importlib.util.spec_from_loader("rt_command", loader))
+    loader.exec_module(module)
+    return module
+
+
+rt = load_rt()
+ROOT = subprocess.run(["git", "rev-parse", "--show-toplevel"], capture_output=True, text=True, check=True).stdout.strip()
+
+
+def crate_named(name):
+    """Returns the crate, with all crates below it built where they changed."""
+    made = rt.rtlib.Crate.__init__
+
+    def make(self, *given, **named):
+        made(self, *given, **named)
+        rt.read_files(self)
+
+    rt.rtlib.Crate.__init__ = make
+    rt.rtlib.guarded()
+    crate = next((it for it in rt.rtlib.crates_below(ROOT) if it.name == name), None)
+    if crate is None:
+        sys.exit(f"crates.txt names no crate {name}")
+    for below in crate.below():
+        if below.build_rlib(["--jobs", "1"], anew=False):
+            sys.exit(f"{below.name}, below {name}, is not proved")
+    return crate
+
+
+def kept_work(name, what):
+    """The folder, inside .git, where a tool keeps what it worked out for a crate."""
+    return f"{ROOT}/.git/{what}-{name}"
+
+
+def check(crate, *flags):
+    """Checks the crate where it stands, and returns all that the check says."""
+    kept = ["--incremental", f"{crate.folder}/out/incremental"]
+    words = [*rt.rtlib.guarded(), rt.rtlib.RATTLE, "check", *crate.words(["--jobs", "1"]), *kept, *flags]
+    streams = {"stdin": subprocess.DEVNULL, "stdout": subprocess.PIPE, "stderr": subprocess.STDOUT}
+    return subprocess.run(words, cwd=crate.folder, errors="replace", **streams).stdout
+
+
+def last_line(said):
+    return said.rstrip("\n").split("\n")[-1]
+
+
+def seconds():
+    """The processor seconds of all checks so far."""
+    used = resource.getrusage(resource.RUSAGE_CHILDREN)
+    return used.ru_utime + used.ru_stime
+
+
+def enclosing_function(text, at):
+    """Returns the type (with the trait's name behind it) and the name of the function that stands before a place in a file, or None."""
+    found = [it for it in re.finditer(r"(?m)^( *)(?:pub(?:\([a-z]+\))? )?(?:const )?(?:extern \"C\" )?fn (\w+)", text[:at])]
+    if not found:
+        return None
+    return owner_of(text[: found[-1].start()]) if found[-1][1] else "", found[-1][2]
+
+
+def owner_of(text):
+    """Returns the name under which proofs/ has the last impl or trait of a text."""
+    heads = re.findall(r"(?m)^(?:pub )?(impl|trait)\b([^{]*)\{", text)
+    if not heads:
+        return ""
+    kind, head = heads[-1]
+    head = re.sub(r"(?s)\bwhere\b.*", "", head)
+    while re.search(r"<[^<>]*>", head):
+        head = re.sub(r"<[^<>]*>", "", head)
+    found = re.match(r"(?:.*?(\w+)\s+for\s+)?&?\s*(?:mut )?([\w:]+)", head.strip())
+    if kind == "trait":
+        return found[2].split(":")[0]
+    return found[2].split("::")[-1] + (found[1] or "")
