@@ -13,12 +13,12 @@ use Rattle.mst_arena.specs.declared.row.EntryLinks.{EntryLinks}
 use Rattle.mst_arena.specs.declared.row.HeadLinks.{HeadLinks}
 use Rattle.mst_arena.specs.Standing.{Placed, link_of, tree_of, HasRows}
 use Rattle.mst_arena.proofs.Stands.{all-append}
-use Rattle.mst_path.specs.PathsCuts.{CellsBelow}
+use Rattle.mst_change.specs.Gap.{CellsBelow}
 use Rattle.mst_path.specs.Runs.{own_rows}
 use Rattle.mst_path.specs.Writing.{PlacedEntry, link_from}
 use Rattle.mst_path.specs.Making.{cell_of, cells_of, entries_to}
 use Rattle.mst_path.specs.Cutting.{EntriesLie, CutGap, CutHeld}
-use Rattle.mst_path.proofs.SplitCuts.{with_entries-append}
+use Rattle.mst_change.proofs.Parts.{with_entries-append}
 use Rattle.mst_path.proofs.Copies.{links_are}
 
 -- so many entries are passed, all below the key, and the others begin at the link

@@ -14,7 +14,7 @@ use Rattle.mst_arena.specs.declared.life.Life.TheVariants.{Born}
 use Rattle.mst_arena.specs.Standing.{Placed, none as no_tree, head, tree_of, entries_of, rows_of, used, link_of, HasRows}
 use Rattle.mst_arena.proofs.ListLemmas.{times-append}
 use Rattle.mst_arena.proofs.Stands.{placed_frame}
-use Rattle.mst_path.specs.Paths.{with_first}
+use Rattle.mst_change.specs.Parts.{with_first}
 use Rattle.mst_path.specs.Takes.{IsOut, KeepsBut}
 use Rattle.mst_path.specs.Moves.{In, IsAlive, IsOld, Moves}
 use Rattle.mst_path.specs.Runs.{Piece, OldPiece, own, gaps_used, EachGap, AreCopies}

@@ -14,8 +14,8 @@ use Rattle.mst_arena.specs.Standing.{Placed, none as no_tree, tree_of, used}
 use Rattle.mst_arena.proofs.ListLemmas.{times-append}
 use Rattle.mst_arena.proofs.Stands.{placed_frame}
 use Rattle.mst_path.specs.declared.frames.Frame.{Frame}
-use Rattle.mst_path.specs.Paths.{with_first, node_of}
-use Rattle.mst_path.specs.PathsCost.{side_rows}
+use Rattle.mst_change.specs.Parts.{with_first, node_of}
+use Rattle.mst_change.specs.Cost.{side_rows}
 use Rattle.mst_path.specs.Moves.{In, IsOld, Moves}
 use Rattle.mst_path.specs.Runs.{Piece, OldPiece, own, gaps_used, EachGap}
 use Rattle.mst_path.specs.Making.{HasTail, Grown, cell_of, cells_of, entries_to, others}
@@ -23,8 +23,7 @@ use Rattle.mst_path.specs.Frames.{Framed, spare, frame_rows, in_entries, in_fram
 use Rattle.mst_path.specs.Writing.{PlacedEntry, IsRootOf, ahead}
 use Rattle.mst_path.proofs.Moving.{in_either, times_of_out, moves_none, moves_kill, moves_then, alive_stays, old_stays, alive_out}
 use Rattle.mst_path.proofs.Copies.{all_in, kept_at, old_alive, own_frame, gaps_frame, at_self}
-use Rattle.mst_path.proofs.SplitEqs.{with_first_count}
-use Rattle.mst_path.proofs.SplitCuts.{with_entries_count}
+use Rattle.mst_change.proofs.Parts.{with_first_count, with_entries_count}
 
 -- ---- two rows die
 

@@ -11,8 +11,8 @@ use Rattle.mst_arena.specs.Content.{Content, part_at}
 use Rattle.mst_arena.specs.Row.{head_links}
 use Rattle.mst_arena.specs.declared.row.HeadLinks.{HeadLinks}
 use Rattle.mst_arena.specs.Standing.{Placed, none, head, tree_of, link_of, rows_of, HasRows}
-use Rattle.mst_path.specs.Paths.{first_child}
-use Rattle.mst_path.proofs.SplitTrees.{rest_rises, child_rises}
+use Rattle.mst_change.specs.Parts.{first_child}
+use Rattle.mst_change.proofs.Split.Trees.{rest_rises, child_rises}
 
 -- one more than the layer of the head that is read
 abbrev pub depth : Option HeadLinks → ℕ

@@ -15,14 +15,14 @@ use Rattle.mst_arena.specs.Lives.{State}
 use Rattle.mst_arena.specs.Lists.{times}
 use Rattle.mst_arena.specs.declared.row.Root.{Root}
 use Rattle.mst_arena.specs.Standing.{tree_of, used, Stands, numbers}
-use Rattle.mst_path.specs.Paths.{put_at, tree_put}
-use Rattle.mst_path.specs.PathsCost.{put_rows}
+use Rattle.mst_change.specs.Put.{put_at, tree_put}
+use Rattle.mst_change.specs.Cost.{put_rows}
 use Rattle.mst_path.specs.Making.{Grown}
 use Rattle.mst_path.specs.Putting.{RisingTree, in_rising, with_pair, pair_rows}
 use Rattle.mst_path.specs.Changing.{AreOld, MapStands}
 use Rattle.mst_path.proofs.Changes.{search_at, rises, AfterChange, Changed, after_change, unchanged_map, few_rows}
-use Rattle.mst_path.proofs.CostPut.{cost_put}
-use Rattle.mst_path.proofs.PutTrees.{put_tree}
+use Rattle.mst_change.proofs.Cost.Put.{cost_put}
+use Rattle.mst_change.proofs.Put.Trees.{put_tree}
 use Rattle.mst_path.proofs.Rounds.{regrown}
 use Rattle.mst_path.proofs.Sizes.{put_le}
 

@@ -8,8 +8,8 @@ use Rattle.mst_arena.specs.Lists.{times}
 use Rattle.mst_arena.specs.declared.row.Root.{Root}
 use Rattle.mst_arena.specs.Standing.{Placed, none as no_tree, head as tree_head, tree_of, link_of, used}
 use Rattle.mst_path.specs.declared.joining.Meeting.{Meeting}
-use Rattle.mst_path.specs.Paths.{join}
-use Rattle.mst_path.specs.PathsCost.{join_rows}
+use Rattle.mst_change.specs.Join.{join}
+use Rattle.mst_change.specs.Cost.{join_rows}
 use Rattle.mst_path.specs.Making.{Grown}
 use Rattle.mst_path.specs.Runs.{Piece, OldPiece}
 use Rattle.mst_path.specs.Writing.{IsRootOf}
@@ -17,7 +17,7 @@ use Rattle.mst_path.specs.Frames.{Framed, in_frame, tree_round, frame_rows}
 use Rattle.mst_path.specs.Joining.{TwoTrees, in_both, both_joined, both_rows, height_at, Met}
 use Rattle.mst_path.proofs.Moving.{moves_none}
 use Rattle.mst_path.proofs.Copies.{old_alive}
-use Rattle.mst_path.proofs.JoinSteps.{join_empty}
+use Rattle.mst_change.proofs.Join.Steps.{join_empty}
 use Rattle.mst_path.proofs.Framing.{framed_after, grown_round}
 use Rattle.mst_path.proofs.Meetings.{height_there}
 

@@ -14,15 +14,15 @@ use Rattle.mst_arena.specs.declared.row.Row.TheVariants.{Entry}
 use Rattle.mst_arena.specs.declared.row.HeadLinks.{HeadLinks}
 use Rattle.mst_arena.specs.Standing.{Placed, tree_of, link_of}
 use Rattle.mst_path.specs.declared.making.Run.{Run as RunOf}
-use Rattle.mst_path.specs.Paths.{first_child}
-use Rattle.mst_path.specs.PathsCuts.{CellsBelow, FallsFirst, IsGap, IsAt}
+use Rattle.mst_change.specs.Parts.{first_child}
+use Rattle.mst_change.specs.Gap.{CellsBelow, FallsFirst, IsGap, IsAt}
 use Rattle.mst_path.specs.Making.{cells_of, entries_to}
 use Rattle.mst_path.specs.Cutting.{EntriesLie, gap_before, CutGap, CutHeld}
 use Rattle.mst_path.specs.Joining.{height_at}
 use Rattle.mst_path.specs.Removing.{SearchTree}
 use Rattle.mst_path.specs.Writing.{PlacedEntry, link_from}
-use Rattle.mst_path.proofs.SplitPairs.{behind_above, before_below, before_same}
-use Rattle.mst_path.proofs.SplitTrees.{rest_rises}
+use Rattle.mst_change.proofs.Split.Pairs.{behind_above, before_below, before_same}
+use Rattle.mst_change.proofs.Split.Trees.{rest_rises}
 use Rattle.mst_path.proofs.Heights.{gap_rises}
 use Rattle.mst_path.proofs.Meetings.{height_there, tall}
 use Rattle.mst_path.proofs.Parting.{back_rows}

@@ -18,8 +18,9 @@ use Rattle.mst_arena.specs.declared.row.HeadLinks.{HeadLinks}
 use Rattle.mst_arena.specs.declared.row.EntryLinks.{EntryLinks}
 use Rattle.mst_arena.specs.Standing.{Placed, none as no_tree, head as tree_head, tree_of, link_of, rows_of, used, HasRows}
 use Rattle.mst_arena.proofs.ListLemmas.{times-append}
-use Rattle.mst_path.specs.Paths.{cells, last_child, first_child, with_first, node_of, join}
-use Rattle.mst_path.specs.PathsCost.{side_rows, join_rows}
+use Rattle.mst_change.specs.Parts.{cells, last_child, first_child, with_first, node_of}
+use Rattle.mst_change.specs.Join.{join}
+use Rattle.mst_change.specs.Cost.{side_rows, join_rows}
 use Rattle.mst_path.specs.Moves.{In, IsAlive, IsOld}
 use Rattle.mst_path.specs.Runs.{OldPiece, Run, gaps_used, EachGap}
 use Rattle.mst_path.specs.Making.{BackRun, HasTail, cell_of, cells_of, entries_to, others}
@@ -27,9 +28,8 @@ use Rattle.mst_path.specs.Joining.{TwoTrees, height, height_at, Met, above_right
 use Rattle.mst_path.specs.Writing.{PlacedEntry, link_from}
 use Rattle.mst_path.proofs.Copies.{old_alive, links_there, links_are}
 use Rattle.mst_path.proofs.Nodes.{layer_of_entries}
-use Rattle.mst_path.proofs.SplitEqs.{first_mst, last_mst, with_first_count}
-use Rattle.mst_path.proofs.SplitCuts.{with_entries_count}
-use Rattle.mst_path.proofs.JoinSteps.{join_higher, join_lower, join_level, join_rows_higher, join_rows_lower, join_rows_level}
+use Rattle.mst_change.proofs.Parts.{first_mst, last_mst, with_first_count, with_entries_count}
+use Rattle.mst_change.proofs.Join.Steps.{join_higher, join_lower, join_level, join_rows_higher, join_rows_lower, join_rows_level}
 use Rattle.mst_path.proofs.Opening.{Opened, opened, cells_to, last_to, count_to, First, first_of_some}
 
 -- ---- rows of a list, each with a fact

@@ -11,7 +11,7 @@ use Rattle.mst_arena.specs.Standing.{Placed, none, head, Chain, end, cell, tree_
 use Rattle.mst_arena.proofs.ListLemmas.{times-append}
 use Rattle.mst_arena.proofs.Stands.{all-front, all-back}
 use Rattle.mst_path.specs.declared.making.Run.{Run as Entries_at}
-use Rattle.mst_path.specs.Paths.{first_child, with_first}
+use Rattle.mst_change.specs.Parts.{first_child, with_first}
 use Rattle.mst_path.specs.Moves.{In, IsOld}
 use Rattle.mst_path.specs.Runs.{OldPiece, Run, own_rows, own, gaps_used, EachGap}
 use Rattle.mst_path.specs.Writing.{PlacedEntry, chain_of, link_from}

@@ -14,7 +14,7 @@ use Rattle.mst_arena.specs.declared.row.HeadLinks.{HeadLinks}
 use Rattle.mst_arena.specs.Standing.{Placed, none as no_tree, head as tree_head, Chain, end, cell, tree_of, entries_of, link_of, first_of, tail_of, count_of, head_row, rows_of, chain_rows, used, chain_used, HasRows}
 use Rattle.mst_arena.proofs.ListLemmas.{times-append}
 use Rattle.mst_arena.proofs.Stands.{all-front, all-back}
-use Rattle.mst_path.specs.Paths.{cells, last_child}
+use Rattle.mst_change.specs.Parts.{cells, last_child}
 use Rattle.mst_path.specs.Moves.{In, IsOld}
 use Rattle.mst_path.specs.Runs.{OldPiece, Run, own_rows, own, gaps_used, EachGap}
 use Rattle.mst_path.specs.Making.{cell_of, cells_of, entries_to}

@@ -11,14 +11,15 @@ use Rattle.mst_arena.specs.Lives.{State}
 use Rattle.mst_arena.specs.Standing.{Placed, tree_of}
 use Rattle.mst_path.specs.declared.frames.Frame.{Frame}
 use Rattle.mst_path.specs.declared.joining.Meeting.{Meeting}
-use Rattle.mst_path.specs.Paths.{first_child, below, above}
-use Rattle.mst_path.specs.PathsCost.{is_empty, side_rows, split_rows}
+use Rattle.mst_change.specs.Parts.{first_child, is_empty}
+use Rattle.mst_change.specs.Split.{below, above}
+use Rattle.mst_change.specs.Cost.{side_rows, split_rows}
 use Rattle.mst_path.specs.Making.{cell_of, cells_of}
 use Rattle.mst_path.specs.Joining.{height, height_at}
 use Rattle.mst_path.specs.Removing.{SearchTree}
 use Rattle.mst_path.specs.Gaps.{OpensGap, OpensEntry}
 use Rattle.mst_path.specs.Splitting.{ToSplit}
-use Rattle.mst_path.proofs.SplitSteps.{gap_count, none_below, none_above, split_rows_step}
+use Rattle.mst_change.proofs.Split.Steps.{gap_count, none_below, none_above, split_rows_step}
 use Rattle.mst_path.proofs.Splitting.{no_front}
 use Rattle.mst_path.proofs.Heights.{gap_rises, entry_layer}
 use Rattle.mst_path.proofs.Meetings.{height_under, height_there}

@@ -10,17 +10,18 @@ use Rattle.mst_arena.specs.Lives.{State}
 use Rattle.mst_arena.specs.Standing.{Placed, none as no_tree, head as tree_head, tree_of, link_of}
 use Rattle.mst_path.specs.declared.frames.Frame.{Frame}
 use Rattle.mst_path.specs.declared.joining.Meeting.{Meeting}
-use Rattle.mst_path.specs.Paths.{first_child, with_first, below, above, put_at}
-use Rattle.mst_path.specs.PathsCost.{split_rows, put_rows}
+use Rattle.mst_change.specs.Parts.{first_child, with_first}
+use Rattle.mst_change.specs.Split.{below, above}
+use Rattle.mst_change.specs.Put.{put_at}
+use Rattle.mst_change.specs.Cost.{split_rows, put_rows}
 use Rattle.mst_path.specs.Making.{cells_of, entries_to}
 use Rattle.mst_path.specs.Joining.{height, height_at}
 use Rattle.mst_path.specs.Gaps.{OpensGap, OpensEntry}
 use Rattle.mst_path.specs.Splitting.{ToSplit}
 use Rattle.mst_path.specs.Putting.{RisingTree, PutsDown, PutsBetween, PutsAnew}
-use Rattle.mst_path.proofs.SplitEqs.{with_first_count}
-use Rattle.mst_path.proofs.SplitCuts.{with_entries_count}
-use Rattle.mst_path.proofs.SplitSteps.{gap_count}
-use Rattle.mst_path.proofs.PutSteps.{put_lower, put_rows_lower, put_level, put_rows_level, put_higher, put_rows_higher, put_value, put_rows_value}
+use Rattle.mst_change.proofs.Parts.{with_first_count, with_entries_count}
+use Rattle.mst_change.proofs.Split.Steps.{gap_count}
+use Rattle.mst_change.proofs.Put.Steps.{put_lower, put_rows_lower, put_level, put_rows_level, put_higher, put_rows_higher, put_value, put_rows_value}
 use Rattle.mst_path.proofs.Heights.{gap_rises, entry_layer}
 use Rattle.mst_path.proofs.Meetings.{node_of_some, side_some, height_there}
 

@@ -12,8 +12,10 @@ use Rattle.mst_arena.specs.declared.row.HeadLinks.{HeadLinks}
 use Rattle.mst_arena.specs.Standing.{tree_of, link_of, used}
 use Rattle.mst_arena.proofs.ListLemmas.{times-append}
 use Rattle.mst_path.specs.declared.making.Run.{Run as RunOf}
-use Rattle.mst_path.specs.Paths.{first_child, with_first, node_of, join, tree_remove}
-use Rattle.mst_path.specs.PathsCost.{side_rows, join_rows, remove_rows}
+use Rattle.mst_change.specs.Parts.{first_child, with_first, node_of}
+use Rattle.mst_change.specs.Join.{join}
+use Rattle.mst_change.specs.Remove.{tree_remove}
+use Rattle.mst_change.specs.Cost.{side_rows, join_rows, remove_rows}
 use Rattle.mst_path.specs.Moves.{IsOld}
 use Rattle.mst_path.specs.Runs.{OldPiece, Run, own, gaps_used, EachGap}
 use Rattle.mst_path.specs.Making.{BackRun, cell_of, cells_of, entries_to, others, tail_behind}
@@ -24,8 +26,8 @@ use Rattle.mst_path.specs.Joining.{TwoTrees, in_both}
 use Rattle.mst_path.specs.Gaps.{OpensGap, OpensEntry}
 use Rattle.mst_path.specs.Writing.{PlacedEntry, link_from}
 use Rattle.mst_path.proofs.Copies.{at_self, old_alive}
-use Rattle.mst_path.proofs.SplitCuts.{with_entries_count}
-use Rattle.mst_path.proofs.RemoveSteps.{remove_step, remove_rows_step, remove_here, remove_rows_here}
+use Rattle.mst_change.proofs.Parts.{with_entries_count}
+use Rattle.mst_change.proofs.Remove.Steps.{remove_step, remove_rows_step, remove_here, remove_rows_here}
 use Rattle.mst_path.proofs.Opening.{Opened, opened, count_to}
 use Rattle.mst_path.proofs.Meetings.{each_in, both_alive, node_search, tall, low_layer}
 use Rattle.mst_path.proofs.Parting.{back_rows, back_gaps, own_both, gaps_both, front_run, back_old, Behind, behind, back_search}

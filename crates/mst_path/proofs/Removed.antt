@@ -12,14 +12,14 @@ use Rattle.mst_arena.specs.Lives.{State}
 use Rattle.mst_arena.specs.Lists.{times}
 use Rattle.mst_arena.specs.declared.row.Root.{Root}
 use Rattle.mst_arena.specs.Standing.{tree_of, used, Stands, numbers}
-use Rattle.mst_path.specs.Paths.{tree_remove}
-use Rattle.mst_path.specs.PathsCost.{remove_rows}
+use Rattle.mst_change.specs.Remove.{tree_remove}
+use Rattle.mst_change.specs.Cost.{remove_rows}
 use Rattle.mst_path.specs.Making.{Grown}
 use Rattle.mst_path.specs.Removing.{SearchTree, in_tree, without, without_rows}
 use Rattle.mst_path.specs.Changing.{AreOld, MapStands}
 use Rattle.mst_path.proofs.Changes.{search_at, AfterChange, Changed, after_change, unchanged_map, few_rows}
-use Rattle.mst_path.proofs.CostRemove.{cost_remove}
-use Rattle.mst_path.proofs.RemoveTrees.{removed_tree}
+use Rattle.mst_change.proofs.Cost.Remove.{cost_remove}
+use Rattle.mst_change.proofs.Remove.Trees.{removed_tree}
 use Rattle.mst_path.proofs.Rounds.{regrown}
 use Rattle.mst_path.proofs.Sizes.{remove_le}
 

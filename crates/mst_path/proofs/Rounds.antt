@@ -8,8 +8,8 @@ use Rattle.mst_arena.specs.Lists.{times}
 use Rattle.mst_arena.specs.declared.row.Root.{Root}
 use Rattle.mst_arena.specs.Standing.{tree_of, used}
 use Rattle.mst_path.specs.declared.frames.Frame.{Frame}
-use Rattle.mst_path.specs.Paths.{tree_remove}
-use Rattle.mst_path.specs.PathsCost.{remove_rows}
+use Rattle.mst_change.specs.Remove.{tree_remove}
+use Rattle.mst_change.specs.Cost.{remove_rows}
 use Rattle.mst_path.specs.Making.{Grown}
 use Rattle.mst_path.specs.Writing.{IsRootOf}
 use Rattle.mst_path.specs.Frames.{Framed, in_frame, tree_round, frame_rows}

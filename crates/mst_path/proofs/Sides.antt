@@ -8,8 +8,8 @@ use Rattle.mst_arena.specs.Lives.{State, next, with_life, ended}
 use Rattle.mst_arena.specs.Lists.{times}
 use Rattle.mst_arena.specs.declared.row.Root.{Root}
 use Rattle.mst_arena.specs.Standing.{Placed, tree_of, used}
-use Rattle.mst_path.specs.Paths.{node_of, with_first}
-use Rattle.mst_path.specs.PathsCost.{side_rows}
+use Rattle.mst_change.specs.Parts.{node_of, with_first}
+use Rattle.mst_change.specs.Cost.{side_rows}
 use Rattle.mst_path.specs.Moves.{IsAlive, IsOld}
 use Rattle.mst_path.specs.Runs.{Piece, own, gaps_used}
 use Rattle.mst_path.specs.Writing.{PlacedEntry}

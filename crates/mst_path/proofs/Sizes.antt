@@ -4,10 +4,14 @@ use Rattle.mst_key.specs.declared.format.Format.TheVariants.{One}
 use Rattle.mst_node.specs.Tree.{Tree, empty, node, Entries, last, entry, entry_count}
 use Rattle.mst_node.specs.Trail.{by_order}
 use Rattle.mst_arena.specs.Standing.{Placed, none, head, Chain, end, cell, tree_of, entries_of, used, chain_used}
-use Rattle.mst_path.specs.Paths.{first_child, last_child, with_first, below, above, entries_below, entries_above, join, tree_remove, entries_remove}
-use Rattle.mst_path.specs.PathsCost.{is_empty, split_rows, gap_rows, put_among_rows, put_rows, put_gap_rows, join_node_rows, join_first_rows, join_rows, join_last_rows, remove_rows, entries_remove_rows}
-use Rattle.mst_path.proofs.CostBounds.{side_le, split_count}
-use Rattle.mst_path.proofs.SplitEqs.{at_order, at_layer, seam_count, with_first_count}
+use Rattle.mst_change.specs.Parts.{first_child, last_child, with_first, is_empty}
+use Rattle.mst_change.specs.Split.{below, above, entries_below, entries_above}
+use Rattle.mst_change.specs.Join.{join}
+use Rattle.mst_change.specs.Remove.{tree_remove, entries_remove}
+use Rattle.mst_change.specs.Cost.{split_rows, gap_rows, put_among_rows, put_rows, put_gap_rows, join_node_rows, join_first_rows, join_rows, join_last_rows, remove_rows, entries_remove_rows}
+use Rattle.mst_change.proofs.Cost.Bounds.{side_le, split_count}
+use Rattle.mst_change.proofs.Choices.{at_order, at_layer}
+use Rattle.mst_change.proofs.Parts.{seam_count, with_first_count}
 
 -- how many rows a tree has
 abbrev mutual

@@ -16,8 +16,9 @@ use Rattle.mst_arena.specs.declared.row.Root.{Root}
 use Rattle.mst_arena.specs.declared.row.HeadLinks.{HeadLinks}
 use Rattle.mst_arena.specs.Standing.{Placed, none, head, tree_of, link_of, used}
 use Rattle.mst_path.specs.declared.making.Run.{Run as Entries_at}
-use Rattle.mst_path.specs.Paths.{first_child, with_first, node_of, below, above}
-use Rattle.mst_path.specs.PathsCost.{is_empty, side_rows, split_rows}
+use Rattle.mst_change.specs.Parts.{first_child, with_first, node_of, is_empty}
+use Rattle.mst_change.specs.Split.{below, above}
+use Rattle.mst_change.specs.Cost.{side_rows, split_rows}
 use Rattle.mst_path.specs.Moves.{IsAlive, IsOld}
 use Rattle.mst_path.specs.Runs.{Piece}
 use Rattle.mst_path.specs.Writing.{PlacedEntry, link_from, IsRootOf}
@@ -27,10 +28,9 @@ use Rattle.mst_path.specs.Splitting.{SearchUnder, ToSplit, BothStand, side_of, i
 use Rattle.mst_path.proofs.Moving.{moves_none}
 use Rattle.mst_path.proofs.Copies.{old_alive}
 use Rattle.mst_path.proofs.Nodes.{layer_of_entries}
-use Rattle.mst_path.proofs.SplitEqs.{under_weaker}
-use Rattle.mst_path.proofs.SplitSteps.{below_step, above_step, none_below, none_above, split_rows_step}
-use Rattle.mst_path.proofs.SplitCuts.{with_entries_count}
-use Rattle.mst_path.proofs.CostSplit.{absent_under, below_whole, above_whole}
+use Rattle.mst_change.proofs.Parts.{under_weaker, with_entries_count}
+use Rattle.mst_change.proofs.Split.Steps.{below_step, above_step, none_below, none_above, split_rows_step}
+use Rattle.mst_change.proofs.Cost.Split.{absent_under, below_whole, above_whole}
 use Rattle.mst_path.proofs.Steps.{Step, step_split, step_then, run_after, back_after, old_after, apart_after}
 use Rattle.mst_path.proofs.Opened.{Opened, opened, Round, around, last_of, first_gap, with_first_last, gap_round, gap_round_sum, gap_old_piece}
 use Rattle.mst_path.proofs.Heights.{height, height_at, child_height, gap_mst, gap_rises, entry_layer}

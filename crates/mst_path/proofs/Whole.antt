@@ -11,7 +11,7 @@ use Rattle.mst_arena.specs.declared.life.Life.TheVariants.{Born}
 use Rattle.mst_arena.specs.Standing.{Placed, tree_of, used}
 use Rattle.mst_arena.proofs.ListLemmas.{times-append}
 use Rattle.mst_arena.proofs.Stands.{placed_frame}
-use Rattle.mst_path.specs.Paths.{with_first}
+use Rattle.mst_change.specs.Parts.{with_first}
 use Rattle.mst_path.specs.Takes.{IsOut, KeepsBut}
 use Rattle.mst_path.specs.Moves.{In, IsAlive, IsOld, Moves}
 use Rattle.mst_path.specs.Runs.{Piece, OldPiece, Run, own, gaps_used, EachGap}

@@ -7,7 +7,7 @@ use Rattle.mst_arena.specs.Standing.{Placed, link_of, tree_of, HasRows}
 use Rattle.mst_path.specs.declared.making.Run.{Run}
 use Rattle.mst_path.specs.declared.cut.Cut.{Cut}
 use Rattle.mst_path.specs.declared.cut.Cut.TheVariants.{Gap, Held}
-use Rattle.mst_path.specs.PathsCuts.{IsGap, IsAt}
+use Rattle.mst_change.specs.Gap.{IsGap, IsAt}
 use Rattle.mst_path.specs.Runs.{own_rows}
 use Rattle.mst_path.specs.Writing.{PlacedEntry, link_from}
 use Rattle.mst_path.specs.Making.{cells_of, entries_to}

@@ -9,8 +9,8 @@ use Rattle.mst_path.specs.declared.frames.Frame.{Frame}
 use Rattle.mst_path.specs.declared.joining.Meeting.{Meeting}
 use Rattle.mst_path.specs.declared.removing.Step.{Step}
 use Rattle.mst_path.specs.declared.removing.Step.TheVariants.{Down, Here}
-use Rattle.mst_path.specs.Paths.{first_child, with_first}
-use Rattle.mst_path.specs.PathsCuts.{IsGap, IsAt}
+use Rattle.mst_change.specs.Parts.{first_child, with_first}
+use Rattle.mst_change.specs.Gap.{IsGap, IsAt}
 use Rattle.mst_path.specs.Making.{cells_of, entries_to}
 use Rattle.mst_path.specs.Frames.{Framed, in_frame}
 use Rattle.mst_path.specs.Joining.{TwoTrees, in_both, height}

@@ -10,8 +10,8 @@ use Rattle.mst_arena.specs.declared.row.HeadLinks.{HeadLinks}
 use Rattle.mst_arena.specs.Lists.{times}
 use Rattle.mst_arena.specs.Standing.{Placed, tree_of, link_of, used}
 use Rattle.mst_path.specs.declared.joining.Meeting.{Meeting}
-use Rattle.mst_path.specs.Paths.{join}
-use Rattle.mst_path.specs.PathsCost.{join_rows}
+use Rattle.mst_change.specs.Join.{join}
+use Rattle.mst_change.specs.Cost.{join_rows}
 use Rattle.mst_path.specs.Runs.{OldPiece}
 use Rattle.mst_path.specs.Frames.{Framed, in_frame, tree_round, frame_rows}
 

@@ -1,6 +1,3 @@
-pub mod Paths
-pub mod PathsCost
-pub mod PathsCuts
 pub mod Takes
 pub mod Writing
 pub mod Planting

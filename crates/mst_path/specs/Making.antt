@@ -12,7 +12,7 @@ use Rattle.mst_path.specs.declared.making.Parts.{Parts}
 use Rattle.mst_path.specs.Takes.{KeepsBut}
 use Rattle.mst_path.specs.Moves.{In, IsOld, Moves}
 use Rattle.mst_path.specs.Runs.{Piece, OldPiece, Run, own_rows, own, gaps_used, EachGap}
-use Rattle.mst_path.specs.Paths.{with_first}
+use Rattle.mst_change.specs.Parts.{with_first}
 use Rattle.mst_path.specs.Writing.{PlacedEntry, link_from, entries_used, ahead, IsRootOf}
 use Rattle.mst_path.specs.Copying.{IsNew, Going}
 use Rattle.mst_path.specs.declared.node_writer.NodeWriter.{NodeWriter}

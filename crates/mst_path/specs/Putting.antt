@@ -13,8 +13,10 @@ use Rattle.mst_path.specs.declared.frames.Frame.{Frame}
 use Rattle.mst_path.specs.declared.joining.Meeting.{Meeting}
 use Rattle.mst_path.specs.declared.putting.PutStep.{PutStep}
 use Rattle.mst_path.specs.declared.putting.PutStep.TheVariants.{OnTop, Down, Between, Anew}
-use Rattle.mst_path.specs.Paths.{below, above, with_first, put_at}
-use Rattle.mst_path.specs.PathsCost.{split_rows, put_rows}
+use Rattle.mst_change.specs.Split.{below, above}
+use Rattle.mst_change.specs.Parts.{with_first}
+use Rattle.mst_change.specs.Put.{put_at}
+use Rattle.mst_change.specs.Cost.{split_rows, put_rows}
 use Rattle.mst_path.specs.Runs.{Piece}
 use Rattle.mst_path.specs.Writing.{IsRootOf}
 use Rattle.mst_path.specs.Making.{cells_of, entries_to}

@@ -1,9 +1,8 @@
 -- Which rows a version reaches, beside the rows that stand for its tree.
-use Rattle.std.specs.Prelude.{◌≡◌, ◌≤◌, ◌↔◌, ℕ, true, List, map, slice_get, slice_set, Option, Some, None}
+use Rattle.std.specs.Prelude.{◌≡◌, ◌↔◌, ℕ, true, List, map, slice_set}
 pub use Rattle.mst_arena.specs.Lives.{IsPast, IsSettled}
-use Rattle.mst_arena.specs.Lives.{State, version, next, reaches, swept}
+use Rattle.mst_arena.specs.Lives.{State, next, reaches, swept}
 use Rattle.mst_arena.specs.declared.life.Life.{Life}
-use Rattle.mst_arena.specs.declared.life.Life.TheVariants.{Free, Born, Dead}
 use Rattle.mst_path.specs.Moves.{In}
 use Rattle.mst_path.specs.Changing.{AreTaken, AreKilled, OthersLive, SameVersions}
 

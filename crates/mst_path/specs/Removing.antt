@@ -10,8 +10,8 @@ use Rattle.mst_path.specs.declared.frames.Frame.{Frame}
 use Rattle.mst_path.specs.declared.joining.Meeting.{Meeting}
 use Rattle.mst_path.specs.declared.removing.Step.{Step}
 use Rattle.mst_path.specs.declared.removing.Step.TheVariants.{Down, Here}
-use Rattle.mst_path.specs.Paths.{tree_remove}
-use Rattle.mst_path.specs.PathsCost.{remove_rows}
+use Rattle.mst_change.specs.Remove.{tree_remove}
+use Rattle.mst_change.specs.Cost.{remove_rows}
 use Rattle.mst_path.specs.Runs.{OldPiece}
 use Rattle.mst_path.specs.Frames.{Framed, in_frame, tree_round, frame_rows}
 use Rattle.mst_path.specs.Joining.{TwoTrees, in_both, both_joined, both_rows, height}

@@ -9,7 +9,7 @@ use Rattle.mst_arena.specs.Lives.{State}
 use Rattle.mst_arena.specs.Lists.{times}
 use Rattle.mst_arena.specs.Standing.{tree_of}
 use Rattle.mst_path.specs.Moves.{IsOld}
-use Rattle.mst_path.specs.Paths.{node_of, with_first}
+use Rattle.mst_change.specs.Parts.{node_of, with_first}
 use Rattle.mst_path.specs.Making.{OldTree, PartsStand, in_parts, cells_of, entries_to}
 use Rattle.mst_path.specs.declared.making.Parts.{Parts}
 use Rattle.mst_node.specs.Shape.{with_entries}

@@ -4,8 +4,9 @@ ghost use Rattle.mst_key.specs.declared.format.Format.TheVariants.{One};
 ghost use Rattle.mst_key.specs.Layer.{layer_in};
 ghost use Rattle.mst_arena.specs.Lives.{State};
 ghost use Rattle.mst_arena.specs.Standing.{tree_of};
-ghost use Rattle.mst_path.specs.Paths.{below, above};
-ghost use Rattle.mst_path.specs.PathsCost.{is_empty, side_rows, split_rows};
+ghost use Rattle.mst_change.specs.Split.{below, above};
+ghost use Rattle.mst_change.specs.Parts.{is_empty};
+ghost use Rattle.mst_change.specs.Cost.{side_rows, split_rows};
 ghost use Rattle.mst_path.specs.Splitting.{ToSplit};
 ghost use Rattle.mst_path.specs.Putting.{RisingTree, pair_rows, with_rows};
 

@@ -2,7 +2,7 @@
 //!
 //! [`plant`] writes a whole tree into free rows, [`put`] puts a pair into the map that stands at a root, and [`remove`] takes a key out of it. A node is written entry by entry, and its text is fed to the hash on the way, so that no call takes memory.
 //!
-//! The tree of the map after a put or a remove is made from the old one along one path, which is split or joined from the top down; all beside the path is shared. `specs/Paths` defines these trees, `specs/PathsCost` counts the rows of the nodes that are made new, and `specs/PathsCuts` says where a key stands among the entries of a node. The laws, [`split_laws`], [`join_laws`], [`path_laws`] and [`cost_laws`], say what these definitions come to. [`reach_laws`] says which rows a version reaches after such a change, and [`version_laws`] that the map of each version that is kept stays as it is.
+//! The tree of the map after a put or a remove is made from the old one along one path, which is split or joined from the top down; all beside the path is shared. `mst_change` defines these trees and counts the rows of the nodes that are made new. [`reach_laws`] says which rows a version reaches after such a change, and [`version_laws`] that the map of each version that is kept stays as it is.
 //!
 //! Below the calls, from the top down:
 //!
@@ -33,7 +33,7 @@ mod whole_tree;
 
 pub use faults::NoRoom;
 pub use insertion::put;
-pub use laws::{cost_laws, join_laws, path_laws, reach_laws, split_laws, version_laws};
+pub use laws::{reach_laws, version_laws};
 pub use mst_arena::Root;
 pub use removal::remove;
 pub use whole_tree::plant;

@@ -6,7 +6,7 @@ ghost use Rattle.mst_node.specs.Shape.{with_entries};
 ghost use Rattle.mst_arena.specs.Lives.{free_count};
 ghost use Rattle.mst_arena.specs.Lists.{times};
 ghost use Rattle.mst_arena.specs.Standing.{Placed, tree_of, used};
-ghost use Rattle.mst_path.specs.Paths.{with_first};
+ghost use Rattle.mst_change.specs.Parts.{with_first};
 ghost use Rattle.mst_path.specs.Takes.{FreeIsBlank};
 ghost use Rattle.mst_path.specs.Runs.{Piece};
 ghost use Rattle.mst_path.specs.Writing.{IsRootOf, IsWriter};

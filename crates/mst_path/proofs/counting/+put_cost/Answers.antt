@@ -3,7 +3,7 @@ use Rattle.mst_key.specs.declared.format.Format.TheVariants.{One}
 use Rattle.mst_arena.specs.Content.{Content}
 use Rattle.mst_arena.specs.Lives.{State}
 use Rattle.mst_arena.specs.Standing.{tree_of}
-use Rattle.mst_path.specs.PathsCost.{split_rows}
+use Rattle.mst_change.specs.Cost.{split_rows}
 use Rattle.mst_path.specs.Joining.{height, height_at}
 use Rattle.mst_path.specs.Splitting.{ToSplit}
 use Rattle.mst_path.specs.Putting.{RisingTree, pair_rows, IsPutStep, PutsDown, PutsBetween, PutsAnew}

@@ -3,8 +3,9 @@ use Rattle.mst_key.specs.declared.format.Format.TheVariants.{One}
 use Rattle.mst_arena.specs.Content.{Content}
 use Rattle.mst_arena.specs.Lives.{State}
 use Rattle.mst_arena.specs.Standing.{tree_of}
-use Rattle.mst_path.specs.Paths.{below, above}
-use Rattle.mst_path.specs.PathsCost.{is_empty, split_rows}
+use Rattle.mst_change.specs.Split.{below, above}
+use Rattle.mst_change.specs.Parts.{is_empty}
+use Rattle.mst_change.specs.Cost.{split_rows}
 use Rattle.mst_path.specs.Joining.{height_at}
 use Rattle.mst_path.specs.Splitting.{ToSplit}
 use Rattle.mst_path.specs.Gaps.{IsOpened, OpensGap, OpensEntry}

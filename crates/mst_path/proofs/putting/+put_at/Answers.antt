@@ -5,8 +5,8 @@ use Rattle.mst_arena.specs.Lives.{free_count}
 use Rattle.mst_arena.specs.Lists.{times}
 use Rattle.mst_arena.specs.Standing.{tree_of, used}
 use Rattle.mst_node.specs.Tree.{node, entry, last}
-use Rattle.mst_path.specs.Paths.{below, above}
-use Rattle.mst_path.specs.PathsCost.{split_rows}
+use Rattle.mst_change.specs.Split.{below, above}
+use Rattle.mst_change.specs.Cost.{split_rows}
 use Rattle.mst_path.specs.Takes.{FreeIsBlank}
 use Rattle.mst_path.specs.Making.{Grown}
 use Rattle.mst_path.specs.Frames.{Framed, in_frame, tree_round, frame_rows}

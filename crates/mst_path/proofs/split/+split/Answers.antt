@@ -6,8 +6,9 @@ use Rattle.mst_arena.specs.Content.{Content}
 use Rattle.mst_arena.specs.Lives.{free_count}
 use Rattle.mst_arena.specs.Lists.{times}
 use Rattle.mst_arena.specs.Standing.{tree_of, used, rows_of, HasRows}
-use Rattle.mst_path.specs.Paths.{below, above}
-use Rattle.mst_path.specs.PathsCost.{is_empty, split_rows}
+use Rattle.mst_change.specs.Split.{below, above}
+use Rattle.mst_change.specs.Parts.{is_empty}
+use Rattle.mst_change.specs.Cost.{split_rows}
 use Rattle.mst_path.specs.Takes.{FreeIsBlank}
 use Rattle.mst_path.specs.Making.{Split, tail_behind}
 use Rattle.mst_path.specs.Cutting.{EntriesLie, CutGap, CutHeld, IsCut}

@@ -1,0 +1,194 @@
+-- Where a node stands in a tree: each key stands in one node, so a node is found again by any key of its own.
+use Rattle.std.proofs.Common.{◌≡◌, ℕ, ◌<◌, ◌≤◌, length, length-append, arith, Bool, true, false, ◌||◌, ◌⊎◌, inl, inr, List, ◌∷◌, refl, sym, ap, subst, ◌∙◌, Less, Equal, Greater, true≢false}
+use Rattle.std.proofs.lemmas.List.Folds.{list_any-append}
+use Rattle.std.proofs.lemmas.Bool.{false_from_ne_true}
+use Rattle.std.specs.List.{AllByRecursion, list_any}
+use Rattle.mst_key.specs.declared.format.Format.{Format}
+use Rattle.mst_key.specs.Map.{Pair, key_cmp, IsAscending}
+use Rattle.mst_key.proofs.Alls.{alls-front, alls-back}
+use Rattle.mst_key.proofs.KeyOrder.{equal_from_same, greater_from_less}
+use Rattle.mst_key.proofs.Splits.{IsAscending-below, IsAscending-above}
+use Rattle.mst_node.specs.Tree.{Tree, empty, node, Entries, last, entry, entry_count, pairs, entries_pairs}
+use Rattle.mst_node.specs.Shape.{with_entries}
+use Rattle.mst_node.specs.Trail.{by_order}
+use Rattle.mst_node.specs.Cost.{subtrees, entries_subtrees, same_tree, is_subtree}
+use Rattle.mst_change.specs.Parts.{cells, first_child, with_first, node_of}
+use Rattle.mst_change.specs.Split.{below, entries_below, above, entries_above}
+use Rattle.mst_change.specs.Join.{join}
+use Rattle.mst_change.specs.Remove.{tree_remove, entries_remove}
+use Rattle.mst_change.proofs.Choices.{at_key}
+use Rattle.mst_change.proofs.Cost.Same.{tree_from_same, same_from_tree}
+use Rattle.mst_change.proofs.Split.Trees.{rest_rises, child_rises}
+use Rattle.mst_change.proofs.Choices.{chosen}
+
+-- ---- what stands in a tree
+
+abbrev mutual
+  pub InTree : Tree → Tree → Type 0
+  InTree s empty = ⊥
+  InTree s (node g l es) = (s ≡ node g l es) ⊎ InEntries s es
+
+  pub InEntries : Tree → Entries → Type 0
+  InEntries s (last child) = InTree s child
+  InEntries s (entry child key value rest) = InTree s child ⊎ InEntries s rest
+
+either_true : (a b : Bool) → (a || b) ≡ true → (a ≡ true) ⊎ (b ≡ true)
+either_true true b e = inl refl
+either_true false b e = inr e
+
+true_either : (a b : Bool) → (a ≡ true) ⊎ (b ≡ true) → (a || b) ≡ true
+true_either true b e = refl
+true_either false b (inl e) = absurd (true≢false (sym e))
+true_either false b (inr e) = e
+
+mutual
+  in_from_test : (t s : Tree) → list_any (same_tree s) (subtrees t) ≡ true → InTree s t
+  in_from_test empty s e = absurd (true≢false (sym e))
+  in_from_test (node g l es) s e = elim (either_true (same_tree s (node g l es)) (list_any (same_tree s) (entries_subtrees es)) e) [
+    | inl is ↦ inl (tree_from_same s (node g l es) is)
+    | inr is ↦ inr (in_entries_from_test es s is)
+  ]
+
+  in_entries_from_test : (es : Entries) (s : Tree) → list_any (same_tree s) (entries_subtrees es) ≡ true → InEntries s es
+  in_entries_from_test (last child) s e = in_from_test child s e
+  in_entries_from_test (entry child key value rest) s e = elim (either_true (list_any (same_tree s) (subtrees child)) (list_any (same_tree s) (entries_subtrees rest)) (sym (list_any-append (same_tree s) (subtrees child) (entries_subtrees rest)) ∙ e)) [
+    | inl is ↦ inl (in_from_test child s is)
+    | inr is ↦ inr (in_entries_from_test rest s is)
+  ]
+
+mutual
+  test_from_in : (t s : Tree) → InTree s t → list_any (same_tree s) (subtrees t) ≡ true
+  test_from_in empty s is = absurd is
+  test_from_in (node g l es) s (inl is) = true_either (same_tree s (node g l es)) (list_any (same_tree s) (entries_subtrees es)) (inl (same_from_tree s (node g l es) is))
+  test_from_in (node g l es) s (inr is) = true_either (same_tree s (node g l es)) (list_any (same_tree s) (entries_subtrees es)) (inr (test_from_in_entries es s is))
+
+  test_from_in_entries : (es : Entries) (s : Tree) → InEntries s es → list_any (same_tree s) (entries_subtrees es) ≡ true
+  test_from_in_entries (last child) s is = test_from_in child s is
+  test_from_in_entries (entry child key value rest) s (inl is) = list_any-append (same_tree s) (subtrees child) (entries_subtrees rest) ∙ true_either (list_any (same_tree s) (subtrees child)) (list_any (same_tree s) (entries_subtrees rest)) (inl (test_from_in child s is))
+  test_from_in_entries (entry child key value rest) s (inr is) = list_any-append (same_tree s) (subtrees child) (entries_subtrees rest) ∙ true_either (list_any (same_tree s) (subtrees child)) (list_any (same_tree s) (entries_subtrees rest)) (inr (test_from_in_entries rest s is))
+
+pub is_old : (s old : Tree) → InTree s old → is_subtree s old ≡ true
+is_old s old is = test_from_in old s is
+
+pub is_new : (s old : Tree) → (InTree s old → ⊥) → is_subtree s old ≡ false
+is_new s old absent = false_from_ne_true (is_subtree s old) (λ e. absent (in_from_test old s e))
+
+-- ---- the keys of a node
+
+abbrev pub HasKey : List ℕ → Entries → Type 0
+HasKey q (last child) = ⊥
+HasKey q (entry child key value rest) = (q ≡ key) ⊎ HasKey q rest
+
+abbrev pub TopKey : List ℕ → Tree → Type 0
+TopKey q empty = ⊥
+TopKey q (node g l es) = HasKey q es
+
+module _ (P : Pair → Type 0) where
+  -- what holds of the pairs of a tree holds of those of each tree in it
+  mutual
+    pub pairs_hold : (t s : Tree) → InTree s t → AllByRecursion P (pairs t) → AllByRecursion P (pairs s)
+    pairs_hold empty s is all = absurd is
+    pairs_hold (node g l es) s (inl is) all = subst (λ (u : Tree). AllByRecursion P (pairs u)) (sym is) all
+    pairs_hold (node g l es) s (inr is) all = entries_pairs_hold es s is all
+
+    pub entries_pairs_hold : (es : Entries) (s : Tree) → InEntries s es → AllByRecursion P (entries_pairs es) → AllByRecursion P (pairs s)
+    entries_pairs_hold (last child) s is all = pairs_hold child s is all
+    entries_pairs_hold (entry child key value rest) s (inl is) all = pairs_hold child s is (alls-front P (pairs child) ((key, value) ∷ entries_pairs rest) all)
+    entries_pairs_hold (entry child key value rest) s (inr is) all = entries_pairs_hold rest s is (alls-back P (pairs child) ((key, value) ∷ entries_pairs rest) all).1
+
+module _ (P : List ℕ → Type 0) where
+  pub key_holds : (es : Entries) (q : List ℕ) → HasKey q es → AllByRecursion (λ p. P p.0) (entries_pairs es) → P q
+  key_holds (last child) q has all = absurd has
+  key_holds (entry child key value rest) q (inl is) all = subst P (sym is) (alls-back (λ p. P p.0) (pairs child) ((key, value) ∷ entries_pairs rest) all).0
+  key_holds (entry child key value rest) q (inr has) all = key_holds rest q has (alls-back (λ p. P p.0) (pairs child) ((key, value) ∷ entries_pairs rest) all).1
+
+  pub top_key_holds : (s : Tree) (q : List ℕ) → TopKey q s → AllByRecursion (λ p. P p.0) (pairs s) → P q
+  top_key_holds empty q has all = absurd has
+  top_key_holds (node g l es) q has all = key_holds es q has all
+
+-- ---- the node that has a key
+
+abbrev mutual
+  home : List ℕ → Tree → Tree
+  home q empty = empty
+  home q (node g l es) = home_in q (node g l es) es
+
+  home_in : List ℕ → Tree → Entries → Tree
+  home_in q whole (last child) = home q child
+  home_in q whole (entry child key value rest) = by_order (key_cmp q key) (home q child) whole (home_in q whole rest)
+
+home_here : (es : Entries) (whole : Tree) (q : List ℕ) → IsAscending (entries_pairs es) → HasKey q es → home_in q whole es ≡ whole
+home_here (last child) whole q rise has = absurd has
+home_here (entry child key value rest) whole q rise (inl is) = chosen (key_cmp q key) Equal (home q child) whole (home_in q whole rest) (equal_from_same q key is)
+home_here (entry child key value rest) whole q rise (inr has) =
+    let less = key_holds (λ (x : List ℕ). key_cmp key x ≡ Less) rest q has (IsAscending-above (pairs child) (entries_pairs rest) (key, value) rise) in
+    chosen (key_cmp q key) Greater (home q child) whole (home_in q whole rest) (greater_from_less key q less) ∙ home_here rest whole q (rest_rises child key value rest rise) has
+
+mutual
+  home_of : (t s : Tree) (q : List ℕ) → IsAscending (pairs t) → InTree s t → TopKey q s → home q t ≡ s
+  home_of empty s q rise is has = absurd is
+  home_of (node g l es) s q rise (inl is) has = home_here es (node g l es) q rise (subst (TopKey q) is has) ∙ sym is
+  home_of (node g l es) s q rise (inr is) has = home_in_of es (node g l es) s q rise is has
+
+  home_in_of : (es : Entries) (whole s : Tree) (q : List ℕ) → IsAscending (entries_pairs es) → InEntries s es → TopKey q s → home_in q whole es ≡ s
+  home_in_of (last child) whole s q rise is has = home_of child s q rise is has
+  home_in_of (entry child key value rest) whole s q rise (inl is) has =
+      let less = top_key_holds (λ (x : List ℕ). key_cmp x key ≡ Less) s q has (pairs_hold (λ (p : Pair). key_cmp p.0 key ≡ Less) child s is (IsAscending-below (pairs child) (entries_pairs rest) (key, value) rise)) in
+      chosen (key_cmp q key) Less (home q child) whole (home_in q whole rest) less ∙ home_of child s q (child_rises child key value rest rise) is has
+  home_in_of (entry child key value rest) whole s q rise (inr is) has =
+      let less = top_key_holds (λ (x : List ℕ). key_cmp key x ≡ Less) s q has (entries_pairs_hold (λ (p : Pair). key_cmp key p.0 ≡ Less) rest s is (IsAscending-above (pairs child) (entries_pairs rest) (key, value) rise)) in
+      chosen (key_cmp q key) Greater (home q child) whole (home_in q whole rest) (greater_from_less key q less) ∙ home_in_of rest whole s q (rest_rises child key value rest rise) is has
+
+-- Two nodes of one tree that share a key are one.
+pub one_home : (old s u : Tree) (q : List ℕ) → IsAscending (pairs old) → InTree s old → InTree u old → TopKey q s → TopKey q u → s ≡ u
+one_home old s u q rise is also has shares = sym (home_of old s q rise is has) ∙ home_of old u q rise also shares
+
+-- a node that shares a key with a node of the tree, but not all its pairs, is not in the tree
+pub new_by_key : (old n u : Tree) (q : List ℕ) → IsAscending (pairs old) → InTree n old → TopKey q n → TopKey q u → (pairs u ≡ pairs n → ⊥) → InTree u old → ⊥
+new_by_key old n u q rise is has shares other also = other (ap pairs (one_home old u n q rise also is shares has))
+
+-- ---- keys of entries that are put together
+
+pub some_key : (es : Entries) → 0 < entry_count es → (q : List ℕ) × HasKey q es
+some_key (last child) some = absurd (omega arith)
+some_key (entry child key value rest) some = (key, inl refl)
+
+pub node_of_key : (es : Entries) (g : Format) (l : ℕ) (q : List ℕ) → HasKey q es → TopKey q (node_of g l es)
+node_of_key (last child) g l q has = absurd has
+node_of_key (entry child key value rest) g l q has = has
+
+pub seam_key : (es fs : Entries) (q : List ℕ) → HasKey q es → HasKey q (with_entries (cells es) fs)
+seam_key (last child) fs q has = absurd has
+seam_key (entry child key value rest) fs q (inl is) = inl is
+seam_key (entry child key value rest) fs q (inr has) = inr (seam_key rest fs q has)
+
+pub with_first_key : (fs : Entries) (new : Tree) (q : List ℕ) → HasKey q (with_first new fs) → HasKey q fs
+with_first_key (last child) new q has = has
+with_first_key (entry child key value rest) new q has = has
+
+pub key_with_first : (fs : Entries) (new : Tree) (q : List ℕ) → HasKey q fs → HasKey q (with_first new fs)
+key_with_first (last child) new q has = has
+key_with_first (entry child key value rest) new q has = has
+
+pub below_key : (es : Entries) (k q : List ℕ) → HasKey q (entries_below k es) → HasKey q es
+below_key (last child) k q = λ has. has
+below_key (entry child key value rest) k q =
+    at_key (λ es. HasKey q es → HasKey q (entry child key value rest)) k key (last (below k child)) (last child) (entry child key value (entries_below k rest))
+    (λ less has. absurd has) (λ same has. absurd has) (λ more has. elim has [ inl is ↦ inl is | inr among ↦ inr (below_key rest k q among) ])
+
+pub above_key : (es : Entries) (k q : List ℕ) → HasKey q (entries_above k es) → HasKey q es
+above_key (last child) k q = λ has. has
+above_key (entry child key value rest) k q =
+    at_key (λ es. HasKey q es → HasKey q (entry child key value rest)) k key (entry (above k child) key value rest) rest (entries_above k rest)
+    (λ less has. has) (λ same has. inr has) (λ more has. inr (above_key rest k q has))
+
+pub remove_key : (es : Entries) (k q : List ℕ) → HasKey q (entries_remove es k) → HasKey q es
+remove_key (last child) k q = λ has. has
+remove_key (entry child key value rest) k q =
+    at_key (λ es. HasKey q es → HasKey q (entry child key value rest)) k key (entry (tree_remove child k) key value rest) (with_first (join child (first_child rest)) rest) (entry child key value (entries_remove rest k))
+    (λ less has. has) (λ same has. inr (with_first_key rest (join child (first_child rest)) q has)) (λ more has. elim has [ inl is ↦ inl is | inr among ↦ inr (remove_key rest k q among) ])
+
+-- a node has no fewer pairs than entries
+pub count_le_pairs : (es : Entries) → entry_count es ≤ length (entries_pairs es)
+count_le_pairs (last child) = omega arith
+count_le_pairs (entry child key value rest) = omega (arith, count_le_pairs rest, length-append (pairs child) ((key, value) ∷ entries_pairs rest))

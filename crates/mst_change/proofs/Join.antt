@@ -1,0 +1,3 @@
+-- Trees joined.
+pub mod Trees
+pub mod Steps

@@ -1,0 +1,9 @@
+pub mod Choices
+pub mod Parts
+pub mod Gaps
+pub mod Split
+pub mod Join
+pub mod Put
+pub mod Remove
+pub mod Cost
+pub mod Worked

@@ -1,0 +1,3 @@
+-- Trees after a put.
+pub mod Trees
+pub mod Steps

@@ -1,0 +1,3 @@
+-- Trees after a remove.
+pub mod Trees
+pub mod Steps

@@ -1,0 +1,4 @@
+-- Trees split at a key.
+pub mod Pairs
+pub mod Trees
+pub mod Steps
