@@ -7,3 +7,9 @@ use Rattle.mst_table.proofs.board.Board.give_turn.Goals as goal
 
 pub store-requires : goal.store-requires
 store-requires g c = let h = c.requires.giving in (search rules, (let v = ap (λ (z : TableId). z.words) c.self.view_is in let e = c.requires.wide in omega arith), gives_allows stored stored_framed _ _ _ _ h.0 h.1 c.args.seat.now.me h.2)
+
+pub returns-clause-same : goal.returns-clause-same
+returns-clause-same g c = search rules
+
+pub returns-clause-gave : goal.returns-clause-gave
+returns-clause-gave g c = search rules

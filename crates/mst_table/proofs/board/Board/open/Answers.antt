@@ -1,3 +1,4 @@
+use Rattle.std.proofs.Common.{rules}
 use Rattle.std.proofs.Common.{◌≡◌, ◌<◌, ◌∷◌, [], ℕ, List, Some, Option, refl, ap, ◌∙◌, sym, subst, arith}
 use Rattle.std.specs.Prelude.{slice_index}
 use Rattle.atomic_table.specs.Table.{opening}
@@ -18,3 +19,15 @@ new-requires g c =
     subst (λ (z : List ℕ × List (Option State)). Ruled stored R N (opening z.0 z.1 (dealer R N 1))) (λ i. (sym c.deref.ensures.value i, sym slots i))
     (opens stored stored_framed R N ws (Some d) (desk_state d) c.in_ok-words.ensures.long (λ i l. front i (omega arith)) (let few = c.requires.few_passes in omega arith) (fresh_is_desk R N) refl
     (fresh_standing R N ws front c.in_ok-words.ensures.digest))
+
+pub returns-in_err-words : goal.returns-in_err-words
+returns-in_err-words g c = search rules
+
+pub returns-in_err-slots : goal.returns-in_err-slots
+returns-in_err-slots g c = search rules
+
+pub returns-in_default : goal.returns-in_default
+returns-in_default g c = search rules
+
+pub returns : goal.returns
+returns g c = search rules

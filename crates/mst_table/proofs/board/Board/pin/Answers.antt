@@ -10,3 +10,12 @@ fetch_xor-found-requires g c = (search rules, (let v = ap (λ (z : TableId). z.w
 
 pub returns-clause-pinned : goal.returns-clause-pinned
 returns-clause-pinned g c = let p = c.fetch_xor-found.ensures.2 in let s = p.small in let f = p.found_is in (c.fetch_xor-found.result, p, omega arith)
+
+pub bit_of-requires-clause-some : goal.bit_of-requires-clause-some
+bit_of-requires-clause-some g c = search rules
+
+pub bit_of-requires-clause-few : goal.bit_of-requires-clause-few
+bit_of-requires-clause-few g c = search rules
+
+pub returns-clause-same : goal.returns-clause-same
+returns-clause-same g c = search rules

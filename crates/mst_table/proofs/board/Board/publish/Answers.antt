@@ -11,3 +11,9 @@ swap-requires g c = let r = c.requires.ready in (
   (let v = ap (λ (z : TableId). z.words) c.self.view_is in let e = c.requires.wide in omega arith),
   rw c.requires.named.0 (rw c.requires.named.1 (publishes_allows stored stored_framed _ _ _ _ (c.from.result * 4294967296) c.args.into c.args.event.now (desk_state c.args.desk.now) r.0 c.args.seat.now.me r.1 (ap (λ (z : ℕ). z * 4294967296) c.from.ensures))),
 )
+
+pub returns-clause-same : goal.returns-clause-same
+returns-clause-same g c = search rules
+
+pub returns-clause-published : goal.returns-clause-published
+returns-clause-published g c = search rules

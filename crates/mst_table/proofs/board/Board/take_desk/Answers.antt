@@ -6,3 +6,18 @@ use Rattle.mst_table.proofs.board.Board.take_desk.Goals as goal
 pub exchange-requires : goal.exchange-requires
 exchange-requires g c = let h = c.requires.holds in
     (search rules, (Some h.0, h.1 ∙ ap (λ (l : List (ℕ × Option State)). (0, Some h.0) ∷ rest l) (sym h.1)))
+
+pub unreachable-requires : goal.unreachable-requires
+unreachable-requires g c = search rules
+
+pub unreachable-unreachable : goal.unreachable-unreachable
+unreachable-unreachable g c = search rules
+
+pub returns-clause-same : goal.returns-clause-same
+returns-clause-same g c = search rules
+
+pub returns-clause-desk : goal.returns-clause-desk
+returns-clause-desk g c = search rules
+
+pub returns-clause-left : goal.returns-clause-left
+returns-clause-left g c = search rules

@@ -17,3 +17,18 @@ returns-clause-writes g c = let k = c.loop-k.invariant in subst (λ (z : Seated)
 
 pub returns-clause-blank : goal.returns-clause-blank
 returns-clause-blank g c = blank_stays c.args.self.now.me.0 c.loop-k.self.me.0 (ap (λ (z : Seated). z.me.0) c.loop-k.invariant.kept) c.loop-k.invariant.stored.long
+
+pub words-words-requires : goal.words-words-requires
+words-words-requires g c = search rules
+
+pub loop-k-init : goal.loop-k-init
+loop-k-init g c = search rules
+
+pub bounds-words-k : goal.bounds-words-k
+bounds-words-k g c = search rules
+
+pub store_word-requires-clause-blank : goal.store_word-requires-clause-blank
+store_word-requires-clause-blank g c = search rules
+
+pub store_word-requires-clause-there : goal.store_word-requires-clause-there
+store_word-requires-clause-there g c = search rules
