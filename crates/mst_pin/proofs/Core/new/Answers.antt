@@ -1,3 +1,4 @@
+use Rattle.std.proofs.Common.{rules}
 use Rattle.std.proofs.Common.{◌∙◌, ap, sym, subst, replicate, arith}
 use Rattle.mst_pin.specs.declared.words.Words.{Words}
 use Rattle.mst_pin.specs.Words.{IsKept}
@@ -11,3 +12,12 @@ invariant_of-result c = record { kept = subst (λ (w : Words). IsKept c.args.pas
 pub returns-clause-opening : goal.returns-clause-opening
 unfolding state
 returns-clause-opening c = ap (λ (w : Words). state_of c.args.passes w (replicate 34 0)) c.new.ensures ∙ fresh_state c.args.passes (omega arith) (omega arith)
+
+pub returns-then-passes-eq0-clause-in_range : goal.returns-then-passes-eq0-clause-in_range
+returns-then-passes-eq0-clause-in_range c = search rules
+
+pub returns-then-passes-eq0-clause-opening : goal.returns-then-passes-eq0-clause-opening
+returns-then-passes-eq0-clause-opening c = search rules
+
+pub returns-clause-in_range : goal.returns-clause-in_range
+returns-clause-in_range c = search rules

@@ -1,3 +1,4 @@
+use Rattle.std.proofs.Common.{rules}
 use Rattle.std.proofs.Common.{◌≡◌, Option, Some, inl, sym, refl, ap, subst}
 use Rattle.mst_pin.specs.declared.event.Event.{Event}
 use Rattle.mst_pin.specs.declared.event.Answer.{Answer}
@@ -21,3 +22,15 @@ returns-in-Some-core c = inl (
   c.in-Some.ensures.some,
   taken (core_state c.args.self.now) c.in-Some.command c.in-Take.event (state c.in-Some-core.core) (state c.step.new.self) c.step.result c.from.result c.in-Take.is (ap state_in c.in-Some-core.is) c.step.ensures.step c.from.ensures,
 )
+
+pub returns-in_default : goal.returns-in_default
+returns-in_default c = search rules
+
+pub overflow_add-result : goal.overflow_add-result
+overflow_add-result c = search rules
+
+pub returns-in-Open : goal.returns-in-Open
+returns-in-Open c = search rules
+
+pub returns-in-None : goal.returns-in-None
+returns-in-None c = search rules

@@ -1,3 +1,4 @@
+use Rattle.std.proofs.Common.{rules}
 use Rattle.std.proofs.Common.{◌≡◌, ◌≢◌, ℕ, ◌+◌, ◌*◌, ◌%◌, ◌<◌, ◌^◌, Option, bit_or, List, [], ◌∷◌, Some, true, false, ◌∙◌, sym, ap, subst, arith}
 use Rattle.std.specs.Cmp.Lexicographic.{bytes_decides}
 use denote.Ref.{Bor}
@@ -44,3 +45,21 @@ returns-in-None-clause-only c = λ rows small e.
     let other : c.args.field.now ≢ 45 ∷ [] = λ is. let yes = (bytes_decides c.args.field.now c.as_slice.result.now).1 (is ∙ sym c.as_slice.ensures) in let f : true ≡ false = sym yes ∙ sym c.eq.ensures ∙ c.if-eq.false in cc in
     let h = whole_only c.args.field.now c.loop-row.rows (rest_text c.loop-row.rest) (subst (λ (z : ℕ). Walked c.args.field.now z c.loop-row.rows (rest_text c.loop-row.rest)) row walked) other rows small e in
     ap (λ (z : ℕ). Some z) h.1
+
+pub as_slice-requires : goal.as_slice-requires
+as_slice-requires c = search rules
+
+pub returns-then-eq-clause-some : goal.returns-then-eq-clause-some
+returns-then-eq-clause-some c = search rules
+
+pub loop-row-init : goal.loop-row-init
+loop-row-init c = search rules
+
+pub overflow_cast-rows : goal.overflow_cast-rows
+overflow_cast-rows c = search rules
+
+pub overflow_shl-rows : goal.overflow_shl-rows
+overflow_shl-rows c = search rules
+
+pub returns-in-Some-rest-clause-some : goal.returns-in-Some-rest-clause-some
+returns-in-Some-rest-clause-some c = search rules
