@@ -1,4 +1,4 @@
-//! What no clause says: whole scripts, the texts for the user, and devices and memory that fail.
+//! What no clause says: whole scripts, the texts for the user, and devices that fail.
 mod failures;
 mod proofs;
 mod replays;
