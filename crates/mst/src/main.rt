@@ -11,7 +11,7 @@ mod verify;
 mod words;
 
 use command::{Refusal, command, complain};
-use mst_script::{StdSink, StdSource};
+use mst_devices::{StdSink, StdSource};
 use std::alloc::Global;
 use std::process::ExitCode;
 use std::{env, io};

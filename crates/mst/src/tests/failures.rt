@@ -1,7 +1,7 @@
 //! Devices and memory that fail, and devices that take their time.
 use crate::command::{Refusal, command, complain, run_script};
 use linked_list_allocator::LocalHeap;
-use mst_script::{BytesSink, BytesSource, StdSink, StdSource};
+use mst_devices::{BytesSink, BytesSource, StdSink, StdSource};
 use mst_store::Shape;
 use std::alloc::Global;
 use std::io::{self, Read, Write};

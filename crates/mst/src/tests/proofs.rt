@@ -3,7 +3,7 @@ use super::outcome_of;
 use crate::command::complain;
 use crate::verify::run_verify;
 use linked_list_allocator::LocalHeap;
-use mst_script::{BytesSink, BytesSource};
+use mst_devices::{BytesSink, BytesSource};
 use std::alloc::Global;
 use std::process::Abort;
 use std::test::Fail;

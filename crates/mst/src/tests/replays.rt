@@ -2,7 +2,7 @@
 use super::outcome_of;
 use crate::command::{Refusal, run_replay};
 use linked_list_allocator::LocalHeap;
-use mst_script::{BytesSink, BytesSource};
+use mst_devices::{BytesSink, BytesSource};
 use std::test::Fail;
 
 const EVENTS: &str = "passes 2
