@@ -6,7 +6,7 @@ ghost use Rattle.mst_command.specs.declared.task.Ending.TheVariants.{Done, Proof
 
 use crate::words::task_of;
 use mst_command::{DONE, Ending, PROOF_REFUSED, Refusal, complain, execute};
-use mst_script::{Sink, Source};
+use mst_devices::{Sink, Source};
 use std::alloc::Global;
 
 // Does what the words ask for.

@@ -8,7 +8,7 @@ mod words;
 
 use command::command;
 use mst_command::{Refusal, complain};
-use mst_script::{StdSink, StdSource};
+use mst_devices::{StdSink, StdSource};
 use std::alloc::Global;
 use std::process::ExitCode;
 use std::{env, io};

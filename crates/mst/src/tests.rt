@@ -6,7 +6,7 @@ mod scripts;
 mod words;
 
 use crate::command::command;
-use mst_script::{BytesSink, BytesSource};
+use mst_devices::{BytesSink, BytesSource};
 use std::alloc::{AllocError, Global};
 
 /// The exit status of a program, and what it wrote.

@@ -4,7 +4,7 @@ use Rattle.mst_key.specs.History.{History}
 use Rattle.mst_words.specs.declared.view.Shape.{Shape}
 use Rattle.mst_store.specs.Passes.{StoreId, Known, HasShape, new_passes}
 use Rattle.mst_script.specs.Machine.{Line}
-use Rattle.mst_script.specs.Runs.{Ran}
+use Rattle.mst_lines.specs.Runs.{Ran}
 use Rattle.mst_script.specs.Scripts as script
 use Rattle.mst_script.specs.Serving.{Gathers}
 use Rattle.mst_script.proofs.Scripts.{nothing_yet}

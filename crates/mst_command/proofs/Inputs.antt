@@ -1,6 +1,6 @@
 -- One read after those that are kept.
 use Rattle.std.proofs.Common.{◌≡◌, ℕ, ◌-◌, ◌<◌, ◌≤◌, List, ◌++◌, length, take, arith, ap, subst, ◌∙◌, append-nil, length-append, length-take}
-use Rattle.mst_script.specs.Device.{Gave}
+use Rattle.mst_devices.specs.Device.{Gave}
 use Rattle.mst_command.specs.Reading.{GaveAll, GaveMore}
 
 module _ {S : Type 0} (gives : S → List ℕ → S → Type 0) (more : (s t u : S) (xs ys : List ℕ) → gives s xs t → gives t ys u → gives s (xs ++ ys) u) (left : S → ℕ) where

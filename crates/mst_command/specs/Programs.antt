@@ -5,9 +5,9 @@ use Rattle.mst_words.specs.declared.view.Shape.{Shape}
 use Rattle.mst_store.specs.Passes.{StoreId, HasShape, IsShape}
 use Rattle.mst_replay.specs.declared.Replay.{Replay}
 use Rattle.mst_replay.specs.Replay.{core_state}
-use Rattle.mst_script.specs.Device.{Breaks}
+use Rattle.mst_devices.specs.Device.{Breaks}
 use Rattle.mst_script.specs.Machine.{Line}
-use Rattle.mst_script.specs.Runs.{Ran}
+use Rattle.mst_lines.specs.Runs.{Ran}
 use Rattle.mst_verify.specs.declared.report.Report.{Report}
 use Rattle.mst_verify.specs.Words.{root_of, key_of}
 use Rattle.mst_verify.specs.Report.{limit, report_of, line_of, is_refusal}

@@ -3,8 +3,7 @@ ghost use Rattle.std.specs.Prelude.{◌≡◌, ◌<◌, ◌-◌, ◌^◌, ◌⊎
 ghost use Rattle.mst_command.specs.Commanding.{status_of, told};
 
 use crate::task::Refusal;
-use mst_script::Sink;
-use mst_script::devices::pending::write_all;
+use mst_devices::{Sink, write_all};
 
 /// The exit status of a program that did what the words ask for.
 pub const DONE: u8 = 0;

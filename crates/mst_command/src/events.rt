@@ -1,15 +1,14 @@
 //! A replay: the lines of a source, answered by a core of pins into a sink.
 ghost use Rattle.std.specs.Prelude.{◌≡◌, ◌<◌, ◌≤◌, ◌-◌, ◌+◌, ◌^◌, [], OnOk, OnErr};
-ghost use Rattle.mst_script.specs.Runs.{Ran, Stopped};
-ghost use Rattle.mst_script.specs.Driving.{Answered, Lost, Closed, NotClosed};
+ghost use Rattle.mst_lines.specs.Runs.{Ran, Stopped};
+ghost use Rattle.mst_lines.specs.Driving.{Answered, Lost, Closed, NotClosed};
 ghost use Rattle.mst_command.specs.Recalling.{Recalls};
 
 use crate::replay::answer_event;
 use mst_replay::Replay;
-use mst_script::devices::pending::Pending;
-use mst_script::line::LineBuffer;
-use mst_script::reader::Reader;
-use mst_script::{Device, RunFault, Sink, Source};
+use mst_devices::{Device, Pending, Sink, Source};
+use mst_lines::{LineBuffer, Reader};
+use mst_script::RunFault;
 use std::alloc::Allocator;
 
 // Answers the line that was read.

@@ -2,7 +2,8 @@
 ghost use Rattle.std.specs.Prelude.{◌≡◌, ◌<◌, ◌≤◌, ◌-◌, ◌+◌, ◌^◌, ◌++◌, length, Err, IfOk, OnOk, MatchOption};
 ghost use Rattle.mst_command.specs.Reading.{GaveAll, GaveMore};
 
-use mst_script::{RunFault, Source};
+use mst_devices::Source;
+use mst_script::RunFault;
 use std::alloc::{AllocError, Allocator};
 
 /// How many bytes are read at most at a time.

@@ -9,8 +9,8 @@ use crate::events::replay_events;
 use crate::task::{Ending, Refusal, Task};
 use crate::verify::run_verify;
 use mst_replay::Replay;
-use mst_script::devices::pending::write_all;
-use mst_script::{Device, RunFault, Sink, Source, run};
+use mst_devices::{Device, Sink, Source, write_all};
+use mst_script::{RunFault, run};
 use mst_store::{OpenFault, Shape, Store};
 use std::alloc::Allocator;
 

@@ -4,8 +4,8 @@ ghost use Rattle.mst_command.specs.Recalling.{reply_text, Recalls};
 
 use arrayvec::ArrayVec;
 use itoa::Buffer;
+use mst_lines::LineBuffer;
 use mst_replay::{Replay, Reply};
-use mst_script::line::LineBuffer;
 
 /// The line of a reply.
 pub type Text = ArrayVec<u8, 144>;

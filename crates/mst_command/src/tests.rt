@@ -1,7 +1,7 @@
 //! What no clause says: memory that is refused, growth after growth.
 use crate::{DONE, Ending, Refusal, Task, complain, execute};
 use linked_list_allocator::LocalHeap;
-use mst_script::{BytesSink, BytesSource};
+use mst_devices::{BytesSink, BytesSource};
 use mst_store::Shape;
 use std::alloc::Global;
 use std::test::Fail;

@@ -6,9 +6,9 @@ ghost use Rattle.mst_command.specs.Programs.{RanVerify, BrokeVerify, IsSaid, end
 
 use crate::task::{Ending, Refusal};
 use crate::input::read_up_to;
+use mst_devices::{Device, Sink, Source, write_all};
+use mst_script::RunFault;
 use mst_key::{Key, Memory};
-use mst_script::devices::pending::write_all;
-use mst_script::{Device, RunFault, Sink, Source};
 use mst_verify::{LIMIT, Report, key_in, report_on, root_in};
 use std::alloc::Allocator;
 

@@ -1,6 +1,6 @@
 //! Devices that fail, and devices that take their time.
 use crate::command::command;
-use mst_script::{StdSink, StdSource};
+use mst_devices::{StdSink, StdSource};
 use std::alloc::Global;
 use std::io::{self, Read, Write};
 use std::test::Fail;

@@ -1,5 +1,5 @@
 use Rattle.std.proofs.Common.{◌≡◌, ◌+◌, length}
-use Rattle.mst_script.specs.Driving.{Reached}
+use Rattle.mst_lines.specs.Driving.{Reached}
 use Rattle.mst_command.specs.Recalling.{Recalls}
 use Rattle.mst_command.proofs.events.drive.Given as goal
 

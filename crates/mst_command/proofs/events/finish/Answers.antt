@@ -1,6 +1,6 @@
 use Rattle.mst_command.specs.Recalling.{Recalls}
-use Rattle.mst_script.proofs.Putting.{map_err}
-use Rattle.mst_script.proofs.Driving.{not_both, answered_not_closed}
+use Rattle.mst_devices.proofs.Putting.{map_err}
+use Rattle.mst_lines.proofs.Driving.{not_both, answered_not_closed}
 use Rattle.mst_command.proofs.events.finish.Goals as goal
 
 pub returns-clause-err : goal.returns-clause-err
