@@ -1,17 +1,14 @@
-//! The programs of the map.
+//! The program of the map: it reads its words, and does what they ask for by `mst_command`.
 #![tactic(auto)]
 
 mod command;
-mod events;
-mod input;
-mod replay;
 #[cfg(test)]
 mod tests;
-mod verify;
 mod words;
 
-use command::{Refusal, command, complain};
-use mst_script::{StdSink, StdSource};
+use command::command;
+use mst_command::{Refusal, complain};
+use mst_devices::{StdSink, StdSource};
 use std::alloc::Global;
 use std::process::ExitCode;
 use std::{env, io};

@@ -1,4 +1,4 @@
-//! What no clause says: whole scripts, the texts for the user, and devices and memory that fail.
+//! What no clause says: whole scripts, the texts for the user, and devices that fail.
 mod failures;
 mod proofs;
 mod replays;
@@ -6,7 +6,7 @@ mod scripts;
 mod words;
 
 use crate::command::command;
-use mst_script::{BytesSink, BytesSource};
+use mst_devices::{BytesSink, BytesSource};
 use std::alloc::{AllocError, Global};
 
 /// The exit status of a program, and what it wrote.

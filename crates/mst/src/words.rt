@@ -1,9 +1,10 @@
 //! The words of the command line.
-ghost use Rattle.std.specs.Prelude.{◌≡◌, IfOk, true};
-ghost use Rattle.std.specs.Option.{option_map};
-ghost use Rattle.mst.specs.Commanding.{AskHelp, IsHelp, asks_replay, asks_verify, is_replay, root_and_key as named_root_and_key, verified_words};
+ghost use Rattle.std.specs.Prelude.{IfOk, IfErr};
+ghost use Rattle.mst_command.specs.Commanding.{AsksFor, EndsWords};
 
+use clap::error::ErrorKind;
 use clap::{Arg, ArgAction, ArgMatches, Command, Error, value_parser};
+use mst_command::{Refusal, Task, ask_help, names_replay, verify_words};
 use mst_store::Shape;
 use std::alloc::{AllocError, Global};
 
@@ -51,81 +52,15 @@ fn program<'a>(alloc: Global) -> Result<Command<'a>, AllocError> {
         .subcommand(replay)
 }
 
-// Whether a word asks for help.
-fn is_help(word: &str) -> bool
-    ensures { result ≡ true → IsHelp word.now }
-{
-    match word.as_bytes() {
-        [b'-', b'h', ..] => true,
-        _ => word == "help" || word == "--help",
-    }
-}
-
-/// Whether some word asks for help.
-pub fn ask_help(words: &[&str]) -> bool
-    ensures help { result ≡ true → AskHelp words.now }
-{
-    for word in words {
-        if is_help(word) {
-            return true;
-        }
-    }
-    false
-}
-
 // The number that an option gives. Each option has a default, so there is one.
 fn number(matches: &ArgMatches<'_>, option: &str) -> u32 {
     matches.get_one::<u32>(option).unwrap_or_default()
 }
 
-// Whether the first word behind the program's name is `replay`.
-fn names_replay(words: &[&str]) -> bool
-    ensures { result ≡ asks_replay words.now }
-{
-    match words {
-        [_, name, ..] => *name == "replay",
-        _ => false,
-    }
-}
-
-// The two words behind `verify`. A `--` beside them says that no option follows.
-fn root_and_key<'a>(words: &[&'a str]) -> (&'a str, &'a str)
-    ensures { (result.0.now, result.1.now) ≡ named_root_and_key words.now }
-{
-    match words {
-        [_, _, dashes, root, key] if *dashes == "--" => (root, key),
-        [_, _, root, dashes, key] if *dashes == "--" => (root, key),
-        [_, _, root, key, ..] => (root, key),
-        _ => ("", ""),
-    }
-}
-
-// The words for the root digest and the key, where the first word behind the program's name is `verify`.
-fn verify_words<'a>(words: &[&'a str]) -> Option<(&'a str, &'a str)>
-    ensures { option_map (λ w. (w.0.now, w.1.now)) result ≡ asks_verify words.now }
-{
-    match words {
-        [_, name, ..] if *name == "verify" => Some(root_and_key(words)),
-        _ => None,
-    }
-}
-
-/// What the words ask for.
-#[derive(Clone, Copy, Debug, PartialEq, Eq)]
-pub enum Task<'a> {
-    /// To answer a script over a store of this size.
-    Run(Shape),
-    /// To say what a proof shows, for the words of a root digest and a key.
-    Verify(&'a str, &'a str),
-    /// To answer the events of a core.
-    Replay,
-}
-
-/// What all words ask for, with the program's name. The program has no option of its own that
-/// takes a word, so that clap takes the first word behind its name for the command.
-pub fn task_in<'a>(alloc: Global, words: &[&'a str]) -> Result<Task<'a>, Error>
-    ensures replay { IfOk result (λ task. is_replay task ≡ asks_replay words.now) }
-    ensures verify { IfOk result (λ task. verified_words task ≡ asks_verify words.now) }
+// The task that clap finds in all words, with the program's name. The program has no option of its own that takes a word, so that clap takes the first
+// word behind its name for the command.
+fn task_in<'a>(alloc: Global, words: &[&'a str]) -> Result<Task<'a>, Error>
+    ensures { IfOk result (λ task. AsksFor words.now task) }
 {
     let matches = program(alloc)?.try_get_matches_from(words)?;
     if names_replay(words) {
@@ -139,4 +74,32 @@ pub fn task_in<'a>(alloc: Global, words: &[&'a str]) -> Result<Task<'a>, Error>
         rows: number(run, "rows"),
         passes: number(run, "passes"),
     }))
+}
+
+// What clap answers words that name no task: help that was asked for is one, and all else is a refusal.
+fn answer_words<'a>(alloc: Global, words: &[&'a str], error: &Error) -> Result<Task<'a>, Refusal>
+    ensures help { IfOk result (λ task. AsksFor words.now task) }
+    ensures refused { IfErr result (λ why. EndsWords why) }
+{
+    if error.kind() == ErrorKind::OutOfMemory {
+        return Err(Refusal::Memory);
+    }
+    let Ok(text) = format!(in alloc; "{error}") else {
+        return Err(Refusal::Memory);
+    };
+    if error.use_stderr() || !ask_help(words) {
+        return Err(Refusal::Words(text));
+    }
+    Ok(Task::Help(text))
+}
+
+/// What all words ask for, with the program's name, or clap's own text where they are refused.
+pub fn task_of<'a>(alloc: Global, words: &[&'a str]) -> Result<Task<'a>, Refusal>
+    ensures asked { IfOk result (λ task. AsksFor words.now task) }
+    ensures refused { IfErr result (λ why. EndsWords why) }
+{
+    match task_in(alloc, words) {
+        Ok(task) => Ok(task),
+        Err(error) => answer_words(alloc, words, &error),
+    }
 }

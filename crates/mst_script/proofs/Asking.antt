@@ -13,10 +13,11 @@ use Rattle.mst_store.specs.declared.faults.ReadFault.{ReadFault}
 use Rattle.mst_store.specs.declared.faults.ReadFault.TheVariants as read
 use Rattle.mst_store.specs.Room.{rows_of, LacksRoom}
 use Rattle.mst_store.specs.Passes.{StoreId, Known, made_by, Looks, Answers, Wrote, Refuses, Misses, FindsBusy}
-use Rattle.mst_script.specs.declared.answer.Answer.{Answer}
-use Rattle.mst_script.specs.Answers.{text_of, value_answer, pair_answer, root_answer, rows_answer, write_answer, missed_answer}
-use Rattle.mst_script.specs.Texts.{line_of, digits_of, value_words, found_words, rows_words}
-use Rattle.mst_script.specs.declared.request.Command.{Command}
+use Rattle.mst_requests.specs.declared.answer.Answer.{Answer}
+use Rattle.mst_requests.specs.Answers.{text_of}
+use Rattle.mst_script.specs.Answers.{value_answer, pair_answer, root_answer, rows_answer, write_answer, missed_answer}
+use Rattle.mst_requests.specs.Texts.{line_of, digits_of, value_words, found_words, rows_words}
+use Rattle.mst_requests.specs.declared.request.Command.{Command}
 use Rattle.mst_script.specs.Machine.{LacksMemory, Writes, Reads, Collects, Step}
 use Rattle.mst_script.specs.Serving.{Turn, Asked}
 

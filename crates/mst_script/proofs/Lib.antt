@@ -1,16 +1,6 @@
-pub mod Putting
-pub mod Cutting
-pub mod Reading
-pub mod Parts
-pub mod Driving
-pub mod Numbers
-pub mod Dealing
 pub mod AllOf
 pub mod Settling
-pub mod Pairs
-pub mod Digits
 pub mod ProofTops
 pub mod Asking
 pub mod Serving
 pub mod Scripts
-pub mod Worked

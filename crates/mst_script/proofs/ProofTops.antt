@@ -9,7 +9,7 @@ use Rattle.mst_node.specs.Trail.{nodes_met, met_in_gap, framed}
 use Rattle.mst_node.specs.Tree.{Tree, Entries, empty, node}
 use Rattle.mst_node.proofs.Takes.{some_same}
 use Rattle.mst_node.proofs.Frames.{first_again}
-use Rattle.mst_script.specs.Texts.{top_words}
+use Rattle.mst_script.specs.Machine.{top_words}
 
 -- the texts of the nodes of a tree that a search for the key meets, as a proof has them
 abbrev pub proves : List ℕ → Tree → List ℕ

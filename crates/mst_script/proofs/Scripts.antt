@@ -3,7 +3,7 @@ use Rattle.std.proofs.Common.{◌≡◌, ℕ, List, [], ◌∷◌, length, refl,
 use Rattle.mst_key.specs.History.{History}
 use Rattle.mst_store.specs.Passes.{StoreId, Known, new_passes}
 use Rattle.mst_store.specs.Settling.{Settled}
-use Rattle.mst_script.specs.Runs.{Replies, Ran, Stopped}
+use Rattle.mst_lines.specs.Runs.{Replies, Ran, Stopped}
 use Rattle.mst_script.specs.Machine.{Line}
 use Rattle.mst_script.specs.Serving.{Gathers, AllSaw, Serves}
 use Rattle.mst_script.specs.Scripts.{RanScript, StoppedScript}

@@ -6,10 +6,10 @@ use Rattle.std.proofs.lemmas.List.Elements.{All-map, All-contains}
 use Rattle.mst_key.specs.History.{History}
 use Rattle.mst_store.specs.Passes.{StoreId, Known}
 use Rattle.mst_store.specs.Settling.{numbers, Settled}
-use Rattle.mst_script.specs.declared.request.Fault.{Fault}
-use Rattle.mst_script.specs.declared.request.Command.{Command}
-use Rattle.mst_script.specs.declared.request.Request.{Request}
-use Rattle.mst_script.specs.Grammar.{asked}
+use Rattle.mst_requests.specs.declared.request.Fault.{Fault}
+use Rattle.mst_requests.specs.declared.request.Command.{Command}
+use Rattle.mst_requests.specs.declared.request.Request.{Request}
+use Rattle.mst_requests.specs.Grammar.{asked}
 use Rattle.mst_script.specs.Machine.{Step, AnswersRequest}
 use Rattle.mst_script.specs.Serving.{AreAllOf, Asked, Serves, IsPlace}
 use Rattle.mst_script.proofs.AllOf.{all_changed}

@@ -1,45 +1,12 @@
--- Answers as the code keeps them, and their text.
-use Rattle.std.specs.Prelude.{ℕ, List, [], ◌++◌, Option, Result, Ok, Err, codes}
-use Rattle.hex.specs.Hex.{encode_lower}
+-- What the calls of a pass answer, as answers of lines.
+use Rattle.std.specs.Prelude.{ℕ, List, Option, Result, Ok, Err}
 use Rattle.mst_store.specs.declared.faults.WriteFault.{WriteFault}
 use Rattle.mst_store.specs.declared.faults.WriteFault.TheVariants as write
 use Rattle.mst_store.specs.declared.faults.ReadFault.{ReadFault}
 use Rattle.mst_store.specs.declared.faults.ReadFault.TheVariants as read
-use Rattle.mst_script.specs.declared.answer.Answer.{Answer}
-use Rattle.mst_script.specs.declared.answer.Answer.TheVariants.{Refused, Value, Pair, Pairs, Root, Rows, Bytes, NoNode, Busy, Spent, NoRoom, Memory}
-use Rattle.mst_script.specs.Texts.{line_of, fault_words, digits_of, value_words, found_words, count_words, pair_lines, rows_words}
+use Rattle.mst_requests.specs.declared.answer.Answer.{Answer}
+use Rattle.mst_requests.specs.declared.answer.Answer.TheVariants.{Value, Pair, Root, Rows, Busy, Spent, NoRoom, Memory}
 
--- the words of the first line, without the digits of bytes, which may be many
-abbrev pub first_words : {A : Type 0} → Answer A → List ℕ
-first_words (Refused fault) = fault_words fault
-first_words (Value found) = value_words found
-first_words (Pair found) = found_words found
-first_words (Pairs found) = count_words found.items
-first_words (Root digest) = digits_of digest
-first_words (Rows found) = rows_words found
-first_words (Bytes found) = []
-first_words NoNode = codes "empty"
-first_words Busy = codes "busy"
-first_words Spent = codes "spent"
-first_words NoRoom = codes "noroom"
-first_words Memory = codes "memory"
-
--- all lines
-abbrev pub text_of : {A : Type 0} → Answer A → List ℕ
-text_of (Refused fault) = line_of (fault_words fault)
-text_of (Value found) = line_of (value_words found)
-text_of (Pair found) = line_of (found_words found)
-text_of (Pairs found) = line_of (count_words found.items) ++ pair_lines found.items
-text_of (Root digest) = line_of (digits_of digest)
-text_of (Rows found) = line_of (rows_words found)
-text_of (Bytes found) = line_of (encode_lower found.items)
-text_of NoNode = line_of (codes "empty")
-text_of Busy = line_of (codes "busy")
-text_of Spent = line_of (codes "spent")
-text_of NoRoom = line_of (codes "noroom")
-text_of Memory = line_of (codes "memory")
-
--- what the calls of a pass answer, as answers
 abbrev pub value_answer : {A E : Type 0} → Result (Option (List ℕ)) E → Answer A
 value_answer (Ok found) = Value found
 value_answer (Err fault) = Busy

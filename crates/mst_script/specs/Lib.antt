@@ -1,11 +1,3 @@
-pub mod Device
-pub mod Laws
-pub mod Lines
-pub mod Reading
-pub mod Runs
-pub mod Driving
-pub mod Grammar
-pub mod Texts
 pub mod Answers
 pub mod Machine
 pub mod Serving

@@ -7,17 +7,24 @@ use Rattle.mst_key.specs.declared.history.Change.TheVariants as change
 use Rattle.mst_key.specs.declared.history.Event.{Event}
 use Rattle.mst_key.specs.Map.{look, successor, span}
 use Rattle.mst_key.specs.History.{History, after, reply}
-use Rattle.mst_node.specs.Text.{root}
-use Rattle.mst_node.specs.Tree.{tree}
+use Rattle.mst_node.specs.Text.{root, text as text_of_node}
+use Rattle.mst_node.specs.Tree.{Tree, empty, node, tree}
 use Rattle.mst_node.specs.Trail.{proof_text}
 use Rattle.mst_store.specs.Room.{last_version, rows_of, HasRoom, LacksRoom}
 use Rattle.mst_store.specs.Passes.{StoreId}
-use Rattle.mst_script.specs.declared.request.Fault.{Fault}
-use Rattle.mst_script.specs.declared.request.Command.{Command}
-use Rattle.mst_script.specs.declared.request.Command.TheVariants.{Put, Remove, Get, Next, Range, Root, Node, Prove, Rows}
-use Rattle.mst_script.specs.declared.request.Request.{Request}
-use Rattle.mst_script.specs.Grammar.{asked}
-use Rattle.mst_script.specs.Texts.{line_of, digits_of, fault_words, value_words, found_words, count_words, pair_lines, rows_words, top_words}
+use Rattle.mst_requests.specs.declared.request.Fault.{Fault}
+use Rattle.mst_requests.specs.declared.request.Command.{Command}
+use Rattle.mst_requests.specs.declared.request.Command.TheVariants.{Put, Remove, Get, Next, Range, Root, Node, Prove, Rows}
+use Rattle.mst_requests.specs.declared.request.Request.{Request}
+use Rattle.mst_requests.specs.Grammar.{asked}
+use Rattle.mst_requests.specs.Texts.{line_of, digits_of, fault_words, value_words, found_words, count_words, pair_lines, rows_words}
+
+-- ---- what is written of a tree
+
+-- the text of the top node of a tree
+abbrev pub top_words : Tree → List ℕ
+top_words empty = codes "empty"
+top_words (node format l es) = encode_lower (text_of_node (node format l es))
 
 -- ---- the freedoms: answers that change nothing
 

@@ -2,7 +2,7 @@
 use Rattle.std.specs.Prelude.{ℕ, List}
 use Rattle.mst_key.specs.History.{History}
 use Rattle.mst_store.specs.Passes.{StoreId, Known}
-use Rattle.mst_script.specs.Runs.{Ran, Stopped}
+use Rattle.mst_lines.specs.Runs.{Ran, Stopped}
 use Rattle.mst_script.specs.Machine.{Line}
 use Rattle.mst_script.specs.Serving.{Gathers, AllSaw}
 

@@ -6,11 +6,11 @@ use Rattle.mst_key.specs.Map.{Pair}
 use Rattle.mst_key.specs.History.{History, events_of, Begins}
 use Rattle.mst_store.specs.Passes.{StoreId, Known, IsSamePass}
 use Rattle.mst_store.specs.Settling.{numbers, IsOfOne}
-use Rattle.mst_script.specs.declared.request.Command.{Command}
+use Rattle.mst_requests.specs.declared.request.Command.{Command}
 use Rattle.mst_node.specs.Tree.{tree}
 use Rattle.mst_node.specs.Trail.{proof_text}
-use Rattle.mst_script.specs.Machine.{LacksMemory, Step, Line}
-use Rattle.mst_script.specs.Texts.{line_of, top_words}
+use Rattle.mst_script.specs.Machine.{LacksMemory, Step, Line, top_words}
+use Rattle.mst_requests.specs.Texts.{line_of}
 
 -- the passes are all those of this store, in any order: each number from 1 to the number of its passes is that of one of them
 pub record AreAllOf (store : StoreId) (ps : List Known) : Type 0 where

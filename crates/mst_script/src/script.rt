@@ -1,16 +1,14 @@
 //! A script: the lines of a source, asked of the passes of a store, and answered into a sink.
 ghost use Rattle.std.specs.Prelude.{◌≡◌, ◌<◌, ◌≤◌, ◌-◌, ◌+◌, ◌^◌, [], OnOk, OnErr};
-ghost use Rattle.mst_script.specs.Runs.{Ran, Stopped};
-ghost use Rattle.mst_script.specs.Driving.{Answered, Lost, Closed, NotClosed};
+ghost use Rattle.mst_lines.specs.Runs.{Ran, Stopped};
+ghost use Rattle.mst_lines.specs.Driving.{Answered, Lost, Closed, NotClosed};
 ghost use Rattle.mst_script.specs.Serving.{AreAllOf, Serves};
 ghost use Rattle.mst_script.specs.Scripts.{RanScript, StoppedScript};
 
-use crate::answer::put_answer;
-use crate::devices::pending::Pending;
-use crate::devices::{Device, Sink, Source};
-use crate::line::LineBuffer;
-use crate::reader::Reader;
 use crate::serve::serve;
+use mst_devices::{Device, Pending, Sink, Source};
+use mst_lines::{LineBuffer, Reader};
+use mst_requests::put_answer;
 use mst_store::{Pass, Store, settle};
 use std::alloc::Allocator;
 use thiserror::Error;

@@ -3,16 +3,15 @@ ghost use Rattle.std.specs.Prelude.{◌≡◌, ◌<◌, length, slice_index_or};
 ghost use Rattle.std.specs.List.{Contains};
 ghost use Rattle.std.specs.Option.{option_copied};
 ghost use Rattle.mst_store.specs.Settling.{numbers};
-ghost use Rattle.mst_script.specs.declared.request.Command.TheVariants.{Range, Node, Prove};
-ghost use Rattle.mst_script.specs.Answers.{text_of, value_answer, pair_answer, root_answer, rows_answer, write_answer, missed_answer};
+ghost use Rattle.mst_requests.specs.declared.request.Command.TheVariants.{Range, Node, Prove};
+ghost use Rattle.mst_requests.specs.Answers.{text_of};
+ghost use Rattle.mst_script.specs.Answers.{value_answer, pair_answer, root_answer, rows_answer, write_answer, missed_answer};
 ghost use Rattle.mst_script.specs.Serving.{AreAllOf, Asked, Serves, IsPlace, Tops};
 
-use crate::answer::Answer;
-use crate::line::LineBuffer;
-use crate::parse::request_in;
-use crate::request::Command;
 use mst_key::{Key, Value};
+use mst_lines::LineBuffer;
 use mst_node::top_text;
+use mst_requests::{Answer, Command, request_in};
 use mst_store::{Busy, Pass, ReadFault, Store, WriteFault, settle};
 use std::alloc::Allocator;
 

@@ -1,8 +1,6 @@
-//! Devices and memory that fail, and devices that take their time.
-use crate::command::{Refusal, command, complain, run_script};
-use linked_list_allocator::LocalHeap;
-use mst_script::{BytesSink, BytesSource, StdSink, StdSource};
-use mst_store::Shape;
+//! Devices that fail, and devices that take their time.
+use crate::command::command;
+use mst_devices::{StdSink, StdSource};
 use std::alloc::Global;
 use std::io::{self, Read, Write};
 use std::test::Fail;
@@ -244,35 +242,5 @@ fn standard_error_fails(rt: HostRuntime) -> Result<(), Fail> {
         let mut err = Writer::new(rt.alloc(), 64, 0, false);
         assert_eq!(rt; status_of(rt.alloc(), reader, &mut out, &mut err), status);
     }
-    Ok(())
-}
-
-// A heap of each size: too small for one growth after another, and then large enough for all.
-#[test]
-fn growths_are_refused(rt: HostRuntime) -> Result<(), Fail> {
-    let shape = Shape { rows: 4, passes: 4 };
-    let mut was_short = false;
-    let mut was_enough = false;
-    for step in 0..40 {
-        let heap = LocalHeap::new(rt.alloc(), 64 + 4_096 * step)?;
-        let mut source = BytesSource::new(SCRIPT);
-        let mut out = BytesSink::new(rt.alloc(), 64)?;
-        let mut err = BytesSink::new(rt.alloc(), 64)?;
-        match run_script(&heap, shape, &mut source, &mut out) {
-            Ok(()) => {
-                was_enough = true;
-                assert_eq!(rt; out.bytes(), ANSWERS);
-            }
-            Err(why) => {
-                was_short = true;
-                assert!(rt; matches!(&why, Refusal::Memory));
-                assert_eq!(rt; out.bytes().len(), 0);
-                assert_eq!(rt; complain(&mut err, &why), 4);
-                assert_eq!(rt; err.bytes(), b"memory\n".as_slice());
-                assert!(rt; !was_enough);
-            }
-        }
-    }
-    assert!(rt; was_short && was_enough);
     Ok(())
 }

@@ -1,9 +1,5 @@
 //! Proofs that are verified.
 use super::outcome_of;
-use crate::command::complain;
-use crate::verify::run_verify;
-use linked_list_allocator::LocalHeap;
-use mst_script::{BytesSink, BytesSource};
 use std::alloc::Global;
 use std::process::Abort;
 use std::test::Fail;
@@ -157,41 +153,5 @@ fn long_texts(rt: HostRuntime) -> Result<(), Fail> {
         assert_eq!(rt; outcome.out.as_slice(), line.as_bytes(), "{size}");
         assert_eq!(rt; outcome.status, 1);
     }
-    Ok(())
-}
-
-/// The status of a proof that is verified in a heap of so many bytes, and what was written.
-fn outcome_in(alloc: Global, size: usize, text: &[u8]) -> Result<(u8, Vec<u8>), Fail> {
-    let heap = LocalHeap::new(alloc, size)?;
-    let mut source = BytesSource::new(text);
-    let mut out = BytesSink::new(alloc, 64)?;
-    let mut err = BytesSink::new(alloc, 64)?;
-    let status = match run_verify(&heap, TWO, "62", &mut source, &mut out) {
-        Ok(_) => 0,
-        Err(why) => complain(&mut err, &why),
-    };
-    Ok((status, out.bytes().to_vec(alloc)?))
-}
-
-// A heap of each size: too small for one growth after another, and then large enough for all.
-#[test]
-fn growths_of_a_proof_are_refused(rt: HostRuntime) -> Result<(), Fail> {
-    let mut text = Vec::new(rt.alloc());
-    text.resize(40_000, b'0')?;
-    let mut was_short = false;
-    let mut was_enough = false;
-    for step in 0..60 {
-        let (status, written) = outcome_in(rt.alloc(), 64 + 4_096 * step, text.as_slice())?;
-        if status == 0 {
-            was_enough = true;
-            assert_eq!(rt; written.as_slice(), b"P1\n".as_slice());
-        } else {
-            was_short = true;
-            assert_eq!(rt; status, 4);
-            assert_eq!(rt; written.len(), 0);
-            assert!(rt; !was_enough);
-        }
-    }
-    assert!(rt; was_short && was_enough);
     Ok(())
 }

@@ -1,8 +1,5 @@
 //! Events of a core and their answers.
 use super::outcome_of;
-use crate::command::{Refusal, run_replay};
-use linked_list_allocator::LocalHeap;
-use mst_script::{BytesSink, BytesSource};
 use std::test::Fail;
 
 const EVENTS: &str = "passes 2
@@ -83,31 +80,5 @@ fn long_lines_are_faults(rt: HostRuntime) -> Result<(), Fail> {
         assert_eq!(rt; outcome.out.as_slice(), answers, "at {length}");
         assert_eq!(rt; outcome.status, 0);
     }
-    Ok(())
-}
-
-// A heap of each size: too small for one growth after another, and then large enough for all.
-#[test]
-fn growths_of_a_replay_are_refused(rt: HostRuntime) -> Result<(), Fail> {
-    let mut was_short = false;
-    let mut was_enough = false;
-    for step in 0..40 {
-        let heap = LocalHeap::new(rt.alloc(), 64 + 4_096 * step)?;
-        let mut source = BytesSource::new(EVENTS.as_bytes());
-        let mut out = BytesSink::new(rt.alloc(), 256)?;
-        match run_replay(&heap, &mut source, &mut out) {
-            Ok(()) => {
-                was_enough = true;
-                assert_eq!(rt; out.bytes(), ANSWERS.as_bytes());
-            }
-            Err(why) => {
-                was_short = true;
-                assert!(rt; matches!(&why, Refusal::Memory));
-                assert_eq!(rt; out.bytes().len(), 0);
-                assert!(rt; !was_enough);
-            }
-        }
-    }
-    assert!(rt; was_short && was_enough);
     Ok(())
 }

@@ -1,5 +1,5 @@
 use Rattle.std.proofs.Common.{◌≡◌, ◌+◌, length}
-use Rattle.mst_script.specs.Driving.{Reached}
+use Rattle.mst_lines.specs.Driving.{Reached}
 use Rattle.mst_script.specs.Serving.{AreAllOf, Serves}
 use Rattle.mst_script.proofs.script.drive.Given as goal
 

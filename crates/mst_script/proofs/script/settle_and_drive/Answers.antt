@@ -1,4 +1,4 @@
-use Rattle.mst_script.proofs.Putting.{map_ok, map_err}
+use Rattle.mst_devices.proofs.Putting.{map_ok, map_err}
 use Rattle.mst_script.proofs.AllOf.{all_passes, all_settled}
 use Rattle.mst_script.proofs.Scripts.{ran_script, stopped_script}
 use Rattle.mst_script.proofs.script.settle_and_drive.Goals as goal

@@ -1,8 +1,8 @@
 use Rattle.std.proofs.Common.{◌≡◌, rules, sym, ap, ◌∙◌}
 use Rattle.std.specs.Option.{option_copied}
 use Rattle.mst_key.specs.declared.history.Change.TheVariants as change
-use Rattle.mst_script.specs.declared.request.Command.TheVariants.{Put, Remove, Get, Next, Root, Rows}
-use Rattle.mst_script.specs.Answers.{text_of}
+use Rattle.mst_requests.specs.declared.request.Command.TheVariants.{Put, Remove, Get, Next, Root, Rows}
+use Rattle.mst_requests.specs.Answers.{text_of}
 use Rattle.mst_script.proofs.Asking.{asked, written, value_read, pair_read, root_read, rows_read}
 use Rattle.mst_script.proofs.serve.ask.Goals as goal
 

@@ -1,9 +1,10 @@
 use Rattle.std.proofs.Common.{refl}
 use Rattle.mst_key.specs.declared.format.Format.TheVariants.{One}
 use Rattle.mst_node.specs.Tree.{tree}
-use Rattle.mst_script.specs.declared.request.Command.TheVariants.{Node}
-use Rattle.mst_script.specs.Answers.{text_of}
-use Rattle.mst_script.specs.Texts.{line_of, top_words}
+use Rattle.mst_requests.specs.declared.request.Command.TheVariants.{Node}
+use Rattle.mst_requests.specs.Answers.{text_of}
+use Rattle.mst_requests.specs.Texts.{line_of}
+use Rattle.mst_script.specs.Machine.{top_words}
 use Rattle.mst_script.proofs.Asking.{asked, missed}
 use Rattle.mst_script.proofs.serve.ask_node.Goals as goal
 

@@ -2,9 +2,9 @@ use Rattle.std.proofs.Common.{refl}
 use Rattle.hex.specs.Hex.{encode_lower}
 use Rattle.mst_key.specs.declared.format.Format.TheVariants.{One}
 use Rattle.mst_node.specs.Trail.{proof_text}
-use Rattle.mst_script.specs.declared.request.Command.TheVariants.{Prove}
-use Rattle.mst_script.specs.Answers.{text_of}
-use Rattle.mst_script.specs.Texts.{line_of}
+use Rattle.mst_requests.specs.declared.request.Command.TheVariants.{Prove}
+use Rattle.mst_requests.specs.Answers.{text_of}
+use Rattle.mst_requests.specs.Texts.{line_of}
 use Rattle.mst_script.proofs.Asking.{asked, missed}
 use Rattle.mst_script.proofs.serve.ask_proof.Goals as goal
 

@@ -1,9 +1,9 @@
 use Rattle.std.proofs.Common.{◌++◌, List, refl}
 use Rattle.std.specs.Option.{option_copied}
 use Rattle.mst_key.specs.Map.{Pair, span}
-use Rattle.mst_script.specs.declared.request.Command.TheVariants.{Range}
-use Rattle.mst_script.specs.Answers.{text_of}
-use Rattle.mst_script.specs.Texts.{line_of, count_words, pair_lines}
+use Rattle.mst_requests.specs.declared.request.Command.TheVariants.{Range}
+use Rattle.mst_requests.specs.Answers.{text_of}
+use Rattle.mst_requests.specs.Texts.{line_of, count_words, pair_lines}
 use Rattle.mst_script.proofs.Asking.{asked, missed}
 use Rattle.mst_script.proofs.serve.ask_range.Goals as goal
 

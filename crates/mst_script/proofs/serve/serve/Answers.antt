@@ -1,5 +1,5 @@
 use Rattle.std.proofs.Common.{refl, get_or, set}
-use Rattle.mst_script.specs.Answers.{text_of}
+use Rattle.mst_requests.specs.Answers.{text_of}
 use Rattle.mst_script.proofs.AllOf.{all_passes, all_settled}
 use Rattle.mst_script.proofs.Serving.{all_asked, asked_serves}
 use Rattle.mst_script.proofs.serve.serve.Goals as goal

@@ -2,7 +2,7 @@ use Rattle.std.proofs.Common.{◌≡◌, ◌∙◌, ◌<◌, ◌^◌, length, sy
 use Rattle.mst_key.specs.declared.format.Format.TheVariants.{One}
 use Rattle.mst_node.specs.Tree.{tree}
 use Rattle.hex.specs.Hex.{encode_lower}
-use Rattle.mst_script.specs.Texts.{line_of}
+use Rattle.mst_requests.specs.Texts.{line_of}
 use Rattle.mst_script.proofs.ProofTops.{no_top, some_top}
 use Rattle.mst_script.proofs.serve.top_of.Goals as goal
 

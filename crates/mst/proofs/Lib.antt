@@ -1,2 +1,0 @@
-pub mod Fresh
-mod Inputs

@@ -1,0 +1,30 @@
+use Rattle.std.proofs.Common.{◌+◌}
+use Rattle.mst_command.proofs.Asked.{asked_script, asked_replay, asked_verify, asked_others, not_verified, words_device, still_unread, still_untouched}
+use Rattle.mst.proofs.command.perform.Goals as goal
+
+pub returns-in-Ok-clause-ran : goal.returns-in-Ok-clause-ran
+returns-in-Ok-clause-ran g c = asked_script g.S.Source.gives g.S.Source.left g.W.Sink.takes c.args.words.now c.in-Ok.task c.execute.result c.args.source.now c.execute.new.source c.args.out.now c.execute.new.out c.in-Ok.ensures.asked c.execute.ensures.did
+
+pub returns-in-Ok-clause-replayed : goal.returns-in-Ok-clause-replayed
+returns-in-Ok-clause-replayed g c = asked_replay g.S.Source.gives g.S.Source.left g.W.Sink.takes c.args.words.now c.in-Ok.task c.execute.result c.args.source.now c.execute.new.source c.args.out.now c.execute.new.out c.in-Ok.ensures.asked c.execute.ensures.did
+
+pub returns-in-Ok-clause-verified : goal.returns-in-Ok-clause-verified
+returns-in-Ok-clause-verified g c = asked_verify g.S.Source.gives g.S.Source.left g.W.Sink.takes c.args.words.now c.in-Ok.task c.execute.result c.args.source.now c.execute.new.source c.args.out.now c.execute.new.out c.in-Ok.ensures.asked c.execute.ensures.did
+
+pub returns-in-Ok-clause-others : goal.returns-in-Ok-clause-others
+returns-in-Ok-clause-others g c = asked_others g.S.Source.gives g.S.Source.left g.W.Sink.takes c.args.words.now c.in-Ok.task c.execute.result c.args.source.now c.execute.new.source c.args.out.now c.execute.new.out c.in-Ok.ensures.asked c.execute.ensures.did
+
+pub returns-in-Ok-clause-untouched : goal.returns-in-Ok-clause-untouched
+returns-in-Ok-clause-untouched g c = λ none. c.execute.ensures.untouched (not_verified c.args.words.now c.in-Ok.task c.in-Ok.ensures.asked none)
+
+pub returns-in-Err-clause-device : goal.returns-in-Err-clause-device
+returns-in-Err-clause-device g c = words_device c.in-Err.why c.in-Err.ensures.refused (g.S.Source.failures c.args.source.now + g.W.Sink.failures c.args.out.now)
+
+pub returns-in-Err-clause-unread : goal.returns-in-Err-clause-unread
+returns-in-Err-clause-unread g c = still_unread c.in-Err.why c.args.source.now
+
+pub returns-in-Err-clause-untouched : goal.returns-in-Err-clause-untouched
+returns-in-Err-clause-untouched g c = λ none. still_untouched c.in-Err.why c.args.source.now
+
+pub returns-in-Err-clause-unwritten : goal.returns-in-Err-clause-unwritten
+returns-in-Err-clause-unwritten g c = still_untouched c.in-Err.why c.args.out.now

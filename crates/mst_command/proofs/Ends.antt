@@ -1,0 +1,37 @@
+-- Errors that do not come.
+use Rattle.std.proofs.Common.{◌↔◌, Result, IfErr, IsErrOf}
+use Rattle.std.proofs.lemmas.Result.{IfErr-at_err}
+use Rattle.mst_command.specs.Commanding.{EndsScript, EndsVerify, EndsReplay, EndsHelp}
+use Rattle.mst_command.specs.declared.task.Ending.{Ending}
+use Rattle.mst_command.specs.declared.task.Refusal.{Refusal}
+use Rattle.mst_command.specs.declared.task.Refusal.TheVariants.{Shape, BadRoot, BadKey}
+
+never : (P : Refusal → Type 0) (why : Refusal) (r : Result Ending Refusal) → IfErr r P → (P why → ⊥) → IsErrOf r why ↔ ⊥
+never P why r h no = (λ e. no (IfErr-at_err P e h), λ b. absurd b)
+
+pub script_root : (r : Result Ending Refusal) → IfErr r (λ why. EndsScript why) → IsErrOf r BadRoot ↔ ⊥
+script_root r h = never EndsScript BadRoot r h (λ b. b)
+
+pub script_key : (r : Result Ending Refusal) → IfErr r (λ why. EndsScript why) → IsErrOf r BadKey ↔ ⊥
+script_key r h = never EndsScript BadKey r h (λ b. b)
+
+pub verify_shape : (r : Result Ending Refusal) → IfErr r (λ why. EndsVerify why) → IsErrOf r Shape ↔ ⊥
+verify_shape r h = never EndsVerify Shape r h (λ b. b)
+
+pub replay_shape : (r : Result Ending Refusal) → IfErr r (λ why. EndsReplay why) → IsErrOf r Shape ↔ ⊥
+replay_shape r h = never EndsReplay Shape r h (λ b. b)
+
+pub replay_root : (r : Result Ending Refusal) → IfErr r (λ why. EndsReplay why) → IsErrOf r BadRoot ↔ ⊥
+replay_root r h = never EndsReplay BadRoot r h (λ b. b)
+
+pub replay_key : (r : Result Ending Refusal) → IfErr r (λ why. EndsReplay why) → IsErrOf r BadKey ↔ ⊥
+replay_key r h = never EndsReplay BadKey r h (λ b. b)
+
+pub help_shape : (r : Result Ending Refusal) → IfErr r (λ why. EndsHelp why) → IsErrOf r Shape ↔ ⊥
+help_shape r h = never EndsHelp Shape r h (λ b. b)
+
+pub help_root : (r : Result Ending Refusal) → IfErr r (λ why. EndsHelp why) → IsErrOf r BadRoot ↔ ⊥
+help_root r h = never EndsHelp BadRoot r h (λ b. b)
+
+pub help_key : (r : Result Ending Refusal) → IfErr r (λ why. EndsHelp why) → IsErrOf r BadKey ↔ ⊥
+help_key r h = never EndsHelp BadKey r h (λ b. b)

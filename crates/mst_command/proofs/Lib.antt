@@ -1,0 +1,4 @@
+pub mod Asked
+mod Ends
+pub mod Fresh
+mod Inputs

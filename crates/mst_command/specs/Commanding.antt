@@ -1,0 +1,132 @@
+-- What the words of a program ask for, and how it ends.
+use Rattle.std.specs.Prelude.{◌≡◌, ℕ, ◌<◌, ◌⊎◌, Bool, true, false, if◌then◌else◌, List, [], ◌∷◌, ◌++◌, Option, Some, None, codes, string_bytes}
+use Rattle.std.specs.List.{Contains}
+use Rattle.std.specs.Str.{bytes_eq}
+use denote.Ref.{Bor}
+use Rattle.mst_command.specs.declared.task.Task.{Task}
+use Rattle.mst_command.specs.declared.task.Task.TheVariants.{Run, Verify, Replay, Help}
+use Rattle.mst_command.specs.declared.task.Ending.{Ending}
+use Rattle.mst_command.specs.declared.task.Ending.TheVariants.{Done, ProofRefused}
+use Rattle.mst_command.specs.declared.task.Refusal.{Refusal}
+use Rattle.mst_command.specs.declared.task.Refusal.TheVariants.{Words, NotText, Shape, BadRoot, BadKey, Device, Memory}
+
+-- the first word behind the program's name is `replay`
+abbrev pub asks_replay : List (Bor (List ℕ)) → Bool
+asks_replay (program ∷ name ∷ words) = bytes_eq name.now (codes "replay")
+asks_replay _ = false
+
+-- the two words behind `verify`: a `--` beside them says that no option follows
+abbrev pub root_and_key : List (Bor (List ℕ)) → List ℕ × List ℕ
+root_and_key (program ∷ name ∷ a ∷ b ∷ []) = (a.now, b.now)
+root_and_key (program ∷ name ∷ a ∷ b ∷ c ∷ []) =
+    if bytes_eq a.now (codes "--") then (b.now, c.now)
+    else if bytes_eq b.now (codes "--") then (a.now, c.now)
+    else (a.now, b.now)
+root_and_key (program ∷ name ∷ a ∷ b ∷ c ∷ d ∷ words) = (a.now, b.now)
+root_and_key _ = ([], [])
+
+-- the words for the root digest and the key, where the first word behind the program's name is `verify`
+abbrev pub asks_verify : List (Bor (List ℕ)) → Option (List ℕ × List ℕ)
+asks_verify (program ∷ name ∷ words) = if bytes_eq name.now (codes "verify") then Some (root_and_key (program ∷ name ∷ words)) else None
+asks_verify _ = None
+
+-- a word that asks for help: `help`, `--help`, or one that begins with `-h`
+abbrev pub IsHelp : List ℕ → Type 0
+IsHelp word = (word ≡ codes "help") ⊎ (word ≡ codes "--help") ⊎ ((rest : List ℕ) × (word ≡ codes "-h" ++ rest))
+
+-- some word asks for help
+abbrev pub AskHelp : List (Bor (List ℕ)) → Type 0
+AskHelp words = (word : Bor (List ℕ)) × Contains words word × IsHelp word.now
+
+abbrev pub is_replay : Task → Bool
+is_replay (Run shape) = false
+is_replay (Verify root key) = false
+is_replay Replay = true
+is_replay (Help text) = false
+
+abbrev pub verified_words : Task → Option (List ℕ × List ℕ)
+verified_words (Run shape) = None
+verified_words (Verify root key) = Some (root.now, key.now)
+verified_words Replay = None
+verified_words (Help text) = None
+
+-- the words ask for this task: some word for help, and else the first word behind the program's name for the rest
+abbrev pub AsksFor : List (Bor (List ℕ)) → Task → Type 0
+AsksFor words (Help text) = AskHelp words
+AsksFor words task = (is_replay task ≡ asks_replay words) × (verified_words task ≡ asks_verify words)
+
+-- how a script may end early
+abbrev pub EndsScript : Refusal → Type 0
+EndsScript Shape = Unit {0}
+EndsScript Device = Unit {0}
+EndsScript Memory = Unit {0}
+EndsScript _ = ⊥
+
+-- how the judging of a proof may end early
+abbrev pub EndsVerify : Refusal → Type 0
+EndsVerify BadRoot = Unit {0}
+EndsVerify BadKey = Unit {0}
+EndsVerify Device = Unit {0}
+EndsVerify Memory = Unit {0}
+EndsVerify _ = ⊥
+
+-- how a replay may end early
+abbrev pub EndsReplay : Refusal → Type 0
+EndsReplay Device = Unit {0}
+EndsReplay Memory = Unit {0}
+EndsReplay _ = ⊥
+
+-- how help may end early
+abbrev pub EndsHelp : Refusal → Type 0
+EndsHelp Device = Unit {0}
+EndsHelp _ = ⊥
+
+-- how a task may end early
+abbrev pub Ends : Task → Refusal → Type 0
+Ends (Run shape) why = EndsScript why
+Ends (Verify root key) why = EndsVerify why
+Ends Replay why = EndsReplay why
+Ends (Help text) why = EndsHelp why
+
+-- how words may be refused
+abbrev pub EndsWords : Refusal → Type 0
+EndsWords (Words text) = Unit {0}
+EndsWords Memory = Unit {0}
+EndsWords _ = ⊥
+
+-- how many reads and writes had failed before and after: more where this is the reason, and else as many
+abbrev pub IsDevice : Refusal → ℕ → ℕ → Type 0
+IsDevice Device before after = before < after
+IsDevice _ before after = after ≡ before
+
+-- a device before and after: as it was, but where a device failed
+abbrev pub Untouched : {S : Type 0} → Refusal → S → S → Type 0
+Untouched Device s t = Unit {0}
+Untouched _ s t = t ≡ s
+
+-- a source before and after: as it was, but where a device failed or memory was refused
+abbrev pub Unread : {S : Type 0} → Refusal → S → S → Type 0
+Unread Device s t = Unit {0}
+Unread Memory s t = Unit {0}
+Unread _ s t = t ≡ s
+
+-- what is said on standard error
+abbrev pub told : Refusal → List ℕ
+told (Words text) = string_bytes text
+told NotText = codes "error: invalid UTF-8 was detected in one or more arguments" ++ 10 ∷ []
+told Shape = codes "shape" ++ 10 ∷ []
+told BadRoot = codes "bad root" ++ 10 ∷ []
+told BadKey = codes "bad key" ++ 10 ∷ []
+told Device = codes "device" ++ 10 ∷ []
+told Memory = codes "memory" ++ 10 ∷ []
+
+-- the exit status
+abbrev pub status_of : Refusal → ℕ
+status_of Device = 3
+status_of Memory = 4
+status_of _ = 2
+
+-- the exit status of a program that was not cut short
+abbrev pub status_at : Ending → ℕ
+status_at Done = 0
+status_at ProofRefused = 1

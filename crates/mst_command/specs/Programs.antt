@@ -1,0 +1,86 @@
+-- What the programs read and wrote.
+use Rattle.std.specs.Prelude.{◌≡◌, ◌<◌, ◌⊎◌, ℕ, if◌then◌else◌, List, [], length, Some, None, IsSome, string_bytes}
+use Rattle.mst_key.specs.History.{History}
+use Rattle.mst_words.specs.declared.view.Shape.{Shape}
+use Rattle.mst_store.specs.Passes.{StoreId, HasShape, IsShape}
+use Rattle.mst_replay.specs.declared.Replay.{Replay}
+use Rattle.mst_replay.specs.Replay.{core_state}
+use Rattle.mst_devices.specs.Device.{Breaks}
+use Rattle.mst_script.specs.Machine.{Line}
+use Rattle.mst_lines.specs.Runs.{Ran}
+use Rattle.mst_verify.specs.declared.report.Report.{Report}
+use Rattle.mst_verify.specs.Words.{root_of, key_of}
+use Rattle.mst_verify.specs.Report.{limit, report_of, line_of, is_refusal}
+use Rattle.mst_command.specs.declared.task.Task.{Task}
+use Rattle.mst_command.specs.declared.task.Task.TheVariants.{Run, Verify, Replay as TaskReplay, Help}
+use Rattle.mst_command.specs.declared.task.Ending.{Ending}
+use Rattle.mst_command.specs.declared.task.Ending.TheVariants.{Done, ProofRefused}
+use Rattle.mst_command.specs.Recalling.{Recalls}
+
+-- how the program ends that said this
+abbrev pub ending_of : Report → Ending
+ending_of report = if is_refusal report then ProofRefused else Done
+
+-- The source gave a script, and the sink took what the script machine answers its lines, from the empty history on, over a store of this size.
+pub record RanScript {S W : Type 0} (gives : S → List ℕ → S → Type 0) (takes : W → List ℕ → W → Type 0) (shape : Shape) (s : S) (w : W) (t : S) (x : W) : Type 0 where
+  pub store : StoreId
+  pub size : HasShape shape store
+  pub last : History
+  pub ran : Ran gives takes (Line store) s w [] t x last
+
+-- The source gave events of a core, and the sink took what the core answers each of them, from no core on.
+pub record RanReplay {S W : Type 0} (gives : S → List ℕ → S → Type 0) (takes : W → List ℕ → W → Type 0) (s : S) (w : W) (t : S) (x : W) : Type 0 where
+  pub before : Replay
+  pub after : Replay
+  pub fresh : core_state before ≡ None
+  pub ran : Ran gives takes Recalls s w before t x after
+
+-- This is said of the text that the source gave, up to its end or beyond the limit.
+pub record IsSaid {S : Type 0} (gives : S → List ℕ → S → Type 0) (left : S → ℕ) (root key : List ℕ) (s : S) (report : Report) (t : S) : Type 0 where
+  pub text : List ℕ
+  pub given : gives s text t
+  pub whole : (left t ≡ 0) ⊎ (limit < length text)
+  pub said : report ≡ report_of root key text
+
+-- The sink took what is said of the text that the source gave, for the root digest and the key that two words spell.
+pub record RanVerify {S W : Type 0} (gives : S → List ℕ → S → Type 0) (left : S → ℕ) (takes : W → List ℕ → W → Type 0) (words : List ℕ × List ℕ) (s : S) (w : W) (ending : Ending) (t : S) (x : W) : Type 0 where
+  pub root : List ℕ
+  pub key : List ℕ
+  pub root_is : root_of words.0 ≡ Some root
+  pub key_is : key_of words.1 ≡ Some key
+  pub report : Report
+  pub said : IsSaid gives left root key s report t
+  pub ending_is : ending ≡ ending_of report
+  pub taken : takes w (line_of report) x
+
+-- The same, where the sink failed: it took a beginning of what is said.
+pub record BrokeVerify {S W : Type 0} (gives : S → List ℕ → S → Type 0) (left : S → ℕ) (takes : W → List ℕ → W → Type 0) (words : List ℕ × List ℕ) (s : S) (w : W) (t : S) (x : W) : Type 0 where
+  pub root : List ℕ
+  pub key : List ℕ
+  pub root_is : root_of words.0 ≡ Some root
+  pub key_is : key_of words.1 ≡ Some key
+  pub report : Report
+  pub said : IsSaid gives left root key s report t
+  pub breaks : Breaks takes w [] (line_of report) x
+
+-- From the one state of the source and the sink to the other the task was done, and ended so.
+abbrev pub Did : {S W : Type 0} → (S → List ℕ → S → Type 0) → (S → ℕ) → (W → List ℕ → W → Type 0) → Task → S → W → Ending → S → W → Type 0
+Did gives left takes (Run shape) s w ending t x = RanScript gives takes shape s w t x × (left t ≡ 0) × (ending ≡ Done)
+Did gives left takes (Verify root key) s w ending t x = RanVerify gives left takes (root.now, key.now) s w ending t x
+Did gives left takes TaskReplay s w ending t x = RanReplay gives takes s w t x × (left t ≡ 0) × (ending ≡ Done)
+Did gives left takes (Help text) s w ending t x = takes w (string_bytes text) x × (t ≡ s) × (ending ≡ Done)
+
+-- a task over a store that cannot have its size
+abbrev pub HasBadShape : Task → Type 0
+HasBadShape (Run shape) = ¬ (IsShape shape)
+HasBadShape _ = ⊥
+
+-- a task whose word for the root digest spells none
+abbrev pub HasBadRoot : Task → Type 0
+HasBadRoot (Verify root key) = root_of root.now ≡ None
+HasBadRoot _ = ⊥
+
+-- a task whose word for the root digest spells one, and whose word for the key spells none
+abbrev pub HasBadKey : Task → Type 0
+HasBadKey (Verify root key) = IsSome (root_of root.now) × (key_of key.now ≡ None)
+HasBadKey _ = ⊥

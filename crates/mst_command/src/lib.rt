@@ -1,0 +1,20 @@
+//! What the program does once its words are read: over a source and sinks, so that its contracts say what was read and written.
+//!
+//! `specs/Programs.antt` says what each task reads and writes, `specs/Commanding.antt` what words ask for and how a program ends early.
+#![tactic(auto)]
+
+mod ending;
+mod events;
+mod input;
+mod programs;
+mod replay;
+mod task;
+#[cfg(test)]
+mod tests;
+mod verify;
+mod words;
+
+pub use ending::{DONE, PROOF_REFUSED, complain};
+pub use programs::execute;
+pub use task::{Ending, Refusal, Task};
+pub use words::{ask_help, names_replay, verify_words};

@@ -1,0 +1,126 @@
+//! The programs, over a source and a sink.
+ghost use Rattle.std.specs.Prelude.{◌≡◌, ◌<◌, ◌≤◌, ◌-◌, ◌+◌, ◌^◌, ◌↔◌, OnOk, IfOk, IfErr, IsErrOf, None, string_bytes};
+ghost use Rattle.mst_store.specs.Passes.{IsShape};
+ghost use Rattle.mst_command.specs.Programs.{RanScript, RanReplay, Did, HasBadShape, HasBadRoot, HasBadKey};
+ghost use Rattle.mst_command.specs.Commanding.{IsDevice, Ends, EndsHelp, EndsReplay, EndsScript, Untouched, Unread, verified_words};
+ghost use Rattle.mst_command.specs.declared.task.Ending.TheVariants.{Done};
+
+use crate::events::replay_events;
+use crate::task::{Ending, Refusal, Task};
+use crate::verify::run_verify;
+use mst_replay::Replay;
+use mst_devices::{Device, Sink, Source, write_all};
+use mst_script::{RunFault, run};
+use mst_store::{OpenFault, Shape, Store};
+use std::alloc::Allocator;
+
+/// Answers the lines of the source over a new store.
+///
+/// `Shape` comes before anything is read, and `Memory` where a growth at the start was refused.
+pub fn run_script<A: Allocator + Copy, S: Source, W: Sink>(
+    alloc: A,
+    shape: Shape,
+    source: &mut S,
+    out: &mut W,
+) -> Result<Ending, Refusal>
+    requires source { S.failures source.old < 2 ^ 64 - 1 }
+    requires out { W.failures out.old < 2 ^ 64 - 1 }
+    ensures ran { OnOk result (RanScript S.gives W.takes shape source.old out.old source.new out.new) }
+    ensures ended { OnOk result (S.left source.new ≡ 0) }
+    ensures done { IfOk result (λ ending. ending ≡ Done) }
+    ensures steady { OnOk result (S.failures source.new + W.failures out.new ≡ S.failures source.old + W.failures out.old) }
+    ensures device { IfErr result (λ why. IsDevice why (S.failures source.old + W.failures out.old) (S.failures source.new + W.failures out.new)) }
+    ensures unread { IfErr result (λ why. Untouched why source.old source.new) }
+    ensures unwritten { IfErr result (λ why. Untouched why out.old out.new) }
+    ensures ends { IfErr result (λ why. EndsScript why) }
+    ensures shape { IsErrOf result Refusal.Shape ↔ ¬ (IsShape shape) }
+{
+    let (store, seats) = match Store::open(alloc, shape) {
+        Ok(opened) => opened,
+        Err(OpenFault::Shape) => return Err(Refusal::Shape),
+        Err(OpenFault::Memory) => return Err(Refusal::Memory),
+    };
+    let Ok(mut passes) = store.deal(alloc, seats) else {
+        return Err(Refusal::Memory);
+    };
+    match run(alloc, source, out, &store, &mut passes) {
+        Ok(()) => Ok(Ending::Done),
+        Err(RunFault::Device) => Err(Refusal::Device),
+        Err(RunFault::Memory) => Err(Refusal::Memory),
+    }
+}
+
+/// Answers the events of the source, from no core on.
+///
+/// `Memory` comes where a growth at the start was refused.
+pub fn run_replay<A: Allocator + Copy, S: Source, W: Sink>(
+    alloc: A,
+    source: &mut S,
+    out: &mut W,
+) -> Result<Ending, Refusal>
+    requires source { S.failures source.old < 2 ^ 64 - 1 }
+    requires out { W.failures out.old < 2 ^ 64 - 1 }
+    ensures ran { OnOk result (RanReplay S.gives W.takes source.old out.old source.new out.new) }
+    ensures ended { OnOk result (S.left source.new ≡ 0) }
+    ensures done { IfOk result (λ ending. ending ≡ Done) }
+    ensures steady { OnOk result (S.failures source.new + W.failures out.new ≡ S.failures source.old + W.failures out.old) }
+    ensures device { IfErr result (λ why. IsDevice why (S.failures source.old + W.failures out.old) (S.failures source.new + W.failures out.new)) }
+    ensures unread { IfErr result (λ why. Untouched why source.old source.new) }
+    ensures unwritten { IfErr result (λ why. Untouched why out.old out.new) }
+    ensures ends { IfErr result (λ why. EndsReplay why) }
+{
+    let mut replay = Replay::new();
+    match replay_events(alloc, source, out, &mut replay) {
+        Ok(()) => Ok(Ending::Done),
+        Err(RunFault::Device) => Err(Refusal::Device),
+        Err(RunFault::Memory) => Err(Refusal::Memory),
+    }
+}
+
+// Writes a whole text.
+fn show<W: Sink>(out: &mut W, text: &str) -> Result<Ending, Refusal>
+    requires { W.failures out.old < 2 ^ 64 - 1 }
+    ensures written { OnOk result (W.takes out.old text.now out.new) }
+    ensures done { IfOk result (λ ending. ending ≡ Done) }
+    ensures steady { OnOk result (W.failures out.new ≡ W.failures out.old) }
+    ensures device { IfErr result (λ why. IsDevice why (W.failures out.old) (W.failures out.new)) }
+    ensures unwritten { IfErr result (λ why. Untouched why out.old out.new) }
+    ensures ends { IfErr result (λ why. EndsHelp why) }
+{
+    match write_all(out, text.as_bytes()) {
+        Ok(()) => Ok(Ending::Done),
+        Err(Device) => Err(Refusal::Device),
+    }
+}
+
+/// Does the task, and says how the program ends, or why it ends early.
+///
+/// `Shape` comes for a size out of the store's limits, `BadRoot` and then `BadKey` for words that spell no root digest and no key, all before
+/// anything is read. `Memory` comes where a growth was refused: nothing was written then, and nothing read but a proof. `Device` comes where a read or a
+/// write failed.
+pub fn execute<A: Allocator + Copy, S: Source, W: Sink>(
+    alloc: A,
+    task: Task<'_>,
+    source: &mut S,
+    out: &mut W,
+) -> Result<Ending, Refusal>
+    requires source { S.failures source.old < 2 ^ 64 - 1 }
+    requires out { W.failures out.old < 2 ^ 64 - 1 }
+    ensures did { IfOk result (λ ending. Did S.gives S.left W.takes task.entry source.old out.old ending source.new out.new) }
+    ensures steady { OnOk result (S.failures source.new + W.failures out.new ≡ S.failures source.old + W.failures out.old) }
+    ensures device { IfErr result (λ why. IsDevice why (S.failures source.old + W.failures out.old) (S.failures source.new + W.failures out.new)) }
+    ensures unread { IfErr result (λ why. Unread why source.old source.new) }
+    ensures untouched { verified_words task.entry ≡ None → IfErr result (λ why. Untouched why source.old source.new) }
+    ensures unwritten { IfErr result (λ why. Untouched why out.old out.new) }
+    ensures shape { IsErrOf result Refusal.Shape ↔ HasBadShape task.entry }
+    ensures root { IsErrOf result Refusal.BadRoot ↔ HasBadRoot task.entry }
+    ensures key { IsErrOf result Refusal.BadKey ↔ HasBadKey task.entry }
+    ensures ends { IfErr result (λ why. Ends task.entry why) }
+{
+    match task {
+        Task::Run(shape) => run_script(alloc, shape, source, out),
+        Task::Verify(root, key) => run_verify(alloc, root, key, source, out),
+        Task::Replay => run_replay(alloc, source, out),
+        Task::Help(text) => show(out, text.as_str()),
+    }
+}

@@ -1,0 +1,43 @@
+//! What a program is to do, and how it ends.
+use mst_store::Shape;
+
+/// What the words of a command line ask for.
+#[derive(Drop)]
+pub enum Task<'a> {
+    /// To answer a script over a store of this size.
+    Run(Shape),
+    /// To say what a proof shows, for the words of a root digest and a key.
+    Verify(&'a str, &'a str),
+    /// To answer the events of a core.
+    Replay,
+    /// To write this text, which tells of the words.
+    Help(String),
+}
+
+/// How a program ended that was not cut short.
+#[derive(Clone, Copy, Debug, PartialEq, Eq)]
+pub enum Ending {
+    /// It did what the words ask for.
+    Done,
+    /// It read what is no proof of an answer.
+    ProofRefused,
+}
+
+/// Why a program ended early, and what it says on standard error.
+#[derive(Drop)]
+pub enum Refusal {
+    /// The words are refused: this is said of them.
+    Words(String),
+    /// A word is not UTF-8.
+    NotText,
+    /// The store cannot have this size.
+    Shape,
+    /// The word for the root digest is not 64 hexadecimal digits.
+    BadRoot,
+    /// The word for the key is not the hexadecimal form of 1 to 32 bytes.
+    BadKey,
+    /// A read or a write failed.
+    Device,
+    /// A growth was refused.
+    Memory,
+}

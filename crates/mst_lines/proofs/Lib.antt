@@ -1,0 +1,5 @@
+pub mod Cutting
+pub mod Reading
+pub mod Parts
+pub mod Driving
+pub mod Worked

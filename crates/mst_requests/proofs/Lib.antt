@@ -1,0 +1,6 @@
+pub mod Blanks
+pub mod Numbers
+pub mod Dealing
+pub mod Pairs
+pub mod Digits
+pub mod Worked

@@ -1,0 +1,43 @@
+-- The definitions at lines that were worked by hand.
+use Rattle.std.proofs.Common.{◌≡◌, [], ◌∷◌, refl, codes, Some, None}
+use Rattle.std.specs.Prelude.{Ok, Err}
+use Rattle.mst_requests.specs.declared.request.Fault.TheVariants.{NoPass, NoCommand, FieldCount}
+use Rattle.mst_requests.specs.declared.request.Command.TheVariants.{Root}
+use Rattle.mst_requests.specs.Grammar.{asked, count_in}
+use Rattle.mst_lines.specs.Lines.{kept}
+
+no_such_pass : asked 4 (kept (codes "9 get 61")) ≡ Err NoPass
+no_such_pass = refl
+
+empty_line : asked 4 (kept []) ≡ Err NoPass
+empty_line = refl
+
+tab : asked 4 (kept (codes "1\troot")) ≡ Err NoPass
+tab = refl
+
+pass_alone : asked 4 (kept (codes "1")) ≡ Err NoCommand
+pass_alone = refl
+
+no_such_command : asked 4 (kept (codes "1 frob")) ≡ Err NoCommand
+no_such_command = refl
+
+no_key : asked 4 (kept (codes "1 get")) ≡ Err FieldCount
+no_key = refl
+
+two_blanks : asked 4 (kept (codes "1 get  61")) ≡ Err FieldCount
+two_blanks = refl
+
+root_asked : asked 4 (kept (codes "2 root")) ≡ Ok record { pass = 2; command = Root }
+root_asked = refl
+
+most_pairs : count_in (codes "65535") ≡ Some 65535
+most_pairs = refl
+
+too_many_pairs : count_in (codes "65536") ≡ None
+too_many_pairs = refl
+
+zero_before : count_in (codes "01") ≡ None
+zero_before = refl
+
+no_pairs : count_in (codes "0") ≡ Some 0
+no_pairs = refl

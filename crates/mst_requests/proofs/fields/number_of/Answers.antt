@@ -1,0 +1,22 @@
+use Rattle.std.proofs.Common.{◌≡◌, ◌+◌, ◌-◌, ◌*◌, get_or, drop, sym, ◌∙◌, arith, true, rules}
+use Rattle.std.specs.Char.{is_ascii_digit}
+use Rattle.mst_requests.proofs.Numbers.{too_much, one_digit}
+use Rattle.mst_requests.proofs.fields.number_of.Goals as goal
+
+pub returns-then-number-from : goal.returns-then-number-from
+returns-then-number-from c =
+    let digits = c.args.digits.now in let i = c.loop-digit.digit-index in
+    let next = c.loop-digit.number * 10 + c.from.result in
+    let is : next ≡ c.loop-digit.number * 10 + (get_or digits i 0 - 48) = search rules in
+    let is_digit : is_ascii_digit (get_or digits i 0) ≡ true = search rules in
+    sym (c.loop-digit.invariant.same ∙ one_digit c.args.most c.loop-digit.number next i digits c.loop-digit-test.true is_digit is ∙ too_much c.args.most next (drop (i + 1) digits) (omega arith))
+
+pub loop-digit-preserved : goal.loop-digit-preserved
+loop-digit-preserved c =
+    let digits = c.args.digits.now in let i = c.loop-digit.digit-index in
+    let next = c.loop-digit.number * 10 + c.from.result in
+    let is : next ≡ c.loop-digit.number * 10 + (get_or digits i 0 - 48) = search rules in
+    let is_digit : is_ascii_digit (get_or digits i 0) ≡ true = search rules in record {
+      small = omega arith;
+      same = c.loop-digit.invariant.same ∙ one_digit c.args.most c.loop-digit.number next i digits c.loop-digit-test.true is_digit is;
+    }

@@ -1,0 +1,155 @@
+-- What a line asks for.
+use Rattle.std.specs.Prelude.{ℕ, ◌≤◌, Bool, ◌==◌, ◌&&◌, ◌+◌, ◌*◌, ◌-◌, nat_le, if◌then◌else◌, List, [], ◌∷◌, length, codes, Option, Some, None, Result, Ok, Err}
+use Rattle.std.specs.List.{slice_split, list_all}
+use Rattle.std.specs.Str.{bytes_eq}
+use Rattle.std.specs.Char.{is_ascii_digit}
+use Rattle.hex.specs.Hex.{decode_of}
+use Rattle.hex.specs.declared.error.FromHexError.{FromHexError}
+use denote.Ref.{Bor}
+use Rattle.mst_requests.specs.declared.request.Fault.{Fault}
+use Rattle.mst_requests.specs.declared.request.Fault.TheVariants.{LongLine, NoPass, NoCommand, FieldCount, BadField, KeySize, ValueSize}
+use Rattle.mst_requests.specs.declared.request.Command.{Command}
+use Rattle.mst_requests.specs.declared.request.Command.TheVariants.{Put, Remove, Get, Next, Range, Root, Node, Prove, Rows}
+use Rattle.mst_requests.specs.declared.request.Request.{Request}
+
+-- the parts between single blanks
+abbrev pub fields_of : List ℕ → List (List ℕ)
+fields_of line = slice_split (λ b. b == 32) line
+
+-- the fields of what stands behind a blank, if one does
+abbrev pub fields_behind : Option (Bor (List ℕ)) → List (List ℕ)
+fields_behind None = []
+fields_behind (Some rest) = fields_of rest.now
+
+-- ---- what a field spells
+
+-- the number that digits spell behind those of another number
+abbrev pub spelt : ℕ → List ℕ → ℕ
+spelt n [] = n
+spelt n (d ∷ ds) = spelt (n * 10 + (d - 48)) ds
+
+-- the same, if they are digits and the number is at most so much
+abbrev pub number_up_to : ℕ → ℕ → List ℕ → Option ℕ
+number_up_to most n digits = if list_all is_ascii_digit digits && nat_le (spelt n digits) most then Some (spelt n digits) else None
+
+-- the pass that a field names, where the passes 1 to n are dealt: decimal digits, the first of them not 0
+abbrev pub pass_in : ℕ → List ℕ → Option ℕ
+pass_in n [] = None
+pass_in n (d ∷ ds) = if d == 48 then None else number_up_to n 0 (d ∷ ds)
+
+-- the number of pairs that a field names, at most 65,535: decimal digits, the first of several not 0
+abbrev pub count_in : List ℕ → Option ℕ
+count_in [] = None
+count_in (d ∷ []) = number_up_to 65535 0 (d ∷ [])
+count_in (d ∷ e ∷ ds) = if d == 48 then None else number_up_to 65535 0 (d ∷ e ∷ ds)
+
+abbrev pub if_spelt : Result (List ℕ) FromHexError → Option (List ℕ)
+if_spelt (Ok bytes) = Some bytes
+if_spelt (Err e) = None
+
+-- the bytes that a field spells: pairs of hexadecimal digits, or `-` for none
+unfoldable pub bytes_of : List ℕ → Option (List ℕ)
+bytes_of field =
+    if length field == 0 then None
+    else if bytes_eq field (codes "-") then Some []
+    else if_spelt (decode_of field)
+
+-- a key has 1 to 32 bytes, a value at most 64
+abbrev pub has_key_size : List ℕ → Bool
+has_key_size k = nat_le 1 (length k) && nat_le (length k) 32
+
+abbrev pub has_value_size : List ℕ → Bool
+has_value_size v = nat_le (length v) 64
+
+-- no bytes are no bound; else a bound has the size of a key
+abbrev pub has_bound_size : List ℕ → Bool
+has_bound_size k = nat_le (length k) 32
+
+abbrev pub bound_of : List ℕ → Option (List ℕ)
+bound_of [] = None
+bound_of (b ∷ bs) = Some (b ∷ bs)
+
+-- ---- the commands, by the fields behind the name: first their number is tested, then whether each spells something, then the sizes of keys, then that of the value
+
+abbrev pub put_of : Option (List ℕ) → Option (List ℕ) → Result Command Fault
+put_of (Some k) (Some v) = if has_key_size k then (if has_value_size v then Ok (Put k v) else Err ValueSize) else Err KeySize
+put_of _ _ = Err BadField
+
+abbrev pub put_fields : List (List ℕ) → Result Command Fault
+put_fields (k ∷ v ∷ []) = put_of (bytes_of k) (bytes_of v)
+put_fields _ = Err FieldCount
+
+-- a key alone
+abbrev pub key_of : Option (List ℕ) → Result (List ℕ) Fault
+key_of (Some k) = if has_key_size k then Ok k else Err KeySize
+key_of None = Err BadField
+
+abbrev pub key_fields : List (List ℕ) → Result (List ℕ) Fault
+key_fields (k ∷ []) = key_of (bytes_of k)
+key_fields _ = Err FieldCount
+
+-- a command about a key alone
+abbrev pub about_key : (List ℕ → Command) → Result (List ℕ) Fault → Result Command Fault
+about_key command (Ok k) = Ok (command k)
+about_key command (Err fault) = Err fault
+
+abbrev pub next_of : Option (List ℕ) → Result Command Fault
+next_of (Some k) = if has_bound_size k then Ok (Next (bound_of k)) else Err KeySize
+next_of None = Err BadField
+
+abbrev pub next_fields : List (List ℕ) → Result Command Fault
+next_fields (k ∷ []) = next_of (bytes_of k)
+next_fields _ = Err FieldCount
+
+abbrev pub range_of : Option (List ℕ) → Option (List ℕ) → Option ℕ → Result Command Fault
+range_of (Some from) (Some to) (Some limit) = if has_bound_size from then (if has_bound_size to then Ok (Range (bound_of from) (bound_of to) limit) else Err KeySize) else Err KeySize
+range_of _ _ _ = Err BadField
+
+abbrev pub range_fields : List (List ℕ) → Result Command Fault
+range_fields (from ∷ to ∷ limit ∷ []) = range_of (bytes_of from) (bytes_of to) (count_in limit)
+range_fields _ = Err FieldCount
+
+-- a command without fields
+abbrev pub no_fields : Command → List (List ℕ) → Result Command Fault
+no_fields command [] = Ok command
+no_fields command _ = Err FieldCount
+
+-- ---- lines
+
+abbrev pub named_command : List ℕ → List (List ℕ) → Result Command Fault
+named_command name fields =
+    if bytes_eq name (codes "put") then put_fields fields
+    else if bytes_eq name (codes "del") then about_key Remove (key_fields fields)
+    else if bytes_eq name (codes "get") then about_key Get (key_fields fields)
+    else if bytes_eq name (codes "next") then next_fields fields
+    else if bytes_eq name (codes "range") then range_fields fields
+    else if bytes_eq name (codes "root") then no_fields Root fields
+    else if bytes_eq name (codes "node") then no_fields Node fields
+    else if bytes_eq name (codes "prove") then about_key Prove (key_fields fields)
+    else if bytes_eq name (codes "rows") then no_fields Rows fields
+    else Err NoCommand
+
+abbrev pub command_of : List (List ℕ) → Result Command Fault
+command_of [] = Err NoCommand
+command_of (name ∷ fields) = named_command name fields
+
+abbrev pub asked_of : ℕ → Result Command Fault → Result Request Fault
+asked_of p (Ok command) = Ok record { pass = p; command = command }
+asked_of p (Err fault) = Err fault
+
+abbrev pub by_pass : Option ℕ → List (List ℕ) → Result Request Fault
+by_pass None fields = Err NoPass
+by_pass (Some p) fields = asked_of p (command_of fields)
+
+abbrev pub by_fields : ℕ → List (List ℕ) → Result Request Fault
+by_fields n [] = Err NoPass
+by_fields n (first ∷ fields) = by_pass (pass_in n first) fields
+
+-- what is asked for by what is kept of a line, where the passes 1 to n are dealt
+abbrev pub asked : ℕ → Option (List ℕ) → Result Request Fault
+asked n None = Err LongLine
+asked n (Some line) = by_fields n (fields_of line)
+
+-- the request is of a pass 1 to n
+abbrev pub IsDealt : ℕ → Request → Type 0
+IsDealt n request = (1 ≤ request.pass) × (request.pass ≤ n)

@@ -1,0 +1,51 @@
+-- Answers as they are written.
+use Rattle.std.specs.Prelude.{ℕ, List, [], ◌∷◌, ◌++◌, length, Option, Some, None, codes, decimal}
+use Rattle.hex.specs.Hex.{encode_lower}
+use Rattle.mst_key.specs.Map.{Pair}
+use Rattle.mst_requests.specs.declared.request.Fault.{Fault}
+use Rattle.mst_requests.specs.declared.request.Fault.TheVariants.{LongLine, NoPass, NoCommand, FieldCount, BadField, KeySize, ValueSize}
+
+-- words with the newline that ends their line
+abbrev pub line_of : List ℕ → List ℕ
+line_of words = words ++ 10 ∷ []
+
+abbrev pub fault_words : Fault → List ℕ
+fault_words LongLine = codes "fault L1"
+fault_words NoPass = codes "fault L2"
+fault_words NoCommand = codes "fault L3"
+fault_words FieldCount = codes "fault L4"
+fault_words BadField = codes "fault L5"
+fault_words KeySize = codes "keysize"
+fault_words ValueSize = codes "valuesize"
+
+-- lower case, and `-` for no bytes
+abbrev pub digits_of : List ℕ → List ℕ
+digits_of [] = codes "-"
+digits_of (b ∷ bs) = encode_lower (b ∷ bs)
+
+-- the value that a key has, or had
+abbrev pub value_words : Option (List ℕ) → List ℕ
+value_words None = codes "none"
+value_words (Some v) = codes "some " ++ digits_of v
+
+abbrev pub pair_words : Pair → List ℕ
+pair_words p = codes "pair " ++ digits_of p.0 ++ codes " " ++ digits_of p.1
+
+-- the pair that was found
+abbrev pub found_words : Option Pair → List ℕ
+found_words None = codes "none"
+found_words (Some p) = pair_words p
+
+-- a line for each pair
+abbrev pub pair_lines : List Pair → List ℕ
+pair_lines [] = []
+pair_lines (p ∷ ps) = line_of (pair_words p) ++ pair_lines ps
+
+-- how many pairs there are
+abbrev pub count_words : List Pair → List ℕ
+count_words ps = codes "pairs " ++ decimal (length ps)
+
+-- how many rows the map takes, or that they are held
+abbrev pub rows_words : Option ℕ → List ℕ
+rows_words None = codes "held"
+rows_words (Some n) = codes "rows " ++ decimal n

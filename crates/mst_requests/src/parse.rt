@@ -1,0 +1,170 @@
+//! From what is kept of a line to what it asks for.
+ghost use Rattle.std.specs.Prelude.{◌≡◌, ◌≤◌, length, IfSome, IfOk};
+ghost use Rattle.mst_requests.specs.declared.request.Command.TheVariants.{Remove, Get, Prove};
+ghost use Rattle.mst_requests.specs.Grammar.{fields_of, fields_behind, put_fields, key_fields, about_key, next_fields, range_fields, no_fields, named_command, command_of, by_fields, asked, IsDealt};
+
+use crate::fields::{
+    bound_in, count_of, first_field, key_of, no_field, one_field, pass_of, three_fields,
+    two_fields, value_of,
+};
+use crate::request::{Command, Fault, Request};
+use mst_key::Key;
+use mst_lines::LineBuffer;
+
+// What `put` asks for, by what stands behind it.
+fn put_command(fields: Option<&[u8]>) -> Result<Command, Fault>
+    requires { IfSome fields (λ rest. length rest.now ≤ 4096) }
+    ensures { result ≡ put_fields (fields_behind fields.entry) }
+{
+    let (key, value) = two_fields(fields)?;
+    match (key_of(key), value_of(value)) {
+        (Some(Ok(key)), Some(Ok(value))) => Ok(Command::Put(key, value)),
+        (Some(Ok(_)), Some(Err(_))) => Err(Fault::ValueSize),
+        (Some(Err(_)), Some(_)) => Err(Fault::KeySize),
+        _ => Err(Fault::BadField),
+    }
+}
+
+// The key that stands alone behind a command.
+fn key_alone(fields: Option<&[u8]>) -> Result<Key, Fault>
+    requires { IfSome fields (λ rest. length rest.now ≤ 4096) }
+    ensures { result ≡ key_fields (fields_behind fields.entry) }
+{
+    let key = one_field(fields)?;
+    match key_of(key) {
+        Some(Ok(key)) => Ok(key),
+        Some(Err(_)) => Err(Fault::KeySize),
+        None => Err(Fault::BadField),
+    }
+}
+
+// What `del` asks for, by what stands behind it.
+fn remove_command(fields: Option<&[u8]>) -> Result<Command, Fault>
+    requires { IfSome fields (λ rest. length rest.now ≤ 4096) }
+    ensures { result ≡ about_key Remove (key_fields (fields_behind fields.entry)) }
+{
+    Ok(Command::Remove(key_alone(fields)?))
+}
+
+// What `get` asks for, by what stands behind it.
+fn get_command(fields: Option<&[u8]>) -> Result<Command, Fault>
+    requires { IfSome fields (λ rest. length rest.now ≤ 4096) }
+    ensures { result ≡ about_key Get (key_fields (fields_behind fields.entry)) }
+{
+    Ok(Command::Get(key_alone(fields)?))
+}
+
+// What `prove` asks for, by what stands behind it.
+fn prove_command(fields: Option<&[u8]>) -> Result<Command, Fault>
+    requires { IfSome fields (λ rest. length rest.now ≤ 4096) }
+    ensures { result ≡ about_key Prove (key_fields (fields_behind fields.entry)) }
+{
+    Ok(Command::Prove(key_alone(fields)?))
+}
+
+// What `next` asks for, by what stands behind it.
+fn next_command(fields: Option<&[u8]>) -> Result<Command, Fault>
+    requires { IfSome fields (λ rest. length rest.now ≤ 4096) }
+    ensures { result ≡ next_fields (fields_behind fields.entry) }
+{
+    let bound = one_field(fields)?;
+    match bound_in(bound) {
+        Some(Ok(bound)) => Ok(Command::Next(bound)),
+        Some(Err(_)) => Err(Fault::KeySize),
+        None => Err(Fault::BadField),
+    }
+}
+
+// What `range` asks for, by what stands behind it.
+fn range_command(fields: Option<&[u8]>) -> Result<Command, Fault>
+    requires { IfSome fields (λ rest. length rest.now ≤ 4096) }
+    ensures { result ≡ range_fields (fields_behind fields.entry) }
+{
+    let (from, to, limit) = three_fields(fields)?;
+    match (bound_in(from), bound_in(to), count_of(limit)) {
+        (Some(Ok(from)), Some(Ok(to)), Some(limit)) => Ok(Command::Range(from, to, limit)),
+        (Some(_), Some(_), Some(_)) => Err(Fault::KeySize),
+        _ => Err(Fault::BadField),
+    }
+}
+
+// The command, where nothing stands behind it.
+fn without_fields(command: Command, fields: Option<&[u8]>) -> Result<Command, Fault>
+    ensures { result ≡ no_fields command (fields_behind fields.entry) }
+{
+    no_field(fields)?;
+    Ok(command)
+}
+
+// What the command with this name asks for, by what stands behind it.
+fn command_named(name: &[u8], fields: Option<&[u8]>) -> Result<Command, Fault>
+    requires { IfSome fields (λ rest. length rest.now ≤ 4096) }
+    ensures { result ≡ named_command name.now (fields_behind fields.entry) }
+{
+    if name == b"put".as_slice() {
+        return put_command(fields);
+    }
+    if name == b"del".as_slice() {
+        return remove_command(fields);
+    }
+    if name == b"get".as_slice() {
+        return get_command(fields);
+    }
+    if name == b"next".as_slice() {
+        return next_command(fields);
+    }
+    if name == b"range".as_slice() {
+        return range_command(fields);
+    }
+    if name == b"root".as_slice() {
+        return without_fields(Command::Root, fields);
+    }
+    if name == b"node".as_slice() {
+        return without_fields(Command::Node, fields);
+    }
+    if name == b"prove".as_slice() {
+        return prove_command(fields);
+    }
+    if name == b"rows".as_slice() {
+        return without_fields(Command::Rows, fields);
+    }
+    Err(Fault::NoCommand)
+}
+
+// What a command asks for, with its fields.
+fn command_in(fields: Option<&[u8]>) -> Result<Command, Fault>
+    requires { IfSome fields (λ rest. length rest.now ≤ 4096) }
+    ensures { result ≡ command_of (fields_behind fields.entry) }
+{
+    let Some(fields) = fields else {
+        return Err(Fault::NoCommand);
+    };
+    let (name, fields) = first_field(fields);
+    command_named(name, fields)
+}
+
+// What the bytes of a line ask for.
+fn request_of(line: &[u8], passes: u32) -> Result<Request, Fault>
+    requires { length line.now ≤ 4096 }
+    ensures { result ≡ by_fields passes (fields_of line.now) }
+{
+    let (pass, fields) = first_field(line);
+    let Some(pass) = pass_of(pass, passes) else {
+        return Err(Fault::NoPass);
+    };
+    let command = command_in(fields)?;
+    Ok(Request { pass, command })
+}
+
+/// What is asked for by what is kept of a line, where the passes 1 to `passes` are dealt.
+///
+/// Each fault comes where none that stands before it in `Fault` does.
+pub fn request_in(line: &LineBuffer, passes: u32) -> Result<Request, Fault>
+    ensures asked { result ≡ asked passes line.now }
+    ensures dealt { IfOk result (λ request. IsDealt passes request) }
+{
+    match line.bytes() {
+        Some(bytes) => request_of(bytes, passes),
+        None => Err(Fault::LongLine),
+    }
+}

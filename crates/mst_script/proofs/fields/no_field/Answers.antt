@@ -1,7 +1,0 @@
-use Rattle.std.proofs.Common.{refl, arith, ap, length}
-use Rattle.mst_script.specs.Grammar.{fields_behind}
-use Rattle.mst_script.proofs.Cutting.{some_field}
-use Rattle.mst_script.proofs.fields.no_field.Goals as goal
-
-pub returns-in-Some : goal.returns-in-Some
-returns-in-Some c = (refl, λ none. omega (arith, none, ap (λ r. length (fields_behind r)) c.in-Some.is, some_field c.in-Some.field-0.now))
