@@ -1,3 +1,4 @@
+use Rattle.std.proofs.lemmas.Grind.{common_steps}
 use Rattle.std.proofs.Common.{◌≡◌, ℕ, ◌+◌, ◌-◌, get_or, sym, ap, ◌∙◌, arith, rules}
 use Rattle.mst_key.specs.Map.{Pair, key_cmp}
 use Rattle.mst_node.proofs.Rising.{rising-at, rising-more}
@@ -27,3 +28,24 @@ loop-i-preserved c =
     let y = c.index-pairs-i-in-loop-i.result in
     rising-more m c.loop-i.i x y c.loop-i.invariant (omega arith) (omega arith) c.index-pairs-i.is c.index-pairs-i-in-loop-i.is
     (ap (λ (u : Pair). key_cmp u.0 y.0) c.index-pairs-i.is ∙ ap (λ (u : Pair). key_cmp (get_or m (c.loop-i.i - 1) x).0 u.0) c.index-pairs-i-in-loop-i.is ∙ c.if-not-precedes.ensures.less.0 (search rules))
+
+pub loop-i-init : goal.loop-i-init
+loop-i-init c = search rules
+
+pub overflow_sub-i : goal.overflow_sub-i
+overflow_sub-i c = search rules
+
+pub offset_bounds-pairs-i : goal.offset_bounds-pairs-i
+offset_bounds-pairs-i c = search rules
+
+pub bounds-pairs-i : goal.bounds-pairs-i
+bounds-pairs-i c = search rules
+
+pub offset_bounds-pairs-i-in-loop-i : goal.offset_bounds-pairs-i-in-loop-i
+offset_bounds-pairs-i-in-loop-i c = search rules
+
+pub bounds-pairs-i-in-loop-i : goal.bounds-pairs-i-in-loop-i
+bounds-pairs-i-in-loop-i c = search rules
+
+pub returns : goal.returns
+returns c = grind (arith, common_steps)

@@ -1,4 +1,4 @@
-use Rattle.std.proofs.Common.{◌≤◌, length, sym, ap, ◌∙◌, arith}
+use Rattle.std.proofs.Common.{◌≤◌, length, sym, ap, ◌∙◌, arith, rules}
 use Rattle.std.specs.Prelude.{option_copied}
 use Rattle.mst_node.specs.Seen.{seen}
 use Rattle.mst_node.proofs.Places.{child_before-at, child_before-end}
@@ -14,3 +14,6 @@ returns c =
           let past : length n.entries ≤ c.args.i = omega (arith, c.len.ensures.len) in
           record { child = c.copied.ensures ∙ ap option_copied w.child-is ∙ w.tail-child.ensures.tail ∙ sym (child_before-end n.entries n.tail c.args.i past) }
     ]
+
+pub entry-requires : goal.entry-requires
+entry-requires c = search rules

@@ -61,3 +61,12 @@ returns c =
     let s = c.args.span.now in
     let none = entries-none (c.self.inside.count - c.loop.counter) c.loop.rest.now c.loop.invariant.0 c.loop.invariant.1 (omega arith) in
     record { within = (λ t. c.loop.invariant.2.1 (subst (Within s.low s.high) (sym none) tt), λ all. refl) }
+
+pub unreachable-unreachable : goal.unreachable-unreachable
+unreachable-unreachable c = search rules
+
+pub unreachable-requires-in_default-new : goal.unreachable-requires-in_default-new
+unreachable-requires-in_default-new c = search rules
+
+pub unreachable-unreachable-in_default-new : goal.unreachable-unreachable-in_default-new
+unreachable-unreachable-in_default-new c = search rules

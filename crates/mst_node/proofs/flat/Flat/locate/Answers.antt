@@ -1,4 +1,4 @@
-use Rattle.std.proofs.Common.{◌≡◌, ◌-◌, ◌+◌, List, ℕ, Option, Some, sym, ap, ◌∙◌, refl, arith, subst}
+use Rattle.std.proofs.Common.{◌≡◌, ◌-◌, ◌+◌, List, ℕ, Option, Some, sym, ap, ◌∙◌, refl, arith, subst, rules}
 use Rattle.mst_key.specs.declared.format.Format.TheVariants.{One}
 use Rattle.mst_node.specs.declared.place.Span.{Span}
 use Rattle.mst_node.specs.declared.place.Place.TheVariants.{Held, Gap}
@@ -54,3 +54,12 @@ returns c =
           ∙ ap (λ (xs : List FlatEntry). place_among c.args.key.now c.loop.low c.args.span.high xs c.args.self.now.tail) (sym none)
           ∙ c.loop.invariant.2;
     }
+
+pub unreachable-unreachable : goal.unreachable-unreachable
+unreachable-unreachable c = search rules
+
+pub unreachable-requires-in_default-2 : goal.unreachable-requires-in_default-2
+unreachable-requires-in_default-2 c = search rules
+
+pub unreachable-unreachable-in_default-2 : goal.unreachable-unreachable-in_default-2
+unreachable-unreachable-in_default-2 c = search rules

@@ -1,0 +1,11 @@
+use Rattle.std.proofs.Common.{rules}
+use Rattle.mst_node.proofs.flat.fits.Goals as goal
+
+pub returns-then-layer : goal.returns-then-layer
+returns-then-layer c = search rules
+
+pub returns-in-None : goal.returns-in-None
+returns-in-None c = search rules
+
+pub returns-in-Some : goal.returns-in-Some
+returns-in-Some c = search rules
