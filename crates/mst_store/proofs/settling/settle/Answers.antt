@@ -1,3 +1,5 @@
+use Rattle.std.proofs.Common.{arith}
+use Rattle.std.proofs.lemmas.Grind.{common_steps, pieces}
 use Rattle.std.proofs.Common.{◌≡◌, List, get_or, set, map, rules, sym, ap, ◌∙◌, subst}
 use Rattle.std.specs.List.{All}
 use Rattle.std.proofs.lemmas.List.{set-get_or}
@@ -23,3 +25,21 @@ returns g c = let w = c.requires.whole in let ps : List Known = c.args.free.now 
         alone = all_alone ps c.collect_all.new.courier.me.0.passes log w (there.courier.passes_is ∙ sym own.passes_is ∙ ap (λ (s : StoreId). s.passes) store) there.courier.courier.alone;
       };
     }
+
+pub returns-then-is_empty : goal.returns-then-is_empty
+returns-then-is_empty g c = grind (arith, common_steps)
+
+pub bounds-free-0 : goal.bounds-free-0
+bounds-free-0 g c = search rules
+
+pub collect_all-requires-clause-own : goal.collect_all-requires-clause-own
+collect_all-requires-clause-own g c = search rules
+
+pub collect_all-requires-clause-courier : goal.collect_all-requires-clause-courier
+collect_all-requires-clause-courier g c = search rules
+
+pub deliver_all-requires-clause-own : goal.deliver_all-requires-clause-own
+deliver_all-requires-clause-own g c = search rules
+
+pub deliver_all-requires-clause-later : goal.deliver_all-requires-clause-later
+deliver_all-requires-clause-later g c = search (pieces, arith) depth 5 fits 300

@@ -1,3 +1,5 @@
+use Rattle.std.proofs.Common.{arith}
+use Rattle.std.proofs.lemmas.Grind.{common_steps}
 use Rattle.std.proofs.Common.{◌≡◌, rules, sym, refl}
 use Rattle.mst_store.proofs.Taking.{held_stands, returnable_so, returnable_more, wrote, refused}
 use Rattle.mst_store.proofs.pass.Pass.write.Goals as goal
@@ -22,3 +24,39 @@ returns-in-Err-clause-err g c =
     let table : c.give_back.new.seat.table_id ≡ c.self.inside.seat.table_id = search rules in
     rw (sym c.self.view_is) (refused c.self.inside.seat.table_id c.give_back.new.seat.table_id c.self.inside.number c.self.inside.seat.me c.take_map.new.seat.me c.give_back.new.seat.me
     c.in-Some.map table c.self.invariant.1.2 c.in-Some.ensures.taken c.give_back.ensures.gave c.in-Err.fault c.args.change c.in-Err.ensures.refused)
+
+pub take_map-requires-clause-own : goal.take_map-requires-clause-own
+take_map-requires-clause-own g c = search rules
+
+pub take_map-requires-clause-free : goal.take_map-requires-clause-free
+take_map-requires-clause-free g c = search rules
+
+pub invariant_of-self : goal.invariant_of-self
+invariant_of-self g c = search rules
+
+pub returns-in_default-clause-ok : goal.returns-in_default-clause-ok
+returns-in_default-clause-ok g c = search rules
+
+pub returns-in_default-clause-err : goal.returns-in_default-clause-err
+returns-in_default-clause-err g c = search rules
+
+pub give_back_with-requires-clause-own : goal.give_back_with-requires-clause-own
+give_back_with-requires-clause-own g c = search rules
+
+pub give_back_with-requires-clause-mine : goal.give_back_with-requires-clause-mine
+give_back_with-requires-clause-mine g c = search rules
+
+pub invariant_of-self-in-Ok : goal.invariant_of-self-in-Ok
+invariant_of-self-in-Ok g c = grind (arith, common_steps)
+
+pub give_back-requires-clause-own : goal.give_back-requires-clause-own
+give_back-requires-clause-own g c = search rules
+
+pub invariant_of-self-in-Err : goal.invariant_of-self-in-Err
+invariant_of-self-in-Err g c = search rules
+
+pub returns-in-Ok-clause-err : goal.returns-in-Ok-clause-err
+returns-in-Ok-clause-err g c = search rules
+
+pub returns-in-Err-clause-ok : goal.returns-in-Err-clause-ok
+returns-in-Err-clause-ok g c = search rules
