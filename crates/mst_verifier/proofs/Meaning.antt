@@ -1,0 +1,105 @@
+-- What is told is what the proof comes to.
+use Rattle.std.proofs.Common.{◌≡◌, ◌≤◌, ℕ, zero, suc, Bool, true, false, List, ◌++◌, length, take, drop, Option, Some, None, refl, sym, ◌∙◌, ap, subst, arith, rules, tests}
+use Rattle.std.proofs.lemmas.Bool.Decides.{nat_tests}
+use Rattle.std.proofs.lemmas.List.{take_at}
+use Rattle.std.specs.Prelude.{ℤ, pos, negsuc, ◌==◌, ◌&&◌, nat_le, nat_lt, if◌then◌else◌, Result, Ok, Err, IfSome}
+use Rattle.mst_key.specs.Bytes.{IsKey}
+use Rattle.mst_proof.specs.declared.fault.ProofFault.{ProofFault}
+use Rattle.mst_proof.specs.declared.fault.ProofFault.TheVariants.{Version, CutShort, LeftOver, NoNode, OtherDigest, LayerNotBelow, KeyOutside, Unfinished, TextBehind}
+use Rattle.mst_proof.specs.Verdict.{verdict}
+use Rattle.mst_verifier.specs.declared.question.Refusal.{Refusal}
+use Rattle.mst_verifier.specs.declared.question.Refusal.TheVariants.{Format, Root, Key, Proof}
+use Rattle.mst_verifier.specs.Question.{judged, answer_of}
+use Rattle.mst_verifier.specs.Codes.{refusal_code, code_of, room_after}
+use Rattle.mst_verifier.specs.Told.{Tells}
+
+-- ---- a refusal tells nothing
+
+-- the codes of answers: those from 0 on, and that of absence
+abbrev is_answer : ℤ → Bool
+is_answer (pos n) = true
+is_answer (negsuc zero) = true
+is_answer (negsuc (suc n)) = false
+
+no_answer : (r : Refusal) → is_answer (refusal_code r) ≡ false
+no_answer Format = refl
+no_answer Root = refl
+no_answer Key = refl
+no_answer (Proof Version) = refl
+no_answer (Proof CutShort) = refl
+no_answer (Proof LeftOver) = refl
+no_answer (Proof NoNode) = refl
+no_answer (Proof OtherDigest) = refl
+no_answer (Proof LayerNotBelow) = refl
+no_answer (Proof KeyOutside) = refl
+no_answer (Proof Unfinished) = refl
+no_answer (Proof TextBehind) = refl
+
+refused : (r : Refusal) (z : ℤ) → is_answer z ≡ true → refusal_code r ≡ z → ⊥
+refused r z is e =
+    let both : false ≡ true = sym (no_answer r) ∙ ap is_answer e ∙ is in
+    cc both
+
+-- ---- an answer tells itself alone
+
+value_in : (b : Bool) (room v w : List ℕ) → (if b then negsuc 1 else pos (length v)) ≡ pos (length w) → take (length w) (if b then room else v ++ drop (length v) room) ≡ w → v ≡ w
+value_in true room v w e s = absurd (cc)
+value_in false room v w e s =
+    let same : length v ≡ length w = cc in
+    sym (take_at v (drop (length v) room) (length w) same) ∙ s
+
+abbrev is_absence : ℤ → Bool
+is_absence (pos n) = false
+is_absence (negsuc zero) = true
+is_absence (negsuc (suc n)) = false
+
+no_absence : (b : Bool) (n : ℕ) → is_absence (if b then negsuc 1 else pos n) ≡ false
+no_absence true n = refl
+no_absence false n = refl
+
+told : (room : List ℕ) (x : Result (Option (List ℕ)) Refusal) (a : Option (List ℕ)) → Tells (code_of (length room) x) (room_after room x) a → x ≡ Ok a
+told room (Ok (Some v)) None t =
+    let both : false ≡ true = sym (no_absence (nat_lt (length room) (length v)) (length v)) ∙ ap is_absence t in
+    absurd (cc both)
+told room (Ok (Some v)) (Some w) t = ap (λ (u : List ℕ). Ok (Some u)) (value_in (nat_lt (length room) (length v)) room v w t.0 t.1)
+told room (Ok None) None t = refl
+told room (Ok None) (Some w) t = absurd (cc t.0)
+told room (Err r) None t = absurd (refused r (negsuc 0) refl t)
+told room (Err r) (Some w) t = absurd (refused r (pos (length w)) refl t.0)
+
+-- ---- from the question to the verdict
+
+of_tests : (b c d : Bool) (v : Result (Option (List ℕ)) ProofFault) (a : Option (List ℕ)) → (if b then (if c then (if d then judged v else Err Key) else Err Root) else Err Format) ≡ Ok a → v ≡ Ok a
+of_tests true true true (Ok x) a e = let same : x ≡ a = cc in ap (λ (y : Option (List ℕ)). Ok y) same
+of_tests true true true (Err f) a e = absurd (cc)
+of_tests true true false v a e = absurd (cc)
+of_tests true false d v a e = absurd (cc)
+of_tests false c d v a e = absurd (cc)
+
+-- what is told is the verdict's answer
+pub verdict_told : (format : ℕ) (root key proof room after : List ℕ) (code : ℤ) (a : Option (List ℕ)) → code ≡ code_of (length room) (answer_of format root key proof) → after ≡ room_after room (answer_of format root key proof) → Tells code after a → verdict root key proof ≡ Ok a
+verdict_told format root key proof room after code a is left t =
+    let x = answer_of format root key proof in
+    let at_code = subst (λ (z : ℤ). Tells z after a) is t in
+    let at_room = subst (λ (r : List ℕ). Tells (code_of (length room) x) r a) left at_code in
+    of_tests (format == 1) (length root == 32) (nat_le 1 (length key) && nat_le (length key) 32) (verdict root key proof) a (told room x a at_room)
+
+-- ---- and back
+
+answered : (format : ℕ) (root key proof : List ℕ) → format ≡ 1 → length root ≡ 32 → IsKey key → answer_of format root key proof ≡ judged (verdict root key proof)
+answered format root key proof one digest fits = search (tests, rules)
+
+value_told : (b : Bool) (room v : List ℕ) → b ≡ false → Tells (if b then negsuc 1 else pos (length v)) (if b then room else v ++ drop (length v) room) (Some v)
+value_told true room v e = absurd (cc)
+value_told false room v e = (refl, take_at v (drop (length v) room) (length v) refl)
+
+tells : (room : List ℕ) (a : Option (List ℕ)) → IfSome a (λ v. length v ≤ length room) → Tells (code_of (length room) (Ok a)) (room_after room (Ok a)) a
+tells room None fits = refl
+tells room (Some v) fits = value_told (nat_lt (length room) (length v)) room v (search (tests, rules))
+
+-- the verdict's answer is told, where it fits
+pub tells_verdict : (format : ℕ) (root key proof room after : List ℕ) (code : ℤ) (a : Option (List ℕ)) → format ≡ 1 → length root ≡ 32 → IsKey key → IfSome a (λ v. length v ≤ length room) → code ≡ code_of (length room) (answer_of format root key proof) → after ≡ room_after room (answer_of format root key proof) → verdict root key proof ≡ Ok a → Tells code after a
+tells_verdict format root key proof room after code a one digest key_fits fits is left v =
+    let x : answer_of format root key proof ≡ Ok a = answered format root key proof one digest key_fits ∙ ap judged v in
+    let at_code = subst (λ (z : ℤ). Tells z (room_after room (Ok a)) a) (sym (is ∙ ap (code_of (length room)) x)) (tells room a fits) in
+    subst (λ (r : List ℕ). Tells code r a) (sym (left ∙ ap (room_after room) x)) at_code

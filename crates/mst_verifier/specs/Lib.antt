@@ -1,0 +1,4 @@
+pub mod Question
+pub mod Codes
+pub mod Top
+pub mod Told

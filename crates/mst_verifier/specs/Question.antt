@@ -1,0 +1,21 @@
+-- What a question to the library comes to: an answer for the key, or why there is none.
+use Rattle.std.specs.Prelude.{ℕ, ◌==◌, ◌&&◌, nat_le, if◌then◌else◌, List, length, Option, Result, Ok, Err}
+use Rattle.mst_proof.specs.declared.fault.ProofFault.{ProofFault}
+use Rattle.mst_proof.specs.Verdict.{verdict}
+use Rattle.mst_verifier.specs.declared.question.Refusal.{Refusal}
+use Rattle.mst_verifier.specs.declared.question.Refusal.TheVariants.{Format, Root, Key, Proof}
+
+abbrev pub judged : Result (Option (List ℕ)) ProofFault → Result (Option (List ℕ)) Refusal
+judged (Ok answer) = Ok answer
+judged (Err fault) = Err (Proof fault)
+
+-- the format is 1, a root digest has 32 bytes, a key has 1 to 32; the first that is not so is told, else what the proof comes to
+abbrev pub answer_of : ℕ → List ℕ → List ℕ → List ℕ → Result (Option (List ℕ)) Refusal
+answer_of format root key proof =
+    if format == 1
+    then (if length root == 32
+    then (if nat_le 1 (length key) && nat_le (length key) 32
+    then judged (verdict root key proof)
+    else Err Key)
+    else Err Root)
+    else Err Format

@@ -1,0 +1,7 @@
+-- What an answer by number tells of a key.
+use Rattle.std.specs.Prelude.{◌≡◌, ℕ, ℤ, pos, negsuc, List, length, take, Option, Some, None}
+
+-- absence, or the value that stands first in the room
+abbrev pub Tells : ℤ → List ℕ → Option (List ℕ) → Type 0
+Tells code room None = code ≡ negsuc 0
+Tells code room (Some value) = (code ≡ pos (length value)) × (take (length value) room ≡ value)

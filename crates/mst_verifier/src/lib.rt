@@ -1,0 +1,60 @@
+//! The verifier of proofs for C, and for every language that calls C.
+//!
+//! A static library over `mst_proof`: it takes no memory, keeps no state and starts no thread. `include/mst_verifier.h` declares its calls. Their answers are numbers that never change (`specs/Codes.antt`).
+#![tactic(auto)]
+
+ghost use Rattle.std.specs.Prelude.{◌≡◌, ◌≢◌, ◌≤◌, List, ℕ, Option, length, IfSome};
+ghost use Rattle.mst_key.specs.declared.format.Format.TheVariants.{One};
+ghost use Rattle.mst_key.specs.Bytes.{IsKey};
+ghost use Rattle.mst_key.specs.Map.{Pair, look};
+ghost use Rattle.mst_node.specs.Collision.{HasCollision};
+ghost use Rattle.mst_node.specs.Trail.{proof_text};
+ghost use Rattle.mst_node.specs.Tree.{tree};
+ghost use Rattle.mst_proof.specs.Accepted.{Accepted};
+ghost use Rattle.mst_proof.specs.Theorem.{HasRoot, texts_named};
+ghost use Rattle.mst_verifier.specs.Codes.{code_of, room_after};
+ghost use Rattle.mst_verifier.specs.Question.{answer_of};
+ghost use Rattle.mst_verifier.specs.Told.{Tells};
+ghost use Rattle.mst_verifier.specs.Top.{TellsTop};
+
+mod codes;
+mod question;
+mod telling;
+#[cfg(test)]
+mod tests;
+
+use codes::NO_TEXT;
+use mst_node::top_text;
+use telling::tell;
+
+/// What a proof shows of a key in the map with this root digest: the length of the key's value, which then stands first in the room, or the number of another answer. The room keeps all other bytes.
+#[unsafe(no_mangle)]
+pub extern "C" fn mst_verify(
+    format: u32,
+    root: &[u8],
+    key: &[u8],
+    proof: &[u8],
+    room: &mut [u8],
+) -> i32
+    ensures code { result ≡ code_of (length room.old) (answer_of format root.now key.now proof.now) }
+    ensures room { room.new ≡ room_after room.old (answer_of format root.now key.now proof.now) }
+    // What is told is what the proof is accepted with.
+    ensures accepted { (a : Option (List ℕ)) → Tells result room.new a → Accepted root.now key.now proof.now a }
+    // The map's answer is told where the proof is the map's and the room takes the value.
+    ensures complete { (m : List Pair) → format ≡ 1 → length root.now ≡ 32 → IsKey key.now → HasRoot m root.now → proof.now ≡ proof_text One m key.now → IfSome (look m key.now) (λ v. length v ≤ length room.old) → Tells result room.new (look m key.now) }
+    // Where another answer is told for a map's root, two different texts have one SHA-256: two of those of the proof, those of the nodes of the map's tree, and the empty text.
+    ensures sound { (m : List Pair) (a : Option (List ℕ)) → HasRoot m root.now → Tells result room.new a → a ≢ look m key.now → HasCollision (texts_named proof.now (tree One m)) }
+{
+    tell(format, root, key, proof, room)
+}
+
+/// The length of the first text that a proof frames, which stands behind the proof's first six bytes, or -1 where there is none. The proof is not verified.
+#[unsafe(no_mangle)]
+pub extern "C" fn mst_top_text(proof: &[u8]) -> i64
+    ensures text { TellsTop proof.now result }
+{
+    match top_text(proof) {
+        Some(text) => text.len() as i64,
+        None => NO_TEXT,
+    }
+}

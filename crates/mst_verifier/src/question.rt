@@ -1,0 +1,46 @@
+//! What is asked of the library, and what it comes to.
+ghost use Rattle.std.specs.Prelude.{◌≡◌};
+ghost use Rattle.mst_verifier.specs.Question.{answer_of};
+
+use mst_key::{Key, Value};
+use mst_proof::{ProofFault, verify};
+
+/// The one format of node texts and proofs there is.
+const FORMAT: u32 = 1;
+
+/// Why there is no answer.
+#[derive(Debug, Drop)]
+pub(crate) enum Refusal {
+    /// No format has this number.
+    Format,
+    /// A root digest has 32 bytes.
+    Root,
+    /// A key has 1 to 32 bytes.
+    Key,
+    /// The proof fails this test first.
+    Proof(ProofFault),
+}
+
+/// What the proof shows of the key. The format is tested first, then the root digest, the key, and the proof.
+pub(crate) fn answer(
+    format: u32,
+    root: &[u8],
+    key: &[u8],
+    proof: &[u8],
+) -> Result<Option<Value>, Refusal>
+    ensures answer { result ≡ answer_of format root.now key.now proof.now }
+{
+    if format != FORMAT {
+        return Err(Refusal::Format);
+    }
+    let Some(root) = root.as_array::<32>() else {
+        return Err(Refusal::Root);
+    };
+    let Ok(key) = Key::new(key) else {
+        return Err(Refusal::Key);
+    };
+    match verify(root, &key, proof) {
+        Ok(answer) => Ok(answer),
+        Err(fault) => Err(Refusal::Proof(fault)),
+    }
+}

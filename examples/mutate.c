@@ -1,0 +1,121 @@
+/*
+ * Mutated proofs: bits flipped, bytes set, cut, doubled, parts of two proofs put together, texts of two proofs framed anew;
+ * a million unless told otherwise.
+ * Of each, mst_verify may tell nothing but a refusal or what the line's map has.
+ *
+ *     cc -O2 -I../include mutate.c ../crates/mst_verifier/out/libmst_verifier.a -o mutate; ./mutate FILE [COUNT]
+ */
+#include "vectors.h"
+
+enum { MOST = 4096, ROOM = 1 << 17 };
+
+static struct vector lines[MOST];
+static size_t count, told_of[32];
+
+static uint64_t state = 0x9e3779b97f4a7c15u;
+
+static size_t below(size_t limit)
+{
+    state ^= state << 13;
+    state ^= state >> 7;
+    state ^= state << 17;
+    return limit ? state % limit : 0;
+}
+
+static size_t cut(size_t at, size_t length)
+{
+    return at < length ? at : length;
+}
+
+/* One change of the bytes, and their new length. */
+static size_t change(uint8_t *bytes, size_t length)
+{
+    size_t at = below(length), n = 1 + below(40), rest;
+    const struct vector *other = &lines[below(count)];
+    switch (below(7)) {
+    case 0: /* a bit flipped */
+        if (length)
+            bytes[at] ^= (uint8_t)(1u << below(8));
+        return length;
+    case 1: /* a byte set */
+        if (length)
+            bytes[at] = (uint8_t)below(256);
+        return length;
+    case 2: /* cut short */
+        return at;
+    case 3: /* a part left out */
+        n = cut(n, length - at);
+        memmove(bytes + at, bytes + at + n, length - at - n);
+        return length - n;
+    case 4: /* a part doubled */
+        n = cut(n, length - at);
+        memmove(bytes + at + n, bytes + at, length - at);
+        return length + n;
+    case 5: /* the front of one proof, the rest of another */
+        rest = below(other->proof_length);
+        memcpy(bytes + at, other->proof + rest, other->proof_length - rest);
+        return at + other->proof_length - rest;
+    default: /* a part of another proof in its place */
+        rest = below(other->proof_length);
+        n = cut(n, cut(other->proof_length - rest, length - at));
+        memcpy(bytes + at, other->proof + rest, n);
+        return length;
+    }
+}
+
+/* Some of the texts of two good proofs, framed anew. */
+static size_t frame(uint8_t *bytes, const struct vector *one, const struct vector *other)
+{
+    size_t length = 2, texts = 0;
+    for (int turn = 0; turn < 2; turn++) {
+        const struct vector *it = turn ? other : one;
+        for (size_t at = 2, n; at < it->proof_length; at += 4 + n) {
+            const uint8_t *text = it->proof + at;
+            n = (size_t)text[0] << 24 | (size_t)text[1] << 16 | (size_t)text[2] << 8 | text[3];
+            if (below(4) < (turn ? 1 : 3)) {
+                memcpy(bytes + length, text, 4 + n);
+                length += 4 + n;
+                texts++;
+            }
+        }
+    }
+    bytes[0] = 1;
+    bytes[1] = (uint8_t)texts;
+    return length;
+}
+
+int main(int words, char **word)
+{
+    FILE *from = words > 1 ? fopen(word[1], "r") : NULL;
+    if (from == NULL)
+        return fputs("mutate FILE [COUNT]\n", stderr), 2;
+    while (count < MOST && read_vector(from, &lines[count]))
+        if (lines[count].told >= MST_ABSENT && lines[count].proof_length < ROOM / 4)
+            count++;
+        else
+            free_vector(&lines[count]);
+    long rounds = words > 2 ? atol(word[2]) : 1000000, same = 0, wrong = 0;
+    static uint8_t bytes[ROOM];
+    for (long round = 0; round < rounds && count; round++) {
+        const struct vector *it = &lines[below(count)];
+        size_t length = it->proof_length, changes = 1 + below(3);
+        memcpy(bytes, it->proof, length);
+        if (below(3) == 0)
+            length = frame(bytes, it, &lines[below(count)]), changes = below(2);
+        while (changes-- && length < ROOM / 4)
+            length = change(bytes, length);
+        uint8_t room[MST_VALUE_ROOM];
+        int32_t told = mst_verify(1, it->root, it->root_length, it->key, it->key_length, bytes, length, room, sizeof room);
+        if (told < MST_ABSENT)
+            told_of[-told]++;
+        else if (told == it->told && (told < 0 || memcmp(room, it->value, (size_t)told) == 0))
+            same++;
+        else
+            wrong++;
+    }
+    printf("%ld mutated proofs:", rounds);
+    for (int n = 11; n < 20; n++)
+        printf(" P%d %zu", n - 10, told_of[n]);
+    printf(", the right answer %ld, a wrong one %ld\n", same, wrong);
+    return wrong > 0 || count == 0;
+}

@@ -1,0 +1,96 @@
+/* Lines of vectors for the C programs here: a root digest, a key, a proof and an answer, parted by tabs. */
+#ifndef VECTORS_H
+#define VECTORS_H
+
+#include "mst_verifier.h"
+
+#include <stdio.h>
+#include <stdlib.h>
+#include <string.h>
+
+struct vector {
+    uint8_t *root, *key, *proof, value[MST_VALUE_ROOM];
+    size_t root_length, key_length, proof_length;
+    int32_t told;
+};
+
+static inline int digit(char c)
+{
+    return c >= '0' && c <= '9' ? c - '0' : c >= 'a' && c <= 'f' ? c - 'a' + 10 : -1;
+}
+
+/* The bytes of a word, in a block of just that size, so that tools see each read beyond it. `-` spells none. */
+static inline uint8_t *bytes_of(const char *word, size_t *length)
+{
+    size_t size = strcmp(word, "-") == 0 ? 0 : strlen(word) / 2;
+    uint8_t *bytes = malloc(size ? size : 1);
+    if (bytes == NULL || (size && strlen(word) % 2))
+        exit(2);
+    for (size_t i = 0; i < size; i++) {
+        int high = digit(word[2 * i]), low = digit(word[2 * i + 1]);
+        if (high < 0 || low < 0)
+            exit(2);
+        bytes[i] = (uint8_t)(16 * high + low);
+    }
+    *length = size;
+    return bytes;
+}
+
+/* What mst_verify tells where a line has this answer; a value goes to `value`. */
+static inline int32_t told_by(const char *answer, uint8_t *value)
+{
+    if (strcmp(answer, "absent") == 0)
+        return MST_ABSENT;
+    if (strncmp(answer, "present ", 8) == 0) {
+        size_t length;
+        uint8_t *bytes = bytes_of(answer + 8, &length);
+        if (length > MST_VALUE_ROOM)
+            exit(2);
+        memcpy(value, bytes, length);
+        free(bytes);
+        return (int32_t)length;
+    }
+    if (answer[0] == 'P' && answer[1] >= '1' && answer[1] <= '9' && answer[2] == 0)
+        return -10 - (answer[1] - '0');
+    exit(2);
+}
+
+static inline int read_vector(FILE *from, struct vector *to)
+{
+    static char line[1 << 20];
+    if (fgets(line, sizeof line, from) == NULL)
+        return 0;
+    line[strcspn(line, "\n")] = 0;
+    char *root = strtok(line, "\t"), *key = strtok(NULL, "\t"), *proof = strtok(NULL, "\t"), *answer = strtok(NULL, "\t");
+    if (answer == NULL)
+        exit(2);
+    to->root = bytes_of(root, &to->root_length);
+    to->key = bytes_of(key, &to->key_length);
+    to->proof = bytes_of(proof, &to->proof_length);
+    to->told = told_by(answer, to->value);
+    return 1;
+}
+
+static inline void free_vector(struct vector *it)
+{
+    free(it->root);
+    free(it->key);
+    free(it->proof);
+}
+
+/* Whether mst_verify tells what the vector has, and leaves all else in the room as it was. */
+static inline int tells(const struct vector *it, size_t room_length)
+{
+    uint8_t room[MST_VALUE_ROOM + 16], wanted[MST_VALUE_ROOM + 16];
+    memset(room, 0xa5, sizeof room);
+    memset(wanted, 0xa5, sizeof wanted);
+    int32_t want = it->told;
+    if (want > (int32_t)room_length)
+        want = MST_NO_ROOM;
+    if (want > 0)
+        memcpy(wanted, it->value, (size_t)want);
+    int32_t told = mst_verify(1, it->root, it->root_length, it->key, it->key_length, it->proof, it->proof_length, room, room_length);
+    return told == want && memcmp(room, wanted, sizeof room) == 0;
+}
+
+#endif

@@ -1,0 +1,136 @@
+"""The verifier of proofs in Python, written from docs/FORMAT.md alone, with the standard library alone.
+
+    python3 mst_verifier.py ROOT KEY < PROOF      all three in hexadecimal digits
+"""
+import sys
+from hashlib import sha256
+
+
+class Refused(Exception):
+    """A test that a proof fails, as "P1"."""
+
+
+class Short(Exception):
+    """Fewer bytes are left than are asked for."""
+
+
+class Bytes:
+    """Bytes that are read from the front."""
+
+    def __init__(self, whole):
+        self.whole, self.at = whole, 0
+
+    def take(self, count):
+        part = self.whole[self.at : self.at + count]
+        if len(part) < count:
+            raise Short
+        self.at += count
+        return part
+
+    def number(self, count):
+        return int.from_bytes(self.take(count), "big")
+
+    def is_at_end(self):
+        return self.at == len(self.whole)
+
+
+def layer_of(key):
+    digits = sha256(key).hexdigest()
+    return len(digits) - len(digits.lstrip("0"))
+
+
+def read_child(text):
+    flag = text.number(1)
+    if flag > 1:
+        raise Refused("P4")
+    return text.take(32) if flag else None
+
+
+def read_counted(text, least, most):
+    length = text.number(1)
+    if not least <= length <= most:
+        raise Refused("P4")
+    return text.take(length)
+
+
+def read_node(whole):
+    """The layer, the keys, the values and the children of a node: one child more than keys."""
+    text = Bytes(whole)
+    try:
+        if text.number(1) != 1:
+            raise Refused("P4")
+        layer, count = text.number(1), text.number(2)
+        keys, values, children = [], [], [read_child(text)]
+        for _ in range(count):
+            keys.append(read_counted(text, 1, 32))
+            values.append(read_counted(text, 0, 64))
+            children.append(read_child(text))
+    except Short:
+        raise Refused("P4")
+    rising = all(one < next for one, next in zip(keys, keys[1:]))
+    if not keys or not text.is_at_end() or not rising or any(layer_of(key) != layer for key in keys):
+        raise Refused("P4")
+    return layer, keys, values, children
+
+
+def read_frame(whole):
+    """The texts of a proof."""
+    proof = Bytes(whole)
+    try:
+        if proof.number(1) != 1:
+            raise Refused("P1")
+        texts = [proof.take(proof.number(4)) for _ in range(proof.number(1))]
+    except Short:
+        raise Refused("P2")
+    if not proof.is_at_end():
+        raise Refused("P3")
+    return texts
+
+
+def verify(root, key, proof):
+    """The key's value in the map with this root digest, or None where the key is absent; else Refused."""
+    if len(root) != 32 or not 1 <= len(key) <= 32:
+        raise ValueError("a root digest has 32 bytes, a key 1 to 32")
+    texts = read_frame(proof)
+    if not texts:
+        if root != sha256(b"").digest():
+            raise Refused("P5")
+        return None
+    expected, upper, low, high = root, None, None, None
+    for place, text in enumerate(texts):
+        is_last = place == len(texts) - 1
+        layer, keys, values, children = read_node(text)
+        if sha256(text).digest() != expected:
+            raise Refused("P5")
+        if upper is not None and layer >= upper:
+            raise Refused("P6")
+        if any((low is not None and k <= low) or (high is not None and k >= high) for k in keys):
+            raise Refused("P7")
+        gap = sum(k < key for k in keys)
+        is_held = key in keys
+        if is_held or children[gap] is None:
+            if not is_last:
+                raise Refused("P9")
+            return values[gap] if is_held else None
+        if is_last:
+            raise Refused("P8")
+        expected, upper = children[gap], layer
+        low = keys[gap - 1] if gap > 0 else low
+        high = keys[gap] if gap < len(keys) else high
+
+
+def line_for(root, key, proof):
+    """The answer as a line has it."""
+    try:
+        value = verify(root, key, proof)
+    except Refused as refused:
+        return str(refused)
+    return "absent" if value is None else f"present {value.hex() or '-'}"
+
+
+if __name__ == "__main__":
+    if len(sys.argv) != 3:
+        sys.exit(__doc__)
+    line = line_for(bytes.fromhex(sys.argv[1]), bytes.fromhex(sys.argv[2]), bytes.fromhex(sys.stdin.read()))
+    print(line)
+    sys.exit(line[0] == "P")

@@ -1,0 +1,21 @@
+"""vectors.py FILE: checks each line of vectors (a root digest, a key, a proof, the answer) by mst_verifier.py."""
+import sys
+
+from mst_verifier import line_for
+
+
+def bytes_in(word):
+    return b"" if word == "-" else bytes.fromhex(word)
+
+
+passed = failed = 0
+for number, line in enumerate(open(sys.argv[1]), 1):
+    root, key, proof, answer = line.rstrip("\n").split("\t")[:4]
+    told = line_for(bytes_in(root), bytes_in(key), bytes_in(proof))
+    if told == answer:
+        passed += 1
+    else:
+        failed += 1
+        print(f"line {number}: {told}, and not {answer}")
+print(f"{passed} vectors as wanted, {failed} not")
+sys.exit(failed > 0 or passed == 0)
