@@ -1,4 +1,5 @@
-use Rattle.std.proofs.Common.{◌<◌, arith}
+use Rattle.std.proofs.Common.{◌<◌, arith, rules}
+use Rattle.std.proofs.lemmas.Grind.{common_steps}
 use Rattle.std.specs.Prelude.{slice_index}
 use Rattle.std.specs.Int.{w64, trailing_zeros}
 use Rattle.mst_arena.proofs.BitLemmas.{bit_of_lowest, lowest_lt, word_within}
@@ -23,3 +24,36 @@ returns-clause-near c some =
     let w = slice_index words c.in_ok-word.word in
     let small : trailing_zeros w64 w < 64 = lowest_lt w (omega (arith, c.type_inv.words c.in_ok-word.word)) (omega (arith, c.in_ok-word.ensures.some)) in
     omega (arith, small, c.in_ok-word.ensures.near some)
+
+pub word_in_use-requires-clause-sums : goal.word_in_use-requires-clause-sums
+word_in_use-requires-clause-sums c = search rules
+
+pub word_in_use-requires-clause-few : goal.word_in_use-requires-clause-few
+word_in_use-requires-clause-few c = search rules
+
+pub word_in_use-requires-clause-there : goal.word_in_use-requires-clause-there
+word_in_use-requires-clause-there c = search rules
+
+pub returns-in_err-word-clause-some : goal.returns-in_err-word-clause-some
+returns-in_err-word-clause-some c = search rules
+
+pub returns-in_err-word-clause-near : goal.returns-in_err-word-clause-near
+returns-in_err-word-clause-near c = search rules
+
+pub returns-in_err-word-clause-none : goal.returns-in_err-word-clause-none
+returns-in_err-word-clause-none c = search rules
+
+pub overflow_mul-result : goal.overflow_mul-result
+overflow_mul-result c = grind (arith, common_steps)
+
+pub offset_bounds-words-word : goal.offset_bounds-words-word
+offset_bounds-words-word c = grind (arith, common_steps)
+
+pub bounds-words-word : goal.bounds-words-word
+bounds-words-word c = grind (arith, common_steps)
+
+pub overflow_cast-result : goal.overflow_cast-result
+overflow_cast-result c = search rules
+
+pub returns-clause-none : goal.returns-clause-none
+returns-clause-none c = search rules

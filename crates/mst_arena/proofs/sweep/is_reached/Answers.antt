@@ -20,3 +20,18 @@ returns-else-first-live c =
     let none : nat_lt c.partition_point-first.result (length c.args.live.now) ≡ false = grind (arith, nat_tests, c.if-first-live.false) in
     let e = first_decides c.args.birth c.args.death c.args.live.now c.partition_point-first.result rises c.partition_point-first.ensures.bound point in
     record { reached = none ∙ (rw none at e) }
+
+pub any-requires-clause-can : goal.any-requires-clause-can
+any-requires-clause-can c = search rules
+
+pub any-requires-clause-finite : goal.any-requires-clause-finite
+any-requires-clause-finite c = search rules
+
+pub any-requires-clause-callable : goal.any-requires-clause-callable
+any-requires-clause-callable c = search rules
+
+pub offset_bounds-live-first : goal.offset_bounds-live-first
+offset_bounds-live-first c = search rules
+
+pub bounds-live-first : goal.bounds-live-first
+bounds-live-first c = search rules

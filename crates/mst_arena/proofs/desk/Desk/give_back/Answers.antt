@@ -1,4 +1,5 @@
-use Rattle.std.proofs.Common.{◌≡◌, ◌∙◌, ap, refl, true, Some}
+use Rattle.std.proofs.Common.{◌≡◌, ◌∙◌, ap, refl, true, Some, arith, rules}
+use Rattle.std.proofs.lemmas.Grind.{elements}
 use Rattle.std.specs.Prelude.{slice_get}
 use Rattle.mst_arena.specs.declared.life.Life.TheVariants.{Free, Born}
 use Rattle.mst_arena.specs.Lives.{State, next}
@@ -9,3 +10,12 @@ pub invariant_of-self : goal.invariant_of-self
 invariant_of-self g c =
     let at : slice_get c.self.inside.lives.items c.args.row ≡ Some (Born (next c.args.self.now)) = ap (λ (s : State). slice_get s.lives c.args.row) c.self.view_is ∙ c.requires.taken in
     rw c.put.ensures.put (desk_life _ _ _ _ _ _ _ _ _ c.self.invariant c.args.row (Born (next c.args.self.now)) Free true at refl refl refl)
+
+pub index_mut-requires : goal.index_mut-requires
+index_mut-requires g c = grind (arith, elements)
+
+pub put-requires : goal.put-requires
+put-requires g c = grind (arith, elements)
+
+pub returns : goal.returns
+returns g c = search rules

@@ -1,4 +1,5 @@
-use Rattle.std.proofs.Common.{◌≡◌, ◌+◌, ◌∙◌, ap, sym, arith, ℕ, Some, Option}
+use Rattle.std.proofs.Common.{◌≡◌, ◌+◌, ◌∙◌, ap, sym, arith, ℕ, Some, Option, rules}
+use Rattle.std.proofs.lemmas.Grind.{common_steps, elements}
 use Rattle.std.specs.Prelude.{slice_get}
 use Rattle.mst_arena.specs.declared.life.Life.{Life}
 use Rattle.mst_arena.specs.declared.life.Life.TheVariants.{Born, Dead}
@@ -41,3 +42,21 @@ returns g c =
           ∙ ap (λ (n : ℕ). with_life c.args.self.now c.args.row (Dead b (n + 1))) dies
           ∙ ap (λ (o : Option Life). with_life c.args.self.now c.args.row (ended (next c.args.self.now) o)) (sym c.requires.born.1);
     }
+
+pub index-requires : goal.index-requires
+index-requires g c = search rules
+
+pub overflow_add-death : goal.overflow_add-death
+overflow_add-death g c = grind (arith, common_steps)
+
+pub index-requires-2 : goal.index-requires-2
+index-requires-2 g c = grind (arith, elements)
+
+pub index_mut-requires : goal.index_mut-requires
+index_mut-requires g c = grind (arith, elements)
+
+pub same-self : goal.same-self
+same-self g c = search rules
+
+pub unreachable-unreachable : goal.unreachable-unreachable
+unreachable-unreachable g c = search rules

@@ -1,4 +1,5 @@
-use Rattle.std.proofs.Common.{◌≡◌, ◌+◌, ◌∙◌, ap, sym, refl, ℕ, false}
+use Rattle.std.proofs.Common.{◌≡◌, ◌+◌, ◌∙◌, ap, sym, refl, ℕ, false, arith, rules}
+use Rattle.std.proofs.lemmas.Grind.{common_steps, elements}
 use Rattle.std.specs.Prelude.{slice_get}
 use Rattle.mst_arena.specs.declared.life.Life.TheVariants.{Free, Born}
 use Rattle.mst_arena.specs.Lives.{State, with_life, version}
@@ -18,3 +19,27 @@ returns-clause-some g c =
       ap (λ (s : State). slice_get s.lives c.in_ok-row.row) (sym c.self.view_is) ∙ at,
       ap (λ (s : State). with_life s c.in_ok-row.row (Born (c.index.result.now + 1))) c.self.view_is ∙ ap (λ (n : ℕ). with_life c.args.self.now c.in_ok-row.row (Born (n + 1))) born,
     )
+
+pub index-requires : goal.index-requires
+index-requires g c = search rules
+
+pub overflow_add-birth : goal.overflow_add-birth
+overflow_add-birth g c = grind (arith, common_steps)
+
+pub invariant_of-self : goal.invariant_of-self
+invariant_of-self g c = search rules
+
+pub returns-in_err-row-clause-some : goal.returns-in_err-row-clause-some
+returns-in_err-row-clause-some g c = search rules
+
+pub returns-in_err-row-clause-none : goal.returns-in_err-row-clause-none
+returns-in_err-row-clause-none g c = grind (arith, common_steps)
+
+pub overflow_cast-row : goal.overflow_cast-row
+overflow_cast-row g c = search rules
+
+pub index_mut-requires : goal.index_mut-requires
+index_mut-requires g c = grind (arith, elements)
+
+pub returns-clause-none : goal.returns-clause-none
+returns-clause-none g c = search rules

@@ -24,3 +24,24 @@ returns-else-is_within_limits-clause-none c = no_row c.args.words.now (none_else
 
 pub returns-else-is_within_limits-clause-row : goal.returns-else-is_within_limits-clause-row
 returns-else-is_within_limits-clause-row c = none_else c
+
+pub returns-in_err-row-clause-some : goal.returns-in_err-row-clause-some
+returns-in_err-row-clause-some c = search rules
+
+pub returns-in_err-row-clause-row : goal.returns-in_err-row-clause-row
+returns-in_err-row-clause-row c = search rules
+
+pub words-requires : goal.words-requires
+words-requires c = search rules
+
+pub eq-requires : goal.eq-requires
+eq-requires c = search rules
+
+pub returns-then-eq-clause-some : goal.returns-then-eq-clause-some
+returns-then-eq-clause-some c = search rules
+
+pub returns-then-eq-clause-none : goal.returns-then-eq-clause-none
+returns-then-eq-clause-none c = search rules
+
+pub returns-else-is_within_limits-clause-some : goal.returns-else-is_within_limits-clause-some
+returns-else-is_within_limits-clause-some c = search rules

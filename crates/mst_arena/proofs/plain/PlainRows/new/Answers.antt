@@ -1,0 +1,18 @@
+use Rattle.std.proofs.Common.{arith, rules}
+use Rattle.std.proofs.lemmas.Grind.{common_steps}
+use Rattle.mst_arena.proofs.plain.PlainRows.new.Goals as goal
+
+pub returns-in_default : goal.returns-in_default
+returns-in_default g c = search rules
+
+pub loop-init : goal.loop-init
+loop-init g c = search rules
+
+pub push_reserved-requires : goal.push_reserved-requires
+push_reserved-requires g c = search rules
+
+pub loop-preserved : goal.loop-preserved
+loop-preserved g c = grind (arith, common_steps)
+
+pub returns : goal.returns
+returns g c = search rules

@@ -1,0 +1,8 @@
+use Rattle.std.proofs.Common.{rules}
+use Rattle.mst_arena.proofs.row.Row.copy.Goals as goal
+
+pub returns-in-Entry : goal.returns-in-Entry
+returns-in-Entry c = search rules
+
+pub returns-in-Head : goal.returns-in-Head
+returns-in-Head c = search rules

@@ -1,0 +1,14 @@
+use Rattle.std.proofs.Common.{rules}
+use Rattle.mst_arena.proofs.row.Row.is_within_limits.Goals as goal
+
+pub returns-then-child-le65535 : goal.returns-then-child-le65535
+returns-then-child-le65535 c = search rules
+
+pub returns-else-child-le65535 : goal.returns-else-child-le65535
+returns-else-child-le65535 c = search rules
+
+pub returns-then-contains-2 : goal.returns-then-contains-2
+returns-then-contains-2 c = search rules
+
+pub returns-else-contains-2 : goal.returns-else-contains-2
+returns-else-contains-2 c = search rules
