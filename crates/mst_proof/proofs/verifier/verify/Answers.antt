@@ -1,3 +1,4 @@
+use Rattle.std.proofs.Common.{rules}
 use Rattle.std.proofs.Common.{◌∙◌, sym, arith}
 use Rattle.mst_node.proofs.Takes.{bytes-at}
 use Rattle.mst_proof.proofs.Agreed.{accepted, accepts}
@@ -23,3 +24,6 @@ returns-clause-sound c = λ m a has e other.
     let b = bytes-at c.args.proof.now (λ i. omega (arith, c.type_inv.proof i)) in
     let is = accepted c.args.root.now c.args.key.now c.args.proof.now a b (sym c.judge.ensures.verdict ∙ e) in
     other_answer m c.args.root.now c.args.key.now c.args.proof.now a b has is other
+
+pub returns-clause-verdict : goal.returns-clause-verdict
+returns-clause-verdict c = search rules

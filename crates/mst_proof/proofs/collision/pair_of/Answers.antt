@@ -1,0 +1,20 @@
+use Rattle.std.proofs.Common.{rules}
+use Rattle.mst_proof.proofs.collision.pair_of.Goals as goal
+
+pub returns-then-eq-clause-none : goal.returns-then-eq-clause-none
+returns-then-eq-clause-none g c = search rules
+
+pub returns-then-eq-clause-some : goal.returns-then-eq-clause-some
+returns-then-eq-clause-some g c = search rules
+
+pub returns-in_err-one-clause-none : goal.returns-in_err-one-clause-none
+returns-in_err-one-clause-none g c = search rules
+
+pub returns-in_err-one-clause-some : goal.returns-in_err-one-clause-some
+returns-in_err-one-clause-some g c = search rules
+
+pub returns-clause-none : goal.returns-clause-none
+returns-clause-none g c = search rules
+
+pub returns-clause-some : goal.returns-clause-some
+returns-clause-some g c = search rules
