@@ -1,3 +1,4 @@
+use Rattle.std.proofs.Common.{rules}
 use Rattle.std.proofs.Common.{◌≡◌, ◌+◌, ℕ, List, [], ◌∷◌, ◌++◌, get_or, take, ap, sym, subst, ◌∙◌, add-one, cond, arith}
 use Rattle.std.proofs.lemmas.Grind.{common_steps}
 use Rattle.std.specs.Prelude.{is_ok}
@@ -22,3 +23,27 @@ loop-event-preserved g c =
       taken = grind (arith, common_steps);
       room = omega arith;
     }
+
+pub map_err-requires : goal.map_err-requires
+map_err-requires g c = search rules
+
+pub returns-in_err-answers-clause-ok : goal.returns-in_err-answers-clause-ok
+returns-in_err-answers-clause-ok g c = search rules
+
+pub returns-in_err-answers-clause-memory : goal.returns-in_err-answers-clause-memory
+returns-in_err-answers-clause-memory g c = search rules
+
+pub loop-event-init : goal.loop-event-init
+loop-event-init g c = search rules
+
+pub offset_bounds-events-event-index : goal.offset_bounds-events-event-index
+offset_bounds-events-event-index g c = search rules
+
+pub unwrap-requires : goal.unwrap-requires
+unwrap-requires g c = search rules
+
+pub returns-clause-ok : goal.returns-clause-ok
+returns-clause-ok g c = grind (arith, common_steps)
+
+pub returns-clause-memory : goal.returns-clause-memory
+returns-clause-memory g c = search rules

@@ -1,4 +1,5 @@
 use Rattle.std.proofs.Common.{rules}
+use Rattle.mst_verify.specs.Report.{line_of}
 use Rattle.mst_verify.proofs.report.Report.line.Goals as goal
 
 pub new-line-requires : goal.new-line-requires
@@ -24,3 +25,7 @@ extend-requires-in-Long c = search rules
 
 pub extend-requires-2 : goal.extend-requires-2
 extend-requires-2 c = search rules
+
+pub returns : goal.returns
+unfolding line_of
+returns c = search rules
