@@ -4,6 +4,7 @@
 #include "mst_verifier.h"
 
 #include <array>
+#include <cstdint>
 #include <iostream>
 #include <optional>
 #include <stdexcept>
