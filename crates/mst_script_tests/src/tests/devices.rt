@@ -6,6 +6,7 @@ use mst_script::RunFault;
 use mst_store::Shape;
 use std::alloc::Global;
 use std::io::{self, Read, Write};
+use std::process::Abort;
 use std::test::Fail;
 
 const SCRIPT: &[u8] = b"1 put 61 31\n2 put 616263 78\n3 range - - 10\n1 frob\n4 get 61";
@@ -95,7 +96,10 @@ fn devices_may_take_their_time(rt: HostRuntime) -> Result<(), Fail> {
         };
         let mut out = Writer::new(rt.alloc(), write_most, u64::MAX, false);
         let ran = run_between(rt.alloc(), reader, &mut out);
-        assert_eq!(rt; out.bytes.as_slice(), ANSWERS);
+        assert!(rt;
+            out.bytes.as_slice() == ANSWERS,
+            "{read_most} and {write_most} bytes at a time"
+        );
         assert!(rt; ran.is_ok());
     }
     Ok(())
@@ -123,9 +127,8 @@ fn reads_fail(rt: HostRuntime) -> Result<(), Fail> {
         };
         let mut out = Writer::new(rt.alloc(), 64, u64::MAX, false);
         let ran = run_between(rt.alloc(), reader, &mut out);
-        assert_eq!(rt;
-            out.bytes.as_slice(),
-            &ANSWERS[..answered],
+        assert!(rt;
+            out.bytes.as_slice() == &ANSWERS[..answered],
             "after {reads} reads"
         );
         assert!(rt; matches!(ran, Err(RunFault::Device)));
@@ -145,12 +148,32 @@ fn writes_fail(rt: HostRuntime) -> Result<(), Fail> {
             };
             let mut out = Writer::new(rt.alloc(), 1, writes, by_zero);
             let ran = run_between(rt.alloc(), reader, &mut out);
-            assert_eq!(rt; out.bytes.len() as u64, writes);
+            assert!(rt; out.bytes.len() as u64 == writes, "after {writes} writes");
             assert!(rt; ANSWERS.starts_with(out.bytes.as_slice()));
             assert!(rt; matches!(ran, Err(RunFault::Device)));
         }
     }
     Ok(())
+}
+
+// What the script is answered where such a heap gives the memory of the run; none where that is too small for the start.
+fn answers_in_heap(
+    rt: &impl Abort,
+    alloc: Global,
+    bytes: usize,
+    script: &[u8],
+) -> Result<Option<Vec<u8>>, Fail> {
+    let heap = LocalHeap::new(alloc, bytes)?;
+    let mut source = BytesSource::new(script);
+    let mut sink = BytesSink::new(alloc, 128)?;
+    match run_over(alloc, &heap, SHAPE, &mut source, &mut sink) {
+        Ok(()) => Ok(Some(sink.bytes().to_vec(alloc)?)),
+        Err(why) => {
+            assert!(rt; why == RunFault::Memory);
+            assert!(rt; sink.bytes().is_empty());
+            Ok(None)
+        }
+    }
 }
 
 // A heap of each size: too small for the start, then for the pairs of the range alone, and then large enough for all.
@@ -165,19 +188,12 @@ fn growths_are_refused(rt: HostRuntime) -> Result<(), Fail> {
         } else {
             130_000 + 8 * step
         };
-        let heap = LocalHeap::new(rt.alloc(), 64 + bytes)?;
-        let mut source = BytesSource::new(SCRIPT);
-        let mut sink = BytesSink::new(rt.alloc(), 128)?;
-        match run_over(rt.alloc(), &heap, SHAPE, &mut source, &mut sink) {
-            Ok(()) if sink.bytes() == ANSWERS => enough = true,
-            Ok(()) => {
-                assert_eq!(rt; sink.bytes(), NO_MEMORY);
+        match answers_in_heap(&rt, rt.alloc(), 64 + bytes, SCRIPT)? {
+            None => at_start = true,
+            Some(answers) if answers.as_slice() == ANSWERS => enough = true,
+            Some(answers) => {
+                assert!(rt; answers.as_slice() == NO_MEMORY, "in {bytes} bytes");
                 at_range = true;
-            }
-            Err(why) => {
-                assert!(rt; why == RunFault::Memory);
-                assert_eq!(rt; sink.bytes().len(), 0);
-                at_start = true;
             }
         }
     }
@@ -200,16 +216,14 @@ fn proofs_are_refused(rt: HostRuntime) -> Result<(), Fail> {
     let mut refused = false;
     let mut enough = false;
     for step in 0..200 {
-        let heap = LocalHeap::new(rt.alloc(), 130_900 + 8 * step)?;
-        let mut source = BytesSource::new(PROOFS);
-        let mut sink = BytesSink::new(rt.alloc(), 128)?;
-        match run_over(rt.alloc(), &heap, SHAPE, &mut source, &mut sink) {
-            Ok(()) if sink.bytes() == PROVED => enough = true,
-            Ok(()) => {
-                assert!(rt; sink.bytes() == NO_NODE || sink.bytes() == NO_PROOF);
+        match answers_in_heap(&rt, rt.alloc(), 130_900 + 8 * step, PROOFS)? {
+            None => {}
+            Some(answers) if answers.as_slice() == PROVED => enough = true,
+            Some(answers) => {
+                let answers = answers.as_slice();
+                assert!(rt; answers == NO_NODE || answers == NO_PROOF, "at step {step}");
                 refused = true;
             }
-            Err(why) => assert!(rt; why == RunFault::Memory),
         }
     }
     assert!(rt; refused && enough);
@@ -224,7 +238,7 @@ fn sinks_are_full(rt: HostRuntime) -> Result<(), Fail> {
         let mut sink = BytesSink::new(rt.alloc(), room)?;
         let ran = run_over(rt.alloc(), rt.alloc(), SHAPE, &mut source, &mut sink);
         assert!(rt; matches!(ran, Err(RunFault::Device)));
-        assert_eq!(rt; sink.bytes(), &ANSWERS[..room]);
+        assert!(rt; sink.bytes() == &ANSWERS[..room], "with room for {room}");
     }
     Ok(())
 }

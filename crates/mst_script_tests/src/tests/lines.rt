@@ -1,6 +1,6 @@
 //! Lines and their answers.
 use super::answers_to;
-use std::alloc::Global;
+use std::alloc::{AllocError, Global};
 use std::process::Abort;
 use std::test::Fail;
 
@@ -20,11 +20,11 @@ fn each_is_answered(
     for line in lines {
         let answers = answers_to(alloc, line.as_bytes())?;
         if !line.is_empty() {
-            assert_eq!(rt; answers.as_slice(), answer.as_bytes(), "to {line}");
+            assert!(rt; answers.as_slice() == answer.as_bytes(), "to {line}");
         }
         let ended = format!(in alloc; "{line}\n")?;
         let answers = answers_to(alloc, ended.as_bytes())?;
-        assert_eq!(rt; answers.as_slice(), answer.as_bytes(), "to {line}");
+        assert!(rt; answers.as_slice() == answer.as_bytes(), "to {line}");
     }
     Ok(())
 }
@@ -72,10 +72,7 @@ fn pass_is_not_dealt(rt: HostRuntime) -> Result<(), Fail> {
 #[test]
 fn bytes_are_no_text(rt: HostRuntime) -> Result<(), Fail> {
     let answers = answers_to(rt.alloc(), b"\xff\xfe \0 \x80\n1 \xff\n1 get \xff")?;
-    assert_eq!(rt;
-        answers.as_slice(),
-        b"fault L2\nfault L3\nfault L5\n".as_slice()
-    );
+    assert!(rt; answers.as_slice() == b"fault L2\nfault L3\nfault L5\n".as_slice());
     Ok(())
 }
 
@@ -179,7 +176,7 @@ fn sizes_have_limits(rt: HostRuntime) -> Result<(), Fail> {
             script.push_str("F0")?;
         }
         let answers = answers_to(rt.alloc(), script.as_bytes())?;
-        assert_eq!(rt; answers.as_slice(), answer.as_bytes(), "to {bytes} bytes");
+        assert!(rt; answers.as_slice() == answer.as_bytes(), "to {bytes} bytes");
     }
     Ok(())
 }
@@ -205,7 +202,7 @@ fn bounds_have_limits(rt: HostRuntime) -> Result<(), Fail> {
     for (line, answer) in rows {
         let script = line.replace(rt.alloc(), "K", KEY_32)?;
         let answers = answers_to(rt.alloc(), script.as_bytes())?;
-        assert_eq!(rt; answers.as_slice(), answer.as_bytes(), "to {line}");
+        assert!(rt; answers.as_slice() == answer.as_bytes(), "to {line}");
     }
     Ok(())
 }
@@ -224,11 +221,11 @@ fn long_lines_are_skipped(rt: HostRuntime) -> Result<(), Fail> {
         let mut script = b"1 get ".as_slice().to_vec(rt.alloc())?;
         script.resize(length, b'6')?;
         let answers = answers_to(rt.alloc(), script.as_slice())?;
-        assert_eq!(rt; answers.as_slice(), answer.as_bytes(), "at {length}");
+        assert!(rt; answers.as_slice() == answer.as_bytes(), "at {length}");
         script.extend_from_slice(b"\n1 get 61\n")?;
         let answers = answers_to(rt.alloc(), script.as_slice())?;
         let both = format!(in rt.alloc(); "{answer}none\n")?;
-        assert_eq!(rt; answers.as_slice(), both.as_bytes(), "at {length}");
+        assert!(rt; answers.as_slice() == both.as_bytes(), "at {length}");
     }
     Ok(())
 }
@@ -245,7 +242,7 @@ fn each_follows_two_puts(
         let script = format!(in alloc; "{TWO_PUTS}{more}")?;
         let expected = format!(in alloc; "none\nnone\n{answers}")?;
         let found = answers_to(alloc, script.as_bytes())?;
-        assert_eq!(rt; found.as_slice(), expected.as_bytes(), "to {more}");
+        assert!(rt; found.as_slice() == expected.as_bytes(), "to {more}");
     }
     Ok(())
 }
@@ -293,39 +290,45 @@ fn writes_change_what_was_put(rt: HostRuntime) -> Result<(), Fail> {
 // The root digest depends on the pairs, and not on how they came.
 #[test]
 fn roots_tell_the_pairs(rt: HostRuntime) -> Result<(), Fail> {
-    let scripts: [&[u8]; 3] = [
-        b"1 put 616263 78\n1 put 61 31\n2 root\n",
-        b"1 put 61 31\n2 put 616263 78\n1 root\n",
-        b"1 put 61 -\n2 put 616263 78\n1 put 61 31\n",
+    let root = "none\nnone\nd4a8a9fc55058427163bd8a1f09ca5ec542de1cdaf28df100be5472e47b72503\n";
+    let rows = [
+        ("1 put 616263 78\n1 put 61 31\n2 root\n", root),
+        ("1 put 61 31\n2 put 616263 78\n1 root\n", root),
+        (
+            "1 put 61 -\n2 put 616263 78\n1 put 61 31\n",
+            "none\nnone\nsome -\n",
+        ),
     ];
-    let root = b"none\nnone\nd4a8a9fc55058427163bd8a1f09ca5ec542de1cdaf28df100be5472e47b72503\n";
-    let found = answers_to(rt.alloc(), scripts[0])?;
-    assert_eq!(rt; found.as_slice(), root.as_slice());
-    let found = answers_to(rt.alloc(), scripts[1])?;
-    assert_eq!(rt; found.as_slice(), root.as_slice());
-    let found = answers_to(rt.alloc(), scripts[2])?;
-    assert_eq!(rt; found.as_slice(), b"none\nnone\nsome -\n".as_slice());
+    for (script, answers) in rows {
+        let found = answers_to(rt.alloc(), script.as_bytes())?;
+        assert!(rt; found.as_slice() == answers.as_bytes(), "to {script}");
+    }
     Ok(())
+}
+
+// A line for each of 500 pairs, which begins so.
+fn lines_of_pairs(alloc: Global, begin: &str) -> Result<Vec<u8>, AllocError> {
+    let mut lines = Vec::new(alloc);
+    for number in 0..500 {
+        let line = format!(in alloc; "{begin} {number:04}{KEY_30} {KEY_32}\n")?;
+        lines.extend_from_slice(line.as_bytes())?;
+    }
+    Ok(lines)
 }
 
 // An answer of more lines than wait at a time.
 #[test]
 fn long_answers_are_whole(rt: HostRuntime) -> Result<(), Fail> {
-    let mut script = Vec::new(rt.alloc());
-    let mut answers = Vec::new(rt.alloc());
-    let mut pairs = Vec::new(rt.alloc());
-    for number in 0..500 {
-        let key = format!(in rt.alloc(); "{number:04}{KEY_30}")?;
-        script.extend_from_slice(format!(in rt.alloc(); "1 put {key} {KEY_32}\n")?.as_bytes())?;
-        answers.extend_from_slice(b"none\n")?;
-        pairs.extend_from_slice(format!(in rt.alloc(); "pair {key} {KEY_32}\n")?.as_bytes())?;
-    }
+    let mut script = lines_of_pairs(rt.alloc(), "1 put")?;
     script.extend_from_slice(b"2 range - - 65535\n1 get 61")?;
-    answers.extend_from_slice(b"pairs 500\n")?;
-    answers.extend_from_slice(pairs.as_slice())?;
-    answers.extend_from_slice(b"none\n")?;
     let found = answers_to(rt.alloc(), script.as_slice())?;
-    assert_eq!(rt; found.len(), answers.len());
+    let mut answers = Vec::new(rt.alloc());
+    for _ in 0..500 {
+        answers.extend_from_slice(b"none\n")?;
+    }
+    answers.extend_from_slice(b"pairs 500\n")?;
+    answers.extend_from_slice(lines_of_pairs(rt.alloc(), "pair")?.as_slice())?;
+    answers.extend_from_slice(b"none\n")?;
     assert!(rt; found.as_slice() == answers.as_slice());
     Ok(())
 }

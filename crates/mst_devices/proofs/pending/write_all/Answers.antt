@@ -1,3 +1,4 @@
+use Rattle.std.proofs.lemmas.Grind.{common_steps}
 use Rattle.std.proofs.Common.{◌≡◌, ◌≤◌, ℕ, List, ◌∙◌, arith, length, length-drop, drop, take, subst, rules}
 use Rattle.mst_devices.proofs.Putting.{on_err, stopped, went_on}
 use Rattle.mst_devices.proofs.pending.write_all.Goals as goal
@@ -12,3 +13,42 @@ loop-at-preserved g c = let e = c.in_ok-at.ensures.ok in let d : c.split_at.resu
   failures = c.in_ok-at.ensures.steady ∙ c.loop-at.invariant.failures;
   within = let w = subst (λ (l : List ℕ). c.in_ok-at.field-0 ≤ length l) d e.within in let l = c.loop-at.invariant.within in omega (arith, length-drop c.loop-at.at c.args.bytes.now);
 }
+
+pub loop-at-init : goal.loop-at-init
+loop-at-init g c = search rules
+
+pub split_at-requires : goal.split_at-requires
+split_at-requires g c = search rules
+
+pub write-requires-clause-room : goal.write-requires-clause-room
+write-requires-clause-room g c = search rules
+
+pub write-requires-clause-few : goal.write-requires-clause-few
+write-requires-clause-few g c = search rules
+
+pub returns-in_err-at-clause-ok : goal.returns-in_err-at-clause-ok
+returns-in_err-at-clause-ok g c = search rules
+
+pub returns-in_err-at-clause-steady : goal.returns-in_err-at-clause-steady
+returns-in_err-at-clause-steady g c = search rules
+
+pub returns-in_err-at-clause-failed : goal.returns-in_err-at-clause-failed
+returns-in_err-at-clause-failed g c = search rules
+
+pub overflow_add-at : goal.overflow_add-at
+overflow_add-at g c = search rules
+
+pub loop-at-smaller : goal.loop-at-smaller
+loop-at-smaller g c = search rules
+
+pub returns-clause-ok : goal.returns-clause-ok
+returns-clause-ok g c = grind (arith, common_steps)
+
+pub returns-clause-steady : goal.returns-clause-steady
+returns-clause-steady g c = search rules
+
+pub returns-clause-err : goal.returns-clause-err
+returns-clause-err g c = search rules
+
+pub returns-clause-failed : goal.returns-clause-failed
+returns-clause-failed g c = search rules

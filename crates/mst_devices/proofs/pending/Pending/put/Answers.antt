@@ -1,3 +1,5 @@
+use Rattle.std.proofs.Common.{arith, rules}
+use Rattle.std.proofs.lemmas.Grind.{common_steps}
 use Rattle.std.proofs.Common.{◌≡◌, List, ℕ, [], subst, ◌∙◌}
 use Rattle.mst_devices.proofs.Putting.{map_ok, map_err, both_taken, second_broke}
 use Rattle.mst_devices.proofs.pending.Pending.put.Goals as goal
@@ -17,3 +19,45 @@ returns-clause-err g c =
     let flushed = subst (λ (l : List ℕ). g.W.Sink.takes c.args.sink.now l c.flush.new.sink) same c.in_ok-flush.ensures.ok in
     map_err c.write_all.result c.write_all.ensures.err (λ y.
     second_broke g.W.Sink.takes g.met.W.Sink.takes_more c.args.sink.now c.flush.new.sink c.write_all.new.sink c.args.self.now c.args.text.now flushed y)
+
+pub returns-then-append-clause-ok : goal.returns-then-append-clause-ok
+returns-then-append-clause-ok g c = search rules
+
+pub returns-then-append-clause-steady : goal.returns-then-append-clause-steady
+returns-then-append-clause-steady g c = search rules
+
+pub returns-then-append-clause-err : goal.returns-then-append-clause-err
+returns-then-append-clause-err g c = search rules
+
+pub returns-then-append-clause-failed : goal.returns-then-append-clause-failed
+returns-then-append-clause-failed g c = search rules
+
+pub returns-in_err-flush-clause-ok : goal.returns-in_err-flush-clause-ok
+returns-in_err-flush-clause-ok g c = search rules
+
+pub returns-in_err-flush-clause-steady : goal.returns-in_err-flush-clause-steady
+returns-in_err-flush-clause-steady g c = search rules
+
+pub returns-in_err-flush-clause-err : goal.returns-in_err-flush-clause-err
+returns-in_err-flush-clause-err g c = grind (arith, common_steps)
+
+pub returns-in_err-flush-clause-failed : goal.returns-in_err-flush-clause-failed
+returns-in_err-flush-clause-failed g c = search rules
+
+pub returns-then-append-2-clause-ok : goal.returns-then-append-2-clause-ok
+returns-then-append-2-clause-ok g c = search rules
+
+pub returns-then-append-2-clause-steady : goal.returns-then-append-2-clause-steady
+returns-then-append-2-clause-steady g c = search rules
+
+pub returns-then-append-2-clause-err : goal.returns-then-append-2-clause-err
+returns-then-append-2-clause-err g c = search rules
+
+pub returns-then-append-2-clause-failed : goal.returns-then-append-2-clause-failed
+returns-then-append-2-clause-failed g c = search rules
+
+pub returns-clause-steady : goal.returns-clause-steady
+returns-clause-steady g c = search rules
+
+pub returns-clause-failed : goal.returns-clause-failed
+returns-clause-failed g c = search rules
