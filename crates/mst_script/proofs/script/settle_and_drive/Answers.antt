@@ -1,3 +1,4 @@
+use Rattle.std.proofs.Common.{rules}
 use Rattle.mst_devices.proofs.Putting.{map_ok, map_err}
 use Rattle.mst_script.proofs.AllOf.{all_passes, all_settled}
 use Rattle.mst_script.proofs.Scripts.{ran_script, stopped_script}
@@ -16,3 +17,30 @@ returns-clause-ok g c = map_ok c.drive.result c.drive.ensures.ok (λ ran.
 pub returns-clause-err : goal.returns-clause-err
 returns-clause-err g c = map_err c.drive.result c.drive.ensures.err (λ stopped.
     stopped_script g.S.Source.gives g.W.Sink.takes g.W.Sink.failures c.args.store.now c.args.source.now c.drive.new.source c.args.sink.now c.drive.new.sink c.args.passes.now c.settle.new.free c.drive.new.passes c.settle.ensures.settled stopped)
+
+pub drive-requires-clause-source : goal.drive-requires-clause-source
+drive-requires-clause-source g c = search rules
+
+pub drive-requires-clause-sink : goal.drive-requires-clause-sink
+drive-requires-clause-sink g c = search rules
+
+pub drive-requires-clause-pending : goal.drive-requires-clause-pending
+drive-requires-clause-pending g c = search rules
+
+pub drive-requires-clause-reader : goal.drive-requires-clause-reader
+drive-requires-clause-reader g c = search rules
+
+pub returns-clause-whole : goal.returns-clause-whole
+returns-clause-whole g c = search rules
+
+pub returns-clause-ended : goal.returns-clause-ended
+returns-clause-ended g c = search rules
+
+pub returns-clause-steady_source : goal.returns-clause-steady_source
+returns-clause-steady_source g c = search rules
+
+pub returns-clause-steady_sink : goal.returns-clause-steady_sink
+returns-clause-steady_sink g c = search rules
+
+pub returns-clause-failed : goal.returns-clause-failed
+returns-clause-failed g c = search rules

@@ -36,3 +36,12 @@ pub returns-in-Rows : goal.returns-in-Rows
 returns-in-Rows g c = let p = c.args.pass.now in let q = c.rows.new.self in
     asked c.args.command.now Rows p q (text_of c.rows_answer_of.result) c.in-Rows.is
     (rows_read p q c.rows.result c.rows_answer_of.result c.rows_answer_of.ensures c.rows.ensures.ok c.rows.ensures.busy)
+
+pub returns-in-Range : goal.returns-in-Range
+returns-in-Range g c = search rules
+
+pub returns-in-Node : goal.returns-in-Node
+returns-in-Node g c = search rules
+
+pub returns-in-Prove : goal.returns-in-Prove
+returns-in-Prove g c = search rules

@@ -1,3 +1,4 @@
+use Rattle.std.proofs.Common.{rules}
 use Rattle.std.proofs.Common.{refl}
 use Rattle.hex.specs.Hex.{encode_lower}
 use Rattle.mst_key.specs.declared.format.Format.TheVariants.{One}
@@ -12,3 +13,6 @@ pub returns-in-Err : goal.returns-in-Err
 returns-in-Err g c = let p = c.args.pass.now in let q = c.prove.new.self in let k = c.args.key.now in
     asked (Prove k) (Prove k) p q (text_of c.missed_answer_of.result) refl
     (missed (λ m. line_of (encode_lower (proof_text One m k))) c.in-Err.fault p q c.missed_answer_of.result c.missed_answer_of.ensures c.in-Err.ensures.err)
+
+pub returns-in-Ok : goal.returns-in-Ok
+returns-in-Ok g c = search rules

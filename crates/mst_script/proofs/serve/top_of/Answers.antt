@@ -16,3 +16,12 @@ returns-in-Ok g c = let proof = c.args.proof.now in
     let small : length proof < 2 ^ 32 = omega arith in
     let same : c.in-Ok.text.items ≡ c.in-Some.top.now = search rules in
     λ m k is. inl (ap (λ l. line_of (encode_lower l)) same ∙ ap line_of (sym (some_top k (tree One m) proof c.in-Some.top.now is small c.in-Some.ensures.text)))
+
+pub overflow_cast-t-6 : goal.overflow_cast-t-6
+overflow_cast-t-6 g c = search rules
+
+pub returns-then-proof : goal.returns-then-proof
+returns-then-proof g c = search rules
+
+pub returns-in-Err : goal.returns-in-Err
+returns-in-Err g c = search rules
