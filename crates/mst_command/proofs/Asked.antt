@@ -15,34 +15,34 @@ use Rattle.mst_command.specs.declared.task.Refusal.TheVariants.{Words, NotText, 
 module _ {S W : Type 0} (gives : S → List ℕ → S → Type 0) (left : S → ℕ) (takes : W → List ℕ → W → Type 0) (words : List (Bor (List ℕ))) where
   pub asked_script : (task : Task) (r : Result Ending Refusal) (s t : S) (w x : W) → AsksFor words task → IfOk r (λ ending. Did gives left takes task s w ending t x) → asks_replay words ≡ false → asks_verify words ≡ None →
       OnOk r (((shape : _) × RanScript gives takes shape s w t x × (left t ≡ 0)) ⊎ (AskHelp words × (t ≡ s)))
-  asked_script (Run shape) (Ok ending) s t w x asked did no none = inl (shape, did.0, did.1.0)
-  asked_script (Verify root key) (Ok ending) s t w x asked did no none = absurd (none-some (root.now, key.now) (sym none ∙ sym asked.1))
-  asked_script Replay (Ok ending) s t w x asked did no none = absurd (false≢true (sym (asked.0 ∙ no)))
-  asked_script (Help text) (Ok ending) s t w x asked did no none = inr (asked, did.1.0)
-  asked_script task (Err why) s t w x asked did no none = tt
+  asked_script (Run shape) (Ok ending) s t w x asked did is none = inl (shape, did.0, did.1)
+  asked_script (Verify root key) (Ok ending) s t w x asked did is none = absurd (none-some (root.now, key.now) (sym none ∙ sym asked.1))
+  asked_script Replay (Ok ending) s t w x asked did is none = absurd (false≢true (sym (asked.0 ∙ is)))
+  asked_script (Help text) (Ok ending) s t w x asked did is none = inr (asked, did.1)
+  asked_script task (Err why) s t w x asked did is none = tt
 
   pub asked_replay : (task : Task) (r : Result Ending Refusal) (s t : S) (w x : W) → AsksFor words task → IfOk r (λ ending. Did gives left takes task s w ending t x) → asks_replay words ≡ true →
       OnOk r ((RanReplay gives takes s w t x × (left t ≡ 0)) ⊎ (AskHelp words × (t ≡ s)))
-  asked_replay (Run shape) (Ok ending) s t w x asked did yes = absurd (false≢true (asked.0 ∙ yes))
-  asked_replay (Verify root key) (Ok ending) s t w x asked did yes = absurd (false≢true (asked.0 ∙ yes))
-  asked_replay Replay (Ok ending) s t w x asked did yes = inl (did.0, did.1.0)
-  asked_replay (Help text) (Ok ending) s t w x asked did yes = inr (asked, did.1.0)
-  asked_replay task (Err why) s t w x asked did yes = tt
+  asked_replay (Run shape) (Ok ending) s t w x asked did is = absurd (false≢true (asked.0 ∙ is))
+  asked_replay (Verify root key) (Ok ending) s t w x asked did is = absurd (false≢true (asked.0 ∙ is))
+  asked_replay Replay (Ok ending) s t w x asked did is = inl (did.0, did.1)
+  asked_replay (Help text) (Ok ending) s t w x asked did is = inr (asked, did.1)
+  asked_replay task (Err why) s t w x asked did is = tt
 
   pub asked_verify : (task : Task) (r : Result Ending Refusal) (s t : S) (w x : W) → AsksFor words task → IfOk r (λ ending. Did gives left takes task s w ending t x) →
       IfOk r (λ ending. (named : _) → asks_verify words ≡ Some named → RanVerify gives left takes named s w ending t x ⊎ (AskHelp words × (t ≡ s) × (ending ≡ Done)))
   asked_verify (Run shape) (Ok ending) s t w x asked did = λ named is. absurd (none-some named (asked.1 ∙ is))
   asked_verify (Verify root key) (Ok ending) s t w x asked did = λ named is. inl (subst (λ (words : List ℕ × List ℕ). RanVerify gives left takes words s w ending t x) (same_Some (root.now, key.now) named (asked.1 ∙ is)) did)
   asked_verify Replay (Ok ending) s t w x asked did = λ named is. absurd (none-some named (asked.1 ∙ is))
-  asked_verify (Help text) (Ok ending) s t w x asked did = λ named is. inr (asked, did.1.0, did.1.1)
+  asked_verify (Help text) (Ok ending) s t w x asked did = λ named is. inr (asked, did.1, did.2)
   asked_verify task (Err why) s t w x asked did = tt
 
   pub asked_others : (task : Task) (r : Result Ending Refusal) (s t : S) (w x : W) → AsksFor words task → IfOk r (λ ending. Did gives left takes task s w ending t x) →
       IfOk r (λ ending. asks_verify words ≡ None → ending ≡ Done)
-  asked_others (Run shape) (Ok ending) s t w x asked did = λ none. did.1.1
+  asked_others (Run shape) (Ok ending) s t w x asked did = λ none. did.2
   asked_others (Verify root key) (Ok ending) s t w x asked did = λ none. absurd (none-some (root.now, key.now) (sym none ∙ sym asked.1))
-  asked_others Replay (Ok ending) s t w x asked did = λ none. did.1.1
-  asked_others (Help text) (Ok ending) s t w x asked did = λ none. did.1.1
+  asked_others Replay (Ok ending) s t w x asked did = λ none. did.2
+  asked_others (Help text) (Ok ending) s t w x asked did = λ none. did.2
   asked_others task (Err why) s t w x asked did = tt
 
 -- words that do not ask for the judging of a proof ask for another task

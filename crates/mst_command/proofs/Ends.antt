@@ -7,7 +7,7 @@ use Rattle.mst_command.specs.declared.task.Refusal.{Refusal}
 use Rattle.mst_command.specs.declared.task.Refusal.TheVariants.{Shape, BadRoot, BadKey}
 
 never : (P : Refusal → Type 0) (why : Refusal) (r : Result Ending Refusal) → IfErr r P → (P why → ⊥) → IsErrOf r why ↔ ⊥
-never P why r h no = (λ e. no (IfErr-at_err P e h), λ b. absurd b)
+never P why r h other = (λ e. other (IfErr-at_err P e h), λ b. absurd b)
 
 pub script_root : (r : Result Ending Refusal) → IfErr r (λ why. EndsScript why) → IsErrOf r BadRoot ↔ ⊥
 script_root r h = never EndsScript BadRoot r h (λ b. b)

@@ -5,9 +5,9 @@ ghost use Rattle.mst_lines.specs.Driving.{Answered, Lost, Closed, NotClosed};
 ghost use Rattle.mst_command.specs.Recalling.{Recalls};
 
 use crate::replay::answer_event;
-use mst_replay::Replay;
 use mst_devices::{Device, Pending, Sink, Source};
 use mst_lines::{LineBuffer, Reader};
+use mst_replay::Replay;
 use mst_script::RunFault;
 use std::alloc::Allocator;
 

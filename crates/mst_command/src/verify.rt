@@ -4,11 +4,11 @@ ghost use Rattle.mst_verify.specs.Words.{root_of, key_of};
 ghost use Rattle.mst_command.specs.Commanding.{EndsVerify, IsDevice, Unread, Untouched};
 ghost use Rattle.mst_command.specs.Programs.{RanVerify, BrokeVerify, IsSaid, ending_of};
 
-use crate::task::{Ending, Refusal};
 use crate::input::read_up_to;
+use crate::task::{Ending, Refusal};
 use mst_devices::{Device, Sink, Source, write_all};
-use mst_script::RunFault;
 use mst_key::{Key, Memory};
+use mst_script::RunFault;
 use mst_verify::{LIMIT, Report, key_in, report_on, root_in};
 use std::alloc::Allocator;
 
