@@ -3,7 +3,7 @@ ghost use Rattle.std.specs.Prelude.{◌≡◌, ◌↔◌, IsTrue, OnOk, IsSorted
 ghost use Rattle.std.specs.declared.cmp.Ordering.TheVariants.{Less};
 ghost use Rattle.mst_key.specs.Map.{key_cmp};
 
-use crate::{Change, Event, Key, KeySize, Memory, Value, ValueSize};
+use mst_key::{Change, Event, Key, KeySize, Memory, Value, ValueSize};
 use std::alloc::{AllocError, Allocator};
 use std::cmp::Ordering;
 use std::test::Fail;
@@ -46,6 +46,13 @@ fn same_event(one: &Event, other: &Event) -> bool
     one == other
 }
 
+/// Whether two keys stand in this order by each call that compares keys.
+fn stand_so(one: &Key, other: &Key, order: Ordering) -> bool {
+    key_order(one, other) == order
+        && precedes(one, other) == (order == Ordering::Less)
+        && same_key(one, other) == (order == Ordering::Equal)
+}
+
 /// Sorting is generic, and takes the laws of the order.
 fn sort_keys<A: Allocator>(alloc: A, keys: &mut [Key]) -> Result<(), AllocError>
     ensures { OnOk result (IsSorted key_cmp keys.new) }
@@ -59,9 +66,9 @@ fn refusals_print_their_causes(rt: HostRuntime) -> Result<(), Fail> {
     let key = format!(in alloc; "{}", KeySize)?;
     let value = format!(in alloc; "{}", ValueSize)?;
     let memory = format!(in alloc; "{}", Memory)?;
-    assert_eq!(rt; key.as_str(), "a key has 1 to 32 bytes");
-    assert_eq!(rt; value.as_str(), "a value has at most 64 bytes");
-    assert_eq!(rt; memory.as_str(), "no memory");
+    assert!(rt; key.as_str() == "a key has 1 to 32 bytes");
+    assert!(rt; value.as_str() == "a value has at most 64 bytes");
+    assert!(rt; memory.as_str() == "no memory");
     Ok(())
 }
 
@@ -76,14 +83,12 @@ fn sizes_at_the_limits(rt: HostRuntime) {
         (64, false, true),
         (65, false, false),
     ] {
-        assert_eq!(rt;
-            Key::new(&bytes[..len]).is_ok(),
-            is_key,
+        assert!(rt;
+            Key::new(&bytes[..len]).is_ok() == is_key,
             "a key of {len} bytes"
         );
-        assert_eq!(rt;
-            Value::new(&bytes[..len]).is_ok(),
-            is_value,
+        assert!(rt;
+            Value::new(&bytes[..len]).is_ok() == is_value,
             "a value of {len} bytes"
         );
     }
@@ -102,15 +107,11 @@ fn keys_in_ascending_order(rt: HostRuntime) -> Result<(), Fail> {
     ];
     for (i, one) in rising.iter().enumerate() {
         for (j, other) in rising.iter().enumerate() {
-            let (Ok(one), Ok(other)) = (Key::new(one), Key::new(other)) else {
-                panic!(rt; "keys")
-            };
-            assert_eq!(rt; key_order(&one, &other), i.cmp(&j), "{i} and {j}");
-            assert_eq!(rt; precedes(&one, &other), i < j, "{i} and {j}");
-            assert_eq!(rt; same_key(&one, &other), i == j, "{i} and {j}");
+            let (one, other) = (Key::new(one)?, Key::new(other)?);
+            assert!(rt; stand_so(&one, &other, i.cmp(&j)), "{i} and {j}");
             let mut pair = [other, one];
             sort_keys(rt.alloc(), &mut pair)?;
-            assert_eq!(rt; pair[0].bytes(), rising[i.min(j)], "{i} and {j}");
+            assert!(rt; pair[0].bytes() == rising[i.min(j)], "{i} and {j}");
         }
     }
     Ok(())
@@ -121,8 +122,8 @@ fn clones_are_the_same(rt: HostRuntime) -> Result<(), Fail> {
     let (Ok(key), Ok(value)) = (Key::new(&[0xff; 32]), Value::new(&[0x00; 64])) else {
         panic!(rt; "sizes")
     };
-    assert_eq!(rt; key.clone()?.bytes(), [0xff; 32].as_slice());
-    assert_eq!(rt; value.clone()?.bytes(), [0x00; 64].as_slice());
+    assert!(rt; key.clone()?.bytes() == [0xff; 32].as_slice());
+    assert!(rt; value.clone()?.bytes() == [0x00; 64].as_slice());
     assert!(rt; same_key(&key, &key.copy()));
     assert!(rt; same_value(&value, &value.copy()));
     let change = Change::Put(key.copy(), value.copy());
@@ -131,5 +132,31 @@ fn clones_are_the_same(rt: HostRuntime) -> Result<(), Fail> {
     let remove = Event { pass: 1, change };
     assert!(rt; same_event(&put, &put));
     assert!(rt; !same_event(&put, &remove));
+    Ok(())
+}
+
+/// Layers by another SHA-256 (Python's hashlib).
+#[test]
+fn layers(rt: HostRuntime) -> Result<(), Fail> {
+    for (key, layer) in [
+        ("1", 0),
+        ("a", 0),
+        ("abc", 0),
+        ("0", 0),
+        ("hello", 0),
+        ("merkle search tree keys 32 bytes", 0),
+        ("39", 1),
+        ("49", 1),
+        ("286", 2),
+        ("671", 2),
+        ("886", 3),
+        ("1039", 3),
+        ("88484", 4),
+        ("172608", 4),
+        ("596138", 5),
+        ("665782", 7),
+    ] {
+        assert!(rt; Key::new(key.as_bytes())?.layer() == layer, "{key}");
+    }
     Ok(())
 }

@@ -7,10 +7,11 @@ mod forged;
 mod maps;
 mod verdicts;
 
-use crate::{collide, verify};
+use crate::pairs::top;
 use linked_list_allocator::LocalHeap;
 use mst_key::{Key, Memory, Value};
-use mst_node::{build, text};
+use mst_node::build;
+use mst_proof::{collide, verify};
 use std::alloc::Global;
 use std::cmp::Ordering;
 use std::process::Abort;
@@ -28,10 +29,6 @@ const THREE: &str = "373a7faf30fc0998ad7513e8fd54287fac4ef22030d6b13b63a2e861398
 /// The proof of that map for the key `1`.
 const THREE_PROOF: &str =
     "01020000004b01010001017dfdf041db1f9c4de0e5e646a376510cfb7c4e47760ef8f74cb3181b74c061e6023339017901d2c0950048c47bae86f8557f6e7357048963954bbb6f1328ea6cc19d8898c5d80000000a01000001000131017800";
-
-fn pair(key: &[u8], value: &[u8]) -> Result<(Key, Value), Fail> {
-    Ok((Key::new(key)?, Value::new(value)?))
-}
 
 /// The digest of these hexadecimal digits.
 fn root_in(alloc: Global, digits: &str) -> Result<[u8; 32], Fail> {
@@ -58,16 +55,6 @@ fn verdict_in(alloc: Global, root: &str, key: &[u8], proof: &str) -> Result<Stri
     let root = root_in(alloc, root)?;
     let proof = hex::decode(alloc, proof)?;
     verdict(alloc, &root, key, proof.as_slice())
-}
-
-/// The first numbers in three bytes, each with its two low bytes as the value.
-fn numbered(alloc: Global, count: u32) -> Result<Vec<(Key, Value)>, Fail> {
-    let mut pairs = Vec::new(alloc);
-    for i in 0..count {
-        let bytes = i.to_be_bytes();
-        pairs.push(pair(&bytes[1..], &bytes[2..])?)?;
-    }
-    Ok(pairs)
 }
 
 /// The pairs in the key's gap among those of the greatest layer, or none where one of these has the key.
@@ -100,16 +87,6 @@ fn gap_of<'a>(
     Ok(pairs.get(start..end))
 }
 
-/// The text of the top node of the list's tree.
-fn top_of(alloc: Global, pairs: &[(Key, Value)]) -> Result<Option<Vec<u8>>, Memory>
-    requires few { length pairs.now ≤ 65535 }
-{
-    match build(alloc, pairs)? {
-        None => Ok(None),
-        Some(node) => Ok(Some(text(alloc, &node)?)),
-    }
-}
-
 /// The proof for the key in the map of the list, made from the lists in its gaps.
 fn proof_for(
     rt: &impl Abort,
@@ -123,7 +100,7 @@ fn proof_for(
     let mut gap = pairs;
     for count in 1..=65u8 {
         assert!(rt; gap.len() <= 65535);
-        let Some(text) = top_of(alloc, gap)? else {
+        let Some(text) = top(alloc, gap)? else {
             break;
         };
         assert!(rt; proof.len() > 1);

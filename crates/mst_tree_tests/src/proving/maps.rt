@@ -1,9 +1,10 @@
 //! The proofs of larger maps.
-use super::{collided_in, numbered, proof_for};
-use crate::verify;
+use super::{collided_in, proof_for};
+use crate::pairs::numbered;
 use linked_list_allocator::LocalHeap;
 use mst_key::{Key, Memory};
 use mst_node::{is_map, root_of};
+use mst_proof::verify;
 use std::test::Fail;
 
 #[test]
@@ -20,7 +21,7 @@ fn proofs_of_maps(rt: HostRuntime) -> Result<(), Fail> {
             let key = Key::new(&bytes[1..])?;
             let proof = proof_for(&rt, alloc, pairs, &key)?;
             match (verify(&root, &key, proof.as_slice())?, i < count) {
-                (Some(value), true) => assert_eq!(rt; value.bytes(), &bytes[2..], "{i} of {count}"),
+                (Some(value), true) => assert!(rt; value.bytes() == &bytes[2..], "{i} of {count}"),
                 (None, false) => {}
                 _ => assert!(rt; false, "{i} of {count}"),
             }
@@ -34,7 +35,7 @@ fn proofs_of_maps(rt: HostRuntime) -> Result<(), Fail> {
             match collided_in(alloc, &heap, pairs, &between, proof.as_slice(), 4096)? {
                 Some(Ok(found)) => assert!(rt; !found, "behind {i} of {count}"),
                 Some(Err(Memory)) => assert!(rt; false, "memory"),
-                None => assert_eq!(rt; count, 0),
+                None => assert!(rt; count == 0),
             }
         }
     }

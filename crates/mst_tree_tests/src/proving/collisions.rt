@@ -1,5 +1,6 @@
 //! Collisions that are not there, and growths that are refused to the search for one.
-use super::{THREE_PROOF, TWO_PROOF, collided_in, collided_with_none, numbered, pair, proof_for};
+use super::{THREE_PROOF, TWO_PROOF, collided_in, collided_with_none, proof_for};
+use crate::pairs::{numbered, pair};
 use linked_list_allocator::LocalHeap;
 use mst_key::{Key, Memory};
 use mst_node::is_map;
@@ -46,7 +47,7 @@ fn each_growth_is_refused(rt: HostRuntime) -> Result<(), Fail> {
             }
             Err(Memory) => {}
         }
-        assert_eq!(rt; heap.used(), 0, "nothing is kept");
+        assert!(rt; heap.used() == 0, "nothing is kept");
     }
     assert!(rt; false, "refused with ample memory");
     Ok(())

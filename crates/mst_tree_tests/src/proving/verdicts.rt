@@ -8,7 +8,7 @@ use std::test::Fail;
 fn compare(rt: &impl Abort, alloc: Global, rows: &[(&str, &str, &str, &str)]) -> Result<(), Fail> {
     for (root, key, proof, want) in rows {
         let verdict = verdict_in(alloc, root, key.as_bytes(), proof)?;
-        assert_eq!(rt; verdict.as_str(), *want, "{key} in {proof}");
+        assert!(rt; verdict.as_str() == *want, "{key} in {proof}");
     }
     Ok(())
 }
@@ -74,11 +74,11 @@ fn a_text_short_or_behind(rt: HostRuntime) -> Result<(), Fail> {
     let root = root_in(alloc, THREE)?;
     let mut proof = hex::decode(alloc, THREE_PROOF)?;
     proof.truncate(81);
-    assert_eq!(rt; proof.len(), 81);
+    assert!(rt; proof.len() == 81);
     proof[1] = 1;
     let alone = verdict(alloc, &root, b"39", proof.as_slice())?;
-    assert_eq!(rt; alone.as_str(), "present 79");
+    assert!(rt; alone.as_str() == "present 79");
     let short = verdict(alloc, &root, b"1", proof.as_slice())?;
-    assert_eq!(rt; short.as_str(), "P8");
+    assert!(rt; short.as_str() == "P8");
     Ok(())
 }

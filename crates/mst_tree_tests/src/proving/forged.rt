@@ -1,8 +1,8 @@
 //! Proofs that are cut, made longer, changed, or made of nodes that do not belong together.
 use super::{THREE, THREE_PROOF, root_in, verdict};
-use crate::{ProofFault, verify};
 use mst_key::Key;
 use mst_node::{digest, empty_digest};
+use mst_proof::{ProofFault, verify};
 use std::alloc::Global;
 use std::test::Fail;
 
@@ -12,7 +12,7 @@ fn each_byte_counts(rt: HostRuntime) -> Result<(), Fail> {
     let root = root_in(alloc, THREE)?;
     let key = Key::new(b"1")?;
     let proof = hex::decode(alloc, THREE_PROOF)?;
-    assert_eq!(rt; proof.len(), 95);
+    assert!(rt; proof.len() == 95);
     for i in 0..proof.len() {
         match verify(&root, &key, &proof.as_slice()[..i]) {
             Err(ProofFault::CutShort) => {}
@@ -60,15 +60,15 @@ fn nodes_out_of_place(rt: HostRuntime) -> Result<(), Fail> {
     // the child has the layer of the node above
     let top =
         "01000001017dfdf041db1f9c4de0e5e646a376510cfb7c4e47760ef8f74cb3181b74c061e60161017a00";
-    assert_eq!(rt; forged(alloc, b"1", &[top, left])?.as_str(), "P6");
+    assert!(rt; forged(alloc, b"1", &[top, left])?.as_str() == "P6");
     // the child's key lies behind the gap
     let top =
         "0101000101d2c0950048c47bae86f8557f6e7357048963954bbb6f1328ea6cc19d8898c5d8023339017900";
-    assert_eq!(rt; forged(alloc, b"1", &[top, right])?.as_str(), "P7");
+    assert!(rt; forged(alloc, b"1", &[top, right])?.as_str() == "P7");
     // the child's key lies before the gap
     let top =
         "01010001000233390179017dfdf041db1f9c4de0e5e646a376510cfb7c4e47760ef8f74cb3181b74c061e6";
-    assert_eq!(rt; forged(alloc, b"a", &[top, left])?.as_str(), "P7");
+    assert!(rt; forged(alloc, b"a", &[top, left])?.as_str() == "P7");
     Ok(())
 }
 
@@ -85,7 +85,7 @@ fn texts_of_no_node(rt: HostRuntime) -> Result<(), Fail> {
         "0100000100023339017900",
         "010000010203616263017800",
     ] {
-        assert_eq!(rt; forged(alloc, b"abc", &[text])?.as_str(), "P4", "{text}");
+        assert!(rt; forged(alloc, b"abc", &[text])?.as_str() == "P4", "{text}");
     }
     Ok(())
 }
