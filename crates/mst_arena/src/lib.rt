@@ -13,11 +13,7 @@ mod plain;
 mod row;
 mod rows;
 mod sweep;
-#[cfg(test)]
-mod tests;
 mod words;
-#[cfg(test)]
-mod words_tests;
 
 pub use desk::{Desk, VersionsSpent};
 pub use laws::{life_laws, standing_laws, words_laws};

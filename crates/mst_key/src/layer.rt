@@ -44,35 +44,3 @@ fn zeros_of_digest(digest: &[u8; 32]) -> u8
     }
     zeros
 }
-
-#[cfg(test)]
-mod tests {
-    use super::*;
-    use std::test::Fail;
-
-    /// Layers by another SHA-256 (Python's hashlib).
-    #[test]
-    fn layers(rt: HostRuntime) -> Result<(), Fail> {
-        for (key, layer) in [
-            ("1", 0),
-            ("a", 0),
-            ("abc", 0),
-            ("0", 0),
-            ("hello", 0),
-            ("merkle search tree keys 32 bytes", 0),
-            ("39", 1),
-            ("49", 1),
-            ("286", 2),
-            ("671", 2),
-            ("886", 3),
-            ("1039", 3),
-            ("88484", 4),
-            ("172608", 4),
-            ("596138", 5),
-            ("665782", 7),
-        ] {
-            assert_eq!(rt; Key::new(key.as_bytes())?.layer(), layer, "{key}");
-        }
-        Ok(())
-    }
-}

@@ -10,8 +10,6 @@ mod laws;
 mod layer;
 mod memory;
 mod refusal;
-#[cfg(test)]
-mod tests;
 mod value;
 
 pub use format::Format;

@@ -29,6 +29,3 @@ pub use order::{ascending, is_map};
 pub use place::{Place, Span};
 pub use root::root_of;
 pub use texts::{push_child, push_counted, text};
-
-#[cfg(test)]
-mod tests;

@@ -27,8 +27,6 @@ mod putting;
 mod removal;
 mod removing;
 mod split;
-#[cfg(test)]
-mod tests;
 mod whole_tree;
 
 pub use faults::NoRoom;

@@ -16,6 +16,3 @@ pub use collision::{Pair, collide};
 pub use fault::ProofFault;
 pub use laws::trail_by_spans;
 pub use verifier::verify;
-
-#[cfg(test)]
-mod tests;

@@ -1,0 +1,13 @@
+use Rattle.mst_arena.specs.Standing.{numbers}
+use Rattle.mst_row_tests.proofs.Publishing.{changes_of, ready_after}
+use Rattle.mst_row_tests.proofs.standing.StandingMap.put.Goals as goal
+
+pub invariant_of-self-2 : goal.invariant_of-self-2
+invariant_of-self-2 c =
+    let places = c.self.inside.rows in
+    let s = c.self.inside.desk in
+    let one = c.self.invariant.stands in
+    let e = c.in-Ok.ensures in
+    let new = e.stands one.0 one.1 in
+    let change = changes_of s c.put.new.desk (numbers one.1) (numbers new) (e.taken one.0 _ one.1 new) (e.killed one.0 _ one.1 new) (e.others one.0 _ one.1 new) one.2 e.versions in
+    ready_after places c.put.new.rows s c.put.new.desk c.publish.new.desk c.in-Ok.done.0 _ new change c.publish.ensures.published c.self.invariant.within e.blank

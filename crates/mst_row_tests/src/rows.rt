@@ -1,0 +1,199 @@
+//! What no clause says: worked rows, printed text, and each growth refused in turn.
+use linked_list_allocator::LocalHeap;
+use mst_arena::{Desk, HeadLinks, PlainRows, Row, Rows, VersionsSpent};
+use mst_key::{Key, Memory, Value};
+use std::alloc::Global;
+use std::process::Abort;
+use std::test::Fail;
+
+const HEAD: Row = Row::Head {
+    layer: 64,
+    count: 65_534,
+    first: 65_535,
+    tail: 0,
+    digest: [0xd1; 32],
+};
+
+#[test]
+fn plain_rows_are_read_as_written(rt: HostRuntime) -> Result<(), Fail> {
+    let (Ok(key), Ok(value)) = (Key::new(&[0x6b; 32]), Value::new(&[0x76; 64])) else {
+        panic!(rt; "sizes")
+    };
+    let row = Row::Entry {
+        child: 65_535,
+        next: 0,
+        key,
+        value,
+    };
+    let Ok(mut rows) = PlainRows::new(rt.alloc(), 2) else {
+        panic!(rt; "no memory")
+    };
+    rows.write(1, &HEAD);
+    rows.write(0, &row);
+    let links = rows.entry(0);
+    assert!(rt; (links.child, links.next) == (65_535, 0));
+    assert!(rt; links.key.bytes() == [0x6b; 32].as_slice());
+    assert!(rt; rows.value(0).bytes() == [0x76; 64].as_slice());
+    let head = HeadLinks {
+        layer: 64,
+        count: 65_534,
+        first: 65_535,
+        tail: 0,
+    };
+    assert!(rt; rows.head(1) == head);
+    assert!(rt; rows.digest(1) == [0xd1; 32]);
+    assert!(rt; rows.read(1) == HEAD);
+    assert!(rt; rows.read(0) == row);
+    // rows at their limits come back from their words
+    assert!(rt; Row::read(&HEAD.words()) == Some(HEAD));
+    assert!(rt; Row::read(&row.words()) == Some(row));
+    Ok(())
+}
+
+/// Rows that are read and written whole. Their parts come from the default bodies.
+#[derive(Drop)]
+struct WholeRows {
+    rows: PlainRows<Global>,
+}
+
+impl Rows for WholeRows {
+    ghost use Rattle.std.specs.Prelude.{length, nat_lt};
+    ghost use Rattle.mst_arena.specs.Content.{listed};
+
+    ghost content = { λ whole. listed whole.rows };
+
+    ghost blank = { λ whole row. nat_lt row (length whole.rows) };
+
+    fn read(&mut self, row: u32) -> Row {
+        self.rows.read(row)
+    }
+
+    fn write(&mut self, row: u32, value: &Row) {
+        self.rows.write(row, value);
+    }
+}
+
+#[test]
+fn parts_by_default_are_those_of_the_row(rt: HostRuntime) -> Result<(), Fail> {
+    let (Ok(key), Ok(value)) = (Key::new(b"ab"), Value::new(b"xyz")) else {
+        panic!(rt; "sizes")
+    };
+    let Ok(rows) = PlainRows::new(rt.alloc(), 1) else {
+        panic!(rt; "no memory")
+    };
+    let mut rows = WholeRows { rows };
+    rows.write(0, &HEAD);
+    let head = rows.head(0);
+    assert!(rt; (head.layer, head.count) == (64, 65_534));
+    assert!(rt; (head.first, head.tail) == (65_535, 0));
+    assert!(rt; rows.digest(0) == [0xd1; 32]);
+    let row = Row::Entry {
+        child: 7,
+        next: 9,
+        key,
+        value,
+    };
+    rows.write(0, &row);
+    let links = rows.entry(0);
+    assert!(rt; (links.child, links.next) == (7, 9));
+    assert!(rt; links.key.bytes() == b"ab".as_slice());
+    assert!(rt; rows.value(0).bytes() == b"xyz".as_slice());
+    Ok(())
+}
+
+// The worked rows of the desk: two rows that die between two pins, one after the other.
+#[test]
+fn rows_between_two_live_versions_stay(rt: HostRuntime) -> Result<(), Fail> {
+    let Ok(mut desk) = Desk::new(rt.alloc(), 4, 3, 0) else {
+        panic!(rt; "no memory")
+    };
+    let (Some(a), Some(b)) = (desk.take(), desk.take()) else {
+        panic!(rt; "four rows")
+    };
+    assert!(rt; (a, b) == (0, 1), "side by side, upwards");
+    desk.advance(1);
+    assert!(rt; desk.version_of(1) == 1);
+    desk.kill(a);
+    let c = desk.take();
+    assert!(rt; c == Some(2));
+    desk.advance(2);
+    assert!(rt; desk.free() == 1);
+    // in any order, and more of them than the desk has records
+    desk.sweep(&[1, 2]);
+    assert!(rt; desk.free() == 1);
+    desk.sweep(&[2, 1]);
+    assert!(rt; desk.free() == 1);
+    desk.sweep(&[9, 2, 8, 1, 7]);
+    assert!(rt; desk.free() == 1);
+    desk.sweep(&[2]);
+    assert!(rt; desk.free() == 2);
+    desk.kill(b);
+    desk.advance(0);
+    for (live, free) in [([1], 2), ([2], 2), ([3], 3)] {
+        desk.sweep(&live);
+        assert!(rt; desk.free() == free, "{live:?}");
+    }
+    assert!(rt; desk.current() == (0, 3));
+    Ok(())
+}
+
+#[test]
+fn versions_at_the_limit(rt: HostRuntime) -> Result<(), Fail> {
+    for (first, next) in [
+        (9_223_372_036_854_775_807, Err(VersionsSpent)),
+        (9_223_372_036_854_775_806, Ok(9_223_372_036_854_775_807)),
+    ] {
+        let Ok(desk) = Desk::new(rt.alloc(), 4, 3, first) else {
+            panic!(rt; "no memory")
+        };
+        assert!(rt; desk.next_version() == next, "{first}");
+    }
+    let text = format!(in rt.alloc(); "{}", VersionsSpent)?;
+    assert!(rt; text.as_str() == "version numbers are spent");
+    Ok(())
+}
+
+// Whether a desk of 100 rows is made in a heap of so many bytes. If not, nothing of it is kept.
+fn desk_fits<R: Abort + AllocGlobal>(rt: &R, bytes: usize) -> bool {
+    let Ok(heap) = LocalHeap::new(rt.alloc(), bytes) else {
+        panic!(rt; "no memory")
+    };
+    match Desk::new(&heap, 100, 3, 0) {
+        Ok(_) => true,
+        Err(Memory) => {
+            assert!(rt; heap.used() == 0);
+            false
+        }
+    }
+}
+
+// Whether three plain rows are made in a heap of so many bytes.
+fn rows_fit<R: Abort + AllocGlobal>(rt: &R, bytes: usize) -> bool {
+    let Ok(heap) = LocalHeap::new(rt.alloc(), bytes) else {
+        panic!(rt; "no memory")
+    };
+    match PlainRows::new(&heap, 3) {
+        Ok(_) => true,
+        Err(Memory) => {
+            assert!(rt; heap.used() == 0);
+            false
+        }
+    }
+}
+
+#[test]
+fn each_growth_is_refused_in_turn(rt: HostRuntime) {
+    // a desk of 100 rows takes 24 bytes a row for lives and 8 for lists, and less than 200 bytes beside
+    let mut refused = 0u32;
+    for step in 1..300usize {
+        if !desk_fits(&rt, step * 16) {
+            assert!(rt;
+                refused as usize == step - 1,
+                "once made, a larger heap serves too"
+            );
+            refused = step as u32;
+        }
+    }
+    assert!(rt; 200 <= refused && refused < 299);
+    assert!(rt; !rows_fit(&rt, 64) && rows_fit(&rt, 1024));
+}

@@ -1,0 +1,134 @@
+//! A map that stands in plain rows, and is read and changed.
+ghost use Rattle.std.specs.Prelude.{◌≡◌, ◌≤◌, ◌<◌, length};
+ghost use Rattle.mst_arena.specs.Lives.{next, last_version};
+ghost use Rattle.mst_row_tests.specs.Ready.{IsPublished};
+
+use mst_arena::{Desk, PlainRows, Root};
+use mst_key::{Key, Memory, Value};
+use mst_node::{build, is_map};
+use mst_path::{NoRoom, plant, put, remove};
+use std::alloc::{Allocator, Global};
+use std::marker::Model;
+use std::process::Abort;
+use std::test::Fail;
+
+/// A map in rows. Each change is published at once, and then no earlier version is live.
+#[derive(Drop)]
+pub struct StandingMap {
+    rows: PlainRows<Global>,
+    desk: Desk<Global>,
+    root: Root,
+}
+
+/// Contracts see the rows, the desk and the root.
+impl Model for StandingMap {
+    ghost use Rattle.std.specs.Prelude.{List, Option};
+    ghost use Rattle.mst_arena.specs.Lives.{State};
+    ghost use Rattle.mst_arena.specs.declared.row.Root.{Root};
+    ghost use Rattle.mst_arena.specs.declared.row.Row.{Row};
+    ghost use Rattle.mst_row_tests.specs.Ready.{IsReady};
+
+    ghost Value = { List (Option Row) × State × Root };
+
+    ghost view = { λ p. (p.rows, p.desk, p.root) };
+
+    ghost invariant = { λ p. IsReady p.rows p.desk p.root };
+}
+
+/// Makes the version to come the current one, and frees the rows that it does not reach.
+fn publish(desk: &mut Desk<Global>)
+    requires records { length desk.old.versions ≡ 2 }
+    requires current { desk.old.current < 2 }
+    requires more { next desk.old ≤ last_version }
+    ensures published { IsPublished desk.old desk.new }
+{
+    let (record, _) = desk.current();
+    let other = 1 - record;
+    desk.advance(other);
+    let version = desk.version_of(other);
+    desk.sweep(&[version]);
+}
+
+impl StandingMap {
+    /// The map of these pairs, planted in so many rows.
+    pub fn new(
+        rt: &impl Abort,
+        alloc: Global,
+        pairs: &[(Key, Value)],
+        size: u32,
+    ) -> Result<StandingMap, Fail> {
+        assert!(rt; is_map(pairs));
+        assert!(rt; pairs.len() <= 65_535);
+        assert!(rt; 0 < size && size <= 65_535);
+        let tree = build(alloc, pairs)?;
+        let mut desk = Desk::new(alloc, size, 2, 0)?;
+        let mut rows = PlainRows::new(alloc, size)?;
+        let root = plant(&mut rows, &mut desk, tree.as_deref())?;
+        publish(&mut desk);
+        Ok(StandingMap { rows, desk, root })
+    }
+
+    /// How many rows are free.
+    pub fn free(&self) -> u32 {
+        self.desk.free()
+    }
+
+    /// Puts a pair, and answers the value that the key had.
+    pub fn put(&mut self, key: &Key, value: &Value) -> Result<Result<Option<Value>, NoRoom>, Fail> {
+        self.desk.next_version()?;
+        let (root, old) = match put(&mut self.rows, &mut self.desk, &self.root, key, value) {
+            Ok(done) => done,
+            Err(refused) => return Ok(Err(refused)),
+        };
+        self.root = root;
+        publish(&mut self.desk);
+        Ok(Ok(old))
+    }
+
+    /// Removes a key, and answers the value that it had.
+    pub fn remove(&mut self, key: &Key) -> Result<Result<Option<Value>, NoRoom>, Fail> {
+        self.desk.next_version()?;
+        let (root, old) = match remove(&mut self.rows, &mut self.desk, &self.root, key) {
+            Ok(done) => done,
+            Err(refused) => return Ok(Err(refused)),
+        };
+        self.root = root;
+        publish(&mut self.desk);
+        Ok(Ok(old))
+    }
+
+    /// The value of a key.
+    pub fn get(&mut self, key: &Key) -> Option<Value> {
+        mst_read::get(&mut self.rows, &self.root, key)
+    }
+
+    /// The pair of the next key.
+    pub fn next(&mut self, after: Option<&Key>) -> Option<(Key, Value)> {
+        mst_read::next(&mut self.rows, &self.root, after)
+    }
+
+    /// The pairs between two bounds, so many at most.
+    pub fn range<A: Allocator>(
+        &mut self,
+        alloc: A,
+        from: Option<&Key>,
+        to: Option<&Key>,
+        limit: usize,
+    ) -> Result<Vec<(Key, Value), A>, Memory> {
+        mst_read::range(alloc, &mut self.rows, &self.root, from, to, limit)
+    }
+
+    /// The proof for a key.
+    pub fn prove<A: Allocator + Copy>(
+        &mut self,
+        alloc: A,
+        key: &Key,
+    ) -> Result<Vec<u8, A>, Memory> {
+        mst_read::prove(alloc, &mut self.rows, &self.root, key)
+    }
+
+    /// The root digest.
+    pub fn root(&mut self) -> [u8; 32] {
+        mst_read::root(&mut self.rows, &self.root)
+    }
+}
