@@ -61,3 +61,60 @@ returns-in_ok-put_digits-in-Bytes-clause-err g c = let found = c.in-Bytes.bytes.
     map_err c.put-in-Bytes.result c.put-in-Bytes.ensures.err (λ broke.
     subst (λ (l : List ℕ). Breaks g.W.Sink.takes c.args.sink.now c.args.pending.now l c.put-in-Bytes.new.sink) (sym all)
     (puts_breaks g.W.Sink.takes g.met.W.Sink.takes_more c.args.sink.now c.put_digits.new.sink c.put-in-Bytes.new.sink c.args.pending.now c.put_digits.new.pending (encode_lower c.as_slice-in-Bytes.result.now) c.as_slice-in-Bytes-2.result.now c.in_ok-put_digits-in-Bytes.ensures.ok broke))
+
+pub as_slice-requires : goal.as_slice-requires
+as_slice-requires g c = search rules
+
+pub put-requires : goal.put-requires
+put-requires g c = search rules
+
+pub returns-in_err-put-in-Pairs-clause-ok : goal.returns-in_err-put-in-Pairs-clause-ok
+returns-in_err-put-in-Pairs-clause-ok g c = search rules
+
+pub returns-in_err-put-in-Pairs-clause-steady : goal.returns-in_err-put-in-Pairs-clause-steady
+returns-in_err-put-in-Pairs-clause-steady g c = search rules
+
+pub returns-in_err-put-in-Pairs-clause-failed : goal.returns-in_err-put-in-Pairs-clause-failed
+returns-in_err-put-in-Pairs-clause-failed g c = search rules
+
+pub put_pairs-requires : goal.put_pairs-requires
+put_pairs-requires g c = search rules
+
+pub put_digits-requires : goal.put_digits-requires
+put_digits-requires g c = search rules
+
+pub returns-in_err-put_digits-in-Bytes-clause-ok : goal.returns-in_err-put_digits-in-Bytes-clause-ok
+returns-in_err-put_digits-in-Bytes-clause-ok g c = search rules
+
+pub returns-in_err-put_digits-in-Bytes-clause-steady : goal.returns-in_err-put_digits-in-Bytes-clause-steady
+returns-in_err-put_digits-in-Bytes-clause-steady g c = search rules
+
+pub returns-in_err-put_digits-in-Bytes-clause-failed : goal.returns-in_err-put_digits-in-Bytes-clause-failed
+returns-in_err-put_digits-in-Bytes-clause-failed g c = search rules
+
+pub as_slice-requires-in-Bytes-2 : goal.as_slice-requires-in-Bytes-2
+as_slice-requires-in-Bytes-2 g c = search rules
+
+pub put-requires-in-Bytes : goal.put-requires-in-Bytes
+put-requires-in-Bytes g c = search rules
+
+pub as_slice-requires-in_default : goal.as_slice-requires-in_default
+as_slice-requires-in_default g c = search rules
+
+pub put-requires-in_default : goal.put-requires-in_default
+put-requires-in_default g c = search rules
+
+pub returns-in_ok-put-in-Pairs-clause-steady : goal.returns-in_ok-put-in-Pairs-clause-steady
+returns-in_ok-put-in-Pairs-clause-steady g c = search rules
+
+pub returns-in_ok-put-in-Pairs-clause-failed : goal.returns-in_ok-put-in-Pairs-clause-failed
+returns-in_ok-put-in-Pairs-clause-failed g c = search rules
+
+pub returns-in_ok-put_digits-in-Bytes-clause-steady : goal.returns-in_ok-put_digits-in-Bytes-clause-steady
+returns-in_ok-put_digits-in-Bytes-clause-steady g c = search rules
+
+pub returns-in_ok-put_digits-in-Bytes-clause-failed : goal.returns-in_ok-put_digits-in-Bytes-clause-failed
+returns-in_ok-put_digits-in-Bytes-clause-failed g c = search rules
+
+pub returns-in_default : goal.returns-in_default
+returns-in_default g c = search rules

@@ -1,3 +1,4 @@
+use Rattle.std.proofs.lemmas.Grind.{common_steps}
 use Rattle.std.proofs.Common.{refl, ◌≡◌, ◌+◌, ◌++◌, ℕ, List, take, drop, sym, ap, ◌∙◌, subst, rules, arith, length}
 use Rattle.hex.specs.Hex.{encode_lower}
 use Rattle.mst_devices.specs.Device.{Puts, Breaks}
@@ -29,3 +30,45 @@ loop-at-preserved g c = let at = c.loop-at.at in let bytes = c.args.bytes.now in
       puts = subst (λ (l : List ℕ). Puts takes c.args.sink.now c.args.pending.now l c.put.new.sink c.put.new.self) (ap (λ (l : List ℕ). encode_lower (take at bytes) ++ l) is ∙ sym (digits_more bytes at n))
           (puts_then takes g.met.W.Sink.takes_more c.args.sink.now c.loop-at.sink c.put.new.sink c.args.pending.now c.loop-at.pending c.put.new.self (encode_lower (take at bytes)) c.as_slice.result.now c.loop-at.invariant.puts c.in_ok-put.ensures.ok);
     }
+
+pub split_at-requires : goal.split_at-requires
+split_at-requires g c = search rules
+
+pub split_at-requires-in-loop-at : goal.split_at-requires-in-loop-at
+split_at-requires-in-loop-at g c = search rules
+
+pub piece_digits-requires : goal.piece_digits-requires
+piece_digits-requires g c = search rules
+
+pub as_slice-requires : goal.as_slice-requires
+as_slice-requires g c = search rules
+
+pub put-requires : goal.put-requires
+put-requires g c = search rules
+
+pub returns-in_err-put-clause-ok : goal.returns-in_err-put-clause-ok
+returns-in_err-put-clause-ok g c = search rules
+
+pub returns-in_err-put-clause-steady : goal.returns-in_err-put-clause-steady
+returns-in_err-put-clause-steady g c = search rules
+
+pub returns-in_err-put-clause-failed : goal.returns-in_err-put-clause-failed
+returns-in_err-put-clause-failed g c = search rules
+
+pub overflow_add-at : goal.overflow_add-at
+overflow_add-at g c = search rules
+
+pub loop-at-smaller : goal.loop-at-smaller
+loop-at-smaller g c = search rules
+
+pub returns-clause-ok : goal.returns-clause-ok
+returns-clause-ok g c = grind (arith, common_steps)
+
+pub returns-clause-steady : goal.returns-clause-steady
+returns-clause-steady g c = search rules
+
+pub returns-clause-err : goal.returns-clause-err
+returns-clause-err g c = search rules
+
+pub returns-clause-failed : goal.returns-clause-failed
+returns-clause-failed g c = search rules

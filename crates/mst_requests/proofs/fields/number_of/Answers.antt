@@ -1,3 +1,4 @@
+use Rattle.std.proofs.lemmas.Grind.{common_steps}
 use Rattle.std.proofs.Common.{◌≡◌, ◌+◌, ◌-◌, ◌*◌, get_or, drop, sym, ◌∙◌, arith, true, rules}
 use Rattle.std.specs.Char.{is_ascii_digit}
 use Rattle.mst_requests.proofs.Numbers.{too_much, one_digit}
@@ -20,3 +21,24 @@ loop-digit-preserved c =
       small = omega arith;
       same = c.loop-digit.invariant.same ∙ one_digit c.args.most c.loop-digit.number next i digits c.loop-digit-test.true is_digit is;
     }
+
+pub loop-digit-init : goal.loop-digit-init
+loop-digit-init c = search rules
+
+pub returns-then-not-is_ascii_digit : goal.returns-then-not-is_ascii_digit
+returns-then-not-is_ascii_digit c = grind (arith, common_steps)
+
+pub overflow_mul-number : goal.overflow_mul-number
+overflow_mul-number c = search rules
+
+pub overflow_sub-digit : goal.overflow_sub-digit
+overflow_sub-digit c = search rules
+
+pub overflow_add-number : goal.overflow_add-number
+overflow_add-number c = search rules
+
+pub overflow_cast-result : goal.overflow_cast-result
+overflow_cast-result c = search rules
+
+pub returns : goal.returns
+returns c = grind (arith, common_steps)
