@@ -28,3 +28,123 @@ returns-in-Help-clause-root g c = search (rules, help_root)
 
 pub returns-in-Help-clause-key : goal.returns-in-Help-clause-key
 returns-in-Help-clause-key g c = search (rules, help_key)
+
+pub run_script-requires-clause-source : goal.run_script-requires-clause-source
+run_script-requires-clause-source g c = search rules
+
+pub run_script-requires-clause-out : goal.run_script-requires-clause-out
+run_script-requires-clause-out g c = search rules
+
+pub run_verify-requires-text-root : goal.run_verify-requires-text-root
+run_verify-requires-text-root g c = search rules
+
+pub run_verify-requires-text-key : goal.run_verify-requires-text-key
+run_verify-requires-text-key g c = search rules
+
+pub run_verify-requires-clause-source : goal.run_verify-requires-clause-source
+run_verify-requires-clause-source g c = search rules
+
+pub run_verify-requires-clause-out : goal.run_verify-requires-clause-out
+run_verify-requires-clause-out g c = search rules
+
+pub run_replay-requires-clause-source : goal.run_replay-requires-clause-source
+run_replay-requires-clause-source g c = search rules
+
+pub run_replay-requires-clause-out : goal.run_replay-requires-clause-out
+run_replay-requires-clause-out g c = search rules
+
+pub show-requires : goal.show-requires
+show-requires g c = search rules
+
+pub returns-in-Run-clause-did : goal.returns-in-Run-clause-did
+returns-in-Run-clause-did g c = search rules
+
+pub returns-in-Run-clause-steady : goal.returns-in-Run-clause-steady
+returns-in-Run-clause-steady g c = search rules
+
+pub returns-in-Run-clause-device : goal.returns-in-Run-clause-device
+returns-in-Run-clause-device g c = search rules
+
+pub returns-in-Run-clause-unread : goal.returns-in-Run-clause-unread
+returns-in-Run-clause-unread g c = search rules
+
+pub returns-in-Run-clause-untouched : goal.returns-in-Run-clause-untouched
+returns-in-Run-clause-untouched g c = search rules
+
+pub returns-in-Run-clause-unwritten : goal.returns-in-Run-clause-unwritten
+returns-in-Run-clause-unwritten g c = search rules
+
+pub returns-in-Run-clause-shape : goal.returns-in-Run-clause-shape
+returns-in-Run-clause-shape g c = search rules
+
+pub returns-in-Run-clause-ends : goal.returns-in-Run-clause-ends
+returns-in-Run-clause-ends g c = search rules
+
+pub returns-in-Verify-clause-did : goal.returns-in-Verify-clause-did
+returns-in-Verify-clause-did g c = search rules
+
+pub returns-in-Verify-clause-steady : goal.returns-in-Verify-clause-steady
+returns-in-Verify-clause-steady g c = search rules
+
+pub returns-in-Verify-clause-device : goal.returns-in-Verify-clause-device
+returns-in-Verify-clause-device g c = search rules
+
+pub returns-in-Verify-clause-unread : goal.returns-in-Verify-clause-unread
+returns-in-Verify-clause-unread g c = search rules
+
+pub returns-in-Verify-clause-untouched : goal.returns-in-Verify-clause-untouched
+returns-in-Verify-clause-untouched g c = search rules
+
+pub returns-in-Verify-clause-unwritten : goal.returns-in-Verify-clause-unwritten
+returns-in-Verify-clause-unwritten g c = search rules
+
+pub returns-in-Verify-clause-root : goal.returns-in-Verify-clause-root
+returns-in-Verify-clause-root g c = search rules
+
+pub returns-in-Verify-clause-key : goal.returns-in-Verify-clause-key
+returns-in-Verify-clause-key g c = search rules
+
+pub returns-in-Verify-clause-ends : goal.returns-in-Verify-clause-ends
+returns-in-Verify-clause-ends g c = search rules
+
+pub returns-in-Replay-clause-did : goal.returns-in-Replay-clause-did
+returns-in-Replay-clause-did g c = search rules
+
+pub returns-in-Replay-clause-steady : goal.returns-in-Replay-clause-steady
+returns-in-Replay-clause-steady g c = search rules
+
+pub returns-in-Replay-clause-device : goal.returns-in-Replay-clause-device
+returns-in-Replay-clause-device g c = search rules
+
+pub returns-in-Replay-clause-unread : goal.returns-in-Replay-clause-unread
+returns-in-Replay-clause-unread g c = search rules
+
+pub returns-in-Replay-clause-untouched : goal.returns-in-Replay-clause-untouched
+returns-in-Replay-clause-untouched g c = search rules
+
+pub returns-in-Replay-clause-unwritten : goal.returns-in-Replay-clause-unwritten
+returns-in-Replay-clause-unwritten g c = search rules
+
+pub returns-in-Replay-clause-ends : goal.returns-in-Replay-clause-ends
+returns-in-Replay-clause-ends g c = search rules
+
+pub returns-in-Help-clause-did : goal.returns-in-Help-clause-did
+returns-in-Help-clause-did g c = search rules
+
+pub returns-in-Help-clause-steady : goal.returns-in-Help-clause-steady
+returns-in-Help-clause-steady g c = search rules
+
+pub returns-in-Help-clause-device : goal.returns-in-Help-clause-device
+returns-in-Help-clause-device g c = search rules
+
+pub returns-in-Help-clause-unread : goal.returns-in-Help-clause-unread
+returns-in-Help-clause-unread g c = search rules
+
+pub returns-in-Help-clause-untouched : goal.returns-in-Help-clause-untouched
+returns-in-Help-clause-untouched g c = search rules
+
+pub returns-in-Help-clause-unwritten : goal.returns-in-Help-clause-unwritten
+returns-in-Help-clause-unwritten g c = search rules
+
+pub returns-in-Help-clause-ends : goal.returns-in-Help-clause-ends
+returns-in-Help-clause-ends g c = search rules
