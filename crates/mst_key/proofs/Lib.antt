@@ -5,3 +5,5 @@ pub mod Splits
 pub mod HistoryLaws
 pub mod Worked
 pub mod Ascending
+pub mod SpanLaws
+pub mod Layers

@@ -1,11 +1,13 @@
-//! Laws of the definitions that the contracts cite: the order of keys, maps and histories.
+//! Laws of the definitions that the contracts cite: the order of keys, maps, histories and layers.
 //!
 //! The functions here do nothing. Each clause is a proved law, by which a reader can judge the definitions of `specs/`.
-ghost use Rattle.std.specs.Prelude.{◌≡◌, ◌≢◌, ◌↔◌, ◌⊎◌, ◌<◌, ℕ, List, [], ◌∷◌, ◌++◌, Some, None, Contains};
+ghost use Rattle.std.specs.Prelude.{◌≡◌, ◌≢◌, ◌↔◌, ◌⊎◌, ◌<◌, ◌≤◌, ℕ, List, [], ◌∷◌, ◌++◌, Option, Some, None, IfSome, Contains, length};
 ghost use Rattle.std.specs.Cmp.{IsTotalOrder};
 ghost use Rattle.std.specs.declared.cmp.Ordering.TheVariants.{Less, Equal};
 ghost use Rattle.mst_key.specs.Bytes.{IsKey, IsValue};
-ghost use Rattle.mst_key.specs.Map.{Pair, key_cmp, AllBelow, AllAbove, IsMap, look, put, remove};
+ghost use Rattle.mst_key.specs.Map.{Pair, key_cmp, AllBelow, AllAbove, IsMap, look, put, remove, successor, span};
+ghost use Rattle.mst_key.specs.Layer.{layer_in};
+ghost use Rattle.mst_key.specs.declared.format.Format.TheVariants.{One, Two};
 ghost use Rattle.mst_key.specs.declared.history.Event.{Event};
 ghost use Rattle.mst_key.specs.History.{History, changed, key_of, value_of, after, events_of, Begins, LeavesAlone, IsPossible};
 
@@ -69,4 +71,35 @@ pub fn history_laws()
     // a history between two that have the same events of a pass has them too
     ensures events_between { (pass : ℕ) (mine f g h : History) → Begins f g → Begins g h
         → events_of pass f ≡ mine → events_of pass h ≡ mine → events_of pass g ≡ mine }
+{}
+
+/// The pair of the least key above a bound, and the first pairs between two bounds. A bound that is not there does not bind.
+pub fn range_laws()
+    // the next pair stands in the map, above the bound, and before each other pair above it
+    ensures next_above { (m : List Pair) (bound : Option (List ℕ)) (p : Pair) → successor m bound ≡ Some p
+        → Contains m p × IfSome bound (λ b. key_cmp b p.0 ≡ Less) }
+    ensures next_least { (m : List Pair) (bound : Option (List ℕ)) (p q : Pair) → IsMap m → successor m bound ≡ Some p
+        → Contains m q → IfSome bound (λ b. key_cmp b q.0 ≡ Less) → (q ≡ p) ⊎ (key_cmp p.0 q.0 ≡ Less) }
+    // where there is none, no pair stands above the bound
+    ensures next_none { (m : List Pair) (bound : Option (List ℕ)) (q : Pair) → successor m bound ≡ None
+        → Contains m q → IfSome bound (λ b. key_cmp b q.0 ≡ Less) → ⊥ }
+    // a span has pairs of the map in their order, at least `from`, below `to`, and no more than the limit
+    ensures span_within { (m : List Pair) (from to : Option (List ℕ)) (limit : ℕ) (p : Pair) → Contains (span m from to limit) p
+        → Contains m p × IfSome from (λ b. key_cmp p.0 b ≢ Less) × IfSome to (λ b. key_cmp p.0 b ≡ Less) }
+    ensures span_is_map { (m : List Pair) (from to : Option (List ℕ)) (limit : ℕ) → IsMap m → IsMap (span m from to limit) }
+    ensures span_limit { (m : List Pair) (from to : Option (List ℕ)) (limit : ℕ) → length (span m from to limit) ≤ limit }
+    // each such pair is in it, or it is full of lesser ones
+    ensures span_first { (m : List Pair) (from to : Option (List ℕ)) (limit : ℕ) (q : Pair) → IsMap m → Contains m q
+        → IfSome from (λ b. key_cmp q.0 b ≢ Less) → IfSome to (λ b. key_cmp q.0 b ≡ Less)
+        → Contains (span m from to limit) q ⊎ ((length (span m from to limit) ≡ limit) × AllBelow (span m from to limit) q.0) }
+{}
+
+/// The layers of three keys in both formats: of `8`, whose SHA-256 begins with the bytes 2c 62, of `4l`, with 02 7c, and of `05f`, with 00 04 0c.
+pub fn layer_examples()
+    ensures one_of_8 { layer_in One (56 ∷ []) ≡ 0 }
+    ensures two_of_8 { layer_in Two (56 ∷ []) ≡ 1 }
+    ensures one_of_4l { layer_in One (52 ∷ 108 ∷ []) ≡ 1 }
+    ensures two_of_4l { layer_in Two (52 ∷ 108 ∷ []) ≡ 3 }
+    ensures one_of_05f { layer_in One (48 ∷ 53 ∷ 102 ∷ []) ≡ 3 }
+    ensures two_of_05f { layer_in Two (48 ∷ 53 ∷ 102 ∷ []) ≡ 6 }
 {}

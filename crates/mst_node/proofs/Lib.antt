@@ -15,3 +15,5 @@ pub mod Lying
 pub mod Frames
 pub mod Spelt
 pub mod Worked
+pub mod Under
+mod Empty

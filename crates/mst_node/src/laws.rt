@@ -1,14 +1,16 @@
 //! Laws of the definitions, each proved as the contract of a function that does nothing.
-ghost use Rattle.std.specs.Prelude.{◌≡◌, ◌<◌, ◌≤◌, List, [], length, None};
+ghost use Rattle.std.specs.Prelude.{◌≡◌, ◌≢◌, ◌<◌, ◌≤◌, ◌↔◌, ℕ, List, [], ◌∷◌, length, None, Some, Contains};
 ghost use Rattle.std.specs.List.{AllByRecursion};
 ghost use Rattle.mst_key.specs.Bytes.{IsBytes};
 ghost use Rattle.mst_key.specs.Layer.{layer_in};
 ghost use Rattle.mst_key.specs.Map.{Pair, IsMap, IsAscending};
 ghost use Rattle.mst_key.specs.declared.format.Format.{Format};
-ghost use Rattle.mst_node.specs.Tree.{Tree, empty, node, layers, greatest, entries_of, tree, pairs, IsMst};
+ghost use Rattle.mst_node.specs.Collision.{HasCollision};
+ghost use Rattle.mst_node.specs.Reading.{node_at};
+ghost use Rattle.mst_node.specs.Tree.{Tree, empty, node, Entries, layers, greatest, entries_of, tree, pairs, nodes_below, IsMst};
 ghost use Rattle.mst_node.specs.Gaps.{LayersFall, LiesBetween};
-ghost use Rattle.mst_node.specs.Text.{FlatNode, spelling, text};
-ghost use Rattle.mst_node.specs.Grammar.{IsFlatNode, InGrammar};
+ghost use Rattle.mst_node.specs.Text.{FlatNode, spelling, text, digest_of};
+ghost use Rattle.mst_node.specs.Grammar.{IsFlatNode, InGrammar, KeysFit};
 
 /// The tree by its equations: that of no pairs is empty; that of others is a node of their greatest layer, whose entries are the pairs of that layer, and in each gap stands the tree of the pairs there.
 pub fn tree_by_gaps()
@@ -30,6 +32,9 @@ pub fn one_tree()
 pub fn order_of_tree()
     ensures layers { (format : Format) (m : List Pair) → LayersFall (tree format m) }
     ensures gaps { (format : Format) (m : List Pair) → IsAscending m → LiesBetween None None (tree format m) }
+    // where layers fall, each node below another, however far, has a lesser layer
+    ensures below { (format other : Format) (l k : ℕ) (es below : Entries) → LayersFall (node format l es)
+        → Contains (nodes_below es) (node other k below) → k < l }
 {}
 
 /// A text spells one flat node. The text of each node of the tree of a map is in the grammar, so it is read.
@@ -38,4 +43,19 @@ pub fn one_text()
     // Every subtree of a map's tree is such a tree.
     ensures in_grammar { (format : Format) (t : Tree) → IsMst format t → IsMap (pairs t) → AllByRecursion (λ p. IsBytes p.0 × IsBytes p.1) (pairs t)
         → 0 < length (pairs t) → length (pairs t) ≤ 65535 → InGrammar format (text t) }
+{}
+
+/// A text is read as the flat node that it spells, if its keys fit, and as none exactly where it is not in the grammar of the format.
+pub fn text_by_grammar()
+    ensures found { (format : Format) (text : List ℕ) (n : FlatNode) → IsBytes text
+        → ((node_at format text ≡ Some n) × KeysFit n) ↔ ((n.format ≡ format) × IsFlatNode n × (text ≡ spelling n)) }
+    ensures nothing { (format : Format) (text : List ℕ) → IsBytes text
+        → ((n : FlatNode) → node_at format text ≡ Some n → KeysFit n → ⊥) ↔ (InGrammar format text → ⊥) }
+{}
+
+/// Texts have a collision exactly where two of them differ and have one SHA-256. A text alone has none.
+pub fn collision_of_two()
+    ensures two { (texts : List (List ℕ)) → HasCollision texts
+        ↔ ((one : List ℕ) × (other : List ℕ) × Contains texts one × Contains texts other × (one ≢ other) × (digest_of one ≡ digest_of other)) }
+    ensures alone { (text : List ℕ) → HasCollision (text ∷ []) → ⊥ }
 {}

@@ -22,7 +22,9 @@ pub use flat::Flat;
 pub use framing::top_text;
 pub use grammar::{NodeFault, read_text};
 pub use hashing::{digest, empty_digest, feed_child, feed_counted};
-pub use laws::{one_text, one_tree, order_of_tree, tree_by_gaps};
+pub use laws::{
+    collision_of_two, one_text, one_tree, order_of_tree, text_by_grammar, tree_by_gaps,
+};
 pub use making::build;
 pub use node::{Entry, Node};
 pub use order::{ascending, is_map};

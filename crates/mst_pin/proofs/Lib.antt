@@ -2,6 +2,7 @@ pub mod Bits
 pub mod Cores
 pub mod Masks
 pub mod Options
+pub mod Pinned
 pub mod Rows
 pub mod Runs
 pub mod Sound

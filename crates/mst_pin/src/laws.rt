@@ -1,7 +1,10 @@
-//! Two laws of the core, over every list of events. Each function does nothing: its contract is the
-//! law.
+//! Laws of the core, over every list of events. Each function does nothing: its contract is the law.
 
-ghost use Rattle.mst_pin.specs.Laws.{WritesAreBlank, SomeRecordIsFree};
+ghost use Rattle.std.specs.Prelude.{◌≡◌, ◌⊎◌, ℕ, true, false, None, Some};
+ghost use Rattle.mst_pin.specs.Laws.{WritesAreBlank, SomeRecordIsFree, FromPinOn, WhilePinned};
+ghost use Rattle.mst_pin.specs.State.{State, IsRow, IsTaken, AreUsable, Steps, row_set};
+ghost use Rattle.mst_pin.specs.declared.event.Event.TheVariants.{Write};
+ghost use Rattle.mst_pin.specs.declared.event.Answer.TheVariants.{Done};
 
 /// A write that is taken is of a row that no current and no pinned record has, whatever events
 /// came before.
@@ -13,4 +16,25 @@ pub fn writes_are_blank()
 /// came before: a pass has at most one pin, and there are two records more than passes.
 pub fn some_record_is_free()
     ensures { SomeRecordIsFree }
+{}
+
+/// From a pin to its unpin the record keeps its rows and none of them is written, whatever other
+/// events come between. It holds from each state, and at each point on the way.
+pub fn pinned_rows_stay()
+    // the pass pins the record that was current, and no other
+    ensures pinned { FromPinOn (λ p r s u. (r ≡ s.current) × (u.pins p ≡ Some r)) }
+    ensures rows { FromPinOn (λ p r s u. (x : ℕ) → u.rows r x ≡ s.rows r x) }
+    ensures unwritten { FromPinOn (λ p r s u. (x : ℕ) (v : State) → Steps u (Write x) Done v → s.rows r x ≡ false) }
+    // a row of the record that a later version left out comes back into no version
+    ensures lost { WhilePinned (λ r s t. (x : ℕ) → s.rows r x ≡ true → s.rows s.current x ≡ false → t.rows t.current x ≡ false) }
+{}
+
+/// A row that the current record has not, and no pinned one, may be written where no transfer waits.
+/// Such rows and those of the current record may be published.
+pub fn other_rows_are_free()
+    ensures write { (s : State) (x : ℕ) → IsRow x → s.due ≡ None → s.rows s.current x ≡ false
+        → ((p r : ℕ) → s.pins p ≡ Some r → s.rows r x ≡ false) → IsTaken s (Write x) }
+    ensures publish { (s : State) (rows : ℕ)
+        → ((x : ℕ) → row_set rows x ≡ true → (s.rows s.current x ≡ true) ⊎ IsTaken s (Write x))
+        → AreUsable s (row_set rows) }
 {}

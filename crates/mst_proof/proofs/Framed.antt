@@ -110,7 +110,7 @@ text_again text rest small =
     let size : from_be_bytes w32 (to_be_bytes w32 (length text)) ≡ length text = from_be_bytes-to_be_bytes_4 (length text) small in
     rw size (part_again (length text) text rest refl)
 
-texts_again : (ts : List (List ℕ)) (rest : List ℕ) → AllByRecursion (λ t. length t < 2 ^ 32) ts → texts_at (length ts) (framed ts ++ rest) ≡ Some (ts, rest)
+pub texts_again : (ts : List (List ℕ)) (rest : List ℕ) → AllByRecursion (λ t. length t < 2 ^ 32) ts → texts_at (length ts) (framed ts ++ rest) ≡ Some (ts, rest)
 unfolding texts_at
 texts_again [] rest small = refl
 texts_again (t ∷ ts) rest small =

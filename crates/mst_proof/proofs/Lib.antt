@@ -13,3 +13,4 @@ pub mod Walks
 pub mod Stepwise
 pub mod Nodewise
 pub mod Around
+pub mod Faults

@@ -75,12 +75,12 @@ located k (e ∷ es) rising =
 
 -- ---- the same of a node
 
-held_place : (k : List ℕ) (span : Span) (n : FlatNode) (before : List FlatEntry) (e : FlatEntry) (behind : List FlatEntry) → IsFlatNode n → n.entries ≡ before ++ e ∷ behind → e.key ≡ k → place_of k span n ≡ Held e.held
+pub held_place : (k : List ℕ) (span : Span) (n : FlatNode) (before : List FlatEntry) (e : FlatEntry) (behind : List FlatEntry) → IsFlatNode n → n.entries ≡ before ++ e ∷ behind → e.key ≡ k → place_of k span n ≡ Held e.held
 held_place k span n before e behind flat is key =
     ap (λ (es : List FlatEntry). place_among k span.low span.high es n.tail) is
     ∙ held_among k span.low span.high before e behind n.tail (subst (λ (es : List FlatEntry). IsAscending (flat_pairs es)) is flat.keys.rising) key
 
-gap_place : (k : List ℕ) (span : Span) (n : FlatNode) (before behind : List FlatEntry) → IsInGap n k before behind → place_of k span n ≡ Gap (gap_child behind n.tail) (record { low = gap_low span.low before; high = gap_high behind span.high })
+pub gap_place : (k : List ℕ) (span : Span) (n : FlatNode) (before behind : List FlatEntry) → IsInGap n k before behind → place_of k span n ≡ Gap (gap_child behind n.tail) (record { low = gap_low span.low before; high = gap_high behind span.high })
 gap_place k span n before behind g =
     ap (λ (es : List FlatEntry). place_among k span.low span.high es n.tail) g.entries ∙ gap_among k span.low span.high before behind n.tail g.lesser g.greater
 

@@ -1,5 +1,5 @@
 -- The verifier's theorem: the proof that a map gives is accepted with the map's answer, and where another answer is accepted for the map's root there is a collision.
-use Rattle.std.proofs.Common.{◌≡◌, ◌≢◌, ℕ, suc, ◌<◌, ◌≤◌, List, [], ◌∷◌, ◌++◌, length, map, Option, Some, None, ◌⊎◌, inl, inr, refl, sym, ◌∙◌, ap, subst, arith}
+use Rattle.std.proofs.Common.{◌≡◌, ◌≢◌, ℕ, suc, ◌<◌, List, [], ◌∷◌, ◌++◌, length, map, Option, Some, None, ◌⊎◌, inl, inr, refl, sym, ◌∙◌, ap, subst, arith}
 use Rattle.std.specs.List.{Contains}
 use Rattle.std.proofs.lemmas.List.{length-map}
 use Rattle.std.proofs.lemmas.List.Elements.{Contains-append_left, Contains-append_right}
@@ -26,7 +26,7 @@ use Rattle.mst_proof.proofs.Complete.{complete}
 small_tree : (m : List Pair) (d : List ℕ) → HasRoot m d → IsSmall (tree One m)
 small_tree m d has =
     let same = sym (pairs_tree One m) in
-    record { mst = tree_mst One m; map = subst IsMap same has.map; few = subst (λ (n : ℕ). n ≤ 65535) (ap length same) has.few }
+    record { mst = tree_mst One m; map = subst IsMap same has.map; few = omega (arith, ap length same, has.few) }
 
 -- ---- the map's proof
 

@@ -4,3 +4,4 @@ pub mod Accepted
 pub mod Theorem
 pub mod Beside
 pub mod Spans
+pub mod Faults

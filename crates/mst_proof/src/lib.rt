@@ -14,5 +14,7 @@ mod verifier;
 
 pub use collision::{Pair, collide};
 pub use fault::ProofFault;
-pub use laws::trail_by_spans;
+pub use laws::{
+    collisions_among, each_map_has_its_root, faults_in_order, texts_by_grammar, trail_by_spans,
+};
 pub use verifier::verify;
