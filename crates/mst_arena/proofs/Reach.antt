@@ -1,5 +1,5 @@
 -- What the desk's changes do to the versions that reach a row.
-use Rattle.std.proofs.Common.{◌≡◌, ℕ, zero, suc, ◌<◌, ◌≤◌, Bool, true, false, cond, List, [], ◌∷◌, map, Some, refl, sym, ◌∙◌, ap, arith}
+use Rattle.std.proofs.Common.{◌≡◌, ◌≢◌, ℕ, zero, suc, ◌<◌, ◌≤◌, Bool, true, false, cond, List, [], ◌∷◌, map, Some, refl, sym, ◌∙◌, ap, arith}
 use Rattle.std.specs.Prelude.{slice_get, slice_set, nat_le, nat_lt, ◌&&◌, ◌==◌}
 use Rattle.std.specs.List.{list_any}
 use Rattle.std.proofs.lemmas.Bool.Decides.{nat_tests}
@@ -55,3 +55,29 @@ died b d v le = go (nat_le b v) (nat_lt v d) refl
     go s true e = grind (arith, nat_tests)
     go true false e = refl
     go false false e = refl
+
+-- ---- who reaches a row that was born
+
+pub born_on : (b v : ℕ) → b ≤ v → reaches_life (Born b) v ≡ true
+born_on b v le = grind (arith, nat_tests)
+
+pub dead_from : (b d v : ℕ) → b ≤ v → v < d → reaches_life (Dead b d) v ≡ true
+dead_from b d v le lt = dies_later b d v lt ∙ born_on b v le
+
+-- the row that was changed, and another one
+pub reach_set : (lives : List Life) (row : ℕ) (x y : Life) (v : ℕ) → slice_get lives row ≡ Some x → reaches (slice_set lives row y) v row ≡ reaches_life y v
+reach_set [] row x y v at = absurd (cc)
+reach_set (l ∷ ls) zero x y v at = refl
+reach_set (l ∷ ls) (suc row) x y v at = reach_set ls row x y v at
+
+pub reach_else : (lives : List Life) (other row : ℕ) (life : Life) (v : ℕ) → other ≢ row → reaches (slice_set lives other life) v row ≡ reaches lives v row
+reach_else [] other row life v not = refl
+reach_else (l ∷ ls) zero zero life v not = absurd (not refl)
+reach_else (l ∷ ls) zero (suc row) life v not = refl
+reach_else (l ∷ ls) (suc other) zero life v not = refl
+reach_else (l ∷ ls) (suc other) (suc row) life v not = reach_else ls other row life v (λ e. not (ap suc e))
+
+pub reach_swept : (live : List ℕ) (lives : List Life) (row b v : ℕ) → slice_get lives row ≡ Some (Born b) → reaches (map (swept live) lives) v row ≡ reaches_life (Born b) v
+reach_swept live [] row b v at = absurd (cc)
+reach_swept live (l ∷ ls) zero b v at = let e : l ≡ Born b = cc in ap (λ (z : Life). reaches_life (swept live z) v) e
+reach_swept live (l ∷ ls) (suc row) b v at = reach_swept live ls row b v at

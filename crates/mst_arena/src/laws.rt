@@ -44,6 +44,17 @@ pub fn life_laws()
     // a row that was killed for the version to come is reached by no later version
     ensures dead { (lives : List Life) (row b next v : ℕ) → slice_get lives row ≡ Some (Dead b next)
         → next ≤ v → reaches lives v row ≡ false }
+    // a row that is taken is reached by the version to come, and by each after it
+    ensures taken { (lives : List Life) (row next v : ℕ) → slice_get lives row ≡ Some Free → next ≤ v
+        → reaches (slice_set lives row (Born next)) v row ≡ true }
+    // until it is killed: then still by each version from its own up to the one that is to come
+    ensures killed { (lives : List Life) (row b next v : ℕ) → slice_get lives row ≡ Some (Born b) → b ≤ v → v < next
+        → reaches (slice_set lives row (Dead b next)) v row ≡ true }
+    // what is done to other rows, and a sweep, leave a row as it was
+    ensures others { (lives : List Life) (row other v : ℕ) (life : Life) → other ≢ row
+        → reaches (slice_set lives other life) v row ≡ reaches lives v row }
+    ensures lasts { (lives : List Life) (live : List ℕ) (row b v : ℕ) → slice_get lives row ≡ Some (Born b) → b ≤ v
+        → reaches (map (swept live) lives) v row ≡ true }
 {}
 
 /// What stands at a root is one map, in one placing; it stays as long as its rows do, and it is put together from its parts.

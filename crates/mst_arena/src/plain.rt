@@ -13,14 +13,17 @@ pub struct PlainRows<A: Allocator> {
     places: Vec<Option<Row>, A>,
 }
 
-/// Contracts see the list of the places, each with its row or with none.
+/// Contracts see the list of the places, each with its row, which is within its limits, or with none.
 impl<A: Allocator> Model for PlainRows<A> {
-    ghost use Rattle.std.specs.Prelude.{List, Option};
+    ghost use Rattle.std.specs.Prelude.{List, Option, All, IfSome};
     ghost use Rattle.mst_arena.specs.declared.row.Row.{Row};
+    ghost use Rattle.mst_arena.specs.Row.{IsRow};
 
     ghost Value = { List (Option Row) };
 
     ghost view = { λ p. p.places.items };
+
+    ghost invariant = { λ p. All (λ place. IfSome place IsRow) p.places.items };
 }
 
 impl<A: Allocator> PlainRows<A> {
@@ -49,6 +52,8 @@ impl<A: Allocator> Rows for PlainRows<A> {
     ghost content = { listed };
 
     ghost blank = { λ places row. nat_lt row (length places) };
+
+    ghost kept = { λ _. tt };
 
     fn read(&mut self, row: u32) -> Row {
         match &self.places[row as usize] {

@@ -1,6 +1,6 @@
 //! Rows that a holder may read and write.
 ghost use Rattle.std.specs.Prelude.{◌≡◌, IsTrue, IsSome, Some};
-ghost use Rattle.mst_arena.specs.Row.{IsRow, head_links, head_digest, entry_links, entry_value};
+ghost use Rattle.mst_arena.specs.Row.{IsRow, IsHead, head_links, head_digest, entry_links, entry_value};
 ghost use Rattle.mst_arena.specs.Content.{part_at, Writes};
 
 use crate::row::{EntryLinks, HeadLinks, Row};
@@ -8,7 +8,7 @@ use mst_key::Value;
 
 /// Rows that the holder may read, and blank rows that it may write.
 ///
-/// The content has a row at each number that the holder may read. Reading changes nothing; a write changes the content at the row that is written and nowhere else. Beside whole rows the parts of them can be read, so that an implementation loads no more words than a search needs: the default bodies read the whole row.
+/// The content has a row at each number that the holder may read. Reading changes nothing; a write changes the content at the row that is written and nowhere else, and what the holder is beside its rows stays. Beside whole rows the parts of them can be read, so that an implementation loads no more words than a search needs: the default bodies read the whole row.
 pub trait Rows {
     ghost use Rattle.std.specs.Prelude.{ℕ, Bool};
     ghost use Rattle.mst_arena.specs.Content.{Content};
@@ -19,10 +19,16 @@ pub trait Rows {
     // Whether a row is blank: the holder may write it.
     ghost blank: { Self → ℕ → Bool };
 
+    // What the holder is beside its rows: what a write leaves as it is.
+    ghost Kept: { Type 0 } = { Unit {0} };
+
+    ghost kept: { Self → Self.Kept };
+
     /// The row at this number.
     fn read(&mut self, row: u32) -> Row
         requires there { IsSome (content self.old row) }
         ensures value { content self.old row ≡ Some result }
+        ensures limits { IsRow result }
         ensures same { self.new ≡ self.old };
 
     /// Writes the row at this number, which is blank.
@@ -30,12 +36,14 @@ pub trait Rows {
         requires blank { IsTrue (blank self.old row) }
         requires limits { IsRow value.now }
         ensures writes { Writes (content self.old) (content self.new) row value.now }
-        ensures blank { blank self.new ≡ blank self.old };
+        ensures blank { blank self.new ≡ blank self.old }
+        ensures kept { kept self.new ≡ kept self.old };
 
     /// The layer, the count and the links of the head at this number.
     fn head(&mut self, row: u32) -> HeadLinks
         requires there { IsSome (part_at head_links (content self.old) row) }
         ensures value { part_at head_links (content self.old) row ≡ Some result }
+        ensures limits { IsHead result }
         ensures same { self.new ≡ self.old }
     {
         match self.read(row) {

@@ -84,10 +84,14 @@ pub fn look_again<A: Allocator>(
 /// Remembers the live versions of this sweep, in rising order. Where there is no room for them it remembers none, and answers that.
 fn remember<A: Allocator>(last: &mut Vec<u64, A>, live: &[u64]) -> bool
     ensures remembered { MatchBool result (IsPermutation live.now last.new.items × IsNonDecreasing last.new.items) (last.new.items ≡ []) }
+    ensures room { vec_capacity last.new ≡ vec_capacity last.old }
 {
     last.clear();
-    if live.len() > last.capacity() || last.extend_from_slice(live).is_err() {
+    if live.len() > last.capacity() {
         return false;
+    }
+    for version in live {
+        last.push_reserved(*version);
     }
     last.sort_unstable();
     true
@@ -145,6 +149,7 @@ pub fn sweep_dead<A: Allocator>(
         × (vec_capacity dead.new ≡ vec_capacity dead.old) × (vec_capacity held.new ≡ vec_capacity held.old))
         ⊎ (Lists is_dead lives.new dead.new.items × (held.new.items ≡ [])
         × (vec_capacity dead.new ≡ vec_capacity held.old) × (vec_capacity held.new ≡ vec_capacity dead.old)) }
+    ensures last_room { vec_capacity last.new ≡ vec_capacity last.old }
 {
     if remember(last, live) {
         free_unreached(lives, free, dead, held, last, true);

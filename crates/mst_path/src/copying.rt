@@ -62,6 +62,7 @@ pub(crate) fn move_entry<R: Rows, A: Allocator>(
     ensures moves { Moves desk.old desk.new (ahead writer.new.next) (row ∷ []) }
     ensures keeps { KeepsBut (ahead writer.old.next) (R.content rows.old) (R.content rows.new) }
     ensures blank { R.blank rows.new ≡ R.blank rows.old }
+    ensures kept { R.kept rows.new ≡ R.kept rows.old }
 {
     let value = rows.value(row);
     writer.entry(rows, desk, child, key, &value);
@@ -88,6 +89,7 @@ pub(crate) fn move_run<R: Rows, A: Allocator>(
         → (result ≡ k.behind) × Copied writer.old writer.new (R.content rows.old) (R.content rows.new) desk.old desk.new k.ws k.es }
     ensures node { (writer.new.layer ≡ writer.old.layer) × (writer.new.count ≡ writer.old.count) × (writer.new.left + count ≡ writer.old.left) × (writer.new.head ≡ writer.old.head) }
     ensures blank { R.blank rows.new ≡ R.blank rows.old }
+    ensures kept { R.kept rows.new ≡ R.kept rows.old }
     ensures next { IfSome writer.new.next (λ r. IsTrue (R.blank rows.new r)) }
 {
     let mut link = from;

@@ -68,6 +68,7 @@ fn fill<R: Rows, A: Allocator>(rows: &mut R, desk: &mut Desk<A>, frame: &Frame, 
         → Grown (R.content rows.old) (R.content rows.new) desk.old desk.new (tree_round f (tree_of One p)) result
         (λ x. times x (used p) + in_entries f x) (frame_rows frame.now) }
     ensures blank { R.blank rows.new ≡ R.blank rows.old }
+    ensures kept { R.kept rows.new ≡ R.kept rows.old }
 {
     if frame.front.count + frame.back.count == 0 {
         return *seam;
@@ -100,6 +101,7 @@ pub(crate) fn close<R: Rows, A: Allocator>(
         → Grown (R.content rows.old) (R.content rows.new) desk.old desk.new (tree_round f (tree_of One p)) result
         (λ x. times x (used p) + in_frame f x) (frame_rows frame.now) }
     ensures blank { R.blank rows.new ≡ R.blank rows.old }
+    ensures kept { R.kept rows.new ≡ R.kept rows.old }
 {
     let root = fill(rows, desk, frame, seam);
     kill_both(desk, frame.head, frame.other);

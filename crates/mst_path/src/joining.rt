@@ -34,6 +34,7 @@ pub(crate) fn join<R: Rows, A: Allocator>(
     ensures joined { (t : TwoTrees (R.content rows.old) desk.old left right)
         → Grown (R.content rows.old) (R.content rows.new) desk.old desk.new (both_joined t) result (in_both t) (both_rows t) }
     ensures blank { R.blank rows.new ≡ R.blank rows.old }
+    ensures kept { R.kept rows.new ≡ R.kept rows.old }
 {
     if left == 0 {
         return root_at(rows, right);

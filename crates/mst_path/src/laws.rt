@@ -10,9 +10,9 @@ ghost use Rattle.mst_arena.specs.declared.life.Life.TheVariants.{Free};
 ghost use Rattle.mst_arena.specs.declared.row.Root.{Root};
 ghost use Rattle.mst_arena.specs.Standing.{IsDistinct, Stands, numbers};
 ghost use Rattle.mst_path.specs.Moves.{In};
-ghost use Rattle.mst_path.specs.Changing.{AreOld, OnlyFreeWritten};
+ghost use Rattle.mst_path.specs.Changing.{AreOld, MapStands, OnlyFreeWritten};
 ghost use Rattle.mst_path.specs.Takes.{Takes, KeepsBut};
-ghost use Rattle.mst_path.specs.Planting.{node_count};
+ghost use Rattle.mst_path.specs.Planting.{IsTreeOf, node_count};
 ghost use Rattle.mst_path.specs.Reached.{ReachesExactly, TogetherReach, Changes, advanced, swept_by, IsSettled};
 ghost use Rattle.mst_path.specs.Versions.{HasMap, Kept, numbers_kept, AreNumbers, rows_kept, Keeps};
 
@@ -89,4 +89,15 @@ pub fn version_laws()
     ensures room { (content : Content) (s : State) (at : Root) (m : List Pair) → IsSettled s
         → HasMap content s.lives (version s) at m
         → free_count (swept_by (version s ∷ []) s).lives + (length m + node_count (tree One m)) ≡ length s.lives }
+{}
+
+/// What the calls and the laws ask for can be had.
+pub fn premises_can_be_met()
+    // each map of at most 65,535 pairs has its tree, which may be planted
+    ensures tree { (m : List Pair) → length m ≤ 65535 → IsTreeOf (tree One m) m }
+    // where no write is under way, the map of the current version stands and may be changed
+    ensures stands { (content : Content) (s : State) (at : Root) (m : List Pair) → IsSettled s
+        → HasMap content s.lives (version s) at m → MapStands content s at }
+    // the versions that are kept have a list of their numbers, and its parts may change places
+    ensures numbers { (kept : List Kept) (xs ys : List ℕ) → numbers_kept kept ≡ xs ++ ys → AreNumbers (ys ++ xs) kept }
 {}

@@ -31,7 +31,7 @@ mod whole_tree;
 
 pub use faults::NoRoom;
 pub use insertion::put;
-pub use laws::{reach_laws, version_laws};
+pub use laws::{premises_can_be_met, reach_laws, version_laws};
 pub use mst_arena::Root;
 pub use removal::remove;
 pub use whole_tree::plant;

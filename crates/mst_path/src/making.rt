@@ -71,6 +71,7 @@ pub(crate) fn make_node<R: Rows, A: Allocator>(
         (node One parts.now.layer (with_entries (cells_of p.front) (with_first (tree_of One p.seam) (entries_to p.back p.tail))))
         result (in_parts p) (parts.now.front.count + parts.now.back.count + 1) }
     ensures blank { R.blank rows.new ≡ R.blank rows.old }
+    ensures kept { R.kept rows.new ≡ R.kept rows.old }
 {
     let count = parts.front.count + parts.back.count;
     let mut writer = NodeWriter::begin(desk, parts.layer, count);
@@ -105,6 +106,7 @@ pub(crate) fn make_node_with<R: Rows, A: Allocator>(
         (node One parts.now.layer (with_entries (cells_of p.front) (entry (tree_of One c) key.now value.now (with_first (tree_of One p.seam) (entries_to p.back p.tail)))))
         result (λ x. in_parts p x + times x (used c)) (parts.now.front.count + parts.now.back.count + 2) }
     ensures blank { R.blank rows.new ≡ R.blank rows.old }
+    ensures kept { R.kept rows.new ≡ R.kept rows.old }
 {
     let count = parts.front.count + parts.back.count + 1;
     let mut writer = NodeWriter::begin(desk, parts.layer, count);
@@ -137,6 +139,7 @@ fn finish_node<R: Rows, A: Allocator>(
     ensures finished { (r : Rest writer (R.content rows.old) desk.old parts.now)
         → Finished writer (R.content rows.old) (R.content rows.new) desk.old desk.new parts.now r result }
     ensures blank { R.blank rows.new ≡ R.blank rows.old }
+    ensures kept { R.kept rows.new ≡ R.kept rows.old }
 {
     if parts.back.count == 0 {
         return writer.finish(rows, &parts.seam);
@@ -163,6 +166,7 @@ fn finish_with_back<R: Rows, A: Allocator>(
     ensures finished { (r : Rest writer (R.content rows.old) desk.old parts.now)
         → Finished writer (R.content rows.old) (R.content rows.new) desk.old desk.new parts.now r result }
     ensures blank { R.blank rows.new ≡ R.blank rows.old }
+    ensures kept { R.kept rows.new ≡ R.kept rows.old }
 {
     let row = parts.back.first - 1;
     let entry = rows.entry(row);

@@ -125,6 +125,7 @@ impl NodeWriter {
         ensures takes { Takes desk.old desk.new (ahead self.new.next) }
         ensures keeps { KeepsBut (ahead self.old.next) (R.content rows.old) (R.content rows.new) }
         ensures blank { R.blank rows.new ≡ R.blank rows.old }
+        ensures kept { R.kept rows.new ≡ R.kept rows.old }
     {
         let Some(row) = self.next else { unreachable!() };
         self.left -= 1;
@@ -160,6 +161,7 @@ impl NodeWriter {
             → HasRows (R.content rows.new) (rows_of One (head self.head self.layer (chain_of es p))) }
         ensures keeps { KeepsBut (self.head ∷ []) (R.content rows.old) (R.content rows.new) }
         ensures blank { R.blank rows.new ≡ R.blank rows.old }
+        ensures kept { R.kept rows.new ≡ R.kept rows.old }
     {
         feed_root(&mut self.hasher, tail);
         let digest = self.hasher.finalize();

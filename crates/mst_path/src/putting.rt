@@ -93,6 +93,7 @@ fn put_between<R: Rows, A: Allocator>(
         → Grown (R.content rows.old) (R.content rows.new) desk.old desk.new
         (node One layer (entry (tree_of One t.lower) key.now value.now (last (tree_of One t.upper)))) result (in_two t) 2 }
     ensures blank { R.blank rows.new ≡ R.blank rows.old }
+    ensures kept { R.kept rows.new ≡ R.kept rows.old }
 {
     let parts = Parts {
         layer,
@@ -122,6 +123,7 @@ fn put_on_top<R: Rows, A: Allocator>(
         (node One layer (entry (below key.now (tree_of One t.tree.placed)) key.now value.now (last (above key.now (tree_of One t.tree.placed)))))
         result (λ x. times x (used t.tree.placed)) (2 + split_rows key.now (tree_of One t.tree.placed)) }
     ensures blank { R.blank rows.new ≡ R.blank rows.old }
+    ensures kept { R.kept rows.new ≡ R.kept rows.old }
 {
     let (lower, upper) = split(rows, desk, link, key);
     put_between(rows, desk, layer, &lower, &upper, key, value)
@@ -146,6 +148,7 @@ fn close_with<R: Rows, A: Allocator>(
         → Grown (R.content rows.old) (R.content rows.new) desk.old desk.new
         (tree_with f key.now value.now (tree_of One t.lower) (tree_of One t.upper)) result (λ x. in_two t x + in_frame f x) (with_rows frame.now) }
     ensures blank { R.blank rows.new ≡ R.blank rows.old }
+    ensures kept { R.kept rows.new ≡ R.kept rows.old }
 {
     let parts = Parts {
         layer: frame.layer,
@@ -179,6 +182,7 @@ fn put_level<R: Rows, A: Allocator>(
         (tree_with f key.now value.now (below key.now (tree_of One t.tree.placed)) (above key.now (tree_of One t.tree.placed))) result
         (λ x. times x (used t.tree.placed) + in_frame f x) (split_rows key.now (tree_of One t.tree.placed) + with_rows frame.now) }
     ensures blank { R.blank rows.new ≡ R.blank rows.old }
+    ensures kept { R.kept rows.new ≡ R.kept rows.old }
 {
     let (lower, upper) = split(rows, desk, child, key);
     close_with(rows, desk, frame, &lower, &upper, key, value)
@@ -204,6 +208,7 @@ fn put_value<R: Rows, A: Allocator>(
         (tree_with f key.now value.now (tree_of One t.a) (tree_of One t.b)) result
         (λ x. in_both t x + in_frame f x) (with_rows meeting.now.frame) }
     ensures blank { R.blank rows.new ≡ R.blank rows.old }
+    ensures kept { R.kept rows.new ≡ R.kept rows.old }
 {
     let lower = root_at(rows, meeting.left);
     let upper = root_at(rows, meeting.right);
@@ -228,6 +233,7 @@ pub(crate) fn put_at<R: Rows, A: Allocator>(
         → Grown (R.content rows.old) (R.content rows.new) desk.old desk.new
         (with_pair t layer key.now value.now) result (in_rising t) (pair_rows t layer key.now value.now) }
     ensures blank { R.blank rows.new ≡ R.blank rows.old }
+    ensures kept { R.kept rows.new ≡ R.kept rows.old }
 {
     match put_step(rows, link, layer, key) {
         PutStep::OnTop => put_on_top(rows, desk, link, layer, key, value),

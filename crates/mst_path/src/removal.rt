@@ -48,6 +48,7 @@ pub fn remove<R: Rows, A: Allocator>(
     ensures absent { IfOk result (λ done. (m : List Pair) → Stands One (R.content rows.old) root.now m → look m key.now ≡ None
         → (done.0 ≡ root.now) × (desk.new ≡ desk.old) × (rows.new ≡ rows.old)) }
     ensures blank { R.blank rows.new ≡ R.blank rows.old }
+    ensures kept { R.kept rows.new ≡ R.kept rows.old }
     ensures no_room { IfErr result (λ _. (m : List Pair) → Stands One (R.content rows.old) root.now m
         → free_count desk.old.lives < cost One m (map.remove m key.now)) }
     ensures untouched { IfErr result (λ _. (desk.new ≡ desk.old) × (rows.new ≡ rows.old)) }

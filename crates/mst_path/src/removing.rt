@@ -102,6 +102,7 @@ fn join_round<R: Rows, A: Allocator>(rows: &mut R, desk: &mut Desk<A>, meeting: 
         → Grown (R.content rows.old) (R.content rows.new) desk.old desk.new (tree_round f (both_joined t)) result
         (λ x. in_both t x + in_frame f x) (both_rows t + frame_rows meeting.now.frame) }
     ensures blank { R.blank rows.new ≡ R.blank rows.old }
+    ensures kept { R.kept rows.new ≡ R.kept rows.old }
 {
     let seam = join(rows, desk, meeting.left, meeting.right);
     close(rows, desk, &meeting.frame, &seam)
@@ -120,6 +121,7 @@ pub(crate) fn remove_at<R: Rows, A: Allocator>(
     ensures removed { (t : SearchTree (R.content rows.old) desk.old link)
         → Grown (R.content rows.old) (R.content rows.new) desk.old desk.new (without t key.now) result (in_tree t) (without_rows t key.now) }
     ensures blank { R.blank rows.new ≡ R.blank rows.old }
+    ensures kept { R.kept rows.new ≡ R.kept rows.old }
 {
     if link == 0 {
         return root_at(rows, link);

@@ -48,6 +48,7 @@ pub(crate) fn side<R: Rows, A: Allocator>(rows: &mut R, desk: &mut Desk<A>, part
         → Grown (R.content rows.old) (R.content rows.new) desk.old desk.new
         (side_of p) result (in_parts p) (side_rows (parts.now.front.count + parts.now.back.count) false) }
     ensures blank { R.blank rows.new ≡ R.blank rows.old }
+    ensures kept { R.kept rows.new ≡ R.kept rows.old }
 {
     if parts.front.count + parts.back.count == 0 {
         return parts.seam;
@@ -72,6 +73,7 @@ pub(crate) fn both_sides<R: Rows, A: Allocator>(
         → Split (R.content rows.old) (R.content rows.new) desk.old desk.new (side_of b.lower) (side_of b.upper) result.0 result.1
         (in_both b) (side_rows (left.now.front.count + left.now.back.count) false + side_rows (right.now.front.count + right.now.back.count) false) }
     ensures blank { R.blank rows.new ≡ R.blank rows.old }
+    ensures kept { R.kept rows.new ≡ R.kept rows.old }
 {
     let lower = side(rows, desk, left);
     let upper = side(rows, desk, right);
@@ -98,6 +100,7 @@ pub(crate) fn split<R: Rows, A: Allocator>(
     ensures shared_above { (t : ToSplit (R.content rows.old) desk.old link key.now)
         → is_empty (below key.now (tree_of One t.tree.placed)) ≡ true → (rows.new ≡ rows.old) × (desk.new ≡ desk.old) }
     ensures blank { R.blank rows.new ≡ R.blank rows.old }
+    ensures kept { R.kept rows.new ≡ R.kept rows.old }
 {
     if link == 0 {
         return (nothing(), nothing());

@@ -55,6 +55,7 @@ fn plant_child<R: Rows, A: Allocator, B: Allocator>(
     requires blank { FreeIsBlank desk.old.lives (R.blank rows.old) }
     ensures planted { Planted desk.old desk.new (R.content rows.old) (R.content rows.new) (tree_of_child One child.now) result }
     ensures blank { R.blank rows.new ≡ R.blank rows.old }
+    ensures kept { R.kept rows.new ≡ R.kept rows.old }
 {
     match child {
         None => Root {
@@ -78,6 +79,7 @@ fn plant_node<R: Rows, A: Allocator, B: Allocator>(
     requires blank { FreeIsBlank desk.old.lives (R.blank rows.old) }
     ensures planted { Planted desk.old desk.new (R.content rows.old) (R.content rows.new) (tree_of One node.now) result }
     ensures blank { R.blank rows.new ≡ R.blank rows.old }
+    ensures kept { R.kept rows.new ≡ R.kept rows.old }
 {
     let mut writer = NodeWriter::begin(desk, node.layer, node.entries.len() as u32);
     for entry in &node.entries {
@@ -110,6 +112,7 @@ pub fn plant<R: Rows, A: Allocator, B: Allocator>(
     ensures count { IfOk result (λ _. (m : List Pair) → IsTreeOf (tree_at (option_copied tree.entry)) m
         → free_count desk.new.lives + (length m + node_count (tree_of_map One m)) ≡ free_count desk.old.lives) }
     ensures blank { R.blank rows.new ≡ R.blank rows.old }
+    ensures kept { R.kept rows.new ≡ R.kept rows.old }
     ensures no_room { IfErr result (λ _. (m : List Pair) → IsTreeOf (tree_at (option_copied tree.entry)) m
         → free_count desk.old.lives < length m + node_count (tree_of_map One m)) }
     ensures untouched { IfErr result (λ _. (desk.new ≡ desk.old) × (rows.new ≡ rows.old)) }

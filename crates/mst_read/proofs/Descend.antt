@@ -1,5 +1,6 @@
 -- A walk down from node to node.
-use Rattle.std.proofs.Common.{◌≡◌, ℕ, ◌+◌, ◌<◌, List, [], Option, Some, None, sym, ◌∙◌, ap, subst, arith}
+use Rattle.std.proofs.Common.{◌≡◌, ℕ, ◌+◌, ◌<◌, ◌≤◌, List, [], Option, Some, None, sym, ◌∙◌, ap, subst, arith}
+use Rattle.std.specs.Prelude.{IfSome}
 use Rattle.mst_key.specs.declared.format.Format.{Format}
 use Rattle.mst_key.specs.Map.{Pair, IsAscending}
 use Rattle.mst_node.specs.Tree.{Tree, pairs, entries_pairs, IsMst, IsMstEntries, IsUnder}
@@ -7,6 +8,7 @@ use Rattle.mst_node.proofs.Unique.{pairs_tree, tree_mst}
 use Rattle.mst_arena.specs.Content.{Content}
 use Rattle.mst_arena.specs.declared.row.Root.{Root}
 use Rattle.mst_arena.specs.declared.row.HeadLinks.{HeadLinks}
+use Rattle.mst_arena.specs.Row.{IsHead}
 use Rattle.mst_arena.specs.Standing.{Placed, none, head, Chain, tree_of, entries_of, first_of, tail_of, count_of, rows_of, HasRows, Stands}
 use Rattle.mst_read.specs.Search.{Lies, LiesBehind, TreeLies, head_of}
 
@@ -39,6 +41,11 @@ pub record Inside (format : Format) (content : Content) (links : HeadLinks) (P :
 abbrev pub depth : Option HeadLinks → ℕ
 depth None = 0
 depth (Some links) = links.layer + 1
+
+-- no layer is above 64
+pub depth_small : (top : Option HeadLinks) → IfSome top IsHead → depth top ≤ 65
+depth_small None is = omega arith
+depth_small (Some links) is = omega (arith, is.0)
 
 module _ (format : Format) (content : Content) where
   pub tree_lies : (link : ℕ) (P : List Pair → Type 0) → Ahead format content link P → TreeLies content link

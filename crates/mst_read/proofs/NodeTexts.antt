@@ -1,5 +1,5 @@
 -- The text of a node that is written from its rows.
-use Rattle.std.proofs.Common.{◌≡◌, ℕ, List, ◌∷◌, ◌++◌, length, refl, sym, ◌∙◌, ap, arith, append_assoc}
+use Rattle.std.proofs.Common.{◌≡◌, ◌+◌, ℕ, List, ◌∷◌, ◌++◌, length, length-append, refl, sym, ◌∙◌, ap, arith, append_assoc}
 use Rattle.std.specs.Int.{w16, to_be_bytes}
 use Rattle.std.specs.List.{flat_map}
 use Rattle.mst_key.specs.declared.format.Format.TheVariants.{One}
@@ -32,6 +32,11 @@ text_goes_on at p key value rest out next whole before is =
   where
     joined : (o a b v f t : List ℕ) → (((o ++ a) ++ b) ++ v) ++ (f ++ t) ≡ o ++ ((((a ++ b) ++ v) ++ f) ++ t)
     joined o a b v f t = simp append_assoc refl
+
+-- two strings, each behind its length
+pub counted_twice : (out next last x y : List ℕ) → next ≡ out ++ counted x → last ≡ next ++ counted y → length last ≡ length out + (1 + length x) + (1 + length y)
+counted_twice out next last x y first second =
+    omega (arith, ap (λ (l : List ℕ). length l) first, ap (λ (l : List ℕ). length l) second, length-append out (counted x), length-append next (counted y))
 
 pub text_ends : (p : Placed) (out last whole : List ℕ) → out ++ rest_text (end p) ≡ whole → last ≡ out ++ child_text (child_digest (tree_of One p)) → last ≡ whole
 text_ends p out last whole before is = is ∙ before

@@ -1,5 +1,5 @@
 -- The trail of a key along the rows of a tree.
-use Rattle.std.proofs.Common.{◌≡◌, ℕ, ◌+◌, ◌<◌, List, [], ◌∷◌, ◌++◌, length, map, Option, Some, None, refl, sym, ◌∙◌, ap, subst, arith, append_assoc}
+use Rattle.std.proofs.Common.{◌≡◌, ℕ, ◌+◌, ◌<◌, List, [], ◌∷◌, ◌++◌, length, map, Option, Some, None, refl, sym, ◌∙◌, ap, subst, arith, append_assoc, length-append}
 use Rattle.std.proofs.lemmas.List.{append-nil}
 use Rattle.std.specs.Int.{w32, to_be_bytes}
 use Rattle.std.specs.declared.cmp.Ordering.{Ordering}
@@ -57,6 +57,10 @@ in_gap content k l (cell at p key v c) rows mst =
     go Less further = record { rows = all-front _ (rows_of One p) (chain_rows One c) rows.1; mst = mst.1; under = mst.0; trail = refl }
     go Equal further = record { rows = tt; mst = tt; under = tt; trail = refl }
     go Greater further = further
+
+-- a text behind its length in four bytes
+pub framed_length : (texts next t : List ℕ) → next ≡ texts ++ (to_be_bytes w32 (length t) ++ t) → length next ≡ length texts + (4 + length t)
+framed_length texts next t is = omega (arith, ap (λ (l : List ℕ). length l) is, length-append texts (to_be_bytes w32 (length t) ++ t))
 
 -- ---- the walk down
 

@@ -5,12 +5,14 @@
 
 mod descent;
 mod following;
+mod laws;
 mod lookup;
 mod proving;
 mod ranges;
 mod roots;
 
 pub use following::next;
+pub use laws::each_map_may_be_read;
 pub use lookup::get;
 pub use proving::prove;
 pub use ranges::range;

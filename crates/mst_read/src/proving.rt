@@ -1,10 +1,11 @@
 //! The proof of a key's answer.
-ghost use Rattle.std.specs.Prelude.{◌≡◌, ◌++◌, List, length, OnOk, IfOk};
+ghost use Rattle.std.specs.Prelude.{◌≡◌, ◌≤◌, ◌<◌, ◌+◌, ◌^◌, ◌++◌, List, length, OnOk, IfOk, IfSome};
 ghost use Rattle.mst_key.specs.declared.format.Format.TheVariants.{One};
 ghost use Rattle.mst_key.specs.Map.{Pair};
 ghost use Rattle.mst_node.specs.Tree.{node};
 ghost use Rattle.mst_node.specs.Text.{child_digest, child_text, text};
 ghost use Rattle.mst_node.specs.Trail.{proof_text};
+ghost use Rattle.mst_arena.specs.Row.{IsHead};
 ghost use Rattle.mst_arena.specs.Standing.{Placed, Chain, Stands, tree_of, entries_of};
 ghost use Rattle.std.specs.Int.{w32, to_be_bytes};
 ghost use Rattle.mst_key.specs.declared.format.Format.{Format};
@@ -26,6 +27,7 @@ fn push_gap<R: Rows, A: Allocator>(
     requires lies { (p : Placed) × Lies One (R.content rows.old) link p }
     ensures ok { (p : Placed) → Lies One (R.content rows.old) link p
         → OnOk result (out.new.items ≡ out.old.items ++ child_text (child_digest (tree_of One p))) }
+    ensures short { OnOk result (length out.new.items ≤ length out.old.items + 33) }
     ensures same { rows.new ≡ rows.old }
 {
     let child = if link == 0 {
@@ -36,25 +38,23 @@ fn push_gap<R: Rows, A: Allocator>(
     push_child(out, child)
 }
 
-/// The text of the node behind the head.
+/// The text of the node behind the head: 37 bytes, and at most 131 for each entry.
 fn node_text<R: Rows, A: Allocator>(
     alloc: A,
     rows: &mut R,
     head: &HeadLinks,
 ) -> Result<Vec<u8, A>, Memory>
     requires lies { (c : Chain) × LiesBehind One (R.content rows.old) head.now c }
+    requires limits { IsHead head.now }
     ensures ok { (c : Chain) → LiesBehind One (R.content rows.old) head.now c
         → IfOk result (λ t. t.items ≡ text (node One head.now.layer (entries_of One c))) }
+    ensures short { IfOk result (λ t. length t.items ≤ 8584991) }
     ensures same { rows.new ≡ rows.old }
 {
-    // no head has more than 65,534 entries
-    let Ok(count) = u16::try_from(head.count) else {
-        return Err(Memory);
-    };
     let mut out = Vec::new(alloc);
     out.push(1)?;
     out.push(head.layer)?;
-    out.extend_from_slice(count.to_be_bytes().as_slice())?;
+    out.extend_from_slice((head.count as u16).to_be_bytes().as_slice())?;
     let mut link = head.first;
     for _ in 0..head.count {
         let row = link - 1;
@@ -69,15 +69,12 @@ fn node_text<R: Rows, A: Allocator>(
     Ok(out)
 }
 
-/// Appends a text behind its length in four bytes, the high one first.
+/// Appends a text, of fewer than 2^32 bytes, behind its length in four bytes, the high one first.
 fn push_framed<A: Allocator>(out: &mut Vec<u8, A>, text: &[u8]) -> Result<(), Memory>
+    requires short { length text.now < 2 ^ 32 }
     ensures ok { OnOk result (out.new.items ≡ out.old.items ++ (to_be_bytes w32 (length text.now) ++ text.now)) }
 {
-    // no text is longer than 65,534 entries make it
-    let Ok(size) = u32::try_from(text.len()) else {
-        return Err(Memory);
-    };
-    out.extend_from_slice(size.to_be_bytes().as_slice())?;
+    out.extend_from_slice((text.len() as u32).to_be_bytes().as_slice())?;
     out.extend_from_slice(text)?;
     Ok(())
 }
@@ -87,6 +84,7 @@ fn gap_met<R: Rows>(rows: &mut R, head: &HeadLinks, key: &Key) -> Option<HeadLin
     requires lies { ChainLies (R.content rows.old) head.now }
     ensures head { (f : Format) (c : Chain) → LiesBehind f (R.content rows.old) head.now c
         → result ≡ head_of (gap_placed key.now c) }
+    ensures limits { IfSome result IsHead }
     ensures same { rows.new ≡ rows.old }
 {
     match seek(rows, head, key) {
@@ -97,7 +95,7 @@ fn gap_met<R: Rows>(rows: &mut R, head: &HeadLinks, key: &Key) -> Option<HeadLin
 
 /// The proof of the map's answer for the key: the texts of the nodes that the search for the key meets, from the top down, each behind its length in four bytes, and in front of them the version 1 and their number.
 ///
-/// `Memory` comes only where a growth was refused, and changes nothing.
+/// The proof has fewer than 2^32 bytes. `Memory` comes only where a growth was refused, and changes nothing.
 ///
 /// It reads the nodes on the way to the key, at most 65: of each all entries with their values, and the digests of its children.
 pub fn prove<R: Rows, A: Allocator + Copy>(
@@ -109,6 +107,7 @@ pub fn prove<R: Rows, A: Allocator + Copy>(
     requires stands { (m : List Pair) × Stands One (R.content rows.old) root.now m }
     ensures proof { (m : List Pair) → Stands One (R.content rows.old) root.now m
         → IfOk result (λ proof. proof.items ≡ proof_text One m key.now) }
+    ensures short { IfOk result (λ proof. length proof.items < 2 ^ 32) }
     ensures same { rows.new ≡ rows.old }
 {
     let mut texts = Vec::new(alloc);
@@ -117,11 +116,7 @@ pub fn prove<R: Rows, A: Allocator + Copy>(
     while let Some(head) = top {
         let text = node_text(alloc, rows, &head)?;
         push_framed(&mut texts, text.as_slice())?;
-        // no way down is longer than 65 nodes
-        let Some(more) = count.checked_add(1) else {
-            return Err(Memory);
-        };
-        count = more;
+        count += 1;
         top = gap_met(rows, &head, key);
     }
     let mut proof = Vec::new(alloc);

@@ -7,6 +7,7 @@ use mst_key::{Key, Value};
 use mst_node::{build, root_of};
 use mst_path::{NoRoom, plant};
 use std::alloc::Global;
+use std::marker::Model;
 use std::process::Abort;
 use std::test::Fail;
 
@@ -16,10 +17,23 @@ struct OpenRows {
     places: Vec<Option<Row>>,
 }
 
+/// Contracts see the list of the places, each with its row, which is within its limits, or with none.
+impl Model for OpenRows {
+    ghost use Rattle.std.specs.Prelude.{List, Option, All, IfSome};
+    ghost use Rattle.mst_arena.specs.declared.row.Row.{Row};
+    ghost use Rattle.mst_arena.specs.Row.{IsRow};
+
+    ghost Value = { List (Option Row) };
+
+    ghost view = { λ rows. rows.places.items };
+
+    ghost invariant = { λ rows. All (λ place. IfSome place IsRow) rows.places.items };
+}
+
 impl OpenRows {
     /// So many rows, none of them written.
     fn new(alloc: Global, rows: u32) -> Result<OpenRows, Fail>
-        ensures size { IfOk result (λ r. length r.places.items ≡ rows) }
+        ensures size { IfOk result (λ r. length r ≡ rows) }
     {
         let mut places = Vec::new(alloc);
         for _ in 0..rows {
@@ -33,9 +47,11 @@ impl Rows for OpenRows {
     ghost use Rattle.std.specs.Prelude.{length, nat_lt};
     ghost use Rattle.mst_arena.specs.Content.{listed};
 
-    ghost content = { λ rows. listed rows.places.items };
+    ghost content = { listed };
 
-    ghost blank = { λ rows row. nat_lt row (length rows.places.items) };
+    ghost blank = { λ places row. nat_lt row (length places) };
+
+    ghost kept = { λ _. tt };
 
     fn read(&mut self, row: u32) -> Row {
         match &self.places[row as usize] {
@@ -50,7 +66,7 @@ impl Rows for OpenRows {
 }
 
 /// The first numbers in three bytes, each with its two low bytes as the value.
-fn numbered(alloc: Global, count: u32) -> Result<Vec<(Key, Value)>, Fail> {
+pub fn numbered(alloc: Global, count: u32) -> Result<Vec<(Key, Value)>, Fail> {
     let mut pairs = Vec::new(alloc);
     for i in 0..count {
         let bytes = i.to_be_bytes();

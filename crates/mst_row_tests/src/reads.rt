@@ -1,5 +1,6 @@
 //! Get, next, range and root of planted maps.
 mod proofs;
+mod sizes;
 
 use crate::standing::StandingMap;
 use linked_list_allocator::LocalHeap;

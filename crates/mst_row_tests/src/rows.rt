@@ -64,6 +64,8 @@ impl Rows for WholeRows {
 
     ghost blank = { λ whole row. nat_lt row (length whole.rows) };
 
+    ghost kept = { λ _. tt };
+
     fn read(&mut self, row: u32) -> Row {
         self.rows.read(row)
     }
@@ -159,7 +161,14 @@ fn desk_fits<R: Abort + AllocGlobal>(rt: &R, bytes: usize) -> bool {
         panic!(rt; "no memory")
     };
     match Desk::new(&heap, 100, 3, 0) {
-        Ok(_) => true,
+        Ok(mut desk) => {
+            // with more live versions than the desk has records, and no more
+            let used = heap.used();
+            desk.sweep(&[1, 2, 3, 4, 5]);
+            desk.sweep(&[3, 1]);
+            assert!(rt; heap.used() == used, "a sweep takes no memory");
+            true
+        }
         Err(Memory) => {
             assert!(rt; heap.used() == 0);
             false
@@ -196,4 +205,11 @@ fn each_growth_is_refused_in_turn(rt: HostRuntime) {
     }
     assert!(rt; 200 <= refused && refused < 299);
     assert!(rt; !rows_fit(&rt, 64) && rows_fit(&rt, 1024));
+}
+
+#[test]
+fn each_number_of_records(rt: HostRuntime) {
+    for records in 2..=34u32 {
+        assert!(rt; Desk::new(rt.alloc(), 100, records, 0).is_ok(), "{records}");
+    }
 }

@@ -1,5 +1,5 @@
 //! One line, asked of the passes of a store.
-ghost use Rattle.std.specs.Prelude.{◌≡◌, ◌<◌, length, slice_index_or};
+ghost use Rattle.std.specs.Prelude.{◌≡◌, ◌<◌, ◌^◌, length, slice_index_or};
 ghost use Rattle.std.specs.List.{Contains};
 ghost use Rattle.std.specs.Option.{option_copied};
 ghost use Rattle.mst_store.specs.Settling.{numbers};
@@ -109,12 +109,9 @@ fn ask_proof<A: Allocator + Copy, B: Allocator + Copy>(
 
 // The text of the top node, which stands first in each proof.
 fn top_of<A: Allocator>(alloc: A, proof: &[u8]) -> Answer<A>
+    requires short { length proof.now < 2 ^ 32 }
     ensures { Tops proof.now (text_of result) }
 {
-    // no proof is so long
-    if proof.len() > u32::MAX as usize {
-        return Answer::Memory;
-    }
     let Some(top) = top_text(proof) else {
         return Answer::NoNode;
     };

@@ -1,5 +1,5 @@
 //! The map in rows: what lies in the table's slot.
-ghost use Rattle.std.specs.Prelude.{◌≡◌, ◌<◌, ◌≤◌, [], length, IfOk, IfErr, OnOk, OnErr, ℕ};
+ghost use Rattle.std.specs.Prelude.{◌≡◌, ◌<◌, ◌≤◌, ◌^◌, [], length, IfOk, IfErr, OnOk, OnErr, ℕ};
 ghost use Rattle.std.specs.Option.{option_copied};
 ghost use Rattle.mst_key.specs.declared.format.Format.TheVariants.{One};
 ghost use Rattle.mst_key.specs.declared.history.Change.TheVariants.{Put, Remove};
@@ -117,6 +117,7 @@ impl<A: Allocator> MapRows<A> {
         requires stands { SomeStands self.old }
         ensures proof { (rows : ℕ) (log : History) → Stands self.old rows log
             → IfOk result (λ proof. proof.items ≡ proof_text One (after log) key.now) }
+        ensures short { IfOk result (λ proof. length proof.items < 2 ^ 32) }
         ensures same { self.new ≡ self.old }
     {
         mst_read::prove(alloc, &mut self.rows, &self.root, key)

@@ -1,5 +1,5 @@
 //! A pass: the calls that one thread makes.
-ghost use Rattle.std.specs.Prelude.{◌≡◌, Some, IfOk, IfErr, OnOk, OnErr, length};
+ghost use Rattle.std.specs.Prelude.{◌≡◌, ◌<◌, ◌^◌, Some, IfOk, IfErr, OnOk, OnErr, length};
 ghost use Rattle.mst_key.specs.declared.history.Change.TheVariants.{Put, Remove};
 ghost use Rattle.mst_key.specs.Map.{look, successor, span};
 ghost use Rattle.mst_key.specs.declared.format.Format.TheVariants.{One};
@@ -118,13 +118,14 @@ impl<'a, A: Allocator + Copy> Pass<'a, A> {
 
     /// The proof of the map's answer for the key, value or absence, against the root digest: the texts of the nodes that a search for the key meets, from the top down, each behind its length in four bytes, and in front of them the version 1 and their number.
     ///
-    /// `Busy` comes only where another pass has the turn, `Memory` where a growth was refused.
+    /// The proof has fewer than 2^32 bytes. `Busy` comes only where another pass has the turn, `Memory` where a growth was refused.
     pub fn prove<B: Allocator + Copy>(
         &mut self,
         alloc: B,
         key: &Key,
     ) -> Result<Vec<u8, B>, ReadFault>
         ensures ok { IfOk result (λ found. Answers (λ m. proof_text One m key.now) self.old found.items self.new) }
+        ensures short { IfOk result (λ found. length found.items < 2 ^ 32) }
         ensures err { IfErr result (λ fault. Misses fault self.old self.new) }
     {
         let Some(mut map) = take_map(self.board, &mut self.seat, self.number) else {

@@ -1,7 +1,7 @@
 use Rattle.std.proofs.Common.{sym, ◌∙◌, ap}
 use Rattle.mst_arena.specs.declared.life.Life.TheVariants.{Free, Born, Dead}
 use Rattle.mst_arena.specs.Lives.{reached_at}
-use Rattle.mst_arena.proofs.Reach.{same_set, same_sweep, born_later, dies_later, died}
+use Rattle.mst_arena.proofs.Reach.{same_set, same_sweep, born_later, dies_later, died, born_on, dead_from, reach_set, reach_else, reach_swept}
 use Rattle.mst_arena.proofs.laws.life_laws.Goals as goal
 
 pub returns-clause-take : goal.returns-clause-take
@@ -21,3 +21,15 @@ returns-clause-free c lives row v is = ap (λ o. reached_at o v) is
 
 pub returns-clause-dead : goal.returns-clause-dead
 returns-clause-dead c lives row b next v is later = ap (λ o. reached_at o v) is ∙ died b next v later
+
+pub returns-clause-taken : goal.returns-clause-taken
+returns-clause-taken c lives row next v is le = reach_set lives row Free (Born next) v is ∙ born_on next v le
+
+pub returns-clause-killed : goal.returns-clause-killed
+returns-clause-killed c lives row b next v is le lt = reach_set lives row (Born b) (Dead b next) v is ∙ dead_from b next v le lt
+
+pub returns-clause-others : goal.returns-clause-others
+returns-clause-others c lives row other v life not = reach_else lives other row life v not
+
+pub returns-clause-lasts : goal.returns-clause-lasts
+returns-clause-lasts c lives live row b v is le = reach_swept live lives row b v is ∙ born_on b v le

@@ -16,6 +16,7 @@ loop-init g c = record {
   room = c.requires.room;
   few = c.requires.few;
   same = refl;
+  kept = refl;
   next = c.requires.blank;
   free = c.requires.free;
   progress = λ k. starts _ _ _ _ _ k;
@@ -92,6 +93,7 @@ loop-preserved g c =
       room = omega (arith, moves.room, c.move_entry.ensures.node.2, c.loop.invariant.room, one_ahead c.move_entry.new.writer.next);
       few = omega (arith, moves.rows, c.loop.invariant.few);
       same = blank ∙ c.loop.invariant.same;
+      kept = c.move_entry.ensures.kept ∙ ap g.R.Rows.kept read ∙ c.loop.invariant.kept;
       next = subst (λ (b : ℕ → Bool). IfSome c.move_entry.new.writer.next (λ r. IsTrue (b r))) (sym blank)
           (blank_ahead c.move_entry.new.writer (g.R.Rows.blank c.loop.rows) (blank_taken c.loop.desk c.move_entry.new.desk (ahead c.move_entry.new.writer.next) _ moves (g.R.Rows.blank c.loop.rows) c.loop.invariant.free));
       free = subst (FreeIsBlank c.move_entry.new.desk.lives) (sym blank) (blank_free c.loop.desk c.move_entry.new.desk (ahead c.move_entry.new.writer.next) _ moves (g.R.Rows.blank c.loop.rows) c.loop.invariant.free);
@@ -130,6 +132,9 @@ returns-clause-node g c = (c.loop.invariant.node.0, c.loop.invariant.node.1, ome
 
 pub returns-clause-blank : goal.returns-clause-blank
 returns-clause-blank g c = c.loop.invariant.same
+
+pub returns-clause-kept : goal.returns-clause-kept
+returns-clause-kept g c = c.loop.invariant.kept
 
 pub returns-clause-next : goal.returns-clause-next
 returns-clause-next g c = c.loop.invariant.next

@@ -14,6 +14,7 @@ invariant-loop g l = record {
   room : l.writer.left ≤ free_count l.desk.lives + 1;
   few : length l.desk.lives ≤ 65535;
   same : g.R.Rows.blank l.rows ≡ g.R.Rows.blank l.fn.rows;
+  kept : g.R.Rows.kept l.rows ≡ g.R.Rows.kept l.fn.rows;
   next : IfSome l.writer.next (λ r. IsTrue (g.R.Rows.blank l.rows r));
   free : FreeIsBlank l.desk.lives (g.R.Rows.blank l.rows);
   progress : (k : Copying l.fn.writer (g.R.Rows.content l.fn.rows) l.fn.desk l.fn.from l.fn.count) → Progress l.fn.writer (g.R.Rows.content l.fn.rows) l.fn.desk l.fn.from l.fn.count k l.counter l.writer (g.R.Rows.content l.rows) l.desk l.link;

@@ -60,6 +60,7 @@ plant_node-loop-entry-init g t c =
       layer = made.node.0;
       left = omega (arith, made.node.2, c.len.ensures, (out-Node g.row.B.Denot c.args.node.now).entries.ok.0);
       blank = refl;
+      kept = refl;
       so_far = record { es = []; is = refl; written = made.written _; takes = made.takes; keeps = λ k out. refl };
     }
 
@@ -143,6 +144,7 @@ plant_node-loop-entry-preserved g t c =
       layer = c.entry.ensures.node.0 ∙ c.loop-entry.invariant.layer;
       left = omega (arith, c.entry.ensures.node.2, c.loop-entry.invariant.left);
       blank = c.entry.ensures.blank ∙ c.plant_child-child.ensures.blank ∙ c.loop-entry.invariant.blank;
+      kept = c.entry.ensures.kept ∙ c.plant_child-child.ensures.kept ∙ c.loop-entry.invariant.kept;
       so_far = subst (λ (xs : List TreeEntry). PlantedSoFar c.args.desk.now c.entry.new.desk (g.R.Rows.content c.args.rows.now) (g.R.Rows.content c.entry.new.rows) c.entry.new.self xs) (sym (entries_more A n i e inside at))
           (entry_more _ _ _ _ w _ s _ _ _ _ c.plant_child-child.ensures.planted c.entry.new.desk (g.R.Rows.content c.entry.new.rows) c.entry.new.self next.0 _ _ next.1 c.entry.ensures.node.3 c.entry.ensures.written c.entry.ensures.takes c.entry.ensures.keeps);
     }

@@ -14,5 +14,6 @@ invariant-plant_node-loop-entry g l = record {
   layer : l.writer.layer ≡ (out-Node g.row.B.Denot l.node).layer;
   left : l.writer.left + l.entry-index ≡ length (items g.row.B.Denot l.node);
   blank : g.R.Rows.blank l.rows ≡ g.R.Rows.blank l.fn.rows;
+  kept : g.R.Rows.kept l.rows ≡ g.R.Rows.kept l.fn.rows;
   so_far : PlantedSoFar l.fn.desk l.desk (g.R.Rows.content l.fn.rows) (g.R.Rows.content l.rows) l.writer (map (tree_entry One) (take l.entry-index (items g.row.B.Denot l.node)));
 }

@@ -1,4 +1,4 @@
-use Rattle.std.proofs.Common.{◌≡◌, ◌-◌, ◌++◌, ℕ, List, ◌∷◌, Some, ◌∙◌, sym, ap, subst, refl, arith, rules}
+use Rattle.std.proofs.Common.{◌≡◌, ◌≤◌, ◌+◌, ◌-◌, ◌++◌, length, ℕ, List, ◌∷◌, Some, ◌∙◌, sym, ap, subst, refl, arith, rules}
 use Rattle.std.specs.Int.{w16, to_be_bytes}
 use Rattle.mst_key.specs.declared.format.Format.TheVariants.{One}
 use Rattle.mst_node.specs.Tree.{node}
@@ -9,15 +9,20 @@ use Rattle.mst_arena.specs.Standing.{Chain, entries_of, tree_of, count_of}
 use Rattle.mst_read.specs.Search.{Lies}
 use Rattle.mst_read.proofs.Walk.{at_cell, at_end, further}
 use Rattle.mst_read.proofs.Gathering.{cell_value}
-use Rattle.mst_read.proofs.NodeTexts.{rest_text, text_starts, text_goes_on, text_ends}
+use Rattle.mst_read.proofs.NodeTexts.{counted_twice, rest_text, text_starts, text_goes_on, text_ends}
 use Rattle.mst_read.proofs.proving.node_text.Goals as goal
 
 pub loop-init : goal.loop-init
 loop-init g c = record {
   same = refl;
+  short =
+      let slice : c.as_slice.result.now ≡ to_be_bytes w16 c.args.head.now.count = search rules in
+      let begun : c.extend_from_slice.new.self.items ≡ 1 ∷ c.args.head.now.layer ∷ to_be_bytes w16 c.args.head.now.count = rw (c.in_ok-extend_from_slice.ensures.items, c.in_ok-push-2.ensures.items, c.in_ok-push.ensures.items, c.new-out.ensures.items) (ap (λ (l : List ℕ). 1 ∷ c.args.head.now.layer ∷ l) slice) in
+      let size : length c.extend_from_slice.new.self.items ≡ 4 = ap (λ (l : List ℕ). length l) begun in
+      omega (arith, size);
   onward = λ chain lies.
-      let count : c.in-Ok.count ≡ count_of chain = omega (arith, lies.count, c.in-Ok.ensures) in
-      let slice : c.as_slice.result.now ≡ to_be_bytes w16 c.in-Ok.count = search rules in
+      let count : c.args.head.now.count ≡ count_of chain = sym lies.count in
+      let slice : c.as_slice.result.now ≡ to_be_bytes w16 c.args.head.now.count = search rules in
       let begun : c.extend_from_slice.new.self.items ≡ 1 ∷ c.args.head.now.layer ∷ to_be_bytes w16 (count_of chain) = rw (c.in_ok-extend_from_slice.ensures.items, c.in_ok-push-2.ensures.items, c.in_ok-push.ensures.items, c.new-out.ensures.items) (ap (λ (l : List ℕ). 1 ∷ c.args.head.now.layer ∷ l) (slice ∙ ap (to_be_bytes w16) count)) in
       record { rest = chain; first_is = lies.first; tail_is = lies.tail; left = omega (arith, lies.count); rows = lies.rows; holds = text_starts c.args.head.now.layer chain c.extend_from_slice.new.self.items begun };
 }
@@ -48,6 +53,10 @@ loop-preserved g c =
     let after : content ≡ g.R.Rows.content c.value-value.new.self = now ∙ sym (ap g.R.Rows.content c.entry-entry.ensures.same) ∙ sym (ap g.R.Rows.content c.value-value.ensures.same) in
     record {
       same = c.push_gap.ensures.same ∙ c.value-value.ensures.same ∙ c.entry-entry.ensures.same ∙ c.loop.invariant.same;
+      short =
+          let gap : length c.push_gap.new.out.items ≤ length c.loop.out.items + 33 = c.in_ok-push_gap.ensures.short in
+          let written : length c.push_counted-in-loop.new.out.items ≡ length c.push_gap.new.out.items + (1 + length c.bytes.result.now) + (1 + length c.bytes-in-loop.result.now) = counted_twice _ _ _ _ _ c.in_ok-push_counted.ensures.ok c.in_ok-push_counted-2.ensures.ok in
+          omega (arith, gap, written, c.loop.invariant.short, c.bytes.ensures, c.bytes-in-loop.ensures);
       onward = λ chain lies_behind.
           let P = λ (rest : Chain). c.loop.out.items ++ rest_text rest ≡ text (node One links.layer (entries_of One chain)) in
           let a = at_cell One content links.tail c.loop.link c.loop.counter links.count P (c.loop.invariant.onward chain lies_behind) c.loop-test.true e part in

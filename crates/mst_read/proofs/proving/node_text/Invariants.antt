@@ -1,4 +1,4 @@
-use Rattle.std.proofs.Common.{◌≡◌, ◌++◌}
+use Rattle.std.proofs.Common.{◌≡◌, ◌≤◌, ◌+◌, ◌*◌, ◌++◌, length}
 use Rattle.mst_key.specs.declared.format.Format.TheVariants.{One}
 use Rattle.mst_node.specs.Tree.{node}
 use Rattle.mst_node.specs.Text.{text}
@@ -8,10 +8,11 @@ use Rattle.mst_read.proofs.Walk.{Onward}
 use Rattle.mst_read.proofs.NodeTexts.{rest_text}
 use Rattle.mst_read.proofs.proving.node_text.Given as goal
 
--- what is written, with the text of the rest, is the text of the whole node
+-- what is written, with the text of the rest, is the text of the whole node; each entry takes at most 131 bytes
 abbrev pub invariant-loop : goal.invariant-loop
 invariant-loop g l = record {
   same : l.rows ≡ l.initial.rows;
+  short : length l.out.items ≤ 4 + 131 * l.counter;
   onward : (c : Chain) → LiesBehind One (g.R.Rows.content l.initial.rows) l.head c
       → Onward One (g.R.Rows.content l.initial.rows) l.head.tail l.link l.counter l.end (λ rest. l.out.items ++ rest_text rest ≡ text (node One l.head.layer (entries_of One c)));
 }

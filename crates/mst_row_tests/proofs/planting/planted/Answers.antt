@@ -9,5 +9,5 @@ use Rattle.mst_row_tests.proofs.planting.planted.Goals as goal
 pub plant-root-requires-clause-blank : goal.plant-root-requires-clause-blank
 plant-root-requires-clause-blank g c k is =
     let lives : length c.in_ok-desk.desk.lives ≡ c.args.size = ap (λ (s : State). length s.lives) c.in_ok-desk.ensures.ok ∙ length-replicate c.args.size Free in
-    let below : k < length c.in_ok-rows.rows.places.items = omega (arith, within_length c.in_ok-desk.desk.lives k is, lives, c.in_ok-rows.ensures.size) in
+    let below : k < length c.in_ok-rows.rows = omega (arith, within_length c.in_ok-desk.desk.lives k is, lives, c.in_ok-rows.ensures.size) in
     grind (arith, nat_tests)

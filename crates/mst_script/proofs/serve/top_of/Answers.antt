@@ -1,4 +1,4 @@
-use Rattle.std.proofs.Common.{◌≡◌, ◌∙◌, ◌<◌, ◌^◌, length, sym, ap, inl, arith, rules}
+use Rattle.std.proofs.Common.{◌≡◌, ◌∙◌, ◌<◌, ◌^◌, length, sym, ap, inl, rules}
 use Rattle.mst_key.specs.declared.format.Format.TheVariants.{One}
 use Rattle.mst_node.specs.Tree.{tree}
 use Rattle.hex.specs.Hex.{encode_lower}
@@ -8,20 +8,14 @@ use Rattle.mst_script.proofs.serve.top_of.Goals as goal
 
 pub returns-in_default : goal.returns-in_default
 returns-in_default g c = let proof = c.args.proof.now in
-    let small : length proof < 2 ^ 32 = omega arith in
+    let small : length proof < 2 ^ 32 = c.requires.short in
     λ m k is. inl (ap line_of (sym (no_top k (tree One m) proof is small c.in_default.ensures.none)))
 
 pub returns-in-Ok : goal.returns-in-Ok
 returns-in-Ok g c = let proof = c.args.proof.now in
-    let small : length proof < 2 ^ 32 = omega arith in
+    let small : length proof < 2 ^ 32 = c.requires.short in
     let same : c.in-Ok.text.items ≡ c.in-Some.top.now = search rules in
     λ m k is. inl (ap (λ l. line_of (encode_lower l)) same ∙ ap line_of (sym (some_top k (tree One m) proof c.in-Some.top.now is small c.in-Some.ensures.text)))
-
-pub overflow_cast-t-6 : goal.overflow_cast-t-6
-overflow_cast-t-6 g c = search rules
-
-pub returns-then-proof : goal.returns-then-proof
-returns-then-proof g c = search rules
 
 pub returns-in-Err : goal.returns-in-Err
 returns-in-Err g c = search rules

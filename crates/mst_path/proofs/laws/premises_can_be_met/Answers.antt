@@ -1,0 +1,19 @@
+use Rattle.std.proofs.Common.{refl, ap, arith}
+use Rattle.mst_arena.specs.Lists.{times}
+use Rattle.mst_arena.specs.Standing.{numbers}
+use Rattle.mst_arena.proofs.ListLemmas.{times-append}
+use Rattle.mst_path.proofs.Reached.{reached_old}
+use Rattle.mst_path.proofs.laws.premises_can_be_met.Goals as goal
+
+pub returns-clause-tree : goal.returns-clause-tree
+returns-clause-tree c m few = record { few = few; is = refl }
+
+pub returns-clause-stands : goal.returns-clause-stands
+returns-clause-stands c content s at m settled has = (m, has.stands, reached_old s (numbers has.stands) settled has.rows)
+
+pub returns-clause-numbers : goal.returns-clause-numbers
+returns-clause-numbers c kept xs ys is v =
+    let same = ap (times v) is in
+    let left = times-append v xs ys in
+    let right = times-append v ys xs in
+    (λ i. omega (arith, same, left, right, i), λ i. omega (arith, same, left, right, i))
