@@ -1,10 +1,10 @@
 -- What a pass may read and write of the rows, as the steps ask for it.
-use Rattle.std.proofs.Common.{◌≡◌, ℕ, zero, suc, ◌+◌, ◌*◌, ◌<◌, ◌≤◌, ◌≢◌, ◌⊎◌, inl, inr, Bool, true, false, not, ◌&&◌, ◌||◌, eqb, is_some, is_none, nat_lt, Option, Some, None, List, length, map, set, get_or, refl, sym, ap, ◌∙◌, arith, ⊎_elim, if◌then◌else◌, length-set, get_or-set_same, get_or-set_other}
+use Rattle.std.proofs.Common.{◌≡◌, ℕ, zero, suc, ◌+◌, ◌*◌, ◌<◌, ◌≤◌, ◌≢◌, ◌⊎◌, inl, inr, Bool, true, false, not, ◌&&◌, ◌||◌, eqb, is_some, is_none, nat_lt, Option, Some, None, List, [], length, map, take, set, get_or, refl, sym, ap, ◌∙◌, arith, ⊎_elim, if◌then◌else◌, length-set, get_or-set_same, get_or-set_other}
 use Rattle.std.specs.List.{list_any, range_with_len}
 use mathlib.Core.Logic.{dite}
 use native.Mathlib.Decide.{ℕ_discrete}
 use Rattle.std.proofs.lemmas.Bool.{ltb-true, lt-ltb}
-use Rattle.std.proofs.lemmas.List.{ext_get_or}
+use Rattle.std.proofs.lemmas.List.{ext_get_or, get_or-take, length-take-le}
 use Rattle.std.proofs.lemmas.List.FromFn.{fill_by_all, length-map-range_with_len, get_or-map-range_with_len}
 use Rattle.mst_arena.specs.Lives as lives
 use Rattle.mst_arena.specs.Content.{Writes}
@@ -15,7 +15,7 @@ use Rattle.mst_table.specs.Records as records
 use Rattle.mst_table.specs.Records.{IsBlank}
 use Rattle.mst_table.specs.Steps.{IsReadable, IsWritable}
 use Rattle.mst_table.specs.Stored.{stored, rows_in, version_of}
-use Rattle.mst_table.specs.Access.{may_read, content_of, all_below, is_unreached, is_blank}
+use Rattle.mst_table.specs.Access.{Seated, with_words, beside, may_read, content_of, all_below, is_unreached, is_blank}
 use Rattle.mst_table.proofs.Framed.{same_row}
 use Rattle.mst_table.proofs.Marks.{in_any}
 
@@ -70,19 +70,16 @@ blank_parts v x h = let a = both (nat_lt (x * 16 + 255) (length v.held) && nat_l
       unreached = a.1;
     }
 
-pub writable : (v : View) (x k : ℕ) → is_blank v x ≡ true → k < 16 → IsWritable stored v (x * 16 + k + 240)
-writable v x k h lt = let b = blank_parts v x h in inl (
-  x,
-  k,
-  (
-    b.inside,
-    (λ r small kept reached. ⊎_elim (λ (found : list_any (eqb r) v.drained ≡ true). kept (in_any r v.drained found))
-        (λ (none_reaches : not (lives.reaches v.desk.lives (version_of v.desk r) x) ≡ true). let c : not true ≡ true = sym (ap not reached) ∙ none_reaches in absurd (let d : false ≡ true = c in cc))
-        (either_of (list_any (eqb r) v.drained) (not (lives.reaches v.desk.lives (version_of v.desk r) x)) (each_below (v.passes + 2) (λ r. list_any (eqb r) v.drained || not (lives.reaches v.desk.lives (version_of v.desk r) x)) r b.unreached small))),
-  ),
-  lt,
-  refl,
+pub blank_row : (v : View) (x : ℕ) → is_blank v x ≡ true → IsBlank stored v x
+blank_row v x h = let b = blank_parts v x h in (
+  b.inside,
+  (λ r small kept reached. ⊎_elim (λ (found : list_any (eqb r) v.drained ≡ true). kept (in_any r v.drained found))
+      (λ (none_reaches : not (lives.reaches v.desk.lives (version_of v.desk r) x) ≡ true). let c : not true ≡ true = sym (ap not reached) ∙ none_reaches in absurd (let d : false ≡ true = c in cc))
+      (either_of (list_any (eqb r) v.drained) (not (lives.reaches v.desk.lives (version_of v.desk r) x)) (each_below (v.passes + 2) (λ r. list_any (eqb r) v.drained || not (lives.reaches v.desk.lives (version_of v.desk r) x)) r b.unreached small))),
 )
+
+pub writable : (v : View) (x k : ℕ) → is_blank v x ≡ true → k < 16 → IsWritable stored v (x * 16 + k + 240)
+writable v x k h lt = inl (x, k, blank_row v x h, lt, refl)
 
 -- a row whose sixteen words were stored
 pub record Stored (x n : ℕ) (words old new : List ℕ) : Type 0 where
@@ -130,3 +127,17 @@ fill_from f xs a n long h = ext_get_or 0 xs (map f (range_with_len a n)) (long �
 -- what is blank depends on no word, but on how many are known
 pub blank_stays : (v w : View) → w ≡ record v { held = w.held } → length w.held ≡ length v.held → is_blank w ≡ is_blank v
 blank_stays v w same long = ap is_blank same ∙ ap {B = ℕ → Bool} (λ (n : ℕ) (x : ℕ). nat_lt (x * 16 + 255) n && nat_lt x v.rows && v.turn && is_none v.pin && is_none v.due && is_unreached v x) long
+
+-- a list that is known index by index below some number
+pub same_front : (n : ℕ) (xs ys : List ℕ) → n ≤ length xs → length ys ≡ length xs → ((i : ℕ) → i < n → get_or ys i 0 ≡ get_or xs i 0) → take n ys ≡ take n xs
+same_front n xs ys le long h = let a = length-take-le n xs le in let b = length-take-le n ys (omega (arith, le, long)) in ext_get_or 0 (take n ys) (take n xs) (b ∙ sym a)
+    (λ i lt. let small : i < n = omega (arith, lt, b) in get_or-take n ys i 0 small ∙ h i small ∙ sym (get_or-take n xs i 0 small))
+
+-- what the seat is beside its rows depends on no word of a row
+pub beside_stays : (s t : Seated) (x : ℕ) (words : List ℕ) → t ≡ with_words t.me.0.held s → 240 ≤ length s.me.0.held → Stored x 16 words s.me.0.held t.me.0.held → beside t ≡ beside s
+beside_stays s t x words same wide stored =
+    let held = t.me.0.held in
+    let front : take 240 held ≡ take 240 s.me.0.held = same_front 240 s.me.0.held held wide stored.long (λ i lt. stored.others i (λ k l is. omega (arith, lt, is))) in
+    ap beside same
+    ∙ ap (λ (f : List ℕ). record { seat = with_words [] s; front = f; long = length held }) front
+    ∙ ap (λ (n : ℕ). record { seat = with_words [] s; front = take 240 s.me.0.held; long = n }) stored.long

@@ -87,5 +87,8 @@ fresh_standing R N ws front digest = record {
   exactly = λ x l e. absurd (unreached R 0 x e);
 }
 
+none_below : (a b : ℕ) → a ≡ 0 → a ≤ b
+none_below a b is = omega (arith, is)
+
 pub fresh_is_desk : (R N : ℕ) → IsDesk (Some (fresh_desk R N)) R N (desk_state (fresh_desk R N))
-fresh_is_desk R N = record { there = refl; rows_is = length-replicate R Free; records = length-replicate (N + 2) 0; settled = at_free (IsPast (version (fresh_desk R N))) tt tt R }
+fresh_is_desk R N = record { there = refl; rows_is = length-replicate R Free; records = length-replicate (N + 2) 0; settled = at_free (IsPast (version (fresh_desk R N))) tt tt R; earlier = λ r l. none_below _ _ (get_or-replicate (N + 2) r 0 0 l) }

@@ -1,20 +1,21 @@
 -- A look, and the writing and hearing of a note, keep the rule.
-use Rattle.std.proofs.Common.{◌≡◌, ℕ, false, inl, List, [], ◌∷◌, ◌++◌, set, get_or, sym, refl, ap, ◌∙◌, subst, ⊎_elim, arith}
+use Rattle.std.proofs.Common.{◌≡◌, ℕ, ◌+◌, ◌<◌, false, inl, List, [], ◌∷◌, ◌++◌, set, get_or, sym, refl, ap, ◌∙◌, subst, ⊎_elim, arith}
 use Rattle.std.proofs.lemmas.Option.{none-some}
 use mathlib.Core.Option.{none}
 use Rattle.atomic_table.specs.Table.{State, Me, step, keeps, stepped, Allows, Splits, Joins}
-use Rattle.atomic_table.proofs.Lists.{at_snoc, set_again, set_else}
-use Rattle.mst_key.specs.History.{History, Begins}
-use Rattle.mst_key.proofs.HistoryLaws.{Begins-itself, Begins-nil}
+use Rattle.atomic_table.proofs.Lists.{at_snoc, at_longer, set_again, set_else}
+use Rattle.mst_key.specs.History.{History, events_of, Begins}
+use Rattle.mst_key.proofs.HistoryLaws.{Begins-itself, Begins-nil, events_of-between}
 use Rattle.mst_table.specs.declared.view.View.{View}
 use Rattle.mst_table.specs.World.{SeatAt, Fits, IsPlaced, World}
 use Rattle.mst_table.specs.Records.{Meaning, IsFramed}
-use Rattle.mst_table.specs.Rule.{Ruled}
+use Rattle.mst_table.specs.Rule.{Parts, Ruled}
 use Rattle.mst_table.specs.Notes.{note_of, having_heard, IsOfPasses, Finds, sees_all, sees_told}
 use Rattle.mst_table.proofs.Histories.{events_none}
 use Rattle.mst_table.proofs.PinParts.{drains_same}
 use Rattle.mst_table.proofs.Marks.{counts_same}
 use Rattle.mst_table.proofs.Stills.{still_same}
+use Rattle.mst_table.proofs.Follows.{ruled}
 use Rattle.mst_table.proofs.Looked.{view_set, looked}
 use Rattle.mst_table.proofs.Seated.{off_true, turn_more, rows_more, pins_more, clear_more, counts_more, path_more, still_more}
 
@@ -25,6 +26,8 @@ world_note rows passes next log views id v h at = let n : View = note_of v in re
     seen = (h.fits id v at).seen;
     told = Begins-nil log;
     own = events_none 0 log (λ k d l same. let b = (h.named k d l).0 in omega arith);
+    mine = λ l. absurd (omega arith);
+    pinned = λ r is. absurd (none-some r is);
   })) (at_snoc views n u i e);
   placed = λ i u e. ⊎_elim (λ (t : SeatAt views i u). h.placed i u t) (λ (t : n ≡ u). subst (IsPlaced rows passes next) t (record {
     rows_is = (h.placed id v at).rows_is;
@@ -36,6 +39,7 @@ world_note rows passes next log views id v h at = let n : View = note_of v in re
       (λ (x : SeatAt views i a). ⊎_elim (λ (y : SeatAt views j b). h.apart i j a b x y pos same)
       (λ (y : n ≡ b). let m = ap (λ (z : View). z.number) y in absurd (omega arith)) (at_snoc views n b j q))
       (λ (x : n ≡ a). let m = ap (λ (z : View). z.number) x in absurd (omega arith)) (at_snoc views n a i p);
+  seated = λ p pos below. let t = h.seated p pos below in (t.0, t.1, at_longer views (n ∷ []) t.0 t.1 t.2, t.3);
   dealer = λ i j a b p q m k. ⊎_elim
       (λ (x : SeatAt views i a). ⊎_elim (λ (y : SeatAt views j b). h.dealer i j a b x y m k)
       (λ (y : n ≡ b). let c = ap (λ (z : View). z.deals) y in absurd (omega arith)) (at_snoc views n b j q))
@@ -46,43 +50,44 @@ world_note rows passes next log views id v h at = let n : View = note_of v in re
 
 module _ {S : Type 0} (T : Meaning S) (framed : IsFramed T) (R N : ℕ) where
   -- a seat without the turn sees another beginning of the history
-  seen_set : (s : State S View) (q : Ruled T R N s) (id i : ℕ) (cs : List (ℕ × S)) (v : View) (seen : History) → SeatAt s.views id v → v.turn ≡ false → Begins seen q.log
-      → Ruled T R N (stepped s i (get_or s.words i 0) id cs (record v { seen = seen }) keeps)
-  seen_set s q id i cs v seen at off begins = let w : View = record v { seen = seen } in
-      looked T framed R N s q id i cs v w at refl refl refl refl refl refl refl refl refl (λ on. off_true v off on) begins (q.world.fits id v at).told refl (off_true w off)
+  seen_set : (s : State S View) (q : Parts T R N s) (id i : ℕ) (cs : List (ℕ × S)) (v : View) (seen : History) → SeatAt s.views id v → v.turn ≡ false → Begins seen q.log → (0 < v.number → events_of v.number seen ≡ v.mine)
+      → Parts T R N (stepped s i (get_or s.words i 0) id cs (record v { seen = seen; asked = v.asked + 1 }) keeps)
+  seen_set s q id i cs v seen at off begins own = let w : View = record v { seen = seen; asked = v.asked + 1 } in
+      looked T framed R N s q id i cs v w at refl refl refl refl refl refl refl refl refl (λ on. off_true v off on) (let f = q.world.fits id v at in record { seen = begins; told = f.told; own = f.own; mine = own; pinned = f.pinned }) (off_true w off)
       (counts_same N q.cur s.views id v w q.counts at refl (inl refl) refl refl)
       (still_same N (get_or s.words 1 0) (get_or s.words 1 0) s.views id w v q.still at refl refl refl)
 
-  found : (s : State S View) (q : Ruled T R N s) (id : ℕ) (me : Me S View) → SeatAt s.views id me.0 → Finds me q.log
+  found : (s : State S View) (q : Parts T R N s) (id : ℕ) (me : Me S View) → SeatAt s.views id me.0 → Finds me q.log
   found s q id me at = let f = q.world.fits id me.0 at in let few = q.world.few in record {
     later = f.seen;
     told = f.told;
+    pinned = λ r is. (f.pinned r is).0;
     own = f.own;
     alone = subst (λ (n : ℕ). IsOfPasses n q.log) (sym (q.world.placed id me.0 at).passes_is)
         (λ k d l. let b = q.world.named k d l in (b.0, (let m = b.1 in omega arith)));
   }
 
   pub all_allows : (slots id i : ℕ) (me : Me S View) → me.0.turn ≡ false → Allows (Ruled T R N) slots id me i (λ n. n) (λ r. sees_all (step slots i 0 0 none) me r)
-  all_allows slots id i me off s q _ at _ = (
-    record me.0 { seen = q.log },
+  all_allows slots id i me off s whole _ at _ = let q = whole.parts in (
+    record me.0 { seen = q.log; asked = me.0.asked + 1 },
     keeps,
     tt,
-    seen_set s q id i me.1 me.0 q.log at off (Begins-itself q.log),
+    ruled T framed R N _ (seen_set s q id i me.1 me.0 q.log at off (Begins-itself q.log) (λ _. (q.world.fits id me.0 at).own)),
     record { log = q.log; finds = found s q id me at; is = refl },
   )
 
-  pub told_allows : (slots id i : ℕ) (me : Me S View) → me.0.turn ≡ false → Allows (Ruled T R N) slots id me i (λ n. n) (λ r. sees_told (step slots i 0 0 none) me r)
-  told_allows slots id i me off s q _ at _ = (
-    record me.0 { seen = me.0.told },
+  pub told_allows : (slots id i : ℕ) (me : Me S View) → me.0.turn ≡ false → Begins me.0.seen me.0.told → Allows (Ruled T R N) slots id me i (λ n. n) (λ r. sees_told (step slots i 0 0 none) me r)
+  told_allows slots id i me off forward s whole _ at _ = let q = whole.parts in (
+    record me.0 { seen = me.0.told; asked = me.0.asked + 1 },
     keeps,
     tt,
-    seen_set s q id i me.1 me.0 me.0.told at off (q.world.fits id me.0 at).told,
-    record { log = q.log; finds = found s q id me at; is = refl },
+    ruled T framed R N _ (seen_set s q id i me.1 me.0 me.0.told at off (q.world.fits id me.0 at).told (λ pos. let f = q.world.fits id me.0 at in events_of-between me.0.number me.0.mine me.0.seen me.0.told q.log forward f.told (f.mine pos) f.own)),
+    record { log = q.log; forward = forward; finds = found s q id me at; is = refl },
   )
 
   -- a note is written, and the writer's own view stays
   pub note_splits : (id : ℕ) (v : View) → Splits (Ruled T R N) id v v (note_of v)
-  note_splits id v s q at = let n : View = note_of v in subst (λ (l : List View). Ruled T R N record { words = s.words; homes = s.homes; views = l ++ n ∷ [] }) (sym (set_again s.views id v at)) record {
+  note_splits id v s whole at = let n : View = note_of v in let q = whole.parts in ruled T framed R N _ (subst (λ (l : List View). Parts T R N record { words = s.words; homes = s.homes; views = l ++ n ∷ [] }) (sym (set_again s.views id v at)) record {
     log = q.log;
     next = q.next;
     cur = q.cur;
@@ -105,14 +110,14 @@ module _ {S : Type 0} (T : Meaning S) (framed : IsFramed T) (R N : ℕ) where
     counts = counts_more N q.cur s.views n q.counts refl refl;
     path = path_more N q.cur q.due s.views n q.path (λ l. absurd (omega arith));
     still = still_more N (get_or s.words 1 0) s.views n q.still refl;
-  }
+  })
 
   -- a note is heard, and the note's own view stays
   pub note_joins : (id : ℕ) (v : View) (other : ℕ) (n : View) → Joins (Ruled T R N) id v other n (having_heard v n) n
-  note_joins id v other n s q at apart there = let w : View = having_heard v n in let f = q.world.fits id v at in
+  note_joins id v other n s whole at apart there = let w : View = having_heard v n in let q = whole.parts in let f = q.world.fits id v at in
       let there' : SeatAt s.views other n = sym (set_else s.views id other w apart) ∙ there in
-      subst (λ (l : List View). Ruled T R N record { words = s.words; homes = s.homes; views = l }) (sym (set_again (set s.views id w) other n there))
-      (view_set T framed R N s q id v w at refl refl refl refl refl refl refl refl refl (λ on. ((q.turn.holder id v at on).2, refl)) f.seen (q.world.fits other n there').seen refl
+      ruled T framed R N _ (subst (λ (l : List View). Parts T R N record { words = s.words; homes = s.homes; views = l }) (sym (set_again (set s.views id w) other n there))
+      (view_set T framed R N s q id v w at refl refl refl refl refl refl refl refl refl (λ on. ((q.turn.holder id v at on).2, refl)) (record { seen = f.seen; told = (q.world.fits other n there').seen; own = f.own; mine = f.mine; pinned = f.pinned })
       (drains_same N q.cur q.mask q.due q.beside s.words s.words s.views id v w q.pins at refl refl refl refl refl)
       (counts_same N q.cur s.views id v w q.counts at refl (inl refl) refl refl)
-      (still_same N (get_or s.words 1 0) (get_or s.words 1 0) s.views id w v q.still at refl refl refl))
+      (still_same N (get_or s.words 1 0) (get_or s.words 1 0) s.views id w v q.still at refl refl refl)))

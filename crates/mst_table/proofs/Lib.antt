@@ -11,6 +11,7 @@ pub mod RowParts
 pub mod Marks
 pub mod Paths
 pub mod Stills
+pub mod Follows
 pub mod Steps
 pub mod HoldSteps
 pub mod PinSteps
@@ -20,3 +21,4 @@ pub mod Seated
 pub mod Hearing
 pub mod Opens
 pub mod Accesses
+pub mod Limits

@@ -1,5 +1,5 @@
 -- The rule at the start, and a pass more.
-use Rattle.std.proofs.Common.{◌≡◌, ℕ, zero, suc, ◌+◌, ◌-◌, ◌*◌, ◌%◌, ◌<◌, ◌≤◌, ◌≢◌, inl, true, false, List, [], ◌∷◌, length, set, get_or, Option, Some, None, sym, refl, ap, ◌∙◌, subst, ⊎_elim, arith, lit<}
+use Rattle.std.proofs.Common.{◌≡◌, ℕ, zero, suc, ◌+◌, ◌-◌, ◌*◌, ◌%◌, ◌<◌, ◌≤◌, ◌≢◌, inl, true, false, List, [], ◌∷◌, ◌++◌, length, set, get_or, Option, Some, None, sym, refl, ap, ◌∙◌, subst, ⊎_elim, arith, lit<}
 use Rattle.std.specs.Int.{bit_at}
 use Rattle.std.proofs.lemmas.Option.{none-some}
 use Rattle.std.proofs.lemmas.Nat.Bits.{bit_at-zero}
@@ -13,7 +13,7 @@ use Rattle.mst_table.specs.World.{SeatAt, Fits, IsPlaced, dealer, having_dealt, 
 use Rattle.mst_table.specs.Pins.{done, pin_bit, SeatPins}
 use Rattle.mst_table.specs.Path.{Path}
 use Rattle.mst_table.specs.Records.{Meaning, IsFramed, Standing}
-use Rattle.mst_table.specs.Rule.{Ruled}
+use Rattle.mst_table.specs.Rule.{Parts, Ruled}
 use Rattle.mst_table.proofs.Worlds.{world_deal}
 use Rattle.mst_table.proofs.Turns.{turn_same}
 use Rattle.mst_table.proofs.PinParts.{pins_same}
@@ -22,6 +22,7 @@ use Rattle.mst_table.proofs.Marks.{clear_same, counts_same}
 use Rattle.mst_table.proofs.Paths.{path_same}
 use Rattle.mst_table.proofs.Stills.{still_same}
 use Rattle.mst_table.proofs.Seats.{each_seat}
+use Rattle.mst_table.proofs.Follows.{ruled}
 use Rattle.mst_table.proofs.Seated.{off_true, free_pins, turn_more, rows_more, pins_more, clear_more, counts_more, path_more, still_more}
 
 none_or : (x : Option ℕ) → ((r : ℕ) → x ≡ Some r → ⊥) → x ≡ None
@@ -36,42 +37,43 @@ module _ {S : Type 0} (T : Meaning S) (framed : IsFramed T) (R N : ℕ) where
   -- ---- a pass more
 
   -- no seat has the number of the next pass yet
-  unseated : (s : State S View) (q : Ruled T R N s) (id : ℕ) (v : View) → SeatAt s.views id v → 0 < v.deals → (i : ℕ) (u : View) → SeatAt s.views i u → u.number ≡ v.deals → ⊥
+  unseated : (s : State S View) (q : Parts T R N s) (id : ℕ) (v : View) → SeatAt s.views id v → 0 < v.deals → (i : ℕ) (u : View) → SeatAt s.views i u → u.number ≡ v.deals → ⊥
   unseated s q id v at some_deal i u e same = let below = (q.world.placed i u e).number in let is = ((q.world.placed id v at).deals some_deal).0 in absurd (omega arith)
 
   -- so no bit of it is set
-  zero_bit : (s : State S View) (q : Ruled T R N s) (id : ℕ) (v : View) → SeatAt s.views id v → 0 < v.deals → (r : ℕ) → r < N + 2 → pin_bit q.beside s.words r (v.deals - 1) ≡ 0
+  zero_bit : (s : State S View) (q : Parts T R N s) (id : ℕ) (v : View) → SeatAt s.views id v → 0 < v.deals → (r : ℕ) → r < N + 2 → pin_bit q.beside s.words r (v.deals - 1) ≡ 0
   zero_bit s q id v at some_deal r inside = let b : ℕ = bit_at (q.beside r) (v.deals - 1) + bit_at (done s.words r) (v.deals - 1) in
       let m : b % 2 ≢ 1 = λ e. let t = q.clear.seat_of r (v.deals - 1) inside e in unseated s q id v at some_deal t.0 t.1 t.2 (let f = t.3 in let g = some_deal in omega arith) in
       let g : b % 2 ≡ 0 = omega arith in g
 
   pub deal_splits : (id : ℕ) (v : View) → v.turn ≡ false → v.pin ≡ None → 0 < v.deals → v.deals ≤ v.passes → Splits (Ruled T R N) id v (having_dealt v) (newcomer v)
-  deal_splits id v off free some_deal left s q at = let w : View = having_dealt v in let n : View = newcomer v in let vs : List View = set s.views id w in let few = q.pins.few in let size = (q.world.placed id v at).passes_is in record {
-    log = q.log;
-    next = q.next + 1;
-    cur = q.cur;
-    mask = q.mask;
-    due = q.due;
-    beside = q.beside;
-    desk = q.desk;
-    place = q.place;
-    used = q.used;
-    wide = q.wide;
-    turn = turn_more T R N (get_or s.words 0 0) s.homes q.desk q.due q.log vs n (turn_same T R N (get_or s.words 0 0) s.homes q.desk q.due q.log s.views id v w q.turn at refl refl (λ on. off_true v off on)) refl;
-    pins = pins_more N q.cur q.mask q.due q.beside s.words vs n (pins_same N q.cur q.mask q.due q.beside s.words s.words s.views id v w q.pins at refl (λ _ _. refl) refl refl (off_true w off)) refl refl (record {
-      small = omega (arith, left, few, size);
-      pinned = λ r is. absurd (none-some r is);
-      unpinned = λ r _ inside _. zero_bit s q id v at some_deal r inside;
-    });
-    rows = rows_more T R N q.cur s.words q.log q.desk q.place q.used vs n (rows_upper T framed R N q.cur s.words q.log q.desk q.place q.used s.views id v q.rows at s.words w (λ k _. refl) refl
-        (pin_stays T framed R N q.cur s.words q.log q.desk q.place q.used s.views id v q.rows at s.words w (λ k _. refl) refl refl refl refl) (off_true w off)) refl refl;
-    world = world_deal R N q.next q.log s.views id v q.world at some_deal left;
-    clear = clear_more N q.beside s.words vs n (clear_same N q.beside q.beside s.words s.words s.views id v w q.clear at (λ r k _. refl) refl refl);
-    counts = counts_more N q.cur vs n (counts_same N q.cur s.views id v w q.counts at refl (inl refl) refl refl) refl refl;
-    path = let moved = path_same N q.cur q.due s.views id v w q.path at refl refl in path_more N q.cur q.due vs n moved
-        (λ _. no_pin N q.cur q.due vs moved v.deals (each_seat (λ i u. u.number ≡ v.deals → ⊥) s.views id w (unseated s q id v at some_deal id v at) (λ i u _ e. unseated s q id v at some_deal i u e)));
-    still = still_more N (get_or s.words 1 0) vs n (still_same N (get_or s.words 1 0) (get_or s.words 1 0) s.views id w v q.still at refl refl refl) refl;
-  }
+  deal_splits id v off free some_deal left s whole at = let q = whole.parts in let w : View = having_dealt v in let n : View = newcomer v in let vs : List View = set s.views id w in let few = q.pins.few in let size = (q.world.placed id v at).passes_is in
+      ruled T framed R N record { words = s.words; homes = s.homes; views = vs ++ n ∷ [] } record {
+        log = q.log;
+        next = q.next + 1;
+        cur = q.cur;
+        mask = q.mask;
+        due = q.due;
+        beside = q.beside;
+        desk = q.desk;
+        place = q.place;
+        used = q.used;
+        wide = q.wide;
+        turn = turn_more T R N (get_or s.words 0 0) s.homes q.desk q.due q.log vs n (turn_same T R N (get_or s.words 0 0) s.homes q.desk q.due q.log s.views id v w q.turn at refl refl (λ on. off_true v off on)) refl;
+        pins = pins_more N q.cur q.mask q.due q.beside s.words vs n (pins_same N q.cur q.mask q.due q.beside s.words s.words s.views id v w q.pins at refl (λ _ _. refl) refl refl (off_true w off)) refl refl (record {
+          small = omega (arith, left, few, size);
+          pinned = λ r is. absurd (none-some r is);
+          unpinned = λ r _ inside _. zero_bit s q id v at some_deal r inside;
+        });
+        rows = rows_more T R N q.cur s.words q.log q.desk q.place q.used vs n (rows_upper T framed R N q.cur s.words q.log q.desk q.place q.used s.views id v q.rows at s.words w (λ k _. refl) refl
+            (pin_stays T framed R N q.cur s.words q.log q.desk q.place q.used s.views id v q.rows at s.words w (λ k _. refl) refl refl refl refl) (off_true w off)) refl refl;
+        world = world_deal R N q.next q.log s.views id v q.world at some_deal left;
+        clear = clear_more N q.beside s.words vs n (clear_same N q.beside q.beside s.words s.words s.views id v w q.clear at (λ r k _. refl) refl refl);
+        counts = counts_more N q.cur vs n (counts_same N q.cur s.views id v w q.counts at refl (inl refl) refl refl) refl refl;
+        path = let moved = path_same N q.cur q.due s.views id v w q.path at refl refl in path_more N q.cur q.due vs n moved
+            (λ _. no_pin N q.cur q.due vs moved v.deals (each_seat (λ i u. u.number ≡ v.deals → ⊥) s.views id w (unseated s q id v at some_deal id v at) (λ i u _ e. unseated s q id v at some_deal i u e)));
+        still = still_more N (get_or s.words 1 0) vs n (still_same N (get_or s.words 1 0) (get_or s.words 1 0) s.views id w v q.still at refl refl refl) refl;
+      }
 
   -- ---- the table at the start
 
@@ -92,7 +94,7 @@ module _ {S : Type 0} (T : Meaning S) (framed : IsFramed T) (R N : ℕ) where
 
   pub opens : (ws : List ℕ) (x : S) (d : DeskState) → length ws ≡ R * 16 + 240 → ((i : ℕ) → i < 36 → get_or ws i 0 ≡ 0) → N < 33 → T.IsDesk x R N d → d.current ≡ 0 → Standing T R N ws [] d 0 [] []
       → Ruled T R N (opening ws (x ∷ []) (dealer R N 1))
-  opens ws x d wide front few is_desk current stands = record {
+  opens ws x d wide front few is_desk current stands = ruled T framed R N (opening ws (x ∷ []) (dealer R N 1)) record {
     log = [];
     next = 1;
     cur = 0;
@@ -130,9 +132,10 @@ module _ {S : Type 0} (T : Meaning S) (framed : IsFramed T) (R N : ℕ) where
       held = λ i u e on. off i u e on;
     };
     world = record {
-      fits = λ i u e. subst (Fits []) (one i u e) (record { seen = Begins-nil []; told = Begins-nil []; own = refl });
+      fits = λ i u e. subst (Fits []) (one i u e) (record { seen = Begins-nil []; told = Begins-nil []; own = refl; mine = λ _. refl; pinned = λ r is. absurd (none-some r is) });
       placed = λ i u e. subst (IsPlaced R N 1) (one i u e) (record { rows_is = refl; passes_is = refl; number = omega arith; deals = λ _. (refl, refl) });
       apart = λ i j a b p q _ _. here i a p ∙ sym (here j b q);
+      seated = λ p pos below. absurd (omega arith);
       dealer = λ i j a b p q _ _. here i a p ∙ sym (here j b q);
       few = omega arith;
       named = λ k e l. absurd (omega arith);

@@ -3,12 +3,13 @@ use Rattle.std.proofs.Common.{◌≡◌, ℕ, ◌+◌, ◌-◌, ◌*◌, ◌^◌
 use mathlib.Core.Option.{none}
 use Rattle.std.proofs.lemmas.Option.{same_Some, none-some}
 use Rattle.atomic_table.specs.Table.{Me, step, keeps, stepped, Allows}
-use Rattle.mst_key.specs.History.{History, Begins}
+use Rattle.mst_key.specs.History.{History}
+use Rattle.mst_key.proofs.HistoryLaws.{Begins-itself}
 use Rattle.mst_table.specs.declared.view.View.{View}
 use Rattle.mst_table.specs.World.{SeatAt, Fits}
 use Rattle.mst_table.specs.Pins.{done, pin_bit}
 use Rattle.mst_table.specs.Records.{Meaning, IsFramed, field, row, Reads}
-use Rattle.mst_table.specs.Rule.{Turn, Ruled}
+use Rattle.mst_table.specs.Rule.{Turn, Parts, Ruled}
 use Rattle.mst_table.specs.Steps.{IsFree, IsPinned, pins_now, unpins, forgets}
 use Rattle.mst_table.proofs.Bits.{xor_low}
 use Rattle.mst_table.proofs.Worlds.{IsInPlaceOf, world_set}
@@ -16,6 +17,7 @@ use Rattle.mst_table.proofs.Turns.{turn_same}
 use Rattle.mst_table.proofs.PinParts.{bits_stay, turned, pin_elsewhere, pin_others, pins_pin}
 use Rattle.mst_table.proofs.PinMoves.{unpin_others, unpin_turns, pins_unpin}
 use Rattle.mst_table.proofs.RowParts.{rows_upper}
+use Rattle.mst_table.proofs.Follows.{ruled}
 use Rattle.mst_table.proofs.Steps.{stays, St}
 use Rattle.mst_table.proofs.Marks.{clear_set, counts_set}
 use Rattle.mst_table.proofs.Paths.{path_pin, path_unpin}
@@ -23,19 +25,19 @@ use Rattle.mst_table.proofs.Stills.{still_set, still_pin}
 
 module _ {S : Type 0} (T : Meaning S) (framed : IsFramed T) (R N : ℕ) where
   -- other seats have other numbers
-  apart_from : (s : St T framed R N) (q : Ruled T R N s) (id : ℕ) (v : View) → SeatAt s.views id v → 0 < v.number → (i : ℕ) (u : View) → i ≢ id → SeatAt s.views i u → u.number ≢ v.number
+  apart_from : (s : St T framed R N) (q : Parts T R N s) (id : ℕ) (v : View) → SeatAt s.views id v → 0 < v.number → (i : ℕ) (u : View) → i ≢ id → SeatAt s.views i u → u.number ≢ v.number
   apart_from s q id v at pos i u other e same = other (q.world.apart i id u v e at (subst (λ (z : ℕ). 0 < z) (sym same) pos) same)
 
   -- a pass has a number up to N
-  dealt : (s : St T framed R N) (q : Ruled T R N s) (i : ℕ) (u : View) → SeatAt s.views i u → u.number ≤ N
+  dealt : (s : St T framed R N) (q : Parts T R N s) (i : ℕ) (u : View) → SeatAt s.views i u → u.number ≤ N
   dealt s q i u e = let a = (q.world.placed i u e).number in let b = q.world.few in omega arith
 
-  holders : (s : St T framed R N) (q : Ruled T R N s) (i : ℕ) (u : View) → SeatAt s.views i u → u.turn ≡ true → (0 < u.number) × (u.number ≤ N)
+  holders : (s : St T framed R N) (q : Parts T R N s) (i : ℕ) (u : View) → SeatAt s.views i u → u.turn ≡ true → (0 < u.number) × (u.number ≤ N)
   holders s q i u e on = let h = q.turn.holder i u e on in (subst (λ (z : ℕ). 0 < z) (sym h.1) h.0, dealt s q i u e)
 
   -- ---- a pin
 
-  read_now : (s : St T framed R N) (q : Ruled T R N s) (w : View) (n : ℕ) → w.place ≡ q.log → w.stood ≡ q.used q.cur → w.held ≡ s.words → Reads T R N (set s.words 1 n) q.cur (q.place q.cur) (q.used q.cur) w
+  read_now : (s : St T framed R N) (q : Parts T R N s) (w : View) (n : ℕ) → w.place ≡ q.log → w.stood ≡ q.used q.cur → w.held ≡ s.words → Reads T R N (set s.words 1 n) q.cur (q.place q.cur) (q.used q.cur) w
   read_now s q w n place rows held = record {
     place_is = place ∙ sym q.rows.now;
     rows_are = rows;
@@ -44,9 +46,9 @@ module _ {S : Type 0} (T : Meaning S) (framed : IsFramed T) (R N : ℕ) where
   }
 
   -- the bit k is that of the pass
-  pinned_now : (s : St T framed R N) (q : Ruled T R N s) (id n k : ℕ) (cs : List (ℕ × S)) (v : View) → SeatAt s.views id v → v.turn ≡ false → v.pin ≡ None → v.number ≡ k + 1 → n ≡ bit_xor (get_or s.words 1 0) (2 ^ k)
-      → Ruled T R N (stepped s 1 n id cs (record v { pin = Some q.cur; place = q.log; stood = q.used q.cur; held = s.words }) keeps)
-  pinned_now s q id n k cs v at off free number word = let ws : List ℕ = set s.words 1 n in let w : View = record v { pin = Some q.cur; place = q.log; stood = q.used q.cur; held = s.words } in
+  pinned_now : (s : St T framed R N) (q : Parts T R N s) (id n k : ℕ) (cs : List (ℕ × S)) (v : View) → SeatAt s.views id v → v.turn ≡ false → v.pin ≡ None → v.number ≡ k + 1 → n ≡ bit_xor (get_or s.words 1 0) (2 ^ k)
+      → Parts T R N (stepped s 1 n id cs (record v { pin = Some q.cur; place = q.log; stood = q.used q.cur; held = s.words; asked = v.asked + 1 }) keeps)
+  pinned_now s q id n k cs v at off free number word = let ws : List ℕ = set s.words 1 n in let w : View = record v { pin = Some q.cur; place = q.log; stood = q.used q.cur; held = s.words; asked = v.asked + 1 } in
       let small : k < 32 = (let l = (q.pins.seats id v at).small in omega arith) in let pos : 0 < v.number = omega arith in let apart = apart_from s q id v at pos in
       let now : n ≡ q.cur * 4294967296 + bit_xor q.mask (2 ^ k) = word ∙ ap (λ (z : ℕ). bit_xor z (2 ^ k)) q.pins.current ∙ xor_low q.cur q.mask k q.pins.small small in
       let done_same : (r : ℕ) → done ws r ≡ done s.words r = λ r. stays s.words 1 n (r + 2) (λ f. omega arith) in record {
@@ -66,7 +68,7 @@ module _ {S : Type 0} (T : Meaning S) (framed : IsFramed T) (R N : ℕ) where
         rows = rows_upper T framed R N q.cur s.words q.log q.desk q.place q.used s.views id v q.rows at ws w (λ j l. stays s.words 1 n j (λ f. omega arith)) (length-set s.words 1 n)
             (λ r e. let same : q.cur ≡ r = same_Some q.cur r e in (inl (sym same), subst (λ (z : ℕ). Reads T R N ws z (q.place z) (q.used z) w) same (read_now s q w n refl refl refl)))
             (λ on. absurd (let c : true ≡ false = sym on ∙ off in cc));
-        world = world_set R N q.next q.log s.views id v w q.world at (record { number = refl; deals = refl; rows = refl; passes = refl }) (let f = q.world.fits id v at in record { seen = f.seen; told = f.told; own = f.own });
+        world = world_set R N q.next q.log s.views id v w q.world at (record { number = refl; deals = refl; rows = refl; passes = refl }) (let f = q.world.fits id v at in record { seen = f.seen; told = f.told; own = f.own; mine = f.mine; pinned = λ r _. (Begins-itself q.log, f.own) });
         clear = clear_set N q.beside (turned q.cur q.beside k) s.words ws s.views id v w q.clear at q.cur k (λ r b l other. pin_others q.cur q.beside s.words ws k r b (done_same r) other)
             (λ r b l other. pin_elsewhere q.cur q.beside s.words ws k r b (done_same r) other) number refl (λ r e. absurd (none-some r (sym free ∙ e))) (inl refl);
         counts = counts_set N q.cur s.views id v w q.counts at refl (inr (inr refl)) (λ on. absurd (let c : true ≡ false = sym on ∙ off in cc));
@@ -75,12 +77,12 @@ module _ {S : Type 0} (T : Meaning S) (framed : IsFramed T) (R N : ℕ) where
       }
 
   pub pins_now_allows : (slots id b number : ℕ) (me : Me S View) → b ≡ 2 ^ (number - 1) → IsFree number me → Allows (Ruled T R N) slots id me 1 (λ n. bit_xor n b) (pins_now T (step slots 1 b 0 none) me)
-  pins_now_allows slots id b number me power free s q _ at _ = let v : View = me.0 in let w : View = record v { pin = Some q.cur; place = q.log; stood = q.used q.cur; held = s.words } in
+  pins_now_allows slots id b number me power free s whole _ at _ = let q = whole.parts in let v : View = me.0 in let w : View = record v { pin = Some q.cur; place = q.log; stood = q.used q.cur; held = s.words; asked = v.asked + 1 } in
       let stood = q.rows.live q.cur (inl refl) in let place = q.world.placed id v at in let fits = q.world.fits id v at in (
         w,
         keeps,
         tt,
-        pinned_now s q id (bit_xor (get_or s.words 1 0) b) (number - 1) me.1 v at free.1 free.2 (let a = free.3 in let p = free.4 in omega arith) (ap (bit_xor (get_or s.words 1 0)) power),
+        ruled T framed R N _ (pinned_now s q id (bit_xor (get_or s.words 1 0) b) (number - 1) me.1 v at free.1 free.2 (let a = free.3 in let p = free.4 in omega arith) (ap (bit_xor (get_or s.words 1 0)) power)),
         record {
           cur = q.cur;
           mask = q.mask;
@@ -102,8 +104,8 @@ module _ {S : Type 0} (T : Meaning S) (framed : IsFramed T) (R N : ℕ) where
 
   -- ---- the end of a pin
 
-  ended : (s : St T framed R N) (q : Ruled T R N s) (id o n k : ℕ) (cs : List (ℕ × S)) (v w : View) → SeatAt s.views id v → IsInPlaceOf v w → v.pin ≡ Some o → v.turn ≡ false → v.number ≡ k + 1 → w.pin ≡ None → w.turn ≡ v.turn → Fits q.log w
-      → n ≡ bit_xor (done s.words o) (2 ^ k) → Ruled T R N (stepped s (o + 2) n id cs w keeps)
+  ended : (s : St T framed R N) (q : Parts T R N s) (id o n k : ℕ) (cs : List (ℕ × S)) (v w : View) → SeatAt s.views id v → IsInPlaceOf v w → v.pin ≡ Some o → v.turn ≡ false → v.number ≡ k + 1 → w.pin ≡ None → w.turn ≡ v.turn → Fits q.log w
+      → n ≡ bit_xor (done s.words o) (2 ^ k) → Parts T R N (stepped s (o + 2) n id cs w keeps)
   ended s q id o n k cs v w at same pinned off number free turn fits word = let ws : List ℕ = set s.words (o + 2) n in let few = q.pins.few in let mine = (q.pins.seats id v at).pinned o pinned in let inside : o < N + 2 = mine.1 in
       let off_now : w.turn ≡ false = turn ∙ off in let apart = apart_from s q id v at mine.0 in
       let here : done ws o ≡ bit_xor (done s.words o) (2 ^ k) = get_or-set_same s.words (o + 2) n 0 (let a = q.wide in omega arith) ∙ word in
@@ -134,23 +136,22 @@ module _ {S : Type 0} (T : Meaning S) (framed : IsFramed T) (R N : ℕ) where
 
   -- the history at the pin is seen
   pub unpins_allows : (slots id o b number : ℕ) (me : Me S View) → b ≡ 2 ^ (number - 1) → 0 < number → IsPinned number o me → Allows (Ruled T R N) slots id me (o + 2) (λ n. bit_xor n b) (unpins (step slots (o + 2) b 0 none) me)
-  unpins_allows slots id o b number me power pos pinned s q _ at _ = let v : View = me.0 in let w : View = record v { pin = None; seen = v.place } in let fits = q.world.fits id v at in
-      let stood = q.rows.live o (inr (id, v, at, pinned.0)) in let mine = q.rows.reads id v at o pinned.0 in (
-        w,
-        keeps,
-        tt,
-        ended s q id o (bit_xor (done s.words o) b) (number - 1) me.1 v w at (record { number = refl; deals = refl; rows = refl; passes = refl }) pinned.0 pinned.1 (let a = pinned.2 in omega arith) refl refl
-            (record { seen = subst (λ (l : History). Begins l q.log) (sym mine.place_is) stood.begins; told = fits.told; own = fits.own }) (ap (bit_xor (done s.words o)) power),
-        refl,
-      )
-
-  -- nothing more is seen
-  pub forgets_allows : (slots id o b number : ℕ) (me : Me S View) → b ≡ 2 ^ (number - 1) → 0 < number → IsPinned number o me → Allows (Ruled T R N) slots id me (o + 2) (λ n. bit_xor n b) (forgets (step slots (o + 2) b 0 none) me)
-  forgets_allows slots id o b number me power pos pinned s q _ at _ = let v : View = me.0 in let w : View = record v { pin = None } in let fits = q.world.fits id v at in (
+  unpins_allows slots id o b number me power pos pinned s whole _ at _ = let q = whole.parts in let v : View = me.0 in let w : View = record v { pin = None; seen = v.place } in let fits = q.world.fits id v at in (
     w,
     keeps,
     tt,
-    ended s q id o (bit_xor (done s.words o) b) (number - 1) me.1 v w at (record { number = refl; deals = refl; rows = refl; passes = refl }) pinned.0 pinned.1 (let a = pinned.2 in omega arith) refl refl
-        (record { seen = fits.seen; told = fits.told; own = fits.own }) (ap (bit_xor (done s.words o)) power),
+    ruled T framed R N _ (ended s q id o (bit_xor (done s.words o) b) (number - 1) me.1 v w at (record { number = refl; deals = refl; rows = refl; passes = refl }) pinned.0 pinned.1 (let a = pinned.2 in omega arith) refl refl
+        (record { seen = (fits.pinned o pinned.0).0; told = fits.told; own = fits.own; mine = λ _. (fits.pinned o pinned.0).1; pinned = λ r is. absurd (none-some r is) }) (ap (bit_xor (done s.words o)) power)),
+    refl,
+  )
+
+  -- nothing more is seen
+  pub forgets_allows : (slots id o b number : ℕ) (me : Me S View) → b ≡ 2 ^ (number - 1) → 0 < number → IsPinned number o me → Allows (Ruled T R N) slots id me (o + 2) (λ n. bit_xor n b) (forgets (step slots (o + 2) b 0 none) me)
+  forgets_allows slots id o b number me power pos pinned s whole _ at _ = let q = whole.parts in let v : View = me.0 in let w : View = record v { pin = None } in let fits = q.world.fits id v at in (
+    w,
+    keeps,
+    tt,
+    ruled T framed R N _ (ended s q id o (bit_xor (done s.words o) b) (number - 1) me.1 v w at (record { number = refl; deals = refl; rows = refl; passes = refl }) pinned.0 pinned.1 (let a = pinned.2 in omega arith) refl refl
+        (record { seen = fits.seen; told = fits.told; own = fits.own; mine = fits.mine; pinned = λ r is. absurd (none-some r is) }) (ap (bit_xor (done s.words o)) power)),
     refl,
   )

@@ -30,7 +30,7 @@ kept_else ws i n r u fields rows stay = ((λ k l. stay (r * 6 + k + 36) (fields 
 
 module _ {S : Type 0} (T : Meaning S) (framed : IsFramed T) (R N : ℕ) where
   pub agrees_same : (d : DeskState) (r : ℕ) → Agrees T d d r
-  agrees_same d r = (refl, (λ x h. h), (λ x h. h))
+  agrees_same d r = record { version = refl; reached = λ x h. h; exactly = λ x h. h; ages = λ x v l h. ((λ is. is), (λ is. is)) }
 
   pub standing_to : (ws ws' : List ℕ) (log more : History) (desk desk' : DeskState) (r : ℕ) (p : History) (u : List ℕ) → Standing T R N ws log desk r p u → Kept ws ws' r u → Agrees T desk desk' r
       → Standing T R N ws' (log ++ more) desk' r p u
@@ -39,11 +39,11 @@ module _ {S : Type 0} (T : Meaning S) (framed : IsFramed T) (R N : ℕ) where
     numbered = s.numbered;
     begins = begins_longer p log more s.begins;
     version = kept.0 0 (omega arith) ∙ s.version;
-    filed = a.0 ∙ s.filed;
+    filed = a.version ∙ s.filed;
     stands = framed (row ws) (row ws') (field ws r) (field ws' r) (T.after p) u kept.1 kept.0 s.stands;
     inside = s.inside;
-    reached = λ x within. subst (λ (n : ℕ). T.Reaches desk' n x) s.filed (a.1 x (subst (λ (n : ℕ). T.Reaches desk n x) (sym s.filed) (s.reached x within)));
-    exactly = λ x l h. s.exactly x l (subst (λ (n : ℕ). T.Reaches desk n x) s.filed (a.2 x (subst (λ (n : ℕ). T.Reaches desk' n x) (sym s.filed) h)));
+    reached = λ x within. subst (λ (n : ℕ). T.Reaches desk' n x) s.filed (a.reached x (subst (λ (n : ℕ). T.Reaches desk n x) (sym s.filed) (s.reached x within)));
+    exactly = λ x l h. s.exactly x l (subst (λ (n : ℕ). T.Reaches desk n x) s.filed (a.exactly x (subst (λ (n : ℕ). T.Reaches desk' n x) (sym s.filed) h)));
   }
 
   append_nil : (xs : History) → xs ++ [] ≡ xs

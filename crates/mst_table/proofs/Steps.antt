@@ -1,5 +1,5 @@
 -- Each step keeps the rule.
-use Rattle.std.proofs.Common.{◌≡◌, ℕ, ◌+◌, ◌*◌, ◌<◌, ◌≢◌, ◌⊎◌, inl, true, Option, Some, None, List, length, set, get_or, sym, refl, ap, ◌∙◌, subst, ⊎_elim, arith, length-set, get_or-set_same, get_or-set_other}
+use Rattle.std.proofs.Common.{◌≡◌, ℕ, ◌+◌, ◌*◌, ◌<◌, ◌≢◌, ◌⊎◌, inl, true, Some, None, List, set, get_or, sym, refl, ap, ◌∙◌, subst, ⊎_elim, arith, length-set, get_or-set_same, get_or-set_other}
 use mathlib.Core.Logic.{dite}
 use mathlib.Core.Option.{some, none}
 use native.Mathlib.Decide.{ℕ_discrete}
@@ -8,10 +8,9 @@ use lib.Seq.{set-get_or}
 use Rattle.atomic_table.specs.Table.{State, Me, step, keeps, stepped, Allows}
 use Rattle.atomic_table.proofs.Lists.{set_again}
 use Rattle.mst_table.specs.declared.view.View.{View}
-use Rattle.mst_table.specs.declared.view.DeskState.{DeskState}
-use Rattle.mst_table.specs.Pins.{In, Drains}
+use Rattle.mst_table.specs.Pins.{In}
 use Rattle.mst_table.specs.Records.{Meaning, IsFramed, IsLive, IsBlank}
-use Rattle.mst_table.specs.Rule.{Turn, Ruled}
+use Rattle.mst_table.specs.Rule.{Turn, Parts, Ruled}
 use Rattle.mst_table.specs.Steps.{IsWritable, reads, writes}
 use Rattle.mst_table.proofs.Worlds.{world_set}
 use Rattle.mst_table.proofs.Turns.{turn_same, only_one}
@@ -20,38 +19,29 @@ use Rattle.mst_table.proofs.RowParts.{Kept, kept_else, agrees_same, rows_to}
 use Rattle.mst_table.proofs.Marks.{clear_same, counts_same}
 use Rattle.mst_table.proofs.Paths.{path_same}
 use Rattle.mst_table.proofs.Stills.{still_same}
+use Rattle.mst_table.proofs.Follows.{live_not_drained, blank_apart, ruled}
 
 -- ---- one word changes
 
 pub stays : (ws : List ℕ) (i n j : ℕ) → j ≢ i → get_or (set ws i n) j 0 ≡ get_or ws j 0
 stays ws i n j other = get_or-set_other ws i j n 0 other
 
--- a record that is live was not found drained
-pub live_not_drained : (N cur : ℕ) (due : Option ℕ) (beside : ℕ → ℕ) (vs : List View) (v : View) → Drains N cur due beside vs v → (r : ℕ) → IsLive cur vs r → In r v.drained → ⊥
-live_not_drained N cur due beside vs v h r l within = let d = h.drained r within in ⊎_elim d.1 (λ (t : (i : ℕ) × (u : View) × (get_elem? vs i ≡ some u) × (u.pin ≡ Some r)). d.3 t.0 t.1 t.2 t.3) l
-
 module _ {S : Type 0} (T : Meaning S) (framed : IsFramed T) (R N : ℕ) where
   abbrev pub St : Type 0
   St = State S View
 
-  -- the holder's blank rows are in no live version
-  pub blank_apart : (s : St) (q : Ruled T R N s) (id : ℕ) (v : View) → get_elem? s.views id ≡ some v → v.turn ≡ true → (x : ℕ) → IsBlank T v x → (r : ℕ) → IsLive q.cur s.views r → In x (q.used r) → ⊥
-  blank_apart s q id v at on x blank r l within = let h = q.rows.live r l in
-      blank.1 r (subst (λ (n : ℕ). r < n + 2) (sym (q.world.placed id v at).passes_is) h.numbered) (live_not_drained N q.cur q.due q.beside s.views v (q.pins.holder id v at on) r l)
-      (subst (λ (n : ℕ). T.Reaches v.desk n x) (sym h.filed ∙ ap (λ (d : DeskState). T.version d r) (sym (q.turn.holder id v at on).3)) (subst (λ (d : DeskState). T.Reaches d (length (q.place r)) x) (sym (q.turn.holder id v at on).3) (h.reached x within)))
-
   -- nothing changes
-  pub unmoved : (s : St) (q : Ruled T R N s) (id i : ℕ) (cs : List (ℕ × S)) (v : View) → get_elem? s.views id ≡ some v → Ruled T R N (stepped s i (get_or s.words i 0) id cs v keeps)
-  unmoved s q id i cs v at = subst (λ (z : List ℕ × List View). Ruled T R N record { words = z.0; homes = s.homes; views = z.1 })
+  pub unmoved : (s : St) (q : Parts T R N s) (id i : ℕ) (cs : List (ℕ × S)) (v : View) → get_elem? s.views id ≡ some v → Parts T R N (stepped s i (get_or s.words i 0) id cs v keeps)
+  unmoved s q id i cs v at = subst (λ (z : List ℕ × List View). Parts T R N record { words = z.0; homes = s.homes; views = z.1 })
       (λ j. (sym (set-get_or s.words i 0) j, sym (set_again s.views id v at) j)) q
 
   -- ---- a word is loaded
   pub reads_allows : (slots id i : ℕ) (me : Me S View) → Allows (Ruled T R N) slots id me i (λ n. n) (reads (step slots i 0 0 none) me)
-  reads_allows slots id i me s q _ at _ = let v : View = me.0 in (
+  reads_allows slots id i me s whole _ at _ = let q = whole.parts in let v : View = me.0 in (
     v,
     keeps,
     tt,
-    unmoved s q id i me.1 v at,
+    ruled T framed R N _ (unmoved s q id i me.1 v at),
     (
       refl,
       λ can. ⊎_elim
@@ -66,12 +56,12 @@ module _ {S : Type 0} (T : Meaning S) (framed : IsFramed T) (R N : ℕ) where
 
   -- ---- a word is stored
   pub writes_allows : (slots id i x : ℕ) (me : Me S View) → me.0.turn ≡ true → me.0.pin ≡ None → IsWritable T me.0 i → Allows (Ruled T R N) slots id me i (λ _. x) (λ _. writes (step slots i x 0 none) me x)
-  writes_allows slots id i x me on free can s q _ at _ = let v : View = me.0 in let inside = below s q at in let w : View = record v { held = set v.held i x } in let ws : List ℕ = set s.words i x in
+  writes_allows slots id i x me on free can s whole _ at _ = let q = whole.parts in let v : View = me.0 in let inside = below s q at in let w : View = record v { held = set v.held i x } in let ws : List ℕ = set s.words i x in
       let h = q.rows.held id v at on in let known = q.pins.holder id v at on in let only = only_one T R N _ _ _ _ _ s.views id v q.turn at on q.world.apart in (
         w,
         keeps,
         tt,
-        record {
+        ruled T framed R N (stepped s i x id me.1 w keeps) record {
           log = q.log;
           next = q.next;
           cur = q.cur;
@@ -95,7 +85,7 @@ module _ {S : Type 0} (T : Meaning S) (framed : IsFramed T) (R N : ℕ) where
                     (λ not. stays s.words i x k not ∙ h.1 k l ∙ sym (stays v.held i x k not)),
               ))
               (λ j u other e own. absurd (other (only j u e own)));
-          world = world_set R N q.next q.log s.views id v w q.world at (record { number = refl; deals = refl; rows = refl; passes = refl }) (record { seen = (q.world.fits id v at).seen; told = (q.world.fits id v at).told; own = (q.world.fits id v at).own });
+          world = world_set R N q.next q.log s.views id v w q.world at (record { number = refl; deals = refl; rows = refl; passes = refl }) (let f = q.world.fits id v at in record { seen = f.seen; told = f.told; own = f.own; mine = f.mine; pinned = f.pinned });
           clear = clear_same N q.beside q.beside s.words ws s.views id v w q.clear at (λ r k l. bits_stay q.beside s.words ws r k (low (r + 2) (let few = q.pins.few in omega arith))) refl refl;
           counts = counts_same N q.cur s.views id v w q.counts at refl (inl refl) refl refl;
           path = path_same N q.cur q.due s.views id v w q.path at refl refl;
@@ -104,7 +94,7 @@ module _ {S : Type 0} (T : Meaning S) (framed : IsFramed T) (R N : ℕ) where
         refl,
       )
     where
-      below : (s : St) (q : Ruled T R N s) → get_elem? s.views id ≡ some me.0 → i < R * 16 + 240
+      below : (s : St) (q : Parts T R N s) → get_elem? s.views id ≡ some me.0 → i < R * 16 + 240
       below s q at = let e = (q.world.placed id me.0 at).rows_is in let few = q.pins.few in ⊎_elim (λ (t : (x k : ℕ) × IsBlank T me.0 x × (k < 16) × (i ≡ x * 16 + k + 240)). let a = t.4 in let b = t.3 in let c = t.2.0 in omega arith)
           (λ (t : (r k : ℕ) × In r me.0.drained × (k < 6) × (i ≡ r * 6 + k + 36)). let a = t.4 in let b = t.3 in let c = ((q.pins.holder id me.0 at on).drained t.0 t.2).0 in omega arith) can
 
@@ -114,13 +104,13 @@ module _ {S : Type 0} (T : Meaning S) (framed : IsFramed T) (R N : ℕ) where
       low : (j : ℕ) → j < 36 → get_or (set s.words i x) j 0 ≡ get_or s.words j 0
       low j l = stays s.words i x j (λ e. let a = above in omega arith)
 
-      kept : (r : ℕ) → IsLive q.cur s.views r → Kept s.words (set s.words i x) r (q.used r)
+      kept : (r : ℕ) → IsLive whole.parts.cur s.views r → Kept s.words (set s.words i x) r (whole.parts.used r)
       kept r live = ⊎_elim
-          (λ (t : (x k : ℕ) × IsBlank T me.0 x × (k < 16) × (i ≡ x * 16 + k + 240)). kept_else s.words i x r (q.used r)
-          (λ k l e. let a = t.4 in let b = (q.rows.live r live).numbered in let few = q.pins.few in omega arith)
-          (λ y within k l e. let a = t.4 in let b = t.3 in let same : y ≡ t.0 = omega arith in blank_apart s q id me.0 at on t.0 t.2 r live (subst (λ (z : ℕ). In z (q.used r)) same within))
+          (λ (t : (x k : ℕ) × IsBlank T me.0 x × (k < 16) × (i ≡ x * 16 + k + 240)). kept_else s.words i x r (whole.parts.used r)
+          (λ k l e. let a = t.4 in let b = (whole.parts.rows.live r live).numbered in let few = whole.parts.pins.few in omega arith)
+          (λ y within k l e. let a = t.4 in let b = t.3 in let same : y ≡ t.0 = omega arith in blank_apart T framed R N s whole.parts id me.0 at on t.0 t.2 r live (subst (λ (z : ℕ). In z (whole.parts.used r)) same within))
           (λ j other. stays s.words i x j other))
-          (λ (t : (r k : ℕ) × In r me.0.drained × (k < 6) × (i ≡ r * 6 + k + 36)). kept_else s.words i x r (q.used r)
-          (λ k l e. let a = t.4 in let b = t.3 in let same : t.0 ≡ r = omega arith in live_not_drained N q.cur q.due q.beside s.views me.0 (q.pins.holder id me.0 at on) r live (subst (λ (z : ℕ). In z me.0.drained) same t.2))
-          (λ y within k l e. let a = t.4 in let b = t.3 in let c = ((q.pins.holder id me.0 at on).drained t.0 t.2).0 in let few = q.pins.few in omega arith)
+          (λ (t : (r k : ℕ) × In r me.0.drained × (k < 6) × (i ≡ r * 6 + k + 36)). kept_else s.words i x r (whole.parts.used r)
+          (λ k l e. let a = t.4 in let b = t.3 in let same : t.0 ≡ r = omega arith in live_not_drained N whole.parts.cur whole.parts.due whole.parts.beside s.views me.0 (whole.parts.pins.holder id me.0 at on) r live (subst (λ (z : ℕ). In z me.0.drained) same t.2))
+          (λ y within k l e. let a = t.4 in let b = t.3 in let c = ((whole.parts.pins.holder id me.0 at on).drained t.0 t.2).0 in let few = whole.parts.pins.few in omega arith)
           (λ j other. stays s.words i x j other)) can

@@ -11,7 +11,7 @@ use Rattle.mst_table.specs.declared.view.DeskState.{DeskState}
 use Rattle.mst_table.specs.World.{SeatAt}
 use Rattle.mst_table.specs.Pins.{done, pin_bit, Pins, Clear}
 use Rattle.mst_table.specs.Records.{Meaning}
-use Rattle.mst_table.specs.Rule.{Still, Ruled}
+use Rattle.mst_table.specs.Rule.{Still, Parts}
 use Rattle.mst_table.proofs.Seats.{each_seat, same_view}
 
 -- what is noted at a seat is the word
@@ -56,7 +56,7 @@ done_is_mask n cur mask due beside ws vs id v p c at one free pos small apart = 
 
 module _ {S : Type 0} (T : Meaning S) (R N : ℕ) where
   -- the holder of the turn, which pins nothing, is the only pass, so the word DONE of the current record is the mask that it noted
-  pub alone : (s : State S View) (q : Ruled T R N s) (id : ℕ) (v : View) → SeatAt s.views id v → v.turn ≡ true → v.pin ≡ None → v.passes ≡ 1
+  pub alone : (s : State S View) (q : Parts T R N s) (id : ℕ) (v : View) → SeatAt s.views id v → v.turn ≡ true → v.pin ≡ None → v.passes ≡ 1
       → (mask : ℕ) → mask < 4294967296 → v.noted ≡ Some (v.desk.current * 4294967296 + mask) → get_or s.words (v.desk.current + 2) 0 ≡ mask
   alone s q id v at on free one mask small noted = ap (done s.words) here ∙ marks ∙ same
     where

@@ -10,7 +10,7 @@ use Rattle.mst_table.specs.declared.view.DeskState.{DeskState}
 use Rattle.mst_key.specs.History.{History}
 use Rattle.mst_table.specs.Pins.{In}
 use Rattle.mst_table.specs.Records.{Meaning, IsFramed, Agrees, Standing}
-use Rattle.mst_table.specs.Rule.{Turn, Ruled}
+use Rattle.mst_table.specs.Rule.{Turn, Parts, Ruled}
 use Rattle.mst_table.specs.Steps.{IsFree, takes_turn, IsGiving, gives_turn}
 use Rattle.mst_table.proofs.Worlds.{world_set}
 use Rattle.mst_key.proofs.HistoryLaws.{Begins-itself}
@@ -18,7 +18,9 @@ use Rattle.mst_table.proofs.Seats.{same_view}
 use Rattle.mst_table.proofs.Turns.{turn_taken, turn_given, only_one}
 use Rattle.mst_table.proofs.PinParts.{bits_stay, pins_same}
 use Rattle.mst_table.proofs.RowParts.{kept_upper, held_upper, reads_to, rows_to, rows_upper}
-use Rattle.mst_table.proofs.Steps.{stays, live_not_drained, unmoved, St}
+use Rattle.mst_table.proofs.Follows.{live_not_drained, ruled}
+use Rattle.mst_table.proofs.Looked.{counted}
+use Rattle.mst_table.proofs.Steps.{stays, St}
 use Rattle.mst_table.proofs.Marks.{clear_same, counts_set}
 use Rattle.mst_table.proofs.Paths.{path_same}
 use Rattle.mst_table.proofs.Stills.{still_set}
@@ -28,9 +30,9 @@ two_passes a b next passes p q apart l m few = omega (arith, apart)
 
 module _ {S : Type 0} (T : Meaning S) (framed : IsFramed T) (R N : ℕ) where
   -- ---- the turn is taken
-  taken : (s : St T framed R N) (q : Ruled T R N s) (id p : ℕ) (v : View) → get_elem? s.views id ≡ some v → v.number ≡ p → 0 < p → v.pin ≡ None → (x : S) → s.homes ≡ some x ∷ [] → q.due ≡ None → get_or s.words 0 0 ≡ 0
-      → Ruled T R N (stepped s 0 p id [] (record v { seen = q.log; held = s.words; turn = true; desk = q.desk; due = None; mask = 0; drained = []; blocked = []; noted = None }) (takes 0 x))
-  taken s q id p v at number some_pass unpinned x homes settled free = let w : View = record v { seen = q.log; held = s.words; turn = true; desk = q.desk; due = None; mask = 0; drained = []; blocked = []; noted = None } in let ws : List ℕ = set s.words 0 p in
+  taken : (s : St T framed R N) (q : Parts T R N s) (id p : ℕ) (v : View) → get_elem? s.views id ≡ some v → v.number ≡ p → 0 < p → v.pin ≡ None → (x : S) → s.homes ≡ some x ∷ [] → q.due ≡ None → get_or s.words 0 0 ≡ 0
+      → Parts T R N (stepped s 0 p id [] (record v { seen = q.log; held = s.words; turn = true; desk = q.desk; due = None; mask = 0; drained = []; blocked = []; noted = None; asked = v.asked + 1 }) (takes 0 x))
+  taken s q id p v at number some_pass unpinned x homes settled free = let w : View = record v { seen = q.log; held = s.words; turn = true; desk = q.desk; due = None; mask = 0; drained = []; blocked = []; noted = None; asked = v.asked + 1 } in let ws : List ℕ = set s.words 0 p in
       let upper : (k : ℕ) → 35 < k → get_or ws k 0 ≡ get_or s.words k 0 = λ k l. stays s.words 0 p k (λ f. omega arith) in record {
         log = q.log;
         next = q.next;
@@ -53,7 +55,7 @@ module _ {S : Type 0} (T : Meaning S) (framed : IsFramed T) (R N : ℕ) where
         rows = rows_upper T framed R N q.cur s.words q.log q.desk q.place q.used s.views id v q.rows at ws w upper (length-set s.words 0 p)
             (λ r e. absurd (let f : None ≡ Some r = sym unpinned ∙ e in cc))
             (λ _. (sym (length-set s.words 0 p), upper));
-        world = world_set R N q.next q.log s.views id v w q.world at (record { number = refl; deals = refl; rows = refl; passes = refl }) (record { seen = Begins-itself q.log; told = (q.world.fits id v at).told; own = (q.world.fits id v at).own });
+        world = world_set R N q.next q.log s.views id v w q.world at (record { number = refl; deals = refl; rows = refl; passes = refl }) (let f = q.world.fits id v at in record { seen = Begins-itself q.log; told = f.told; own = f.own; mine = λ _. f.own; pinned = f.pinned });
         clear = clear_same N q.beside q.beside s.words ws s.views id v w q.clear at (λ r k l. bits_stay q.beside s.words ws r k (stays s.words 0 p (r + 2) (λ f. omega arith))) refl refl;
         counts = counts_set N q.cur s.views id v w q.counts at refl (inl refl) (λ _. ([], tt));
         path = path_same N q.cur q.due s.views id v w q.path at refl refl;
@@ -61,7 +63,7 @@ module _ {S : Type 0} (T : Meaning S) (framed : IsFramed T) (R N : ℕ) where
       }
 
   -- where the turn is held, another pass holds it
-  other_holder : (s : St T framed R N) (q : Ruled T R N s) (id number : ℕ) (me : Me S View) → get_elem? s.views id ≡ some me.0 → IsFree number me → get_or s.words 0 0 ≢ 0 → 1 < me.0.passes
+  other_holder : (s : St T framed R N) (q : Parts T R N s) (id number : ℕ) (me : Me S View) → get_elem? s.views id ≡ some me.0 → IsFree number me → get_or s.words 0 0 ≢ 0 → 1 < me.0.passes
   other_holder s q id number me at free miss = let busy : 0 < get_or s.words 0 0 = omega (arith, miss) in let a = (q.turn.taken busy).1 in let i : ℕ = a.0 in let u : View = a.1 in
       let h = q.turn.holder i u a.2 a.3 in let mine = q.world.placed id me.0 at in let theirs = q.world.placed i u a.2 in
       let some_pass : 0 < u.number = subst (λ (z : ℕ). 0 < z) (sym h.1) busy in
@@ -71,13 +73,13 @@ module _ {S : Type 0} (T : Meaning S) (framed : IsFramed T) (R N : ℕ) where
       theirs.number mine.number q.world.few)
 
   pub takes_allows : (slots id p number : ℕ) (me : Me S View) → p ≡ number → IsFree number me → Allows (Ruled T R N) slots id me 0 (λ n. either (eqb n 0) p n) (takes_turn T (step slots 0 0 p none) me)
-  takes_allows slots id p number me same free s q _ at _ = exchanged (get_or s.words 0 0) 0 p
+  takes_allows slots id p number me same free s whole _ at _ = let q = whole.parts in exchanged (get_or s.words 0 0) 0 p
       (λ n. (w : View) × (a : Act S) × Valid s.homes me.1 a × Ruled T R N (stepped s 0 n id me.1 w a) × takes_turn T (step slots 0 0 p none) me (get_or s.words 0 0) (w, carried_after me.1 a))
-      (λ hit. let h = q.turn.free hit in let w : View = record me.0 { seen = q.log; held = s.words; turn = true; desk = q.desk; due = None; mask = 0; drained = []; blocked = []; noted = None } in let place = q.world.placed id me.0 at in (
+      (λ hit. let h = q.turn.free hit in let w : View = record me.0 { seen = q.log; held = s.words; turn = true; desk = q.desk; due = None; mask = 0; drained = []; blocked = []; noted = None; asked = me.0.asked + 1 } in let place = q.world.placed id me.0 at in (
         w,
         takes 0 h.0,
         ap (λ (l : List (mathlib.Core.Option.Option S)). get_elem? l 0) h.1,
-        subst (λ (c : List (ℕ × S)). Ruled T R N (stepped s 0 p id c w (takes 0 h.0))) (sym free.0) (taken s q id p me.0 at (free.3 ∙ sym same) (subst (λ (z : ℕ). 0 < z) (sym same) free.4) free.2 h.0 h.1 h.3 hit),
+        ruled T framed R N _ (subst (λ (c : List (ℕ × S)). Parts T R N (stepped s 0 p id c w (takes 0 h.0))) (sym free.0) (taken s q id p me.0 at (free.3 ∙ sym same) (subst (λ (z : ℕ). 0 < z) (sym same) free.4) free.2 h.0 h.1 h.3 hit)),
         (
           (λ _. record {
             value = h.0;
@@ -85,6 +87,7 @@ module _ {S : Type 0} (T : Meaning S) (framed : IsFramed T) (R N : ℕ) where
             log = q.log;
             words = s.words;
             used = q.used q.cur;
+            dealt = (subst (λ (z : ℕ). 0 < z) (sym free.3) free.4, (let a = place.number in let b = q.world.few in let c = place.passes_is in omega arith));
             is_desk = rw place.rows_is (rw place.passes_is h.2);
             later = (q.world.fits id me.0 at).seen;
             own = (q.world.fits id me.0 at).own;
@@ -98,16 +101,16 @@ module _ {S : Type 0} (T : Meaning S) (framed : IsFramed T) (R N : ℕ) where
         ),
       ))
       (λ miss. (
-        me.0,
+        record me.0 { asked = me.0.asked + 1 },
         keeps,
         tt,
-        unmoved T framed R N s q id 0 me.1 me.0 at,
-        ((λ hit. absurd (miss hit)), (λ _. record { same = refl; others = other_holder s q id number me at free miss })),
+        ruled T framed R N _ (counted T framed R N s q id 0 me.1 me.0 at),
+        ((λ hit. absurd (miss hit)), (λ _. record { is = refl; others = other_holder s q id number me at free miss })),
       ))
 
   -- ---- the turn is given back
-  given : (s : St T framed R N) (q : Ruled T R N s) (id : ℕ) (v : View) (x : S) (d : DeskState) → get_elem? s.views id ≡ some v → v.turn ≡ true → v.due ≡ None → T.IsDesk x R N d → d.current ≡ v.desk.current
-      → ((r : ℕ) → r < N + 2 → (In r v.drained → ⊥) → Agrees T v.desk d r) → Ruled T R N (stepped s 0 0 id ((0, x) ∷ []) (record v { turn = false }) gives)
+  given : (s : St T framed R N) (q : Parts T R N s) (id : ℕ) (v : View) (x : S) (d : DeskState) → get_elem? s.views id ≡ some v → v.turn ≡ true → v.due ≡ None → T.IsDesk x R N d → d.current ≡ v.desk.current
+      → ((r : ℕ) → r < N + 2 → (In r v.drained → ⊥) → Agrees T v.desk d r) → Parts T R N (stepped s 0 0 id ((0, x) ∷ []) (record v { turn = false }) gives)
   given s q id v x d at on settled is_desk current agrees = let w : View = record v { turn = false } in let ws : List ℕ = set s.words 0 0 in let h = q.turn.holder id v at on in let known = q.pins.holder id v at on in
       let only = only_one T R N _ _ _ _ _ s.views id v q.turn at on q.world.apart in
       let upper : (k : ℕ) → 35 < k → get_or ws k 0 ≡ get_or s.words k 0 = λ k l. stays s.words 0 0 k (λ f. omega arith) in record {
@@ -130,7 +133,7 @@ module _ {S : Type 0} (T : Meaning S) (framed : IsFramed T) (R N : ℕ) where
             (λ r e. (inr (id, v, at, e), reads_to T framed R N s.words ws r (q.place r) (q.used r) v w (q.rows.reads id v at r e) (kept_upper s.words ws upper r (q.used r)) refl refl refl))
             (λ own. absurd (let c : false ≡ true = own in cc))
             (λ i u _ e own. held_upper T framed R N s.words ws u u upper (length-set s.words 0 0) refl (q.rows.held i u e own));
-        world = world_set R N q.next q.log s.views id v w q.world at (record { number = refl; deals = refl; rows = refl; passes = refl }) (record { seen = (q.world.fits id v at).seen; told = (q.world.fits id v at).told; own = (q.world.fits id v at).own });
+        world = world_set R N q.next q.log s.views id v w q.world at (record { number = refl; deals = refl; rows = refl; passes = refl }) (let f = q.world.fits id v at in record { seen = f.seen; told = f.told; own = f.own; mine = f.mine; pinned = f.pinned });
         clear = clear_same N q.beside q.beside s.words ws s.views id v w q.clear at (λ r k l. bits_stay q.beside s.words ws r k (stays s.words 0 0 (r + 2) (λ f. omega arith))) refl refl;
         counts = counts_set N q.cur s.views id v w q.counts at refl (inl refl) (λ own. absurd (let c : false ≡ true = own in cc));
         path = path_same N q.cur q.due s.views id v w q.path at refl refl;
@@ -138,10 +141,10 @@ module _ {S : Type 0} (T : Meaning S) (framed : IsFramed T) (R N : ℕ) where
       }
 
   pub gives_allows : (slots id : ℕ) (x : S) (d : DeskState) (me : Me S View) → IsGiving T x d me → Allows (Ruled T R N) slots id me 0 (λ _. 0) (λ _. gives_turn (step slots 0 0 0 none) me 0)
-  gives_allows slots id x d me g s q _ at _ = let v : View = me.0 in let w : View = record v { turn = false } in (
+  gives_allows slots id x d me g s whole _ at _ = let q = whole.parts in let v : View = me.0 in let w : View = record v { turn = false } in (
     w,
     gives,
     tt,
-    subst (λ (c : List (ℕ × S)). Ruled T R N (stepped s 0 0 id c w gives)) (sym g.slot) (let place = q.world.placed id v at in given s q id v x d at g.on g.settled (rw (sym place.rows_is) (rw (sym place.passes_is) g.is_desk)) g.current (rw (sym place.passes_is) g.agrees)),
+    ruled T framed R N _ (subst (λ (c : List (ℕ × S)). Parts T R N (stepped s 0 0 id c w gives)) (sym g.slot) (let place = q.world.placed id v at in given s q id v x d at g.on g.settled (rw (sym place.rows_is) (rw (sym place.passes_is) g.is_desk)) g.current (rw (sym place.passes_is) g.agrees))),
     ap (λ (c : List (ℕ × S)). (w, rest c)) g.slot,
   )

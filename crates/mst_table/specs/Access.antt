@@ -1,5 +1,5 @@
 -- What a pass may read and write of the rows, by what it knows of the words.
-use Rattle.std.specs.Prelude.{◌≡◌, ◌*◌, length, ℕ, zero, suc, ◌+◌, is_some, is_none, Bool, true, ◌&&◌, ◌||◌, not, nat_lt, eqb, if◌then◌else◌, Option, None}
+use Rattle.std.specs.Prelude.{◌≡◌, ◌*◌, length, take, List, [], ℕ, zero, suc, ◌+◌, is_some, is_none, Bool, true, ◌&&◌, ◌||◌, not, nat_lt, eqb, if◌then◌else◌, Option, None}
 use Rattle.std.specs.List.{list_any}
 use Rattle.atomic_table.specs.Seated.{TableId}
 use Rattle.atomic_table.specs.Table.{Me}
@@ -14,6 +14,19 @@ pub record Seated : Type 0 where
   pub table : TableId
   pub id : ℕ
   pub me : Me (Option lives.State) View
+
+-- what a seat is beside the words of the rows: all else that it knows and holds, the words in front of the rows, and how many words it knows
+pub record Beside : Type 0 where
+  pub seat : Seated
+  pub front : List ℕ
+  pub long : ℕ
+
+-- the seat, when it knows these words
+abbrev pub with_words : List ℕ → Seated → Seated
+with_words words s = record s { me = (record s.me.0 { held = words }, s.me.1) }
+
+abbrev pub beside : Seated → Beside
+beside s = record { seat = with_words [] s; front = take 240 s.me.0.held; long = length s.me.0.held }
 
 -- the same seat of the same table
 abbrev pub IsSameSeat : Seated → Seated → Type 0

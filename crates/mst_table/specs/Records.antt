@@ -1,5 +1,5 @@
 -- What the records and the rows of the table stand for: the current record and each pinned one for the map at its place in the history, on exactly the rows that the desk says its version reaches.
-use Rattle.std.specs.Prelude.{◌≡◌, ◌⊎◌, ℕ, ◌+◌, ◌*◌, ◌<◌, true, List, length, slice_index, Some}
+use Rattle.std.specs.Prelude.{◌≡◌, ◌⊎◌, ◌↔◌, ℕ, ◌+◌, ◌*◌, ◌<◌, ◌≤◌, true, List, length, slice_index, Some}
 use Rattle.mst_key.specs.History.{History, Begins}
 use Rattle.mst_table.specs.declared.view.View.{View}
 use Rattle.mst_table.specs.declared.view.DeskState.{DeskState}
@@ -36,9 +36,12 @@ module _ {S : Type 0} (T : Meaning S) where
   abbrev pub IsBlank : View → ℕ → Type 0
   IsBlank v x = (x < v.rows) × ((r : ℕ) → r < v.passes + 2 → (In r v.drained → ⊥) → T.Reaches v.desk (T.version v.desk r) x → ⊥)
 
-  -- two desks have one version in a record, and say of the same rows that it reaches them
-  abbrev pub Agrees : DeskState → DeskState → ℕ → Type 0
-  Agrees d d' r = (T.version d' r ≡ T.version d r) × ((x : ℕ) → T.Reaches d (T.version d r) x → T.Reaches d' (T.version d r) x) × ((x : ℕ) → T.Reaches d' (T.version d r) x → T.Reaches d (T.version d r) x)
+  -- Two desks have one version in a record, and say of the same rows that it reaches them. Of such a row they say that the same versions up to that one reach it
+  pub record Agrees (d d' : DeskState) (r : ℕ) : Type 0 where
+    pub version : T.version d' r ≡ T.version d r
+    pub reached : (x : ℕ) → T.Reaches d (T.version d r) x → T.Reaches d' (T.version d r) x
+    pub exactly : (x : ℕ) → T.Reaches d' (T.version d r) x → T.Reaches d (T.version d r) x
+    pub ages : (x v : ℕ) → v ≤ T.version d r → T.Reaches d (T.version d r) x → T.Reaches d v x ↔ T.Reaches d' v x
 
   module _ (R n : ℕ) where
     -- a record stands for the map at a place of the history, by these rows, which are those that its version reaches

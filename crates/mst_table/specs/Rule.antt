@@ -1,14 +1,14 @@
--- The rule of the table, in parts: the turn, the pins, the records and rows, and the world. Word 0 is the turn, word 1 the current record and the mask of its pins; then come 34 words DONE, 34 records of 6 words, and from word 240 on the rows, of 16 words each.
-use Rattle.std.specs.Prelude.{◌≡◌, ℕ, ◌+◌, ◌*◌, ◌<◌, true, List, [], ◌∷◌, length, slice_index, Option, Some, None}
+-- The rule of the table: its parts (the turn, the pins, the records and rows, and the world), and what follows from them. Word 0 is the turn, word 1 the current record and the mask of its pins; then come 34 words DONE, 34 records of 6 words, and from word 240 on the rows, of 16 words each.
+use Rattle.std.specs.Prelude.{◌≡◌, ◌⊎◌, ℕ, ◌+◌, ◌*◌, ◌<◌, true, List, [], ◌∷◌, length, slice_index, Option, Some, None}
 use mathlib.Core.Option.{none, some}
 use Rattle.atomic_table.specs.Table.{State}
 use Rattle.mst_key.specs.History.{History}
 use Rattle.mst_table.specs.declared.view.View.{View}
 use Rattle.mst_table.specs.declared.view.DeskState.{DeskState}
 use Rattle.mst_table.specs.World.{SeatAt, World}
-use Rattle.mst_table.specs.Pins.{Pins, Clear, Counts}
+use Rattle.mst_table.specs.Pins.{In, Pins, Clear, Counts}
 use Rattle.mst_table.specs.Path.{Path}
-use Rattle.mst_table.specs.Records.{Meaning, Rows}
+use Rattle.mst_table.specs.Records.{Meaning, IsLive, IsBlank, Rows}
 
 -- with one pass, the word of the current record is as the holder of the turn has noted it
 pub record Still (n word : ℕ) (views : List View) : Type 0 where
@@ -21,8 +21,16 @@ module _ {S : Type 0} (T : Meaning S) (R n : ℕ) where
     pub taken : 0 < word → (homes ≡ none ∷ []) × ((i : ℕ) × (v : View) × SeatAt views i v × (v.turn ≡ true))
     pub holder : (i : ℕ) (v : View) → SeatAt views i v → v.turn ≡ true → (0 < word) × (v.number ≡ word) × (v.seen ≡ log) × (v.desk ≡ desk)
 
+  -- the rows that the holder of the turn may write are in no live version
+  pub record Apart (cur : ℕ) (used : ℕ → List ℕ) (views : List View) : Type 0 where
+    pub blank : (i : ℕ) (v : View) → SeatAt views i v → v.turn ≡ true → (x : ℕ) → IsBlank T v x → (r : ℕ) → IsLive cur views r → In x (used r) → ⊥
+
+  -- some seat has seen the whole history, unless it is empty. So the one history is the longest that a seat has seen
+  pub record IsSeen (log : History) (views : List View) : Type 0 where
+    pub whole : (log ≡ []) ⊎ ((i : ℕ) × (v : View) × SeatAt views i v × (v.seen ≡ log))
+
   -- there is one history, for which the parts hold
-  pub record Ruled (s : State S View) : Type 0 where
+  pub record Parts (s : State S View) : Type 0 where
     pub log : History
     pub next : ℕ
     pub cur : ℕ
@@ -41,3 +49,8 @@ module _ {S : Type 0} (T : Meaning S) (R n : ℕ) where
     pub counts : Counts n cur s.views
     pub path : Path n cur due s.views
     pub still : Still n (slice_index s.words 1) s.views
+
+  pub record Ruled (s : State S View) : Type 0 where
+    pub parts : Parts s
+    pub apart : Apart parts.cur parts.used s.views
+    pub seen : IsSeen parts.log s.views

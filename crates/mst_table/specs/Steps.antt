@@ -1,4 +1,4 @@
--- What each step tells the seat that makes it, as a relation between what the seat had before and after: its view, and what it holds of the slot.
+-- What each step tells the seat that makes it, as a relation between what the seat had before and after: its view, and what it holds of the slot. A step whose answer depends on what other passes do adds one to `asked`.
 use Rattle.std.specs.Prelude.{◌≡◌, ◌≢◌, ◌⊎◌, ℕ, ◌+◌, ◌*◌, ◌<◌, ◌≤◌, true, false, List, [], ◌∷◌, ◌++◌, length, slice_index, slice_set, Some, None}
 use Rattle.atomic_table.specs.Table.{Me, Step}
 use Rattle.mst_key.specs.declared.history.Change.TheVariants.{Remove}
@@ -37,9 +37,9 @@ module _ {S : Type 0} where
 
   -- ---- the turn
 
-  -- nothing changed: another pass of the store has the turn
+  -- nothing changed but that the turn was tried once: another pass of the store has it
   pub record Misses (m m' : Me S View) : Type 0 where
-    pub same : m' ≡ m
+    pub is : m' ≡ (record m.0 { asked = m.0.asked + 1 }, m.1)
     pub others : 1 < m.0.passes
 
   -- the turn and the slot were given back
@@ -82,7 +82,7 @@ module _ {S : Type 0} where
     pub mask : ℕ
     pub small : mask < 4294967296
     pub returned : r ≡ m.0.desk.current * 4294967296 + mask
-    pub is : m' ≡ (record m.0 { seen = m.0.seen ++ e ∷ []; mine = m.0.mine ++ e ∷ []; due = Some m.0.desk.current; mask = mask; drained = []; blocked = []; noted = None; desk = d }, m.1)
+    pub is : m' ≡ (record m.0 { seen = m.0.seen ++ e ∷ []; mine = m.0.mine ++ e ∷ []; due = Some m.0.desk.current; mask = mask; drained = []; blocked = []; noted = None; desk = d; asked = m.0.asked + 1 }, m.1)
 
   abbrev pub publishes : Event → DeskState → Step S → Me S View → ℕ → Me S View → Type 0
   publishes e d st m r m' = Publishes e d m r m'
@@ -98,30 +98,21 @@ module _ {S : Type 0} where
 
   -- nobody pins the record, until the holder of the turn publishes
   abbrev pub Drained : ℕ → Me S View → Me S View → Type 0
-  Drained a m m' = m' ≡ (record m.0 { drained = a ∷ m.0.drained }, m.1)
-
-  -- another pass pinned the record. There are fewer such records than other passes
-  pub record Blocked (a : ℕ) (m m' : Me S View) : Type 0 where
-    pub fewer : length m.0.blocked + 1 < m.0.passes
-    pub is : m' ≡ (record m.0 { blocked = a ∷ m.0.blocked }, m.1)
-
-  -- the record is the one whose word DONE was loaded
-  abbrev pub asks : Step S → Me S View → ℕ → Me S View → Type 0
-  asks st m r m' = (a : ℕ) × (st.word ≡ a + 2) × (r ≡ 0 → Drained a m m') × (r ≢ 0 → Blocked a m m')
+  Drained a m m' = m' ≡ (record m.0 { drained = a ∷ m.0.drained; asked = m.0.asked + 1 }, m.1)
 
   -- the holder of the turn notes the word of the current record
   pub record NotesCurrent (m : Me S View) (r : ℕ) (m' : Me S View) : Type 0 where
     pub mask : ℕ
     pub small : mask < 4294967296
     pub found : r ≡ m.0.desk.current * 4294967296 + mask
-    pub is : m' ≡ (record m.0 { noted = Some r }, m.1)
+    pub is : m' ≡ (record m.0 { noted = Some r; asked = m.0.asked + 1 }, m.1)
 
   abbrev pub notes_current : Step S → Me S View → ℕ → Me S View → Type 0
   notes_current st m r m' = NotesCurrent m r m'
 
-  -- in a store of one pass, which pins nothing while it has the turn, the word DONE of the current record is the mask that was noted
+  -- In a store of one pass, which pins nothing while it has the turn, the word DONE of the current record is the mask that was noted. In a larger store nothing is said of the word: others may pin the record and end their pins between the two loads
   pub record AsksCurrent (m : Me S View) (r : ℕ) (m' : Me S View) : Type 0 where
-    pub same : m' ≡ m
+    pub is : m' ≡ (record m.0 { asked = m.0.asked + 1 }, m.1)
     pub alone : m.0.passes ≡ 1 → (mask : ℕ) → mask < 4294967296 → m.0.noted ≡ Some (m.0.desk.current * 4294967296 + mask) → r ≡ mask
 
   abbrev pub asks_current : Step S → Me S View → ℕ → Me S View → Type 0
@@ -132,20 +123,33 @@ module _ {S : Type 0} (T : Meaning S) where
   abbrev pub IsWritable : View → ℕ → Type 0
   IsWritable v i = ((x k : ℕ) × IsBlank T v x × (k < 16) × (i ≡ x * 16 + k + 240)) ⊎ ((r k : ℕ) × In r v.drained × (k < 6) × (i ≡ r * 6 + k + 36))
 
-  -- The pass has the turn and the slot with its desk, and has seen the whole history. The words of the table are known; in them the current record stands for the history
+  -- The pass, one of the store's, has the turn and the slot with its desk, and has seen the whole history. The words of the table are known; in them the current record stands for the history
   pub record Takes (m m' : Me S View) : Type 0 where
     pub value : S
     pub desk : DeskState
     pub log : History
     pub words : List ℕ
     pub used : List ℕ
+    pub dealt : (0 < m.0.number) × (m.0.number ≤ m.0.passes)
     pub is_desk : T.IsDesk value m.0.rows m.0.passes desk
     pub later : Begins m.0.seen log
     pub own : events_of m.0.number log ≡ m.0.mine
     pub short : length log < 9223372036854775808
     pub wide : length words ≡ m.0.rows * 16 + 240
     pub stands : Standing T m.0.rows m.0.passes words log desk desk.current log used
-    pub is : m' ≡ (record m.0 { seen = log; held = words; turn = true; desk = desk; due = None; mask = 0; drained = []; blocked = []; noted = None }, (0, value) ∷ [])
+    pub is : m' ≡ (record m.0 { seen = log; held = words; turn = true; desk = desk; due = None; mask = 0; drained = []; blocked = []; noted = None; asked = m.0.asked + 1 }, (0, value) ∷ [])
+
+  -- Another pass pinned the record, which stood for the map at a place of the history, by what the holder of the turn knows. There are fewer such records than other passes
+  pub record Blocked (a : ℕ) (m m' : Me S View) : Type 0 where
+    pub fewer : length m.0.blocked + 1 < m.0.passes
+    pub place : History
+    pub used : List ℕ
+    pub stands : Standing T m.0.rows m.0.passes m.0.held m.0.seen m.0.desk a place used
+    pub is : m' ≡ (record m.0 { blocked = a ∷ m.0.blocked; asked = m.0.asked + 1 }, m.1)
+
+  -- the record is the one whose word DONE was loaded
+  abbrev pub asks : Step S → Me S View → ℕ → Me S View → Type 0
+  asks st m r m' = (a : ℕ) × (st.word ≡ a + 2) × (r ≡ 0 → Drained a m m') × (r ≢ 0 → Blocked a m m')
 
   abbrev pub takes_turn : Step S → Me S View → ℕ → Me S View → Type 0
   takes_turn st m r m' = (r ≡ 0 → Takes m m') × (r ≢ 0 → Misses m m')
@@ -175,7 +179,7 @@ module _ {S : Type 0} (T : Meaning S) where
     pub version : field words cur 0 ≡ length log
     pub stands : T.Stands (row words) (field words cur) (T.after log) used
     pub inside : (x : ℕ) → In x used → x < m.0.rows
-    pub is : m' ≡ (record m.0 { pin = Some cur; place = log; stood = used; held = words }, m.1)
+    pub is : m' ≡ (record m.0 { pin = Some cur; place = log; stood = used; held = words; asked = m.0.asked + 1 }, m.1)
 
   abbrev pub pins_now : Step S → Me S View → ℕ → Me S View → Type 0
   pins_now st m r m' = PinsNow m r m'

@@ -1,5 +1,5 @@
 -- What the words of the store mean: rows that stand for the map of a history, at the root of a record; and the desk in the slot, with no write under way.
-use Rattle.std.specs.Prelude.{◌≡◌, ℕ, ◌+◌, List, [], ◌∷◌, length, true, slice_index, replicate, Option, Some}
+use Rattle.std.specs.Prelude.{◌≡◌, ℕ, ◌+◌, ◌<◌, ◌≤◌, List, [], ◌∷◌, length, true, slice_index, replicate, Option, Some}
 use Rattle.mst_key.specs.declared.format.Format.TheVariants.{One}
 use Rattle.mst_key.specs.Map.{Pair}
 use Rattle.mst_key.specs.History.{after}
@@ -33,12 +33,13 @@ state_of d = record { current = d.current; versions = d.versions; lives = d.live
 abbrev pub desk_state : lives.State → DeskState
 desk_state s = record { current = s.current; versions = s.versions; lives = s.lives }
 
--- the slot has the desk of a store of so many rows and passes
+-- The slot has the desk of a store of so many rows and passes. No record has a later version than the current one
 pub record IsDesk (x : Option lives.State) (rows passes : ℕ) (d : DeskState) : Type 0 where
   pub there : x ≡ Some (state_of d)
   pub rows_is : length d.lives ≡ rows
   pub records : length d.versions ≡ passes + 2
   pub settled : lives.IsSettled (state_of d)
+  pub earlier : (r : ℕ) → r < passes + 2 → slice_index d.versions r ≤ lives.version (state_of d)
 
 -- the desk of a new store: record 0 is current, each record has version 0, and each row is free
 abbrev pub fresh_desk : ℕ → ℕ → lives.State

@@ -1,5 +1,6 @@
 //! How passes learn what others have seen: a look at the whole history, and notes that go from seat to seat. Each call is one load of a word, at any time: the turn may be free or taken.
 ghost use Rattle.std.specs.Prelude.{◌≡◌, ◌+◌, ◌*◌, [], false};
+ghost use Rattle.mst_key.specs.History.{Begins};
 ghost use Rattle.mst_table.specs.Notes.{note_of, having_heard, SeesAll, SeesTold};
 
 use crate::board::{Board, Token};
@@ -77,11 +78,12 @@ impl<A: Allocator + Copy> Board<A> {
         self.table.shared.load::<SeeAll>(seat, CURRENT);
     }
 
-    /// Sees the history that a note told of, and no more.
+    /// Sees the history that a note told of, and no more. It has to begin with what the seat has seen.
     pub(crate) fn see_told(&self, seat: &mut Token<A>)
         requires own { seat.old.table_id ≡ self.now }
         requires wide { self.now.words ≡ seat.old.me.0.rows * 16 + 240 }
         requires off { seat.old.me.0.turn ≡ false }
+        requires forward { Begins seat.old.me.0.seen seat.old.me.0.told }
         ensures same { (seat.new.table_id ≡ seat.old.table_id) × (seat.new.id ≡ seat.old.id) }
         ensures seen { SeesTold seat.old.me seat.new.me }
     {

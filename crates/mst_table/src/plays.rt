@@ -113,9 +113,10 @@ impl<A: Allocator> Play<Option<Desk<A>>, View> for Transfer {
 pub struct Ask;
 
 impl<A: Allocator> Play<Option<Desk<A>>, View> for Ask {
+    ghost use Rattle.mst_table.specs.Stored.{stored};
     ghost use Rattle.mst_table.specs.Steps.{asks};
 
-    ghost then = { asks };
+    ghost then = { asks stored };
 }
 
 /// The holder of the turn notes the word of the current record.

@@ -35,7 +35,7 @@ impl<A: Allocator + Copy> Board<A> {
         requires new { In which seat.old.me.0.blocked → ⊥ }
         ensures same { (seat.new.table_id ≡ seat.old.table_id) × (seat.new.id ≡ seat.old.id) }
         ensures drained { result ≡ true → Drained which seat.old.me seat.new.me }
-        ensures blocked { result ≡ false → Blocked which seat.old.me seat.new.me }
+        ensures blocked { result ≡ false → Blocked stored which seat.old.me seat.new.me }
     {
         self.table
             .shared
@@ -88,7 +88,7 @@ impl<A: Allocator + Copy> Board<A> {
         self.table.shared.load::<NoteCurrent>(seat, CURRENT)
     }
 
-    /// Loads the current record's own word DONE. Together with the mask that was noted it tells who pins the record.
+    /// Loads the current record's own word DONE. In a store of one pass it is the mask that was noted; of a larger store nothing is said.
     pub(crate) fn ask_current(&self, seat: &mut Token<A>, current: u32) -> u64
         requires own { seat.old.table_id ≡ self.now }
         requires wide { self.now.words ≡ seat.old.me.0.rows * 16 + 240 }

@@ -52,11 +52,15 @@ impl<'a, A: Allocator + Copy> PassSeat<'a, A> {
 }
 
 impl<'a, A: Allocator + Copy> Rows for PassSeat<'a, A> {
-    ghost use Rattle.mst_table.specs.Access.{content_of, is_blank};
+    ghost use Rattle.mst_table.specs.Access.{content_of, is_blank, Beside, beside};
 
     ghost content = { λ c. content_of c.me.0 };
 
     ghost blank = { λ c. is_blank c.me.0 };
+
+    ghost Kept = { Beside };
+
+    ghost kept = { beside };
 
     fn read(&mut self, row: u32) -> Row {
         match Row::read(&self.words(row, 0)) {

@@ -1,6 +1,7 @@
 //! A pass's seat at the table, with one call for each of its steps.
 ghost use Rattle.std.specs.Prelude.{◌≡◌, ◌≢◌, ◌∷◌, ◌+◌, ◌*◌, ◌<◌, [], ℕ, List, true, false, slice_index, slice_set, Option, Some, None};
 ghost use Rattle.mst_arena.specs.Lives.{State};
+ghost use Rattle.mst_key.specs.History.{Begins};
 ghost use Rattle.mst_table.specs.Access.{IsSameSeat};
 ghost use Rattle.mst_table.specs.Notes.{SeesAll, SeesTold, note_of, having_heard};
 ghost use Rattle.mst_table.specs.Pins.{In};
@@ -162,7 +163,7 @@ impl<'a, A: Allocator + Copy> PassSeat<'a, A> {
         requires new { In which self.old.me.0.blocked → ⊥ }
         ensures same { IsSameSeat self.old self.new }
         ensures drained { result ≡ true → Drained which self.old.me self.new.me }
-        ensures blocked { result ≡ false → Blocked which self.old.me self.new.me }
+        ensures blocked { result ≡ false → Blocked stored which self.old.me self.new.me }
     {
         self.board.ask(&mut self.token, which)
     }
@@ -196,7 +197,7 @@ impl<'a, A: Allocator + Copy> PassSeat<'a, A> {
         self.board.note_current(&mut self.token)
     }
 
-    /// Loads the current record's own word DONE. Together with the mask that was noted it tells who pins the record.
+    /// Loads the current record's own word DONE: one load. In a store of one pass it is the mask that was noted. In a larger store nothing is said of it, since others may pin the record and end their pins between the two loads.
     pub fn ask_current(&mut self, current: u32) -> u64
         requires holder { IsHolder self.old.me }
         requires there { current < 34 }
@@ -218,9 +219,10 @@ impl<'a, A: Allocator + Copy> PassSeat<'a, A> {
         self.board.see_all(&mut self.token)
     }
 
-    /// Sees the history that a note told of, and no more: one load of the word of the current record.
+    /// Sees the history that a note told of, and no more: one load of the word of the current record. That history has to begin with what the seat has seen.
     pub fn see_told(&mut self)
         requires off { self.old.me.0.turn ≡ false }
+        requires forward { Begins self.old.me.0.seen self.old.me.0.told }
         ensures same { IsSameSeat self.old self.new }
         ensures seen { SeesTold self.old.me self.new.me }
     {

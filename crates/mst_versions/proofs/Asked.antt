@@ -1,14 +1,19 @@
 -- One record more is asked.
-use Rattle.std.proofs.Common.{◌≡◌, ℕ, ◌+◌, ◌<◌, List, [], ◌∷◌, ◌++◌, length, slice_index, inl, inr, refl, sym, ap, ◌∙◌, subst, ⊎_elim, arith, Bool, true, false, eqb}
+use Rattle.std.proofs.Common.{◌≡◌, ◌⊎◌, ℕ, ◌+◌, ◌<◌, List, [], ◌∷◌, ◌++◌, length, slice_index, inl, inr, refl, sym, ap, ◌∙◌, subst, ⊎_elim, arith, Bool, true, false, eqb}
+use mathlib.Core.Logic.{dite}
+use native.Mathlib.Decide.{ℕ_discrete}
 use Rattle.std.proofs.lemmas.Bool.{eq-eqb}
 use Rattle.std.proofs.lemmas.Bool.Decides.{nat_tests}
+use Rattle.mst_arena.specs.Lists.{bit}
 use Rattle.mst_arena.specs.Lives.{State, version}
 use Rattle.mst_arena.proofs.ListLemmas.{times-append}
 use Rattle.mst_path.specs.Moves as moves
+use Rattle.mst_path.proofs.Moving.{one_row}
 use Rattle.mst_table.specs.Pins.{In}
 use Rattle.mst_table.specs.Steps.{Drained, Blocked}
-use Rattle.mst_versions.specs.Turns.{Seat}
-use Rattle.mst_versions.specs.Asking.{KnowsRecords, HasAsked}
+use Rattle.mst_table.specs.Stored.{stored}
+use Rattle.mst_versions.specs.Turns.{Seat, StoodAtAsk}
+use Rattle.mst_versions.specs.Asking.{KnowsRecords, HasAsked, AsksEach}
 use Rattle.mst_versions.specs.declared.turn.Asked.{Asked}
 use Rattle.mst_versions.proofs.Members.{counted}
 
@@ -23,6 +28,14 @@ length-snoc (y ∷ ys) x = let more = length-snoc ys x in omega (arith, more)
 pub in_front : (x : ℕ) (xs ys : List ℕ) → moves.In x xs → moves.In x (xs ++ ys)
 in_front x xs ys i = omega (arith, times-append x xs ys, i)
 
+-- what stands in a list with one more stood there, or is that one
+in_snoc : (x : ℕ) (xs : List ℕ) (y : ℕ) → moves.In x (xs ++ y ∷ []) → moves.In x xs ⊎ (x ≡ y)
+in_snoc x xs y i = go (eqb x y) refl
+  where
+    go : (t : Bool) → eqb x y ≡ t → moves.In x xs ⊎ (x ≡ y)
+    go true e = inr (grind (arith, nat_tests))
+    go false e = inl (omega (arith, times-append x xs (y ∷ []), ap bit e, i))
+
 pub asked_none : (desk : State) (a : Asked) (m : Seat) → KnowsRecords desk m → m.0.drained ≡ [] → m.0.blocked ≡ [] → a.live.items ≡ version desk ∷ [] → HasAsked 0 desk a m
 asked_none desk a m k d b is =
     let no_drained : length m.0.drained ≡ 0 = ap (λ (z : List ℕ). length z) d in
@@ -32,12 +45,15 @@ asked_none desk a m k d b is =
       knows = k;
       before = λ l. omega (arith, no_drained, no_blocked);
       behind = λ l. absurd (omega (arith, l));
-      fewer = omega (arith, no_blocked);
+      fewer = let some = k.some in omega (arith, no_blocked, some);
       room = omega (arith, one, no_blocked);
       blocked = λ r within. absurd (subst (λ (z : List ℕ). In r z) b within);
       drained = λ r within. absurd (subst (λ (z : List ℕ). In r z) d within);
       now = subst (λ (z : List ℕ). moves.In (version desk) z) (sym is) (counted (version desk) (version desk ∷ []) (inl refl));
       others = λ r l other out. absurd (omega (arith, l));
+      only = λ v i. inl (one_row v (version desk) (subst (λ (z : List ℕ). moves.In v z) is i));
+      found = λ r l other out. absurd (omega (arith, l));
+      stood = λ r within. absurd (subst (λ (z : List ℕ). In r z) b within);
       into = λ some. absurd (omega (arith, some, no_drained));
     }
 
@@ -53,6 +69,9 @@ asked_current n desk a m h is = record {
   drained = λ r within. let d = h.drained r within in let l = d.0 in (omega (arith, l), d.1);
   now = h.now;
   others = λ r l other out. h.others r (omega (arith, l, other, is)) other out;
+  only = λ v i. ⊎_elim (λ e. inl e) (λ t. inr (t.0, (let l = t.1 in omega (arith, l)), t.2, t.3)) (h.only v i);
+  found = λ r l other out. h.found r (omega (arith, l, other, is)) other out;
+  stood = h.stood;
   into = h.into;
 }
 
@@ -60,12 +79,12 @@ asked_current n desk a m h is = record {
 pub asked_drained : (n : ℕ) (desk : State) (a b : Asked) (m m' : Seat) → HasAsked n desk a m → (n ≡ desk.current → ⊥) → Drained n m m' → b.live ≡ a.live → b.into ≡ n → HasAsked (n + 1) desk b m'
 asked_drained n desk a b m m' h other is live into = subst (λ (z : Seat). HasAsked (n + 1) desk b z) (sym is) known
   where
-    known : HasAsked (n + 1) desk b (record m.0 { drained = n ∷ m.0.drained }, m.1)
+    known : HasAsked (n + 1) desk b (record m.0 { drained = n ∷ m.0.drained; asked = m.0.asked + 1 }, m.1)
     known =
         let one : length (n ∷ m.0.drained) ≡ length m.0.drained + 1 = omega arith in
         let k = h.knows in
         record {
-          knows = record { holder = k.holder; few = k.few; current = k.current; there = k.there; records = k.records };
+          knows = record { holder = k.holder; some = k.some; few = k.few; current = k.current; there = k.there; records = k.records };
           before = λ l. let e = h.before (omega (arith, l)) in omega (arith, e, one);
           behind = λ l. let e = h.behind (omega (arith, l, other)) in omega (arith, e, one);
           fewer = h.fewer;
@@ -76,21 +95,27 @@ asked_drained n desk a b m m' h other is live into = subst (λ (z : Seat). HasAs
           now = subst (λ z. moves.In (version desk) z.items) (sym live) h.now;
           others = λ r l o out. subst (λ z. moves.In (slice_index desk.versions r) z.items) (sym live)
               (h.others r (let not : (r ≡ n → ⊥) = λ e. out (inl e) in omega (arith, l, not)) o (λ t. out (inr t)));
+          only = λ v i. ⊎_elim (λ e. inl e)
+              (λ (t : (r : ℕ) × (r < n) × (In r m.0.drained → ⊥) × (v ≡ slice_index desk.versions r)).
+              let l = t.1 in inr (t.0, omega (arith, l), (λ within. ⊎_elim (λ (e : t.0 ≡ n). absurd (omega (arith, l, e))) t.2 within), t.3))
+              (h.only v (subst (λ z. moves.In v z.items) live i));
+          found = λ r l o out. h.found r (let not : (r ≡ n → ⊥) = λ e. out (inl e) in omega (arith, l, not)) o (λ t. out (inr t));
+          stood = h.stood;
           into = λ some. inl into;
         }
 
 -- a record is pinned, and its version live
-pub asked_blocked : (n : ℕ) (desk : State) (a b : Asked) (m m' : Seat) → HasAsked n desk a m → (n ≡ desk.current → ⊥) → Blocked n m m'
+pub asked_blocked : (n : ℕ) (desk : State) (a b : Asked) (m m' : Seat) → HasAsked n desk a m → (n ≡ desk.current → ⊥) → Blocked stored n m m'
     → b.live.items ≡ a.live.items ++ slice_index desk.versions n ∷ [] → b.into ≡ a.into → HasAsked (n + 1) desk b m'
 asked_blocked n desk a b m m' h other is live into = subst (λ (z : Seat). HasAsked (n + 1) desk b z) (sym is.is) known
   where
-    known : HasAsked (n + 1) desk b (record m.0 { blocked = n ∷ m.0.blocked }, m.1)
+    known : HasAsked (n + 1) desk b (record m.0 { blocked = n ∷ m.0.blocked; asked = m.0.asked + 1 }, m.1)
     known =
         let one : length (n ∷ m.0.blocked) ≡ length m.0.blocked + 1 = omega arith in
         let longer : length b.live.items ≡ length a.live.items + 1 = ap (λ (z : List ℕ). length z) live ∙ length-snoc a.live.items (slice_index desk.versions n) in
         let k = h.knows in
         record {
-          knows = record { holder = k.holder; few = k.few; current = k.current; there = k.there; records = k.records };
+          knows = record { holder = k.holder; some = k.some; few = k.few; current = k.current; there = k.there; records = k.records };
           before = λ l. let e = h.before (omega (arith, l)) in omega (arith, e, one);
           behind = λ l. let e = h.behind (omega (arith, l, other)) in omega (arith, e, one);
           fewer = let f = is.fewer in omega (arith, f, one);
@@ -99,6 +124,12 @@ asked_blocked n desk a b m m' h other is live into = subst (λ (z : Seat). HasAs
           drained = λ r within. let d = h.drained r within in let l = d.0 in (omega (arith, l), d.1);
           now = subst (λ (z : List ℕ). moves.In (version desk) z) (sym live) (in_front (version desk) a.live.items (slice_index desk.versions n ∷ []) h.now);
           others = λ r l o out. subst (λ (z : List ℕ). moves.In (slice_index desk.versions r) z) (sym live) (go r l o out (eqb r n) refl);
+          only = λ v i. ⊎_elim
+              (λ old. ⊎_elim (λ e. inl e) (λ t. inr (t.0, (let l = t.1 in omega (arith, l)), t.2, t.3)) (h.only v old))
+              (λ (last : v ≡ slice_index desk.versions n). inr (n, omega arith, (λ within. let l = (h.drained n within).0 in absurd (omega (arith, l))), last))
+              (in_snoc v a.live.items (slice_index desk.versions n) (subst (λ (z : List ℕ). moves.In v z) live i));
+          found = λ r l o out. dite (ℕ_discrete r n) (λ e. inl e) (λ not. inr (h.found r (omega (arith, l, not)) o out));
+          stood = λ r within. ⊎_elim (λ (e : r ≡ n). subst (λ (z : ℕ). StoodAtAsk z m.0) (sym e) (is.place, is.used, is.stands)) (λ (t : In r m.0.blocked). h.stood r t) within;
           into = λ some. subst (λ (z : ℕ). In z m.0.drained) (sym into) (h.into some);
         }
       where
@@ -115,3 +146,12 @@ some_drained desk a m h = let there = h.knows.there in let e = h.behind there in
 -- a record is not asked twice
 pub not_asked : (n : ℕ) (desk : State) (a : Asked) (m : Seat) → HasAsked n desk a m → In n m.0.blocked → ⊥
 not_asked n desk a m h within = let l = h.blocked n within in omega (arith, l)
+
+-- each question is counted
+pub asks_drained : (n : ℕ) (m m' : Seat) → Drained n m m' → AsksEach m m'
+asks_drained n m m' is = let a : m'.0.asked ≡ m.0.asked + 1 = ap (λ (z : Seat). z.0.asked) is in let b : length m'.0.blocked ≡ length m.0.blocked = ap (λ (z : Seat). length z.0.blocked) is in
+    let d : length m'.0.drained ≡ length (n ∷ m.0.drained) = ap (λ (z : Seat). length z.0.drained) is in omega (arith, a, b, d)
+
+pub asks_blocked : (n : ℕ) (m m' : Seat) → Blocked stored n m m' → AsksEach m m'
+asks_blocked n m m' is = let a : m'.0.asked ≡ m.0.asked + 1 = ap (λ (z : Seat). z.0.asked) is.is in let b : length m'.0.blocked ≡ length (n ∷ m.0.blocked) = ap (λ (z : Seat). length z.0.blocked) is.is in
+    let d : length m'.0.drained ≡ length m.0.drained = ap (λ (z : Seat). length z.0.drained) is.is in omega (arith, a, b, d)

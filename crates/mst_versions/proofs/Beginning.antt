@@ -1,31 +1,33 @@
 -- What the holder of the turn has, once it has asked and swept.
-use Rattle.std.proofs.Common.{◌≡◌, ℕ, zero, suc, ◌+◌, ◌*◌, ◌<◌, ◌≤◌, ◌&&◌, ◌||◌, not, is_some, is_none, nat_lt, eqb, if◌then◌else◌, Bool, true, false, List, [], ◌∷◌, length, map, slice_index, Option, Some, None, refl, sym, ap, ◌∙◌, subst, arith}
-use Rattle.std.specs.Prelude.{◌↔◌, slice_get, IsTrue}
+use Rattle.std.proofs.Common.{◌≡◌, ℕ, zero, suc, ◌+◌, ◌*◌, ◌<◌, ◌≤◌, ◌&&◌, ◌||◌, not, is_some, is_none, nat_lt, eqb, if◌then◌else◌, Bool, true, false, List, [], ◌∷◌, length, map, slice_index, Option, Some, None, refl, sym, ap, ◌∙◌, subst, ⊎_elim, arith}
+use Rattle.std.specs.Prelude.{◌↔◌, slice_get, option_map, IsTrue}
 use Rattle.std.specs.List.{AllByRecursion, list_any}
 use Rattle.std.proofs.lemmas.Bool.{lt-ltb}
 use Rattle.std.proofs.lemmas.Bool.Decides.{nat_tests}
-use Rattle.std.proofs.lemmas.Option.{slice_get_within}
+use Rattle.std.proofs.lemmas.Option.{slice_get_within, slice_get-map}
 use Rattle.std.proofs.lemmas.List.{length-map}
 use Rattle.mst_key.specs.History.{after}
-use Rattle.mst_arena.specs.Lives.{State, version, reaches, reached_at, swept, IsSettled}
+use Rattle.mst_arena.specs.Lives.{State, version, reaches, reached_at, free_count, swept, IsSettled}
 use Rattle.mst_arena.specs.declared.life.Life.{Life}
-use Rattle.mst_arena.specs.declared.life.Life.TheVariants.{Free}
-use Rattle.mst_arena.specs.Standing.{numbers}
+use Rattle.mst_arena.specs.declared.life.Life.TheVariants.{Free, Born, Dead}
+use Rattle.mst_arena.specs.Standing.{IsDistinct, numbers}
 use Rattle.mst_arena.specs.declared.row.Root.{Root}
 use Rattle.mst_path.specs.Moves as moves
-use Rattle.mst_path.specs.Reached.{swept_by}
-use Rattle.mst_path.proofs.Reached.{same_swept, settled_swept, free_swept}
+use Rattle.mst_path.specs.Reached.{TogetherReach, swept_by}
+use Rattle.mst_path.proofs.FreeCounts.{count_swept}
+use Rattle.mst_path.proofs.Reached.{same_swept, settled_swept, free_swept, some_reach}
 use Rattle.mst_table.specs.declared.view.View.{View}
 use Rattle.mst_table.specs.Pins.{In}
-use Rattle.mst_table.specs.Records.{row, field}
-use Rattle.mst_table.specs.Steps.{Takes, IsGiving}
+use Rattle.mst_table.specs.Records.{IsBlank, row, field}
+use Rattle.mst_table.specs.Steps.{IsHolder, Takes, IsGiving}
 use Rattle.mst_table.specs.Stored.{rows_in, root_in, stored, state_of, desk_state}
 use Rattle.mst_table.specs.Access.{content_of, all_below, is_unreached, is_blank}
+use Rattle.mst_table.proofs.Accesses.{blank_row}
 use Rattle.mst_table.proofs.Framed.{stands_frame}
 use Rattle.mst_versions.specs.declared.turn.Asked.{Asked}
 use Rattle.mst_versions.specs.declared.turn.Turn.{Turn}
-use Rattle.mst_versions.specs.Asking.{HasAsked, AsksOnly}
-use Rattle.mst_versions.specs.Turns.{Seat, HoldsDesk, HasTurn}
+use Rattle.mst_versions.specs.Asking.{KnowsRecords, HasAsked, AsksOnly, AsksEach}
+use Rattle.mst_versions.specs.Turns.{Seat, IsKept, AreKept, HoldsDesk, HasTurn, TakesDesk}
 use Rattle.mst_versions.proofs.Asked.{some_drained}
 use Rattle.mst_versions.proofs.Members.{counted, found}
 use Rattle.mst_versions.proofs.Pinning.{link_of_root, in_list, each}
@@ -46,6 +48,20 @@ reached_inside lives v x is = go (slice_get lives x) refl is
 all_below_true : (n : ℕ) (p : ℕ → Bool) → ((r : ℕ) → r < n → p r ≡ true) → all_below n p ≡ true
 all_below_true zero p all = refl
 all_below_true (suc n) p all = ap (λ (b : Bool). b && all_below n p) (all n (omega arith)) ∙ all_below_true n p (λ r l. all r (omega (arith, l)))
+
+-- a row that a live version reaches keeps its life in a sweep
+kept_life : (live : List ℕ) (o : Option Life) (v : ℕ) → moves.In v live → reached_at o v ≡ true → option_map (swept live) o ≡ o
+kept_life live None v i is = refl
+kept_life live (Some Free) v i is = refl
+kept_life live (Some (Born b)) v i is = refl
+kept_life live (Some (Dead b d)) v i is = ap (λ (t : Bool). Some (if t then Dead b d else Free)) (some_reach (Dead b d) live v i is)
+
+same_ages : (live : List ℕ) (lives : List Life) (v x w : ℕ) → moves.In v live → reaches lives v x ≡ true → reaches (map (swept live) lives) w x ≡ reaches lives w x
+same_ages live lives v x w i is = ap (λ (o : Option Life). reached_at o w) (slice_get-map (swept live) lives x ∙ kept_life live (slice_get lives x) v i is)
+
+is_not : (t : Bool) → (t ≡ true → ⊥) → t ≡ false
+is_not true other = absurd (other refl)
+is_not false other = refl
 
 module _ (n : ℕ) (desk : State) (a : Asked) (m : Seat) (h : HasAsked n desk a m) where
   -- the version of a record that was not found drained is live
@@ -86,41 +102,68 @@ abbrev pub of_turn : {A : Type 0} → State → Root → ℕ → Turn A
 of_turn {A} desk root into = record { desk = desk; root = root; into = into }
 
 -- from the seat with the desk out of the slot to the one that has asked
-pub only_asked : (m n m' : Seat) → n ≡ (m.0, (0, None) ∷ []) → AsksOnly n m' → m' ≡ (record m.0 { drained = m'.0.drained; blocked = m'.0.blocked }, (0, None) ∷ [])
-only_asked m n m' left is = is ∙ ap (λ (z : Seat). (record z.0 { drained = m'.0.drained; blocked = m'.0.blocked }, z.1)) left
+pub only_asked : (m n m' : Seat) → n ≡ (m.0, (0, None) ∷ []) → AsksOnly n m' → m' ≡ (record m.0 { drained = m'.0.drained; blocked = m'.0.blocked; asked = m'.0.asked }, (0, None) ∷ [])
+only_asked m n m' left is = is ∙ ap (λ (z : Seat). (record z.0 { drained = m'.0.drained; blocked = m'.0.blocked; asked = m'.0.asked }, z.1)) left
 
 module _ (before taken : Seat) (p : Takes stored before taken) where
   -- only what was asked has changed, and the desk is out of the slot
   abbrev pub IsAskedOf : Seat → Type 0
-  IsAskedOf m = m ≡ (record taken.0 { drained = m.0.drained; blocked = m.0.blocked }, (0, None) ∷ [])
+  IsAskedOf m = m ≡ (record taken.0 { drained = m.0.drained; blocked = m.0.blocked; asked = m.0.asked }, (0, None) ∷ [])
 
   -- the view, when some records were found drained and others pinned
-  abbrev asked_view : List ℕ → List ℕ → View
-  asked_view drained blocked = record before.0 { seen = p.log; held = p.words; turn = true; desk = p.desk; due = None; mask = 0; drained = drained; blocked = blocked; noted = None }
+  abbrev asked_view : List ℕ → List ℕ → ℕ → View
+  asked_view drained blocked asked = record before.0 { seen = p.log; held = p.words; turn = true; desk = p.desk; due = None; mask = 0; drained = drained; blocked = blocked; noted = None; asked = asked }
 
-  abbrev asked_seat : List ℕ → List ℕ → Seat
-  asked_seat drained blocked = (asked_view drained blocked, (0, None) ∷ [])
+  abbrev asked_seat : List ℕ → List ℕ → ℕ → Seat
+  asked_seat drained blocked asked = (asked_view drained blocked asked, (0, None) ∷ [])
 
   abbrev turn_of : {A : Type 0} → State → Asked → Root → Turn A
   turn_of {A} desk a root = record { desk = swept_by a.live.items desk; root = root; into = a.into }
 
-  blank_free : (drained blocked : List ℕ) (a : Asked) → HasAsked (before.0.passes + 2) (state_of p.desk) a (asked_seat drained blocked) → (x : ℕ)
-      → slice_get (map (swept a.live.items) p.desk.lives) x ≡ Some Free → IsTrue (is_blank (asked_view drained blocked) x)
-  blank_free drained blocked a h x free =
+  blank_free : (drained blocked : List ℕ) (asked : ℕ) (a : Asked) → HasAsked (before.0.passes + 2) (state_of p.desk) a (asked_seat drained blocked asked) → (x : ℕ)
+      → slice_get (map (swept a.live.items) p.desk.lives) x ≡ Some Free → IsTrue (is_blank (asked_view drained blocked asked) x)
+  blank_free drained blocked asked a h x free =
       let inside : x < length p.desk.lives = free_inside a.live.items p.desk.lives x free in
       let lt : x < before.0.rows = (let r = p.is_desk.rows_is in omega (arith, inside, r)) in
       let there : x * 16 + 255 < length p.words = (let w = p.wide in omega (arith, lt, w)) in
       let pinless : before.0.pin ≡ None = h.knows.holder.1 in
-      let none : is_unreached (asked_view drained blocked) x ≡ true = unreached (before.0.passes + 2) (state_of p.desk) a (asked_seat drained blocked) h p.is_desk.settled x free inside in
-      ap (λ (b : Bool). b && nat_lt x before.0.rows && true && is_none before.0.pin && true && is_unreached (asked_view drained blocked) x) (lt-ltb (x * 16 + 255) (length p.words) there)
-      ∙ ap (λ (b : Bool). true && b && true && is_none before.0.pin && true && is_unreached (asked_view drained blocked) x) (lt-ltb x before.0.rows lt)
-      ∙ ap (λ (o : Option ℕ). true && true && true && is_none o && true && is_unreached (asked_view drained blocked) x) pinless
+      let none : is_unreached (asked_view drained blocked asked) x ≡ true = unreached (before.0.passes + 2) (state_of p.desk) a (asked_seat drained blocked asked) h p.is_desk.settled x free inside in
+      ap (λ (b : Bool). b && nat_lt x before.0.rows && true && is_none before.0.pin && true && is_unreached (asked_view drained blocked asked) x) (lt-ltb (x * 16 + 255) (length p.words) there)
+      ∙ ap (λ (b : Bool). true && b && true && is_none before.0.pin && true && is_unreached (asked_view drained blocked asked) x) (lt-ltb x before.0.rows lt)
+      ∙ ap (λ (o : Option ℕ). true && true && true && is_none o && true && is_unreached (asked_view drained blocked asked) x) pinless
       ∙ none
 
-  holds : {A : Type 0} (drained blocked : List ℕ) (a : Asked) (root : Root) → HasAsked (before.0.passes + 2) (state_of p.desk) a (asked_seat drained blocked)
-      → HoldsDesk (turn_of {A = A} (state_of p.desk) a root) (asked_seat drained blocked)
-  holds {A} drained blocked a root h =
-      let into : In a.into drained = h.into (some_drained (state_of p.desk) a (asked_seat drained blocked) h) in
+  -- the versions that are live are those of the current record and of the records that were found pinned
+  kept_of : (drained blocked : List ℕ) (asked : ℕ) (a : Asked) → HasAsked (before.0.passes + 2) (state_of p.desk) a (asked_seat drained blocked asked) → (v : ℕ) → moves.In v a.live.items → IsKept (state_of p.desk) (asked_view drained blocked asked) v
+  kept_of drained blocked asked a h v i = ⊎_elim
+      (λ (e : v ≡ version (state_of p.desk)). (p.desk.current, h.knows.there, (λ within. (h.drained p.desk.current within).1 refl), e))
+      (λ (t : (r : ℕ) × (r < before.0.passes + 2) × (In r drained → ⊥) × (v ≡ slice_index p.desk.versions r)). t) (h.only v i)
+
+  live_kept : (drained blocked : List ℕ) (asked : ℕ) (a : Asked) → HasAsked (before.0.passes + 2) (state_of p.desk) a (asked_seat drained blocked asked) → (v : ℕ) → IsKept (state_of p.desk) (asked_view drained blocked asked) v → moves.In v a.live.items
+  live_kept drained blocked asked a h v (r, l, out, is) = subst (λ (n : ℕ). moves.In n a.live.items) (sym is) (live_of (before.0.passes + 2) (state_of p.desk) a (asked_seat drained blocked asked) h r l out)
+
+  free_blank : (drained blocked : List ℕ) (asked : ℕ) (a : Asked) → HasAsked (before.0.passes + 2) (state_of p.desk) a (asked_seat drained blocked asked) → (x : ℕ)
+      → is_blank (asked_view drained blocked asked) x ≡ true → slice_get (map (swept a.live.items) p.desk.lives) x ≡ Some Free
+  free_blank drained blocked asked a h x blank =
+      let b : IsBlank stored (asked_view drained blocked asked) x = blank_row (asked_view drained blocked asked) x blank in
+      let inside : x < length p.desk.lives = (let r = p.is_desk.rows_is in let l = b.0 in omega (arith, l, r)) in
+      (free_swept (state_of p.desk) a.live.items x p.is_desk.settled h.now inside).1
+      (λ v i. let k = kept_of drained blocked asked a h v i in is_not (reaches p.desk.lives v x) (λ (reached : reaches p.desk.lives v x ≡ true). b.1 k.0 k.1 k.2 (subst (λ (n : ℕ). reaches p.desk.lives n x ≡ true) k.3 reached)))
+
+  counted_rows : (drained blocked : List ℕ) (asked : ℕ) (a : Asked) → HasAsked (before.0.passes + 2) (state_of p.desk) a (asked_seat drained blocked asked) → (live rows : List ℕ) → AreKept (swept_by a.live.items (state_of p.desk)) (asked_view drained blocked asked) live
+      → IsDistinct rows → TogetherReach (map (swept a.live.items) p.desk.lives) live rows → free_count (map (swept a.live.items) p.desk.lives) + length rows ≡ before.0.rows
+  counted_rows drained blocked asked a h live rows kept once together =
+      let same : (v : ℕ) → moves.In v a.live.items → (x : ℕ) → reaches (map (swept a.live.items) p.desk.lives) v x ≡ reaches p.desk.lives v x = λ v i x. same_swept (state_of p.desk) a.live.items v x i in
+      count_swept (state_of p.desk) a.live.items rows p.is_desk.settled h.now once
+      (λ x. (
+        (λ (v, i, is). (together x).0 (v, (kept v).1 (kept_of drained blocked asked a h v i), same v i x ∙ is)),
+        (λ i. let t = (together x).1 i in let l = live_kept drained blocked asked a h t.0 ((kept t.0).0 t.1) in (t.0, l, sym (same t.0 l x) ∙ t.2)),
+      )) ∙ p.is_desk.rows_is
+
+  holds : {A : Type 0} (drained blocked : List ℕ) (asked : ℕ) (a : Asked) (root : Root) → HasAsked (before.0.passes + 2) (state_of p.desk) a (asked_seat drained blocked asked)
+      → HoldsDesk (turn_of {A = A} (state_of p.desk) a root) (asked_seat drained blocked asked)
+  holds {A} drained blocked asked a root h =
+      let into : In a.into drained = h.into (some_drained (state_of p.desk) a (asked_seat drained blocked asked) h) in
       record {
         holder = h.knows.holder;
         slot = refl;
@@ -131,11 +174,13 @@ module _ (before taken : Seat) (p : Takes stored before taken) where
         rows_is = length-map p.desk.lives (swept a.live.items) ∙ p.is_desk.rows_is;
         records = p.is_desk.records;
         version_is = p.stands.filed;
-        agrees = λ r l out. (
-          refl,
-          (λ x i. same_rows (before.0.passes + 2) (state_of p.desk) a (asked_seat drained blocked) h r x l out ∙ i),
-          (λ x i. sym (same_rows (before.0.passes + 2) (state_of p.desk) a (asked_seat drained blocked) h r x l out) ∙ i),
-        );
+        earlier = p.is_desk.earlier;
+        agrees = λ r l out. record {
+          version = refl;
+          reached = λ x i. same_rows (before.0.passes + 2) (state_of p.desk) a (asked_seat drained blocked asked) h r x l out ∙ i;
+          exactly = λ x i. sym (same_rows (before.0.passes + 2) (state_of p.desk) a (asked_seat drained blocked asked) h r x l out) ∙ i;
+          ages = λ x v _ i. let same = same_ages a.live.items p.desk.lives (slice_index p.desk.versions r) x v (live_of (before.0.passes + 2) (state_of p.desk) a (asked_seat drained blocked asked) h r l out) i in ((λ is. same ∙ is), (λ is. sym same ∙ is));
+        };
         into_drained = into;
         into_in = (h.drained a.into into).0;
         into_other = (h.drained a.into into).1;
@@ -151,20 +196,26 @@ module _ (before taken : Seat) (p : Takes stored before taken) where
         λ i. same ∙ subst (λ (v : ℕ). reaches p.desk.lives v x ≡ true) (sym number) (p.stands.reached x (found x p.used i)),
       )
 
-  known : {A : Type 0} (drained blocked : List ℕ) (a : Asked) (root : Root) → HasAsked (before.0.passes + 2) (state_of p.desk) a (asked_seat drained blocked) → root ≡ root_in (field p.words p.desk.current)
-      → HasTurn (turn_of {A = A} (state_of p.desk) a root) (asked_seat drained blocked)
-  known {A} drained blocked a root h here =
-      let v : View = asked_view drained blocked in
+  known : {A : Type 0} (drained blocked : List ℕ) (asked : ℕ) (a : Asked) (root : Root) → HasAsked (before.0.passes + 2) (state_of p.desk) a (asked_seat drained blocked asked) → root ≡ root_in (field p.words p.desk.current)
+      → HasTurn (turn_of {A = A} (state_of p.desk) a root) (asked_seat drained blocked asked)
+  known {A} drained blocked asked a root h here =
+      let v : View = asked_view drained blocked asked in
       let s = p.stands.stands in
       let content : AllByRecursion (λ x. content_of v x ≡ rows_in (row p.words) x) (numbers s.0) = subst (AllByRecursion (λ x. content_of v x ≡ rows_in (row p.words) x)) (sym s.1)
       (each (λ x. content_of v x ≡ rows_in (row p.words) x) p.used (λ x within. reads_held v x refl (p.stands.inside x within))) in
       let t = stands_frame (rows_in (row p.words)) (content_of v) (root_in (field p.words p.desk.current)) root (after p.log) s.0 content here in
       record {
-        holds = holds {A = A} drained blocked a root h;
+        holds = holds {A = A} drained blocked asked a root h;
         settled = settled_swept (state_of p.desk) a.live.items p.is_desk.settled;
         stands = t.0;
         reached = λ x. subst (λ (used : List ℕ). reaches (map (swept a.live.items) p.desk.lives) (version (state_of p.desk)) x ≡ true ↔ moves.In x used) (sym (t.1 ∙ s.1)) (reached_now a h.now x);
-        blank = λ x free. blank_free drained blocked a h x free;
+        blank = λ x free. blank_free drained blocked asked a h x free;
+        free = λ x blank. free_blank drained blocked asked a h x blank;
+        kept = λ r l out other. h.found r l other out;
+        stood = h.stood;
+        now = (p.desk.current, h.knows.there, (λ within. (h.drained p.desk.current within).1 refl), refl);
+        fewer = h.fewer;
+        count = λ live rows kept once together. counted_rows drained blocked asked a h live rows kept once together;
       }
 
   pub slot_there : taken.1 ≡ (0, Some (state_of p.desk)) ∷ []
@@ -175,8 +226,8 @@ module _ (before taken : Seat) (p : Takes stored before taken) where
   desk_there desk slot = ap (λ (s : List (ℕ × Option State)). desk_in s desk) (sym slot ∙ slot_there)
 
   -- what was asked is all that has changed since
-  whole : (m : Seat) → IsAskedOf m → m ≡ asked_seat m.0.drained m.0.blocked
-  whole m is = is ∙ ap (λ (z : Seat). (record z.0 { drained = m.0.drained; blocked = m.0.blocked }, (0, None) ∷ [])) p.is
+  whole : (m : Seat) → IsAskedOf m → m ≡ asked_seat m.0.drained m.0.blocked m.0.asked
+  whole m is = is ∙ ap (λ (z : Seat). (record z.0 { drained = m.0.drained; blocked = m.0.blocked; asked = m.0.asked }, (0, None) ∷ [])) p.is
 
   -- the link that the current record has
   pub link_there : (desk : State) (m : Seat) (which : ℕ) → taken.1 ≡ (0, Some desk) ∷ [] → IsAskedOf m → which ≡ desk.current → taken.0.rows ≤ 65535 → field m.0.held which 1 ≤ 65535
@@ -191,14 +242,14 @@ module _ (before taken : Seat) (p : Takes stored before taken) where
       → HasAsked (passes + 2) desk a m → which ≡ desk.current → root ≡ root_in (field m.0.held which) → live ≡ a.live.items → swept ≡ swept_by live desk → HasTurn (of_turn {A = A} swept root a.into) m
   ready {A} desk swept a live root m which passes slot is few h current here all by =
       let d : desk ≡ state_of p.desk = desk_there desk slot in
-      let w : m ≡ asked_seat m.0.drained m.0.blocked = whole m is in
+      let w : m ≡ asked_seat m.0.drained m.0.blocked m.0.asked = whole m is in
       let n : passes ≡ before.0.passes = few ∙ ap (λ (z : Seat). z.0.passes) p.is in
-      let asked : HasAsked (before.0.passes + 2) (state_of p.desk) a (asked_seat m.0.drained m.0.blocked) = subst (λ (z : Seat). HasAsked (before.0.passes + 2) (state_of p.desk) a z) w
+      let known_asked : HasAsked (before.0.passes + 2) (state_of p.desk) a (asked_seat m.0.drained m.0.blocked m.0.asked) = subst (λ (z : Seat). HasAsked (before.0.passes + 2) (state_of p.desk) a z) w
       (subst (λ (s : State). HasAsked (before.0.passes + 2) s a m) d (subst (λ (k : ℕ). HasAsked (k + 2) desk a m) n h)) in
       let root_is : root ≡ root_in (field p.words p.desk.current) = here ∙ ap (λ (z : Seat). root_in (field z.0.held which)) w ∙ ap (λ (r : ℕ). root_in (field p.words r)) (current ∙ ap (λ (s : State). s.current) d) in
       let swept_is : swept ≡ swept_by a.live.items (state_of p.desk) = by ∙ ap (λ (l : List ℕ). swept_by l desk) all ∙ ap (λ (s : State). swept_by a.live.items s) d in
       subst (λ (s : State). HasTurn (of_turn {A = A} s root a.into) m) (sym swept_is)
-      (subst (λ (z : Seat). HasTurn (of_turn {A = A} (swept_by a.live.items (state_of p.desk)) root a.into) z) (sym w) (known {A = A} m.0.drained m.0.blocked a root asked root_is))
+      (subst (λ (z : Seat). HasTurn (of_turn {A = A} (swept_by a.live.items (state_of p.desk)) root a.into) z) (sym w) (known {A = A} m.0.drained m.0.blocked m.0.asked a root known_asked root_is))
 
 -- the turn may be given back once the desk lies in the slot again
 pub giving : {A : Type 0} (t : Turn A) (m m' : Seat) → HasTurn t m → m' ≡ (m.0, (0, Some t.desk) ∷ []) → IsGiving stored (Some t.desk) (desk_state t.desk) m'
@@ -206,7 +257,50 @@ giving t m m' h is = let k = h.holds in subst (λ (z : Seat). IsGiving stored (S
   on = k.holder.0;
   settled = k.holder.2;
   slot = refl;
-  is_desk = record { there = refl; rows_is = k.rows_is; records = k.records; settled = h.settled };
+  is_desk = record { there = refl; rows_is = k.rows_is; records = k.records; settled = h.settled; earlier = k.earlier };
   current = k.current;
   agrees = k.agrees;
 }
+
+-- ---- the desk as it was taken
+
+module _ (before : Seat) (desk : State) (m : Seat) (out : TakesDesk before desk m) where
+  abbrev p : Takes stored before out.0
+  p = out.1
+
+  -- the view of the holder of the turn
+  abbrev holding : View
+  holding = record before.0 { seen = p.log; held = p.words; turn = true; desk = p.desk; due = None; mask = 0; drained = []; blocked = []; noted = None; asked = before.0.asked + 1 }
+
+  same_desk : desk ≡ state_of p.desk
+  same_desk = desk_there before out.0 p desk out.2
+
+  pub has_out : m ≡ (holding, (0, None) ∷ [])
+  has_out = out.3 ∙ ap (λ (z : Seat). (z.0, (0, None) ∷ [])) p.is
+
+  pub none_drained : m.0.drained ≡ []
+  none_drained = ap (λ (z : Seat). z.0.drained) has_out
+
+  pub none_blocked : m.0.blocked ≡ []
+  none_blocked = ap (λ (z : Seat). z.0.blocked) has_out
+
+  -- the records may be asked
+  pub knows : (passes : ℕ) → IsHolder m → passes ≡ m.0.passes → passes ≤ 32 → KnowsRecords desk m
+  knows passes holder size few = subst (λ (z : Seat). KnowsRecords desk z) (sym has_out) record {
+    holder = subst IsHolder has_out holder;
+    some = let d = p.dealt in let a = d.0 in let b = d.1 in omega (arith, a, b);
+    few = subst (λ (z : Seat). z.0.passes ≤ 32) has_out (subst (λ (n : ℕ). n ≤ 32) size few);
+    current = sym (ap (λ (s : State). s.current) same_desk);
+    there = subst (λ (s : State). s.current < before.0.passes + 2) (sym same_desk) p.stands.numbered;
+    records = ap (λ (s : State). length s.versions) same_desk ∙ p.is_desk.records;
+  }
+
+-- every record but the current one was asked, once
+pub all_asked : (desk : State) (a : Asked) (m m' : Seat) (passes : ℕ) → passes ≡ m.0.passes → m.0.drained ≡ [] → m.0.blocked ≡ [] → AsksOnly m m' → AsksEach m m' → HasAsked (passes + 2) desk a m' → m'.0.asked ≡ m.0.asked + passes + 1
+all_asked desk a m m' passes n drained blocked kept each h =
+    let size : m'.0.passes ≡ m.0.passes = ap (λ (z : Seat). z.0.passes) kept in
+    let there = h.knows.there in
+    let all = h.behind (omega (arith, there, size, n)) in
+    let d : length m.0.drained ≡ 0 = ap (λ (z : List ℕ). length z) drained in
+    let b : length m.0.blocked ≡ 0 = ap (λ (z : List ℕ). length z) blocked in
+    omega (arith, each, all, d, b)

@@ -4,3 +4,5 @@ pub mod Members
 pub mod Pinning
 pub mod Filing
 pub mod Ready
+mod Made
+mod Written

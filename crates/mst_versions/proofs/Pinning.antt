@@ -55,7 +55,7 @@ pub pinned_root : (m m' : Me Slot View) (found : ℕ) (p : PinsNow stored m foun
 pinned_root m m' found p at is version root = subst (λ (z : Me Slot View). at.version ≡ field z.0.held at.pinned 0 → at.root ≡ root_in (field z.0.held at.pinned) → Pins m at z) (sym p.is) known version root
   where
     w : View
-    w = record m.0 { pin = Some p.cur; place = p.log; stood = p.used; held = p.words }
+    w = record m.0 { pin = Some p.cur; place = p.log; stood = p.used; held = p.words; asked = m.0.asked + 1 }
 
     content : AllByRecursion (λ x. content_of w x ≡ rows_in (row p.words) x) (numbers p.stands.0)
     content = subst (AllByRecursion (λ x. content_of w x ≡ rows_in (row p.words) x)) (sym p.stands.1)

@@ -1,6 +1,8 @@
 -- A version that is made stands ready to be published.
-use Rattle.std.proofs.Common.{◌≡◌, ℕ, ◌+◌, ◌*◌, ◌<◌, true, false, Option, Some, None, List, [], ◌∷◌, ◌++◌, length, slice_get, refl, sym, ap, ◌∙◌, subst, arith, length-set, get_or-set_same, get_or-set_other}
+use Rattle.std.proofs.Common.{◌≡◌, ℕ, ◌+◌, ◌*◌, ◌<◌, ◌≤◌, true, false, Option, Some, None, List, [], ◌∷◌, ◌++◌, length, slice_get, set, get_or, refl, sym, ap, ◌∙◌, subst, arith, length-set, get_or-set_same, get_or-set_other}
 use Rattle.std.specs.List.{AllByRecursion}
+use mathlib.Core.Logic.{dite}
+use native.Mathlib.Decide.{ℕ_discrete}
 use Rattle.std.proofs.lemmas.Option.{slice_get_within}
 use Rattle.mst_key.specs.declared.history.Event.{Event}
 use Rattle.mst_key.specs.History.{History, after}
@@ -70,7 +72,7 @@ module _ {A : Type 0} (t : Turn A) (root : Root) (e : Event) (m : Seat) (made : 
   agree : (r : ℕ) → r < m.0.passes + 2 → (In r m.0.drained → ⊥) → Agrees stored m.0.desk state r
   agree r small pinned = let a = holds.agrees r small pinned in
       let same : version_of state r ≡ version_of (desk_state t.desk) r = get_or-set_other t.desk.versions t.into r (next t.desk) 0 (λ is. pinned (subst (λ (z : ℕ). In z m.0.drained) (sym is) holds.into_drained)) in
-      (same ∙ a.0, a.1, a.2)
+      record { version = same ∙ a.version; reached = a.reached; exactly = a.exactly; ages = a.ages }
 
   ready : IsReady stored t.into e state (numbers made.stands) now
   ready = record {
@@ -90,7 +92,16 @@ module _ {A : Type 0} (t : Turn A) (root : Root) (e : Event) (m : Seat) (made : 
 
   -- what the pass holds when the version is published, the mask is moved and the desk is back
   abbrev given : State → ℕ → Seat
-  given s mask = (record now { seen = m.0.seen ++ e ∷ []; mine = m.0.mine ++ e ∷ []; due = None; mask = mask; drained = []; blocked = []; noted = None; desk = desk_state s }, (0, Some s) ∷ [])
+  given s mask = (record now { seen = m.0.seen ++ e ∷ []; mine = m.0.mine ++ e ∷ []; due = None; mask = mask; drained = []; blocked = []; noted = None; desk = desk_state s; asked = m.0.asked + 1 }, (0, Some s) ∷ [])
+
+  now_is : version (advanced t.into t.desk) ≡ next t.desk
+  now_is = get_or-set_same t.desk.versions t.into (next t.desk) 0 (let l = holds.records in let i = holds.into_in in omega arith)
+
+  -- no record has a later version than the new one
+  below : (r : ℕ) → r < m.0.passes + 2 → get_or (set t.desk.versions t.into (next t.desk)) r 0 ≤ next t.desk
+  below r l = dite (ℕ_discrete r t.into)
+      (λ is. let e : get_or (set t.desk.versions t.into (next t.desk)) r 0 ≡ next t.desk = ap (λ (z : ℕ). get_or (set t.desk.versions t.into (next t.desk)) z 0) is ∙ now_is in omega (arith, e))
+      (λ other. let e = get_or-set_other t.desk.versions t.into r (next t.desk) 0 other in let b = holds.earlier r l in omega (arith, e, b))
 
   given_back : (mask : ℕ) → IsGiving stored (Some (advanced t.into t.desk)) state (given (advanced t.into t.desk) mask)
   given_back mask = record {
@@ -102,9 +113,10 @@ module _ {A : Type 0} (t : Turn A) (root : Root) (e : Event) (m : Seat) (made : 
       rows_is = holds.rows_is;
       records = length-set t.desk.versions t.into (next t.desk) ∙ holds.records;
       settled = made.settled;
+      earlier = λ r l. subst (λ (n : ℕ). get_or (set t.desk.versions t.into (next t.desk)) r 0 ≤ n) (sym now_is) (below r l);
     };
     current = refl;
-    agrees = λ r _ _. (refl, (λ x h. h), (λ x h. h));
+    agrees = λ r _ _. record { version = refl; reached = λ x h. h; exactly = λ x h. h; ages = λ x v _ _. ((λ is. is), (λ is. is)) };
   }
 
   pub giving : (s : State) (mask : ℕ) (m' : Seat) → s ≡ advanced t.into t.desk → m' ≡ given s mask → (x : Option State) × (d : DeskState) × IsGiving stored x d m'

@@ -15,9 +15,9 @@ pub record HasPinned (at : PinnedRoot) (v : View) : Type 0 where
   pub version : at.version ≡ length v.place
   pub stands : Stands One (content_of v) at.root (after v.place)
 
--- The current version was pinned. The history at the pin begins with all that the pass had seen, and its events there are its own. Nothing else changed
+-- The current version was pinned. The history at the pin begins with all that the pass had seen, and its events there are its own. One step was counted, the pin. Nothing else changed
 pub record Pins {S : Type 0} (m : Me S View) (at : PinnedRoot) (m' : Me S View) : Type 0 where
   pub later : Begins m.0.seen m'.0.place
   pub own : events_of m.0.number m'.0.place ≡ m.0.mine
   pub has : HasPinned at m'.0
-  pub rest : m' ≡ (record m.0 { pin = m'.0.pin; place = m'.0.place; stood = m'.0.stood; held = m'.0.held }, m.1)
+  pub rest : m' ≡ (record m.0 { pin = m'.0.pin; place = m'.0.place; stood = m'.0.stood; held = m'.0.held; asked = m.0.asked + 1 }, m.1)

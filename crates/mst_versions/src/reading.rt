@@ -4,6 +4,7 @@ ghost use Rattle.std.specs.Option.{option_copied};
 ghost use Rattle.mst_key.specs.Map.{look, successor, span};
 ghost use Rattle.mst_key.specs.History.{after};
 ghost use Rattle.mst_key.specs.declared.format.Format.TheVariants.{One};
+ghost use Rattle.mst_node.specs.Text as text;
 ghost use Rattle.mst_node.specs.Trail.{proof_text};
 ghost use Rattle.mst_table.specs.Access.{IsSameSeat};
 ghost use Rattle.mst_table.specs.Steps.{IsFree};
@@ -67,6 +68,15 @@ pub fn next<A: Allocator + Copy>(
     ensures same { seat.new ≡ seat.old }
 {
     mst_read::next(seat, &at.root, bound)
+}
+
+/// The root digest of the pinned version's map.
+pub fn root<A: Allocator + Copy>(seat: &mut PassSeat<'_, A>, at: &PinnedRoot) -> [u8; 32]
+    requires pinned { HasPinned at.now seat.old.me.0 }
+    ensures found { result ≡ text.root One (after seat.old.me.0.place) }
+    ensures same { seat.new ≡ seat.old }
+{
+    mst_read::root(seat, &at.root)
 }
 
 /// The first pairs of the pinned version, at most `limit`, of the keys that are at least `from` and below `to`. A bound that is not given does not bind.

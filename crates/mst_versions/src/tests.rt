@@ -1,10 +1,12 @@
-//! A new table: its empty map read under a pin, and its turn taken and given back.
+//! A new table: its empty map read under a pin, its turn taken and given back, and versions published while an older one is pinned.
 ghost use Rattle.std.specs.Prelude.{◌≡◌, ◌+◌, ◌*◌, [], IfOk};
 ghost use Rattle.mst_table.specs.World.{dealer};
 
-use crate::{begin, get, give_back, next, pin, prove, range};
+use crate::{
+    NotBegun, WriteFault, begin, begin_write, get, give_back, next, pin, prove, range, write,
+};
 use mst_arena::Desk;
-use mst_key::{Key, Memory};
+use mst_key::{Change, Event, Key, Memory, Value};
 use mst_node::empty_digest;
 use mst_table::{Board, Shape, Token};
 use std::alloc::Allocator;
@@ -65,5 +67,68 @@ fn one_pass_has_the_turn(rt: HostRuntime) -> Result<(), Fail> {
         panic!(rt; "the turn is free again")
     };
     give_back(&mut first, turn);
+    Ok(())
+}
+
+#[test]
+fn a_write_is_begun_by_one_pass(rt: HostRuntime) -> Result<(), Fail> {
+    let Ok((board, mut dealer)) = opened(rt.alloc()) else {
+        panic!(rt; "no memory")
+    };
+    let mut first = board.deal(&mut dealer);
+    let mut second = board.deal(&mut dealer);
+    let Ok(turn) = begin_write(&mut first, 1, 2) else {
+        panic!(rt; "the turn is free")
+    };
+    match begin_write(&mut second, 2, 2) {
+        Err(NotBegun::Busy) => {}
+        _ => panic!(rt; "the first pass has the turn"),
+    }
+    give_back(&mut first, turn);
+    Ok(())
+}
+
+// The event that a pass makes by putting the key a.
+fn putting(pass: u32, value: &[u8]) -> Result<Event, Fail>
+    ensures mine { IfOk result (λ event. event.pass ≡ pass) }
+{
+    Ok(Event {
+        pass,
+        change: Change::Put(Key::new(b"a")?, Value::new(value)?),
+    })
+}
+
+#[test]
+fn an_older_version_is_read_beside_the_newest(rt: HostRuntime) -> Result<(), Fail> {
+    let Ok((board, mut dealer)) = opened(rt.alloc()) else {
+        panic!(rt; "no memory")
+    };
+    let key = Key::new(b"a")?;
+    let mut first = board.deal(&mut dealer);
+    let mut second = board.deal(&mut dealer);
+    let Ok(None) = write(&mut first, 1, 2, &putting(1, b"1")?) else {
+        panic!(rt; "the map was empty")
+    };
+    let old = pin(&mut second, 2);
+    let Ok(Some(before)) = write(&mut first, 1, 2, &putting(1, b"2")?) else {
+        panic!(rt; "the key had a value")
+    };
+    let new = pin(&mut first, 1);
+    assert!(rt; (old.version, new.version) == (1, 2) && old.pinned != new.pinned);
+    assert!(rt; before.bytes() == b"1".as_slice());
+    let (Some(then), Some(now)) = (get(&mut second, &old, &key), get(&mut first, &new, &key)) else {
+        panic!(rt; "both versions have the key")
+    };
+    assert!(rt; then.bytes() == b"1".as_slice() && now.bytes() == b"2".as_slice());
+    first.unpin(1, new.pinned);
+    // the rows of both versions are in use
+    let Err(WriteFault::NoRoom) = write(&mut first, 1, 2, &putting(1, b"3")?) else {
+        panic!(rt; "the older version is pinned")
+    };
+    second.unpin(2, old.pinned);
+    let Ok(Some(before)) = write(&mut first, 1, 2, &putting(1, b"3")?) else {
+        panic!(rt; "nothing is pinned")
+    };
+    assert!(rt; before.bytes() == b"2".as_slice());
     Ok(())
 }

@@ -1,10 +1,11 @@
 //! The turn: from taking it with the desk to giving both back.
-ghost use Rattle.std.specs.Prelude.{◌≡◌, ◌<◌, ◌≤◌, ◌+◌, ◌∷◌, [], IfSome, IfNone, None, false};
+ghost use Rattle.std.specs.Prelude.{◌≡◌, ◌<◌, ◌≤◌, ◌+◌, ◌∷◌, [], length, IfSome, IfNone, IfOk, IfErr, OnOk, Some, None, false};
 ghost use Rattle.mst_table.specs.Access.{IsSameSeat};
-ghost use Rattle.mst_table.specs.Steps.{IsFree, IsHolder, Misses, Takes};
-ghost use Rattle.mst_table.specs.Stored.{stored};
-ghost use Rattle.mst_versions.specs.Asking.{KnowsRecords, HasAsked, AsksOnly};
-ghost use Rattle.mst_versions.specs.Turns.{Seat, HasTurn, Begun};
+ghost use Rattle.mst_arena.specs.Lives.{last_version};
+ghost use Rattle.mst_table.specs.Steps.{IsFree, IsHolder, IsGiving, Misses};
+ghost use Rattle.mst_table.specs.Stored.{stored, desk_state};
+ghost use Rattle.mst_versions.specs.Asking.{KnowsRecords, HasAsked, AsksOnly, AsksEach};
+ghost use Rattle.mst_versions.specs.Turns.{Seat, TakesDesk, HasTurn, Begun, Refuses};
 
 use crate::roots::read_root;
 use arrayvec::ArrayVec;
@@ -26,6 +27,15 @@ pub struct Turn<A: Allocator> {
     pub into: u32,
 }
 
+/// Why no write was begun.
+#[derive(Clone, Copy, Debug, PartialEq, Eq)]
+pub enum NotBegun {
+    /// Another pass has the turn.
+    Busy,
+    /// The current version has the last number, 2^63 - 1.
+    VersionsSpent,
+}
+
 /// What the holder of the turn has learnt of the records.
 #[derive(Drop)]
 struct Asked {
@@ -42,6 +52,7 @@ impl Asked {
         requires there { which < seat.old.me.0.passes + 2 }
         ensures same { IsSameSeat seat.old seat.new }
         ensures kept { AsksOnly seat.old.me seat.new.me }
+        ensures counted { AsksEach seat.old.me seat.new.me }
         ensures asked { HasAsked (which + 1) desk.now self.new seat.new.me }
     {
         let (current, _) = desk.current();
@@ -63,6 +74,7 @@ fn ask_others<A: Allocator + Copy>(seat: &mut PassSeat<'_, A>, desk: &Desk<A>, p
     requires none { (seat.old.me.0.drained ≡ []) × (seat.old.me.0.blocked ≡ []) }
     ensures same { IsSameSeat seat.old seat.new }
     ensures kept { AsksOnly seat.old.me seat.new.me }
+    ensures counted { AsksEach seat.old.me seat.new.me }
     ensures asked { HasAsked (passes + 2) desk.now result seat.new.me }
 {
     let (current, version) = desk.current();
@@ -78,18 +90,48 @@ fn ask_others<A: Allocator + Copy>(seat: &mut PassSeat<'_, A>, desk: &Desk<A>, p
     asked
 }
 
-// Makes the holder of the turn ready for a write: the desk is taken, a record is found for the version to come, and the rows that no version reaches are freed.
-fn make_ready<A: Allocator + Copy>(seat: &mut PassSeat<'_, A>, passes: u32) -> Turn<A>
+// Takes the turn, and the desk out of the slot. `None` comes where another pass has the turn.
+fn take<A: Allocator + Copy>(seat: &mut PassSeat<'_, A>, number: u32) -> Option<Desk<A>>
+    requires free { IsFree number seat.old.me }
+    ensures same { IsSameSeat seat.old seat.new }
+    ensures missed { IfNone result (Misses seat.old.me seat.new.me) }
+    ensures taken { IfSome result (λ desk. TakesDesk seat.old.me desk seat.new.me) }
+    ensures holder { IfSome result (λ _. IsHolder seat.new.me) }
+{
+    if seat.take_turn(number) {
+        Some(seat.take_desk())
+    } else {
+        None
+    }
+}
+
+// Gives the turn back, and the desk: one exchange and one store.
+fn lay_back<A: Allocator + Copy>(seat: &mut PassSeat<'_, A>, desk: Desk<A>)
+    requires out { seat.old.me.1 ≡ (0, None) ∷ [] }
+    requires giving { IsGiving stored (Some desk) (desk_state desk) (seat.old.me.0, (0, Some desk) ∷ []) }
+    ensures same { IsSameSeat seat.old seat.new }
+    ensures gave { seat.new.me ≡ (record seat.old.me.0 { turn = false }, []) }
+{
+    seat.return_desk(desk);
+    seat.give_turn();
+}
+
+// Makes the holder of the turn ready for a write: a record is found for the version to come, and the rows that no version reaches are freed.
+fn make_ready<A: Allocator + Copy>(
+    seat: &mut PassSeat<'_, A>,
+    mut desk: Desk<A>,
+    passes: u32,
+) -> Turn<A>
+    requires taken { (before : Seat) × TakesDesk before desk seat.old.me }
     requires holder { IsHolder seat.old.me }
-    requires taken { (before : Seat) × Takes stored before seat.old.me }
     requires passes { passes ≡ seat.old.me.0.passes }
     requires few { passes ≤ 32 }
     requires few_rows { seat.old.me.0.rows ≤ 65535 }
     ensures same { IsSameSeat seat.old seat.new }
-    ensures kept { AsksOnly (seat.old.me.0, (0, None) ∷ []) seat.new.me }
+    ensures kept { AsksOnly seat.old.me seat.new.me }
+    ensures asked { seat.new.me.0.asked ≡ seat.old.me.0.asked + passes + 1 }
     ensures has { HasTurn result seat.new.me }
 {
-    let mut desk = seat.take_desk();
     let asked = ask_others(seat, &desk, passes);
     let (current, _) = desk.current();
     let (_, root) = read_root(seat, current);
@@ -101,7 +143,7 @@ fn make_ready<A: Allocator + Copy>(seat: &mut PassSeat<'_, A>, passes: u32) -> T
     }
 }
 
-/// Takes the turn and makes ready for a write: one compare-exchange, one exchange, one load for each record but the current one, and six loads more. `None` comes where another pass has the turn.
+/// Takes the turn, finds a record for a version to come, and frees the rows that no version reaches: one compare-exchange, one exchange, one load for each record but the current one, and six loads more. `None` comes where another pass has the turn.
 pub fn begin<A: Allocator + Copy>(
     seat: &mut PassSeat<'_, A>,
     number: u32,
@@ -115,11 +157,35 @@ pub fn begin<A: Allocator + Copy>(
     ensures missed { IfNone result (Misses seat.old.me seat.new.me) }
     ensures begun { IfSome result (λ t. Begun seat.old.me t seat.new.me) }
 {
-    if seat.take_turn(number) {
-        Some(make_ready(seat, passes))
-    } else {
-        None
+    let Some(desk) = take(seat, number) else {
+        return None;
+    };
+    Some(make_ready(seat, desk, passes))
+}
+
+/// Begins a write: as [`begin`], but where the current version has the last number the turn is given back before any record is asked.
+pub fn begin_write<A: Allocator + Copy>(
+    seat: &mut PassSeat<'_, A>,
+    number: u32,
+    passes: u32,
+) -> Result<Turn<A>, NotBegun>
+    requires free { IsFree number seat.old.me }
+    requires passes { passes ≡ seat.old.me.0.passes }
+    requires few { passes ≤ 32 }
+    requires few_rows { seat.old.me.0.rows ≤ 65535 }
+    ensures same { IsSameSeat seat.old seat.new }
+    ensures refused { IfErr result (λ why. Refuses why seat.old.me seat.new.me) }
+    ensures begun { IfOk result (λ t. Begun seat.old.me t seat.new.me) }
+    ensures room { OnOk result (length seat.new.me.0.seen < last_version) }
+{
+    let Some(desk) = take(seat, number) else {
+        return Err(NotBegun::Busy);
+    };
+    if let Err(_) = desk.next_version() {
+        lay_back(seat, desk);
+        return Err(NotBegun::VersionsSpent);
     }
+    Ok(make_ready(seat, desk, passes))
 }
 
 /// Gives the turn back with the history as it was: one exchange and one store.
@@ -128,6 +194,5 @@ pub fn give_back<A: Allocator + Copy>(seat: &mut PassSeat<'_, A>, turn: Turn<A>)
     ensures same { IsSameSeat seat.old seat.new }
     ensures gave { seat.new.me ≡ (record seat.old.me.0 { turn = false }, []) }
 {
-    seat.return_desk(turn.desk);
-    seat.give_turn();
+    lay_back(seat, turn.desk)
 }

@@ -1,4 +1,8 @@
-use Rattle.std.proofs.Common.{rules}
+use Rattle.std.proofs.Common.{◌≡◌, Some, rules}
+use Rattle.mst_arena.specs.Content.{part_at}
+use Rattle.mst_arena.specs.Row.{head_links}
+use Rattle.mst_table.specs.Access.{content_of}
+use Rattle.mst_table.proofs.Limits.{head_within}
 use Rattle.mst_table.proofs.rows.PassSeatRows.head.Goals as goal
 
 pub unreachable-requires : goal.unreachable-requires
@@ -12,3 +16,9 @@ returns-clause-value g c = search rules
 
 pub returns-clause-same : goal.returns-clause-same
 returns-clause-same g c = search rules
+
+pub returns-clause-limits : goal.returns-clause-limits
+returns-clause-limits g c =
+    let view = c.args.self.now.me.0 in
+    let is : part_at head_links (content_of view) c.args.row ≡ Some c.in-Some.links = search rules in
+    head_within view c.args.row c.in-Some.links is

@@ -1,7 +1,7 @@
 use Rattle.std.proofs.Common.{◌≡◌, ℕ, ◌+◌, ◌*◌, List, set, get_or, rules, arith, sym, refl, ap, ◌∙◌, subst}
 use Rattle.mst_arena.specs.Content.{Writes}
 use Rattle.mst_table.specs.Access.{Seated, content_of}
-use Rattle.mst_table.proofs.Accesses.{Stored, stored_more, written, blank_stays}
+use Rattle.mst_table.proofs.Accesses.{Stored, stored_more, written, blank_stays, blank_parts, beside_stays}
 use Rattle.mst_table.proofs.rows.PassSeatRows.write.Goals as goal
 
 pub loop-k-preserved : goal.loop-k-preserved
@@ -17,6 +17,10 @@ returns-clause-writes g c = let k = c.loop-k.invariant in subst (λ (z : Seated)
 
 pub returns-clause-blank : goal.returns-clause-blank
 returns-clause-blank g c = blank_stays c.args.self.now.me.0 c.loop-k.self.me.0 (ap (λ (z : Seated). z.me.0) c.loop-k.invariant.kept) c.loop-k.invariant.stored.long
+
+pub returns-clause-kept : goal.returns-clause-kept
+returns-clause-kept g c = let b = (blank_parts c.args.self.now.me.0 c.args.row c.requires.blank).known in
+    beside_stays c.args.self.now c.loop-k.self c.args.row c.words-words.result c.loop-k.invariant.kept (omega (arith, b)) (let e : c.loop-k.k ≡ 16 = (omega arith) in subst (λ (n : ℕ). Stored c.args.row n c.words-words.result c.args.self.now.me.0.held c.loop-k.self.me.0.held) e c.loop-k.invariant.stored)
 
 pub words-words-requires : goal.words-words-requires
 words-words-requires g c = search rules

@@ -1,5 +1,5 @@
 use Rattle.std.proofs.Common.{ℕ, [], ◌∷◌, ◌++◌, refl, sym, ap, ◌∙◌}
-use Rattle.mst_versions.proofs.Asked.{asked_current, asked_drained, asked_blocked, not_asked}
+use Rattle.mst_versions.proofs.Asked.{asked_current, asked_drained, asked_blocked, asks_drained, asks_blocked, not_asked}
 use Rattle.mst_versions.proofs.turn.Asked.ask.Goals as goal
 
 pub returns-then-which-current-clause-asked : goal.returns-then-which-current-clause-asked
@@ -17,3 +17,12 @@ pub returns-else-ask-clause-asked : goal.returns-else-ask-clause-asked
 returns-else-ask-clause-asked g c = asked_blocked c.args.which c.args.desk.now c.args.self.now (record { live = c.push.new.self; into = c.args.self.now.into }) c.args.seat.now.me c.ask.new.self.me
     c.requires.asked (λ is. c.if-which-current.false (is ∙ ap (λ z. z.0) (sym c.current-current.ensures.current))) (c.ask.ensures.blocked c.if-ask.false)
     (c.push.ensures.items ∙ ap (λ (v : ℕ). c.args.self.now.live.items ++ v ∷ []) c.version_of.ensures.version) refl
+
+pub returns-then-which-current-clause-counted : goal.returns-then-which-current-clause-counted
+returns-then-which-current-clause-counted g c = refl
+
+pub returns-then-ask-clause-counted : goal.returns-then-ask-clause-counted
+returns-then-ask-clause-counted g c = asks_drained c.args.which c.args.seat.now.me c.ask.new.self.me (c.ask.ensures.drained c.if-ask.true)
+
+pub returns-else-ask-clause-counted : goal.returns-else-ask-clause-counted
+returns-else-ask-clause-counted g c = asks_blocked c.args.which c.args.seat.now.me c.ask.new.self.me (c.ask.ensures.blocked c.if-ask.false)

@@ -1,0 +1,16 @@
+//! Why a write is refused.
+use thiserror::Error;
+
+/// Why a write was refused. It changed nothing.
+#[derive(Clone, Copy, Debug, PartialEq, Eq, Error)]
+pub enum WriteFault {
+    /// Another pass had the turn.
+    #[error("another pass has the turn")]
+    Busy,
+    /// The current version has the last number, 2^63 - 1.
+    #[error("version numbers are spent")]
+    VersionsSpent,
+    /// The rows that are free are too few for the nodes that the write makes new.
+    #[error("no room")]
+    NoRoom,
+}
