@@ -1,0 +1,116 @@
+-- What a pass is to its callers, and what its calls say.
+use Rattle.std.specs.Prelude.{◌≡◌, ℕ, zero, suc, ◌+◌, ◌<◌, ◌≤◌, List, [], ◌∷◌, ◌++◌, length, Option}
+use Rattle.atomic_table.specs.Seated.{TableId}
+use Rattle.mst_key.specs.declared.history.Change.{Change}
+use Rattle.mst_key.specs.declared.history.Event.{Event}
+use Rattle.mst_key.specs.History.{History, after, reply, events_of, Begins}
+use Rattle.mst_key.specs.Map.{Pair}
+use Rattle.mst_arena.specs.Lives.{last_version}
+use Rattle.mst_table.specs.Access as access
+use Rattle.mst_table.specs.Steps.{IsFree}
+use Rattle.mst_table.specs.declared.view.Shape.{Shape}
+use Rattle.mst_versions.specs.declared.faults.WriteFault.{WriteFault}
+use Rattle.mst_versions.specs.declared.faults.WriteFault.TheVariants.{Busy, VersionsSpent, NoRoom}
+use Rattle.mst_versions.specs.Writes.{rows_of, rows_taken}
+
+-- which store it is, and its size
+pub record StoreId : Type 0 where
+  pub table : TableId
+  pub rows : ℕ
+  pub passes : ℕ
+
+-- Which store a pass is of, its number, the history that it has seen, and its own events. And how many of its steps so far had an answer that depends on what other passes do: a loop that waits for another pass makes such a step in each turn
+pub record Known : Type 0 where
+  pub store : StoreId
+  pub number : ℕ
+  pub seen : History
+  pub mine : History
+  pub asked : ℕ
+
+-- what the seat of a pass shows to callers
+abbrev pub known : ℕ → access.Seated → Known
+known number s = record { store = record { table = s.table; rows = s.me.0.rows; passes = s.me.0.passes }; number = number; seen = s.me.0.seen; mine = s.me.0.mine; asked = s.me.0.asked }
+
+-- The pass has no pin and not the turn, and its events in what it has seen are its own
+pub record IsAtRest (number passes : ℕ) (s : access.Seated) : Type 0 where
+  pub free : IsFree number s.me
+  pub low : number ≤ passes
+  pub passes_is : s.me.0.passes ≡ passes
+  pub few : passes ≤ 32
+  pub few_rows : s.me.0.rows ≤ 65535
+  pub own : events_of number s.me.0.seen ≡ s.me.0.mine
+
+-- the sizes that a store may have
+abbrev pub IsShape : Shape → Type 0
+IsShape shape = (4 ≤ shape.rows) × (shape.rows ≤ 65535) × (1 ≤ shape.passes) × (shape.passes ≤ 32)
+
+-- the store has this size
+abbrev pub HasShape : Shape → StoreId → Type 0
+HasShape shape store = (store.rows ≡ shape.rows) × (store.passes ≡ shape.passes)
+
+-- a pass that has seen and done nothing
+abbrev pub new_pass : StoreId → ℕ → Known
+new_pass store number = record { store = store; number = number; seen = []; mine = []; asked = 0 }
+
+-- the first passes of a store, in the order of their numbers from 1
+abbrev pub first_passes : StoreId → ℕ → List Known
+first_passes store zero = []
+first_passes store (suc n) = first_passes store n ++ new_pass store (suc n) ∷ []
+
+-- all passes of a store before their first call
+abbrev pub new_passes : StoreId → List Known
+new_passes store = first_passes store store.passes
+
+-- the pass, after n more steps whose answer depends on others
+abbrev pub having_asked : ℕ → Known → Known
+having_asked n p = record p { asked = p.asked + n }
+
+-- it is the same pass of the same store
+abbrev pub IsSamePass : Known → Known → Type 0
+IsSamePass p q = (q.store ≡ p.store) × (q.number ≡ p.number)
+
+-- The pass has now seen a history that begins with all that it had seen. Its events in it are its own, and none was added to them
+pub record Looks (p q : Known) : Type 0 where
+  pub same : IsSamePass p q
+  pub later : Begins p.seen q.seen
+  pub mine : q.mine ≡ p.mine
+  pub own : events_of q.number q.seen ≡ q.mine
+
+-- A read answered what this question asks of the map of the history that the pass has now seen
+pub record Answers {R : Type 0} (question : List Pair → R) (p : Known) (answer : R) (q : Known) : Type 0 where
+  pub looks : Looks p q
+  pub answer_is : answer ≡ question (after q.seen)
+
+-- a change, made by this pass
+abbrev pub made_by : Known → Change → Event
+made_by p change = record { pass = p.number; change = change }
+
+-- Whether a change finds room among so many rows: the rows that the map leaves over are enough for the nodes that the change makes new
+abbrev pub HasRoom : ℕ → List Pair → Change → Type 0
+HasRoom rows m change = rows_of m + rows_taken m change ≤ rows
+
+abbrev pub LacksRoom : ℕ → List Pair → Change → Type 0
+LacksRoom rows m change = rows < rows_of m + rows_taken m change
+
+-- A write added its event right behind a history that begins with all that the pass had seen, and answered what that history replies. The pass has now seen both, and its events there are its own. It tried the turn once, asked each record but the current one once, and published once
+pub record Wrote (e : Event) (p : Known) (old : Option (List ℕ)) (q : Known) : Type 0 where
+  pub log : History
+  pub same : IsSamePass p q
+  pub later : Begins p.seen log
+  pub seen : q.seen ≡ log ++ e ∷ []
+  pub answer : old ≡ reply log e
+  pub mine : q.mine ≡ p.mine ++ e ∷ []
+  pub own : events_of q.number q.seen ≡ q.mine
+  pub numbered : length log < last_version
+  pub room : HasRoom p.store.rows (after log) e.change
+  pub asked : q.asked ≡ p.asked + p.store.passes + 3
+
+-- the turn was tried once, and another pass had it, so there is one; nothing else changed
+abbrev pub FindsBusy : Known → Known → Type 0
+FindsBusy p q = (q ≡ having_asked 1 p) × (1 < p.store.passes)
+
+-- Why a change was refused. Nothing was added to the history. In a store of one pass there is no room exactly where the rows that the map leaves over are too few
+abbrev pub Refuses : WriteFault → Change → Known → Known → Type 0
+Refuses Busy change p q = FindsBusy p q
+Refuses VersionsSpent change p q = Looks p q × (length q.seen ≡ last_version) × (q.asked ≡ p.asked + 1)
+Refuses NoRoom change p q = Looks p q × (length q.seen < last_version) × (p.store.passes ≡ 1 → LacksRoom q.store.rows (after q.seen) change) × (q.asked ≡ p.asked + p.store.passes + 2)

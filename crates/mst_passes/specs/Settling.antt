@@ -1,0 +1,57 @@
+-- Two passes of a store, or all of them, come to have seen one history.
+use Rattle.std.specs.Prelude.{◌≡◌, ℕ, ◌<◌, ◌≤◌, false, List, map, All, Contains}
+use Rattle.atomic_table.specs.Seated.{TableId}
+use Rattle.mst_key.specs.declared.history.Event.{Event}
+use Rattle.mst_key.specs.History.{History, events_of, Begins}
+use Rattle.mst_table.specs.Notes.{IsOfPasses}
+use Rattle.mst_passes.specs.Passes.{StoreId, Known}
+use Rattle.mst_versions.specs.Turns.{Seat}
+
+-- the pass, when it has heard of this history and seen it: two steps whose answer depends on others
+abbrev pub having_seen : History → Known → Known
+having_seen log p = record p { seen = log; asked = p.asked + 1 + 1 }
+
+-- Two passes have now seen one history, and nothing else about them changed. It begins with all that either had seen, and the events of each in it are its own
+pub record Met (p q p' q' : Known) : Type 0 where
+  pub log : History
+  pub now : (p' ≡ having_seen log p) × (q' ≡ having_seen log q)
+  pub later : Begins p.seen log × Begins q.seen log
+  pub own : (events_of p.number log ≡ p.mine) × (events_of q.number log ≡ q.mine)
+
+-- the numbers of the passes
+abbrev pub numbers : List Known → List ℕ
+numbers ps = map (λ p. p.number) ps
+
+-- the passes are all those of one store, in any order: each number from 1 to the number of its passes is that of one of them
+pub record AreAllPasses (ps : List Known) : Type 0 where
+  pub store : StoreId
+  pub of_one : All (λ p. p.store ≡ store) ps
+  pub complete : (n : ℕ) → 0 < n → n ≤ store.passes → Contains (numbers ps) n
+
+-- the event is of one of the passes
+abbrev pub IsOfOne : List Known → Event → Type 0
+IsOfOne ps e = Contains (numbers ps) e.pass
+
+-- All passes have now seen one history, and nothing else about them changed. It begins with all that each of them had seen, each pass's events in it are its own, and it has no events but theirs
+pub record Settled (ps qs : List Known) : Type 0 where
+  pub log : History
+  pub now : qs ≡ map (having_seen log) ps
+  pub later : All (λ p. Begins p.seen log) ps
+  pub own : All (λ p. events_of p.number log ≡ p.mine) ps
+  pub alone : All (IsOfOne ps) log
+
+-- a seat that goes from pass to pass: the history that it has seen is of passes of the store
+pub record IsCourier (m : Seat) : Type 0 where
+  pub off : m.0.turn ≡ false
+  pub alone : IsOfPasses m.0.passes m.0.seen
+
+-- the pass is of the table at which the courier sits, and the courier knows how many passes that has
+pub record IsBeside (table : TableId) (passes : ℕ) (p : Known) : Type 0 where
+  pub table_is : p.store.table ≡ table
+  pub passes_is : p.store.passes ≡ passes
+
+-- the courier has now seen a history that begins with what it had seen
+pub record GoesOn (m m' : Seat) : Type 0 where
+  pub courier : IsCourier m'
+  pub passes_is : m'.0.passes ≡ m.0.passes
+  pub later : Begins m.0.seen m'.0.seen

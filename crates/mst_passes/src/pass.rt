@@ -1,0 +1,171 @@
+//! A pass: the calls that one thread makes.
+ghost use Rattle.std.specs.Prelude.{◌≡◌, ◌+◌, length, IfOk, IfErr, OnErr};
+ghost use Rattle.mst_key.specs.declared.history.Change.TheVariants.{Put, Remove};
+ghost use Rattle.mst_key.specs.Map.{look, successor, span};
+ghost use Rattle.mst_key.specs.declared.format.Format.TheVariants.{One};
+ghost use Rattle.mst_node.specs.Text.{root};
+ghost use Rattle.mst_node.specs.Trail.{proof_text};
+ghost use Rattle.std.specs.Option.{option_copied};
+ghost use Rattle.mst_passes.specs.Passes.{Looks, Answers, having_asked, made_by, Wrote, Refuses};
+
+use mst_key::{Change, Event, Key, Memory, Value};
+use mst_table::PassSeat;
+use mst_versions::WriteFault;
+use std::alloc::Allocator;
+use std::marker::Model;
+
+/// A pass of a store. It may go to another thread, and each of its calls is one thread's.
+///
+/// A read pins the current version by one step, reads it, and ends the pin. Its place in the history is the pin. No other pass can make it wait: of its steps the pin alone has an answer that depends on others (`once`).
+#[derive(Drop)]
+pub struct Pass<'a, A: Allocator + Copy> {
+    pub(crate) seat: PassSeat<'a, A>,
+    pub(crate) number: u32,
+    pub(crate) passes: u32,
+}
+
+/// Contracts see which store it is of, its number, what it has seen, and its own events.
+impl<'a, A: Allocator + Copy> Model for Pass<'a, A> {
+    ghost use Rattle.mst_passes.specs.Passes.{Known, known, IsAtRest};
+
+    ghost Value = { Known };
+
+    ghost view = { λ p. known p.number p.seat };
+
+    ghost invariant = { λ p. IsAtRest p.number p.passes p.seat };
+}
+
+impl<'a, A: Allocator + Copy> Pass<'a, A> {
+    /// The number of the pass, from 1 to the number of the store's passes.
+    pub fn number(&self) -> u32
+        ensures number { result ≡ self.now.number }
+    {
+        self.number
+    }
+
+    /// The value of the key. It takes no memory.
+    pub fn get(&mut self, key: &Key) -> Option<Value>
+        ensures answers { Answers (λ m. look m key.now) self.old result self.new }
+        ensures once { self.new.asked ≡ self.old.asked + 1 }
+    {
+        let at = mst_versions::pin(&mut self.seat, self.number);
+        let found = mst_versions::get(&mut self.seat, &at, key);
+        self.seat.unpin(self.number, at.pinned);
+        found
+    }
+
+    /// The pair of the least key above the bound; with no bound, of the least key. It takes no memory.
+    pub fn next(&mut self, after: Option<&Key>) -> Option<(Key, Value)>
+        ensures answers { Answers (λ m. successor m (option_copied after.entry)) self.old result self.new }
+        ensures once { self.new.asked ≡ self.old.asked + 1 }
+    {
+        let at = mst_versions::pin(&mut self.seat, self.number);
+        let found = mst_versions::next(&mut self.seat, &at, after);
+        self.seat.unpin(self.number, at.pinned);
+        found
+    }
+
+    /// The first pairs, at most `limit`, of the keys that are at least `from` and below `to`, in the order of their keys. A bound that is not given does not bind.
+    ///
+    /// `Memory` comes where the growth of the list was refused; the pass is then as it was.
+    pub fn range<B: Allocator>(
+        &mut self,
+        alloc: B,
+        from: Option<&Key>,
+        to: Option<&Key>,
+        limit: usize,
+    ) -> Result<Vec<(Key, Value), B>, Memory>
+        ensures ok { IfOk result (λ found. Answers (λ m. span m (option_copied from.entry) (option_copied to.entry) limit) self.old found.items self.new) }
+        ensures memory { OnErr result (self.new ≡ having_asked 1 self.old) }
+        ensures once { self.new.asked ≡ self.old.asked + 1 }
+    {
+        let at = mst_versions::pin(&mut self.seat, self.number);
+        match mst_versions::range(&mut self.seat, alloc, &at, from, to, limit) {
+            Ok(found) => {
+                self.seat.unpin(self.number, at.pinned);
+                Ok(found)
+            }
+            Err(Memory) => {
+                // no pairs are answered, so none were seen
+                self.seat.forget(self.number, at.pinned);
+                Err(Memory)
+            }
+        }
+    }
+
+    /// The root digest of the map: the SHA-256 (FIPS 180-4) of the text of its tree's top node, or of the empty string for the empty map. It depends on the pairs of the map alone. It takes no memory.
+    pub fn root(&mut self) -> [u8; 32]
+        ensures answers { Answers (root One) self.old result self.new }
+        ensures once { self.new.asked ≡ self.old.asked + 1 }
+    {
+        let at = mst_versions::pin(&mut self.seat, self.number);
+        let digest = mst_versions::root(&mut self.seat, &at);
+        self.seat.unpin(self.number, at.pinned);
+        digest
+    }
+
+    /// The proof of the map's answer for the key, value or absence, against the root digest: the texts of the nodes that a search for the key meets, from the top down, each behind its length in four bytes, and in front of them the version 1 and their number.
+    ///
+    /// `Memory` comes where a growth was refused; the pass is then as it was.
+    pub fn prove<B: Allocator + Copy>(&mut self, alloc: B, key: &Key) -> Result<Vec<u8, B>, Memory>
+        ensures ok { IfOk result (λ found. Answers (λ m. proof_text One m key.now) self.old found.items self.new) }
+        ensures memory { OnErr result (self.new ≡ having_asked 1 self.old) }
+        ensures once { self.new.asked ≡ self.old.asked + 1 }
+    {
+        let at = mst_versions::pin(&mut self.seat, self.number);
+        match mst_versions::prove(&mut self.seat, alloc, &at, key) {
+            Ok(found) => {
+                self.seat.unpin(self.number, at.pinned);
+                Ok(found)
+            }
+            Err(Memory) => {
+                // no proof is answered, so no map was seen
+                self.seat.forget(self.number, at.pinned);
+                Err(Memory)
+            }
+        }
+    }
+
+    /// The number of the version: how many events there were. It takes no memory.
+    pub fn version(&mut self) -> u64
+        ensures looks { Looks self.old self.new }
+        ensures version { result ≡ length self.new.seen }
+        ensures once { self.new.asked ≡ self.old.asked + 1 }
+    {
+        let at = mst_versions::pin(&mut self.seat, self.number);
+        self.seat.unpin(self.number, at.pinned);
+        at.version
+    }
+
+    // Makes a change, and answers the value that its key had.
+    fn write(&mut self, change: Change) -> Result<Option<Value>, WriteFault>
+        ensures ok { IfOk result (λ old. Wrote (made_by self.old change) self.old old self.new) }
+        ensures err { IfErr result (λ fault. Refuses fault change self.old self.new) }
+    {
+        let event = Event {
+            pass: self.number,
+            change,
+        };
+        mst_versions::write(&mut self.seat, self.number, self.passes, &event)
+    }
+
+    /// Gives the key the value, and answers the value that it had. It takes no memory.
+    ///
+    /// `Busy` comes only where another pass has the turn, else `VersionsSpent` exactly where the current version has the last number, else `NoRoom` where too few rows are free for the nodes that the write makes new. A write copies whole nodes along its path; its cost is a row for each entry and one for each node that it makes new. In a store of one pass all rows but those of the map are free; with more passes those of versions that are pinned are not. A put of the value that stands costs nothing.
+    pub fn try_put(&mut self, key: &Key, value: &Value) -> Result<Option<Value>, WriteFault>
+        ensures ok { IfOk result (λ old. Wrote (made_by self.old (Put key.now value.now)) self.old old self.new) }
+        ensures err { IfErr result (λ fault. Refuses fault (Put key.now value.now) self.old self.new) }
+    {
+        self.write(Change::Put(key.copy(), value.copy()))
+    }
+
+    /// Takes the key out of the map, and answers the value that it had. It takes no memory.
+    ///
+    /// The refusals come as those of [`Pass::try_put`]. A remove of an absent key costs nothing.
+    pub fn try_remove(&mut self, key: &Key) -> Result<Option<Value>, WriteFault>
+        ensures ok { IfOk result (λ old. Wrote (made_by self.old (Remove key.now)) self.old old self.new) }
+        ensures err { IfErr result (λ fault. Refuses fault (Remove key.now) self.old self.new) }
+    {
+        self.write(Change::Remove(key.copy()))
+    }
+}

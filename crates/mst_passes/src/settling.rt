@@ -1,0 +1,105 @@
+//! Meeting and settling: two passes of a store, or all of them, come to have seen one history.
+//!
+//! A courier, which is a seat that is no pass, goes along the line of the passes and back. On its way there it hears what each pass has seen and looks, so that what it has seen in the end begins with what each of them had seen. On its way back each pass hears of that very history and sees it, and not what was added since.
+ghost use Rattle.std.specs.Prelude.{◌≡◌, map, All};
+ghost use Rattle.mst_key.specs.History.{events_of, Begins};
+ghost use Rattle.mst_passes.specs.Settling.{having_seen, Met, AreAllPasses, Settled, IsCourier, IsBeside, GoesOn};
+
+use crate::pass::Pass;
+use mst_table::PassSeat;
+use std::alloc::Allocator;
+use std::marker::Brand;
+
+/// Both passes have then seen one and the same history, which begins with all that either had seen. It takes no memory, and each step is one load.
+///
+/// The passes must be of one store.
+pub fn meet<'a, A: Allocator + Copy>(one: &mut Pass<'a, A>, other: &mut Pass<'a, A>)
+    requires of_one { one.old.store ≡ other.old.store }
+    ensures met { Met one.old other.old one.new other.new }
+{
+    let mut courier = send_courier(one);
+    collect(other, &mut courier);
+    deliver(one, &mut courier);
+    deliver(other, &mut courier);
+}
+
+/// All passes have then seen one and the same history, which begins with all that each of them had seen and has no events but theirs. It takes no memory, and each step is one load: it neither takes the turn nor waits for it.
+///
+/// The passes must be all those of one store, in any order.
+pub fn settle<'a, A: Allocator + Copy>(free: &mut [Pass<'a, A>])
+    requires whole { AreAllPasses free.old }
+    ensures settled { Settled free.old free.new }
+{
+    if free.is_empty() {
+        return;
+    }
+    let mut courier = send_courier(&mut free[0]);
+    collect_all(free, &mut courier);
+    deliver_all(free, &mut courier);
+}
+
+/// A courier that has heard what the pass has seen, and has looked.
+fn send_courier<'a, A: Allocator + Copy>(pass: &mut Pass<'a, A>) -> PassSeat<'a, A>
+    ensures same { pass.new ≡ pass.old }
+    ensures courier { IsCourier result.me }
+    ensures own { IsBeside result.table result.me.0.passes pass.old }
+    ensures later { Begins pass.old.seen result.me.0.seen }
+{
+    let mut courier = pass.seat.write_note();
+    courier.see_all();
+    courier
+}
+
+/// The way there: the courier hears what each pass has seen, and looks after each.
+fn collect_all<'a, A: Allocator + Copy>(line: &mut [Pass<'a, A>], courier: &mut PassSeat<'a, A>)
+    requires own { All (IsBeside courier.old.table courier.old.me.0.passes) line.old }
+    requires courier { IsCourier courier.old.me }
+    ensures same { line.new ≡ line.old }
+    ensures table { courier.new.table ≡ courier.old.table }
+    ensures courier { GoesOn courier.old.me courier.new.me }
+    ensures later { All (λ p. Begins p.seen courier.new.me.0.seen) line.old }
+{
+    for pass in line.iter_mut() {
+        collect(pass, courier);
+    }
+}
+
+/// The way back: each pass hears what the courier has seen, and has then seen it too.
+fn deliver_all<'a, A: Allocator + Copy>(line: &mut [Pass<'a, A>], courier: &mut PassSeat<'a, A>)
+    requires own { All (IsBeside courier.old.table courier.old.me.0.passes) line.old }
+    requires later { All (λ p. Begins p.seen courier.old.me.0.seen) line.old }
+    ensures now { line.new ≡ map (having_seen courier.old.me.0.seen) line.old }
+    ensures own { All (λ p. events_of p.number courier.old.me.0.seen ≡ p.mine) line.old }
+{
+    for pass in line.iter_mut() {
+        deliver(pass, courier);
+    }
+}
+
+/// The courier hears what the pass has seen, and looks.
+fn collect<'a, A: Allocator + Copy>(pass: &mut Pass<'a, A>, courier: &mut PassSeat<'a, A>)
+    requires own { IsBeside courier.old.table courier.old.me.0.passes pass.old }
+    requires courier { IsCourier courier.old.me }
+    ensures same { pass.new ≡ pass.old }
+    ensures table { courier.new.table ≡ courier.old.table }
+    ensures courier { GoesOn courier.old.me courier.new.me }
+    ensures later { Begins pass.old.seen courier.new.me.0.seen }
+{
+    let note = pass.seat.write_note();
+    courier.hear_note::<Brand>(note);
+    courier.see_all();
+}
+
+/// The pass hears what the courier has seen, and has then seen it too.
+fn deliver<'a, A: Allocator + Copy>(pass: &mut Pass<'a, A>, courier: &mut PassSeat<'a, A>)
+    requires own { IsBeside courier.old.table courier.old.me.0.passes pass.old }
+    requires later { Begins pass.old.seen courier.old.me.0.seen }
+    ensures table { courier.new.table ≡ courier.old.table }
+    ensures same { courier.new.me ≡ courier.old.me }
+    ensures now { pass.new ≡ having_seen courier.old.me.0.seen pass.old }
+    ensures own { events_of pass.old.number courier.old.me.0.seen ≡ pass.old.mine }
+{
+    let note = courier.write_note();
+    pass.seat.hear_note::<Brand>(note);
+    pass.seat.see_told();
+}

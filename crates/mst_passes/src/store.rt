@@ -1,0 +1,116 @@
+//! A store, and the dealing of its passes.
+ghost use Rattle.std.specs.Prelude.{◌≡◌, ◌↔◌, true, length, IfOk, IfErr, OnOk, IsErrOf};
+ghost use Rattle.mst_passes.specs.Passes.{IsShape, HasShape, new_passes};
+
+use crate::faults::OpenFault;
+use crate::pass::Pass;
+use mst_arena::Desk;
+use mst_key::Memory;
+use mst_table::{Board, Shape, Token};
+use std::alloc::Allocator;
+use std::marker::Model;
+
+/// A store. Its passes share it through a reference.
+#[derive(Drop)]
+pub struct Store<A: Allocator + Copy> {
+    board: Board<A>,
+    shape: Shape,
+}
+
+/// Contracts see which store it is, and its size.
+impl<A: Allocator + Copy> Model for Store<A> {
+    ghost use Rattle.std.specs.Prelude.{◌≡◌, ◌+◌, ◌*◌};
+    ghost use Rattle.mst_passes.specs.Passes.{StoreId, IsShape};
+
+    ghost Value = { StoreId };
+
+    ghost view = { λ s. record { table = s.board; rows = s.shape.rows; passes = s.shape.passes } };
+
+    ghost invariant = { λ s. IsShape s.shape × (s.board.words ≡ s.shape.rows * 16 + 240) };
+}
+
+/// The right to deal the passes of one store, once.
+#[derive(Drop)]
+pub struct Seats<A: Allocator + Copy> {
+    token: Token<A>,
+}
+
+/// Contracts see which store it is of.
+impl<A: Allocator + Copy> Model for Seats<A> {
+    ghost use Rattle.std.specs.Prelude.{◌≡◌, []};
+    ghost use Rattle.mst_table.specs.World.{dealer};
+    ghost use Rattle.mst_passes.specs.Passes.{StoreId};
+
+    ghost Value = { StoreId };
+
+    ghost view = { λ s. record { table = s.token.table_id; rows = s.token.me.0.rows; passes = s.token.me.0.passes } };
+
+    ghost invariant = { λ s. s.token.me ≡ (dealer s.token.me.0.rows s.token.me.0.passes 1, []) };
+}
+
+/// Whether a store can have this size: 4 to 65,535 rows and 1 to 32 passes.
+fn is_shape(shape: Shape) -> bool
+    ensures { result ≡ true ↔ IsShape shape }
+{
+    (4..=65_535).contains(&shape.rows) && (1..=32).contains(&shape.passes)
+}
+
+impl<A: Allocator + Copy> Store<A> {
+    /// A store of the empty map, and the right to deal its passes. All memory of the store is taken here.
+    ///
+    /// `Shape` comes exactly where the size is out of its limits, else `Memory` where a growth was refused.
+    pub fn open(alloc: A, shape: Shape) -> Result<(Store<A>, Seats<A>), OpenFault>
+        ensures shape { IsErrOf result OpenFault.Shape ↔ ¬ (IsShape shape) }
+        ensures limits { OnOk result (IsShape shape) }
+        ensures store { IfOk result (λ opened. HasShape shape opened.0) }
+        ensures seats { IfOk result (λ opened. opened.1 ≡ opened.0) }
+    {
+        if !is_shape(shape) {
+            return Err(OpenFault::Shape);
+        }
+        // one record for each pass and two more, so that a record is always free for the next version
+        let Ok(desk) = Desk::new(alloc, shape.rows, shape.passes + 2, 0) else {
+            return Err(OpenFault::Memory);
+        };
+        match Board::open(alloc, shape, desk) {
+            Ok((board, token)) => Ok((Store { board, shape }, Seats { token })),
+            Err(Memory) => Err(OpenFault::Memory),
+        }
+    }
+
+    /// How many passes the store has, 1 to 32.
+    pub fn passes(&self) -> u32
+        ensures passes { result ≡ self.now.passes }
+    {
+        self.shape.passes
+    }
+
+    /// The passes of the store, in the order of their numbers from 1. None of them has seen or done anything.
+    ///
+    /// The seats must have come with this store. `Memory` comes where the growth was refused, and gives the seats back.
+    pub fn deal<B: Allocator>(
+        &self,
+        alloc: B,
+        seats: Seats<A>,
+    ) -> Result<Vec<Pass<'_, A>, B>, (Memory, Seats<A>)>
+        requires own { seats ≡ self.now }
+        ensures ok { IfOk result (λ passes. passes.items ≡ new_passes self.now) }
+        ensures count { IfOk result (λ passes. length passes.items ≡ self.now.passes) }
+        ensures err { IfErr result (λ refused. refused.1 ≡ seats) }
+    {
+        let count = self.passes();
+        let Ok(mut passes) = Vec::with_capacity(alloc, count as usize) else {
+            return Err((Memory, seats));
+        };
+        let Seats { mut token } = seats;
+        for index in 0..count {
+            let seat = self.board.deal(&mut token);
+            passes.push_reserved(Pass {
+                seat,
+                number: index + 1,
+                passes: count,
+            });
+        }
+        Ok(passes)
+    }
+}
