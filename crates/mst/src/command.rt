@@ -1,7 +1,9 @@
 //! The program, over a source and two sinks.
-ghost use Rattle.std.specs.Prelude.{◌≡◌, ◌<◌, ◌-◌, ◌+◌, ◌^◌, ◌↔◌, ◌⊎◌, OnOk, IfOk, IfErr, Some, None, true, false};
-ghost use Rattle.mst_command.specs.Programs.{RanScript, RanReplay, RanVerify};
-ghost use Rattle.mst_command.specs.Commanding.{AskHelp, IsDevice, Untouched, Unread, asks_replay, asks_verify};
+ghost use Rattle.std.specs.Prelude.{◌≡◌, ◌<◌, ◌-◌, ◌+◌, ◌^◌, ◌↔◌, ◌⊎◌, OnOk, IfOk, IfErr, IsErrOf, [], Some, None, true, false};
+ghost use Rattle.mst_devices.specs.Device.{Breaks};
+ghost use Rattle.mst_command.specs.Programs.{RanScript, RanReplay, RanVerify, Helped, Broke, Comes};
+ghost use Rattle.mst_command.specs.Commanding.{AsksFor, IsDevice, NamesShape, Untouched, Unread, asks_replay, asks_verify, status_of, told};
+ghost use Rattle.mst_command.specs.declared.task.Refusal.TheVariants.{Device};
 ghost use Rattle.mst_command.specs.declared.task.Ending.TheVariants.{Done, ProofRefused};
 
 use crate::words::task_of;
@@ -18,14 +20,16 @@ fn perform<S: Source, W: Sink>(
 ) -> Result<Ending, Refusal>
     requires source { S.failures source.old < 2 ^ 64 - 1 }
     requires out { W.failures out.old < 2 ^ 64 - 1 }
-    ensures ran { asks_replay words.now ≡ false → asks_verify words.now ≡ None → OnOk result (((shape : _) × RanScript S.gives W.takes shape source.old out.old source.new out.new × (S.left source.new ≡ 0)) ⊎ (AskHelp words.now × (source.new ≡ source.old))) }
-    ensures replayed { asks_replay words.now ≡ true → OnOk result ((RanReplay S.gives W.takes source.old out.old source.new out.new × (S.left source.new ≡ 0)) ⊎ (AskHelp words.now × (source.new ≡ source.old))) }
-    ensures verified { IfOk result (λ ending. (named : _) → asks_verify words.now ≡ Some named → RanVerify S.gives S.left W.takes named source.old out.old ending source.new out.new ⊎ (AskHelp words.now × (source.new ≡ source.old) × (ending ≡ Done))) }
+    ensures ran { asks_replay words.now ≡ false → asks_verify words.now ≡ None → OnOk result (((shape : _) × NamesShape words.now shape × RanScript S.gives W.takes shape source.old out.old source.new out.new × (S.left source.new ≡ 0)) ⊎ Helped W.takes words.now source.old out.old source.new out.new) }
+    ensures replayed { asks_replay words.now ≡ true → OnOk result ((RanReplay S.gives W.takes source.old out.old source.new out.new × (S.left source.new ≡ 0)) ⊎ Helped W.takes words.now source.old out.old source.new out.new) }
+    ensures verified { IfOk result (λ ending. (named : _) → asks_verify words.now ≡ Some named → RanVerify S.gives S.left W.takes named source.old out.old ending source.new out.new ⊎ (Helped W.takes words.now source.old out.old source.new out.new × (ending ≡ Done))) }
     ensures others { IfOk result (λ ending. asks_verify words.now ≡ None → ending ≡ Done) }
     ensures steady { OnOk result (S.failures source.new + W.failures out.new ≡ S.failures source.old + W.failures out.old) }
     ensures device { IfErr result (λ why. IsDevice why (S.failures source.old + W.failures out.old) (S.failures source.new + W.failures out.new)) }
     ensures unread { IfErr result (λ why. Unread why source.old source.new) }
     ensures untouched { asks_verify words.now ≡ None → IfErr result (λ why. Untouched why source.old source.new) }
+    ensures comes { IfErr result (λ why. Comes words.now why) }
+    ensures stopped { IsErrOf result Refusal.Device → (task : _) × AsksFor words.now task × Broke S.gives S.left W.takes W.failures task source.old out.old source.new out.new }
     ensures unwritten { IfErr result (λ why. Untouched why out.old out.new) }
 {
     match task_of(alloc, words) {
@@ -50,11 +54,13 @@ pub fn command<S: Source, O: Sink, E: Sink>(
     requires err { E.failures err.old < 2 ^ 64 - 1 }
     ensures range { (result ≡ 0) ⊎ (result ≡ 1) ⊎ (result ≡ 2) ⊎ (result ≡ 3) ⊎ (result ≡ 4) }
     ensures device { (result ≡ 3) ↔ (S.failures source.old + O.failures out.old + E.failures err.old < S.failures source.new + O.failures out.new + E.failures err.new) }
-    ensures done { result ≡ 0 → asks_replay words.now ≡ false → asks_verify words.now ≡ None → ((shape : _) × RanScript S.gives O.takes shape source.old out.old source.new out.new × (S.left source.new ≡ 0)) ⊎ (AskHelp words.now × (source.new ≡ source.old)) }
-    ensures replayed { result ≡ 0 → asks_replay words.now ≡ true → (RanReplay S.gives O.takes source.old out.old source.new out.new × (S.left source.new ≡ 0)) ⊎ (AskHelp words.now × (source.new ≡ source.old)) }
-    ensures verified { result ≡ 0 → (named : _) → asks_verify words.now ≡ Some named → RanVerify S.gives S.left O.takes named source.old out.old Done source.new out.new ⊎ (AskHelp words.now × (source.new ≡ source.old)) }
+    ensures done { result ≡ 0 → asks_replay words.now ≡ false → asks_verify words.now ≡ None → ((shape : _) × NamesShape words.now shape × RanScript S.gives O.takes shape source.old out.old source.new out.new × (S.left source.new ≡ 0)) ⊎ Helped O.takes words.now source.old out.old source.new out.new }
+    ensures replayed { result ≡ 0 → asks_replay words.now ≡ true → (RanReplay S.gives O.takes source.old out.old source.new out.new × (S.left source.new ≡ 0)) ⊎ Helped O.takes words.now source.old out.old source.new out.new }
+    ensures verified { result ≡ 0 → (named : _) → asks_verify words.now ≡ Some named → RanVerify S.gives S.left O.takes named source.old out.old Done source.new out.new ⊎ Helped O.takes words.now source.old out.old source.new out.new }
     ensures proof_refused { result ≡ 1 → (named : _) × (asks_verify words.now ≡ Some named) × RanVerify S.gives S.left O.takes named source.old out.old ProofRefused source.new out.new }
     ensures silent { (result ≡ 0) ⊎ (result ≡ 1) → err.new ≡ err.old }
+    ensures told { (result ≡ 2) ⊎ (result ≡ 4) → (why : _) × (result ≡ status_of why) × Comes words.now why × E.takes err.old (told why) err.new }
+    ensures stopped { result ≡ 3 → ((E.failures err.old < E.failures err.new) × ((why : _) × Breaks E.takes err.old [] (told why) err.new)) ⊎ (((task : _) × AsksFor words.now task × Broke S.gives S.left O.takes O.failures task source.old out.old source.new out.new) × E.takes err.old (told Device) err.new) }
     ensures refused { result ≡ 2 → (source.new ≡ source.old) × (out.new ≡ out.old) }
     ensures memory { result ≡ 4 → out.new ≡ out.old }
     ensures memory_unread { result ≡ 4 → asks_verify words.now ≡ None → source.new ≡ source.old }

@@ -1,10 +1,10 @@
 //! The words of the command line.
-ghost use Rattle.std.specs.Prelude.{IfOk, IfErr};
-ghost use Rattle.mst_command.specs.Commanding.{AsksFor, EndsWords};
+ghost use Rattle.std.specs.Prelude.{IfOk, IfErr, OnErr};
+ghost use Rattle.mst_command.specs.Commanding.{AsksFor, EndsWords, IsPlain};
 
 use clap::error::ErrorKind;
 use clap::{Arg, ArgAction, ArgMatches, Command, Error, value_parser};
-use mst_command::{Refusal, Task, ask_help, names_replay, verify_words};
+use mst_command::{Refusal, Task, ask_help, named_task, plain_task};
 use mst_store::Shape;
 use std::alloc::{AllocError, Global};
 
@@ -57,27 +57,24 @@ fn number(matches: &ArgMatches<'_>, option: &str) -> u32 {
     matches.get_one::<u32>(option).unwrap_or_default()
 }
 
-// The task that clap finds in all words, with the program's name. The program has no option of its own that takes a word, so that clap takes the first
+// The task that clap finds in words of no plain form, with the program's name. The program has no option of its own that takes a word, so that clap takes the first
 // word behind its name for the command.
 fn task_in<'a>(alloc: Global, words: &[&'a str]) -> Result<Task<'a>, Error>
+    requires { ¬ (IsPlain words.now) }
     ensures { IfOk result (λ task. AsksFor words.now task) }
 {
     let matches = program(alloc)?.try_get_matches_from(words)?;
-    if names_replay(words) {
-        return Ok(Task::Replay);
-    }
-    if let Some((root, key)) = verify_words(words) {
-        return Ok(Task::Verify(root, key));
-    }
     let run = matches.subcommand_matches("run").unwrap_or(&matches);
-    Ok(Task::Run(Shape {
+    let shape = Shape {
         rows: number(run, "rows"),
         passes: number(run, "passes"),
-    }))
+    };
+    Ok(named_task(words, shape))
 }
 
 // What clap answers words that name no task: help that was asked for is one, and all else is a refusal.
 fn answer_words<'a>(alloc: Global, words: &[&'a str], error: &Error) -> Result<Task<'a>, Refusal>
+    requires { ¬ (IsPlain words.now) }
     ensures help { IfOk result (λ task. AsksFor words.now task) }
     ensures refused { IfErr result (λ why. EndsWords why) }
 {
@@ -93,13 +90,26 @@ fn answer_words<'a>(alloc: Global, words: &[&'a str], error: &Error) -> Result<T
     Ok(Task::Help(text))
 }
 
-/// What all words ask for, with the program's name, or clap's own text where they are refused.
-pub fn task_of<'a>(alloc: Global, words: &[&'a str]) -> Result<Task<'a>, Refusal>
+// What words of no plain form ask for.
+fn other_task<'a>(alloc: Global, words: &[&'a str]) -> Result<Task<'a>, Refusal>
+    requires { ¬ (IsPlain words.now) }
     ensures asked { IfOk result (λ task. AsksFor words.now task) }
     ensures refused { IfErr result (λ why. EndsWords why) }
 {
     match task_in(alloc, words) {
         Ok(task) => Ok(task),
         Err(error) => answer_words(alloc, words, &error),
+    }
+}
+
+/// What all words ask for, with the program's name, or clap's own text where they are refused. Words of a plain form are never refused here, and take no memory.
+pub fn task_of<'a>(alloc: Global, words: &[&'a str]) -> Result<Task<'a>, Refusal>
+    ensures asked { IfOk result (λ task. AsksFor words.now task) }
+    ensures refused { IfErr result (λ why. EndsWords why) }
+    ensures other { OnErr result (¬ (IsPlain words.now)) }
+{
+    match plain_task(words) {
+        Some(task) => Ok(task),
+        None => other_task(alloc, words),
     }
 }

@@ -1,10 +1,14 @@
 -- What words ask for and what a task did, as one fact of the words.
-use Rattle.std.proofs.Common.{◌≡◌, ◌⊎◌, inl, inr, ℕ, List, Bool, true, false, Some, None, Ok, Err, Result, IfOk, OnOk, refl, sym, ◌∙◌, subst}
+use Rattle.std.proofs.Common.{◌≡◌, ◌⊎◌, inl, inr, ℕ, ◌<◌, arith, List, [], true, false, Some, None, Ok, Err, Result, IfOk, OnOk, IfErr, IsErrOf, ◌↔◌, refl, sym, ◌∙◌, subst}
+use Rattle.std.specs.Prelude.{string_bytes}
+use Rattle.std.specs.declared.string.String.{String}
+use Rattle.std.specs.declared.alloc.Global.{Global}
 use Rattle.std.proofs.lemmas.Bool.{false≢true}
 use Rattle.std.proofs.lemmas.Option.{none-some, same_Some}
 use denote.Ref.{Bor}
-use Rattle.mst_command.specs.Commanding.{AskHelp, AsksFor, EndsWords, IsDevice, Unread, Untouched, asks_replay, asks_verify, verified_words}
-use Rattle.mst_command.specs.Programs.{RanScript, RanReplay, RanVerify, Did}
+use Rattle.mst_command.specs.Commanding.{AsksFor, Ends, EndsWords, IsDevice, IsPlain, NamesShape, Unread, Untouched, status_of, told, asks_replay, asks_verify, verified_words}
+use Rattle.mst_devices.specs.Device.{Breaks}
+use Rattle.mst_command.specs.Programs.{RanScript, RanReplay, RanVerify, Did, Helped, HasBadShape, HasBadRoot, HasBadKey, IsBad, Comes}
 use Rattle.mst_command.specs.declared.task.Task.{Task}
 use Rattle.mst_command.specs.declared.task.Task.TheVariants.{Run, Verify, Replay, Help}
 use Rattle.mst_command.specs.declared.task.Ending.{Ending}
@@ -13,28 +17,31 @@ use Rattle.mst_command.specs.declared.task.Refusal.{Refusal}
 use Rattle.mst_command.specs.declared.task.Refusal.TheVariants.{Words, NotText, Shape, BadRoot, BadKey, Device, Memory}
 
 module _ {S W : Type 0} (gives : S → List ℕ → S → Type 0) (left : S → ℕ) (takes : W → List ℕ → W → Type 0) (words : List (Bor (List ℕ))) where
+  helped : (text : String Global) (s t : S) (w x : W) → AsksFor words (Help text) → takes w (string_bytes text) x → t ≡ s → Helped takes words s w t x
+  helped text s t w x asked taken same = record { asked = asked.0; other = asked.1; text = string_bytes text; taken = taken; unread = same }
+
   pub asked_script : (task : Task) (r : Result Ending Refusal) (s t : S) (w x : W) → AsksFor words task → IfOk r (λ ending. Did gives left takes task s w ending t x) → asks_replay words ≡ false → asks_verify words ≡ None →
-      OnOk r (((shape : _) × RanScript gives takes shape s w t x × (left t ≡ 0)) ⊎ (AskHelp words × (t ≡ s)))
-  asked_script (Run shape) (Ok ending) s t w x asked did is none = inl (shape, did.0, did.1)
+      OnOk r (((shape : _) × NamesShape words shape × RanScript gives takes shape s w t x × (left t ≡ 0)) ⊎ Helped takes words s w t x)
+  asked_script (Run shape) (Ok ending) s t w x asked did is none = inl (shape, asked.2, did.0, did.1)
   asked_script (Verify root key) (Ok ending) s t w x asked did is none = absurd (none-some (root.now, key.now) (sym none ∙ sym asked.1))
   asked_script Replay (Ok ending) s t w x asked did is none = absurd (false≢true (sym (asked.0 ∙ is)))
-  asked_script (Help text) (Ok ending) s t w x asked did is none = inr (asked, did.1)
+  asked_script (Help text) (Ok ending) s t w x asked did is none = inr (helped text s t w x asked did.0 did.1)
   asked_script task (Err why) s t w x asked did is none = tt
 
   pub asked_replay : (task : Task) (r : Result Ending Refusal) (s t : S) (w x : W) → AsksFor words task → IfOk r (λ ending. Did gives left takes task s w ending t x) → asks_replay words ≡ true →
-      OnOk r ((RanReplay gives takes s w t x × (left t ≡ 0)) ⊎ (AskHelp words × (t ≡ s)))
+      OnOk r ((RanReplay gives takes s w t x × (left t ≡ 0)) ⊎ Helped takes words s w t x)
   asked_replay (Run shape) (Ok ending) s t w x asked did is = absurd (false≢true (asked.0 ∙ is))
   asked_replay (Verify root key) (Ok ending) s t w x asked did is = absurd (false≢true (asked.0 ∙ is))
   asked_replay Replay (Ok ending) s t w x asked did is = inl (did.0, did.1)
-  asked_replay (Help text) (Ok ending) s t w x asked did is = inr (asked, did.1)
+  asked_replay (Help text) (Ok ending) s t w x asked did is = inr (helped text s t w x asked did.0 did.1)
   asked_replay task (Err why) s t w x asked did is = tt
 
   pub asked_verify : (task : Task) (r : Result Ending Refusal) (s t : S) (w x : W) → AsksFor words task → IfOk r (λ ending. Did gives left takes task s w ending t x) →
-      IfOk r (λ ending. (named : _) → asks_verify words ≡ Some named → RanVerify gives left takes named s w ending t x ⊎ (AskHelp words × (t ≡ s) × (ending ≡ Done)))
+      IfOk r (λ ending. (named : _) → asks_verify words ≡ Some named → RanVerify gives left takes named s w ending t x ⊎ (Helped takes words s w t x × (ending ≡ Done)))
   asked_verify (Run shape) (Ok ending) s t w x asked did = λ named is. absurd (none-some named (asked.1 ∙ is))
   asked_verify (Verify root key) (Ok ending) s t w x asked did = λ named is. inl (subst (λ (words : List ℕ × List ℕ). RanVerify gives left takes words s w ending t x) (same_Some (root.now, key.now) named (asked.1 ∙ is)) did)
   asked_verify Replay (Ok ending) s t w x asked did = λ named is. absurd (none-some named (asked.1 ∙ is))
-  asked_verify (Help text) (Ok ending) s t w x asked did = λ named is. inr (asked, did.1, did.2)
+  asked_verify (Help text) (Ok ending) s t w x asked did = λ named is. inr (helped text s t w x asked did.0 did.1, did.2)
   asked_verify task (Err why) s t w x asked did = tt
 
   pub asked_others : (task : Task) (r : Result Ending Refusal) (s t : S) (w x : W) → AsksFor words task → IfOk r (λ ending. Did gives left takes task s w ending t x) →
@@ -79,3 +86,87 @@ still_untouched BadRoot s = refl
 still_untouched BadKey s = refl
 still_untouched Device s = tt
 still_untouched Memory s = refl
+
+abbrev EndsOfWords : Refusal → Type 0
+EndsOfWords (Words text) = Unit {0}
+EndsOfWords NotText = Unit {0}
+EndsOfWords _ = ⊥
+
+not_bad : (task : Task) (r : Result Ending Refusal) → IsErrOf r Shape ↔ HasBadShape task → IsErrOf r BadRoot ↔ HasBadRoot task → IsErrOf r BadKey ↔ HasBadKey task → ¬ (IsErrOf r Shape) → ¬ (IsErrOf r BadRoot) → ¬ (IsErrOf r BadKey) → ¬ (IsBad task)
+not_bad task r shape root key a b c = λ bad. elim bad [
+  | inl h ↦ a (shape.1 h)
+  | inr (inl h) ↦ b (root.1 h)
+  | inr (inr h) ↦ c (key.1 h)
+]
+
+no_words : (task : Task) (why : Refusal) → Ends task why → EndsOfWords why → ⊥
+no_words (Run shape) (Words text) ends of = ends
+no_words (Run shape) NotText ends of = ends
+no_words (Verify root key) (Words text) ends of = ends
+no_words (Verify root key) NotText ends of = ends
+no_words Replay (Words text) ends of = ends
+no_words Replay NotText ends of = ends
+no_words (Help text) (Words said) ends of = ends
+no_words (Help text) NotText ends of = ends
+no_words task Shape ends of = of
+no_words task BadRoot ends of = of
+no_words task BadKey ends of = of
+no_words task Device ends of = of
+no_words task Memory ends of = of
+
+-- a task that is cut short is so for a reason that comes
+pub task_comes : (words : List (Bor (List ℕ))) (task : Task) (r : Result Ending Refusal) → AsksFor words task → IsErrOf r Shape ↔ HasBadShape task → IsErrOf r BadRoot ↔ HasBadRoot task → IsErrOf r BadKey ↔ HasBadKey task →
+    IfErr r (λ why. Ends task why) → IfErr r (λ why. Comes words why)
+task_comes words task (Ok ending) asked shape root key ends = tt
+task_comes words task (Err (Words text)) asked shape root key ends = absurd (no_words task (Words text) ends tt)
+task_comes words task (Err NotText) asked shape root key ends = absurd (no_words task NotText ends tt)
+task_comes words task (Err Shape) asked shape root key ends = (task, asked, shape.0 refl)
+task_comes words task (Err BadRoot) asked shape root key ends = (task, asked, root.0 refl)
+task_comes words task (Err BadKey) asked shape root key ends = (task, asked, key.0 refl)
+task_comes words task (Err Device) asked shape root key ends = tt
+task_comes words task (Err Memory) asked shape root key ends = λ plain. (task, asked, not_bad task (Err Memory) shape root key (λ is. cc) (λ is. cc) (λ is. cc))
+
+-- words that are refused are so for a reason that comes
+pub words_come : (words : List (Bor (List ℕ))) (why : Refusal) → EndsWords why → ¬ (IsPlain words) → Comes words why
+words_come words (Words text) h other = other
+words_come words NotText h other = absurd h
+words_come words Shape h other = absurd h
+words_come words BadRoot h other = absurd h
+words_come words BadKey h other = absurd h
+words_come words Device h other = absurd h
+words_come words Memory h other = λ plain. absurd (other plain)
+
+-- words that are refused fail by no device
+pub no_device : (why : Refusal) → EndsWords why → (let r : Result Ending Refusal = Err why in IsErrOf r Device) → ⊥
+no_device (Words text) h is = cc
+no_device NotText h is = h
+no_device Shape h is = h
+no_device BadRoot h is = h
+no_device BadKey h is = h
+no_device Device h is = h
+no_device Memory h is = cc
+
+only_device : (why : Refusal) → status_of why ≡ 3 → why ≡ Device
+only_device (Words text) is = absurd (omega (arith, is))
+only_device NotText is = absurd (omega (arith, is))
+only_device Shape is = absurd (omega (arith, is))
+only_device BadRoot is = absurd (omega (arith, is))
+only_device BadKey is = absurd (omega (arith, is))
+only_device Device is = refl
+only_device Memory is = absurd (omega (arith, is))
+
+-- what stands on standard error where a program ended early
+module _ {E : Type 0} (takes : E → List ℕ → E → Type 0) (failures : E → ℕ) (e f : E) (why : Refusal) (n : ℕ)
+    (failed : (failures f ≡ failures e) ⊎ ((failures e < failures f) × (n ≡ 3))) (status : failures f ≡ failures e → n ≡ status_of why) (said : failures f ≡ failures e → takes e (told why) f) where
+  pub told_early : (words : List (Bor (List ℕ))) → Comes words why → (n ≡ 2) ⊎ (n ≡ 4) → (it : Refusal) × (n ≡ status_of it) × Comes words it × takes e (told it) f
+  told_early words comes = elim failed as (λ x. (n ≡ 2) ⊎ (n ≡ 4) → (it : Refusal) × (n ≡ status_of it) × Comes words it × takes e (told it) f) [
+    | inl same ↦ λ is. (why, status same, comes, said same)
+    | inr rose ↦ λ is. absurd (omega (arith, is, rose.1))
+  ]
+
+  pub stopped_early : {P : Type 0} → (why ≡ Device → P) → (failures e < failures f → Breaks takes e [] (told why) f) → n ≡ 3 →
+      ((failures e < failures f) × ((it : Refusal) × Breaks takes e [] (told it) f)) ⊎ (P × takes e (told Device) f)
+  stopped_early {P} task broke = elim failed as (λ x. n ≡ 3 → ((failures e < failures f) × ((it : Refusal) × Breaks takes e [] (told it) f)) ⊎ (P × takes e (told Device) f)) [
+    | inl same ↦ λ is. let d : why ≡ Device = only_device why (sym (status same) ∙ is) in inr (task d, subst (λ (w : Refusal). takes e (told w) f) d (said same))
+    | inr rose ↦ λ is. inl (rose.0, (why, broke rose.0))
+  ]

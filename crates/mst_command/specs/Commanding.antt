@@ -1,8 +1,9 @@
 -- What the words of a program ask for, and how it ends.
-use Rattle.std.specs.Prelude.{◌≡◌, ℕ, ◌<◌, ◌⊎◌, Bool, true, false, if◌then◌else◌, List, [], ◌∷◌, ◌++◌, Option, Some, None, codes, string_bytes}
+use Rattle.std.specs.Prelude.{◌≡◌, ◌==◌, ◌&&◌, ℕ, ◌<◌, ◌^◌, ◌⊎◌, Bool, true, false, not, if◌then◌else◌, List, [], ◌∷◌, ◌++◌, Option, Some, None, codes, decimal, string_bytes}
 use Rattle.std.specs.List.{Contains}
 use Rattle.std.specs.Str.{bytes_eq}
 use denote.Ref.{Bor}
+use Rattle.mst_words.specs.declared.view.Shape.{Shape as Size}
 use Rattle.mst_command.specs.declared.task.Task.{Task}
 use Rattle.mst_command.specs.declared.task.Task.TheVariants.{Run, Verify, Replay, Help}
 use Rattle.mst_command.specs.declared.task.Ending.{Ending}
@@ -30,6 +31,66 @@ abbrev pub asks_verify : List (Bor (List ℕ)) → Option (List ℕ × List ℕ)
 asks_verify (program ∷ name ∷ words) = if bytes_eq name.now (codes "verify") then Some (root_and_key (program ∷ name ∷ words)) else None
 asks_verify _ = None
 
+-- the words for the rows and the passes, where each of the two options is given once
+abbrev pub two_options : List ℕ → List ℕ → List ℕ → List ℕ → Option (List ℕ × List ℕ)
+two_options first a second b =
+    if bytes_eq first (codes "--rows") then (if bytes_eq second (codes "--passes") then Some (a, b) else None)
+    else if bytes_eq first (codes "--passes") then (if bytes_eq second (codes "--rows") then Some (b, a) else None)
+    else None
+
+-- the same, where one option is given
+abbrev pub one_option : List ℕ → List ℕ → Option (List ℕ × List ℕ)
+one_option option number =
+    if bytes_eq option (codes "--rows") then Some (number, codes "4")
+    else if bytes_eq option (codes "--passes") then Some (codes "1024", number)
+    else None
+
+-- the same, for each number of options
+abbrev pub options_of : List (Bor (List ℕ)) → Option (List ℕ × List ℕ)
+options_of [] = Some (codes "1024", codes "4")
+options_of (option ∷ number ∷ []) = one_option option.now number.now
+options_of (first ∷ a ∷ second ∷ b ∷ []) = two_options first.now a.now second.now b.now
+options_of _ = None
+
+-- the words for the rows and the passes, where the words are of the plain form `run`, `--rows N`, `--passes N`, each option at most once
+abbrev pub asks_run : List (Bor (List ℕ)) → Option (List ℕ × List ℕ)
+asks_run (program ∷ name ∷ words) = if bytes_eq name.now (codes "run") then options_of words else None
+asks_run _ = None
+
+-- two words are the numerals of the rows and the passes
+pub record IsShapeIn (words : List ℕ × List ℕ) (shape : Size) : Type 0 where
+  pub rows : words.0 ≡ decimal shape.rows
+  pub passes : words.1 ≡ decimal shape.passes
+  pub rows_fit : shape.rows < 2 ^ 32
+  pub passes_fit : shape.passes < 2 ^ 32
+
+-- the words are of the plain form of a script over a store of this size
+abbrev pub IsRunOf : List (Bor (List ℕ)) → Size → Type 0
+IsRunOf words shape = (named : List ℕ × List ℕ) × (asks_run words ≡ Some named) × IsShapeIn named shape
+
+-- no other size than this is named in the plain form
+abbrev pub NamesShape : List (Bor (List ℕ)) → Size → Type 0
+NamesShape words shape = (other : Size) → IsRunOf words other → other ≡ shape
+
+-- the words are `replay` alone
+abbrev pub is_plain_replay : List (Bor (List ℕ)) → Bool
+is_plain_replay (program ∷ name ∷ []) = bytes_eq name.now (codes "replay")
+is_plain_replay _ = false
+
+-- the word begins with a dash
+abbrev pub is_dashed : List ℕ → Bool
+is_dashed [] = false
+is_dashed (b ∷ bs) = b == 45
+
+-- the words are `verify` and two words that begin with no dash
+abbrev pub is_plain_verify : List (Bor (List ℕ)) → Bool
+is_plain_verify (program ∷ name ∷ root ∷ key ∷ []) = bytes_eq name.now (codes "verify") && (not (is_dashed root.now) && not (is_dashed key.now))
+is_plain_verify _ = false
+
+-- the words are of a plain form, and so are never refused by their form
+abbrev pub IsPlain : List (Bor (List ℕ)) → Type 0
+IsPlain words = ((shape : Size) × IsRunOf words shape) ⊎ (is_plain_replay words ≡ true) ⊎ (is_plain_verify words ≡ true)
+
 -- a word that asks for help: `help`, `--help`, or one that begins with `-h`
 abbrev pub IsHelp : List ℕ → Type 0
 IsHelp word = (word ≡ codes "help") ⊎ (word ≡ codes "--help") ⊎ ((rest : List ℕ) × (word ≡ codes "-h" ++ rest))
@@ -50,10 +111,15 @@ verified_words (Verify root key) = Some (root.now, key.now)
 verified_words Replay = None
 verified_words (Help text) = None
 
--- the words ask for this task: some word for help, and else the first word behind the program's name for the rest
+-- a script's size is what plain words name
+abbrev pub IsSized : List (Bor (List ℕ)) → Task → Type 0
+IsSized words (Run shape) = NamesShape words shape
+IsSized words task = Unit {0}
+
+-- The words ask for this task: some word for help, in no plain form, and else the first word behind the program's name for the rest.
 abbrev pub AsksFor : List (Bor (List ℕ)) → Task → Type 0
-AsksFor words (Help text) = AskHelp words
-AsksFor words task = (is_replay task ≡ asks_replay words) × (verified_words task ≡ asks_verify words)
+AsksFor words (Help text) = AskHelp words × ¬ (IsPlain words)
+AsksFor words task = (is_replay task ≡ asks_replay words) × (verified_words task ≡ asks_verify words) × IsSized words task
 
 -- how a script may end early
 abbrev pub EndsScript : Refusal → Type 0

@@ -7,7 +7,7 @@ use Rattle.mst_replay.specs.declared.Replay.{Replay}
 use Rattle.mst_replay.specs.Replay.{core_state}
 use Rattle.mst_devices.specs.Device.{Breaks}
 use Rattle.mst_script.specs.Machine.{Line}
-use Rattle.mst_lines.specs.Runs.{Ran}
+use Rattle.mst_lines.specs.Runs.{Ran, Stopped}
 use Rattle.mst_verify.specs.declared.report.Report.{Report}
 use Rattle.mst_verify.specs.Words.{root_of, key_of}
 use Rattle.mst_verify.specs.Report.{limit, report_of, line_of, is_refusal}
@@ -15,6 +15,10 @@ use Rattle.mst_command.specs.declared.task.Task.{Task}
 use Rattle.mst_command.specs.declared.task.Task.TheVariants.{Run, Verify, Replay as TaskReplay, Help}
 use Rattle.mst_command.specs.declared.task.Ending.{Ending}
 use Rattle.mst_command.specs.declared.task.Ending.TheVariants.{Done, ProofRefused}
+use denote.Ref.{Bor}
+use Rattle.mst_command.specs.declared.task.Refusal.{Refusal}
+use Rattle.mst_command.specs.declared.task.Refusal.TheVariants.{Words, NotText, Shape as BadShape, BadRoot, BadKey, Device, Memory}
+use Rattle.mst_command.specs.Commanding.{AskHelp, AsksFor, IsPlain}
 use Rattle.mst_command.specs.Recalling.{Recalls}
 
 -- how the program ends that said this
@@ -28,12 +32,26 @@ pub record RanScript {S W : Type 0} (gives : S → List ℕ → S → Type 0) (t
   pub last : History
   pub ran : Ran gives takes (Line store) s w [] t x last
 
+-- The same, where a device failed.
+pub record BrokeScript {S W : Type 0} (gives : S → List ℕ → S → Type 0) (takes : W → List ℕ → W → Type 0) (failures : W → ℕ) (shape : Shape) (s : S) (w : W) (t : S) (x : W) : Type 0 where
+  pub store : StoreId
+  pub size : HasShape shape store
+  pub last : History
+  pub stopped : Stopped gives takes failures (Line store) s w [] t x last
+
 -- The source gave events of a core, and the sink took what the core answers each of them, from no core on.
 pub record RanReplay {S W : Type 0} (gives : S → List ℕ → S → Type 0) (takes : W → List ℕ → W → Type 0) (s : S) (w : W) (t : S) (x : W) : Type 0 where
   pub before : Replay
   pub after : Replay
   pub fresh : core_state before ≡ None
   pub ran : Ran gives takes Recalls s w before t x after
+
+-- The same, where a device failed.
+pub record BrokeReplay {S W : Type 0} (gives : S → List ℕ → S → Type 0) (takes : W → List ℕ → W → Type 0) (failures : W → ℕ) (s : S) (w : W) (t : S) (x : W) : Type 0 where
+  pub before : Replay
+  pub after : Replay
+  pub fresh : core_state before ≡ None
+  pub stopped : Stopped gives takes failures Recalls s w before t x after
 
 -- This is said of the text that the source gave, up to its end or beyond the limit.
 pub record IsSaid {S : Type 0} (gives : S → List ℕ → S → Type 0) (left : S → ℕ) (root key : List ℕ) (s : S) (report : Report) (t : S) : Type 0 where
@@ -70,6 +88,21 @@ Did gives left takes (Verify root key) s w ending t x = RanVerify gives left tak
 Did gives left takes TaskReplay s w ending t x = RanReplay gives takes s w t x × (left t ≡ 0) × (ending ≡ Done)
 Did gives left takes (Help text) s w ending t x = takes w (string_bytes text) x × (t ≡ s) × (ending ≡ Done)
 
+-- A device failed while the task was done: what was read, and what the sink took.
+abbrev pub Broke : {S W : Type 0} → (S → List ℕ → S → Type 0) → (S → ℕ) → (W → List ℕ → W → Type 0) → (W → ℕ) → Task → S → W → S → W → Type 0
+Broke gives left takes failures (Run shape) s w t x = BrokeScript gives takes failures shape s w t x
+Broke gives left takes failures (Verify root key) s w t x = (x ≡ w) ⊎ BrokeVerify gives left takes (root.now, key.now) s w t x
+Broke gives left takes failures TaskReplay s w t x = BrokeReplay gives takes failures s w t x
+Broke gives left takes failures (Help text) s w t x = Breaks takes w [] (string_bytes text) x × (t ≡ s)
+
+-- A text of the words was written, for which some word of no plain form asked, and nothing was read.
+pub record Helped {S W : Type 0} (takes : W → List ℕ → W → Type 0) (words : List (Bor (List ℕ))) (s : S) (w : W) (t : S) (x : W) : Type 0 where
+  pub asked : AskHelp words
+  pub other : ¬ (IsPlain words)
+  pub text : List ℕ
+  pub taken : takes w text x
+  pub unread : t ≡ s
+
 -- a task over a store that cannot have its size
 abbrev pub HasBadShape : Task → Type 0
 HasBadShape (Run shape) = ¬ (IsShape shape)
@@ -84,3 +117,18 @@ HasBadRoot _ = ⊥
 abbrev pub HasBadKey : Task → Type 0
 HasBadKey (Verify root key) = IsSome (root_of root.now) × (key_of key.now ≡ None)
 HasBadKey _ = ⊥
+
+-- a task that is refused before anything is read
+abbrev pub IsBad : Task → Type 0
+IsBad task = HasBadShape task ⊎ HasBadRoot task ⊎ HasBadKey task
+
+-- When a program ends early for this reason: words of no plain form alone are refused by their form, each other refusal is
+-- that of the task that the words ask for, and where plain words name a task that is refused, memory is not the reason.
+abbrev pub Comes : List (Bor (List ℕ)) → Refusal → Type 0
+Comes words (Words text) = ¬ (IsPlain words)
+Comes words NotText = ⊥
+Comes words BadShape = (task : Task) × AsksFor words task × HasBadShape task
+Comes words BadRoot = (task : Task) × AsksFor words task × HasBadRoot task
+Comes words BadKey = (task : Task) × AsksFor words task × HasBadKey task
+Comes words Device = Unit {0}
+Comes words Memory = IsPlain words → (task : Task) × AsksFor words task × ¬ (IsBad task)

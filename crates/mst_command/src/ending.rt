@@ -1,5 +1,6 @@
 //! How a program ends: what it says on standard error, and the exit status.
-ghost use Rattle.std.specs.Prelude.{◌≡◌, ◌<◌, ◌-◌, ◌^◌, ◌⊎◌};
+ghost use Rattle.std.specs.Prelude.{◌≡◌, ◌<◌, ◌-◌, ◌^◌, ◌⊎◌, []};
+ghost use Rattle.mst_devices.specs.Device.{Breaks};
 ghost use Rattle.mst_command.specs.Commanding.{status_of, told};
 
 use crate::task::Refusal;
@@ -23,6 +24,7 @@ pub fn complain<W: Sink>(err: &mut W, why: &Refusal) -> u8
     ensures status { (W.failures err.new ≡ W.failures err.old) → result ≡ status_of why.now }
     ensures told { (W.failures err.new ≡ W.failures err.old) → W.takes err.old (told why.now) err.new }
     ensures failed { (W.failures err.new ≡ W.failures err.old) ⊎ ((W.failures err.old < W.failures err.new) × (result ≡ 3)) }
+    ensures broke { W.failures err.old < W.failures err.new → Breaks W.takes err.old [] (told why.now) err.new }
 {
     let text = match why {
         Refusal::Words(text) => text.as_str(),

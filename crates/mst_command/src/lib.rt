@@ -6,6 +6,7 @@
 mod ending;
 mod events;
 mod input;
+mod plain;
 mod programs;
 mod replay;
 mod task;
@@ -15,6 +16,7 @@ mod verify;
 mod words;
 
 pub use ending::{DONE, PROOF_REFUSED, complain};
+pub use plain::plain_task;
 pub use programs::execute;
 pub use task::{Ending, Refusal, Task};
-pub use words::{ask_help, names_replay, verify_words};
+pub use words::{ask_help, named_task};

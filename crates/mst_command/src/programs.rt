@@ -1,7 +1,8 @@
 //! The programs, over a source and a sink.
-ghost use Rattle.std.specs.Prelude.{◌≡◌, ◌<◌, ◌≤◌, ◌-◌, ◌+◌, ◌^◌, ◌↔◌, OnOk, IfOk, IfErr, IsErrOf, None, string_bytes};
+ghost use Rattle.std.specs.Prelude.{◌≡◌, ◌<◌, ◌≤◌, ◌-◌, ◌+◌, ◌^◌, ◌↔◌, OnOk, IfOk, IfErr, IsErrOf, [], None, string_bytes};
+ghost use Rattle.mst_devices.specs.Device.{Breaks};
 ghost use Rattle.mst_store.specs.Passes.{IsShape};
-ghost use Rattle.mst_command.specs.Programs.{RanScript, RanReplay, Did, HasBadShape, HasBadRoot, HasBadKey};
+ghost use Rattle.mst_command.specs.Programs.{RanScript, BrokeScript, RanReplay, BrokeReplay, Did, Broke, HasBadShape, HasBadRoot, HasBadKey};
 ghost use Rattle.mst_command.specs.Commanding.{IsDevice, Ends, EndsHelp, EndsReplay, EndsScript, Untouched, Unread, verified_words};
 ghost use Rattle.mst_command.specs.declared.task.Ending.TheVariants.{Done};
 
@@ -33,6 +34,7 @@ pub fn run_script<A: Allocator + Copy, S: Source, W: Sink>(
     ensures unread { IfErr result (λ why. Untouched why source.old source.new) }
     ensures unwritten { IfErr result (λ why. Untouched why out.old out.new) }
     ensures ends { IfErr result (λ why. EndsScript why) }
+    ensures stopped { IsErrOf result Refusal.Device → BrokeScript S.gives W.takes W.failures shape source.old out.old source.new out.new }
     ensures shape { IsErrOf result Refusal.Shape ↔ ¬ (IsShape shape) }
 {
     let (store, seats) = match Store::open(alloc, shape) {
@@ -68,6 +70,7 @@ pub fn run_replay<A: Allocator + Copy, S: Source, W: Sink>(
     ensures unread { IfErr result (λ why. Untouched why source.old source.new) }
     ensures unwritten { IfErr result (λ why. Untouched why out.old out.new) }
     ensures ends { IfErr result (λ why. EndsReplay why) }
+    ensures stopped { IsErrOf result Refusal.Device → BrokeReplay S.gives W.takes W.failures source.old out.old source.new out.new }
 {
     let mut replay = Replay::new();
     match replay_events(alloc, source, out, &mut replay) {
@@ -86,6 +89,7 @@ fn show<W: Sink>(out: &mut W, text: &str) -> Result<Ending, Refusal>
     ensures device { IfErr result (λ why. IsDevice why (W.failures out.old) (W.failures out.new)) }
     ensures unwritten { IfErr result (λ why. Untouched why out.old out.new) }
     ensures ends { IfErr result (λ why. EndsHelp why) }
+    ensures stopped { IsErrOf result Refusal.Device → Breaks W.takes out.old [] text.now out.new }
 {
     match write_all(out, text.as_bytes()) {
         Ok(()) => Ok(Ending::Done),
@@ -116,6 +120,7 @@ pub fn execute<A: Allocator + Copy, S: Source, W: Sink>(
     ensures root { IsErrOf result Refusal.BadRoot ↔ HasBadRoot task.entry }
     ensures key { IsErrOf result Refusal.BadKey ↔ HasBadKey task.entry }
     ensures ends { IfErr result (λ why. Ends task.entry why) }
+    ensures stopped { IsErrOf result Refusal.Device → Broke S.gives S.left W.takes W.failures task.entry source.old out.old source.new out.new }
 {
     match task {
         Task::Run(shape) => run_script(alloc, shape, source, out),

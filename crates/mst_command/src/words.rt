@@ -1,7 +1,10 @@
 //! What words ask for, by the words alone.
 ghost use Rattle.std.specs.Prelude.{◌≡◌, ◌↔◌, true};
 ghost use Rattle.std.specs.Option.{option_map};
-ghost use Rattle.mst_command.specs.Commanding.{AskHelp, IsHelp, asks_replay, asks_verify, root_and_key as named_root_and_key};
+ghost use Rattle.mst_command.specs.Commanding.{AskHelp, AsksFor, IsHelp, IsPlain, asks_replay, asks_verify, root_and_key as named_root_and_key};
+
+use crate::task::Task;
+use mst_store::Shape;
 
 // Whether a word asks for help.
 fn is_help(word: &str) -> bool
@@ -54,5 +57,19 @@ pub fn verify_words<'a>(words: &[&'a str]) -> Option<(&'a str, &'a str)>
     match words {
         [_, name, ..] if *name == "verify" => Some(root_and_key(words)),
         _ => None,
+    }
+}
+
+/// The task of words of no plain form, which were found to name one, by the first word behind the program's name. A script has this size.
+pub fn named_task<'a>(words: &[&'a str], shape: Shape) -> Task<'a>
+    requires { ¬ (IsPlain words.now) }
+    ensures { AsksFor words.now result }
+{
+    if names_replay(words) {
+        return Task::Replay;
+    }
+    match verify_words(words) {
+        Some((root, key)) => Task::Verify(root, key),
+        None => Task::Run(shape),
     }
 }

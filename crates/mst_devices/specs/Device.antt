@@ -1,5 +1,6 @@
 -- What one read gave, what one write took, and what a buffer before a sink did.
-use Rattle.std.specs.Prelude.{◌≡◌, ℕ, ◌+◌, ◌<◌, ◌≤◌, List, ◌++◌, length, take}
+use Rattle.std.specs.Prelude.{◌≡◌, ℕ, ◌+◌, ◌<◌, ◌≤◌, Bool, true, false, if◌then◌else◌, List, [], ◌++◌, length, take, Option}
+use Rattle.std.specs.Io.KnownBytes.{Consumes, IsAtEnd}
 
 -- n bytes at the front of the buffer were given; none only at the end
 pub record Gave {S : Type 0} (gives : S → List ℕ → S → Type 0) (left : S → ℕ) (s : S) (buffer : List ℕ) (n : ℕ) (t : S) : Type 0 where
@@ -33,7 +34,26 @@ pub record Held : Type 0 where
   pub room : ℕ
   pub failures : ℕ
 
--- a source of unknown bytes: how many it gives at most, and how many reads have failed
+-- A source over a reader of std: how many bytes it gives at most, whether it came to its end, how many reads have
+-- failed, and the bytes that the reader has left, where std knows them.
 pub record Counted : Type 0 where
   pub left : ℕ
+  pub has_ended : Bool
   pub failures : ℕ
+  pub known : Option (List ℕ)
+
+-- how many bytes it gives at most: none after its end
+abbrev pub left_of : Counted → ℕ
+left_of s = if s.has_ended then 0 else s.left
+
+-- These bytes were given: the first of those that the reader had left. It comes to its end only where none of them is left, and gives nothing after it.
+pub record GaveKnown (s : Counted) (xs : List ℕ) (t : Counted) : Type 0 where
+  pub counted : t.left + length xs ≡ s.left
+  pub known : Consumes s.known t.known xs
+  pub ends : s.has_ended ≡ false → t.has_ended ≡ true → IsAtEnd t.known
+  pub stays : s.has_ended ≡ true → (xs ≡ []) × (t.has_ended ≡ true) × (t.known ≡ s.known)
+
+-- a sink over a writer of std: how many writes have failed, and the bytes that the writer holds, where std knows them
+pub record Written : Type 0 where
+  pub failures : ℕ
+  pub known : Option (List ℕ)

@@ -1,6 +1,7 @@
 //! Devices over memory.
-ghost use Rattle.std.specs.Prelude.{◌≡◌, ◌++◌, [], length, IfOk, refl};
-ghost use Rattle.mst_devices.specs.Laws.{given_more, taken_none, taken_more};
+ghost use Rattle.std.specs.Prelude.{◌≡◌, ◌<◌, ◌≤◌, ◌-◌, ◌^◌, ◌++◌, [], length, min, IfOk, OnOk, OnErr, refl};
+ghost use Rattle.mst_devices.specs.Device.{Took};
+ghost use Rattle.mst_devices.specs.Laws.{given_more, given_within, taken_none, taken_more};
 
 use crate::{Device, Sink, Source};
 use std::alloc::{AllocError, Allocator};
@@ -48,6 +49,8 @@ impl<'a> Source for BytesSource<'a> {
     ghost gives_none = { λ s. refl };
 
     ghost gives_more = { λ s t u xs ys a b. given_more s t u xs ys a b };
+
+    ghost gives_within = { λ s t xs a. given_within s t xs a };
 }
 
 /// Bytes in memory, with room for a number of them. A write with no room left fails.
@@ -97,7 +100,18 @@ impl<A: Allocator> Sink for BytesSink<A> {
 
     ghost failures = { λ s. s.failures };
 
-    fn write(&mut self, bytes: &[u8]) -> Result<usize, Device> {
+    fn write(&mut self, bytes: &[u8]) -> Result<usize, Device>
+        requires room { 0 < length bytes.now }
+        requires few { self.old.failures < 2 ^ 64 - 1 }
+        ensures ok { IfOk result (λ n. Took (λ s xs t. t.bytes ≡ s.bytes ++ xs) self.old bytes.now n self.new) }
+        ensures steady { OnOk result (self.new.failures ≡ self.old.failures) }
+        ensures err { OnErr result (self.new.bytes ≡ self.old.bytes ++ []) }
+        ensures failed { OnErr result (self.old.failures < self.new.failures) }
+
+        ensures whole { IfOk result (λ n. n ≡ min (self.old.room - length self.old.bytes) (length bytes.now)) }
+        ensures full { OnErr result (self.old.room ≤ length self.old.bytes) }
+        ensures room { self.new.room ≡ self.old.room }
+    {
         let blank = self.room.saturating_sub(self.bytes.len());
         if blank == 0 {
             self.failures += 1;

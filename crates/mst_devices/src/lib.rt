@@ -1,7 +1,7 @@
 //! What bytes are read from, and what they are written to.
 #![tactic(auto)]
 
-ghost use Rattle.std.specs.Prelude.{◌≡◌, ℕ, ◌-◌, ◌^◌, ◌<◌, ◌≤◌, List, [], ◌++◌, length, IfOk, OnOk, OnErr};
+ghost use Rattle.std.specs.Prelude.{◌≡◌, ℕ, ◌+◌, ◌-◌, ◌^◌, ◌<◌, ◌≤◌, List, [], ◌++◌, length, IfOk, OnOk, OnErr};
 ghost use Rattle.mst_devices.specs.Device.{Gave, Took};
 
 mod bytes;
@@ -41,6 +41,9 @@ pub trait Source {
     ghost gives_none: { (s : Self) → gives s [] s };
 
     ghost gives_more: { (s t u : Self) (xs ys : List ℕ) → gives s xs t → gives t ys u → gives s (xs ++ ys) u };
+
+    // What it gives is of what it had left.
+    ghost gives_within: { (s t : Self) (xs : List ℕ) → gives s xs t → length xs + left t ≤ left s };
 }
 
 /// What bytes are written to.

@@ -1,5 +1,5 @@
 //! Bytes that wait before a sink.
-ghost use Rattle.std.specs.Prelude.{◌≡◌, ◌++◌, [], ◌<◌, ◌^◌, ◌-◌, if◌then◌else◌, IfOk, OnOk, OnErr};
+ghost use Rattle.std.specs.Prelude.{◌≡◌, ◌≢◌, ◌++◌, [], ◌<◌, ◌^◌, ◌-◌, if◌then◌else◌, IfOk, OnOk, OnErr};
 ghost use Rattle.mst_devices.specs.Device.{Puts, Breaks};
 
 use crate::{Device, Sink};
@@ -31,6 +31,7 @@ pub fn write_all<W: Sink>(sink: &mut W, bytes: &[u8]) -> Result<(), Device>
     ensures steady { OnOk result (W.failures sink.new ≡ W.failures sink.old) }
     ensures err { OnErr result (Breaks W.takes sink.old [] bytes.now sink.new) }
     ensures failed { OnErr result (W.failures sink.old < W.failures sink.new) }
+    ensures some { OnErr result (bytes.now ≢ []) }
 {
     let mut at = 0;
     while at < bytes.len() {
@@ -57,6 +58,7 @@ impl<A: Allocator> Pending<A> {
         ensures steady { OnOk result (W.failures sink.new ≡ W.failures sink.old) }
         ensures err { OnErr result (Breaks W.takes sink.old self.old [] sink.new) }
         ensures failed { OnErr result (W.failures sink.old < W.failures sink.new) }
+        ensures some { OnErr result (self.old ≢ []) }
     {
         write_all(sink, self.bytes.as_slice())?;
         self.bytes.clear();

@@ -1,6 +1,8 @@
 //! Standard input and output.
-ghost use Rattle.std.specs.Prelude.{◌≡◌, ◌+◌, ◌≤◌, length};
-ghost use Rattle.mst_devices.specs.Laws.{counted_none, counted_more};
+ghost use Rattle.std.specs.Prelude.{◌≡◌, ◌<◌, false, Some, length, min};
+ghost use Rattle.std.specs.Io.KnownBytes.{Appends};
+ghost use Rattle.mst_devices.specs.Device.{GaveKnown, left_of};
+ghost use Rattle.mst_devices.specs.Laws.{gave_none, gave_more, gave_within, appended_none, appended_more};
 
 use crate::{Device, Sink, Source};
 use std::io::{Read, Write};
@@ -11,49 +13,60 @@ use std::marker::Model;
 pub struct StdSource<R: Read> {
     input: R,
     left: u64,
+    has_ended: bool,
     failures: u64,
 }
 
-impl<R: Read> StdSource<R> {
-    /// A source over standard input.
-    pub fn new(input: R) -> StdSource<R>
-        ensures { result ≡ record { left = u64.MAX; failures = 0 } }
-    {
-        StdSource {
-            input,
-            left: u64::MAX,
-            failures: 0,
-        }
-    }
-}
-
-/// Contracts see how many bytes are left at most, and how many reads have failed.
+/// Contracts see how many bytes are left at most, whether the end was reached, how many reads have failed, and what std knows of the bytes that are left.
 impl<R: Read> Model for StdSource<R> {
     ghost use Rattle.mst_devices.specs.Device.{Counted};
 
     ghost Value = { Counted };
 
-    ghost view = { λ s. record { left = s.left; failures = s.failures } };
+    ghost view = { λ s. record { left = s.left; has_ended = s.has_ended; failures = s.failures; known = R.remaining s.input } };
 }
 
-// What it gives is known by the number alone: no clause says what a terminal gives.
-impl<R: Read> Source for StdSource<R> {
-    ghost gives = { λ s xs t. t.left + length xs ≤ s.left };
+impl<R: Read> StdSource<R> {
+    /// A source over standard input. Where std knows its bytes, and they are fewer than 2^64 - 1, all of them are given up to the end.
+    pub fn new(input: R) -> StdSource<R>
+        ensures fresh { result ≡ record { left = u64.MAX; has_ended = false; failures = 0; known = R.remaining input } }
+        ensures whole { (xs given : _) (last : _) → R.remaining input ≡ Some xs → length xs < u64.MAX → GaveKnown result given last → left_of last ≡ 0 → given ≡ xs }
+    {
+        StdSource {
+            input,
+            left: u64::MAX,
+            has_ended: false,
+            failures: 0,
+        }
+    }
 
-    ghost left = { λ s. s.left };
+    // How many bytes are read at most into so much room.
+    fn most(&self, room: usize) -> usize
+        ensures { result ≡ min (left_of self.now) room }
+    {
+        if self.has_ended {
+            return 0;
+        }
+        usize::try_from(self.left).unwrap_or(usize::MAX).min(room)
+    }
+}
+
+// What a reader gives is known as far as std knows it: of a terminal or a pipe only how many bytes.
+impl<R: Read> Source for StdSource<R> {
+    ghost gives = { λ s xs t. GaveKnown s xs t };
+
+    ghost left = { λ s. left_of s };
 
     ghost failures = { λ s. s.failures };
 
     fn read(&mut self, buffer: &mut [u8]) -> Result<usize, Device> {
-        let most = usize::try_from(self.left)
-            .unwrap_or(usize::MAX)
-            .min(buffer.len());
+        let most = self.most(buffer.len());
         if most == 0 {
             return Ok(0);
         }
         match self.input.read(&mut buffer[..most]) {
             Ok(0) => {
-                self.left = 0;
+                self.has_ended = true;
                 Ok(0)
             }
             Ok(count) => {
@@ -67,9 +80,11 @@ impl<R: Read> Source for StdSource<R> {
         }
     }
 
-    ghost gives_none = { λ s. counted_none s.left };
+    ghost gives_none = { λ s. gave_none s };
 
-    ghost gives_more = { λ s t u xs ys a b. counted_more s.left t.left u.left xs ys a b };
+    ghost gives_more = { λ s t u xs ys a b. gave_more s t u xs ys a b };
+
+    ghost gives_within = { λ s t xs a. gave_within s t xs a };
 }
 
 /// Standard output or standard error. Nothing is kept back: each write goes to the system.
@@ -82,7 +97,7 @@ pub struct StdSink<W: Write> {
 impl<W: Write> StdSink<W> {
     /// A sink over one of the two standard outputs.
     pub fn new(output: W) -> StdSink<W>
-        ensures { result ≡ 0 }
+        ensures { result ≡ record { failures = 0; known = W.contents output } }
     {
         StdSink {
             output,
@@ -91,20 +106,20 @@ impl<W: Write> StdSink<W> {
     }
 }
 
-/// Contracts see how many writes have failed.
+/// Contracts see how many writes have failed, and what std knows of the bytes that the writer holds.
 impl<W: Write> Model for StdSink<W> {
-    ghost use Rattle.std.specs.Prelude.{ℕ};
+    ghost use Rattle.mst_devices.specs.Device.{Written};
 
-    ghost Value = { ℕ };
+    ghost Value = { Written };
 
-    ghost view = { λ s. s.failed_writes };
+    ghost view = { λ s. record { failures = s.failed_writes; known = W.contents s.output } };
 }
 
-// No clause says what reaches a terminal or a pipe.
+// What a writer took is known as far as std knows it: of a terminal or a pipe nothing.
 impl<W: Write> Sink for StdSink<W> {
-    ghost takes = { λ _ _ _. Unit {0} };
+    ghost takes = { λ s xs t. Appends s.known t.known xs };
 
-    ghost failures = { λ s. s };
+    ghost failures = { λ s. s.failures };
 
     fn write(&mut self, bytes: &[u8]) -> Result<usize, Device> {
         match self.output.write(bytes) {
@@ -116,7 +131,7 @@ impl<W: Write> Sink for StdSink<W> {
         }
     }
 
-    ghost takes_none = { λ _. tt };
+    ghost takes_none = { λ s. appended_none s.known };
 
-    ghost takes_more = { λ _ _ _ _ _ _ _. tt };
+    ghost takes_more = { λ s t u xs ys a b. appended_more s.known t.known u.known xs ys a b };
 }

@@ -1,5 +1,5 @@
 -- Reading up to a newline, or up to the end.
-use Rattle.std.proofs.Common.{◌≡◌, ℕ, ◌<◌, List, [], ◌∷◌, ◌++◌, length, ◌==◌, sym, refl, ap, ◌∙◌, subst, arith, append_assoc, append-nil, length-append, Bool, true, false, cond, Option, Some, None}
+use Rattle.std.proofs.Common.{◌≡◌, ◌≢◌, ◌⊎◌, inl, inr, ℕ, ◌<◌, List, [], ◌∷◌, ◌++◌, length, ◌==◌, sym, refl, ap, ◌∙◌, subst, arith, append_assoc, append-nil, length-append, Bool, true, false, cond, Option, Some, None}
 use Rattle.std.specs.Prelude.{nat_lt}
 use Rattle.std.proofs.lemmas.Bool.{ltb-true, lt-ltb}
 use Rattle.std.proofs.lemmas.List.Elements.{All-append}
@@ -22,6 +22,11 @@ none_in xs ys a b = All-append (λ (x : ℕ). (x == 10) ≡ false) xs ys a b
 
 more_input : (left input new line others : List ℕ) → left ++ input ≡ line ++ others → left ++ (input ++ new) ≡ (line ++ others) ++ new
 more_input left input new line others is = sym (append_assoc left input new) ∙ ap (λ (l : List ℕ). l ++ new) is
+
+-- nothing was read where something waits still
+pub unread : {A B : Type 0} (p : List ℕ) → A ⊎ (B × (p ≡ [])) → p ≢ [] → A
+unread p (inl a) some = a
+unread p (inr b) some = absurd (some b.1)
 
 module _ {S W : Type 0} (gives : S → List ℕ → S → Type 0) (gmore : (s t u : S) (xs ys : List ℕ) → gives s xs t → gives t ys u → gives s (xs ++ ys) u)
     (takes : W → List ℕ → W → Type 0) (more : (s t u : W) (xs ys : List ℕ) → takes s xs t → takes t ys u → takes s (xs ++ ys) u) (failures : W → ℕ) where
@@ -48,7 +53,7 @@ module _ {S W : Type 0} (gives : S → List ℕ → S → Type 0) (gmore : (s t 
     puts = g.puts;
   }
 
-  all_out : (w x y : W) (p q : List ℕ) → Puts takes w p [] x q → takes x q y → takes w p y
+  pub all_out : (w x y : W) (p q : List ℕ) → Puts takes w p [] x q → takes x q y → takes w p y
   all_out w x y p q puts out = subst (λ (l : List ℕ). takes w l y) (sym puts.rest ∙ append-nil p) (more w x y puts.taken q puts.takes_them out)
 
   pub goes_on : (left : List ℕ) (s t u : S) (w x y : W) (p q r : List ℕ) (k l : Option (List ℕ)) (others new : List ℕ) → Goes gives takes left s w p k others t x q →

@@ -1,5 +1,5 @@
 //! Lines, one after another, of what a source gives.
-ghost use Rattle.std.specs.Prelude.{◌≡◌, ◌<◌, ◌≤◌, ◌-◌, ◌+◌, ◌^◌, ◌++◌, ◌∷◌, [], List, ℕ, true, false, length, OnOk, OnErr, IfOk};
+ghost use Rattle.std.specs.Prelude.{◌≡◌, ◌⊎◌, ◌<◌, ◌≤◌, ◌-◌, ◌+◌, ◌^◌, ◌++◌, ◌∷◌, [], List, ℕ, true, false, length, OnOk, OnErr, IfOk};
 ghost use Rattle.mst_lines.specs.Lines.{IsWithout, kept_with};
 ghost use Rattle.mst_lines.specs.Reading.{Cuts, Ends, Fails};
 
@@ -92,7 +92,7 @@ impl<A: Allocator> Reader<A> {
 
     /// Whether there is one more line that ends in a newline; then the buffer keeps it, and else the rest that the source ends in.
     ///
-    /// What waits before the sink is written before each read, so that nobody who reads the answers before the next line has to wait for them. `Device` comes where a read or a write failed.
+    /// What waits before the sink is written before each read, so that nobody who reads the answers before the next line has to wait for them: where a write failed, nothing was read, and where something was read or a read failed, all was written. `Device` comes where a read or a write failed.
     pub fn next<S: Source, W: Sink, B: Allocator>(
         &mut self,
         source: &mut S,
@@ -110,6 +110,9 @@ impl<A: Allocator> Reader<A> {
         ensures steady_sink { OnOk result (W.failures sink.new ≡ W.failures sink.old) }
         ensures err { OnErr result (Fails S.gives W.takes W.failures self.old source.old sink.old pending.old source.new sink.new) }
         ensures failed { OnErr result (S.failures source.old + W.failures sink.old < S.failures source.new + W.failures sink.new) }
+        ensures order { OnOk result ((source.new ≡ source.old) ⊎ (W.takes sink.old pending.old sink.new × (pending.new ≡ []))) }
+        ensures writes_first { OnErr result (W.failures sink.old < W.failures sink.new → source.new ≡ source.old) }
+        ensures reads_last { OnErr result (S.failures source.old < S.failures source.new → W.takes sink.old pending.old sink.new × (pending.new ≡ [])) }
     {
         line.clear();
         loop {

@@ -4,7 +4,6 @@ ghost use Rattle.std.specs.Prelude.{◌≡◌};
 ghost use Rattle.mst_replay.specs.Reply.{reply_of};
 
 use mst_pin::Answer;
-use std::fmt;
 
 #[derive(Clone, Copy, Debug, PartialEq, Eq)]
 pub enum Reply {
@@ -30,20 +29,6 @@ impl From<Answer> for Reply {
             Answer::Yes => Reply::Yes,
             Answer::No => Reply::No,
             Answer::Refused => Reply::Refused,
-        }
-    }
-}
-
-impl fmt::Display for Reply {
-    fn fmt<W: fmt::Write>(&self, f: &mut fmt::Formatter<W>) -> fmt::Result {
-        match self {
-            Reply::Records(count) => write!(f, "records {count}"),
-            Reply::Record(number) => write!(f, "record {number}"),
-            Reply::Done => write!(f, "done"),
-            Reply::Yes => write!(f, "yes"),
-            Reply::No => write!(f, "no"),
-            Reply::Refused => write!(f, "refused"),
-            Reply::FaultLine => write!(f, "fault line"),
         }
     }
 }

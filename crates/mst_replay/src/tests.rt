@@ -1,13 +1,26 @@
 use super::*;
-use std::alloc::Global;
+use std::alloc::{AllocError, Global};
 use std::process::Abort;
 use std::test::Fail;
+
+/// An answer in words, as a case has it.
+fn words_of(alloc: Global, reply: Reply) -> Result<String, AllocError> {
+    match reply {
+        Reply::Records(count) => format!(in alloc; "records {count}"),
+        Reply::Record(number) => format!(in alloc; "record {number}"),
+        Reply::Done => format!(in alloc; "done"),
+        Reply::Yes => format!(in alloc; "yes"),
+        Reply::No => format!(in alloc; "no"),
+        Reply::Refused => format!(in alloc; "refused"),
+        Reply::FaultLine => format!(in alloc; "fault line"),
+    }
+}
 
 /// Each line and its answer, from a replay with no core yet.
 fn replays(rt: &impl Abort, alloc: Global, lines: &[(&str, &str)]) -> Result<(), Fail> {
     let mut replay = Replay::new();
     for (line, answer) in lines {
-        let shown = format!(in alloc; "{}", replay.line(line.as_bytes()))?;
+        let shown = words_of(alloc, replay.line(line.as_bytes()))?;
         assert_eq!(rt; shown.as_str(), *answer, "at {line}");
     }
     Ok(())

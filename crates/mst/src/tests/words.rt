@@ -102,7 +102,7 @@ For more information, try '--help'.
 // The words, the status, and what stands on the two outputs where the input is one get.
 #[test]
 fn words_are_read(rt: HostRuntime) -> Result<(), Fail> {
-    let rows: [(&[&str], u8, &str, &str); 23] = [
+    let rows: [(&[&str], u8, &str, &str); 27] = [
         (&["mst", "run"], 0, "none\n", ""),
         (&["mst", "run", "--rows", "4"], 0, "none\n", ""),
         (
@@ -112,6 +112,20 @@ fn words_are_read(rt: HostRuntime) -> Result<(), Fail> {
             "",
         ),
         (&["mst", "run", "--passes", "1"], 0, "none\n", ""),
+        (&["mst", "run", "--passes", "+1"], 0, "none\n", ""),
+        (&["mst", "run", "--rows", "0004"], 0, "none\n", ""),
+        (
+            &["mst", "run", "--rows", "4", "--passes", "33"],
+            2,
+            "",
+            "shape\n",
+        ),
+        (
+            &["mst", "run", "--passes", "32", "--rows", "3"],
+            2,
+            "",
+            "shape\n",
+        ),
         (&["mst", "run", "--rows", "3"], 2, "", "shape\n"),
         (&["mst", "run", "--rows", "65536"], 2, "", "shape\n"),
         (&["mst", "run", "--rows", "0"], 2, "", "shape\n"),

@@ -1,5 +1,5 @@
 use Rattle.std.proofs.Common.{◌+◌}
-use Rattle.mst_command.proofs.Asked.{asked_script, asked_replay, asked_verify, asked_others, not_verified, words_device, still_unread, still_untouched}
+use Rattle.mst_command.proofs.Asked.{asked_script, asked_replay, asked_verify, asked_others, not_verified, words_device, still_unread, still_untouched, task_comes, words_come, no_device}
 use Rattle.mst.proofs.command.perform.Goals as goal
 
 pub returns-in-Ok-clause-ran : goal.returns-in-Ok-clause-ran
@@ -28,3 +28,15 @@ returns-in-Err-clause-untouched g c = λ none. still_untouched c.in-Err.why c.ar
 
 pub returns-in-Err-clause-unwritten : goal.returns-in-Err-clause-unwritten
 returns-in-Err-clause-unwritten g c = still_untouched c.in-Err.why c.args.out.now
+
+pub returns-in-Ok-clause-comes : goal.returns-in-Ok-clause-comes
+returns-in-Ok-clause-comes g c = task_comes c.args.words.now c.in-Ok.task c.execute.result c.in-Ok.ensures.asked c.execute.ensures.shape c.execute.ensures.root c.execute.ensures.key c.execute.ensures.ends
+
+pub returns-in-Ok-clause-stopped : goal.returns-in-Ok-clause-stopped
+returns-in-Ok-clause-stopped g c = λ is. (c.in-Ok.task, c.in-Ok.ensures.asked, c.execute.ensures.stopped is)
+
+pub returns-in-Err-clause-comes : goal.returns-in-Err-clause-comes
+returns-in-Err-clause-comes g c = words_come c.args.words.now c.in-Err.why c.in-Err.ensures.refused c.in-Err.ensures.other
+
+pub returns-in-Err-clause-stopped : goal.returns-in-Err-clause-stopped
+returns-in-Err-clause-stopped g c = λ is. absurd (no_device c.in-Err.why c.in-Err.ensures.refused is)

@@ -1,6 +1,6 @@
 use Rattle.std.proofs.Common.{rules}
 use Rattle.mst_script.proofs.AllOf.{all_of}
-use Rattle.mst_command.proofs.Fresh.{fresh_run}
+use Rattle.mst_command.proofs.Fresh.{fresh_run, fresh_stop}
 use Rattle.mst_command.proofs.programs.run_script.Goals as goal
 
 pub run-requires-clause-whole : goal.run-requires-clause-whole
@@ -178,3 +178,8 @@ returns-clause-ends g c = search rules
 
 pub returns-clause-shape : goal.returns-clause-shape
 returns-clause-shape g c = search rules
+
+pub returns-in-Err-Device-clause-stopped : goal.returns-in-Err-Device-clause-stopped
+returns-in-Err-Device-clause-stopped g c = λ is.
+    fresh_stop g.S.Source.gives g.W.Sink.takes g.W.Sink.failures c.args.shape c.in-Ok.opened.0 c.args.source.now c.run.new.source c.args.out.now c.run.new.sink c.in-Ok-deal.passes.items c.run.new.passes.items
+    c.in-Ok.ensures.store c.in-Ok-deal.ensures.ok (c.run.ensures.stopped (search rules))

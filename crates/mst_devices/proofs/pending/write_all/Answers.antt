@@ -1,5 +1,5 @@
 use Rattle.std.proofs.lemmas.Grind.{common_steps}
-use Rattle.std.proofs.Common.{◌≡◌, ◌≤◌, ℕ, List, ◌∙◌, arith, length, length-drop, drop, take, subst, rules}
+use Rattle.std.proofs.Common.{◌≡◌, ◌≤◌, ℕ, List, ◌∙◌, arith, length, length-drop, drop, take, subst, ap, rules}
 use Rattle.mst_devices.proofs.Putting.{on_err, stopped, went_on}
 use Rattle.mst_devices.proofs.pending.write_all.Goals as goal
 
@@ -52,3 +52,6 @@ returns-clause-err g c = search rules
 
 pub returns-clause-failed : goal.returns-clause-failed
 returns-clause-failed g c = search rules
+
+pub returns-in_err-at-clause-some : goal.returns-in_err-at-clause-some
+returns-in_err-at-clause-some g c = on_err c.from_residual.result (λ none. absurd (omega (arith, c.loop-at-test.true, ap length none)))

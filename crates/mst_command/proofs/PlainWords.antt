@@ -1,0 +1,86 @@
+-- Words of a plain form.
+use Rattle.std.proofs.Common.{◌≡◌, inl, inr, ℕ, ◌<◌, ◌^◌, Bool, true, false, List, [], ◌∷◌, Option, Some, None, Result, IfSome, IfNone, refl, sym, ap, subst, ◌∙◌, arith, codes, decimal}
+use Rattle.std.specs.Prelude.{if◌then◌else◌}
+use Rattle.std.specs.Str.{bytes_eq}
+use Rattle.std.specs.Result.{result_ok}
+use Rattle.std.specs.Str.Parse.{ParsesUnsigned}
+use Rattle.std.proofs.lemmas.Bool.{false≢true}
+use Rattle.std.proofs.lemmas.Fmt.{parse-decimal}
+use Rattle.std.proofs.lemmas.Option.{none-some, same_Some}
+use Rattle.std.proofs.lemmas.Slice.Eq.{bytes_eq-Decides}
+use denote.Ref.{Bor}
+use Rattle.mst_words.specs.declared.view.Shape.{Shape}
+use Rattle.mst_command.specs.Commanding.{AsksFor, IsPlain, IsRunOf, IsShapeIn, NamesShape, asks_replay, asks_run, asks_verify, is_plain_replay, is_plain_verify, options_of, root_and_key}
+use Rattle.mst_command.specs.declared.task.Task.{Task}
+use Rattle.mst_command.specs.declared.task.Task.TheVariants.{Run, Verify, Replay}
+
+abbrev Word : Type 0
+Word = Bor (List ℕ)
+
+pub parsed : {E : Type 0} (n : ℕ) (word : List ℕ) (r : Result ℕ E) → ParsesUnsigned 32 10 word r → word ≡ decimal n → n < 2 ^ 32 → result_ok r ≡ Some n
+parsed n word r h is few = ap result_ok (parse-decimal 32 n word r few (omega (arith, few)) is h)
+
+pub ap_decimal : (m n : ℕ) → m ≡ n → decimal m ≡ decimal n
+ap_decimal m n e = ap decimal e
+
+pub found : (r p : Option ℕ) (rows passes : ℕ) (shape : Shape) → r ≡ Some rows → p ≡ Some passes → r ≡ Some shape.rows → p ≡ Some shape.passes → (let it : Shape = record { rows = rows; passes = passes } in Some it) ≡ Some shape
+found r p rows passes shape a b c d =
+    let e : rows ≡ shape.rows = same_Some rows shape.rows (sym a ∙ c) in
+    let f : passes ≡ shape.passes = same_Some passes shape.passes (sym b ∙ d) in
+    λ i. Some (record { rows = e i; passes = f i })
+
+pub run_some : (words : List Word) (named : List ℕ × List ℕ) (r : Option Shape) → asks_run words ≡ Some named → IfSome r (λ shape. IsShapeIn named shape) → IfSome r (λ shape. IsRunOf words shape)
+run_some words named None is h = tt
+run_some words named (Some shape) is h = (named, is, h)
+
+pub run_only : (words : List Word) (named : List ℕ × List ℕ) (shape : Shape) (r : Option Shape) → asks_run words ≡ Some named → ((it : Shape) → IsShapeIn named it → r ≡ Some it) → IsRunOf words shape → r ≡ Some shape
+run_only words named shape r is only of = only shape (subst (λ (n : List ℕ × List ℕ). IsShapeIn n shape) (same_Some of.0 named (sym of.1 ∙ is)) of.2)
+
+pub run_none : (words : List Word) (shape : Shape) → asks_run words ≡ None → IsRunOf words shape → ⊥
+run_none words shape is of = none-some of.0 (sym is ∙ of.1)
+
+by_name : {T : Type 0} (name word : List ℕ) (x : Option T) (y : T) (b : Bool) → bytes_eq name word ≡ b → (if b then x else None) ≡ Some y → name ≡ word
+by_name name word x y true is e = (bytes_eq-Decides name word).0 is
+by_name name word x y false is e = absurd (none-some y e)
+
+run_named : (words : List Word) (named : List ℕ × List ℕ) → asks_run words ≡ Some named → (false ≡ asks_replay words) × (None ≡ asks_verify words)
+run_named [] named is = absurd (none-some named is)
+run_named (program ∷ []) named is = absurd (none-some named is)
+run_named (program ∷ name ∷ words) named is =
+    let e : name.now ≡ codes "run" = by_name name.now (codes "run") (options_of words) named (bytes_eq name.now (codes "run")) refl is in (
+      subst (λ (n : List ℕ). false ≡ bytes_eq n (codes "replay")) (sym e) refl,
+      subst (λ (n : List ℕ). None ≡ (if bytes_eq n (codes "verify") then Some (root_and_key (program ∷ name ∷ words)) else None)) (sym e) refl,
+    )
+
+pub run_asked : (words : List Word) (shape : Shape) (r : Option Shape) → r ≡ Some shape → IsRunOf words shape → ((it : Shape) → IsRunOf words it → r ≡ Some it) → AsksFor words (Run shape)
+run_asked words shape r is of only = let n = run_named words of.0 of.1 in (n.0, n.1, λ other named. same_Some other shape (sym (only other named) ∙ is))
+
+pub replay_asked : (words : List Word) → true ≡ is_plain_replay words → AsksFor words Replay
+replay_asked [] is = absurd (false≢true (sym is))
+replay_asked (program ∷ []) is = absurd (false≢true (sym is))
+replay_asked (program ∷ name ∷ []) is =
+    let e : name.now ≡ codes "replay" = (bytes_eq-Decides name.now (codes "replay")).0 (sym is) in
+    (is, subst (λ (n : List ℕ). None ≡ (if bytes_eq n (codes "verify") then Some (root_and_key (program ∷ name ∷ [])) else None)) (sym e) refl, tt)
+replay_asked (program ∷ name ∷ more ∷ words) is = absurd (false≢true (sym is))
+
+pub verify_asked : (words : List Word) (root key : Word) → asks_verify words ≡ Some (root.now, key.now) → AsksFor words (Verify root key)
+verify_asked [] root key is = absurd (none-some (root.now, key.now) is)
+verify_asked (program ∷ []) root key is = absurd (none-some (root.now, key.now) is)
+verify_asked (program ∷ name ∷ words) root key is =
+    let e : name.now ≡ codes "verify" = by_name name.now (codes "verify") (Some (root_and_key (program ∷ name ∷ words))) (root.now, key.now) (bytes_eq name.now (codes "verify")) refl is in
+    (subst (λ (n : List ℕ). false ≡ bytes_eq n (codes "replay")) (sym e) refl, sym is, tt)
+
+pub not_plain : (words : List Word) → ((shape : Shape) → IsRunOf words shape → ⊥) → (is_plain_replay words ≡ false) → (is_plain_verify words ≡ false) → ¬ (IsPlain words)
+not_plain words run replay verify = λ plain. elim plain [
+  | inl of ↦ run of.0 of.1
+  | inr (inl is) ↦ false≢true (sym replay ∙ is)
+  | inr (inr is) ↦ false≢true (sym verify ∙ is)
+]
+
+pub other_plain : (words : List Word) (r : Option Task) → ((shape : Shape) → IsRunOf words shape → ⊥) → IfNone r ((is_plain_replay words ≡ false) × (is_plain_verify words ≡ false)) → IfNone r (¬ (IsPlain words))
+other_plain words None run h = not_plain words run h.0 h.1
+other_plain words (Some task) run h = tt
+
+-- words of no plain form name no size
+pub no_shape : (words : List Word) (shape : Shape) → ¬ (IsPlain words) → NamesShape words shape
+no_shape words shape other = λ it of. absurd (other (inl (it, of)))

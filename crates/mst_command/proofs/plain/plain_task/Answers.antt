@@ -1,0 +1,10 @@
+use Rattle.mst_command.proofs.PlainWords.{run_asked, other_plain}
+use Rattle.std.proofs.Common.{◌∙◌, sym}
+use Rattle.std.proofs.lemmas.Option.{none-some}
+use Rattle.mst_command.proofs.plain.plain_task.Goals as goal
+
+pub returns-in-Some-clause-asked : goal.returns-in-Some-clause-asked
+returns-in-Some-clause-asked c = run_asked c.args.words.now c.in-Some.shape c.plain_run.result c.in-Some.is c.in-Some.ensures.some c.plain_run.ensures.only
+
+pub returns-in-None-clause-plain : goal.returns-in-None-clause-plain
+returns-in-None-clause-plain c = other_plain c.args.words.now c.plain_other.result (λ shape of. none-some shape (sym c.in-None.is ∙ c.plain_run.ensures.only shape of)) c.plain_other.ensures.plain
