@@ -32,12 +32,13 @@ abbrev pub known : ℕ → access.Seated → Known
 known number s = record { store = record { table = s.table; rows = s.me.0.rows; passes = s.me.0.passes }; number = number; seen = s.me.0.seen; mine = s.me.0.mine; asked = s.me.0.asked }
 
 -- The pass has no pin and not the turn, and its events in what it has seen are its own
-pub record IsAtRest (number passes : ℕ) (s : access.Seated) : Type 0 where
+pub record IsAtRest (number passes rows : ℕ) (s : access.Seated) : Type 0 where
   pub free : IsFree number s.me
   pub low : number ≤ passes
   pub passes_is : s.me.0.passes ≡ passes
   pub few : passes ≤ 32
-  pub few_rows : s.me.0.rows ≤ 65535
+  pub rows_is : s.me.0.rows ≡ rows
+  pub few_rows : rows ≤ 65535
   pub own : events_of number s.me.0.seen ≡ s.me.0.mine
 
 -- the sizes that a store may have

@@ -1,5 +1,5 @@
 -- Two passes of a store, or all of them, come to have seen one history.
-use Rattle.std.specs.Prelude.{◌≡◌, ℕ, ◌<◌, ◌≤◌, false, List, map, All, Contains}
+use Rattle.std.specs.Prelude.{◌≡◌, ℕ, ◌+◌, ◌<◌, ◌≤◌, false, List, map, All, Contains}
 use Rattle.atomic_table.specs.Seated.{TableId}
 use Rattle.mst_key.specs.declared.history.Event.{Event}
 use Rattle.mst_key.specs.History.{History, events_of, Begins}

@@ -11,7 +11,7 @@ mod tests;
 pub use faults::OpenFault;
 pub use mst_key::Memory;
 pub use mst_table::Shape;
-pub use mst_versions::WriteFault;
+pub use mst_versions::{Busy, WriteFault};
 pub use pass::Pass;
 pub use settling::{meet, settle};
 pub use store::{Seats, Store};

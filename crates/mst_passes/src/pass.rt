@@ -1,16 +1,18 @@
 //! A pass: the calls that one thread makes.
-ghost use Rattle.std.specs.Prelude.{◌≡◌, ◌+◌, length, IfOk, IfErr, OnErr};
+ghost use Rattle.std.specs.Prelude.{◌≡◌, ◌+◌, ◌<◌, ◌^◌, length, IfOk, IfErr, IfSome, IsSome, OnOk, OnErr};
 ghost use Rattle.mst_key.specs.declared.history.Change.TheVariants.{Put, Remove};
 ghost use Rattle.mst_key.specs.Map.{look, successor, span};
 ghost use Rattle.mst_key.specs.declared.format.Format.TheVariants.{One};
 ghost use Rattle.mst_node.specs.Text.{root};
 ghost use Rattle.mst_node.specs.Trail.{proof_text};
 ghost use Rattle.std.specs.Option.{option_copied};
-ghost use Rattle.mst_passes.specs.Passes.{Looks, Answers, having_asked, made_by, Wrote, Refuses};
+ghost use Rattle.mst_passes.specs.Passes.{Looks, Answers, having_asked, made_by, Wrote, FindsBusy, Refuses};
+ghost use Rattle.mst_key.specs.History.{after};
+ghost use Rattle.mst_versions.specs.Writes.{rows_of};
 
 use mst_key::{Change, Event, Key, Memory, Value};
 use mst_table::PassSeat;
-use mst_versions::WriteFault;
+use mst_versions::{Busy, WriteFault};
 use std::alloc::Allocator;
 use std::marker::Model;
 
@@ -22,6 +24,7 @@ pub struct Pass<'a, A: Allocator + Copy> {
     pub(crate) seat: PassSeat<'a, A>,
     pub(crate) number: u32,
     pub(crate) passes: u32,
+    pub(crate) rows: u32,
 }
 
 /// Contracts see which store it is of, its number, what it has seen, and its own events.
@@ -32,7 +35,7 @@ impl<'a, A: Allocator + Copy> Model for Pass<'a, A> {
 
     ghost view = { λ p. known p.number p.seat };
 
-    ghost invariant = { λ p. IsAtRest p.number p.passes p.seat };
+    ghost invariant = { λ p. IsAtRest p.number p.passes p.rows p.seat };
 }
 
 impl<'a, A: Allocator + Copy> Pass<'a, A> {
@@ -109,6 +112,7 @@ impl<'a, A: Allocator + Copy> Pass<'a, A> {
     /// `Memory` comes where a growth was refused; the pass is then as it was.
     pub fn prove<B: Allocator + Copy>(&mut self, alloc: B, key: &Key) -> Result<Vec<u8, B>, Memory>
         ensures ok { IfOk result (λ found. Answers (λ m. proof_text One m key.now) self.old found.items self.new) }
+        ensures short { IfOk result (λ found. length found.items < 2 ^ 32) }
         ensures memory { OnErr result (self.new ≡ having_asked 1 self.old) }
         ensures once { self.new.asked ≡ self.old.asked + 1 }
     {
@@ -124,6 +128,19 @@ impl<'a, A: Allocator + Copy> Pass<'a, A> {
                 Err(Memory)
             }
         }
+    }
+
+    /// How many rows the map takes, one for each key and one for each node of its tree; or `None` where some pass was found to pin a version, which never comes in a store of one pass. It takes no memory.
+    ///
+    /// `Busy` comes only where another pass has the turn.
+    pub fn rows(&mut self) -> Result<Option<u32>, Busy>
+        ensures looks { OnOk result (Looks self.old self.new) }
+        ensures some { IfOk result (λ found. IfSome found (λ n. n ≡ rows_of (after self.new.seen))) }
+        ensures alone { IfOk result (λ found. self.old.store.passes ≡ 1 → IsSome found) }
+        ensures steps { OnOk result (self.new.asked ≡ self.old.asked + self.old.store.passes + 4) }
+        ensures busy { OnErr result (FindsBusy self.old self.new) }
+    {
+        mst_versions::rows(&mut self.seat, self.number, self.passes, self.rows)
     }
 
     /// The number of the version: how many events there were. It takes no memory.

@@ -109,6 +109,7 @@ impl<A: Allocator + Copy> Store<A> {
                 seat,
                 number: index + 1,
                 passes: count,
+                rows: self.shape.rows,
             });
         }
         Ok(passes)

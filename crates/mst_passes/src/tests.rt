@@ -1,4 +1,7 @@
 //! A store over the table: what one pass writes the others read, two threads share a map, and a read without memory leaves its pass as it was.
+ghost use Rattle.mst_passes.specs.Passes.{IsSamePass};
+ghost use Rattle.mst_passes.specs.Settling.{AreAllPasses};
+
 use crate::{Memory, OpenFault, Pass, Shape, Store, WriteFault, meet, settle};
 use linked_list_allocator::LocalHeap;
 use mst_key::{Key, Value};
@@ -29,7 +32,9 @@ fn puts<A: Allocator + Copy>(
     key: &Key,
     value: &Value,
     old: Option<&Value>,
-) -> bool {
+) -> bool
+    ensures same { IsSamePass pass.old pass.new }
+{
     match pass.try_put(key, value) {
         Ok(found) => found.as_ref() == old,
         Err(_) => false,
@@ -58,10 +63,28 @@ fn passes_share_a_map(rt: HostRuntime) -> Result<(), Fail> {
     assert!(rt; puts(&mut second, &abc, &empty, Some(&x)));
     assert!(rt; gets(&mut first, &abc, &empty));
     assert!(rt; first.version() == 2 && second.version() == 2);
+    // one key and one node
+    assert!(rt; first.rows() == Ok(Some(2)));
     assert!(rt; first.try_remove(&abc) == Ok(Some(empty)));
     assert!(rt; second.next(None).is_none());
-    meet(&mut first, &mut second);
     assert!(rt; first.root() == second.root());
+    Ok(())
+}
+
+#[test]
+fn passes_that_met_get_what_both_put(rt: HostRuntime) -> Result<(), Fail> {
+    let Ok((store, seats)) = Store::open(rt.alloc(), Shape { rows: 9, passes: 3 }) else {
+        panic!(rt; "no memory")
+    };
+    let Ok(mut passes) = store.deal(rt.alloc(), seats) else {
+        panic!(rt; "no memory")
+    };
+    assert!(rt; passes.len() == 3);
+    let (front, back) = passes.split_at_mut(1);
+    let (a, b, x) = (key(&rt, b"a"), key(&rt, b"b"), value(&rt, b"x"));
+    assert!(rt; puts(&mut front[0], &a, &x, None) && puts(&mut back[1], &b, &x, None));
+    meet(&mut front[0], &mut back[1]);
+    assert!(rt; gets(&mut front[0], &b, &x) && gets(&mut back[1], &a, &x));
     Ok(())
 }
 
@@ -119,21 +142,18 @@ fn passes_in_two_threads_share_a_map(rt: HostRuntime) -> Result<(), Fail> {
     let Ok(mut passes) = store.deal(rt.alloc(), seats) else {
         panic!(rt; "no memory")
     };
-    {
-        let [first, second] = passes.as_mut_slice() else {
-            panic!(rt; "two passes")
-        };
-        let (a, b) = (key(&rt, b"a"), key(&rt, b"b"));
-        let (one, other) = join(
-            &rt,
-            || -> bool { put_all(first, &a) },
-            || -> bool { put_all(second, &b) },
-        );
-        assert!(rt; one && other);
-        let last = value(&rt, &[99]);
-        assert!(rt; gets(first, &a, &last) && gets(first, &b, &last));
-        assert!(rt; gets(second, &a, &last) && gets(second, &b, &last));
-    }
+    let (Some(mut second), Some(mut first)) = (passes.pop(), passes.pop()) else {
+        panic!(rt; "two passes")
+    };
+    let (a, b, last) = (key(&rt, b"a"), key(&rt, b"b"), value(&rt, &[99]));
+    let (one, other) = join(
+        &rt,
+        || -> bool { put_all(&mut first, &a) },
+        || -> bool { put_all(&mut second, &b) },
+    );
+    assert!(rt; one && other);
+    assert!(rt; gets(&mut first, &a, &last) && gets(&mut first, &b, &last));
+    assert!(rt; gets(&mut second, &a, &last) && gets(&mut second, &b, &last));
     Ok(())
 }
 
@@ -161,17 +181,32 @@ fn shapes_are_tested_before_memory(rt: HostRuntime) -> Result<(), Fail> {
     Ok(())
 }
 
+// Each pass puts a key of its own. Settled, each gets them all, in the order in which they stand here.
+fn each_gets_what_all_put(rt: &impl Abort, passes: &mut [Pass<Global>], order: &[u32])
+    requires whole { AreAllPasses passes.old }
+{
+    let x = value(rt, b"x");
+    for pass in passes.iter_mut() {
+        let own = pass.number().to_le_bytes();
+        assert!(rt; puts(pass, &key(rt, &own), &x, None));
+    }
+    settle(passes);
+    for (pass, number) in passes.iter_mut().zip(order) {
+        assert!(rt; pass.number() == *number);
+        for other in order {
+            assert!(rt; gets(pass, &key(rt, &other.to_le_bytes()), &x));
+        }
+    }
+}
+
 #[test]
-fn settled_passes_have_one_version(rt: HostRuntime) -> Result<(), Fail> {
-    let Ok((store, seats)) = Store::open(rt.alloc(), SMALL) else {
+fn settled_passes_get_what_each_put(rt: HostRuntime) -> Result<(), Fail> {
+    let Ok((store, seats)) = Store::open(rt.alloc(), Shape { rows: 9, passes: 2 }) else {
         panic!(rt; "no memory")
     };
     let Ok(mut passes) = store.deal(rt.alloc(), seats) else {
         panic!(rt; "no memory")
     };
-    settle(&mut passes);
-    for pass in passes.iter_mut() {
-        assert!(rt; pass.version() == 0);
-    }
+    each_gets_what_all_put(&rt, &mut passes, &[1, 2]);
     Ok(())
 }

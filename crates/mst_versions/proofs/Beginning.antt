@@ -98,8 +98,8 @@ desk_in [] d = d
 desk_in (s ∷ rest) d = or_else d s.1
 
 -- what the turn is made of
-abbrev pub of_turn : {A : Type 0} → State → Root → ℕ → Turn A
-of_turn {A} desk root into = record { desk = desk; root = root; into = into }
+abbrev pub of_turn : {A : Type 0} → State → Root → ℕ → ℕ → Turn A
+of_turn {A} desk root into kept = record { desk = desk; root = root; into = into; kept = kept }
 
 -- from the seat with the desk out of the slot to the one that has asked
 pub only_asked : (m n m' : Seat) → n ≡ (m.0, (0, None) ∷ []) → AsksOnly n m' → m' ≡ (record m.0 { drained = m'.0.drained; blocked = m'.0.blocked; asked = m'.0.asked }, (0, None) ∷ [])
@@ -118,7 +118,7 @@ module _ (before taken : Seat) (p : Takes stored before taken) where
   asked_seat drained blocked asked = (asked_view drained blocked asked, (0, None) ∷ [])
 
   abbrev turn_of : {A : Type 0} → State → Asked → Root → Turn A
-  turn_of {A} desk a root = record { desk = swept_by a.live.items desk; root = root; into = a.into }
+  turn_of {A} desk a root = record { desk = swept_by a.live.items desk; root = root; into = a.into; kept = length a.live.items }
 
   blank_free : (drained blocked : List ℕ) (asked : ℕ) (a : Asked) → HasAsked (before.0.passes + 2) (state_of p.desk) a (asked_seat drained blocked asked) → (x : ℕ)
       → slice_get (map (swept a.live.items) p.desk.lives) x ≡ Some Free → IsTrue (is_blank (asked_view drained blocked asked) x)
@@ -215,6 +215,8 @@ module _ (before taken : Seat) (p : Takes stored before taken) where
         stood = h.stood;
         now = (p.desk.current, h.knows.there, (λ within. (h.drained p.desk.current within).1 refl), refl);
         fewer = h.fewer;
+        number = h.room;
+        there = h.knows.there;
         count = λ live rows kept once together. counted_rows drained blocked asked a h live rows kept once together;
       }
 
@@ -238,9 +240,9 @@ module _ (before taken : Seat) (p : Takes stored before taken) where
       let same : field m.0.held which 1 ≡ field p.words p.desk.current 1 = ap (λ (z : Seat). field z.0.held which 1) (whole m is) ∙ ap (λ (r : ℕ). field p.words r 1) at in
       omega (arith, few_rows, link, same)
 
-  pub ready : {A : Type 0} (desk swept : State) (a : Asked) (live : List ℕ) (root : Root) (m : Seat) (which passes : ℕ) → taken.1 ≡ (0, Some desk) ∷ [] → IsAskedOf m → passes ≡ taken.0.passes
-      → HasAsked (passes + 2) desk a m → which ≡ desk.current → root ≡ root_in (field m.0.held which) → live ≡ a.live.items → swept ≡ swept_by live desk → HasTurn (of_turn {A = A} swept root a.into) m
-  ready {A} desk swept a live root m which passes slot is few h current here all by =
+  pub ready : {A : Type 0} (desk swept : State) (a : Asked) (live : List ℕ) (root : Root) (m : Seat) (which passes kept : ℕ) → kept ≡ length a.live.items → taken.1 ≡ (0, Some desk) ∷ [] → IsAskedOf m → passes ≡ taken.0.passes
+      → HasAsked (passes + 2) desk a m → which ≡ desk.current → root ≡ root_in (field m.0.held which) → live ≡ a.live.items → swept ≡ swept_by live desk → HasTurn (of_turn {A = A} swept root a.into kept) m
+  ready {A} desk swept a live root m which passes kept number slot is few h current here all by =
       let d : desk ≡ state_of p.desk = desk_there desk slot in
       let w : m ≡ asked_seat m.0.drained m.0.blocked m.0.asked = whole m is in
       let n : passes ≡ before.0.passes = few ∙ ap (λ (z : Seat). z.0.passes) p.is in
@@ -248,8 +250,9 @@ module _ (before taken : Seat) (p : Takes stored before taken) where
       (subst (λ (s : State). HasAsked (before.0.passes + 2) s a m) d (subst (λ (k : ℕ). HasAsked (k + 2) desk a m) n h)) in
       let root_is : root ≡ root_in (field p.words p.desk.current) = here ∙ ap (λ (z : Seat). root_in (field z.0.held which)) w ∙ ap (λ (r : ℕ). root_in (field p.words r)) (current ∙ ap (λ (s : State). s.current) d) in
       let swept_is : swept ≡ swept_by a.live.items (state_of p.desk) = by ∙ ap (λ (l : List ℕ). swept_by l desk) all ∙ ap (λ (s : State). swept_by a.live.items s) d in
-      subst (λ (s : State). HasTurn (of_turn {A = A} s root a.into) m) (sym swept_is)
-      (subst (λ (z : Seat). HasTurn (of_turn {A = A} (swept_by a.live.items (state_of p.desk)) root a.into) z) (sym w) (known {A = A} m.0.drained m.0.blocked m.0.asked a root known_asked root_is))
+      subst (λ (s : State). HasTurn (of_turn {A = A} s root a.into kept) m) (sym swept_is)
+      (subst (λ (k : ℕ). HasTurn (of_turn {A = A} (swept_by a.live.items (state_of p.desk)) root a.into k) m) (sym number)
+      (subst (λ (z : Seat). HasTurn (of_turn {A = A} (swept_by a.live.items (state_of p.desk)) root a.into (length a.live.items)) z) (sym w) (known {A = A} m.0.drained m.0.blocked m.0.asked a root known_asked root_is)))
 
 -- the turn may be given back once the desk lies in the slot again
 pub giving : {A : Type 0} (t : Turn A) (m m' : Seat) → HasTurn t m → m' ≡ (m.0, (0, Some t.desk) ∷ []) → IsGiving stored (Some t.desk) (desk_state t.desk) m'

@@ -6,3 +6,4 @@ pub mod Filing
 pub mod Ready
 mod Made
 mod Written
+mod Counted

@@ -40,7 +40,7 @@ free_more live (Born b ∷ lives) = omega (arith, free_more live lives)
 free_more live (Dead b d ∷ lives) = dead_more b d (swept live (Dead b d)) lives (map (swept live) lives) (free_more live lives)
 
 -- the free rows and those of the map are at most all rows
-room_left : {A : Type 0} (t : Turn A) (m : Seat) → HasTurn t m → free_count t.desk.lives + rows_of (after m.0.seen) ≤ m.0.rows
+pub room_left : {A : Type 0} (t : Turn A) (m : Seat) → HasTurn t m → free_count t.desk.lives + rows_of (after m.0.seen) ≤ m.0.rows
 room_left t m h =
     let has : HasMap (content_of m.0) t.desk.lives (version t.desk) t.root (after m.0.seen) = record { stands = h.stands; rows = h.reached } in
     let all = room_alone (content_of m.0) t.desk t.root (after m.0.seen) h.settled has in
@@ -51,20 +51,20 @@ none_of : (r : ℕ) (xs : List ℕ) → length xs < 1 → In r xs → ⊥
 none_of r [] few within = within
 none_of r (x ∷ xs) few within = omega (arith, few)
 
--- in a store of one pass the current version alone is kept
-alone_kept : {A : Type 0} (t : Turn A) (m : Seat) → HasTurn t m → m.0.passes ≡ 1 → AreKept t.desk m.0 (version t.desk ∷ [])
-alone_kept t m h one v = (
+-- where no other record was found pinned the current version alone is kept
+alone_kept : {A : Type 0} (t : Turn A) (m : Seat) → HasTurn t m → length m.0.blocked < 1 → AreKept t.desk m.0 (version t.desk ∷ [])
+alone_kept t m h none v = (
   (λ i. subst (IsKept t.desk m.0) (sym (one_row v (version t.desk) i)) h.now),
   (λ (r, l, out, is). dite (ℕ_discrete r t.desk.current)
       (λ e. subst (λ (n : ℕ). moves.In n (version t.desk ∷ [])) (sym (is ∙ ap (λ (k : ℕ). slice_index t.desk.versions k) e)) (in_last (version t.desk) []))
-      (λ other. absurd (none_of r m.0.blocked (let f = h.fewer in omega (arith, f, one)) (h.kept r l out other)))),
+      (λ other. absurd (none_of r m.0.blocked none (h.kept r l out other)))),
 )
 
 -- so all rows but those of the map are free
-room_alone_left : {A : Type 0} (t : Turn A) (m : Seat) → HasTurn t m → m.0.passes ≡ 1 → free_count t.desk.lives + rows_of (after m.0.seen) ≡ m.0.rows
-room_alone_left t m h one =
+pub room_alone_left : {A : Type 0} (t : Turn A) (m : Seat) → HasTurn t m → length m.0.blocked < 1 → free_count t.desk.lives + rows_of (after m.0.seen) ≡ m.0.rows
+room_alone_left t m h none =
     let v = version t.desk in
-    let all = h.count (v ∷ []) (numbers h.stands) (alone_kept t m h one) h.stands.tree.once
+    let all = h.count (v ∷ []) (numbers h.stands) (alone_kept t m h none) h.stands.tree.once
     (λ x. (
       (λ (w, i, is). (h.reached x).0 (subst (λ (n : ℕ). reaches t.desk.lives n x ≡ true) (one_row w v i) is)),
       (λ i. (v, in_last v [], (h.reached x).1 i)),
@@ -90,7 +90,7 @@ module _ {A : Type 0} (m m1 : Seat) (t : Turn A) (b : Begun m t m1) where
           looked,
           subst (λ (log : History). length log < last_version) (sym seen) early,
           (λ one. subst (λ (log : History). m.0.rows < rows_of (after log) + rows_taken (after log) change) (sym seen)
-              (let all = room_alone_left t m1 b.has (ap (λ (v : View). v.passes) b.rest ∙ one) in let n = ap (λ (v : View). v.rows) b.rest in omega (arith, all, lacks, n))),
+              (let f = b.has.fewer in let k = ap (λ (v : View). v.passes) b.rest in let all = room_alone_left t m1 b.has (omega (arith, f, k, one)) in let n = ap (λ (v : View). v.rows) b.rest in omega (arith, all, lacks, n))),
         )
 
   -- the version that was made is published

@@ -54,7 +54,7 @@ IsKept desk v n = (r : ℕ) × (r < v.passes + 2) × (In r v.drained → ⊥) ×
 abbrev pub AreKept : State → View → List ℕ → Type 0
 AreKept desk v live = (n : ℕ) → moves.In n live ↔ IsKept desk v n
 
--- The map of the whole history stands at the root, on exactly the rows that the current version reaches, and no write is under way. The rows that may be written are free, and no others: all rows but those that the versions together reach that are kept: the current one and those of the records that were found pinned, each of which stood for a map. These are fewer than the passes
+-- The map of the whole history stands at the root, on exactly the rows that the current version reaches, and no write is under way. The rows that may be written are free, and no others: all rows but those that the versions together reach that are kept: the current one and those of the records that were found pinned, each of which stood for a map. These are fewer than the passes, and their number is known
 pub record HasTurn {A : Type 0} (t : Turn A) (m : Seat) : Type 0 where
   pub holds : HoldsDesk t m
   pub settled : IsSettled t.desk
@@ -66,6 +66,8 @@ pub record HasTurn {A : Type 0} (t : Turn A) (m : Seat) : Type 0 where
   pub stood : (r : ℕ) → In r m.0.blocked → StoodAtAsk r m.0
   pub now : IsKept t.desk m.0 (version t.desk)
   pub fewer : length m.0.blocked < m.0.passes
+  pub number : t.kept ≡ length m.0.blocked + 1
+  pub there : t.desk.current < m.0.passes + 2
   pub count : (live rows : List ℕ) → AreKept t.desk m.0 live → IsDistinct rows → TogetherReach t.desk.lives live rows → free_count t.desk.lives + length rows ≡ m.0.rows
 
 -- the turn was taken, and the desk out of the slot

@@ -14,3 +14,8 @@ pub enum WriteFault {
     #[error("no room")]
     NoRoom,
 }
+
+/// Another pass had the turn, so nothing was counted.
+#[derive(Clone, Copy, Debug, PartialEq, Eq, Error)]
+#[error("another pass has the turn")]
+pub struct Busy;

@@ -1,5 +1,5 @@
 //! The version that a pass pins.
-ghost use Rattle.std.specs.Prelude.{◌≡◌, ◌<◌, ◌≤◌, IfOk};
+ghost use Rattle.std.specs.Prelude.{◌≡◌, ◌<◌, ◌≤◌, ◌^◌, length, IfOk};
 ghost use Rattle.std.specs.Option.{option_copied};
 ghost use Rattle.mst_key.specs.Map.{look, successor, span};
 ghost use Rattle.mst_key.specs.History.{after};
@@ -97,7 +97,7 @@ pub fn range<A: Allocator + Copy, B: Allocator>(
     mst_read::range(alloc, seat, &at.root, from, to, limit)
 }
 
-/// The proof of the pinned version's answer for the key, against its root digest.
+/// The proof of the pinned version's answer for the key, against its root digest, of fewer than 2^32 bytes.
 ///
 /// `Memory` comes where a growth was refused.
 pub fn prove<A: Allocator + Copy, B: Allocator + Copy>(
@@ -108,6 +108,7 @@ pub fn prove<A: Allocator + Copy, B: Allocator + Copy>(
 ) -> Result<Vec<u8, B>, Memory>
     requires pinned { HasPinned at.now seat.old.me.0 }
     ensures proof { IfOk result (λ proof. proof.items ≡ proof_text One (after seat.old.me.0.place) key.now) }
+    ensures short { IfOk result (λ proof. length proof.items < 2 ^ 32) }
     ensures same { seat.new ≡ seat.old }
 {
     mst_read::prove(alloc, seat, &at.root, key)

@@ -25,6 +25,8 @@ pub struct Turn<A: Allocator> {
     pub root: Root,
     /// A record that nobody pins, for the version to come.
     pub into: u32,
+    /// How many versions are kept: the current one, and those of the records that were found pinned.
+    pub kept: u32,
 }
 
 /// Why no write was begun.
@@ -140,6 +142,7 @@ fn make_ready<A: Allocator + Copy>(
         desk,
         root,
         into: asked.into,
+        kept: asked.live.len() as u32,
     }
 }
 

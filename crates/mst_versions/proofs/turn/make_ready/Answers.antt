@@ -1,4 +1,4 @@
-use Rattle.std.proofs.Common.{◌≤◌, sym, ap, subst, ◌∙◌}
+use Rattle.std.proofs.Common.{rules, ◌≤◌, sym, ap, subst, ◌∙◌}
 use Rattle.mst_table.specs.Access.{Seated}
 use Rattle.mst_versions.specs.Turns.{Seat, HasTurn}
 use Rattle.mst_versions.proofs.Beginning.{only_asked, link_there, of_turn, ready, all_asked, knows, none_drained, none_blocked}
@@ -11,8 +11,8 @@ read_root-requires-clause-link g c = let t = c.requires.taken.1 in let a = c.ask
 
 pub returns-clause-has : goal.returns-clause-has
 returns-clause-has g c = let t = c.requires.taken.1 in let a = c.ask_others-asked in let r = c.read_root in
-    subst (λ (z : Seated). HasTurn (of_turn {A = g.row.A.Denot} c.sweep.new.self r.result.1 a.result.into) z.me) (sym r.ensures.same)
-    (ready c.requires.taken.0 t.0 t.1 {A = g.row.A.Denot} c.args.desk c.sweep.new.self a.result c.deref.result.now r.result.1 a.new.seat.me c.current-current.result.0 c.args.passes
+    subst (λ (z : Seated). HasTurn (of_turn {A = g.row.A.Denot} c.sweep.new.self r.result.1 a.result.into c.len.result) z.me) (sym r.ensures.same)
+    (ready c.requires.taken.0 t.0 t.1 {A = g.row.A.Denot} c.args.desk c.sweep.new.self a.result c.deref.result.now r.result.1 a.new.seat.me c.current-current.result.0 c.args.passes c.len.result (search rules)
     t.2 (only_asked t.0 c.args.seat.now.me a.new.seat.me t.3 a.ensures.kept) (c.requires.passes ∙ ap (λ (z : Seat). z.0.passes) t.3)
     a.ensures.asked (ap (λ z. z.0) c.current-current.ensures.current) r.ensures.root c.deref.ensures.0 c.sweep.ensures.swept)
 
