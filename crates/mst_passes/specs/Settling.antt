@@ -11,7 +11,7 @@ use Rattle.mst_versions.specs.Turns.{Seat}
 abbrev pub having_seen : History → Known → Known
 having_seen log p = record p { seen = log; asked = p.asked + 1 + 1 }
 
--- Two passes have now seen one history, and nothing else about them changed. It begins with all that either had seen, and the events of each in it are its own
+-- Two passes have now heard of one history and seen it, and nothing else about them changed. It begins with all that either had seen, and the events of each in it are its own
 pub record Met (p q p' q' : Known) : Type 0 where
   pub log : History
   pub now : (p' ≡ having_seen log p) × (q' ≡ having_seen log q)
@@ -32,7 +32,7 @@ pub record AreAllPasses (ps : List Known) : Type 0 where
 abbrev pub IsOfOne : List Known → Event → Type 0
 IsOfOne ps e = Contains (numbers ps) e.pass
 
--- All passes have now seen one history, and nothing else about them changed. It begins with all that each of them had seen, each pass's events in it are its own, and it has no events but theirs
+-- All passes have now heard of one history and seen it, and nothing else about them changed. It begins with all that each of them had seen, each pass's events in it are its own, and it has no events but theirs
 pub record Settled (ps qs : List Known) : Type 0 where
   pub log : History
   pub now : qs ≡ map (having_seen log) ps
