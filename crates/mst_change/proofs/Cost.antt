@@ -1,5 +1,4 @@
 -- Which nodes a change makes new, and the rows that they take.
-pub mod Same
 pub mod Home
 pub mod Fresh
 pub mod Split

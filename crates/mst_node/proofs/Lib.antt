@@ -15,5 +15,10 @@ pub mod Lying
 pub mod Frames
 pub mod Spelt
 pub mod Worked
+mod WorkedStays
 pub mod Under
 mod Empty
+pub mod SameTrees
+pub mod InTrees
+pub mod Distinct
+pub mod HeldLaws

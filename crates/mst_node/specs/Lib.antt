@@ -9,5 +9,6 @@ pub mod Gaps
 pub mod Frame
 pub mod Trail
 pub mod Cost
+pub mod Stays
 pub mod Place
 pub mod Collision

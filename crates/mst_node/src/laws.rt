@@ -1,5 +1,5 @@
 //! Laws of the definitions, each proved as the contract of a function that does nothing.
-ghost use Rattle.std.specs.Prelude.{◌≡◌, ◌≢◌, ◌<◌, ◌≤◌, ◌↔◌, ℕ, List, [], ◌∷◌, length, None, Some, Contains};
+ghost use Rattle.std.specs.Prelude.{◌≡◌, ◌≢◌, ◌+◌, ◌<◌, ◌≤◌, ◌↔◌, ℕ, List, [], ◌∷◌, length, None, Some, Contains};
 ghost use Rattle.std.specs.List.{AllByRecursion};
 ghost use Rattle.mst_key.specs.Bytes.{IsBytes};
 ghost use Rattle.mst_key.specs.Layer.{layer_in};
@@ -11,6 +11,9 @@ ghost use Rattle.mst_node.specs.Tree.{Tree, empty, node, Entries, layers, greate
 ghost use Rattle.mst_node.specs.Gaps.{LayersFall, LiesBetween};
 ghost use Rattle.mst_node.specs.Text.{FlatNode, spelling, text, digest_of};
 ghost use Rattle.mst_node.specs.Grammar.{IsFlatNode, InGrammar, KeysFit};
+ghost use Rattle.mst_node.specs.Cost.{subtrees};
+ghost use Rattle.mst_node.specs.Stays.{held};
+ghost use Rattle.mst_key.specs.History.{History, after};
 
 /// The tree by its equations: that of no pairs is empty; that of others is a node of their greatest layer, whose entries are the pairs of that layer, and in each gap stands the tree of the pairs there.
 pub fn tree_by_gaps()
@@ -58,4 +61,17 @@ pub fn collision_of_two()
     ensures two { (texts : List (List ℕ)) → HasCollision texts
         ↔ ((one : List ℕ) × (other : List ℕ) × Contains texts one × Contains texts other × (one ≢ other) × (digest_of one ≡ digest_of other)) }
     ensures alone { (text : List ℕ) → HasCollision (text ∷ []) → ⊥ }
+{}
+
+/// What the kept versions of a history hold in rows: `live` names the versions.
+pub fn held_laws()
+    // the last version alone holds a row for each pair and one for each node
+    ensures last { (format : Format) (h : History)
+        → held format h (length h ∷ []) ≡ length (after h) + length (subtrees (tree format (after h))) }
+    // in what order the versions are named, and how often, does not matter
+    ensures same { (format : Format) (h : History) (one other : List ℕ) → ((v : ℕ) → Contains one v ↔ Contains other v)
+        → held format h one ≡ held format h other }
+    // more versions never hold less
+    ensures more { (format : Format) (h : History) (one other : List ℕ) → ((v : ℕ) → Contains one v → Contains other v)
+        → held format h one ≤ held format h other }
 {}

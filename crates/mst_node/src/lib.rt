@@ -2,7 +2,7 @@
 //!
 //! A node holds the pairs of one layer in the order of their keys; in each gap before, between and after them stands the tree of the pairs there, or none. The layer of a node is the greatest of its keys and of those below it, so the tree depends on the map alone. A text spells a node with the digests of its children in their place, a digest is the SHA-256 of a text, and the root digest of a map is that of its top node's text.
 //!
-//! `build` makes the tree, `text` a node's text, and `read_text` reads one. `root_of` gives the root digest with no tree and no memory. The definitions that the contracts cite stand in `specs/`: `Tree`, `Gaps`, `Text`, `Grammar`, `Frame`.
+//! `build` makes the tree, `text` a node's text, and `read_text` reads one. `root_of` gives the root digest with no tree and no memory. The definitions that the contracts cite stand in `specs/`: `Tree`, `Gaps`, `Text`, `Grammar`, `Frame`; `Cost` says what a change of the map makes anew, and `Stays` what kept versions of a history hold.
 #![tactic(auto)]
 
 mod flat;
@@ -23,7 +23,7 @@ pub use framing::top_text;
 pub use grammar::{NodeFault, read_text};
 pub use hashing::{digest, empty_digest, feed_child, feed_counted};
 pub use laws::{
-    collision_of_two, one_text, one_tree, order_of_tree, text_by_grammar, tree_by_gaps,
+    collision_of_two, held_laws, one_text, one_tree, order_of_tree, text_by_grammar, tree_by_gaps,
 };
 pub use making::build;
 pub use node::{Entry, Node};

@@ -17,6 +17,7 @@ use Rattle.mst_arena.specs.declared.row.Root.{Root}
 use Rattle.mst_arena.specs.Standing.{Placed, tree_of, used, IsDistinct, Stands, numbers}
 use Rattle.mst_arena.proofs.Stands.{one_placed}
 use Rattle.mst_path.specs.Moves.{In, IsOld, IsKilled}
+use Rattle.mst_path.specs.Made.{IsMade}
 use Rattle.mst_path.specs.Making.{Grown}
 use Rattle.mst_path.specs.Removing.{SearchTree}
 use Rattle.mst_path.specs.Changing.{AreOld, MapStands, IsTaken, AreTaken, AreKilled, OthersLive, OnlyFreeWritten, SameVersions}
@@ -173,6 +174,9 @@ module _ (c c1 : Content) (s s1 : State) (root at : Root) (m n : List Pair) (sta
   pub cost_after : free_count s1.lives + count ≡ free_count s.lives
   cost_after = omega (arith, g.moves.room, g.counted)
 
+  pub made_after : (n1 : List Pair) (w : Stands One c1 at n1) → IsMade s1 w.tree.placed
+  made_after n1 w = subst (IsMade s1) (same_after n1 w) g.piece.made
+
   pub versions_after : SameVersions s s1
   versions_after = (g.moves.current, g.moves.versions)
 
@@ -186,6 +190,7 @@ pub record AfterChange (c c1 : Content) (s s1 : State) (root at : Root) (change 
   pub killed : (m n : List Pair) (o : Stands One c root m) (w : Stands One c1 at n) → AreKilled s s1 (numbers o) (numbers w)
   pub others : (m n : List Pair) (o : Stands One c root m) (w : Stands One c1 at n) → OthersLive s s1 (numbers o) (numbers w)
   pub versions : SameVersions s s1
+  pub made : (n : List Pair) (w : Stands One c1 at n) → IsMade s1 w.tree.placed
 
 -- what stands afterwards, of a map that stood before
 abbrev pub Changed : (c c1 : Content) (s s1 : State) (root at : Root) → (List Pair → List Pair) → (m : List Pair) → Stands One c root m → Type 0
@@ -211,6 +216,7 @@ after_change c c1 s s1 root at change one fits grows =
       killed = killed_after c c1 s s1 root at m n st one.2 count g;
       others = others_after c c1 s s1 root at m n st one.2 count g;
       versions = versions_after c c1 s s1 root at m n st one.2 count g;
+      made = made_after c c1 s s1 root at m n st one.2 count g;
     }
 
 -- a change that changes nothing, at no cost

@@ -18,11 +18,13 @@ use Rattle.mst_arena.specs.Standing.{Placed, none as no_tree, head as tree_head,
 use Rattle.mst_arena.proofs.ListLemmas.{times-append}
 use Rattle.mst_arena.proofs.Stands.{placed_frame}
 use Rattle.mst_path.specs.Takes.{IsOut, KeepsBut, FreeIsBlank}
-use Rattle.mst_path.specs.Moves.{In, IsAlive, IsOld, Moves}
+use Rattle.mst_path.specs.Moves.{In, IsAlive, IsOld, Moves, IsNew}
+use Rattle.mst_path.specs.Made.{AreMade}
 use Rattle.mst_path.specs.Runs.{OldPiece, Run, own_rows, own, gaps_used, EachGap, AreCopies}
 use Rattle.mst_path.specs.Writing.{PlacedEntry, link_from, entries_used, ahead, IsAhead, IsWritten}
-use Rattle.mst_path.specs.Copying.{IsNew, Going, Copying, Copied}
+use Rattle.mst_path.specs.Copying.{Going, Copying, Copied}
 use Rattle.mst_path.specs.declared.node_writer.NodeWriter.{NodeWriter}
+use Rattle.mst_path.proofs.Made.{made_old, made-append, new_stays, made_stays, entries_stay}
 use Rattle.mst_path.proofs.Entries.{entries_used-push}
 use Rattle.mst_path.proofs.Moving.{in_either, not_in, out_of_times, times_of_out, moves_none, moves_then, alive_stays, old_stays}
 
@@ -141,6 +143,15 @@ module _ (w w' : NodeWriter) (c c' : Content) (s s' : State) (e : PlacedEntry) (
   same_next : next s' ≡ next s
   same_next = let v : version s' ≡ version s = rw (moves.current, moves.versions) in ap (λ (n : ℕ). n + 1) v
 
+  -- the copy is written in the new row, and what is in its gap stays
+  copied_made : AreMade s' (ws ++ copy_in r e ∷ [])
+  copied_made = made-append s' ws (copy_in r e ∷ [])
+      (entries_stay s s' (ahead w'.next) (e.at ∷ []) moves ws (λ x i. (not_killed x (omega (arith, i, used_push x))).1) going.made) (
+        new_stays s s' (ahead w'.next) (e.at ∷ []) moves r new_row (not_killed r (omega (arith, used_push r, at_self r))).1,
+        made_stays s s' (ahead w'.next) (e.at ∷ []) moves e.child (λ x i. (not_killed x (omega (arith, i, used_push x))).1) (made_old s e.child gap_old),
+        tt,
+      )
+
   abbrev one_copied : IsWritten w' c' (ws ++ copy_in r e ∷ []) → Copied w w' c c' s s' ws (e ∷ [])
   one_copied written = record {
     copies = copy_in r e ∷ [];
@@ -149,6 +160,7 @@ module _ (w w' : NodeWriter) (c c' : Content) (s s' : State) (e : PlacedEntry) (
       written = written;
       once = next_once;
       alive = λ x i. let k = not_killed x i in alive_stays s s' (ahead w'.next) (e.at ∷ []) moves x k.0 k.1;
+      made = copied_made;
       new = λ x i. moves.born x i ∙ ap (λ (v : ℕ). Some (Born v)) (sym same_next);
     };
     taken = ahead w'.next;

@@ -1,6 +1,5 @@
 -- A node whose front is written, up to its head.
-use Rattle.std.proofs.Common.{◌≡◌, ℕ, zero, suc, ◌+◌, ◌-◌, ◌<◌, ◌≤◌, min, Bool, true, false, eqb, List, [], ◌∷◌, ◌++◌, length, Option, Some, None, refl, sym, ◌∙◌, ap, subst, arith, inl, inr, length-append}
-use Rattle.std.proofs.lemmas.Bool.Decides.{nat_tests}
+use Rattle.std.proofs.Common.{◌≡◌, ℕ, zero, suc, ◌+◌, ◌-◌, ◌<◌, ◌≤◌, min, eqb, List, [], ◌∷◌, ◌++◌, length, Option, Some, None, refl, sym, ◌∙◌, ap, subst, arith, inl, inr, length-append}
 use Rattle.std.proofs.lemmas.List.{map-append}
 use Rattle.mst_key.specs.declared.format.Format.TheVariants.{One}
 use Rattle.mst_node.specs.Tree.{node, Entries, last, entry}
@@ -16,20 +15,22 @@ use Rattle.mst_arena.proofs.ListLemmas.{times-append}
 use Rattle.mst_arena.proofs.Stands.{placed_frame}
 use Rattle.mst_change.specs.Parts.{with_first}
 use Rattle.mst_path.specs.Takes.{IsOut, KeepsBut}
-use Rattle.mst_path.specs.Moves.{In, IsAlive, IsOld, Moves}
+use Rattle.mst_path.specs.Moves.{In, IsAlive, IsOld, Moves, IsNew}
+use Rattle.mst_path.specs.Made.{IsMade}
 use Rattle.mst_path.specs.Runs.{Piece, OldPiece, own, gaps_used, EachGap, AreCopies}
 use Rattle.mst_path.specs.Writing.{PlacedEntry, chain_of, link_from, entries_used, ahead, IsAhead, IsWriter, IsWritten, IsRootOf}
-use Rattle.mst_path.specs.Copying.{IsNew, Going, Copying, Copied}
+use Rattle.mst_path.specs.Copying.{Going, Copying, Copied}
 use Rattle.mst_path.specs.Making.{cell_of, cells_of, entries_to, others, HasTail, BackRun, Rest, Finished}
 use Rattle.mst_path.specs.declared.making.Parts.{Parts}
 use Rattle.mst_path.specs.declared.node_writer.NodeWriter.{NodeWriter}
 use Rattle.mst_path.proofs.Entries.{entries_used-push, used_chain}
 use Rattle.mst_path.proofs.Moving.{in_either, not_in, out_of_times, times_of_out, moves_none, moves_then, alive_stays, alive_out, old_stays}
+use Rattle.mst_path.proofs.Made.{made_old, made_chain, made-append, new_stays, made_stays, entries_stay, piece_alive}
 use Rattle.mst_path.proofs.Copies.{at_self, kept_at, all_in, new_not_old, new_alive, old_alive, own_frame, gaps_frame}
 
 -- ---- one more entry, with any tree before it
 
-module _ (w w' : NodeWriter) (c c' : Content) (s s' : State) (ws : List PlacedEntry) (r : ℕ) (child : Placed) (key value : List ℕ) (killed : List ℕ) (going : Going w c s ws) (is : w.next ≡ Some r) (moves : Moves s s' (ahead w'.next) killed) (child_alive : (x : ℕ) → In x (used child) → IsAlive s x) (once : (x : ℕ) → times x (ahead w.next) + times x (entries_used ws) + times x (used child) ≤ 1) (spared : (x : ℕ) → In x killed → times x (ahead w.next) + times x (entries_used ws) + times x (used child) ≡ 0) where
+module _ (w w' : NodeWriter) (c c' : Content) (s s' : State) (ws : List PlacedEntry) (r : ℕ) (child : Placed) (key value : List ℕ) (killed : List ℕ) (going : Going w c s ws) (is : w.next ≡ Some r) (moves : Moves s s' (ahead w'.next) killed) (child_alive : (x : ℕ) → In x (used child) → IsAlive s x) (child_made : IsMade s child) (once : (x : ℕ) → times x (ahead w.next) + times x (entries_used ws) + times x (used child) ≤ 1) (spared : (x : ℕ) → In x killed → times x (ahead w.next) + times x (entries_used ws) + times x (used child) ≡ 0) where
   row_there : (x : ℕ) → times x (ahead w.next) ≡ bit (eqb x r) + 0
   row_there x = ap (λ (o : Option ℕ). times x (ahead o)) is
 
@@ -55,6 +56,11 @@ module _ (w w' : NodeWriter) (c c' : Content) (s s' : State) (ws : List PlacedEn
     written = written;
     once = λ x. go x (times x (ahead w'.next)) refl;
     alive = λ x i. alive_stays s s' (ahead w'.next) killed moves x (alive_before x (omega (arith, i, used_more x))) (not_in x killed (λ k. absurd (omega (arith, spared x k, i, used_more x))));
+    made = made-append s' ws (record { at = r; child = child; key = key; value = value } ∷ []) (entries_stay s s' (ahead w'.next) killed moves ws (λ x i. not_in x killed (λ k. absurd (omega (arith, spared x k, i)))) going.made) (
+      new_stays s s' (ahead w'.next) killed moves r (going.new r (omega (arith, row_there r, at_self r))) (not_in r killed (λ k. absurd (omega (arith, spared r k, row_there r, at_self r)))),
+      made_stays s s' (ahead w'.next) killed moves child (λ x i. not_in x killed (λ k. absurd (omega (arith, spared x k, i)))) child_made,
+      tt,
+    );
     new = λ x i. moves.born x i ∙ ap (λ (v : ℕ). Some (Born v)) (sym same_next);
   }
     where
@@ -106,20 +112,8 @@ module _ (w : NodeWriter) (c c' : Content) (s : State) (es : List PlacedEntry) (
   pub head_piece : HasRows c' (rows_of One (head w.head w.layer (chain_of es tail))) → Piece c' s (head w.head w.layer (chain_of es tail))
   head_piece rows = record {
     rows = rows;
-    alive = λ x i. go x i (times x (entries_used es)) refl (times x (used tail)) refl;
+    made = inr (head_new, made_chain s es tail going.made tail_piece.made);
   }
-    where
-      one_row : (x r : ℕ) → 0 < bit (eqb x r) + 0 → x ≡ r
-      one_row x r i = cases (eqb x r) refl i
-        where
-          cases : (t : Bool) → eqb x r ≡ t → 0 < bit t + 0 → x ≡ r
-          cases true e i = grind (arith, nat_tests)
-          cases false e i = absurd (omega arith)
-
-      go : (x : ℕ) → In x (used (head w.head w.layer (chain_of es tail))) → (n : ℕ) → times x (entries_used es) ≡ n → (m : ℕ) → times x (used tail) ≡ m → IsAlive s x
-      go x i (suc n) e m f = going.alive x (omega (arith, e))
-      go x i zero e (suc m) f = tail_piece.alive x (omega (arith, f))
-      go x i zero e zero f = subst (IsAlive s) (sym (one_row x w.head (omega (arith, i, all_used x, e, f)))) (new_alive s w.head head_new)
 
 -- ---- rows in lists of entries
 
@@ -170,14 +164,6 @@ module _ (w : NodeWriter) (c c' : Content) (s : State) (parts : Parts) (r : Rest
 pub head_out : (w : NodeWriter) (c : Content) (s : State) (parts : Parts) (r : Rest w c s parts) → IsOut w.head (entries_used r.ws ++ used r.seam)
 head_out w c s parts r = out_of_times w.head (entries_used r.ws ++ used r.seam) (omega (arith, r.once w.head, at_self w.head, times-append w.head (entries_used r.ws) (used r.seam)))
 
--- ---- a row stays new
-
-pub new_stays : (s s' : State) (t k : List ℕ) → Moves s s' t k → (r : ℕ) → IsNew s r → times r k ≡ 0 → IsNew s' r
-new_stays s s' t k m r new out =
-    let v : version s' ≡ version s = rw (m.current, m.versions) in
-    let next_same : next s' ≡ next s = ap (λ (n : ℕ). n + 1) v in
-    m.others r (alive_out s s' t k m r (new_alive s r new)) out ∙ new ∙ ap (λ (n : ℕ). Some (Born n)) (sym next_same)
-
 -- ---- entries at the back
 
 module _ (w w1 : NodeWriter) (c c1 : Content) (s s1 : State) (parts : Parts) (r : Rest w c s parts) (e : PlacedEntry) (more : List PlacedEntry) (back_is : r.back ≡ e ∷ more) (r0 : ℕ) (next_is : w.next ≡ Some r0) (moves : Moves s s1 (ahead w1.next) (e.at ∷ [])) (keeps : KeepsBut (ahead w.next) c c1) (written : IsWritten w1 c1 (r.ws ++ record { at = r0; child = r.seam; key = e.key; value = e.value } ∷ [])) where
@@ -197,10 +183,10 @@ module _ (w w1 : NodeWriter) (c c1 : Content) (s s1 : State) (parts : Parts) (r 
   seam_spared x i = omega (arith, all_once x, i)
 
   pub going_seam : Going w1 c1 s1 (r.ws ++ record { at = r0; child = r.seam; key = e.key; value = e.value } ∷ [])
-  going_seam = going_more w w1 c c1 s s1 r.ws r0 r.seam e.key e.value (e.at ∷ []) r.going next_is moves r.seam_piece.alive seam_once seam_spared written
+  going_seam = going_more w w1 c c1 s s1 r.ws r0 r.seam e.key e.value (e.at ∷ []) r.going next_is moves (piece_alive r.seam_piece) r.seam_piece.made seam_once seam_spared written
 
   pub seam_used : (x : ℕ) → times x (entries_used (r.ws ++ record { at = r0; child = r.seam; key = e.key; value = e.value } ∷ [])) ≡ times x (ahead w.next) + times x (entries_used r.ws) + times x (used r.seam)
-  seam_used = used_more w w1 c c1 s s1 r.ws r0 r.seam e.key e.value (e.at ∷ []) r.going next_is moves r.seam_piece.alive seam_once seam_spared
+  seam_used = used_more w w1 c c1 s s1 r.ws r0 r.seam e.key e.value (e.at ∷ []) r.going next_is moves (piece_alive r.seam_piece) r.seam_piece.made seam_once seam_spared
 
   -- an old row was not written
   pub old_kept : (x : ℕ) → IsOld s x → c1 x ≡ c x
@@ -257,7 +243,7 @@ module _ (w w1 : NodeWriter) (c c1 : Content) (s s1 : State) (parts : Parts) (r 
     }
 
     pub tail_piece : Piece c2 s2 r.tail
-    tail_piece = record { rows = tail_stays.rows; alive = λ x i. old_alive s2 x (tail_stays.old x i) }
+    tail_piece = record { rows = tail_stays.rows; made = made_old s2 r.tail tail_stays.old }
 
     head_here : times w.head (w.head ∷ []) ≡ 1
     head_here = omega (arith, at_self w.head)

@@ -21,7 +21,8 @@ use Rattle.mst_path.specs.Runs.{Piece, OldPiece, own, gaps_used, EachGap}
 use Rattle.mst_path.specs.Making.{HasTail, Grown, cell_of, cells_of, entries_to, others}
 use Rattle.mst_path.specs.Frames.{Framed, spare, frame_rows, in_entries, in_frame, tree_round}
 use Rattle.mst_path.specs.Writing.{PlacedEntry, IsRootOf, ahead}
-use Rattle.mst_path.proofs.Moving.{in_either, times_of_out, moves_none, moves_kill, moves_then, alive_stays, old_stays, alive_out}
+use Rattle.mst_path.proofs.Moving.{in_either, times_of_out, moves_none, moves_kill, moves_then, old_stays, alive_out}
+use Rattle.mst_path.proofs.Made.{made_stays, piece_alive}
 use Rattle.mst_path.proofs.Copies.{all_in, kept_at, old_alive, own_frame, gaps_frame, at_self}
 use Rattle.mst_change.proofs.Parts.{with_first_count, with_entries_count}
 
@@ -155,7 +156,7 @@ module _ (c c1 : Content) (s s1 : State) (u : Tree) (at : Root) (given : ℕ →
       tail_none = f.back_run.tail_none;
     };
     goes = λ x i. rest_old x (spare_in x i) (f.goes x i);
-    alive = λ x i. g.piece.alive x i;
+    alive = λ x i. piece_alive g.piece x i;
     once = λ x. omega (arith, seam_once x);
   }
 
@@ -255,7 +256,7 @@ module _ (c : Content) (s : State) (frame : Frame) (given : ℕ → ℕ) (f : Fr
     root = g.root;
     piece = record {
       rows = g.piece.rows;
-      alive = λ x i. alive_stays s1 s2 [] (spare frame) m x (g.piece.alive x i) (go x i (times x (spare frame)) refl);
+      made = made_stays s1 s2 [] (spare frame) m g.placed (λ x i. go x i (times x (spare frame)) refl) g.piece.made;
     };
     taken = g.taken ++ [];
     killed = g.killed ++ spare frame;

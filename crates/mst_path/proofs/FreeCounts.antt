@@ -1,5 +1,5 @@
 -- How many rows are free, where a list has each of the other rows once.
-use Rattle.std.proofs.Common.{◌≡◌, ℕ, zero, suc, ◌+◌, ◌<◌, ◌≤◌, Bool, true, false, cond, eqb, List, [], ◌∷◌, length, map, Option, Some, None, refl, sym, ◌∙◌, ap, arith}
+use Rattle.std.proofs.Common.{◌≡◌, ℕ, zero, suc, ◌+◌, ◌<◌, ◌≤◌, Bool, true, false, cond, eqb, List, [], ◌∷◌, length, map, filter, Option, Some, None, refl, sym, ◌∙◌, ap, arith}
 use Rattle.std.specs.Prelude.{◌↔◌, slice_get, option_map}
 use Rattle.std.specs.List.{list_any}
 use Rattle.std.proofs.lemmas.Bool.Decides.{nat_tests}
@@ -12,11 +12,12 @@ use Rattle.mst_arena.specs.declared.life.Life.TheVariants.{Free, Born, Dead}
 use Rattle.mst_arena.proofs.ListLemmas.{suc_test, there}
 use Rattle.mst_arena.proofs.DeskLemmas.{length_mapped}
 use Rattle.mst_path.specs.Moves.{In}
-use Rattle.mst_path.specs.Reached.{ReachesExactly, TogetherReach, IsPast, IsSettled, swept_by}
+use Rattle.mst_path.specs.Reached.{ReachesExactly, TogetherReach, Changes, IsPast, IsSettled, swept_by}
 use Rattle.mst_path.proofs.Taking.{frees, frees_is}
 use Rattle.mst_path.proofs.Changes.{distinct_times}
 use Rattle.mst_path.proofs.Moving.{one_row}
-use Rattle.mst_path.proofs.Reached.{some_reach}
+use Rattle.mst_path.proofs.Reached.{some_reach, by_place}
+use Rattle.mst_path.proofs.RowCounts.{as_many}
 
 -- ---- sums over the numbers below one
 
@@ -79,7 +80,7 @@ count_used lives rows lists = omega (
 
 -- ---- after a sweep
 
-any_in : (P : ℕ → Bool) (live : List ℕ) → list_any P live ≡ true → (v : ℕ) × In v live × (P v ≡ true)
+pub any_in : (P : ℕ → Bool) (live : List ℕ) → list_any P live ≡ true → (v : ℕ) × In v live × (P v ≡ true)
 any_in P [] is = cc
 any_in P (w ∷ ws) is = go (P w) refl (any_in P ws)
   where
@@ -117,3 +118,58 @@ alone lives v rows exact r = (
   λ some. let same : v ≡ some.0 = sym (one_row some.0 v some.1) in (exact r).0 (ap (λ (w : ℕ). reaches lives w r) same ∙ some.2),
   λ i. (v, omega (arith, ap bit (same_test v)), (exact r).1 i),
 )
+
+-- ---- a put or a remove
+
+times-filter : (p : ℕ → Bool) (r : ℕ) (xs : List ℕ) → times r (filter p xs) ≡ cond (p r) (times r xs) 0
+times-filter p r [] = go (p r)
+  where
+    go : (b : Bool) → times r [] ≡ cond b (times r []) 0
+    go true = refl
+    go false = refl
+times-filter p r (x ∷ xs) = go (p x) (p r) refl refl (times-filter p r xs)
+  where
+    other : (p r ≡ p x → ⊥) → bit (eqb r x) ≡ 0
+    other not = case (eqb r x) refl
+      where
+        case : (b : Bool) → eqb r x ≡ b → bit b ≡ 0
+        case true e = let same : r ≡ x = grind (arith, nat_tests, e) in absurd (not (ap p same))
+        case false e = refl
+
+    go : (b c : Bool) → p x ≡ b → p r ≡ c → times r (filter p xs) ≡ cond c (times r xs) 0 → times r (cond b (x ∷ filter p xs) (filter p xs)) ≡ cond c (bit (eqb r x) + times r xs) 0
+    go true true d e rest = omega (arith, rest)
+    go true false d e rest = omega (arith, rest, other (λ same. let both : false ≡ true = sym e ∙ same ∙ d in cc))
+    go false true d e rest = omega (arith, rest, other (λ same. let both : true ≡ false = sym e ∙ same ∙ d in cc))
+    go false false d e rest = rest
+
+-- the rows after a change that did not stand before it are those that it took
+pub count_change : (old new : State) (before after : List ℕ) → Changes old new before after → ((r : ℕ) → times r after ≤ 1) → free_count new.lives + length (filter (λ r. eqb (times r before) 0) after) ≡ free_count old.lives
+count_change old new before after change once =
+    let n = length new.lives in
+    let rows = filter (λ r. eqb (times r before) 0) after in
+    let sums = same_sum (λ r. bit (is_at is_used (slice_get new.lives r))) (λ r. bit (is_at is_used (slice_get old.lives r)) + times r rows) each n in
+    let both = sum_both (λ r. bit (is_at is_used (slice_get old.lives r))) (λ r. times r rows) n in
+    let taken = sum_times rows n (λ r i. there is_used new.lives r (omega (arith, i, each r))) in
+    let as_before : sum_to (λ r. bit (is_at is_used (slice_get old.lives r))) n ≡ sum_to (λ r. bit (is_at is_used (slice_get old.lives r))) (length old.lives) = ap (sum_to (λ r. bit (is_at is_used (slice_get old.lives r)))) (as_many old new before after change) in
+    omega (arith, frees_is new.lives, frees_is old.lives, sum_used new.lives, sum_used old.lives, sums, both, taken, as_before, as_many old new before after change)
+  where
+    used_as : (o p : Option Life) → o ≡ p → bit (is_at is_used o) ≡ bit (is_at is_used p)
+    used_as o p e = ap (λ (q : Option Life). bit (is_at is_used q)) e
+
+    some_new : (r : ℕ) → times r before ≡ 0 → cond (eqb (times r before) 0) (times r after) 0 ≡ times r after
+    some_new r none = let e : eqb (times r before) 0 ≡ true = grind (arith, nat_tests, none) in ap (λ (b : Bool). cond b (times r after) 0) e
+
+    no_new : (r : ℕ) → (times r before ≡ 0 → times r after ≡ 0) → cond (eqb (times r before) 0) (times r after) 0 ≡ 0
+    no_new r none = case (eqb (times r before) 0) refl
+      where
+        case : (b : Bool) → eqb (times r before) 0 ≡ b → cond b (times r after) 0 ≡ 0
+        case true e = none (grind (arith, nat_tests, e))
+        case false e = refl
+
+    each : (r : ℕ) → bit (is_at is_used (slice_get new.lives r)) ≡ bit (is_at is_used (slice_get old.lives r)) + times r (filter (λ r. eqb (times r before) 0) after)
+    each r =
+        let kept = times-filter (λ r. eqb (times r before) 0) r after in
+        by_place old new before after change r _
+        (λ only. let t = (change.taken r).1 only in omega (arith, kept, some_new r only.1, only.0, once r, used_as _ _ t.0, used_as _ _ t.1))
+        (λ only. let k = (change.killed r).1 only in omega (arith, kept, no_new r (λ e. only.1), used_as _ _ k.1, used_as _ _ k.3))
+        (λ stays. omega (arith, kept, no_new r (λ e. none_of (times r after) (λ i. let back = stays.1 i in omega (arith, back, e))), used_as _ _ (change.others r stays)))

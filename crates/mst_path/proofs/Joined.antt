@@ -16,7 +16,7 @@ use Rattle.mst_path.specs.Writing.{IsRootOf}
 use Rattle.mst_path.specs.Frames.{Framed, in_frame, tree_round, frame_rows}
 use Rattle.mst_path.specs.Joining.{TwoTrees, in_both, both_joined, both_rows, height_at, Met}
 use Rattle.mst_path.proofs.Moving.{moves_none}
-use Rattle.mst_path.proofs.Copies.{old_alive}
+use Rattle.mst_path.proofs.Made.{made_old}
 use Rattle.mst_change.proofs.Join.Steps.{join_empty}
 use Rattle.mst_path.proofs.Framing.{framed_after, grown_round}
 use Rattle.mst_path.proofs.Meetings.{height_there}
@@ -26,7 +26,7 @@ placed_none no_tree link at zero_link = refl
 placed_none (tree_head i l chain) link at zero_link = absurd (omega (arith, at, zero_link))
 
 pub old_piece : (c : Content) (s : State) (p : Placed) → OldPiece c s p → Piece c s p
-old_piece c s p is = record { rows = is.rows; alive = λ r i. old_alive s r (is.old r i) }
+old_piece c s p is = record { rows = is.rows; made = made_old s p is.old }
 
 -- the tree stays as it is
 pub unchanged : (c : Content) (s : State) (p : Placed) (at : Root) → OldPiece c s p → IsRootOf p at → (t : Tree) → tree_of One p ≡ t → (given : ℕ → ℕ) → ((x : ℕ) → times x (used p) ≡ given x) → (n : ℕ) → n ≡ 0 → Grown c c s s t at given n

@@ -1,6 +1,7 @@
 pub mod Taking
 pub mod Entries
 pub mod Moving
+pub mod Made
 pub mod Copies
 pub mod Nodes
 pub mod Growing
@@ -33,3 +34,7 @@ pub mod FreeCounts
 pub mod Versions
 pub mod Removed
 pub mod Inserted
+pub mod NodeAges
+pub mod AgeSteps
+pub mod HeldRows
+pub mod KeptRoom

@@ -19,6 +19,7 @@ use Rattle.mst_path.proofs.Copies.{old_alive}
 use Rattle.mst_path.proofs.Framing.{frame_old}
 use Rattle.mst_path.proofs.Meetings.{some_of}
 use Rattle.mst_path.proofs.NewEntry.{sides_stand, grown_as}
+use Rattle.mst_path.proofs.Made.{piece_alive}
 use Rattle.mst_path.proofs.Steps.{Step, step_grown, step_split, step_then, run_after, back_after, old_after, apart_after}
 
 -- what a node with a new entry is made of
@@ -84,8 +85,8 @@ module _ (c c1 : Content) (s s1 : State) (t u : Tree) (left right : Root) (p : P
 
   pub two_alive : (x : ℕ) → 0 < times x (used r.lower) + times x (used r.upper) → IsAlive s1 x
   two_alive x i = elim (some_of (times x (used r.lower)) (times x (used r.upper)) i) [
-    | inl k ↦ r.lower_piece.alive x k
-    | inr k ↦ r.upper_piece.alive x k
+    | inl k ↦ piece_alive r.lower_piece x k
+    | inr k ↦ piece_alive r.upper_piece x k
   ]
 
   pub halves : Step c c1 s s1 (λ x. times x (used p)) (λ x. times x (used r.lower) + times x (used r.upper)) n

@@ -18,6 +18,7 @@ use Rattle.mst_path.specs.Splitting.{side_of, BothStand, in_both}
 use Rattle.mst_path.specs.declared.making.Parts.{Parts}
 use Rattle.mst_path.proofs.Copies.{at_self, old_alive}
 use Rattle.mst_path.proofs.Moving.{moves_none, one_row}
+use Rattle.mst_path.proofs.Made.{piece_alive}
 use Rattle.mst_path.proofs.Steps.{Step, step_grown, step_kill, step_then, piece_after, old_after, apart_after, parts_after, parts_alive}
 
 -- parts with no entries
@@ -82,7 +83,7 @@ module _ (c0 c1 : Content) (s0 s1 : State) (row : ℕ) (left right : Parts) (b :
       where
         go : (n : ℕ) → times x (row ∷ []) ≡ n → (m : ℕ) → times x (used one.placed) ≡ m → IsAlive s1 x
         go (suc n) e m f = subst (IsAlive s1) (sym (one_row x row (omega (arith, e)))) (old_alive s1 row row_old)
-        go zero e (suc m) f = one.piece.alive x (omega (arith, f))
+        go zero e (suc m) f = piece_alive one.piece x (omega (arith, f))
         go zero e zero f = parts_alive c1 s1 right upper_stands x (omega (arith, i, e, f))
 
     apart_both : (x : ℕ) → (times x (row ∷ []) + times x (used one.placed)) + times x (used two.placed) ≤ 1

@@ -26,6 +26,7 @@ use Rattle.mst_path.specs.Making.{cell_of, cells_of, entries_to, Split, tail_beh
 use Rattle.mst_path.specs.Cutting.{EntriesLie, CutGap, CutHeld, gap_before}
 use Rattle.mst_path.specs.Splitting.{SearchUnder, ToSplit, BothStand, side_of, in_both}
 use Rattle.mst_path.proofs.Moving.{moves_none}
+use Rattle.mst_path.proofs.Made.{made_old}
 use Rattle.mst_path.proofs.Copies.{old_alive}
 use Rattle.mst_path.proofs.Nodes.{layer_of_entries}
 use Rattle.mst_change.proofs.Parts.{under_weaker, with_entries_count}
@@ -90,8 +91,8 @@ split_none c s link k left right zero_is l r t = go t.tree.placed (t.tree.at ∙
       upper_is = refl;
       lower_root = l;
       upper_root = r;
-      lower_piece = record { rows = tt; alive = λ x i. absurd (omega arith) };
-      upper_piece = record { rows = tt; alive = λ x i. absurd (omega arith) };
+      lower_piece = record { rows = tt; made = tt };
+      upper_piece = record { rows = tt; made = tt };
       taken = [];
       killed = [];
       moves = moves_none s;
@@ -313,10 +314,10 @@ module _ (c : Content) (s : State) (link : ℕ) (k : List ℕ) (j : ℕ) (j_le :
         nothing_taken = omega (arith, r.counted, r.moves.room, ap (λ (u : State). free_count u.lives) still, n_is)
 
         base_piece : Piece c s t.tree.placed
-        base_piece = record { rows = t.tree.piece.rows; alive = λ x i. old_alive s x (t.tree.piece.old x i) }
+        base_piece = record { rows = t.tree.piece.rows; made = made_old s t.tree.placed t.tree.piece.old }
 
         no_piece : Piece c s none
-        no_piece = record { rows = tt; alive = λ x i. absurd (omega arith) }
+        no_piece = record { rows = tt; made = tt }
 
         lacks : look (pairs (tree_of One t.tree.placed)) k ≡ None
         lacks = absent_under (tree_of One t.tree.placed) One k j t.mst t.under (sym j_is)

@@ -17,6 +17,7 @@ use Rattle.mst_path.specs.Writing.{PlacedEntry}
 use Rattle.mst_path.specs.Making.{others, BackRun, PartsStand, in_parts, Grown, Split}
 use Rattle.mst_path.specs.declared.making.Parts.{Parts}
 use Rattle.mst_path.proofs.Moving.{in_either, out_of_times, times_of_out, moves_none, moves_kill, moves_then, alive_stays, old_stays, alive_out}
+use Rattle.mst_path.proofs.Made.{made_stays, piece_alive}
 use Rattle.mst_path.proofs.Copies.{all_in, kept_at, old_alive, own_frame, gaps_frame}
 
 -- So many rows were taken, and only these were written; of what was given and taken some is used, and the other rows were killed.
@@ -85,8 +86,8 @@ module _ (c c' : Content) (s s' : State) (given spent : ℕ → ℕ) (count : �
 
   pub piece_after : (p : Placed) → ((x : ℕ) → times x (used p) + given x ≤ 1) → Piece c s p → Piece c' s' p
   piece_after p apart piece = record {
-    rows = placed_frame One c c' p (all_in (used p) (λ x i. row_stays x (piece.alive x i))) piece.rows;
-    alive = λ x i. alive_after x (piece.alive x i) (omega (arith, i, apart x));
+    rows = placed_frame One c c' p (all_in (used p) (λ x i. row_stays x (piece_alive piece x i))) piece.rows;
+    made = made_stays s s' one.taken one.killed one.moves p (λ x i. spared x (piece_alive piece x i) (omega (arith, i, apart x))) piece.made;
   }
 
   pub old_piece_after : (p : Placed) → ((x : ℕ) → times x (used p) + given x ≤ 1) → OldPiece c s p → OldPiece c' s' p
@@ -156,7 +157,7 @@ pub parts_alive : (c : Content) (s : State) (parts : Parts) (p : PartsStand c s 
 parts_alive c s parts p x some = go (times x (used p.seam)) refl (times x (used p.tail)) refl (times x (own p.front)) refl (times x (gaps_used p.front)) refl (times x (own p.back)) refl
   where
     go : (a : ℕ) → times x (used p.seam) ≡ a → (b : ℕ) → times x (used p.tail) ≡ b → (d : ℕ) → times x (own p.front) ≡ d → (e : ℕ) → times x (gaps_used p.front) ≡ e → (f : ℕ) → times x (own p.back) ≡ f → IsAlive s x
-    go (suc a) i b j d k e l f m = p.seam_piece.alive x (omega (arith, i))
+    go (suc a) i b j d k e l f m = piece_alive p.seam_piece x (omega (arith, i))
     go zero i (suc b) j d k e l f m = old_alive s x (p.back_run.tail_piece.old x (omega (arith, j)))
     go zero i zero j (suc d) k e l f m = old_alive s x (p.front_run.old x (omega (arith, k)))
     go zero i zero j zero k (suc e) l f m = old_alive s x (gap_old s c p.front p.front_run.gaps x (omega (arith, l)))

@@ -13,16 +13,17 @@ use Rattle.mst_arena.proofs.ListLemmas.{times-append}
 use Rattle.mst_arena.proofs.Stands.{placed_frame}
 use Rattle.mst_change.specs.Parts.{with_first}
 use Rattle.mst_path.specs.Takes.{IsOut, KeepsBut}
-use Rattle.mst_path.specs.Moves.{In, IsAlive, IsOld, Moves}
+use Rattle.mst_path.specs.Moves.{In, IsAlive, IsOld, Moves, IsNew}
 use Rattle.mst_path.specs.Runs.{Piece, OldPiece, Run, own, gaps_used, EachGap}
 use Rattle.mst_path.specs.Writing.{PlacedEntry, entries_used, ahead, IsWritten}
-use Rattle.mst_path.specs.Copying.{IsNew, Going, Copying, Copied}
+use Rattle.mst_path.specs.Copying.{Going, Copying, Copied}
 use Rattle.mst_path.specs.Making.{cells_of, entries_to, others, BackRun, PartsStand, in_parts, Grown, Rest, Finished}
 use Rattle.mst_path.specs.declared.making.Parts.{Parts}
 use Rattle.mst_path.specs.declared.node_writer.NodeWriter.{NodeWriter}
-use Rattle.mst_path.proofs.Moving.{in_either, not_in, out_of_times, times_of_out, moves_then, alive_stays, alive_out, old_stays}
+use Rattle.mst_path.proofs.Moving.{in_either, not_in, out_of_times, times_of_out, moves_then, alive_out, old_stays}
 use Rattle.mst_path.proofs.Copies.{at_self, kept_at, all_in, new_not_old, old_alive, own_frame, gaps_frame}
-use Rattle.mst_path.proofs.Finishing.{used_entries, used_more, going_more, copies_gaps, copies_cells, cells-append, entries-front, new_stays}
+use Rattle.mst_path.proofs.Made.{new_stays, made_stays, piece_alive}
+use Rattle.mst_path.proofs.Finishing.{used_entries, used_more, going_more, copies_gaps, copies_cells, cells-append, entries-front}
 
 -- ---- what stands stays
 
@@ -40,8 +41,8 @@ module _ (c c' : Content) (s s' : State) (t k ks : List ℕ) (m : Moves s s' t k
 
   pub piece_later : (p : Placed) → ((x : ℕ) → In x (used p) → times x k ≡ 0) → Piece c s p → Piece c' s' p
   piece_later p out piece = record {
-    rows = placed_frame One c c' p (all_in (used p) (λ x i. kept_row x (piece.alive x i))) piece.rows;
-    alive = λ x i. alive_stays s s' t k m x (piece.alive x i) (out x i);
+    rows = placed_frame One c c' p (all_in (used p) (λ x i. kept_row x (piece_alive piece x i))) piece.rows;
+    made = made_stays s s' t k m p out piece.made;
   }
 
   pub old_piece_later : (p : Placed) → ((x : ℕ) → In x (used p) → times x k ≡ 0) → OldPiece c s p → OldPiece c' s' p
@@ -85,6 +86,7 @@ module _ (w : NodeWriter) (c : Content) (s s1 : State) (parts : Parts) (p : Part
     written = written;
     once = λ x. omega (arith, began.once x);
     alive = λ x i. absurd (omega arith);
+    made = tt;
     new = λ x i. begin_new x (omega (arith, i));
   }
 
@@ -105,7 +107,7 @@ module _ (w : NodeWriter) (c : Content) (s s1 : State) (parts : Parts) (p : Part
       go : (a : ℕ) → times x (own p.front) ≡ a → (b : ℕ) → times x (gaps_used p.front) ≡ b → (d : ℕ) → times x (used p.seam) ≡ d → (e : ℕ) → times x (own p.back) ≡ e → (f : ℕ) → times x (gaps_used (others p.back)) ≡ f → IsAlive s x
       go (suc a) ae b be d de e ee f fe = old_alive s x (p.front_run.old x (omega (arith, ae)))
       go zero ae (suc b) be d de e ee f fe = old_alive s x (gap_rows_old c s x p.front p.front_run.gaps (omega (arith, be)))
-      go zero ae zero be (suc d) de e ee f fe = p.seam_piece.alive x (omega (arith, de))
+      go zero ae zero be (suc d) de e ee f fe = piece_alive p.seam_piece x (omega (arith, de))
       go zero ae zero be zero de (suc e) ee f fe = old_alive s x (p.back_run.old x (omega (arith, ee)))
       go zero ae zero be zero de zero ee (suc f) fe = old_alive s x (gap_rows_old c s x (others p.back) p.back_run.gaps (omega (arith, fe)))
       go zero ae zero be zero de zero ee zero fe = old_alive s x (p.back_run.tail_piece.old x (omega (arith, some, ae, be, de, ee, fe)))
@@ -185,7 +187,7 @@ module _ (w : NodeWriter) (c : Content) (s s1 : State) (parts : Parts) (p : Part
     pub with_out : (child : Placed) (r2 : ℕ) → w2.next ≡ Some r2 → Piece c s child → ((x : ℕ) → in_parts p x + times x (used child) ≤ 1) → IsOut r2 (entries_used copied.copies ++ used child)
     with_out child r2 next2 piece apart =
         let row : times r2 (ahead w2.next) ≡ bit (eqb r2 r2) + 0 = ap (λ (o : Option ℕ). times r2 (ahead o)) next2 in
-        let none_of : times r2 (used child) ≡ 0 = not_in r2 (used child) (λ i. let untaken = alive_out s s2 ((w.head ∷ ahead w.next) ++ copied.taken) ([] ++ own p.front) all_taken r2 (piece.alive r2 i) in absurd (omega (arith, untaken, taken_times r2, copied.rows r2, row, at_self r2))) in
+        let none_of : times r2 (used child) ≡ 0 = not_in r2 (used child) (λ i. let untaken = alive_out s s2 ((w.head ∷ ahead w.next) ++ copied.taken) ([] ++ own p.front) all_taken r2 (piece_alive piece r2 i) in absurd (omega (arith, untaken, taken_times r2, copied.rows r2, row, at_self r2))) in
         out_of_times r2 (entries_used copied.copies ++ used child) (omega (arith, times-append r2 (entries_used copied.copies) (used child), copied.going.once r2, row, at_self r2, none_of))
 
     -- ---- with a new entry behind the front
@@ -201,7 +203,7 @@ module _ (w : NodeWriter) (c : Content) (s s1 : State) (parts : Parts) (p : Part
       either_alive x some = go (in_parts p x) refl
         where
           go : (n : ℕ) → in_parts p x ≡ n → IsAlive s x
-          go zero none_in = child_piece.alive x (omega (arith, some, none_in))
+          go zero none_in = piece_alive child_piece x (omega (arith, some, none_in))
           go (suc n) is = part_alive x (omega (arith, is))
 
       pub keeps_three : KeepsBut (ahead w.next ++ copied.taken) c c3
@@ -225,10 +227,10 @@ module _ (w : NodeWriter) (c : Content) (s s1 : State) (parts : Parts) (p : Part
               omega (arith, front_used x, copied.rows x, taken_times x, untaken, apart x)
 
       pub going_three : Going w3 c3 s3 (copied.copies ++ record { at = r2; child = child; key = key; value = value } ∷ [])
-      going_three = going_more w2 w3 c2 c3 s2 s3 copied.copies r2 child key value [] copied.going next2 moves3 child_two.alive with_once (λ x i. absurd (omega (arith, i))) written3
+      going_three = going_more w2 w3 c2 c3 s2 s3 copied.copies r2 child key value [] copied.going next2 moves3 (piece_alive child_two) child_two.made with_once (λ x i. absurd (omega (arith, i))) written3
 
       pub used_three : (x : ℕ) → times x (entries_used (copied.copies ++ record { at = r2; child = child; key = key; value = value } ∷ [])) ≡ times x (ahead w2.next) + times x (entries_used copied.copies) + times x (used child)
-      used_three = used_more w2 w3 c2 c3 s2 s3 copied.copies r2 child key value [] copied.going next2 moves3 child_two.alive with_once (λ x i. absurd (omega (arith, i)))
+      used_three = used_more w2 w3 c2 c3 s2 s3 copied.copies r2 child key value [] copied.going next2 moves3 (piece_alive child_two) child_two.made with_once (λ x i. absurd (omega (arith, i)))
 
       pub heads_three : (x : ℕ) → times x (w3.head ∷ []) ≡ times x (w.head ∷ [])
       heads_three x = ap (λ (h : ℕ). times x (h ∷ [])) (head3 ∙ same_head)

@@ -1,24 +1,21 @@
 -- Entries that are copied from the nodes of a tree into a node that is being written.
-use Rattle.std.specs.Prelude.{◌≡◌, ◌≤◌, ◌+◌, ℕ, List, ◌++◌, length, slice_get, Some}
+use Rattle.std.specs.Prelude.{◌≡◌, ◌≤◌, ◌+◌, ℕ, List, ◌++◌, length}
 use Rattle.mst_arena.specs.Content.{Content}
-use Rattle.mst_arena.specs.Lives.{State, next}
+use Rattle.mst_arena.specs.Lives.{State}
 use Rattle.mst_arena.specs.Lists.{times}
-use Rattle.mst_arena.specs.declared.life.Life.TheVariants.{Born}
 use Rattle.mst_path.specs.Takes.{KeepsBut}
-use Rattle.mst_path.specs.Moves.{In, IsAlive, Moves}
+use Rattle.mst_path.specs.Moves.{In, IsAlive, IsNew, Moves}
+use Rattle.mst_path.specs.Made.{AreMade}
 use Rattle.mst_path.specs.Runs.{Run, own, gaps_used, AreCopies}
 use Rattle.mst_path.specs.Writing.{PlacedEntry, entries_used, ahead, IsWritten}
 use Rattle.mst_path.specs.declared.node_writer.NodeWriter.{NodeWriter}
 
--- a row of the version to come
-abbrev pub IsNew : State → ℕ → Type 0
-IsNew s r = slice_get s.lives r ≡ Some (Born (next s))
-
--- These entries are written: their rows and those of the trees before them are alive, no row twice, and the row for the next entry is a new one and none of them.
+-- These entries are written, in new rows: their rows and those of the trees before them are alive, no row twice, and the row for the next entry is a new one and none of them.
 pub record Going (w : NodeWriter) (content : Content) (s : State) (ws : List PlacedEntry) : Type 0 where
   pub written : IsWritten w content ws
   pub once : (r : ℕ) → times r (ahead w.next) + times r (entries_used ws) ≤ 1
   pub alive : (r : ℕ) → In r (entries_used ws) → IsAlive s r
+  pub made : AreMade s ws
   pub new : (r : ℕ) → In r (ahead w.next) → IsNew s r
 
 -- So many entries from a link on are to be copied behind those that are written, and no row stands twice in all of them.

@@ -2,6 +2,7 @@ pub mod Takes
 pub mod Writing
 pub mod Planting
 pub mod Moves
+pub mod Made
 pub mod Runs
 pub mod Copying
 pub mod Making
@@ -15,3 +16,4 @@ pub mod Putting
 pub mod Changing
 pub mod Reached
 pub mod Versions
+pub mod Ages

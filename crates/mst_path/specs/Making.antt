@@ -10,11 +10,11 @@ use Rattle.mst_arena.specs.declared.row.Root.{Root}
 use Rattle.mst_arena.specs.Standing.{Placed, none, tree_of, link_of, used, HasRows}
 use Rattle.mst_path.specs.declared.making.Parts.{Parts}
 use Rattle.mst_path.specs.Takes.{KeepsBut}
-use Rattle.mst_path.specs.Moves.{In, IsOld, Moves}
+use Rattle.mst_path.specs.Moves.{In, IsOld, Moves, IsNew}
 use Rattle.mst_path.specs.Runs.{Piece, OldPiece, Run, own_rows, own, gaps_used, EachGap}
 use Rattle.mst_change.specs.Parts.{with_first}
 use Rattle.mst_path.specs.Writing.{PlacedEntry, link_from, entries_used, ahead, IsRootOf}
-use Rattle.mst_path.specs.Copying.{IsNew, Going}
+use Rattle.mst_path.specs.Copying.{Going}
 use Rattle.mst_path.specs.declared.node_writer.NodeWriter.{NodeWriter}
 
 -- an entry as the tree has it, and all of some

@@ -16,6 +16,10 @@ IsAlive s r = (b : ℕ) × (slice_get s.lives r ≡ Some (Born b))
 abbrev pub IsOld : State → ℕ → Type 0
 IsOld s r = (b : ℕ) × (slice_get s.lives r ≡ Some (Born b)) × (b ≤ version s)
 
+-- the row was born with the version to come
+abbrev pub IsNew : State → ℕ → Type 0
+IsNew s r = slice_get s.lives r ≡ Some (Born (next s))
+
 -- the row was killed: it dies with the version to come
 abbrev pub IsKilled : State → State → ℕ → Type 0
 IsKilled old new r = (b : ℕ) × (slice_get old.lives r ≡ Some (Born b)) × (b ≤ version old) × (slice_get new.lives r ≡ Some (Dead b (next old)))

@@ -6,13 +6,14 @@ use Rattle.mst_arena.specs.Lives.{State}
 use Rattle.mst_arena.specs.declared.row.Row.{Row}
 use Rattle.mst_arena.specs.declared.row.Row.TheVariants.{Entry}
 use Rattle.mst_arena.specs.Standing.{Placed, link_of, rows_of, used, HasRows}
-use Rattle.mst_path.specs.Moves.{In, IsAlive, IsOld}
+use Rattle.mst_path.specs.Moves.{In, IsOld}
+use Rattle.mst_path.specs.Made.{IsMade}
 use Rattle.mst_path.specs.Writing.{PlacedEntry, link_from}
 
--- a placed tree stands, on rows that are alive
+-- a placed tree stands, on rows that are alive: those of a node are all old, with all below it, or all new
 pub record Piece (content : Content) (s : State) (p : Placed) : Type 0 where
   pub rows : HasRows content (rows_of One p)
-  pub alive : (r : ℕ) → In r (used p) → IsAlive s r
+  pub made : IsMade s p
 
 -- a placed tree stands, on rows of the current version and older ones
 pub record OldPiece (content : Content) (s : State) (p : Placed) : Type 0 where

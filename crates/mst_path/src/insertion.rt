@@ -9,6 +9,7 @@ ghost use Rattle.mst_node.specs.Cost.{same_bytes, cost};
 ghost use Rattle.mst_arena.specs.Lives.{free_count};
 ghost use Rattle.mst_arena.specs.Standing.{Stands, numbers};
 ghost use Rattle.mst_path.specs.Takes.{FreeIsBlank};
+ghost use Rattle.mst_path.specs.Made.{IsMade};
 ghost use Rattle.mst_path.specs.Changing.{MapStands, AreTaken, AreKilled, OthersLive, OnlyFreeWritten, SameVersions};
 
 use crate::counting::put_cost;
@@ -68,6 +69,8 @@ pub fn put<R: Rows, A: Allocator>(
     ensures others { IfOk result (λ done. (m n : List Pair) (old : Stands One (R.content rows.old) root.now m)
         (new : Stands One (R.content rows.new) done.0 n) → OthersLive desk.old desk.new (numbers old) (numbers new)) }
     ensures versions { SameVersions desk.old desk.new }
+    // the rows of a node are of one age: with all below it they were there before, or they are all new
+    ensures made { IfOk result (λ done. (n : List Pair) (new : Stands One (R.content rows.new) done.0 n) → IsMade desk.new new.tree.placed) }
     ensures same_value { IfOk result (λ done. (m : List Pair) → Stands One (R.content rows.old) root.now m → look m key.now ≡ Some value.now
         → (done.0 ≡ root.now) × (desk.new ≡ desk.old) × (rows.new ≡ rows.old)) }
     ensures blank { R.blank rows.new ≡ R.blank rows.old }

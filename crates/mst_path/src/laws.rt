@@ -1,16 +1,24 @@
 //! Laws of the definitions, each proved as the contract of a function that does nothing.
 ghost use Rattle.std.specs.Prelude.{◌≡◌, ◌<◌, ◌≤◌, ◌+◌, ◌++◌, ◌↔◌, ℕ, List, [], ◌∷◌, false, Some, length, replicate, slice_get};
+ghost use Rattle.std.specs.List.{AllByRecursion};
+ghost use Rattle.mst_key.specs.History.{History, after};
+ghost use Rattle.mst_key.specs.declared.history.Event.{Event};
 ghost use Rattle.mst_key.specs.Map.{Pair};
 ghost use Rattle.mst_key.specs.declared.format.Format.TheVariants.{One};
+ghost use Rattle.mst_node.specs.Cost.{cost};
+ghost use Rattle.mst_node.specs.Stays.{held};
 ghost use Rattle.mst_node.specs.Tree.{empty, node, tree, pairs};
 ghost use Rattle.mst_arena.specs.Content.{Content};
 ghost use Rattle.mst_arena.specs.Lives.{State, version, next, reaches, SameReach, free_count};
 ghost use Rattle.mst_arena.specs.Lists.{times};
 ghost use Rattle.mst_arena.specs.declared.life.Life.TheVariants.{Free};
 ghost use Rattle.mst_arena.specs.declared.row.Root.{Root};
-ghost use Rattle.mst_arena.specs.Standing.{IsDistinct, Stands, numbers};
+ghost use Rattle.mst_arena.specs.Standing.{Placed, used, IsDistinct, Stands, numbers};
+ghost use Rattle.mst_arena.specs.declared.life.Life.{Life};
 ghost use Rattle.mst_path.specs.Moves.{In};
 ghost use Rattle.mst_path.specs.Changing.{AreOld, MapStands, OnlyFreeWritten};
+ghost use Rattle.mst_path.specs.Ages.{placed_nodes, IsAged, HasAges, HasPlace};
+ghost use Rattle.mst_path.specs.Made.{IsMade};
 ghost use Rattle.mst_path.specs.Takes.{Takes, KeepsBut};
 ghost use Rattle.mst_path.specs.Planting.{IsTreeOf, node_count};
 ghost use Rattle.mst_path.specs.Reached.{ReachesExactly, TogetherReach, Changes, advanced, swept_by, IsSettled};
@@ -89,6 +97,38 @@ pub fn version_laws()
     ensures room { (content : Content) (s : State) (at : Root) (m : List Pair) → IsSettled s
         → HasMap content s.lives (version s) at m
         → free_count (swept_by (version s ∷ []) s).lives + (length m + node_count (tree One m)) ≡ length s.lives }
+{}
+
+/// How old the rows of a node are. A put or a remove leaves a node on the rows on which it stood, or makes it anew in new rows, and the latter only where its tree did not stand before. So the versions that reach a row of a node are those since which the node's tree has stood.
+pub fn age_laws()
+    ensures node { (old new : State) (before after : Content) (root at : Root) (m n : List Pair)
+        (stood : Stands One before root m) (stands : Stands One after at n) → AreOld old (numbers stood)
+        → Changes old new (numbers stood) (numbers stands) → OnlyFreeWritten old before after → IsMade new stands.tree.placed
+        → free_count new.lives + cost One m n ≡ free_count old.lives
+        → AllByRecursion (IsAged new stood.tree.placed) (placed_nodes stands.tree.placed) }
+    // the empty map has no rows
+    ensures open { (content : Content) (lives : List Life) (at : Root) (stands : Stands One content at []) → HasAges lives [] stands.tree.placed }
+    // a write that is advanced, with its event
+    ensures write { (old new : State) (before now : Content) (root at : Root) (h : History) (e : Event) (into : ℕ)
+        (has : HasMap before old.lives (version old) root (after h)) (stands : Stands One now at (after (h ++ e ∷ [])))
+        → Changes old new (numbers has.stands) (numbers stands) → OnlyFreeWritten old before now → IsMade new stands.tree.placed
+        → free_count new.lives + cost One (after h) (after (h ++ e ∷ [])) ≡ free_count old.lives
+        → IsSettled old → version old ≡ length h → HasAges old.lives h has.stands.tree.placed
+        → HasAges (advanced into new).lives (h ++ e ∷ []) stands.tree.placed }
+    // it leaves the ages of the versions before it
+    ensures older { (old new : State) (before after : List ℕ) (into : ℕ) (h : History) (p : Placed) → Changes old new before after
+        → length h ≤ version old → HasAges old.lives h p → HasAges (advanced into new).lives h p }
+    // so does a sweep by versions of which this is one
+    ensures sweep { (s : State) (live : List ℕ) (h : History) (p : Placed) → In (length h) live
+        → ReachesExactly s.lives (length h) (used p) → HasAges s.lives h p → HasAges (swept_by live s).lives h p }
+{}
+
+/// What the kept versions of a history leave free. `live` names them, the current one and any before it.
+pub fn room_laws()
+    // after a sweep by them all rows are free but those that they hold
+    ensures held { (s : State) (h : History) (live : List ℕ) → IsSettled s → In (version s) live
+        → ((v : ℕ) → In v live → (v ≤ length h) × HasPlace s.lives h v)
+        → free_count (swept_by live s).lives + held One h live ≡ length s.lives }
 {}
 
 /// What the calls and the laws ask for can be had.

@@ -2,7 +2,7 @@
 //!
 //! [`plant`] writes a whole tree into free rows, [`put`] puts a pair into the map that stands at a root, and [`remove`] takes a key out of it. A node is written entry by entry, and its text is fed to the hash on the way, so that no call takes memory.
 //!
-//! The tree of the map after a put or a remove is made from the old one along one path, which is split or joined from the top down; all beside the path is shared. `mst_change` defines these trees and counts the rows of the nodes that are made new. [`reach_laws`] says which rows a version reaches after such a change, and [`version_laws`] that the map of each version that is kept stays as it is.
+//! The tree of the map after a put or a remove is made from the old one along one path, which is split or joined from the top down; all beside the path is shared. `mst_change` defines these trees and counts the rows of the nodes that are made new. [`reach_laws`] says which rows a version reaches after such a change, [`version_laws`] that the map of each version that is kept stays as it is, [`age_laws`] how old the rows of a node are, and [`room_laws`] how many rows kept versions leave free.
 //!
 //! Below the calls, from the top down:
 //!
@@ -31,7 +31,7 @@ mod whole_tree;
 
 pub use faults::NoRoom;
 pub use insertion::put;
-pub use laws::{premises_can_be_met, reach_laws, version_laws};
+pub use laws::{age_laws, premises_can_be_met, reach_laws, room_laws, version_laws};
 pub use mst_arena::Root;
 pub use removal::remove;
 pub use whole_tree::plant;

@@ -11,7 +11,7 @@ use Rattle.mst_node.specs.Shape.{with_entries}
 use Rattle.mst_node.specs.Cost.{subtrees, entries_subtrees, is_subtree, top_entries, new_rows}
 use Rattle.mst_change.specs.Parts.{cells, first_child, with_first, node_of}
 use Rattle.mst_change.specs.Cost.{side_rows}
-use Rattle.mst_change.proofs.Cost.Home.{InTree, InEntries, is_old, is_new}
+use Rattle.mst_node.proofs.InTrees.{InTree, InEntries, is_old, is_new}
 
 abbrev mutual
   pub fresh : Tree → Tree → ℕ

@@ -1,77 +1,22 @@
 -- Where a node stands in a tree: each key stands in one node, so a node is found again by any key of its own.
-use Rattle.std.proofs.Common.{◌≡◌, ℕ, ◌<◌, ◌≤◌, length, length-append, arith, Bool, true, false, ◌||◌, ◌⊎◌, inl, inr, List, ◌∷◌, refl, sym, ap, subst, ◌∙◌, Less, Equal, Greater, true≢false}
-use Rattle.std.proofs.lemmas.List.Folds.{list_any-append}
-use Rattle.std.proofs.lemmas.Bool.{false_from_ne_true}
-use Rattle.std.specs.List.{AllByRecursion, list_any}
+use Rattle.std.proofs.Common.{◌≡◌, ℕ, ◌<◌, ◌≤◌, length, length-append, arith, ◌⊎◌, inl, inr, List, ◌∷◌, refl, sym, ap, subst, ◌∙◌, Less, Equal, Greater}
+use Rattle.std.specs.List.{AllByRecursion}
 use Rattle.mst_key.specs.declared.format.Format.{Format}
 use Rattle.mst_key.specs.Map.{Pair, key_cmp, IsAscending}
-use Rattle.mst_key.proofs.Alls.{alls-front, alls-back}
+use Rattle.mst_key.proofs.Alls.{alls-back}
 use Rattle.mst_key.proofs.KeyOrder.{equal_from_same, greater_from_less}
 use Rattle.mst_key.proofs.Splits.{IsAscending-below, IsAscending-above}
 use Rattle.mst_node.specs.Tree.{Tree, empty, node, Entries, last, entry, entry_count, pairs, entries_pairs}
 use Rattle.mst_node.specs.Shape.{with_entries}
 use Rattle.mst_node.specs.Trail.{by_order}
-use Rattle.mst_node.specs.Cost.{subtrees, entries_subtrees, same_tree, is_subtree}
 use Rattle.mst_change.specs.Parts.{cells, first_child, with_first, node_of}
 use Rattle.mst_change.specs.Split.{below, entries_below, above, entries_above}
 use Rattle.mst_change.specs.Join.{join}
 use Rattle.mst_change.specs.Remove.{tree_remove, entries_remove}
 use Rattle.mst_change.proofs.Choices.{at_key}
-use Rattle.mst_change.proofs.Cost.Same.{tree_from_same, same_from_tree}
+use Rattle.mst_node.proofs.InTrees.{InTree, InEntries, pairs_hold, entries_pairs_hold}
 use Rattle.mst_change.proofs.Split.Trees.{rest_rises, child_rises}
 use Rattle.mst_change.proofs.Choices.{chosen}
-
--- ---- what stands in a tree
-
-abbrev mutual
-  pub InTree : Tree → Tree → Type 0
-  InTree s empty = ⊥
-  InTree s (node g l es) = (s ≡ node g l es) ⊎ InEntries s es
-
-  pub InEntries : Tree → Entries → Type 0
-  InEntries s (last child) = InTree s child
-  InEntries s (entry child key value rest) = InTree s child ⊎ InEntries s rest
-
-either_true : (a b : Bool) → (a || b) ≡ true → (a ≡ true) ⊎ (b ≡ true)
-either_true true b e = inl refl
-either_true false b e = inr e
-
-true_either : (a b : Bool) → (a ≡ true) ⊎ (b ≡ true) → (a || b) ≡ true
-true_either true b e = refl
-true_either false b (inl e) = absurd (true≢false (sym e))
-true_either false b (inr e) = e
-
-mutual
-  in_from_test : (t s : Tree) → list_any (same_tree s) (subtrees t) ≡ true → InTree s t
-  in_from_test empty s e = absurd (true≢false (sym e))
-  in_from_test (node g l es) s e = elim (either_true (same_tree s (node g l es)) (list_any (same_tree s) (entries_subtrees es)) e) [
-    | inl is ↦ inl (tree_from_same s (node g l es) is)
-    | inr is ↦ inr (in_entries_from_test es s is)
-  ]
-
-  in_entries_from_test : (es : Entries) (s : Tree) → list_any (same_tree s) (entries_subtrees es) ≡ true → InEntries s es
-  in_entries_from_test (last child) s e = in_from_test child s e
-  in_entries_from_test (entry child key value rest) s e = elim (either_true (list_any (same_tree s) (subtrees child)) (list_any (same_tree s) (entries_subtrees rest)) (sym (list_any-append (same_tree s) (subtrees child) (entries_subtrees rest)) ∙ e)) [
-    | inl is ↦ inl (in_from_test child s is)
-    | inr is ↦ inr (in_entries_from_test rest s is)
-  ]
-
-mutual
-  test_from_in : (t s : Tree) → InTree s t → list_any (same_tree s) (subtrees t) ≡ true
-  test_from_in empty s is = absurd is
-  test_from_in (node g l es) s (inl is) = true_either (same_tree s (node g l es)) (list_any (same_tree s) (entries_subtrees es)) (inl (same_from_tree s (node g l es) is))
-  test_from_in (node g l es) s (inr is) = true_either (same_tree s (node g l es)) (list_any (same_tree s) (entries_subtrees es)) (inr (test_from_in_entries es s is))
-
-  test_from_in_entries : (es : Entries) (s : Tree) → InEntries s es → list_any (same_tree s) (entries_subtrees es) ≡ true
-  test_from_in_entries (last child) s is = test_from_in child s is
-  test_from_in_entries (entry child key value rest) s (inl is) = list_any-append (same_tree s) (subtrees child) (entries_subtrees rest) ∙ true_either (list_any (same_tree s) (subtrees child)) (list_any (same_tree s) (entries_subtrees rest)) (inl (test_from_in child s is))
-  test_from_in_entries (entry child key value rest) s (inr is) = list_any-append (same_tree s) (subtrees child) (entries_subtrees rest) ∙ true_either (list_any (same_tree s) (subtrees child)) (list_any (same_tree s) (entries_subtrees rest)) (inr (test_from_in_entries rest s is))
-
-pub is_old : (s old : Tree) → InTree s old → is_subtree s old ≡ true
-is_old s old is = test_from_in old s is
-
-pub is_new : (s old : Tree) → (InTree s old → ⊥) → is_subtree s old ≡ false
-is_new s old absent = false_from_ne_true (is_subtree s old) (λ e. absent (in_from_test old s e))
 
 -- ---- the keys of a node
 
@@ -82,19 +27,6 @@ HasKey q (entry child key value rest) = (q ≡ key) ⊎ HasKey q rest
 abbrev pub TopKey : List ℕ → Tree → Type 0
 TopKey q empty = ⊥
 TopKey q (node g l es) = HasKey q es
-
-module _ (P : Pair → Type 0) where
-  -- what holds of the pairs of a tree holds of those of each tree in it
-  mutual
-    pub pairs_hold : (t s : Tree) → InTree s t → AllByRecursion P (pairs t) → AllByRecursion P (pairs s)
-    pairs_hold empty s is all = absurd is
-    pairs_hold (node g l es) s (inl is) all = subst (λ (u : Tree). AllByRecursion P (pairs u)) (sym is) all
-    pairs_hold (node g l es) s (inr is) all = entries_pairs_hold es s is all
-
-    pub entries_pairs_hold : (es : Entries) (s : Tree) → InEntries s es → AllByRecursion P (entries_pairs es) → AllByRecursion P (pairs s)
-    entries_pairs_hold (last child) s is all = pairs_hold child s is all
-    entries_pairs_hold (entry child key value rest) s (inl is) all = pairs_hold child s is (alls-front P (pairs child) ((key, value) ∷ entries_pairs rest) all)
-    entries_pairs_hold (entry child key value rest) s (inr is) all = entries_pairs_hold rest s is (alls-back P (pairs child) ((key, value) ∷ entries_pairs rest) all).1
 
 module _ (P : List ℕ → Type 0) where
   pub key_holds : (es : Entries) (q : List ℕ) → HasKey q es → AllByRecursion (λ p. P p.0) (entries_pairs es) → P q

@@ -23,7 +23,7 @@ use Rattle.mst_change.proofs.Choices.{at_key, at_order, at_layers}
 use Rattle.mst_change.proofs.Split.Pairs.{lesser, greater}
 use Rattle.mst_change.proofs.Split.Trees.{rest_rises, child_rises}
 use Rattle.mst_change.proofs.Put.Trees.{put_among_pairs, put_at_pairs, put_in_gap_pairs, put_at_mst, put_tree}
-use Rattle.mst_change.proofs.Cost.Home.{InTree, pairs_hold}
+use Rattle.mst_node.proofs.InTrees.{InTree, pairs_hold}
 use Rattle.mst_change.proofs.Cost.Fresh.{fresh, fresh_in, new_rows_fresh, Stands, StandIn, stands_itself, entries_stand, child_stands, rest_stands, fresh_none, fresh_in_none, fresh_node}
 use Rattle.mst_change.proofs.Cost.Split.{same_from_pairs, gap_fresh}
 

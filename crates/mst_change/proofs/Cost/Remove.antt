@@ -20,7 +20,8 @@ use Rattle.mst_change.proofs.Parts.{node_of_pairs, first_mst}
 use Rattle.mst_change.proofs.Split.Pairs.{behind_above, before_below}
 use Rattle.mst_change.proofs.Split.Trees.{rest_rises, child_rises}
 use Rattle.mst_change.proofs.Remove.Trees.{remove_pairs, remove_mst, entries_remove_pairs, removed_tree}
-use Rattle.mst_change.proofs.Cost.Home.{InTree, is_new, new_by_key, some_key, node_of_key, remove_key}
+use Rattle.mst_node.proofs.InTrees.{InTree, is_new}
+use Rattle.mst_change.proofs.Cost.Home.{new_by_key, some_key, node_of_key, remove_key}
 use Rattle.mst_change.proofs.Cost.Fresh.{fresh, fresh_in, new_rows_fresh, Stands, StandIn, stands_itself, entries_stand, node_stands, child_stands, rest_stands, first_stands, fresh_none, fresh_in_none, fresh_side, fresh_first}
 use Rattle.mst_change.proofs.Cost.Split.{same_from_pairs}
 use Rattle.mst_change.proofs.Cost.Join.{join_fresh}

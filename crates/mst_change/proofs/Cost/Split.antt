@@ -19,7 +19,8 @@ use Rattle.mst_change.proofs.Choices.{at_order}
 use Rattle.mst_change.proofs.Parts.{under_weaker}
 use Rattle.mst_change.proofs.Split.Pairs.{lesser, greater}
 use Rattle.mst_change.proofs.Split.Trees.{rest_rises, child_rises, below_pairs, above_pairs, below_mst, above_mst}
-use Rattle.mst_change.proofs.Cost.Home.{InTree, is_old, is_new, some_key, node_of_key, below_key, above_key, one_home}
+use Rattle.mst_node.proofs.InTrees.{InTree, is_old, is_new}
+use Rattle.mst_change.proofs.Cost.Home.{some_key, node_of_key, below_key, above_key, one_home}
 use Rattle.mst_change.proofs.Cost.Fresh.{fresh, fresh_in, Stands, StandIn, entries_stand, node_stands, child_stands, rest_stands, fresh_none, fresh_in_none, fresh_side}
 
 -- ---- search trees are told apart by their pairs

@@ -44,6 +44,9 @@ returns-then-is_same-clause-taken g c = (nothing g c).taken
 pub returns-then-is_same-clause-killed : goal.returns-then-is_same-clause-killed
 returns-then-is_same-clause-killed g c = (nothing g c).killed
 
+pub returns-then-is_same-clause-made : goal.returns-then-is_same-clause-made
+returns-then-is_same-clause-made g c = (nothing g c).made
+
 -- ---- the room
 
 pub put_cost-requires-clause-tree : goal.put_cost-requires-clause-tree
@@ -124,6 +127,9 @@ returns-clause-others g c = (inserted g c).others
 
 pub returns-clause-versions : goal.returns-clause-versions
 returns-clause-versions g c = (inserted g c).versions
+
+pub returns-clause-made : goal.returns-clause-made
+returns-clause-made g c = (inserted g c).made
 
 pub returns-clause-same_value : goal.returns-clause-same_value
 returns-clause-same_value g c m st same =

@@ -1,12 +1,13 @@
 use Rattle.std.proofs.Common.{arith}
 use Rattle.mst_path.proofs.Copies.{small_link}
 use Rattle.mst_path.proofs.Finishing.{at_seam, head_out}
+use Rattle.mst_path.proofs.Made.{piece_alive}
 use Rattle.mst_path.proofs.making.finish_node.Goals as goal
 
 pub finish-requires-clause-tail : goal.finish-requires-clause-tail
 finish-requires-clause-tail g c =
     let r = c.requires.rest in
-    omega (arith, r.seam_at.link, small_link c.args.desk.now r.seam r.seam_piece.alive c.requires.few)
+    omega (arith, r.seam_at.link, small_link c.args.desk.now r.seam (piece_alive r.seam_piece) c.requires.few)
 
 pub returns-then-parts-eq0-clause-finished : goal.returns-then-parts-eq0-clause-finished
 returns-then-parts-eq0-clause-finished g c = λ r.

@@ -7,12 +7,13 @@ use Rattle.mst_path.specs.Moves.{Moves}
 use Rattle.mst_path.specs.Writing.{ahead, IsWritten}
 use Rattle.mst_path.proofs.Copies.{small_link, old_alive, links_are, value_there, next_some}
 use Rattle.mst_path.proofs.Finishing.{first_back, none_ahead, no_length, seam_out, back_copying, tail_stays, back_head_out, with_back}
+use Rattle.mst_path.proofs.Made.{piece_alive}
 use Rattle.mst_path.proofs.making.finish_with_back.Goals as goal
 
 pub move_entry-requires-clause-child : goal.move_entry-requires-clause-child
 move_entry-requires-clause-child g c =
     let r = c.requires.rest in
-    omega (arith, r.seam_at.link, small_link c.args.desk.now r.seam r.seam_piece.alive c.requires.few)
+    omega (arith, r.seam_at.link, small_link c.args.desk.now r.seam (piece_alive r.seam_piece) c.requires.few)
 
 pub move_entry-requires-clause-old : goal.move_entry-requires-clause-old
 move_entry-requires-clause-old g c =

@@ -5,6 +5,7 @@ use Rattle.mst_path.proofs.Moving.{moves_takes}
 use Rattle.mst_path.proofs.Copies.{blank_free, blank_taken, blank_ahead, next_some, small_link}
 use Rattle.mst_path.proofs.Finishing.{ahead_length, ahead_min}
 use Rattle.mst_path.proofs.Whole.{begins_copying, child_later, with_out, rest_three, made_with}
+use Rattle.mst_path.proofs.Made.{piece_alive}
 use Rattle.mst_path.proofs.making.make_node_with.Goals as goal
 
 pub move_run-requires-clause-copying : goal.move_run-requires-clause-copying
@@ -107,7 +108,7 @@ entry-requires-clause-child g c =
     let root_is = c.requires.parts.2 in
     let stands = c.requires.parts.3 in
     let apart = c.requires.parts.4 in
-    omega (arith, root_is.link, small_link c.args.desk.now q stands.alive c.requires.few)
+    omega (arith, root_is.link, small_link c.args.desk.now q (piece_alive stands) c.requires.few)
 
 pub finish_node-requires-clause-rest : goal.finish_node-requires-clause-rest
 unfolding begins_copying

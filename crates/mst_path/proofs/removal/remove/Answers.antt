@@ -43,6 +43,9 @@ returns-in_default-clause-taken g c = (nothing g c).taken
 pub returns-in_default-clause-killed : goal.returns-in_default-clause-killed
 returns-in_default-clause-killed g c = (nothing g c).killed
 
+pub returns-in_default-clause-made : goal.returns-in_default-clause-made
+returns-in_default-clause-made g c = (nothing g c).made
+
 -- ---- the room
 
 pub remove_cost-requires : goal.remove_cost-requires
@@ -114,6 +117,9 @@ returns-clause-others g c = (removed g c).others
 
 pub returns-clause-versions : goal.returns-clause-versions
 returns-clause-versions g c = (removed g c).versions
+
+pub returns-clause-made : goal.returns-clause-made
+returns-clause-made g c = (removed g c).made
 
 pub returns-clause-absent : goal.returns-clause-absent
 returns-clause-absent g c m st none =

@@ -1,0 +1,5 @@
+use Rattle.mst_path.proofs.KeptRoom.{held_free}
+use Rattle.mst_path.proofs.laws.room_laws.Goals as goal
+
+pub returns : goal.returns
+returns c = record { held = λ s h live settled now places. held_free s h live settled now places }
