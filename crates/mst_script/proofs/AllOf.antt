@@ -1,5 +1,5 @@
 -- All passes of one store: so they are when they are dealt, and so they stay.
-use Rattle.std.proofs.Common.{◌≡◌, ℕ, zero, suc, ◌<◌, ◌≤◌, ◌≢◌, List, [], ◌∷◌, ◌++◌, length, get_or, set, map, sym, refl, ap, ◌∙◌, subst, arith}
+use Rattle.std.proofs.Common.{◌≡◌, ℕ, zero, suc, ◌<◌, ◌≤◌, ◌≢◌, List, [], ◌∷◌, ◌++◌, length, append-nil, get_or, set, map, sym, refl, ap, ◌∙◌, subst, arith}
 use Rattle.std.specs.List.{All, Contains}
 use Rattle.std.proofs.lemmas.List.Elements.{All-append, All-map, All-set, Contains-append_left, Contains-append_right}
 use Rattle.std.proofs.Math.Seq.{map-set_same}
@@ -7,7 +7,8 @@ use mathlib.Core.Logic.{dite}
 use native.Mathlib.Decide.{ℕ_discrete}
 use Rattle.mst_key.specs.History.{History}
 use Rattle.mst_store.specs.Passes.{StoreId, Known, IsSamePass, new_pass, first_passes, new_passes}
-use Rattle.mst_store.specs.Settling.{numbers, having_seen, AreAllPasses, Settled}
+use Rattle.mst_key.specs.History.{events_of, Begins}
+use Rattle.mst_store.specs.Settling.{numbers, having_seen, AreAllPasses, IsOfOne, Settled}
 use Rattle.mst_script.specs.Serving.{AreAllOf}
 
 lone : (s : StoreId) (p : Known) → p.store ≡ s → All (λ q. q.store ≡ s) (p ∷ [])
@@ -61,8 +62,28 @@ pub seen_numbers : (log : History) (ps : List Known) → numbers (map (having_se
 seen_numbers log [] = refl
 seen_numbers log (p ∷ ps) = ap (λ (l : List ℕ). p.number ∷ l) (seen_numbers log ps)
 
+-- all passes settled, and none pins a version
+pub record AllSettled (ps qs : List Known) : Type 0 where
+  pub log : History
+  pub now : qs ≡ map (having_seen log) ps
+  pub later : All (λ p. Begins p.seen log) ps
+  pub own : All (λ p. events_of p.number log ≡ p.mine) ps
+  pub alone : All (IsOfOne ps) log
+
+pub none_held : (ps qs ks : List Known) → Settled ps [] qs ks → AllSettled ps qs
+none_held ps qs ks t = record {
+  log = t.log;
+  now = t.now;
+  later = subst (All (λ p. Begins p.seen t.log)) (append-nil ps) t.later;
+  own = subst (All (λ p. events_of p.number t.log ≡ p.mine)) (append-nil ps) t.own;
+  alone = subst (λ (l : List Known). All (IsOfOne l) t.log) (append-nil ps) t.alone;
+}
+
+pub whole_free : (ps : List Known) → AreAllPasses ps → AreAllPasses (ps ++ [])
+whole_free ps = subst AreAllPasses (sym (append-nil ps))
+
 -- they settled
-pub all_settled : (s : StoreId) (ps qs : List Known) → Settled ps qs → AreAllOf s ps → AreAllOf s qs
+pub all_settled : (s : StoreId) (ps qs : List Known) → AllSettled ps qs → AreAllOf s ps → AreAllOf s qs
 all_settled s ps qs t w = record {
   of_one = subst (All (λ p. p.store ≡ s)) (sym t.now) (All-map (λ (p : Known). p.store ≡ s) (having_seen t.log) ps w.of_one);
   complete = λ n low high. subst (λ (l : List Known). Contains (numbers l) n) (sym t.now) (subst (λ (l : List ℕ). Contains l n) (sym (seen_numbers t.log ps)) (w.complete n low high));

@@ -5,14 +5,14 @@ use Rattle.std.specs.List.{Contains}
 use Rattle.std.proofs.lemmas.List.Elements.{All-map, All-contains}
 use Rattle.mst_key.specs.History.{History}
 use Rattle.mst_store.specs.Passes.{StoreId, Known}
-use Rattle.mst_store.specs.Settling.{numbers, Settled}
+use Rattle.mst_store.specs.Settling.{numbers}
 use Rattle.mst_requests.specs.declared.request.Fault.{Fault}
 use Rattle.mst_requests.specs.declared.request.Command.{Command}
 use Rattle.mst_requests.specs.declared.request.Request.{Request}
 use Rattle.mst_requests.specs.Grammar.{asked}
 use Rattle.mst_script.specs.Machine.{Step, AnswersRequest}
 use Rattle.mst_script.specs.Serving.{AreAllOf, Asked, Serves, IsPlace}
-use Rattle.mst_script.proofs.AllOf.{all_changed}
+use Rattle.mst_script.proofs.AllOf.{AllSettled, all_changed}
 use Rattle.mst_script.proofs.Settling.{served}
 
 pub not_there : (ps : List Known) (n : ℕ) → Contains (numbers ps) n → ((k : ℕ) (d : Known) → k < length ps → (slice_index_or ps k d).number ≢ n) → ⊥
@@ -25,7 +25,7 @@ all_asked store ps place d p q command text all within is a = all_changed store 
 
 -- one of them did what it was asked for, and then all settled
 pub asked_serves : (store : StoreId) (n : ℕ) (ps qs : List Known) (line : Option (List ℕ)) (text : List ℕ) (r : Result Request Fault) (request : Request) (place : ℕ) (d p q : Known) →
-    AreAllOf store ps → n ≡ store.passes → r ≡ asked n line → r ≡ Ok request → IsPlace ps request.pass place → p ≡ get_or ps place d → Asked request.command p text q → Settled (set ps place q) qs → Serves store ps line text qs
+    AreAllOf store ps → n ≡ store.passes → r ≡ asked n line → r ≡ Ok request → IsPlace ps request.pass place → p ≡ get_or ps place d → Asked request.command p text q → AllSettled (set ps place q) qs → Serves store ps line text qs
 asked_serves store n ps qs line text r request place d p q all count by is at here a met = λ h saw.
     let asks : asked store.passes line ≡ Ok request = ap (λ (i : ℕ). asked i line) (sym count) ∙ sym by ∙ is in
     let after = served ps qs place d p q a.log a.t h saw at.0 here a.turn met in

@@ -11,13 +11,13 @@ use Rattle.mst_key.specs.declared.history.Event.{Event}
 use Rattle.mst_key.specs.History.{History, events_of, Begins}
 use Rattle.mst_key.proofs.HistoryLaws.{events_of-append}
 use Rattle.mst_store.specs.Passes.{Known}
-use Rattle.mst_store.specs.Settling.{numbers, having_seen, IsOfOne, Settled}
+use Rattle.mst_store.specs.Settling.{numbers, having_seen, IsOfOne}
 use Rattle.mst_script.specs.Serving.{Gathers, AllSaw, Turn}
-use Rattle.mst_script.proofs.AllOf.{seen_numbers}
+use Rattle.mst_script.proofs.AllOf.{AllSettled, seen_numbers}
 
 -- ---- they settled
 
-pub settled_gathers : (ps qs : List Known) → (t : Settled ps qs) → Gathers t.log ps
+pub settled_gathers : (ps qs : List Known) → (t : AllSettled ps qs) → Gathers t.log ps
 settled_gathers ps qs t = record { later = t.later; own = t.own; alone = t.alone }
 
 now_seen : (log : History) (ps : List Known) → All (λ p. p.seen ≡ log) (map (having_seen log) ps)
@@ -29,7 +29,7 @@ now_own log ps own = All-map (λ (p : Known). events_of p.number log ≡ p.mine)
 now_alone : (log g : History) (ps : List Known) → All (IsOfOne ps) g → All (IsOfOne (map (having_seen log) ps)) g
 now_alone log g ps alone = λ k d l. subst (λ (ns : List ℕ). Contains ns (get_or g k d).pass) (sym (seen_numbers log ps)) (alone k d l)
 
-pub settled_saw : (ps qs : List Known) → (t : Settled ps qs) → AllSaw t.log qs
+pub settled_saw : (ps qs : List Known) → (t : AllSettled ps qs) → AllSaw t.log qs
 settled_saw ps qs t = subst (AllSaw t.log) (sym t.now) (record { seen = now_seen t.log ps; own = now_own t.log ps t.own; alone = now_alone t.log t.log ps t.alone })
 
 -- ---- one turn between
@@ -70,7 +70,7 @@ counted g t r s h n mine is own count =
     (omega (arith, a, b, c, e, o, count), omega (arith, a, b, c, e, o, count))
 
 -- One pass had its turn, and then all settled: the turn began at the history that all had seen, and now all have seen that and the events of the turn.
-pub served : (ps qs : List Known) (i : ℕ) (d p q : Known) (log t g : History) → AllSaw g ps → i < length ps → p ≡ get_or ps i d → Turn log t p q → Settled (set ps i q) qs →
+pub served : (ps qs : List Known) (i : ℕ) (d p q : Known) (log t g : History) → AllSaw g ps → i < length ps → p ≡ get_or ps i d → Turn log t p q → AllSettled (set ps i q) qs →
     (log ≡ g) × AllSaw (g ++ t) qs
 served ps qs i d p q log t g saw l is turn met =
     let rs : List Known = set ps i q in let h : History = met.log in

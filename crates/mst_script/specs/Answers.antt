@@ -2,22 +2,8 @@
 use Rattle.std.specs.Prelude.{ℕ, List, Option, Result, Ok, Err}
 use Rattle.mst_store.specs.declared.faults.WriteFault.{WriteFault}
 use Rattle.mst_store.specs.declared.faults.WriteFault.TheVariants as write
-use Rattle.mst_store.specs.declared.faults.ReadFault.{ReadFault}
-use Rattle.mst_store.specs.declared.faults.ReadFault.TheVariants as read
 use Rattle.mst_requests.specs.declared.answer.Answer.{Answer}
-use Rattle.mst_requests.specs.declared.answer.Answer.TheVariants.{Value, Pair, Root, Rows, Busy, Spent, NoRoom, Memory}
-
-abbrev pub value_answer : {A E : Type 0} → Result (Option (List ℕ)) E → Answer A
-value_answer (Ok found) = Value found
-value_answer (Err fault) = Busy
-
-abbrev pub pair_answer : {A E : Type 0} → Result (Option (List ℕ × List ℕ)) E → Answer A
-pair_answer (Ok found) = Pair found
-pair_answer (Err fault) = Busy
-
-abbrev pub root_answer : {A E : Type 0} → Result (List ℕ) E → Answer A
-root_answer (Ok digest) = Root digest
-root_answer (Err fault) = Busy
+use Rattle.mst_requests.specs.declared.answer.Answer.TheVariants.{Value, Rows, Busy, Spent, NoRoom}
 
 abbrev pub rows_answer : {A E : Type 0} → Result (Option ℕ) E → Answer A
 rows_answer (Ok found) = Rows found
@@ -28,7 +14,3 @@ write_answer (Ok old) = Value old
 write_answer (Err write.Busy) = Busy
 write_answer (Err write.VersionsSpent) = Spent
 write_answer (Err write.NoRoom) = NoRoom
-
-abbrev pub missed_answer : {A : Type 0} → ReadFault → Answer A
-missed_answer read.Busy = Busy
-missed_answer read.Memory = Memory

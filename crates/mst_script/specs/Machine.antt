@@ -1,5 +1,5 @@
 -- The script machine: what a line is answered where the events so far are this history, and the history then. Its state is the history alone.
-use Rattle.std.specs.Prelude.{◌≡◌, ℕ, ◌<◌, ◌⊎◌, List, [], ◌∷◌, ◌++◌, length, Option, Some, Result, Ok, Err, codes}
+use Rattle.std.specs.Prelude.{◌≡◌, ◌≢◌, ℕ, ◌<◌, ◌⊎◌, List, [], ◌∷◌, ◌++◌, length, Option, None, Some, Result, Ok, Err, codes}
 use Rattle.hex.specs.Hex.{encode_lower}
 use Rattle.mst_key.specs.declared.format.Format.TheVariants.{One}
 use Rattle.mst_key.specs.declared.history.Change.{Change}
@@ -10,8 +10,9 @@ use Rattle.mst_key.specs.History.{History, after, reply}
 use Rattle.mst_node.specs.Text.{root, text as text_of_node}
 use Rattle.mst_node.specs.Tree.{Tree, empty, node, tree}
 use Rattle.mst_node.specs.Trail.{proof_text}
-use Rattle.mst_store.specs.Room.{last_version, rows_of, HasRoom, LacksRoom}
-use Rattle.mst_store.specs.Passes.{StoreId}
+use Rattle.mst_arena.specs.Lives.{last_version}
+use Rattle.mst_store.specs.Writes.{rows_of}
+use Rattle.mst_store.specs.Passes.{StoreId, HasRoom, LacksRoom}
 use Rattle.mst_requests.specs.declared.request.Fault.{Fault}
 use Rattle.mst_requests.specs.declared.request.Command.{Command}
 use Rattle.mst_requests.specs.declared.request.Command.TheVariants.{Put, Remove, Get, Next, Range, Root, Node, Prove, Rows}
@@ -28,9 +29,13 @@ top_words (node format l es) = encode_lower (text_of_node (node format l es))
 
 -- ---- the freedoms: answers that change nothing
 
--- another pass has the turn: there are several passes
+-- another pass has the turn, so there are several
 abbrev pub IsBusy : StoreId → List ℕ → Type 0
 IsBusy store text = (text ≡ line_of (codes "busy")) × (1 < store.passes)
+
+-- a pass was found that pins a version, so there are several
+abbrev pub IsHeld : StoreId → List ℕ → Type 0
+IsHeld store text = (text ≡ line_of (rows_words None)) × (store.passes ≢ 1)
 
 -- the memory for what a read finds was refused
 abbrev pub LacksMemory : List ℕ → Type 0
@@ -40,9 +45,9 @@ LacksMemory text = text ≡ line_of (codes "memory")
 abbrev pub IsSpent : History → List ℕ → Type 0
 IsSpent h text = (text ≡ line_of (codes "spent")) × (length h ≡ last_version)
 
--- there is a next version, and the map that it would be has no room
+-- There is a next version, and the change finds no room. Where there is one pass, the rows that the map leaves over are too few
 abbrev pub HasNoRoom : StoreId → Change → History → List ℕ → Type 0
-HasNoRoom store change h text = (text ≡ line_of (codes "noroom")) × (length h < last_version) × LacksRoom store.rows (after h) change
+HasNoRoom store change h text = (text ≡ line_of (codes "noroom")) × (length h < last_version) × (store.passes ≡ 1 → LacksRoom store.rows (after h) change)
 
 -- ---- the steps
 
@@ -60,24 +65,28 @@ Writes store p change h text new =
     ⊎ ((IsBusy store text ⊎ IsSpent h text ⊎ HasNoRoom store change h text) × (new ≡ h))
 
 -- a read, which finds what this text says
-abbrev pub Reads : StoreId → List ℕ → History → List ℕ → History → Type 0
-Reads store found h text new = ((text ≡ found) ⊎ IsBusy store text) × (new ≡ h)
+abbrev pub Reads : List ℕ → History → List ℕ → History → Type 0
+Reads found h text new = (text ≡ found) × (new ≡ h)
 
 -- a read that takes memory for what it finds
-abbrev pub Collects : StoreId → List ℕ → History → List ℕ → History → Type 0
-Collects store found h text new = ((text ≡ found) ⊎ IsBusy store text ⊎ LacksMemory text) × (new ≡ h)
+abbrev pub Collects : List ℕ → History → List ℕ → History → Type 0
+Collects found h text new = ((text ≡ found) ⊎ LacksMemory text) × (new ≡ h)
+
+-- the count of the map's rows, for which the turn is taken
+abbrev pub Counts : StoreId → History → List ℕ → History → Type 0
+Counts store h text new = ((text ≡ line_of (rows_words (Some (rows_of (after h))))) ⊎ IsBusy store text ⊎ IsHeld store text) × (new ≡ h)
 
 -- what the pass p is asked for, and answers
 abbrev pub Step : StoreId → ℕ → Command → History → List ℕ → History → Type 0
 Step store p (Put k v) h text new = Writes store p (change.Put k v) h text new
 Step store p (Remove k) h text new = Writes store p (change.Remove k) h text new
-Step store p (Get k) h text new = Reads store (line_of (value_words (look (after h) k))) h text new
-Step store p (Next bound) h text new = Reads store (line_of (found_words (successor (after h) bound))) h text new
-Step store p (Range from to n) h text new = Collects store (line_of (count_words (span (after h) from to n)) ++ pair_lines (span (after h) from to n)) h text new
-Step store p Root h text new = Reads store (line_of (digits_of (root One (after h)))) h text new
-Step store p Node h text new = Collects store (line_of (top_words (tree One (after h)))) h text new
-Step store p (Prove k) h text new = Collects store (line_of (encode_lower (proof_text One (after h) k))) h text new
-Step store p Rows h text new = Reads store (line_of (rows_words (Some (rows_of (after h))))) h text new
+Step store p (Get k) h text new = Reads (line_of (value_words (look (after h) k))) h text new
+Step store p (Next bound) h text new = Reads (line_of (found_words (successor (after h) bound))) h text new
+Step store p (Range from to n) h text new = Collects (line_of (count_words (span (after h) from to n)) ++ pair_lines (span (after h) from to n)) h text new
+Step store p Root h text new = Reads (line_of (digits_of (root One (after h)))) h text new
+Step store p Node h text new = Collects (line_of (top_words (tree One (after h)))) h text new
+Step store p (Prove k) h text new = Collects (line_of (encode_lower (proof_text One (after h) k))) h text new
+Step store p Rows h text new = Counts store h text new
 
 -- a request that is refused is answered its fault, and changes nothing
 abbrev pub AnswersRequest : StoreId → Result Request Fault → History → List ℕ → History → Type 0

@@ -122,7 +122,7 @@ fn settle_and_drive<S: Source, W: Sink, A: Allocator + Copy, B: Allocator + Copy
     ensures err { OnErr result (StoppedScript S.gives W.takes W.failures store.now source.old sink.old passes.old source.new sink.new passes.new) }
     ensures failed { OnErr result (S.failures source.old + W.failures sink.old < S.failures source.new + W.failures sink.new) }
 {
-    settle(passes);
+    settle(passes, &mut []);
     drive(alloc, source, sink, pending, reader, store, passes)
 }
 

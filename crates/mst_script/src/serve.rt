@@ -5,45 +5,15 @@ ghost use Rattle.std.specs.Option.{option_copied};
 ghost use Rattle.mst_store.specs.Settling.{numbers};
 ghost use Rattle.mst_requests.specs.declared.request.Command.TheVariants.{Range, Node, Prove};
 ghost use Rattle.mst_requests.specs.Answers.{text_of};
-ghost use Rattle.mst_script.specs.Answers.{value_answer, pair_answer, root_answer, rows_answer, write_answer, missed_answer};
+ghost use Rattle.mst_script.specs.Answers.{rows_answer, write_answer};
 ghost use Rattle.mst_script.specs.Serving.{AreAllOf, Asked, Serves, IsPlace, Tops};
 
 use mst_key::{Key, Value};
 use mst_lines::LineBuffer;
 use mst_node::top_text;
 use mst_requests::{Answer, Command, request_in};
-use mst_store::{Busy, Pass, ReadFault, Store, WriteFault, settle};
+use mst_store::{Busy, Memory, Pass, Store, WriteFault, settle};
 use std::alloc::Allocator;
-
-// The value of a key, as an answer.
-fn value_answer_of<A: Allocator>(found: Result<Option<Value>, Busy>) -> Answer<A>
-    ensures { result ≡ value_answer found }
-{
-    match found {
-        Ok(value) => Answer::Value(value),
-        Err(Busy) => Answer::Busy,
-    }
-}
-
-// The next pair, as an answer.
-fn pair_answer_of<A: Allocator>(found: Result<Option<(Key, Value)>, Busy>) -> Answer<A>
-    ensures { result ≡ pair_answer found }
-{
-    match found {
-        Ok(pair) => Answer::Pair(pair),
-        Err(Busy) => Answer::Busy,
-    }
-}
-
-// The root digest, as an answer.
-fn root_answer_of<A: Allocator>(found: Result<[u8; 32], Busy>) -> Answer<A>
-    ensures { result ≡ root_answer found }
-{
-    match found {
-        Ok(digest) => Answer::Root(digest),
-        Err(Busy) => Answer::Busy,
-    }
-}
 
 // How many rows the map takes, as an answer.
 fn rows_answer_of<A: Allocator>(found: Result<Option<u32>, Busy>) -> Answer<A>
@@ -67,16 +37,6 @@ fn write_answer_of<A: Allocator>(written: Result<Option<Value>, WriteFault>) -> 
     }
 }
 
-// Why a read that takes memory was not answered, as an answer.
-fn missed_answer_of<A: Allocator>(fault: ReadFault) -> Answer<A>
-    ensures { result ≡ missed_answer fault }
-{
-    match fault {
-        ReadFault::Busy => Answer::Busy,
-        ReadFault::Memory => Answer::Memory,
-    }
-}
-
 // Asks a pass for the pairs between two bounds.
 fn ask_range<A: Allocator, B: Allocator + Copy>(
     alloc: A,
@@ -89,7 +49,7 @@ fn ask_range<A: Allocator, B: Allocator + Copy>(
 {
     match pass.range(alloc, from, to, limit as usize) {
         Ok(pairs) => Answer::Pairs(pairs),
-        Err(fault) => missed_answer_of(fault),
+        Err(Memory) => Answer::Memory,
     }
 }
 
@@ -103,7 +63,7 @@ fn ask_proof<A: Allocator + Copy, B: Allocator + Copy>(
 {
     match pass.prove(alloc, key) {
         Ok(proof) => Answer::Bytes(proof),
-        Err(fault) => missed_answer_of(fault),
+        Err(Memory) => Answer::Memory,
     }
 }
 
@@ -130,7 +90,7 @@ fn ask_node<A: Allocator + Copy, B: Allocator + Copy>(alloc: A, pass: &mut Pass<
     };
     match pass.prove(alloc, &least) {
         Ok(proof) => top_of(alloc, proof.as_slice()),
-        Err(fault) => missed_answer_of(fault),
+        Err(Memory) => Answer::Memory,
     }
 }
 
@@ -145,12 +105,12 @@ fn ask<A: Allocator + Copy, B: Allocator + Copy>(
     match command {
         Command::Put(key, value) => write_answer_of(pass.try_put(key, value)),
         Command::Remove(key) => write_answer_of(pass.try_remove(key)),
-        Command::Get(key) => value_answer_of(pass.get(key)),
-        Command::Next(bound) => pair_answer_of(pass.next(bound.as_ref())),
+        Command::Get(key) => Answer::Value(pass.get(key)),
+        Command::Next(bound) => Answer::Pair(pass.next(bound.as_ref())),
         Command::Range(from, to, limit) => {
             ask_range(alloc, pass, from.as_ref(), to.as_ref(), *limit)
         }
-        Command::Root => root_answer_of(pass.root()),
+        Command::Root => Answer::Root(pass.root()),
         Command::Node => ask_node(alloc, pass),
         Command::Prove(key) => ask_proof(alloc, pass, key),
         Command::Rows => rows_answer_of(pass.rows()),
@@ -187,6 +147,6 @@ pub fn serve<A: Allocator + Copy, B: Allocator + Copy>(
     };
     let place = place_of(passes, request.pass);
     let answer = ask(alloc, &mut passes[place], &request.command);
-    settle(passes);
+    settle(passes, &mut []);
     answer
 }

@@ -1,14 +1,16 @@
 -- All passes of a store: so they are when they are dealt, and so they stay.
-use Rattle.std.proofs.Common.{◌≡◌, ℕ, zero, suc, ◌<◌, ◌≤◌, ◌≢◌, List, [], ◌∷◌, ◌++◌, length, get_or, set, map, sym, refl, ap, ◌∙◌, subst, arith}
+use Rattle.std.proofs.Common.{◌≡◌, ℕ, zero, suc, append-nil, ◌+◌, ◌<◌, ◌≤◌, ◌≢◌, List, [], ◌∷◌, ◌++◌, length, length-append, get_or, set, map, sym, refl, ap, ◌∙◌, subst, arith}
 use Rattle.std.specs.List.{All, Contains, swap}
 use Rattle.std.specs.List.Sorted.{IsPermutation}
+use Rattle.std.proofs.lemmas.List.{get_or-append-add}
+use Rattle.std.proofs.Math.ListN.{get_or-append}
 use Rattle.std.proofs.lemmas.List.Elements.{All-append, All-set, Contains-append_left, Contains-append_right}
 use Rattle.std.proofs.lemmas.List.Sorted.{IsPermutation-map, IsPermutation-swap, All-permutation, Contains-permutation}
 use Rattle.std.proofs.Math.Seq.{map-set_same}
 use mathlib.Core.Logic.{dite}
 use native.Mathlib.Decide.{ℕ_discrete}
 use Rattle.mst_key.specs.History.{History}
-use Rattle.mst_store.specs.Passes.{StoreId, Known, IsSamePass, new_pass, first_passes, new_passes}
+use Rattle.mst_store.specs.Passes.{StoreId, Known, IsSamePass, having_asked, new_pass, first_passes, new_passes}
 use Rattle.mst_store.specs.Settling.{numbers, AreAllPasses, having_seen, Settled}
 
 lone : (s : StoreId) (p : Known) → p.store ≡ s → All (λ q. q.store ≡ s) (p ∷ [])
@@ -52,19 +54,37 @@ all_shuffled ps qs moved w = record {
 pub all_swapped : (ps qs : List Known) (a b : ℕ) → a < length ps → b < length ps → qs ≡ swap ps a b → AreAllPasses ps → AreAllPasses qs
 all_swapped ps qs a b l m is = all_shuffled ps qs (IsPermutation-swap ps qs a b l m is)
 
-seen_numbers : (log : History) (ps : List Known) → numbers (map (having_seen log) ps) ≡ numbers ps
-seen_numbers log [] = refl
-seen_numbers log (p ∷ ps) = ap (λ (l : List ℕ). p.number ∷ l) (seen_numbers log ps)
+-- and so they are where none of them pins a version
+pub none_held : (ps : List Known) → AreAllPasses ps → AreAllPasses (ps ++ [])
+none_held ps = subst AreAllPasses (sym (append-nil ps))
 
-seen_stores : (log : History) (s : StoreId) (ps : List Known) → All (λ p. p.store ≡ s) ps → All (λ p. p.store ≡ s) (map (having_seen log) ps)
-seen_stores log s [] a k d l = absurd (omega arith)
-seen_stores log s (p ∷ ps) a zero d l = a 0 p (omega arith)
-seen_stores log s (p ∷ ps) a (suc k) d l = seen_stores log s ps (λ j e m. a (suc j) e (omega arith)) k d (omega arith)
+-- what is done to each of them keeps its number and its store
+changed_numbers : (f : Known → Known) (ps : List Known) → ((p : Known) → (f p).number ≡ p.number) → numbers (map f ps) ≡ numbers ps
+changed_numbers f [] same = refl
+changed_numbers f (p ∷ ps) same = ap (λ (n : ℕ). n ∷ numbers (map f ps)) (same p) ∙ ap (λ (l : List ℕ). p.number ∷ l) (changed_numbers f ps same)
+
+changed_stores : (f : Known → Known) (s : StoreId) (ps : List Known) → ((p : Known) → (f p).store ≡ p.store) → All (λ p. p.store ≡ s) ps → All (λ p. p.store ≡ s) (map f ps)
+changed_stores f s [] same a k d l = absurd (omega arith)
+changed_stores f s (p ∷ ps) same a zero d l = same p ∙ a 0 p (omega arith)
+changed_stores f s (p ∷ ps) same a (suc k) d l = changed_stores f s ps same (λ j e m. a (suc j) e (omega arith)) k d (omega arith)
+
+-- what holds of all of two lines
+pub all_of_front : {X : Type 0} (P : X → Type 0) (xs ys : List X) → All P (xs ++ ys) → All P xs
+all_of_front P xs ys a = λ k d l. subst P (get_or-append xs ys d k l) (a k d (omega (arith, l, length-append xs ys)))
+
+pub all_of_back : {X : Type 0} (P : X → Type 0) (xs ys : List X) → All P (xs ++ ys) → All P ys
+all_of_back P xs ys a = λ k d l. subst P (get_or-append-add xs ys k d) (a (length xs + k) d (omega (arith, l, length-append xs ys)))
 
 -- they settled
-pub all_settled : (ps qs : List Known) → Settled ps qs → AreAllPasses ps → AreAllPasses qs
-all_settled ps qs t w = record {
+pub all_settled : (ps hs qs ks : List Known) → Settled ps hs qs ks → AreAllPasses (ps ++ hs) → AreAllPasses (qs ++ ks)
+all_settled ps hs qs ks t w = record {
   store = w.store;
-  of_one = subst (All (λ p. p.store ≡ w.store)) (sym t.now) (seen_stores t.log w.store ps w.of_one);
-  complete = λ n low high. subst (λ (l : List Known). Contains (numbers l) n) (sym t.now) (subst (λ (l : List ℕ). Contains l n) (sym (seen_numbers t.log ps)) (w.complete n low high));
+  of_one = All-append (λ (p : Known). p.store ≡ w.store) qs ks
+      (subst (All (λ p. p.store ≡ w.store)) (sym t.now) (changed_stores (having_seen t.log) w.store ps (λ p. refl) (all_of_front (λ (p : Known). p.store ≡ w.store) ps hs w.of_one)))
+      (subst (All (λ p. p.store ≡ w.store)) (sym t.still) (changed_stores (having_asked 3) w.store hs (λ p. refl) (all_of_back (λ (p : Known). p.store ≡ w.store) ps hs w.of_one)));
+  complete = λ n low high. subst (λ (l : List ℕ). Contains l n) (sym same) (w.complete n low high);
 }
+  where
+    same : numbers (qs ++ ks) ≡ numbers (ps ++ hs)
+    same = numbers-append qs ks ∙ ap (λ (l : List ℕ). l ++ numbers ks) (ap numbers t.now ∙ changed_numbers (having_seen t.log) ps (λ p. refl))
+        ∙ ap (λ (l : List ℕ). numbers ps ++ l) (ap numbers t.still ∙ changed_numbers (having_asked 3) hs (λ p. refl)) ∙ sym (numbers-append ps hs)

@@ -2,16 +2,21 @@
 use Rattle.std.proofs.Common.{◌≡◌, ℕ, zero, suc, ◌+◌, ◌<◌, ◌≤◌, ◌≢◌, List, [], ◌∷◌, ◌++◌, length, get_or, set, take, drop, map, sym, refl, ap, ◌∙◌, subst, arith, add-one}
 use Rattle.std.specs.List.{All}
 use Rattle.std.proofs.lemmas.List.{get_or_default}
-use Rattle.std.proofs.lemmas.List.Elements.{All-weaker}
+use Rattle.std.proofs.lemmas.List.Elements.{All-weaker, All-map}
+use Rattle.atomic_table.specs.Seated.{TableId}
+use Rattle.mst_words.specs.Access.{Seated}
+use Rattle.mst_words.specs.Steps.{IsPinned}
+use Rattle.mst_store.specs.declared.reading.PinnedRoot.{PinnedRoot}
+use Rattle.mst_store.specs.Pinned.{HasPinned}
 use mathlib.Core.Logic.{dite}
 use native.Mathlib.Decide.{ℕ_discrete}
 use Rattle.mst_key.specs.declared.history.Event.{Event}
 use Rattle.mst_key.specs.History.{History, events_of, Begins}
 use Rattle.mst_words.specs.declared.view.View.{View}
 use Rattle.mst_words.specs.Notes.{having_heard, IsOfPasses, SeesTold}
-use Rattle.mst_store.specs.Passes.{Known}
-use Rattle.mst_store.specs.Turns.{Seated}
-use Rattle.mst_store.specs.Settling.{AreAllPasses, IsOfOne, GoesOn}
+use Rattle.mst_store.specs.Passes.{StoreId, Known, IsPinning, having_asked}
+use Rattle.mst_store.specs.Turns.{Seat}
+use Rattle.mst_store.specs.Settling.{AreAllPasses, IsOfOne, IsBeside, GoesOn}
 use Rattle.mst_key.proofs.HistoryLaws.{Begins-chain, events_of-between}
 
 -- what holds below a place and at it holds below the next
@@ -22,17 +27,62 @@ one_more P xs i x l below here k d m = dite (ℕ_discrete k i)
 
 -- ---- the way there
 
-pub goes_on : {A : Type 0} (m n o : Seated A) → GoesOn m n → GoesOn n o → GoesOn m o
+pub goes_on : (m n o : Seat) → GoesOn m n → GoesOn n o → GoesOn m o
 goes_on m n o g h = record { courier = h.courier; passes_is = h.passes_is ∙ g.passes_is; later = Begins-chain m.0.seen n.0.seen o.0.seen g.later h.later }
+
+-- what stands beside a courier stands beside it when it has gone on
+pub beside_on : (t u : TableId) (m n : Seat) (ps : List Known) → u ≡ t → n.0.passes ≡ m.0.passes → All (IsBeside t m.0.passes) ps → All (IsBeside u n.0.passes) ps
+beside_on t u m n ps table passes = All-weaker (IsBeside t m.0.passes) (IsBeside u n.0.passes) (λ p b. record { table_is = b.table_is ∙ sym table; passes_is = b.passes_is ∙ sym passes }) ps
+
+-- what it had heard it has heard when it has gone on
+pub later_on : (m n : Seat) (ps : List Known) → GoesOn m n → All (λ p. Begins p.seen m.0.seen) ps → All (λ p. Begins p.seen n.0.seen) ps
+later_on m n ps on = All-weaker (λ (p : Known). Begins p.seen m.0.seen) (λ (p : Known). Begins p.seen n.0.seen) (λ p b. Begins-chain p.seen m.0.seen n.0.seen b on.later) ps
+
+-- what was done to each leaves what its number, its store and its history say
+pub asked_beside : (t : TableId) (n k : ℕ) (ps : List Known) → All (IsBeside t n) ps → All (IsBeside t n) (map (having_asked k) ps)
+asked_beside t n k ps a = All-map (IsBeside t n) (having_asked k) ps
+    (All-weaker (IsBeside t n) (λ (p : Known). IsBeside t n (having_asked k p)) (λ p b. record { table_is = b.table_is; passes_is = b.passes_is }) ps a)
+
+-- what holds of each when it was done to each holds of each before, where that is the same
+pub all_before : {X Y : Type 0} (P : Y → Type 0) (f : X → Y) (xs : List X) → All P (map f xs) → All (λ x. P (f x)) xs
+all_before P f [] a k d l = absurd (omega arith)
+all_before P f (x ∷ xs) a zero d l = a 0 (f x) (omega arith)
+all_before P f (x ∷ xs) a (suc k) d l = all_before P f xs (λ j e m. a (suc j) e (omega arith)) k d (omega arith)
+
+-- to ask once and then twice is to ask three times
+pub asked_thrice : (ps : List Known) → map (having_asked 2) (map (having_asked 1) ps) ≡ map (having_asked 3) ps
+asked_thrice [] = refl
+asked_thrice (p ∷ ps) = let n : (p.asked + 1) + 2 ≡ p.asked + 3 = omega arith in
+    ap (λ (k : ℕ). record p { asked = k } ∷ map (having_asked 2) (map (having_asked 1) ps)) n ∙ ap (λ (l : List Known). having_asked 3 p ∷ l) (asked_thrice ps)
+
+-- ---- pinned passes
+
+still : (at : PinnedRoot) (v : View) (h told : History) (n : ℕ) → HasPinned at v → HasPinned at (record v { seen = h; told = told; asked = n })
+still at v h told n p = record { pin = p.pin; there = p.there; version = p.version; stands = p.stands }
+
+-- a pinned pass that looks and hears pins what it pinned
+pub pinned_still : (number passes rows : ℕ) (at : PinnedRoot) (s t : Seated) (h told : History) (n : ℕ) → t.me ≡ (record s.me.0 { seen = h; told = told; asked = n }, s.me.1) → IsPinning number passes rows at s → IsPinning number passes rows at t
+pinned_still number passes rows at s t h told n is p = record {
+  pinned = subst (λ (m : Seat). HasPinned at m.0) (sym is) (still at s.me.0 h told n p.pinned);
+  pin = subst (λ (m : Seat). IsPinned number at.pinned m) (sym is) p.pin;
+  empty = ap (λ (m : Seat). m.1) is ∙ p.empty;
+  some = p.some;
+  low = p.low;
+  passes_is = ap (λ (m : Seat). m.0.passes) is ∙ p.passes_is;
+  few = p.few;
+  rows_is = ap (λ (m : Seat). m.0.rows) is ∙ p.rows_is;
+  few_rows = p.few_rows;
+  own = subst (λ (m : Seat). events_of number m.0.place ≡ m.0.mine) (sym is) p.own;
+}
 
 -- ---- the way back
 
 -- A pass was told of a history that begins with what it had seen, and sees it now. The whole history, which was found then, has no event of the pass that was not there before; so the one between has none either
-pub told_own : {A : Type 0} (m n o : Seated A) (note : View) → n ≡ (having_heard m.0 note, m.1) → SeesTold n o → Begins m.0.seen note.seen → events_of m.0.number m.0.seen ≡ m.0.mine
+pub told_own : (m : Seat) {n o : Seat} (note : View) → n ≡ (having_heard m.0 note, m.1) → SeesTold n o → Begins m.0.seen note.seen → events_of m.0.number m.0.seen ≡ m.0.mine
     → events_of m.0.number note.seen ≡ m.0.mine
-told_own {A = A} m n o note heard sees later own =
-    let whole : Begins note.seen sees.log = subst (λ (z : Seated A). Begins z.0.told sees.log) heard sees.finds.told in
-    let high : events_of m.0.number sees.log ≡ m.0.mine = subst (λ (z : Seated A). events_of z.0.number sees.log ≡ z.0.mine) heard sees.finds.own in
+told_own m {n} {o} note heard sees later own =
+    let whole : Begins note.seen sees.log = subst (λ (z : Seat). Begins z.0.told sees.log) heard sees.finds.told in
+    let high : events_of m.0.number sees.log ≡ m.0.mine = subst (λ (z : Seat). events_of z.0.number sees.log ≡ z.0.mine) heard sees.finds.own in
     events_of-between m.0.number m.0.mine m.0.seen note.seen sees.log later whole own high
 
 -- the first elements are changed, and the rest is as it was

@@ -1,5 +1,11 @@
-pub mod Sweeping
-pub mod Writes
-pub mod Taking
+pub mod Asked
+pub mod Beginning
+pub mod Members
+pub mod Pinning
+pub mod Filing
+pub mod Ready
+mod Made
+mod Written
+mod Counted
 pub mod Courier
 pub mod AllPasses

@@ -1,5 +1,8 @@
-pub mod Room
-pub mod Slot
-pub mod Passes
+pub mod Asking
+pub mod Pinned
+pub mod Filing
 pub mod Turns
+pub mod Writes
+pub mod Counting
+pub mod Passes
 pub mod Settling

@@ -1,16 +1,19 @@
 -- What a pass is to its callers, and what its calls say.
-use Rattle.std.specs.Prelude.{◌≡◌, ℕ, zero, suc, ◌<◌, ◌≤◌, List, [], ◌∷◌, ◌++◌, length, Option}
+use Rattle.std.specs.Prelude.{◌≡◌, ℕ, zero, suc, ◌+◌, ◌<◌, ◌≤◌, List, [], ◌∷◌, ◌++◌, length, Option}
 use Rattle.atomic_table.specs.Seated.{TableId}
 use Rattle.mst_key.specs.declared.history.Change.{Change}
 use Rattle.mst_key.specs.declared.history.Event.{Event}
 use Rattle.mst_key.specs.History.{History, after, reply, events_of, Begins}
 use Rattle.mst_key.specs.Map.{Pair}
+use Rattle.mst_arena.specs.Lives.{last_version}
+use Rattle.mst_words.specs.Access as access
+use Rattle.mst_words.specs.Steps.{IsFree, IsPinned}
 use Rattle.mst_words.specs.declared.view.Shape.{Shape}
+use Rattle.mst_store.specs.declared.reading.PinnedRoot.{PinnedRoot}
+use Rattle.mst_store.specs.Pinned.{HasPinned}
 use Rattle.mst_store.specs.declared.faults.WriteFault.{WriteFault}
-use Rattle.mst_store.specs.declared.faults.WriteFault.TheVariants.{NoRoom, Busy, VersionsSpent}
-use Rattle.mst_store.specs.declared.faults.ReadFault.{ReadFault}
-use Rattle.mst_store.specs.declared.faults.ReadFault.TheVariants as read
-use Rattle.mst_store.specs.Room.{last_version, HasRoom, LacksRoom}
+use Rattle.mst_store.specs.declared.faults.WriteFault.TheVariants.{Busy, VersionsSpent, NoRoom}
+use Rattle.mst_store.specs.Writes.{rows_of, rows_taken}
 
 -- which store it is, and its size
 pub record StoreId : Type 0 where
@@ -18,12 +21,44 @@ pub record StoreId : Type 0 where
   pub rows : ℕ
   pub passes : ℕ
 
--- which store a pass is of, its number, the history that it has seen, and its own events
+-- Which store a pass is of, its number, the history that it has seen, and its own events. And how many of its steps so far had an answer that depends on what other passes do: a loop that waits for another pass makes such a step in each turn
 pub record Known : Type 0 where
   pub store : StoreId
   pub number : ℕ
   pub seen : History
   pub mine : History
+  pub asked : ℕ
+
+-- what the seat of a pass shows to callers
+abbrev pub known : ℕ → access.Seated → Known
+known number s = record { store = record { table = s.table; rows = s.me.0.rows; passes = s.me.0.passes }; number = number; seen = s.me.0.seen; mine = s.me.0.mine; asked = s.me.0.asked }
+
+-- What a pinned pass shows to callers: of what it has seen the history at its pin, which lasts until the pin ends
+abbrev pub known_at_pin : ℕ → access.Seated → Known
+known_at_pin number s = record { store = record { table = s.table; rows = s.me.0.rows; passes = s.me.0.passes }; number = number; seen = s.me.0.place; mine = s.me.0.mine; asked = s.me.0.asked }
+
+-- The pass has no pin and not the turn, and its events in what it has seen are its own
+pub record IsAtRest (number passes rows : ℕ) (s : access.Seated) : Type 0 where
+  pub free : IsFree number s.me
+  pub low : number ≤ passes
+  pub passes_is : s.me.0.passes ≡ passes
+  pub few : passes ≤ 32
+  pub rows_is : s.me.0.rows ≡ rows
+  pub few_rows : rows ≤ 65535
+  pub own : events_of number s.me.0.seen ≡ s.me.0.mine
+
+-- The pass pins the version at this root, and its events in the history at the pin are its own
+pub record IsPinning (number passes rows : ℕ) (at : PinnedRoot) (s : access.Seated) : Type 0 where
+  pub pinned : HasPinned at s.me.0
+  pub pin : IsPinned number at.pinned s.me
+  pub empty : s.me.1 ≡ []
+  pub some : 0 < number
+  pub low : number ≤ passes
+  pub passes_is : s.me.0.passes ≡ passes
+  pub few : passes ≤ 32
+  pub rows_is : s.me.0.rows ≡ rows
+  pub few_rows : rows ≤ 65535
+  pub own : events_of number s.me.0.place ≡ s.me.0.mine
 
 -- the sizes that a store may have
 abbrev pub IsShape : Shape → Type 0
@@ -35,7 +70,7 @@ HasShape shape store = (store.rows ≡ shape.rows) × (store.passes ≡ shape.pa
 
 -- a pass that has seen and done nothing
 abbrev pub new_pass : StoreId → ℕ → Known
-new_pass store number = record { store = store; number = number; seen = []; mine = [] }
+new_pass store number = record { store = store; number = number; seen = []; mine = []; asked = 0 }
 
 -- the first passes of a store, in the order of their numbers from 1
 abbrev pub first_passes : StoreId → ℕ → List Known
@@ -46,9 +81,9 @@ first_passes store (suc n) = first_passes store n ++ new_pass store (suc n) ∷ 
 abbrev pub new_passes : StoreId → List Known
 new_passes store = first_passes store store.passes
 
--- a change, made by this pass
-abbrev pub made_by : Known → Change → Event
-made_by p change = record { pass = p.number; change = change }
+-- the pass, after n more steps whose answer depends on others
+abbrev pub having_asked : ℕ → Known → Known
+having_asked n p = record p { asked = p.asked + n }
 
 -- it is the same pass of the same store
 abbrev pub IsSamePass : Known → Known → Type 0
@@ -66,7 +101,18 @@ pub record Answers {R : Type 0} (question : List Pair → R) (p : Known) (answer
   pub looks : Looks p q
   pub answer_is : answer ≡ question (after q.seen)
 
--- A write added its event right behind a history that begins with all that the pass had seen, and answered what that history replies. The pass has now seen both, and its events there are its own
+-- a change, made by this pass
+abbrev pub made_by : Known → Change → Event
+made_by p change = record { pass = p.number; change = change }
+
+-- Whether a change finds room among so many rows: the rows that the map leaves over are enough for the nodes that the change makes new
+abbrev pub HasRoom : ℕ → List Pair → Change → Type 0
+HasRoom rows m change = rows_of m + rows_taken m change ≤ rows
+
+abbrev pub LacksRoom : ℕ → List Pair → Change → Type 0
+LacksRoom rows m change = rows < rows_of m + rows_taken m change
+
+-- A write added its event right behind a history that begins with all that the pass had seen, and answered what that history replies. The pass has now seen both, and its events there are its own. It tried the turn once, asked each record but the current one once, and published once
 pub record Wrote (e : Event) (p : Known) (old : Option (List ℕ)) (q : Known) : Type 0 where
   pub log : History
   pub same : IsSamePass p q
@@ -77,18 +123,14 @@ pub record Wrote (e : Event) (p : Known) (old : Option (List ℕ)) (q : Known) :
   pub own : events_of q.number q.seen ≡ q.mine
   pub numbered : length log < last_version
   pub room : HasRoom p.store.rows (after log) e.change
+  pub asked : q.asked ≡ p.asked + p.store.passes + 3
 
--- another pass has the turn, so there is one; nothing changed
+-- the turn was tried once, and another pass had it, so there is one; nothing else changed
 abbrev pub FindsBusy : Known → Known → Type 0
-FindsBusy p q = (q ≡ p) × (1 < p.store.passes)
+FindsBusy p q = (q ≡ having_asked 1 p) × (1 < p.store.passes)
 
--- Why a change was refused. Nothing was added to the history
+-- Why a change was refused. Nothing was added to the history. In a store of one pass there is no room exactly where the rows that the map leaves over are too few
 abbrev pub Refuses : WriteFault → Change → Known → Known → Type 0
 Refuses Busy change p q = FindsBusy p q
-Refuses VersionsSpent change p q = Looks p q × (length q.seen ≡ last_version)
-Refuses NoRoom change p q = Looks p q × (length q.seen < last_version) × LacksRoom q.store.rows (after q.seen) change
-
--- Why a range or a proof was not answered. Nothing was added to the history
-abbrev pub Misses : ReadFault → Known → Known → Type 0
-Misses read.Busy p q = FindsBusy p q
-Misses read.Memory p q = Looks p q
+Refuses VersionsSpent change p q = Looks p q × (length q.seen ≡ last_version) × (q.asked ≡ p.asked + 1)
+Refuses NoRoom change p q = Looks p q × (length q.seen < last_version) × (p.store.passes ≡ 1 → LacksRoom q.store.rows (after q.seen) change) × (q.asked ≡ p.asked + p.store.passes + 2)

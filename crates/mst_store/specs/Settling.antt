@@ -1,17 +1,17 @@
 -- Two passes of a store, or all of them, come to have seen one history.
-use Rattle.std.specs.Prelude.{◌≡◌, ℕ, ◌<◌, ◌≤◌, false, List, map, All, Contains}
+use Rattle.std.specs.Prelude.{◌≡◌, ℕ, ◌+◌, ◌<◌, ◌≤◌, ◌++◌, false, List, map, All, Contains}
 use Rattle.atomic_table.specs.Seated.{TableId}
 use Rattle.mst_key.specs.declared.history.Event.{Event}
 use Rattle.mst_key.specs.History.{History, events_of, Begins}
 use Rattle.mst_words.specs.Notes.{IsOfPasses}
-use Rattle.mst_store.specs.Passes.{StoreId, Known}
-use Rattle.mst_store.specs.Turns.{Seated}
+use Rattle.mst_store.specs.Passes.{StoreId, Known, having_asked}
+use Rattle.mst_store.specs.Turns.{Seat}
 
--- the pass, when it has seen this history
+-- the pass, when it has heard of this history and seen it: two steps whose answer depends on others
 abbrev pub having_seen : History → Known → Known
-having_seen log p = record p { seen = log }
+having_seen log p = record p { seen = log; asked = p.asked + 1 + 1 }
 
--- Two passes have now seen one history, and nothing else about them changed. It begins with all that either had seen, and the events of each in it are its own
+-- Two passes have now heard of one history and seen it, and nothing else about them changed. It begins with all that either had seen, and the events of each in it are its own
 pub record Met (p q p' q' : Known) : Type 0 where
   pub log : History
   pub now : (p' ≡ having_seen log p) × (q' ≡ having_seen log q)
@@ -32,16 +32,17 @@ pub record AreAllPasses (ps : List Known) : Type 0 where
 abbrev pub IsOfOne : List Known → Event → Type 0
 IsOfOne ps e = Contains (numbers ps) e.pass
 
--- All passes have now seen one history, and nothing else about them changed. It begins with all that each of them had seen, each pass's events in it are its own, and it has no events but theirs
-pub record Settled (ps qs : List Known) : Type 0 where
+-- All passes have now heard of one history and seen it; those that pin a version have asked three times, and keep what they pin. Nothing else about them changed. It begins with all that each of them had seen and with the history at each pin, each pass's events in it are its own, and it has no events but theirs
+pub record Settled (free held free' held' : List Known) : Type 0 where
   pub log : History
-  pub now : qs ≡ map (having_seen log) ps
-  pub later : All (λ p. Begins p.seen log) ps
-  pub own : All (λ p. events_of p.number log ≡ p.mine) ps
-  pub alone : All (IsOfOne ps) log
+  pub now : free' ≡ map (having_seen log) free
+  pub still : held' ≡ map (having_asked 3) held
+  pub later : All (λ p. Begins p.seen log) (free ++ held)
+  pub own : All (λ p. events_of p.number log ≡ p.mine) (free ++ held)
+  pub alone : All (IsOfOne (free ++ held)) log
 
 -- a seat that goes from pass to pass: the history that it has seen is of passes of the store
-pub record IsCourier {A : Type 0} (m : Seated A) : Type 0 where
+pub record IsCourier (m : Seat) : Type 0 where
   pub off : m.0.turn ≡ false
   pub alone : IsOfPasses m.0.passes m.0.seen
 
@@ -51,7 +52,7 @@ pub record IsBeside (table : TableId) (passes : ℕ) (p : Known) : Type 0 where
   pub passes_is : p.store.passes ≡ passes
 
 -- the courier has now seen a history that begins with what it had seen
-pub record GoesOn {A : Type 0} (m m' : Seated A) : Type 0 where
+pub record GoesOn (m m' : Seat) : Type 0 where
   pub courier : IsCourier m'
   pub passes_is : m'.0.passes ≡ m.0.passes
   pub later : Begins m.0.seen m'.0.seen

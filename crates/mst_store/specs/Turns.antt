@@ -1,25 +1,112 @@
--- A pass that has the turn and the map in hand.
-use Rattle.std.specs.Prelude.{◌≡◌, true, [], ◌∷◌, Option, None}
+-- What the holder of the turn has at hand, from the turn's taking to the publication of the next version.
+use Rattle.std.specs.Prelude.{◌≡◌, ◌≢◌, ◌↔◌, ℕ, ◌+◌, ◌<◌, ◌≤◌, IsTrue, true, false, List, [], ◌∷◌, ◌++◌, length, slice_get, slice_index, Option, Some, None}
 use Rattle.atomic_table.specs.Table.{Me}
-use Rattle.mst_key.specs.History.{History, events_of, Begins}
+use Rattle.mst_key.specs.declared.format.Format.TheVariants.{One}
+use Rattle.mst_key.specs.declared.history.Event.{Event}
+use Rattle.mst_key.specs.History.{History, after, events_of, Begins}
+use Rattle.mst_arena.specs.Lives.{State, version, next, last_version, free_count, IsSettled}
+use Rattle.mst_arena.specs.Standing.{IsDistinct, Stands, numbers}
+use Rattle.mst_arena.specs.declared.life.Life.TheVariants.{Free}
+use Rattle.mst_arena.specs.declared.row.Root.{Root}
+use Rattle.mst_path.specs.Moves as moves
+use Rattle.mst_path.specs.Takes.{FreeIsBlank}
+use Rattle.mst_path.specs.Reached.{ReachesExactly, TogetherReach, advanced}
 use Rattle.mst_words.specs.declared.view.View.{View}
-use Rattle.mst_store.specs.declared.map_rows.MapRows.{MapRows}
-use Rattle.mst_store.specs.Slot.{Stands}
+use Rattle.mst_words.specs.Access.{content_of, is_blank}
+use Rattle.mst_words.specs.Layout.{table_words}
+use Rattle.mst_words.specs.Pins.{In}
+use Rattle.mst_words.specs.Records.{Standing, Agrees}
+use Rattle.mst_words.specs.Steps.{IsHolder, Misses, Takes}
+use Rattle.mst_words.specs.Stored.{stored, desk_state}
+use Rattle.mst_store.specs.declared.turn.Turn.{Turn}
+use Rattle.mst_store.specs.declared.turn.NotBegun.{NotBegun}
+use Rattle.mst_store.specs.declared.turn.NotBegun.TheVariants.{Busy, VersionsSpent}
 
--- what a pass has at its seat: its view, and the slot if it holds it
-abbrev pub Seated : Type 0 → Type 0
-Seated A = Me (Option (MapRows A)) View
+-- what a seat knows, and what it has of the slot
+abbrev pub Seat : Type 0
+Seat = Me (Option State) View
 
--- The pass took the turn and the map in its rows, which stand for the whole history. The history begins with what the pass had seen, and the pass's events in it are its own
-pub record HoldsMap {A : Type 0} (m : Seated A) (kept : MapRows A) (m' : Seated A) : Type 0 where
-  pub log : History
-  pub stood : Stands kept m.0.rows log
-  pub later : Begins m.0.seen log
-  pub own : events_of m.0.number log ≡ m.0.mine
-  pub is : m' ≡ (record m.0 { seen = log; turn = true }, (0, None) ∷ [])
+-- The desk is out of the slot. It says of each record that was not found drained, that its version reaches the same rows as when the turn was taken. No record has a later version than the current one. The record to come is one that was found drained
+pub record HoldsDesk {A : Type 0} (t : Turn A) (m : Seat) : Type 0 where
+  pub holder : IsHolder m
+  pub slot : m.1 ≡ (0, None) ∷ []
+  pub known : length m.0.held ≡ table_words m.0.rows
+  pub few : m.0.passes ≤ 32
+  pub short : length m.0.seen ≤ last_version
+  pub current : t.desk.current ≡ m.0.desk.current
+  pub rows_is : length t.desk.lives ≡ m.0.rows
+  pub records : length t.desk.versions ≡ m.0.passes + 2
+  pub version_is : version t.desk ≡ length m.0.seen
+  pub earlier : (r : ℕ) → r < m.0.passes + 2 → slice_index t.desk.versions r ≤ version t.desk
+  pub agrees : (r : ℕ) → r < m.0.passes + 2 → (In r m.0.drained → ⊥) → Agrees stored m.0.desk (desk_state t.desk) r
+  pub into_drained : In t.into m.0.drained
+  pub into_in : t.into < m.0.passes + 2
+  pub into_other : t.into ≢ t.desk.current
 
--- the pass has the turn and the empty slot, and the rows stand for this history
-pub record IsReturnable {A : Type 0} (kept : MapRows A) (log : History) (m : Seated A) : Type 0 where
-  pub on : m.0.turn ≡ true
-  pub empty : m.1 ≡ (0, None) ∷ []
-  pub stood : Stands kept m.0.rows log
+-- the record stood for the map at a place of the history that the holder of the turn knows
+abbrev pub StoodAtAsk : ℕ → View → Type 0
+StoodAtAsk r v = (place : History) × (used : List ℕ) × Standing stored v.rows v.passes v.held v.seen v.desk r place used
+
+-- the version is that of a record that was not found drained
+abbrev pub IsKept : State → View → ℕ → Type 0
+IsKept desk v n = (r : ℕ) × (r < v.passes + 2) × (In r v.drained → ⊥) × (n ≡ slice_index desk.versions r)
+
+-- these are all versions that are kept, in any order
+abbrev pub AreKept : State → View → List ℕ → Type 0
+AreKept desk v live = (n : ℕ) → moves.In n live ↔ IsKept desk v n
+
+-- The map of the whole history stands at the root, on exactly the rows that the current version reaches, and no write is under way. The rows that may be written are free, and no others: all rows but those that the versions together reach that are kept: the current one and those of the records that were found pinned, each of which stood for a map. These are fewer than the passes, and their number is known
+pub record HasTurn {A : Type 0} (t : Turn A) (m : Seat) : Type 0 where
+  pub holds : HoldsDesk t m
+  pub settled : IsSettled t.desk
+  pub stands : Stands One (content_of m.0) t.root (after m.0.seen)
+  pub reached : ReachesExactly t.desk.lives (version t.desk) (numbers stands)
+  pub blank : FreeIsBlank t.desk.lives (is_blank m.0)
+  pub free : (x : ℕ) → IsTrue (is_blank m.0 x) → slice_get t.desk.lives x ≡ Some Free
+  pub kept : (r : ℕ) → r < m.0.passes + 2 → (In r m.0.drained → ⊥) → r ≢ t.desk.current → In r m.0.blocked
+  pub stood : (r : ℕ) → In r m.0.blocked → StoodAtAsk r m.0
+  pub now : IsKept t.desk m.0 (version t.desk)
+  pub fewer : length m.0.blocked < m.0.passes
+  pub number : t.kept ≡ length m.0.blocked + 1
+  pub there : t.desk.current < m.0.passes + 2
+  pub count : (live rows : List ℕ) → AreKept t.desk m.0 live → IsDistinct rows → TogetherReach t.desk.lives live rows → free_count t.desk.lives + length rows ≡ m.0.rows
+
+-- the turn was taken, and the desk out of the slot
+abbrev pub TakesDesk : Seat → State → Seat → Type 0
+TakesDesk before desk m = (taken : Seat) × Takes stored before taken × (taken.1 ≡ (0, Some desk) ∷ []) × (m ≡ (taken.0, (0, None) ∷ []))
+
+-- The turn was taken, by one try, and each record but the current one was asked once. The whole history begins with all that the pass had seen, and its events there are its own. Nothing else changed
+pub record Begun {A : Type 0} (m : Seat) (t : Turn A) (m' : Seat) : Type 0 where
+  pub later : Begins m.0.seen m'.0.seen
+  pub own : events_of m.0.number m'.0.seen ≡ m.0.mine
+  pub has : HasTurn t m'
+  pub rest : m'.0 ≡ record m.0 { seen = m'.0.seen; held = m'.0.held; turn = true; desk = m'.0.desk; due = None; mask = 0; drained = m'.0.drained; blocked = m'.0.blocked; noted = None; asked = m'.0.asked }
+  pub asked : m'.0.asked ≡ m.0.asked + m.0.passes + 2
+
+-- The turn was taken, by one try, and given back, since the last version number is spent; no record was asked. The pass has seen the whole history
+pub record Spent (m m' : Seat) : Type 0 where
+  pub later : Begins m.0.seen m'.0.seen
+  pub own : events_of m.0.number m'.0.seen ≡ m.0.mine
+  pub spent : length m'.0.seen ≡ last_version
+  pub rest : m' ≡ (record m.0 { seen = m'.0.seen; held = m'.0.held; turn = false; desk = m'.0.desk; due = None; mask = 0; drained = []; blocked = []; noted = None; asked = m.0.asked + 1 }, [])
+
+-- what is so where no write is begun
+abbrev pub IsNotBegun : NotBegun → Seat → Seat → Type 0
+IsNotBegun Busy m m' = Misses m m'
+IsNotBegun VersionsSpent m m' = Spent m m'
+
+-- A change is made, and not yet published: the map of the history with the event stands at a root, on exactly the rows that the version to come reaches
+pub record HasMade {A : Type 0} (t : Turn A) (root : Root) (e : Event) (m : Seat) : Type 0 where
+  pub holds : HoldsDesk t m
+  pub mine : e.pass ≡ m.0.number
+  pub room : length m.0.seen < last_version
+  pub stands : Stands One (content_of m.0) root (after (m.0.seen ++ e ∷ []))
+  pub reached : ReachesExactly t.desk.lives (next t.desk) (numbers stands)
+  pub settled : IsSettled (advanced t.into t.desk)
+
+-- The turn was given back, and the history has the event behind what the pass had seen. One step was counted, the publication
+pub record Added (e : Event) (m m' : Seat) : Type 0 where
+  pub seen : m'.0.seen ≡ m.0.seen ++ e ∷ []
+  pub mine : m'.0.mine ≡ m.0.mine ++ e ∷ []
+  pub asked : m'.0.asked ≡ m.0.asked + 1
+  pub free : (m'.1 ≡ []) × (m'.0.turn ≡ false) × (m'.0.pin ≡ None) × (m'.0.number ≡ m.0.number) × (m'.0.rows ≡ m.0.rows) × (m'.0.passes ≡ m.0.passes) × (m'.0.told ≡ m.0.told)

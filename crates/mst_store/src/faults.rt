@@ -15,29 +15,18 @@ pub enum OpenFault {
 /// Why a write was refused. It changed nothing.
 #[derive(Clone, Copy, Debug, PartialEq, Eq, Error)]
 pub enum WriteFault {
-    /// The rows that the current map leaves over are too few for the nodes that the write makes new.
-    #[error("no room")]
-    NoRoom,
     /// Another pass had the turn.
     #[error("another pass has the turn")]
     Busy,
     /// The current version has the last number, 2^63 - 1.
     #[error("version numbers are spent")]
     VersionsSpent,
+    /// The rows that are free are too few for the nodes that the write makes new.
+    #[error("no room")]
+    NoRoom,
 }
 
-/// Another pass had the turn, so nothing was read.
+/// Another pass had the turn, so nothing was counted.
 #[derive(Clone, Copy, Debug, PartialEq, Eq, Error)]
 #[error("another pass has the turn")]
 pub struct Busy;
-
-/// Why a range or a proof was not read.
-#[derive(Clone, Copy, Debug, PartialEq, Eq, Error)]
-pub enum ReadFault {
-    /// A growth was refused.
-    #[error("no memory")]
-    Memory,
-    /// Another pass had the turn.
-    #[error("another pass has the turn")]
-    Busy,
-}

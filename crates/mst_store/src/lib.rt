@@ -1,24 +1,24 @@
-//! A store: one ordered map that several passes, each in a thread of its own, read and write.
+//! A store: one ordered map that several passes, each in a thread of its own, read and write. Each read pins the current version by one step, and waits for nobody.
 #![tactic(auto)]
 
+mod counting;
 mod faults;
-mod map_rows;
 mod pass;
-#[cfg(test)]
-mod plain_list;
-#[cfg(test)]
-mod room_tests;
+mod pinned;
+mod publishing;
+mod reading;
+mod roots;
 mod settling;
-#[cfg(test)]
-mod settling_tests;
 mod store;
 #[cfg(test)]
 mod tests;
 mod turn;
+mod writing;
 
-pub use faults::{Busy, OpenFault, ReadFault, WriteFault};
+pub use faults::{Busy, OpenFault, WriteFault};
 pub use mst_key::Memory;
 pub use mst_words::Shape;
 pub use pass::Pass;
+pub use pinned::Pinned;
 pub use settling::{meet, settle};
 pub use store::{Seats, Store};

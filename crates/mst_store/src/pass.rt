@@ -1,42 +1,42 @@
 //! A pass: the calls that one thread makes.
-ghost use Rattle.std.specs.Prelude.{◌≡◌, ◌<◌, ◌^◌, Some, IfOk, IfErr, OnOk, OnErr, length};
+ghost use Rattle.std.specs.Prelude.{◌≡◌, ◌+◌, ◌<◌, ◌^◌, length, IfOk, IfErr, IfSome, IsSome, OnOk, OnErr};
 ghost use Rattle.mst_key.specs.declared.history.Change.TheVariants.{Put, Remove};
 ghost use Rattle.mst_key.specs.Map.{look, successor, span};
 ghost use Rattle.mst_key.specs.declared.format.Format.TheVariants.{One};
 ghost use Rattle.mst_node.specs.Text.{root};
 ghost use Rattle.mst_node.specs.Trail.{proof_text};
 ghost use Rattle.std.specs.Option.{option_copied};
-ghost use Rattle.mst_store.specs.Room.{rows_of};
-ghost use Rattle.mst_store.specs.Passes.{made_by, Looks, Answers, Wrote, Refuses, Misses, FindsBusy};
+ghost use Rattle.mst_store.specs.Passes.{Looks, Answers, having_asked, made_by, Wrote, FindsBusy, Refuses};
+ghost use Rattle.mst_key.specs.History.{after};
+ghost use Rattle.mst_store.specs.Writes.{rows_of};
 
-use crate::faults::{Busy, ReadFault, WriteFault};
-use crate::map_rows::MapRows;
-use crate::turn::{give_back, give_back_with, take_map};
+use crate::faults::{Busy, WriteFault};
+use crate::{counting, reading, writing};
 use mst_key::{Change, Event, Key, Memory, Value};
-use mst_words::{Board, PassSeat};
+use mst_words::PassSeat;
 use std::alloc::Allocator;
 use std::marker::Model;
 
 /// A pass of a store. It may go to another thread, and each of its calls is one thread's.
+///
+/// A read pins the current version by one step, reads it, and ends the pin. Its place in the history is the pin. No other pass can make it wait: of its steps the pin alone has an answer that depends on others (`once`).
 #[derive(Drop)]
 pub struct Pass<'a, A: Allocator + Copy> {
-    pub(crate) board: &'a Board<MapRows<A>, A>,
-    pub(crate) seat: PassSeat<MapRows<A>>,
+    pub(crate) seat: PassSeat<'a, A>,
     pub(crate) number: u32,
+    pub(crate) passes: u32,
+    pub(crate) rows: u32,
 }
 
 /// Contracts see which store it is of, its number, what it has seen, and its own events.
 impl<'a, A: Allocator + Copy> Model for Pass<'a, A> {
-    ghost use Rattle.std.specs.Prelude.{◌≡◌};
-    ghost use Rattle.mst_words.specs.Steps.{IsFree};
-    ghost use Rattle.mst_key.specs.History.{events_of};
-    ghost use Rattle.mst_store.specs.Passes.{Known};
+    ghost use Rattle.mst_store.specs.Passes.{Known, known, IsAtRest};
 
     ghost Value = { Known };
 
-    ghost view = { λ p. record { store = record { table = p.seat.table_id; rows = p.seat.me.0.rows; passes = p.seat.me.0.passes }; number = p.number; seen = p.seat.me.0.seen; mine = p.seat.me.0.mine } };
+    ghost view = { λ p. known p.number p.seat };
 
-    ghost invariant = { λ p. (p.seat.table_id ≡ p.board.now) × IsFree p.number p.seat.me × (events_of p.number p.seat.me.0.seen ≡ p.seat.me.0.mine) };
+    ghost invariant = { λ p. IsAtRest p.number p.passes p.rows p.seat };
 }
 
 impl<'a, A: Allocator + Copy> Pass<'a, A> {
@@ -47,127 +47,112 @@ impl<'a, A: Allocator + Copy> Pass<'a, A> {
         self.number
     }
 
-    /// The value of the key. `Busy` comes only where another pass has the turn. It takes no memory.
-    pub fn get(&mut self, key: &Key) -> Result<Option<Value>, Busy>
-        ensures ok { IfOk result (λ found. Answers (λ m. look m key.now) self.old found self.new) }
-        ensures busy { OnErr result (FindsBusy self.old self.new) }
+    /// The value of the key. It takes no memory.
+    pub fn get(&mut self, key: &Key) -> Option<Value>
+        ensures answers { Answers (λ m. look m key.now) self.old result self.new }
+        ensures once { self.new.asked ≡ self.old.asked + 1 }
     {
-        let Some(mut map) = take_map(self.board, &mut self.seat, self.number) else {
-            return Err(Busy);
-        };
-        let found = map.get(key);
-        give_back(self.board, &mut self.seat, map);
-        Ok(found)
+        let at = reading::pin(&mut self.seat, self.number);
+        let found = reading::get(&mut self.seat, &at, key);
+        self.seat.unpin(self.number, at.pinned);
+        found
     }
 
-    /// The pair of the least key above the bound; with no bound, of the least key. `Busy` comes only where another pass has the turn. It takes no memory.
-    pub fn next(&mut self, after: Option<&Key>) -> Result<Option<(Key, Value)>, Busy>
-        ensures ok { IfOk result (λ found. Answers (λ m. successor m (option_copied after.entry)) self.old found self.new) }
-        ensures busy { OnErr result (FindsBusy self.old self.new) }
+    /// The pair of the least key above the bound; with no bound, of the least key. It takes no memory.
+    pub fn next(&mut self, after: Option<&Key>) -> Option<(Key, Value)>
+        ensures answers { Answers (λ m. successor m (option_copied after.entry)) self.old result self.new }
+        ensures once { self.new.asked ≡ self.old.asked + 1 }
     {
-        let Some(mut map) = take_map(self.board, &mut self.seat, self.number) else {
-            return Err(Busy);
-        };
-        let found = map.next(after);
-        give_back(self.board, &mut self.seat, map);
-        Ok(found)
+        let at = reading::pin(&mut self.seat, self.number);
+        let found = reading::next(&mut self.seat, &at, after);
+        self.seat.unpin(self.number, at.pinned);
+        found
     }
 
     /// The first pairs, at most `limit`, of the keys that are at least `from` and below `to`, in the order of their keys. A bound that is not given does not bind.
     ///
-    /// `Busy` comes only where another pass has the turn, `Memory` where the growth of the list was refused.
+    /// `Memory` comes where the growth of the list was refused; the pass is then as it was.
     pub fn range<B: Allocator>(
         &mut self,
         alloc: B,
         from: Option<&Key>,
         to: Option<&Key>,
         limit: usize,
-    ) -> Result<Vec<(Key, Value), B>, ReadFault>
+    ) -> Result<Vec<(Key, Value), B>, Memory>
         ensures ok { IfOk result (λ found. Answers (λ m. span m (option_copied from.entry) (option_copied to.entry) limit) self.old found.items self.new) }
-        ensures err { IfErr result (λ fault. Misses fault self.old self.new) }
+        ensures memory { OnErr result (self.new ≡ having_asked 1 self.old) }
+        ensures once { self.new.asked ≡ self.old.asked + 1 }
     {
-        let Some(mut map) = take_map(self.board, &mut self.seat, self.number) else {
-            return Err(ReadFault::Busy);
-        };
-        match map.range(alloc, from, to, limit) {
+        let at = reading::pin(&mut self.seat, self.number);
+        match reading::range(&mut self.seat, alloc, &at, from, to, limit) {
             Ok(found) => {
-                give_back(self.board, &mut self.seat, map);
+                self.seat.unpin(self.number, at.pinned);
                 Ok(found)
             }
             Err(Memory) => {
-                give_back(self.board, &mut self.seat, map);
-                Err(ReadFault::Memory)
+                // no pairs are answered, so none were seen
+                self.seat.forget(self.number, at.pinned);
+                Err(Memory)
             }
         }
     }
 
-    /// The root digest of the map: the SHA-256 (FIPS 180-4) of the text of its tree's top node, or of the empty string for the empty map. It depends on the pairs of the map alone.
-    ///
-    /// `Busy` comes only where another pass has the turn. It takes no memory.
-    pub fn root(&mut self) -> Result<[u8; 32], Busy>
-        ensures ok { IfOk result (λ digest. Answers (root One) self.old digest self.new) }
-        ensures busy { OnErr result (FindsBusy self.old self.new) }
+    /// The root digest of the map: the SHA-256 (FIPS 180-4) of the text of its tree's top node, or of the empty string for the empty map. It depends on the pairs of the map alone. It takes no memory.
+    pub fn root(&mut self) -> [u8; 32]
+        ensures answers { Answers (root One) self.old result self.new }
+        ensures once { self.new.asked ≡ self.old.asked + 1 }
     {
-        let Some(mut map) = take_map(self.board, &mut self.seat, self.number) else {
-            return Err(Busy);
-        };
-        let digest = map.root();
-        give_back(self.board, &mut self.seat, map);
-        Ok(digest)
+        let at = reading::pin(&mut self.seat, self.number);
+        let digest = reading::root(&mut self.seat, &at);
+        self.seat.unpin(self.number, at.pinned);
+        digest
     }
 
     /// The proof of the map's answer for the key, value or absence, against the root digest: the texts of the nodes that a search for the key meets, from the top down, each behind its length in four bytes, and in front of them the version 1 and their number.
     ///
-    /// The proof has fewer than 2^32 bytes. `Busy` comes only where another pass has the turn, `Memory` where a growth was refused.
-    pub fn prove<B: Allocator + Copy>(
-        &mut self,
-        alloc: B,
-        key: &Key,
-    ) -> Result<Vec<u8, B>, ReadFault>
+    /// `Memory` comes where a growth was refused; the pass is then as it was.
+    pub fn prove<B: Allocator + Copy>(&mut self, alloc: B, key: &Key) -> Result<Vec<u8, B>, Memory>
         ensures ok { IfOk result (λ found. Answers (λ m. proof_text One m key.now) self.old found.items self.new) }
         ensures short { IfOk result (λ found. length found.items < 2 ^ 32) }
-        ensures err { IfErr result (λ fault. Misses fault self.old self.new) }
+        ensures memory { OnErr result (self.new ≡ having_asked 1 self.old) }
+        ensures once { self.new.asked ≡ self.old.asked + 1 }
     {
-        let Some(mut map) = take_map(self.board, &mut self.seat, self.number) else {
-            return Err(ReadFault::Busy);
-        };
-        match map.prove(alloc, key) {
+        let at = reading::pin(&mut self.seat, self.number);
+        match reading::prove(&mut self.seat, alloc, &at, key) {
             Ok(found) => {
-                give_back(self.board, &mut self.seat, map);
+                self.seat.unpin(self.number, at.pinned);
                 Ok(found)
             }
             Err(Memory) => {
-                give_back(self.board, &mut self.seat, map);
-                Err(ReadFault::Memory)
+                // no proof is answered, so no map was seen
+                self.seat.forget(self.number, at.pinned);
+                Err(Memory)
             }
         }
     }
 
-    /// How many rows the map takes, always `Some`: one for each key and one for each node of its tree. `Busy` comes only where another pass has the turn. It takes no memory.
+    /// How many rows the map takes, one for each key and one for each node of its tree; or `None` where some pass was found to pin a version, which never comes in a store of one pass. It takes no memory.
+    ///
+    /// `Busy` comes only where another pass has the turn.
     pub fn rows(&mut self) -> Result<Option<u32>, Busy>
-        ensures ok { IfOk result (λ found. Answers (λ m. Some (rows_of m)) self.old found self.new) }
+        ensures looks { OnOk result (Looks self.old self.new) }
+        ensures some { IfOk result (λ found. IfSome found (λ n. n ≡ rows_of (after self.new.seen))) }
+        ensures alone { IfOk result (λ found. self.old.store.passes ≡ 1 → IsSome found) }
+        ensures steps { OnOk result (self.new.asked ≡ self.old.asked + self.old.store.passes + 4) }
         ensures busy { OnErr result (FindsBusy self.old self.new) }
     {
-        let Some(mut map) = take_map(self.board, &mut self.seat, self.number) else {
-            return Err(Busy);
-        };
-        let rows = map.rows();
-        give_back(self.board, &mut self.seat, map);
-        Ok(Some(rows))
+        counting::rows(&mut self.seat, self.number, self.passes, self.rows)
     }
 
-    /// The number of the version: how many events there were. `Busy` comes only where another pass has the turn. It takes no memory.
-    pub fn version(&mut self) -> Result<u64, Busy>
-        ensures looks { OnOk result (Looks self.old self.new) }
-        ensures ok { IfOk result (λ version. version ≡ length self.new.seen) }
-        ensures busy { OnErr result (FindsBusy self.old self.new) }
+    /// The number of the version: how many events there were. It takes no memory.
+    pub fn version(&mut self) -> u64
+        ensures looks { Looks self.old self.new }
+        ensures version { result ≡ length self.new.seen }
+        ensures once { self.new.asked ≡ self.old.asked + 1 }
     {
-        let Some(map) = take_map(self.board, &mut self.seat, self.number) else {
-            return Err(Busy);
-        };
-        let version = map.version();
-        give_back(self.board, &mut self.seat, map);
-        Ok(version)
+        let at = reading::pin(&mut self.seat, self.number);
+        self.seat.unpin(self.number, at.pinned);
+        at.version
     }
 
     // Makes a change, and answers the value that its key had.
@@ -175,28 +160,16 @@ impl<'a, A: Allocator + Copy> Pass<'a, A> {
         ensures ok { IfOk result (λ old. Wrote (made_by self.old change) self.old old self.new) }
         ensures err { IfErr result (λ fault. Refuses fault change self.old self.new) }
     {
-        let Some(mut map) = take_map(self.board, &mut self.seat, self.number) else {
-            return Err(WriteFault::Busy);
-        };
         let event = Event {
             pass: self.number,
             change,
         };
-        match map.apply(&event.change) {
-            Ok(old) => {
-                give_back_with(self.board, &mut self.seat, map, &event);
-                Ok(old)
-            }
-            Err(fault) => {
-                give_back(self.board, &mut self.seat, map);
-                Err(fault)
-            }
-        }
+        writing::write(&mut self.seat, self.number, self.passes, &event)
     }
 
     /// Gives the key the value, and answers the value that it had. It takes no memory.
     ///
-    /// `Busy` comes only where another pass has the turn, else `VersionsSpent` exactly where the current version has the last number, else `NoRoom` exactly where the write's cost is more than the rows that the current map leaves over. A write copies whole nodes along its path; its cost is a row for each entry and one for each node that it makes new. A put of the value that stands costs nothing.
+    /// `Busy` comes only where another pass has the turn, else `VersionsSpent` exactly where the current version has the last number, else `NoRoom` where too few rows are free for the nodes that the write makes new. A write copies whole nodes along its path; its cost is a row for each entry and one for each node that it makes new. In a store of one pass all rows but those of the map are free; with more passes those of versions that are pinned are not. A put of the value that stands costs nothing.
     pub fn try_put(&mut self, key: &Key, value: &Value) -> Result<Option<Value>, WriteFault>
         ensures ok { IfOk result (λ old. Wrote (made_by self.old (Put key.now value.now)) self.old old self.new) }
         ensures err { IfErr result (λ fault. Refuses fault (Put key.now value.now) self.old self.new) }
@@ -206,7 +179,7 @@ impl<'a, A: Allocator + Copy> Pass<'a, A> {
 
     /// Takes the key out of the map, and answers the value that it had. It takes no memory.
     ///
-    /// `Busy` comes only where another pass has the turn, else `VersionsSpent` exactly where the current version has the last number, else `NoRoom` exactly where the write's cost is more than the rows that the current map leaves over. A write copies whole nodes along its path; its cost is a row for each entry and one for each node that it makes new. A remove of an absent key costs nothing.
+    /// The refusals come as those of [`Pass::try_put`]. A remove of an absent key costs nothing.
     pub fn try_remove(&mut self, key: &Key) -> Result<Option<Value>, WriteFault>
         ensures ok { IfOk result (λ old. Wrote (made_by self.old (Remove key.now)) self.old old self.new) }
         ensures err { IfErr result (λ fault. Refuses fault (Remove key.now) self.old self.new) }

@@ -3,35 +3,37 @@ ghost use Rattle.std.specs.Prelude.{◌≡◌, ◌↔◌, true, length, IfOk, If
 ghost use Rattle.mst_store.specs.Passes.{IsShape, HasShape, new_passes};
 
 use crate::faults::OpenFault;
-use crate::map_rows::MapRows;
 use crate::pass::Pass;
+use mst_arena::Desk;
 use mst_key::Memory;
-use mst_words::{Board, PassSeat, Shape};
+use mst_words::{Board, Shape, Token};
 use std::alloc::Allocator;
 use std::marker::Model;
 
 /// A store. Its passes share it through a reference.
 #[derive(Drop)]
 pub struct Store<A: Allocator + Copy> {
-    board: Board<MapRows<A>, A>,
+    board: Board<A>,
     shape: Shape,
 }
 
 /// Contracts see which store it is, and its size.
 impl<A: Allocator + Copy> Model for Store<A> {
+    ghost use Rattle.std.specs.Prelude.{◌≡◌};
+    ghost use Rattle.mst_words.specs.Layout.{table_words};
     ghost use Rattle.mst_store.specs.Passes.{StoreId, IsShape};
 
     ghost Value = { StoreId };
 
     ghost view = { λ s. record { table = s.board; rows = s.shape.rows; passes = s.shape.passes } };
 
-    ghost invariant = { λ s. IsShape s.shape };
+    ghost invariant = { λ s. IsShape s.shape × (s.board.words ≡ table_words s.shape.rows) };
 }
 
 /// The right to deal the passes of one store, once.
 #[derive(Drop)]
 pub struct Seats<A: Allocator + Copy> {
-    seat: PassSeat<MapRows<A>>,
+    token: Token<A>,
 }
 
 /// Contracts see which store it is of.
@@ -42,9 +44,9 @@ impl<A: Allocator + Copy> Model for Seats<A> {
 
     ghost Value = { StoreId };
 
-    ghost view = { λ s. record { table = s.seat.table_id; rows = s.seat.me.0.rows; passes = s.seat.me.0.passes } };
+    ghost view = { λ s. record { table = s.token.table_id; rows = s.token.me.0.rows; passes = s.token.me.0.passes } };
 
-    ghost invariant = { λ s. s.seat.me ≡ (dealer s.seat.me.0.rows s.seat.me.0.passes 1, []) };
+    ghost invariant = { λ s. s.token.me ≡ (dealer s.token.me.0.rows s.token.me.0.passes 1, []) };
 }
 
 /// Whether a store can have this size: 4 to 65,535 rows and 1 to 32 passes.
@@ -67,11 +69,12 @@ impl<A: Allocator + Copy> Store<A> {
         if !is_shape(shape) {
             return Err(OpenFault::Shape);
         }
-        let Ok(map) = MapRows::new(alloc, shape.rows) else {
+        // one record for each pass and two more, so that a record is always free for the next version
+        let Ok(desk) = Desk::new(alloc, shape.rows, shape.passes + 2, 0) else {
             return Err(OpenFault::Memory);
         };
-        match Board::open(alloc, shape, map) {
-            Ok((board, seat)) => Ok((Store { board, shape }, Seats { seat })),
+        match Board::open(alloc, shape, desk) {
+            Ok((board, token)) => Ok((Store { board, shape }, Seats { token })),
             Err(Memory) => Err(OpenFault::Memory),
         }
     }
@@ -100,13 +103,14 @@ impl<A: Allocator + Copy> Store<A> {
         let Ok(mut passes) = Vec::with_capacity(alloc, count as usize) else {
             return Err((Memory, seats));
         };
-        let Seats { seat: mut dealer } = seats;
+        let Seats { mut token } = seats;
         for index in 0..count {
-            let seat = self.board.deal(&mut dealer);
+            let seat = self.board.deal(&mut token);
             passes.push_reserved(Pass {
-                board: &self.board,
                 seat,
                 number: index + 1,
+                passes: count,
+                rows: self.shape.rows,
             });
         }
         Ok(passes)

@@ -1,129 +1,123 @@
 -- A look, and the writing and hearing of a note, keep the rule.
-use Rattle.std.proofs.Common.{◌≡◌, ℕ, ◌≢◌, true, false, List, [], ◌∷◌, ◌++◌, set, get_or, sym, refl, ap, ◌∙◌, subst, ⊎_elim, arith}
-use mathlib.Core.Logic.{dite}
-use mathlib.Core.Option.{Option, none, some-injective}
-use native.Mathlib.Decide.{ℕ_discrete}
-use lib.ListN.{get_elem?}
-use lib.Seq.{set-get_or}
-use Rattle.atomic_table.specs.Table.{State, Me, step, keeps, Allows, Splits, Joins}
-use Rattle.atomic_table.proofs.Lists.{at_set, at_snoc, at_longer, set_again, set_here, set_else}
-use Rattle.mst_key.specs.History.{History, Begins}
+use Rattle.std.proofs.Common.{◌≡◌, ℕ, ◌+◌, ◌<◌, false, inl, List, [], ◌∷◌, ◌++◌, set, get_or, sym, refl, ap, ◌∙◌, subst, ⊎_elim, arith}
+use Rattle.std.proofs.lemmas.Option.{none-some}
+use mathlib.Core.Option.{none}
+use Rattle.atomic_table.specs.Table.{State, Me, step, keeps, stepped, Allows, Splits, Joins}
+use Rattle.atomic_table.proofs.Lists.{at_snoc, at_longer, set_again, set_else}
+use Rattle.mst_key.specs.History.{History, events_of, Begins}
+use Rattle.mst_key.proofs.HistoryLaws.{Begins-itself, Begins-nil, events_of-between}
 use Rattle.mst_words.specs.declared.view.View.{View}
 use Rattle.mst_words.specs.World.{SeatAt, Fits, IsPlaced, World}
-use Rattle.mst_words.specs.Rule.{Turn, Ruled}
+use Rattle.mst_words.specs.Records.{Meaning, IsFramed}
+use Rattle.mst_words.specs.Rule.{Parts, Ruled}
 use Rattle.mst_words.specs.Notes.{note_of, having_heard, IsOfPasses, Finds, sees_all, sees_told}
-use Rattle.mst_key.proofs.HistoryLaws.{Begins-itself, Begins-nil}
 use Rattle.mst_words.proofs.Histories.{events_none}
-use Rattle.mst_words.proofs.Worlds.{within, world_set}
+use Rattle.mst_words.proofs.PinParts.{drains_same}
+use Rattle.mst_words.proofs.Marks.{counts_same}
+use Rattle.mst_words.proofs.Stills.{still_same}
+use Rattle.mst_words.proofs.Follows.{ruled}
+use Rattle.mst_words.proofs.Looked.{view_set, looked}
+use Rattle.mst_words.proofs.Seated.{off_true, turn_more, rows_more, pins_more, clear_more, counts_more, path_more, still_more}
 
-module _ {S : Type 0} (stands : S → ℕ → History → Type 0) (rows passes : ℕ) where
-  abbrev St : Type 0
-  St = State S View
+-- a note comes to the seats
+world_note : (rows passes next : ℕ) (log : History) (views : List View) (id : ℕ) (v : View) → World rows passes next log views → SeatAt views id v → World rows passes next log (views ++ note_of v ∷ [])
+world_note rows passes next log views id v h at = let n : View = note_of v in record {
+  fits = λ i u e. ⊎_elim (λ (t : SeatAt views i u). h.fits i u t) (λ (t : n ≡ u). subst (Fits log) t (record {
+    seen = (h.fits id v at).seen;
+    told = Begins-nil log;
+    own = events_none 0 log (λ k d l same. let b = (h.named k d l).0 in omega arith);
+    mine = λ l. absurd (omega arith);
+    pinned = λ r is. absurd (none-some r is);
+  })) (at_snoc views n u i e);
+  placed = λ i u e. ⊎_elim (λ (t : SeatAt views i u). h.placed i u t) (λ (t : n ≡ u). subst (IsPlaced rows passes next) t (record {
+    rows_is = (h.placed id v at).rows_is;
+    passes_is = (h.placed id v at).passes_is;
+    number = (let l = (h.placed id v at).number in omega arith);
+    deals = λ l. absurd (omega arith);
+  })) (at_snoc views n u i e);
+  apart = λ i j a b p q pos same. ⊎_elim
+      (λ (x : SeatAt views i a). ⊎_elim (λ (y : SeatAt views j b). h.apart i j a b x y pos same)
+      (λ (y : n ≡ b). let m = ap (λ (z : View). z.number) y in absurd (omega arith)) (at_snoc views n b j q))
+      (λ (x : n ≡ a). let m = ap (λ (z : View). z.number) x in absurd (omega arith)) (at_snoc views n a i p);
+  seated = λ p pos below. let t = h.seated p pos below in (t.0, t.1, at_longer views (n ∷ []) t.0 t.1 t.2, t.3);
+  dealer = λ i j a b p q m k. ⊎_elim
+      (λ (x : SeatAt views i a). ⊎_elim (λ (y : SeatAt views j b). h.dealer i j a b x y m k)
+      (λ (y : n ≡ b). let c = ap (λ (z : View). z.deals) y in absurd (omega arith)) (at_snoc views n b j q))
+      (λ (x : n ≡ a). let c = ap (λ (z : View). z.deals) x in absurd (omega arith)) (at_snoc views n a i p);
+  few = h.few;
+  named = h.named;
+}
 
-  -- one view changes, and no turn with it
-  turn_set : (turn : ℕ) (homes : List (Option S)) (log : History) (views : List View) (id : ℕ) (v w : View) → Turn stands rows turn homes log views → SeatAt views id v
-      → w.turn ≡ v.turn → (w.turn ≡ true → (w.number ≡ v.number) × (w.seen ≡ v.seen)) → Turn stands rows turn homes log (set views id w)
-  turn_set turn homes log views id v w h at same rest = record {
-    free = h.free;
-    taken = λ l. let a = h.taken l in let i : ℕ = a.1.0 in let u : View = a.1.1 in let at_i : SeatAt views i u = a.1.2 in (
-      a.0,
-      dite (ℕ_discrete i id)
-          (λ is. (id, w, set_here views id w (within views id v at), same ∙ ap (λ (z : View). z.turn) (some-injective v u (sym at ∙ ap (λ (z : ℕ). get_elem? views z) (sym is) ∙ at_i)) ∙ a.1.3))
-          (λ other. (i, u, set_else views id i w other ∙ at_i, a.1.3)),
-    );
-    holder = λ i u e on. ⊎_elim (λ (t : (i ≡ id) × (w ≡ u)). let won : w.turn ≡ true = ap (λ (z : View). z.turn) t.1 ∙ on in let o = h.holder id v at (sym same ∙ won) in let r = rest won in
-        (o.0, ap (λ (z : View). z.number) (sym t.1) ∙ r.0 ∙ o.1, ap (λ (z : View). z.seen) (sym t.1) ∙ r.1 ∙ o.2))
-        (λ (t : (i ≢ id) × SeatAt views i u). h.holder i u t.1 on) (at_set views id i w u e);
-  }
-
+module _ {S : Type 0} (T : Meaning S) (framed : IsFramed T) (R N : ℕ) where
   -- a seat without the turn sees another beginning of the history
-  seen_set : (s : St) (r : Ruled stands rows passes s) (id : ℕ) (v : View) (seen : History) → SeatAt s.views id v → v.turn ≡ false → Begins seen r.log
-      → Ruled stands rows passes record { words = s.words; homes = s.homes; views = set s.views id (record v { seen = seen }) }
-  seen_set s r id v seen at off begins = let w : View = record v { seen = seen } in let f = r.world.fits id v at in record {
-    log = r.log;
-    next = r.next;
-    wide = r.wide;
-    turn = turn_set (get_or s.words 0 0) s.homes r.log s.views id v w r.turn at refl (λ on. absurd (let c : true ≡ false = sym on ∙ off in cc));
-    world = world_set rows passes r.next r.log s.views id v w r.world at (record { number = refl; deals = refl; rows = refl; passes = refl }) (record { seen = begins; told = f.told; own = f.own });
-  }
+  seen_set : (s : State S View) (q : Parts T R N s) (id i : ℕ) (cs : List (ℕ × S)) (v : View) (seen : History) → SeatAt s.views id v → v.turn ≡ false → Begins seen q.log → (0 < v.number → events_of v.number seen ≡ v.mine)
+      → Parts T R N (stepped s i (get_or s.words i 0) id cs (record v { seen = seen; asked = v.asked + 1 }) keeps)
+  seen_set s q id i cs v seen at off begins own = let w : View = record v { seen = seen; asked = v.asked + 1 } in
+      looked T framed R N s q id i cs v w at refl refl refl refl refl refl refl refl refl (λ on. off_true v off on) (let f = q.world.fits id v at in record { seen = begins; told = f.told; own = f.own; mine = own; pinned = f.pinned }) (off_true w off)
+      (counts_same N q.cur s.views id v w q.counts at refl (inl refl) refl refl)
+      (still_same N (get_or s.words 1 0) (get_or s.words 1 0) s.views id w v q.still at refl refl refl)
 
-  found : (s : St) (r : Ruled stands rows passes s) (id : ℕ) (me : Me S View) → SeatAt s.views id me.0 → Finds me r.log
-  found s r id me at = let f = r.world.fits id me.0 at in let few = r.world.few in record {
+  found : (s : State S View) (q : Parts T R N s) (id : ℕ) (me : Me S View) → SeatAt s.views id me.0 → Finds me q.log
+  found s q id me at = let f = q.world.fits id me.0 at in let few = q.world.few in record {
     later = f.seen;
     told = f.told;
+    pinned = λ r is. (f.pinned r is).0;
     own = f.own;
-    alone = subst (λ (n : ℕ). IsOfPasses n r.log) (sym (r.world.placed id me.0 at).passes_is)
-        (λ k d l. let b = r.world.named k d l in (b.0, (let m = b.1 in omega arith)));
+    alone = subst (λ (n : ℕ). IsOfPasses n q.log) (sym (q.world.placed id me.0 at).passes_is)
+        (λ k d l. let b = q.world.named k d l in (b.0, (let m = b.1 in omega arith)));
   }
 
-  pub all_allows : (slots id i : ℕ) (me : Me S View) → me.0.turn ≡ false → Allows (Ruled stands rows passes) slots id me i (λ n. n) (λ r. sees_all (step slots i 0 0 none) me r)
-  all_allows slots id i me off s r _ at _ = (
-    record me.0 { seen = r.log },
+  pub all_allows : (slots id i : ℕ) (me : Me S View) → me.0.turn ≡ false → Allows (Ruled T R N) slots id me i (λ n. n) (λ r. sees_all (step slots i 0 0 none) me r)
+  all_allows slots id i me off s whole _ at _ = let q = whole.parts in (
+    record me.0 { seen = q.log; asked = me.0.asked + 1 },
     keeps,
     tt,
-    subst (λ (z : List ℕ). Ruled stands rows passes record { words = z; homes = s.homes; views = set s.views id (record me.0 { seen = r.log }) }) (sym (set-get_or s.words i 0)) (seen_set s r id me.0 r.log at off (Begins-itself r.log)),
-    record { log = r.log; finds = found s r id me at; is = refl },
+    ruled T framed R N _ (seen_set s q id i me.1 me.0 q.log at off (Begins-itself q.log) (λ _. (q.world.fits id me.0 at).own)),
+    record { log = q.log; finds = found s q id me at; is = refl },
   )
 
-  pub told_allows : (slots id i : ℕ) (me : Me S View) → me.0.turn ≡ false → Allows (Ruled stands rows passes) slots id me i (λ n. n) (λ r. sees_told (step slots i 0 0 none) me r)
-  told_allows slots id i me off s r _ at _ = (
-    record me.0 { seen = me.0.told },
+  pub told_allows : (slots id i : ℕ) (me : Me S View) → me.0.turn ≡ false → Begins me.0.seen me.0.told → Allows (Ruled T R N) slots id me i (λ n. n) (λ r. sees_told (step slots i 0 0 none) me r)
+  told_allows slots id i me off forward s whole _ at _ = let q = whole.parts in (
+    record me.0 { seen = me.0.told; asked = me.0.asked + 1 },
     keeps,
     tt,
-    subst (λ (z : List ℕ). Ruled stands rows passes record { words = z; homes = s.homes; views = set s.views id (record me.0 { seen = me.0.told }) }) (sym (set-get_or s.words i 0)) (seen_set s r id me.0 me.0.told at off (r.world.fits id me.0 at).told),
-    record { log = r.log; finds = found s r id me at; is = refl },
+    ruled T framed R N _ (seen_set s q id i me.1 me.0 me.0.told at off (q.world.fits id me.0 at).told (λ pos. let f = q.world.fits id me.0 at in events_of-between me.0.number me.0.mine me.0.seen me.0.told q.log forward f.told (f.mine pos) f.own)),
+    record { log = q.log; forward = forward; finds = found s q id me at; is = refl },
   )
-
-  -- a note comes to the seats
-  world_note : (next : ℕ) (log : History) (views : List View) (id : ℕ) (v : View) → World rows passes next log views → SeatAt views id v → World rows passes next log (views ++ note_of v ∷ [])
-  world_note next log views id v h at = let n : View = note_of v in record {
-    fits = λ i u e. ⊎_elim (λ (t : SeatAt views i u). h.fits i u t) (λ (t : n ≡ u). subst (Fits log) t (record {
-      seen = (h.fits id v at).seen;
-      told = Begins-nil log;
-      own = events_none 0 log (λ k d l same. let b = (h.named k d l).0 in omega arith);
-    })) (at_snoc views n u i e);
-    placed = λ i u e. ⊎_elim (λ (t : SeatAt views i u). h.placed i u t) (λ (t : n ≡ u). subst (IsPlaced rows passes next) t (record {
-      rows_is = (h.placed id v at).rows_is;
-      passes_is = (h.placed id v at).passes_is;
-      number = (let l = (h.placed id v at).number in omega arith);
-      deals = λ l. absurd (omega arith);
-    })) (at_snoc views n u i e);
-    apart = λ i j a b p q pos same. ⊎_elim
-        (λ (x : SeatAt views i a). ⊎_elim (λ (y : SeatAt views j b). h.apart i j a b x y pos same)
-        (λ (y : n ≡ b). let m = ap (λ (z : View). z.number) y in absurd (omega arith)) (at_snoc views n b j q))
-        (λ (x : n ≡ a). let m = ap (λ (z : View). z.number) x in absurd (omega arith)) (at_snoc views n a i p);
-    dealer = λ i j a b p q m k. ⊎_elim
-        (λ (x : SeatAt views i a). ⊎_elim (λ (y : SeatAt views j b). h.dealer i j a b x y m k)
-        (λ (y : n ≡ b). let c = ap (λ (z : View). z.deals) y in absurd (omega arith)) (at_snoc views n b j q))
-        (λ (x : n ≡ a). let c = ap (λ (z : View). z.deals) x in absurd (omega arith)) (at_snoc views n a i p);
-    few = h.few;
-    named = h.named;
-  }
 
   -- a note is written, and the writer's own view stays
-  pub note_splits : (id : ℕ) (v : View) → Splits (Ruled stands rows passes) id v v (note_of v)
-  note_splits id v s r at = let n : View = note_of v in subst (λ (l : List View). Ruled stands rows passes record { words = s.words; homes = s.homes; views = l ++ n ∷ [] }) (sym (set_again s.views id v at)) record {
-    log = r.log;
-    next = r.next;
-    wide = r.wide;
-    turn = record {
-      free = r.turn.free;
-      taken = λ l. let a = r.turn.taken l in (a.0, (a.1.0, a.1.1, at_longer s.views (n ∷ []) a.1.0 a.1.1 a.1.2, a.1.3));
-      holder = λ i u e on. ⊎_elim (λ (t : SeatAt s.views i u). r.turn.holder i u t on)
-          (λ (t : n ≡ u). absurd (let c : true ≡ false = sym on ∙ ap (λ (z : View). z.turn) (sym t) in cc)) (at_snoc s.views n u i e);
-    };
-    world = world_note r.next r.log s.views id v r.world at;
-  }
+  pub note_splits : (id : ℕ) (v : View) → Splits (Ruled T R N) id v v (note_of v)
+  note_splits id v s whole at = let n : View = note_of v in let q = whole.parts in ruled T framed R N _ (subst (λ (l : List View). Parts T R N record { words = s.words; homes = s.homes; views = l ++ n ∷ [] }) (sym (set_again s.views id v at)) record {
+    log = q.log;
+    next = q.next;
+    cur = q.cur;
+    mask = q.mask;
+    due = q.due;
+    beside = q.beside;
+    desk = q.desk;
+    place = q.place;
+    used = q.used;
+    wide = q.wide;
+    turn = turn_more T R N (get_or s.words 0 0) s.homes q.desk q.due q.log s.views n q.turn refl;
+    pins = pins_more N q.cur q.mask q.due q.beside s.words s.views n q.pins refl refl (record {
+      small = omega arith;
+      pinned = λ r is. absurd (none-some r is);
+      unpinned = λ r l _ _. absurd (omega arith);
+    });
+    rows = rows_more T R N q.cur s.words q.log q.desk q.place q.used s.views n q.rows refl refl;
+    world = world_note R N q.next q.log s.views id v q.world at;
+    clear = clear_more N q.beside s.words s.views n q.clear;
+    counts = counts_more N q.cur s.views n q.counts refl refl;
+    path = path_more N q.cur q.due s.views n q.path (λ l. absurd (omega arith));
+    still = still_more N (get_or s.words 1 0) s.views n q.still refl;
+  })
 
   -- a note is heard, and the note's own view stays
-  pub note_joins : (id : ℕ) (v : View) (other : ℕ) (n : View) → Joins (Ruled stands rows passes) id v other n (having_heard v n) n
-  note_joins id v other n s r at apart there = let w : View = having_heard v n in let f = r.world.fits id v at in
+  pub note_joins : (id : ℕ) (v : View) (other : ℕ) (n : View) → Joins (Ruled T R N) id v other n (having_heard v n) n
+  note_joins id v other n s whole at apart there = let w : View = having_heard v n in let q = whole.parts in let f = q.world.fits id v at in
       let there' : SeatAt s.views other n = sym (set_else s.views id other w apart) ∙ there in
-      subst (λ (l : List View). Ruled stands rows passes record { words = s.words; homes = s.homes; views = l }) (sym (set_again (set s.views id w) other n there)) record {
-        log = r.log;
-        next = r.next;
-        wide = r.wide;
-        turn = turn_set (get_or s.words 0 0) s.homes r.log s.views id v w r.turn at refl (λ _. (refl, refl));
-        world = world_set rows passes r.next r.log s.views id v w r.world at (record { number = refl; deals = refl; rows = refl; passes = refl })
-            (record { seen = f.seen; told = (r.world.fits other n there').seen; own = f.own });
-      }
+      ruled T framed R N _ (subst (λ (l : List View). Parts T R N record { words = s.words; homes = s.homes; views = l }) (sym (set_again (set s.views id w) other n there))
+      (view_set T framed R N s q id v w at refl refl refl refl refl refl refl refl refl (λ on. ((q.turn.holder id v at on).2, refl)) (record { seen = f.seen; told = (q.world.fits other n there').seen; own = f.own; mine = f.mine; pinned = f.pinned })
+      (drains_same N q.cur q.mask q.due q.beside s.words s.words s.views id v w q.pins at refl refl refl refl refl)
+      (counts_same N q.cur s.views id v w q.counts at refl (inl refl) refl refl)
+      (still_same N (get_or s.words 1 0) (get_or s.words 1 0) s.views id w v q.still at refl refl refl)))

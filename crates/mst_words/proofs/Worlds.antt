@@ -1,10 +1,13 @@
 -- What keeps a world lawful: one view changes, an event comes, a pass is dealt.
-use Rattle.std.proofs.Common.{◌≡◌, ℕ, zero, suc, ◌+◌, ◌<◌, ◌≤◌, ◌≢◌, List, [], ◌∷◌, ◌++◌, length, set, sym, refl, ap, ◌∙◌, subst, ⊎_elim, arith, inl, inr, ◌⊎◌}
+use Rattle.std.proofs.Common.{◌≡◌, ℕ, zero, suc, ◌+◌, ◌<◌, ◌≤◌, ◌≢◌, List, [], ◌∷◌, ◌++◌, length, set, sym, refl, ap, ◌∙◌, subst, ⊎_elim, arith, inl, inr, ◌⊎◌, None}
 use Rattle.std.specs.List.{All}
 use Rattle.std.proofs.lemmas.List.Elements.{All-append}
+use Rattle.std.proofs.lemmas.Option.{none-some}
+use mathlib.Core.Logic.{dite}
 use mathlib.Core.Option.{some, some-injective, some-ne-none}
+use native.Mathlib.Decide.{ℕ_discrete}
 use lib.ListN.{get_elem?}
-use Rattle.atomic_table.proofs.Lists.{at_set, at_snoc}
+use Rattle.atomic_table.proofs.Lists.{at_set, at_last, at_snoc, at_longer, set_here, set_else}
 use Rattle.mst_key.specs.declared.history.Event.{Event}
 use Rattle.mst_key.specs.History.{History, events_of, Begins}
 use Rattle.mst_words.specs.declared.view.View.{View}
@@ -30,6 +33,17 @@ placed_too rows passes next v w s p = record {
   deals = λ l. let d = p.deals (subst (λ (z : ℕ). 0 < z) s.deals l) in (s.deals ∙ d.0, s.number ∙ d.1);
 }
 
+pub within : {A : Type 0} → (l : List A) (i : ℕ) (a : A) → get_elem? l i ≡ some a → i < length l
+within [] i a e = absurd (some-ne-none a (sym e))
+within (x ∷ xs) zero a e = omega arith
+within (x ∷ xs) (suc i) a e = let h = within xs i a e in omega arith
+
+-- the seat of a pass, after one view changed that keeps its number
+moved_seat : (views : List View) (id : ℕ) (v w : View) → SeatAt views id v → w.number ≡ v.number → (p : ℕ) → ((i : ℕ) × (u : View) × SeatAt views i u × (u.number ≡ p)) → (i : ℕ) × (u : View) × SeatAt (set views id w) i u × (u.number ≡ p)
+moved_seat views id v w at number p (i, u, e, is) = dite (ℕ_discrete i id)
+    (λ here. (id, w, set_here views id w (within views id v at), number ∙ ap (λ (z : View). z.number) (some-injective v u (sym at ∙ subst (λ (z : ℕ). SeatAt views z u) here e)) ∙ is))
+    (λ other. (i, u, set_else views id i w other ∙ e, is))
+
 -- what was at i before one view changed
 was_at : (views : List View) (id : ℕ) (v w : View) → SeatAt views id v → IsInPlaceOf v w → (i : ℕ) (u : View) → SeatAt (set views id w) i u → (o : View) × SeatAt views i o × IsInPlaceOf o u
 was_at views id v w at same i u e = ⊎_elim (λ (t : (i ≡ id) × (w ≡ u)). (v, subst (λ (z : ℕ). SeatAt views z v) (sym t.0) at, subst (IsInPlaceOf v) t.1 same))
@@ -44,6 +58,7 @@ module _ (rows passes : ℕ) where
     fits = fits;
     placed = λ i u e. let o = was i u e in placed_too rows passes next o.0 u o.2 (h.placed i o.0 o.1);
     apart = λ i j a b x y pos is. let o = was i a x in let p = was j b y in h.apart i j o.0 p.0 o.1 p.1 (subst (λ (z : ℕ). 0 < z) o.2.number pos) (sym o.2.number ∙ is ∙ p.2.number);
+    seated = λ p pos below. let t = h.seated p pos below in moved_seat views id v w at same.number p t;
     dealer = λ i j a b x y m n. let o = was i a x in let p = was j b y in h.dealer i j o.0 p.0 o.1 p.1 (subst (λ (z : ℕ). 0 < z) o.2.deals m) (subst (λ (z : ℕ). 0 < z) p.2.deals n);
     few = h.few;
     named = named;
@@ -56,8 +71,8 @@ module _ (rows passes : ℕ) where
 
   -- the history has an event more, which is of the pass whose view changes
   pub world_add : (next : ℕ) (log : History) (views : List View) (id : ℕ) (v w : View) (e : Event) → World rows passes next log views → SeatAt views id v → IsInPlaceOf v w
-      → w.told ≡ v.told → e.pass ≡ v.number → 0 < v.number → w.seen ≡ log ++ e ∷ [] → w.mine ≡ v.mine ++ e ∷ [] → World rows passes next (log ++ e ∷ []) (set views id w)
-  world_add next log views id v w e h at same told of some_pass seen mine = world_seat next log (log ++ e ∷ []) views id v w h at same
+      → w.told ≡ v.told → e.pass ≡ v.number → 0 < v.number → w.seen ≡ log ++ e ∷ [] → w.mine ≡ v.mine ++ e ∷ [] → w.pin ≡ None → World rows passes next (log ++ e ∷ []) (set views id w)
+  world_add next log views id v w e h at same told of some_pass seen mine free = world_seat next log (log ++ e ∷ []) views id v w h at same
       (λ i u p. ⊎_elim (λ (t : (i ≡ id) × (w ≡ u)). subst (Fits longer) t.1 own) (λ (t : (i ≢ id) × SeatAt views i u). other i u t.1 t.0) (at_set views id i w u p))
       (All-append Named log (e ∷ []) h.named (only e (subst (λ (z : ℕ). (0 < z) × (z < next)) (sym of) (some_pass, (h.placed id v at).number))))
     where
@@ -71,11 +86,16 @@ module _ (rows passes : ℕ) where
       only x p zero d l = p
       only x p (suc k) d l = absurd (omega arith)
 
+      all_own : events_of w.number (log ++ e ∷ []) ≡ w.mine
+      all_own = ap (λ (z : ℕ). events_of z (log ++ e ∷ [])) same.number ∙ events_own v.number log e of ∙ ap (λ (l : History). l ++ e ∷ []) (h.fits id v at).own ∙ sym mine
+
       own : Fits (log ++ e ∷ []) w
       own = let f = h.fits id v at in record {
         seen = subst (λ (z : History). Begins z (log ++ e ∷ [])) (sym seen) (Begins-itself (log ++ e ∷ []));
         told = subst (λ (z : History). Begins z (log ++ e ∷ [])) (sym told) (begins_longer v.told log (e ∷ []) f.told);
-        own = ap (λ (z : ℕ). events_of z (log ++ e ∷ [])) same.number ∙ events_own v.number log e of ∙ ap (λ (l : History). l ++ e ∷ []) f.own ∙ sym mine;
+        own = all_own;
+        mine = λ _. ap (events_of w.number) seen ∙ all_own;
+        pinned = λ r is. absurd (none-some r (sym free ∙ is));
       }
 
       other : (i : ℕ) (u : View) → SeatAt views i u → i ≢ id → Fits (log ++ e ∷ []) u
@@ -83,6 +103,8 @@ module _ (rows passes : ℕ) where
         seen = begins_longer u.seen log (e ∷ []) f.seen;
         told = begins_longer u.told log (e ∷ []) f.told;
         own = events_other u.number log e (λ (x : e.pass ≡ u.number). apart (sym (h.apart id i v u at s some_pass (sym of ∙ x)))) ∙ f.own;
+        mine = f.mine;
+        pinned = λ r is. let b = f.pinned r is in (begins_longer u.place log (e ∷ []) b.0, b.1);
       }
 
   at_end : {A : Type 0} → (l : List A) (a b : A) (j : ℕ) → get_elem? (l ++ a ∷ []) j ≡ some b → (get_elem? l j ≡ some b) ⊎ ((j ≡ length l) × (a ≡ b))
@@ -95,9 +117,9 @@ module _ (rows passes : ℕ) where
   pub world_deal : (next : ℕ) (log : History) (views : List View) (id : ℕ) (v : View) → World rows passes next log views → SeatAt views id v → 0 < v.deals → v.deals ≤ v.passes
       → World rows passes (next + 1) log (set views id (having_dealt v) ++ newcomer v ∷ [])
   world_deal next log views id v h at some_deal left = record {
-    fits = λ i u e. ⊎_elim (λ (t : SeatAt (set views id (having_dealt v)) i u). ⊎_elim (λ (x : (i ≡ id) × (having_dealt v ≡ u)). subst (Fits log) x.1 (record { seen = (h.fits id v at).seen; told = (h.fits id v at).told; own = (h.fits id v at).own }))
+    fits = λ i u e. ⊎_elim (λ (t : SeatAt (set views id (having_dealt v)) i u). ⊎_elim (λ (x : (i ≡ id) × (having_dealt v ≡ u)). subst (Fits log) x.1 (let f = h.fits id v at in record { seen = f.seen; told = f.told; own = f.own; mine = f.mine; pinned = f.pinned }))
         (λ (x : (i ≢ id) × SeatAt views i u). h.fits i u x.1) (at_set views id i (having_dealt v) u t))
-        (λ (t : newcomer v ≡ u). subst (Fits log) t (record { seen = (log, refl); told = (log, refl); own = events_none v.deals log (λ k d l same. let b = (h.named k d l).1 in omega (arith, is)) })) (at_snoc (set views id (having_dealt v)) (newcomer v) u i e);
+        (λ (t : newcomer v ≡ u). subst (Fits log) t (record { seen = (log, refl); told = (log, refl); own = events_none v.deals log (λ k d l same. let b = (h.named k d l).1 in omega (arith, is)); mine = λ _. refl; pinned = λ r none. absurd (none-some r none) })) (at_snoc (set views id (having_dealt v)) (newcomer v) u i e);
     placed = λ i u e. ⊎_elim (λ (t : SeatAt (set views id (having_dealt v)) i u). ⊎_elim (λ (x : (i ≡ id) × (having_dealt v ≡ u)). subst (IsPlaced rows passes (next + 1)) x.1 mine)
         (λ (x : (i ≢ id) × SeatAt views i u). old i u x.1 x.0) (at_set views id i (having_dealt v) u t))
         (λ (t : newcomer v ≡ u). subst (IsPlaced rows passes (next + 1)) t new) (at_snoc (set views id (having_dealt v)) (newcomer v) u i e);
@@ -108,6 +130,9 @@ module _ (rows passes : ℕ) where
         (λ (x : (i ≡ length (set views id (having_dealt v))) × (newcomer v ≡ a)). ⊎_elim
         (λ (y : SeatAt (set views id (having_dealt v)) j b). let m = ap (λ (z : View). z.number) x.1 in let c = old_below j b y in absurd (omega (arith, is)))
         (λ (y : (j ≡ length (set views id (having_dealt v))) × (newcomer v ≡ b)). x.0 ∙ sym y.0) (at_end (set views id (having_dealt v)) (newcomer v) b j q)) (at_end (set views id (having_dealt v)) (newcomer v) a i p);
+    seated = λ p pos below. dite (ℕ_discrete p next)
+        (λ last. (length (set views id (having_dealt v)), newcomer v, at_last (set views id (having_dealt v)) (newcomer v) (length (set views id (having_dealt v))) refl, is ∙ sym last))
+        (λ other. let t = moved_seat views id v (having_dealt v) at refl p (h.seated p pos (omega (arith, other, below))) in (t.0, t.1, at_longer (set views id (having_dealt v)) (newcomer v ∷ []) t.0 t.1 t.2, t.3));
     dealer = λ i j a b p q m k. to_id i a p m ∙ sym (to_id j b q k);
     few = let p = (h.placed id v at).passes_is in omega (arith, is);
     named = λ k d l. let b = h.named k d l in (b.0, (let x = b.1 in omega arith));
@@ -154,8 +179,3 @@ module _ (rows passes : ℕ) where
         number = (let a = p.deals some_deal in let b = a.0 in omega arith);
         deals = λ l. absurd (omega arith);
       }
-
-pub within : {A : Type 0} → (l : List A) (i : ℕ) (a : A) → get_elem? l i ≡ some a → i < length l
-within [] i a e = absurd (some-ne-none a (sym e))
-within (x ∷ xs) zero a e = omega arith
-within (x ∷ xs) (suc i) a e = let h = within xs i a e in omega arith

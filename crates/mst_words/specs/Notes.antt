@@ -1,31 +1,33 @@
 -- How passes learn what others have seen: a seat looks at the whole history, or it hears a note and then sees what the note told.
-use Rattle.std.specs.Prelude.{◌≡◌, ℕ, ◌<◌, ◌≤◌, false, []}
+use Rattle.std.specs.Prelude.{◌≡◌, ℕ, ◌+◌, ◌<◌, ◌≤◌, Some}
 use Rattle.std.specs.List.{All}
 use Rattle.atomic_table.specs.Table.{Me, Step}
 use Rattle.mst_key.specs.History.{History, events_of, Begins}
 use Rattle.mst_words.specs.declared.view.View.{View}
+use Rattle.mst_words.specs.World.{idle}
 
 -- a note of what a seat has seen. It is no pass
 abbrev pub note_of : View → View
-note_of v = record v { number = 0; deals = 0; mine = []; told = []; turn = false }
+note_of v = record (idle v.rows v.passes 0 0) { seen = v.seen }
 
 -- the seat, when it has heard a note
 abbrev pub having_heard : View → View → View
-having_heard v note = record v { told = note.seen }
+having_heard v note = record v { told = note.seen; asked = v.asked + 1 }
 
 -- the note that is named where none is picked
 abbrev pub no_note : View
-no_note = record { number = 0; rows = 0; passes = 0; deals = 0; seen = []; mine = []; told = []; turn = false }
+no_note = idle 0 0 0 0
 
 -- each event is of a pass from 1 to n
 abbrev pub IsOfPasses : ℕ → History → Type 0
 IsOfPasses n log = All (λ e. (0 < e.pass) × (e.pass ≤ n)) log
 
 module _ {S : Type 0} where
-  -- The whole history was found. It begins with what the seat had seen and with what it was told, the events of its number there are its own, and each event is of a pass of the store
+  -- The whole history was found. It begins with what the seat had seen and with what it was told, and, while the seat is pinned, with the history at its pin. The events of its number there are its own, and each event is of a pass of the store
   pub record Finds (m : Me S View) (log : History) : Type 0 where
     pub later : Begins m.0.seen log
     pub told : Begins m.0.told log
+    pub pinned : (r : ℕ) → m.0.pin ≡ Some r → Begins m.0.place log
     pub own : events_of m.0.number log ≡ m.0.mine
     pub alone : IsOfPasses m.0.passes log
 
@@ -33,13 +35,14 @@ module _ {S : Type 0} where
   pub record SeesAll (m m' : Me S View) : Type 0 where
     pub log : History
     pub finds : Finds m log
-    pub is : m' ≡ (record m.0 { seen = log }, m.1)
+    pub is : m' ≡ (record m.0 { seen = log; asked = m.0.asked + 1 }, m.1)
 
-  -- the whole history was found, and the seat has now seen the beginning of it that it was told of
+  -- The whole history was found, and the seat has now seen the beginning of it that it was told of, which is no less than it had seen
   pub record SeesTold (m m' : Me S View) : Type 0 where
     pub log : History
+    pub forward : Begins m.0.seen m.0.told
     pub finds : Finds m log
-    pub is : m' ≡ (record m.0 { seen = m.0.told }, m.1)
+    pub is : m' ≡ (record m.0 { seen = m.0.told; asked = m.0.asked + 1 }, m.1)
 
   abbrev pub sees_all : Step S → Me S View → ℕ → Me S View → Type 0
   sees_all st m r m' = SeesAll m m'

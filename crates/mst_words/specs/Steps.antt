@@ -1,57 +1,198 @@
--- What each step tells the seat that makes it, as a relation between what the seat had before and after: its view, and what it holds of the slot.
-use Rattle.std.specs.Prelude.{◌≡◌, ◌≢◌, ℕ, ◌<◌, ◌≤◌, true, false, [], ◌∷◌, ◌++◌}
+-- What each step tells the seat that makes it, as a relation between what the seat had before and after: its view, and what it holds of the slot. A step whose answer depends on what other passes do adds one to `asked`.
+use Rattle.std.specs.Prelude.{◌≡◌, ◌≢◌, ◌⊎◌, ℕ, ◌+◌, ◌*◌, ◌<◌, ◌≤◌, true, false, List, [], ◌∷◌, ◌++◌, length, slice_index, slice_set, Some, None}
 use Rattle.atomic_table.specs.Table.{Me, Step}
 use Rattle.mst_key.specs.declared.history.Change.TheVariants.{Remove}
 use Rattle.mst_key.specs.declared.history.Event.{Event}
 use Rattle.mst_key.specs.History.{History, events_of, Begins}
 use Rattle.mst_words.specs.declared.view.View.{View}
+use Rattle.mst_words.specs.declared.view.DeskState.{DeskState}
+use Rattle.mst_words.specs.Layout.{record_words, row_words, first_record, done_word, record_word, row_word, table_words}
+use Rattle.mst_words.specs.Pins.{In}
+use Rattle.mst_words.specs.Records.{Meaning, field, row, Standing, Agrees, IsBlank}
 
 -- the event that is named where none is picked
 abbrev pub no_event : Event
 no_event = record { pass = 0; change = Remove [] }
 
+-- a word that a pinned seat or the holder of the turn may load: of records and rows the holder any, a pinned seat those of its record and of the rows that stand for it
+abbrev pub IsReadable : View → ℕ → Type 0
+IsReadable v i = ((v.turn ≡ true) × (first_record ≤ i))
+    ⊎ (((r k : ℕ) × (v.pin ≡ Some r) × (k < record_words) × (i ≡ record_word r k)) ⊎ ((r x k : ℕ) × (v.pin ≡ Some r) × In x v.stood × (k < row_words) × (i ≡ row_word x k)))
+
 module _ {S : Type 0} where
-  -- a pass that has neither the turn nor the slot
+  -- a pass that has neither the turn nor the slot nor a pin
   abbrev pub IsFree : ℕ → Me S View → Type 0
-  IsFree number m = (m.1 ≡ []) × (m.0.turn ≡ false) × (m.0.number ≡ number) × (0 < number)
+  IsFree number m = (m.1 ≡ []) × (m.0.turn ≡ false) × (m.0.pin ≡ None) × (m.0.number ≡ number) × (0 < number)
+
+  -- a pass that pins a record
+  abbrev pub IsPinned : ℕ → ℕ → Me S View → Type 0
+  IsPinned number r m = (m.0.pin ≡ Some r) × (m.0.turn ≡ false) × (m.0.number ≡ number)
 
   -- the dealer's seat, with a pass left to deal
   abbrev pub IsDealer : Me S View → Type 0
-  IsDealer m = (m.1 ≡ []) × (m.0.turn ≡ false) × (0 < m.0.deals) × (m.0.deals ≤ m.0.passes)
+  IsDealer m = (m.1 ≡ []) × (m.0.turn ≡ false) × (m.0.pin ≡ None) × (0 < m.0.deals) × (m.0.deals ≤ m.0.passes)
 
-  module _ (stands : S → ℕ → History → Type 0) where
-    -- The pass has the turn and the slot, whose value stands for the whole history, and has seen that history. It begins with what the pass had seen, and the pass's events in it are its own
-    pub record Takes (m m' : Me S View) : Type 0 where
-      pub value : S
-      pub log : History
-      pub stood : stands value m.0.rows log
-      pub later : Begins m.0.seen log
-      pub own : events_of m.0.number log ≡ m.0.mine
-      pub is : m' ≡ (record m.0 { seen = log; turn = true }, (0, value) ∷ [])
+  -- the holder of the turn, with no transfer to make
+  abbrev pub IsHolder : Me S View → Type 0
+  IsHolder m = (m.0.turn ≡ true) × (m.0.pin ≡ None) × (m.0.due ≡ None)
 
-    -- nothing changed: another pass of the store has the turn
-    pub record Misses (m m' : Me S View) : Type 0 where
-      pub same : m' ≡ m
-      pub others : 1 < m.0.passes
+  -- ---- the turn
 
-    -- the word was found 0, or not
-    abbrev pub takes_turn : Step S → Me S View → ℕ → Me S View → Type 0
-    takes_turn st m r m' = (r ≡ 0 → Takes m m') × (r ≢ 0 → Misses m m')
+  -- nothing changed but that the turn was tried once: another pass of the store has it
+  pub record Misses (m m' : Me S View) : Type 0 where
+    pub is : m' ≡ (record m.0 { asked = m.0.asked + 1 }, m.1)
+    pub others : 1 < m.0.passes
 
-    -- the holder of the turn has in hand what stands for a history
-    abbrev pub IsReady : History → Me S View → Type 0
-    IsReady log m = (m.0.turn ≡ true) × ((x : S) × (m.1 ≡ (0, x) ∷ []) × stands x m.0.rows log)
-
-  -- the turn and the slot were given back, and the history stayed
+  -- the turn and the slot were given back
   abbrev pub Gives : Me S View → Me S View → Type 0
   Gives m m' = m' ≡ (record m.0 { turn = false }, [])
-
-  -- the turn and the slot were given back, and the history has one event more
-  abbrev pub Adds : Event → Me S View → Me S View → Type 0
-  Adds e m m' = m' ≡ (record m.0 { seen = m.0.seen ++ e ∷ []; mine = m.0.mine ++ e ∷ []; turn = false }, [])
 
   abbrev pub gives_turn : Step S → Me S View → ℕ → Me S View → Type 0
   gives_turn st m r m' = Gives m m'
 
-  abbrev pub adds_event : Event → Step S → Me S View → ℕ → Me S View → Type 0
-  adds_event e st m r m' = Adds e m m'
+  -- ---- pins
+
+  -- the pass has no pin, and has seen the history at its pin
+  abbrev pub Unpins : Me S View → Me S View → Type 0
+  Unpins m m' = m' ≡ (record m.0 { pin = None; seen = m.0.place }, m.1)
+
+  abbrev pub unpins : Step S → Me S View → ℕ → Me S View → Type 0
+  unpins st m r m' = Unpins m m'
+
+  -- the pass has no pin, and has seen what it had seen
+  abbrev pub Forgets : Me S View → Me S View → Type 0
+  Forgets m m' = m' ≡ (record m.0 { pin = None }, m.1)
+
+  abbrev pub forgets : Step S → Me S View → ℕ → Me S View → Type 0
+  forgets st m r m' = Forgets m m'
+
+  -- ---- words of records and rows
+
+  -- the word is the one that is known
+  abbrev pub reads : Step S → Me S View → ℕ → Me S View → Type 0
+  reads st m r m' = (m' ≡ m) × (IsReadable m.0 st.word → r ≡ slice_index m.0.held st.word)
+
+  -- the word is stored
+  abbrev pub writes : Step S → Me S View → ℕ → Me S View → Type 0
+  writes st m r m' = m' ≡ (record m.0 { held = slice_set m.0.held st.word st.first }, m.1)
+
+  -- ---- publication
+
+  -- The history has one event more. The record that was current and the mask of its pins came back, for the transfer
+  pub record Publishes (e : Event) (d : DeskState) (m : Me S View) (r : ℕ) (m' : Me S View) : Type 0 where
+    pub mask : ℕ
+    pub small : mask < 4294967296
+    pub returned : r ≡ m.0.desk.current * 4294967296 + mask
+    pub is : m' ≡ (record m.0 { seen = m.0.seen ++ e ∷ []; mine = m.0.mine ++ e ∷ []; due = Some m.0.desk.current; mask = mask; drained = []; blocked = []; noted = None; desk = d; asked = m.0.asked + 1 }, m.1)
+
+  abbrev pub publishes : Event → DeskState → Step S → Me S View → ℕ → Me S View → Type 0
+  publishes e d st m r m' = Publishes e d m r m'
+
+  -- the mask that came back stands in the word DONE of its record
+  abbrev pub Transfers : Me S View → Me S View → Type 0
+  Transfers m m' = m' ≡ (record m.0 { due = None }, m.1)
+
+  abbrev pub transfers : Step S → Me S View → ℕ → Me S View → Type 0
+  transfers st m r m' = Transfers m m'
+
+  -- ---- asking
+
+  -- nobody pins the record, until the holder of the turn publishes
+  abbrev pub Drained : ℕ → Me S View → Me S View → Type 0
+  Drained a m m' = m' ≡ (record m.0 { drained = a ∷ m.0.drained; asked = m.0.asked + 1 }, m.1)
+
+  -- the holder of the turn notes the word of the current record
+  pub record NotesCurrent (m : Me S View) (r : ℕ) (m' : Me S View) : Type 0 where
+    pub mask : ℕ
+    pub small : mask < 4294967296
+    pub found : r ≡ m.0.desk.current * 4294967296 + mask
+    pub is : m' ≡ (record m.0 { noted = Some r; asked = m.0.asked + 1 }, m.1)
+
+  abbrev pub notes_current : Step S → Me S View → ℕ → Me S View → Type 0
+  notes_current st m r m' = NotesCurrent m r m'
+
+  -- In a store of one pass, which pins nothing while it has the turn, the word DONE of the current record is the mask that was noted. In a larger store nothing is said of the word: others may pin the record and end their pins between the two loads
+  pub record AsksCurrent (m : Me S View) (r : ℕ) (m' : Me S View) : Type 0 where
+    pub is : m' ≡ (record m.0 { asked = m.0.asked + 1 }, m.1)
+    pub alone : m.0.passes ≡ 1 → (mask : ℕ) → mask < 4294967296 → m.0.noted ≡ Some (m.0.desk.current * 4294967296 + mask) → r ≡ mask
+
+  abbrev pub asks_current : Step S → Me S View → ℕ → Me S View → Type 0
+  asks_current st m r m' = AsksCurrent m r m'
+
+module _ {S : Type 0} (T : Meaning S) where
+  -- a word of a blank row, or of a record that was found drained
+  abbrev pub IsWritable : View → ℕ → Type 0
+  IsWritable v i = ((x k : ℕ) × IsBlank T v x × (k < row_words) × (i ≡ row_word x k)) ⊎ ((r k : ℕ) × In r v.drained × (k < record_words) × (i ≡ record_word r k))
+
+  -- The pass, one of the store's, has the turn and the slot with its desk, and has seen the whole history. The words of the table are known; in them the current record stands for the history
+  pub record Takes (m m' : Me S View) : Type 0 where
+    pub value : S
+    pub desk : DeskState
+    pub log : History
+    pub words : List ℕ
+    pub used : List ℕ
+    pub dealt : (0 < m.0.number) × (m.0.number ≤ m.0.passes)
+    pub is_desk : T.IsDesk value m.0.rows m.0.passes desk
+    pub later : Begins m.0.seen log
+    pub own : events_of m.0.number log ≡ m.0.mine
+    pub short : length log < 9223372036854775808
+    pub wide : length words ≡ table_words m.0.rows
+    pub stands : Standing T m.0.rows m.0.passes words log desk desk.current log used
+    pub is : m' ≡ (record m.0 { seen = log; held = words; turn = true; desk = desk; due = None; mask = 0; drained = []; blocked = []; noted = None; asked = m.0.asked + 1 }, (0, value) ∷ [])
+
+  -- Another pass pinned the record, which stood for the map at a place of the history, by what the holder of the turn knows. There are fewer such records than other passes
+  pub record Blocked (a : ℕ) (m m' : Me S View) : Type 0 where
+    pub fewer : length m.0.blocked + 1 < m.0.passes
+    pub place : History
+    pub used : List ℕ
+    pub stands : Standing T m.0.rows m.0.passes m.0.held m.0.seen m.0.desk a place used
+    pub is : m' ≡ (record m.0 { blocked = a ∷ m.0.blocked; asked = m.0.asked + 1 }, m.1)
+
+  -- the record is the one whose word DONE was loaded
+  abbrev pub asks : Step S → Me S View → ℕ → Me S View → Type 0
+  asks st m r m' = (a : ℕ) × (st.word ≡ done_word a) × (r ≡ 0 → Drained a m m') × (r ≢ 0 → Blocked a m m')
+
+  abbrev pub takes_turn : Step S → Me S View → ℕ → Me S View → Type 0
+  takes_turn st m r m' = (r ≡ 0 → Takes m m') × (r ≢ 0 → Misses m m')
+
+  -- what the holder of the turn has to know to give it back with a desk: for each record that it did not find drained, its version reaches the same rows as before
+  pub record IsGiving (x : S) (d : DeskState) (m : Me S View) : Type 0 where
+    pub on : m.0.turn ≡ true
+    pub settled : m.0.due ≡ None
+    pub slot : m.1 ≡ (0, x) ∷ []
+    pub is_desk : T.IsDesk x m.0.rows m.0.passes d
+    pub current : d.current ≡ m.0.desk.current
+    pub agrees : (r : ℕ) → r < m.0.passes + 2 → (In r m.0.drained → ⊥) → Agrees T m.0.desk d r
+
+  -- the pass pins the current record, which stands for the whole history; its words and those of its rows stay
+  pub record PinsNow (m : Me S View) (found : ℕ) (m' : Me S View) : Type 0 where
+    pub cur : ℕ
+    pub mask : ℕ
+    pub log : History
+    pub words : List ℕ
+    pub used : List ℕ
+    pub found_is : found ≡ cur * 4294967296 + mask
+    pub small : mask < 4294967296
+    pub in_table : cur < m.0.passes + 2
+    pub wide : length words ≡ table_words m.0.rows
+    pub later : Begins m.0.seen log
+    pub own : events_of m.0.number log ≡ m.0.mine
+    pub version : field words cur 0 ≡ length log
+    pub stands : T.Stands (row words) (field words cur) (T.after log) used
+    pub inside : (x : ℕ) → In x used → x < m.0.rows
+    pub is : m' ≡ (record m.0 { pin = Some cur; place = log; stood = used; held = words; asked = m.0.asked + 1 }, m.1)
+
+  abbrev pub pins_now : Step S → Me S View → ℕ → Me S View → Type 0
+  pins_now st m r m' = PinsNow m r m'
+
+  -- what the holder of the turn has to know to publish a drained record, of an event, after which the desk is d: the record stands for the longer history, and for each record that it did not find drained, its version reaches the same rows as before
+  pub record IsReady (into : ℕ) (e : Event) (d : DeskState) (used : List ℕ) (v : View) : Type 0 where
+    pub on : v.turn ≡ true
+    pub unpinned : v.pin ≡ None
+    pub settled : v.due ≡ None
+    pub drained : In into v.drained
+    pub mine : e.pass ≡ v.number
+    pub room : length v.seen + 1 < 9223372036854775808
+    pub desk_at : d.current ≡ into
+    pub stands : Standing T v.rows v.passes v.held (v.seen ++ e ∷ []) d into (v.seen ++ e ∷ []) used
+    pub agrees : (r : ℕ) → r < v.passes + 2 → (In r v.drained → ⊥) → Agrees T v.desk d r

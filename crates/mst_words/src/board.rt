@@ -1,34 +1,36 @@
-//! The table, and its atomic steps.
-ghost use Rattle.std.specs.Prelude.{◌≡◌, ◌++◌, ◌∷◌, [], true, false, IfOk, Some, None};
-ghost use Rattle.mst_words.specs.Rule.{on_slot};
-ghost use Rattle.mst_words.specs.Steps.{IsFree, IsReady, IsDealer, Takes, Misses, Gives, Adds};
+//! The table, and the steps of the turn.
+ghost use Rattle.std.specs.Prelude.{◌≡◌, ◌∷◌, ◌<◌, ◌≤◌, [], true, false, IfOk, Option, Some, None};
+ghost use Rattle.mst_words.specs.Stored.{stored, fresh_desk};
+ghost use Rattle.mst_arena.specs.Lives.{State};
+ghost use Rattle.mst_words.specs.Layout.{most_passes, table_words};
+ghost use Rattle.mst_words.specs.Steps.{IsFree, IsDealer, IsGiving, Takes, Misses, Gives};
 ghost use Rattle.mst_words.specs.World.{dealer, having_dealt, newcomer};
+ghost use Rattle.mst_words.specs.declared.view.DeskState.{DeskState};
 
-use crate::desk::Desk;
-use crate::plays::{AddEvent, Deal, GiveTurn, Naming, TakeTurn};
+use crate::layout::TURN;
+use crate::plays::{Deal, GiveTurn, TakeTurn};
 use crate::rule::Law;
 use crate::view::{Shape, View};
-use atomic_table::{Refused, Seat, Table};
-use mst_key::{Event, Memory};
+use crate::words::first_words;
+use atomic_table::{Seat, Table};
+use mst_arena::Desk;
+use mst_key::Memory;
 use std::alloc::Allocator;
 use std::marker::Model;
 
-/// A pass's seat at one table: a token of no bytes, which carries what the pass knows.
-pub type PassSeat<D> = Seat<Option<D>, View>;
-
-/// The place of the turn among the words.
-pub(crate) const TURN: usize = 0;
+/// The token of a seat at one table: it has no bytes, and carries what the seat knows. The dealer's is one.
+pub type Token<A> = Seat<Option<Desk<A>>, View>;
 
 /// The place of the one slot.
 const SLOT: usize = 0;
 
-/// The table: the turn's word, and the slot in which the desk lies.
+/// The table: the words of the turn, of pins, records and rows, and the slot in which the desk lies.
 #[derive(Drop)]
-pub struct Board<D: Desk, A: Allocator + Copy> {
-    pub(crate) table: Table<Option<D>, View, Shape, Law<D>, A>,
+pub struct Board<A: Allocator + Copy> {
+    pub(crate) table: Table<Option<Desk<A>>, View, Shape, Law<A>, A>,
 }
 
-impl<D: Desk, A: Allocator + Copy> Model for Board<D, A> {
+impl<A: Allocator + Copy> Model for Board<A> {
     ghost use Rattle.std.specs.Prelude.{◌≡◌};
     ghost use Rattle.atomic_table.specs.Seated.{TableId, table_id_coded};
 
@@ -38,26 +40,42 @@ impl<D: Desk, A: Allocator + Copy> Model for Board<D, A> {
 
     ghost view = { λ b. b.table.shared.table_id };
 
-    ghost invariant = { λ b. (b.table.shared.table_id.words ≡ 1) × (b.table.shared.table_id.slots ≡ 1) };
+    ghost invariant = { λ b. b.table.shared.table_id.slots ≡ 1 };
 }
 
-impl<D: Desk, A: Allocator + Copy> Board<D, A> {
+/// The slot, with the desk.
+fn one_slot<A: Allocator>(alloc: A, desk: Desk<A>) -> Result<Vec<Option<Desk<A>>, A>, Memory>
+    ensures ok { IfOk result (λ v. v.items ≡ Some desk ∷ []) }
+{
+    let Ok(mut slots) = Vec::with_capacity(alloc, 1) else {
+        return Err(Memory);
+    };
+    slots.push_reserved(Some(desk));
+    Ok(slots)
+}
+
+impl<A: Allocator + Copy> Board<A> {
     /// A table with an empty history, and the dealer's seat. `Memory` comes where a growth was refused.
-    pub fn open(alloc: A, shape: Shape, desk: D) -> Result<(Board<D, A>, PassSeat<D>), Memory>
-        requires stands { D.stands desk shape.rows [] }
-        ensures ok { IfOk result (λ r. (r.1.table_id ≡ r.0) × (r.1.me ≡ (dealer shape.rows shape.passes 1, []))) }
+    pub fn open(alloc: A, shape: Shape, desk: Desk<A>) -> Result<(Board<A>, Token<A>), Memory>
+        requires some_rows { 0 < shape.rows }
+        requires few_rows { shape.rows ≤ 65535 }
+        requires some_passes { 0 < shape.passes }
+        requires few_passes { shape.passes ≤ most_passes }
+        requires fresh { desk ≡ fresh_desk shape.rows shape.passes }
+        ensures ok { IfOk result (λ r. (r.1.table_id ≡ r.0) × (r.0.words ≡ table_words shape.rows) × (r.1.me ≡ (dealer shape.rows shape.passes 1, []))) }
     {
-        let mut slots = Vec::with_capacity(alloc, 1).map_err(|_| Memory)?;
-        slots.push(Some(desk)).map_err(|_| Memory)?;
-        let (table, seat) = Table::new(alloc, &[0], slots, &shape).map_err(|_| Memory)?;
+        let words = first_words(alloc, shape.rows)?;
+        let slots = one_slot(alloc, desk)?;
+        let Ok((table, seat)) = Table::new(alloc, &words, slots, &shape) else {
+            return Err(Memory);
+        };
         Ok((Board { table }, seat))
     }
-}
 
-impl<D: Desk, A: Allocator + Copy> Board<D, A> {
     /// A seat for the next pass. It costs one load.
-    pub fn deal(&self, seat: &mut PassSeat<D>) -> PassSeat<D>
+    pub(crate) fn deal_token(&self, seat: &mut Token<A>) -> Token<A>
         requires own { seat.old.table_id ≡ self.now }
+        requires wide { self.now.words ≡ table_words seat.old.me.0.rows }
         requires dealer { IsDealer seat.old.me }
         ensures same { seat.new.table_id ≡ seat.old.table_id }
         ensures dealer { seat.new.me ≡ (having_dealt seat.old.me.0, []) }
@@ -68,24 +86,25 @@ impl<D: Desk, A: Allocator + Copy> Board<D, A> {
     }
 
     /// Takes the turn: one compare-exchange of its word from 0 to the pass's number. True where the turn is then the pass's.
-    pub fn take_turn(&self, seat: &mut PassSeat<D>, number: u32) -> bool
+    pub(crate) fn take_turn(&self, seat: &mut Token<A>, number: u32) -> bool
         requires own { seat.old.table_id ≡ self.now }
+        requires wide { self.now.words ≡ table_words seat.old.me.0.rows }
         requires free { IsFree number seat.old.me }
         ensures same { (seat.new.table_id ≡ seat.old.table_id) × (seat.new.id ≡ seat.old.id) }
-        ensures taken { result ≡ true → Takes (on_slot D.stands) seat.old.me seat.new.me }
-        ensures missed { result ≡ false → Misses (on_slot D.stands) seat.old.me seat.new.me }
+        ensures taken { result ≡ true → Takes stored seat.old.me seat.new.me }
+        ensures missed { result ≡ false → Misses seat.old.me seat.new.me }
     {
         let found = self
             .table
             .shared
-            .compare_exchange::<TakeTurn<D>>(seat, TURN, 0, u64::from(number));
+            .compare_exchange::<TakeTurn>(seat, TURN, 0, u64::from(number));
         found == 0
     }
 
     /// Takes the desk out of the slot: one exchange.
-    pub fn take_desk(&self, seat: &mut PassSeat<D>) -> D
+    pub(crate) fn take_desk(&self, seat: &mut Token<A>) -> Desk<A>
         requires own { seat.old.table_id ≡ self.now }
-        requires holds { (d : D) × (seat.old.me.1 ≡ (0, Some d) ∷ []) }
+        requires holds { (d : State) × (seat.old.me.1 ≡ (0, Some d) ∷ []) }
         ensures same { (seat.new.table_id ≡ seat.old.table_id) × (seat.new.id ≡ seat.old.id) }
         ensures desk { seat.old.me.1 ≡ (0, Some result) ∷ [] }
         ensures left { seat.new.me ≡ (seat.old.me.0, (0, None) ∷ []) }
@@ -97,7 +116,7 @@ impl<D: Desk, A: Allocator + Copy> Board<D, A> {
     }
 
     /// Lays the desk back into the slot: one exchange.
-    pub fn return_desk(&self, seat: &mut PassSeat<D>, desk: D)
+    pub(crate) fn return_desk(&self, seat: &mut Token<A>, desk: Desk<A>)
         requires own { seat.old.table_id ≡ self.now }
         requires holds { seat.old.me.1 ≡ (0, None) ∷ [] }
         ensures same { (seat.new.table_id ≡ seat.old.table_id) × (seat.new.id ≡ seat.old.id) }
@@ -108,25 +127,16 @@ impl<D: Desk, A: Allocator + Copy> Board<D, A> {
         };
     }
 
-    /// Gives the turn back with the history as it was: one store of 0 to its word.
-    pub fn give_turn(&self, seat: &mut PassSeat<D>)
+    /// Gives the turn back: one store of 0 to its word.
+    ///
+    /// The desk in the slot has to say of each record that was not found drained, that its version reaches the same rows as when the turn was taken.
+    pub(crate) fn give_turn(&self, seat: &mut Token<A>)
         requires own { seat.old.table_id ≡ self.now }
-        requires ready { IsReady (on_slot D.stands) seat.old.me.0.seen seat.old.me }
+        requires wide { self.now.words ≡ table_words seat.old.me.0.rows }
+        requires giving { (x : Option State) × (d : DeskState) × IsGiving stored x d seat.old.me }
         ensures same { (seat.new.table_id ≡ seat.old.table_id) × (seat.new.id ≡ seat.old.id) }
         ensures gave { Gives seat.old.me seat.new.me }
     {
         self.table.shared.store::<GiveTurn>(seat, TURN, 0);
-    }
-
-    /// Adds an event of the pass to the history and gives the turn back: one store of 0 to its word.
-    pub fn add_event<J: Naming>(&self, seat: &mut PassSeat<D>, event: &Event)
-        requires own { seat.old.table_id ≡ self.now }
-        requires named { J.event ≡ event.now }
-        requires mine { event.now.pass ≡ seat.old.me.0.number }
-        requires ready { IsReady (on_slot D.stands) (seat.old.me.0.seen ++ event.now ∷ []) seat.old.me }
-        ensures same { (seat.new.table_id ≡ seat.old.table_id) × (seat.new.id ≡ seat.old.id) }
-        ensures added { Adds event.now seat.old.me seat.new.me }
-    {
-        self.table.shared.store::<AddEvent<J>>(seat, TURN, 0);
     }
 }

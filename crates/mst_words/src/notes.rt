@@ -1,18 +1,21 @@
 //! How passes learn what others have seen: a look at the whole history, and notes that go from seat to seat. Each call is one load of a word, at any time: the turn may be free or taken.
 ghost use Rattle.std.specs.Prelude.{◌≡◌, [], false};
+ghost use Rattle.mst_key.specs.History.{Begins};
+ghost use Rattle.mst_words.specs.Layout.{table_words};
 ghost use Rattle.mst_words.specs.Notes.{note_of, having_heard, SeesAll, SeesTold};
 
-use crate::board::{Board, PassSeat, TURN};
-use crate::desk::Desk;
+use crate::board::{Board, Token};
+use crate::layout::CURRENT;
 use crate::view::View;
 use atomic_table::{Join, Play, Split};
+use mst_arena::Desk;
 use std::alloc::Allocator;
 use std::marker::{Brand, PhantomData};
 
 /// The whole history is seen.
 pub struct SeeAll;
 
-impl<D: Desk> Play<Option<D>, View> for SeeAll {
+impl<A: Allocator> Play<Option<Desk<A>>, View> for SeeAll {
     ghost use Rattle.mst_words.specs.Notes.{sees_all};
 
     ghost then = { sees_all };
@@ -21,7 +24,7 @@ impl<D: Desk> Play<Option<D>, View> for SeeAll {
 /// What a note told is seen.
 pub struct SeeTold;
 
-impl<D: Desk> Play<Option<D>, View> for SeeTold {
+impl<A: Allocator> Play<Option<Desk<A>>, View> for SeeTold {
     ghost use Rattle.mst_words.specs.Notes.{sees_told};
 
     ghost then = { sees_told };
@@ -64,30 +67,34 @@ impl<J: Telling> Join<View> for HearNote<J> {
     ghost spent = { J.note };
 }
 
-impl<D: Desk, A: Allocator + Copy> Board<D, A> {
+impl<A: Allocator + Copy> Board<A> {
     /// Sees the whole history.
-    pub fn see_all(&self, seat: &mut PassSeat<D>)
+    pub(crate) fn see_all(&self, seat: &mut Token<A>)
         requires own { seat.old.table_id ≡ self.now }
+        requires wide { self.now.words ≡ table_words seat.old.me.0.rows }
         requires off { seat.old.me.0.turn ≡ false }
         ensures same { (seat.new.table_id ≡ seat.old.table_id) × (seat.new.id ≡ seat.old.id) }
         ensures seen { SeesAll seat.old.me seat.new.me }
     {
-        self.table.shared.load::<SeeAll>(seat, TURN);
+        self.table.shared.load::<SeeAll>(seat, CURRENT);
     }
 
-    /// Sees the history that a note told of, and no more.
-    pub fn see_told(&self, seat: &mut PassSeat<D>)
+    /// Sees the history that a note told of, and no more. It has to begin with what the seat has seen.
+    pub(crate) fn see_told(&self, seat: &mut Token<A>)
         requires own { seat.old.table_id ≡ self.now }
+        requires wide { self.now.words ≡ table_words seat.old.me.0.rows }
         requires off { seat.old.me.0.turn ≡ false }
+        requires forward { Begins seat.old.me.0.seen seat.old.me.0.told }
         ensures same { (seat.new.table_id ≡ seat.old.table_id) × (seat.new.id ≡ seat.old.id) }
         ensures seen { SeesTold seat.old.me seat.new.me }
     {
-        self.table.shared.load::<SeeTold>(seat, TURN);
+        self.table.shared.load::<SeeTold>(seat, CURRENT);
     }
 
     /// Writes a note of what the seat has seen.
-    pub fn write_note(&self, seat: &mut PassSeat<D>) -> PassSeat<D>
+    pub(crate) fn write_note(&self, seat: &mut Token<A>) -> Token<A>
         requires own { seat.old.table_id ≡ self.now }
+        requires wide { self.now.words ≡ table_words seat.old.me.0.rows }
         ensures same { (seat.new.table_id ≡ seat.old.table_id) × (seat.new.id ≡ seat.old.id) }
         ensures kept { seat.new.me ≡ seat.old.me }
         ensures own { result.table_id ≡ seat.old.table_id }
@@ -97,8 +104,9 @@ impl<D: Desk, A: Allocator + Copy> Board<D, A> {
     }
 
     /// Hears a note: the seat is told of the history that the note's writer had seen.
-    pub fn hear_note<J: Telling>(&self, seat: &mut PassSeat<D>, note: PassSeat<D>)
+    pub(crate) fn hear_note<J: Telling>(&self, seat: &mut Token<A>, note: Token<A>)
         requires own { (seat.old.table_id ≡ self.now) × (note.table_id ≡ self.now) }
+        requires wide { self.now.words ≡ table_words seat.old.me.0.rows }
         requires named { J.note ≡ note.me.0 }
         requires empty { note.me.1 ≡ [] }
         ensures same { (seat.new.table_id ≡ seat.old.table_id) × (seat.new.id ≡ seat.old.id) }

@@ -1,52 +1,140 @@
 //! What each step tells the seat that makes it.
-use crate::desk::Desk;
 use crate::view::View;
 use atomic_table::{Play, Split};
+use mst_arena::Desk;
+use std::alloc::Allocator;
 use std::marker::{Brand, PhantomData};
 
 /// The turn is taken, or another pass has it.
-pub struct TakeTurn<D: Desk> {
-    desk: PhantomData<D>,
-}
+pub struct TakeTurn;
 
-impl<D: Desk> Play<Option<D>, View> for TakeTurn<D> {
-    ghost use Rattle.mst_words.specs.Rule.{on_slot};
+impl<A: Allocator> Play<Option<Desk<A>>, View> for TakeTurn {
+    ghost use Rattle.mst_words.specs.Stored.{stored};
     ghost use Rattle.mst_words.specs.Steps.{takes_turn};
 
-    ghost then = { takes_turn (on_slot D.stands) };
+    ghost then = { takes_turn stored };
 }
 
-/// The turn is given back, and the history stays.
+/// The turn is given back.
 pub struct GiveTurn;
 
-impl<D: Desk> Play<Option<D>, View> for GiveTurn {
+impl<A: Allocator> Play<Option<Desk<A>>, View> for GiveTurn {
     ghost use Rattle.mst_words.specs.Steps.{gives_turn};
 
     ghost then = { gives_turn };
 }
 
-/// Which event a step adds to the history. Each call that adds one picks it.
+/// The current record is pinned.
+pub struct Pin;
+
+impl<A: Allocator> Play<Option<Desk<A>>, View> for Pin {
+    ghost use Rattle.mst_words.specs.Stored.{stored};
+    ghost use Rattle.mst_words.specs.Steps.{pins_now};
+
+    ghost then = { pins_now stored };
+}
+
+/// The pin ends, and the history at the pin is seen.
+pub struct Unpin;
+
+impl<A: Allocator> Play<Option<Desk<A>>, View> for Unpin {
+    ghost use Rattle.mst_words.specs.Steps.{unpins};
+
+    ghost then = { unpins };
+}
+
+/// The pin ends, and nothing more is seen.
+pub struct Forget;
+
+impl<A: Allocator> Play<Option<Desk<A>>, View> for Forget {
+    ghost use Rattle.mst_words.specs.Steps.{forgets};
+
+    ghost then = { forgets };
+}
+
+/// A word of a record or a row is loaded.
+pub struct Read;
+
+impl<A: Allocator> Play<Option<Desk<A>>, View> for Read {
+    ghost use Rattle.mst_words.specs.Steps.{reads};
+
+    ghost then = { reads };
+}
+
+/// A word of a blank row or of a drained record is stored.
+pub struct Write;
+
+impl<A: Allocator> Play<Option<Desk<A>>, View> for Write {
+    ghost use Rattle.mst_words.specs.Steps.{writes};
+
+    ghost then = { writes };
+}
+
+/// Which event a publication adds to the history, and what the desk then knows. Each call that publishes picks them.
 pub trait Naming {
     ghost use Rattle.mst_key.specs.declared.history.Event.{Event};
+    ghost use Rattle.mst_words.specs.declared.view.DeskState.{DeskState};
 
     ghost event: { Event };
+
+    ghost desk: { DeskState };
 }
 
 impl Naming for Brand {
     ghost use Rattle.mst_words.specs.Steps.{no_event};
+    ghost use Rattle.mst_words.specs.World.{no_desk};
 
     ghost event = { no_event };
+
+    ghost desk = { no_desk };
 }
 
-/// The turn is given back, and the history has one event more.
-pub struct AddEvent<J: Naming> {
+/// A drained record becomes the current one, and the history has one event more.
+pub struct Publish<J: Naming> {
     event: PhantomData<J>,
 }
 
-impl<D: Desk, J: Naming> Play<Option<D>, View> for AddEvent<J> {
-    ghost use Rattle.mst_words.specs.Steps.{adds_event};
+impl<A: Allocator, J: Naming> Play<Option<Desk<A>>, View> for Publish<J> {
+    ghost use Rattle.mst_words.specs.Steps.{publishes};
 
-    ghost then = { adds_event J.event };
+    ghost then = { publishes J.event J.desk };
+}
+
+/// The mask that a publication brought back goes into the old record's word.
+pub struct Transfer;
+
+impl<A: Allocator> Play<Option<Desk<A>>, View> for Transfer {
+    ghost use Rattle.mst_words.specs.Steps.{transfers};
+
+    ghost then = { transfers };
+}
+
+/// The holder of the turn asks whether somebody pins a record.
+pub struct Ask;
+
+impl<A: Allocator> Play<Option<Desk<A>>, View> for Ask {
+    ghost use Rattle.mst_words.specs.Stored.{stored};
+    ghost use Rattle.mst_words.specs.Steps.{asks};
+
+    ghost then = { asks stored };
+}
+
+/// The holder of the turn notes the word of the current record.
+pub struct NoteCurrent;
+
+impl<A: Allocator> Play<Option<Desk<A>>, View> for NoteCurrent {
+    ghost use Rattle.mst_words.specs.Steps.{notes_current};
+
+    ghost then = { notes_current };
+}
+
+/// The holder of the turn loads the current record's own word.
+pub struct AskCurrent;
+
+impl<A: Allocator> Play<Option<Desk<A>>, View> for AskCurrent {
+    ghost use Rattle.mst_words.specs.Steps.{asks_current};
+
+    ghost then = { asks_current };
 }
 
 /// The dealer deals the next pass.

@@ -1,19 +1,21 @@
 //! The rule of the table.
-use crate::desk::Desk;
 use crate::view::{Shape, View};
 use atomic_table::TableRule;
+use mst_arena::Desk;
+use std::alloc::Allocator;
 use std::marker::PhantomData;
 
 /// It holds between any two steps, whichever seats make them.
-pub struct Law<D: Desk> {
-    desk: PhantomData<D>,
+pub struct Law<A: Allocator> {
+    desk: PhantomData<A>,
 }
 
-impl<D: Desk> TableRule<Option<D>, View, Shape> for Law<D> {
-    ghost use Rattle.mst_words.specs.Rule.{Ruled, on_slot};
+impl<A: Allocator> TableRule<Option<Desk<A>>, View, Shape> for Law<A> {
+    ghost use Rattle.mst_words.specs.Rule.{Ruled};
+    ghost use Rattle.mst_words.specs.Stored.{stored};
     ghost use Rattle.mst_words.specs.World.{dealer};
 
-    ghost holds = { λ shape s. Ruled (on_slot D.stands) shape.rows shape.passes s };
+    ghost holds = { λ shape s. Ruled stored shape.rows shape.passes s };
 
     ghost first = { λ shape. dealer shape.rows shape.passes 1 };
 }

@@ -1,4 +1,5 @@
-//! What a pass knows of the history.
+//! What a pass knows of the table.
+use mst_arena::Life;
 use mst_key::Event;
 use std::collections::LinkedList;
 
@@ -7,6 +8,16 @@ use std::collections::LinkedList;
 pub struct Shape {
     pub rows: u32,
     pub passes: u32,
+}
+
+/// What the desk knows, as contracts see it.
+pub struct DeskState {
+    /// The record of the current version.
+    pub current: u32,
+    /// The version of each record.
+    pub versions: LinkedList<u64>,
+    /// The life of each row.
+    pub lives: LinkedList<Life>,
 }
 
 /// What a seat at the table knows. It exists in contracts alone: no value of it is ever made.
@@ -24,6 +35,28 @@ pub struct View {
     pub mine: LinkedList<Event>,
     /// A beginning of the history that another pass has told of.
     pub told: LinkedList<Event>,
+    /// The record that the pass pins.
+    pub pin: Option<u32>,
+    /// The history at the pin.
+    pub place: LinkedList<Event>,
+    /// The numbers of the rows that stand for the map of the pinned version.
+    pub stood: LinkedList<u32>,
+    /// The words of the table as they were at the pin, or when the turn was taken and with what its holder has stored since.
+    pub held: LinkedList<u64>,
     /// Whether the pass has the turn.
     pub turn: bool,
+    /// What the desk knew when the turn was taken, and from a publication on what it then knew.
+    pub desk: DeskState,
+    /// The record that was current before the publication whose transfer waits.
+    pub due: Option<u32>,
+    /// The mask that came back from the last publication.
+    pub mask: u64,
+    /// The records that the holder of the turn has found drained.
+    pub drained: LinkedList<u32>,
+    /// The records that it has found pinned.
+    pub blocked: LinkedList<u32>,
+    /// The word of the current record, as the holder of the turn has noted it.
+    pub noted: Option<u64>,
+    /// How many steps of the seat had an answer that depends on what other passes do: a try of the turn, a pin, a publication, a load of the word of the current record, a question to a record, and a note that was heard. No part of the rule speaks of it, and no other step changes it.
+    pub asked: u64,
 }

@@ -1,9 +1,13 @@
-use Rattle.std.proofs.Common.{◌≡◌, rules, sym, ap, ◌∙◌}
+use Rattle.std.proofs.Common.{◌≡◌, rules, refl, sym, ap, ◌∙◌}
 use Rattle.std.specs.Option.{option_copied}
 use Rattle.mst_key.specs.declared.history.Change.TheVariants as change
 use Rattle.mst_requests.specs.declared.request.Command.TheVariants.{Put, Remove, Get, Next, Root, Rows}
+use Rattle.mst_key.specs.Map.{look, successor}
+use Rattle.mst_key.specs.declared.format.Format.TheVariants.{One}
+use Rattle.mst_node.specs.Text.{root}
+use Rattle.mst_requests.specs.Texts.{line_of, digits_of, value_words, found_words}
 use Rattle.mst_requests.specs.Answers.{text_of}
-use Rattle.mst_script.proofs.Asking.{asked, written, value_read, pair_read, root_read, rows_read}
+use Rattle.mst_script.proofs.Asking.{asked, written, read_found, counted}
 use Rattle.mst_script.proofs.serve.ask.Goals as goal
 
 pub returns-in-Put : goal.returns-in-Put
@@ -18,24 +22,24 @@ returns-in-Remove g c = let k = c.in-Remove.key in let p = c.args.pass.now in le
 
 pub returns-in-Get : goal.returns-in-Get
 returns-in-Get g c = let k = c.in-Get.key in let p = c.args.pass.now in let q = c.get.new.self in
-    asked c.args.command.now (Get k) p q (text_of c.value_answer_of.result) c.in-Get.is
-    (value_read k p q c.get.result c.value_answer_of.result c.value_answer_of.ensures c.get.ensures.ok c.get.ensures.busy)
+    asked c.args.command.now (Get k) p q (line_of (value_words c.get.result)) c.in-Get.is
+    (read_found (λ m. look m k) (λ x. line_of (value_words x)) (line_of (value_words c.get.result)) p q c.get.result c.get.ensures.answers refl)
 
 pub returns-in-Next : goal.returns-in-Next
 returns-in-Next g c = let p = c.args.pass.now in let q = c.next.new.self in
     let same : option_copied c.as_ref.result ≡ c.in-Next.bound = search rules in
-    asked c.args.command.now (Next (option_copied c.as_ref.result)) p q (text_of c.pair_answer_of.result) (c.in-Next.is ∙ ap Next (sym same))
-    (pair_read (option_copied c.as_ref.result) p q c.next.result c.pair_answer_of.result c.pair_answer_of.ensures c.next.ensures.ok c.next.ensures.busy)
+    asked c.args.command.now (Next (option_copied c.as_ref.result)) p q (line_of (found_words c.next.result)) (c.in-Next.is ∙ ap Next (sym same))
+    (read_found (λ m. successor m (option_copied c.as_ref.result)) (λ x. line_of (found_words x)) (line_of (found_words c.next.result)) p q c.next.result c.next.ensures.answers refl)
 
 pub returns-in-Root : goal.returns-in-Root
 returns-in-Root g c = let p = c.args.pass.now in let q = c.root.new.self in
-    asked c.args.command.now Root p q (text_of c.root_answer_of.result) c.in-Root.is
-    (root_read p q c.root.result c.root_answer_of.result c.root_answer_of.ensures c.root.ensures.ok c.root.ensures.busy)
+    asked c.args.command.now Root p q (line_of (digits_of c.root.result)) c.in-Root.is
+    (read_found (root One) (λ x. line_of (digits_of x)) (line_of (digits_of c.root.result)) p q c.root.result c.root.ensures.answers refl)
 
 pub returns-in-Rows : goal.returns-in-Rows
 returns-in-Rows g c = let p = c.args.pass.now in let q = c.rows.new.self in
     asked c.args.command.now Rows p q (text_of c.rows_answer_of.result) c.in-Rows.is
-    (rows_read p q c.rows.result c.rows_answer_of.result c.rows_answer_of.ensures c.rows.ensures.ok c.rows.ensures.busy)
+    (counted p q c.rows.result c.rows_answer_of.result c.rows_answer_of.ensures c.rows.ensures.looks c.rows.ensures.some c.rows.ensures.alone c.rows.ensures.busy)
 
 pub returns-in-Range : goal.returns-in-Range
 returns-in-Range g c = search rules

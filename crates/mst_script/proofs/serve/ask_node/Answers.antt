@@ -3,7 +3,7 @@ use Rattle.std.proofs.Common.{refl}
 use Rattle.mst_key.specs.declared.format.Format.TheVariants.{One}
 use Rattle.mst_node.specs.Tree.{tree}
 use Rattle.mst_requests.specs.declared.request.Command.TheVariants.{Node}
-use Rattle.mst_requests.specs.Answers.{text_of}
+use Rattle.std.specs.Prelude.{codes}
 use Rattle.mst_requests.specs.Texts.{line_of}
 use Rattle.mst_script.specs.Machine.{top_words}
 use Rattle.mst_script.proofs.Asking.{asked, missed}
@@ -11,8 +11,8 @@ use Rattle.mst_script.proofs.serve.ask_node.Goals as goal
 
 pub returns-in-Err : goal.returns-in-Err
 returns-in-Err g c = let p = c.args.pass.now in let q = c.prove.new.self in
-    asked Node Node p q (text_of c.missed_answer_of.result) refl
-    (missed (λ m. line_of (top_words (tree One m))) c.in-Err.fault p q c.missed_answer_of.result c.missed_answer_of.ensures c.in-Err.ensures.err)
+    asked Node Node p q (line_of (codes "memory")) refl
+    (missed (λ m. line_of (top_words (tree One m))) (line_of (codes "memory")) p q c.in-Err.ensures.memory refl)
 
 pub unreachable-requires : goal.unreachable-requires
 unreachable-requires g c = search rules

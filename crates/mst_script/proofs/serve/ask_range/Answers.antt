@@ -2,7 +2,7 @@ use Rattle.std.proofs.Common.{◌++◌, List, refl}
 use Rattle.std.specs.Option.{option_copied}
 use Rattle.mst_key.specs.Map.{Pair, span}
 use Rattle.mst_requests.specs.declared.request.Command.TheVariants.{Range}
-use Rattle.mst_requests.specs.Answers.{text_of}
+use Rattle.std.specs.Prelude.{codes}
 use Rattle.mst_requests.specs.Texts.{line_of, count_words, pair_lines}
 use Rattle.mst_script.proofs.Asking.{asked, missed}
 use Rattle.mst_script.proofs.serve.ask_range.Goals as goal
@@ -11,5 +11,5 @@ pub returns-in-Err : goal.returns-in-Err
 returns-in-Err g c = let p = c.args.pass.now in let q = c.range.new.self in
     let from = option_copied c.args.from in let to = option_copied c.args.to in
     let found = λ (m : List Pair). span m from to c.args.limit in
-    asked (Range from to c.args.limit) (Range from to c.args.limit) p q (text_of c.missed_answer_of.result) refl
-    (missed (λ m. line_of (count_words (found m)) ++ pair_lines (found m)) c.in-Err.fault p q c.missed_answer_of.result c.missed_answer_of.ensures c.in-Err.ensures.err)
+    asked (Range from to c.args.limit) (Range from to c.args.limit) p q (line_of (codes "memory")) refl
+    (missed (λ m. line_of (count_words (found m)) ++ pair_lines (found m)) (line_of (codes "memory")) p q c.in-Err.ensures.memory refl)

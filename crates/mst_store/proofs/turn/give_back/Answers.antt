@@ -1,15 +1,6 @@
-use Rattle.std.proofs.Common.{ap, sym, subst, ◌∙◌, Some}
-use Rattle.mst_words.specs.declared.view.View.{View}
-use Rattle.mst_store.specs.Slot.{Stands}
-use Rattle.mst_store.specs.Turns.{Seated}
+use Rattle.std.proofs.Common.{◌∷◌, [], Some, refl}
+use Rattle.mst_store.proofs.Beginning.{giving}
 use Rattle.mst_store.proofs.turn.give_back.Goals as goal
 
-pub give_turn-requires-clause-ready : goal.give_turn-requires-clause-ready
-give_turn-requires-clause-ready g c = let r = c.return_desk.ensures.returned in let w = c.requires.whole in (
-  ap (λ (z : Seated g.row.A.Denot). z.0.turn) r ∙ w.on,
-  (
-    Some c.args.map,
-    ap (λ (z : Seated g.row.A.Denot). z.1) r,
-    subst (λ (v : View). Stands c.args.map v.rows v.seen) (sym (ap (λ (z : Seated g.row.A.Denot). z.0) r)) w.stood,
-  ),
-)
+pub lay_back-requires-clause-giving : goal.lay_back-requires-clause-giving
+lay_back-requires-clause-giving g c = giving c.args.turn c.args.seat.now.me (c.args.seat.now.me.0, (0, Some c.args.turn.desk) ∷ []) c.requires.turn refl

@@ -8,6 +8,6 @@ invariant-loop-index g l = record {
   dealt : l.passes.items ≡ first_passes l.fn.self l.index;
   counted : vec_len l.passes ≡ l.index;
   room : vec_capacity l.passes ≡ l.count;
-  own : l.dealer.table_id ≡ l.fn.self.table;
-  next : l.dealer.me ≡ (dealer l.fn.self.rows l.fn.self.passes (l.index + 1), []);
+  own : l.token.table_id ≡ l.fn.self.table;
+  next : l.token.me ≡ (dealer l.fn.self.rows l.fn.self.passes (l.index + 1), []);
 }

@@ -1,11 +1,42 @@
-use Rattle.std.proofs.Common.{rules, ◌≡◌, ◌∷◌, [], List, Some, Option, sym, subst}
+use Rattle.std.proofs.Common.{rules}
+use Rattle.std.proofs.Common.{◌≡◌, ◌<◌, ◌∷◌, [], ℕ, List, Some, Option, refl, ap, ◌∙◌, sym, subst, arith}
+use Rattle.std.specs.Prelude.{slice_index}
 use Rattle.atomic_table.specs.Table.{opening}
+use Rattle.mst_arena.specs.Lives.{State}
 use Rattle.mst_words.specs.World.{dealer}
-use Rattle.mst_words.specs.Rule.{Ruled, on_slot}
-use Rattle.mst_words.proofs.Turns.{opens}
+use Rattle.mst_words.specs.Rule.{Ruled}
+use Rattle.mst_words.specs.Stored.{stored, fresh_desk, desk_state}
+use Rattle.mst_words.proofs.Framed.{stored_framed}
+use Rattle.mst_words.proofs.Fresh.{fresh_standing, fresh_is_desk}
+use Rattle.mst_words.proofs.Opens.{opens}
 use Rattle.mst_words.proofs.board.Board.open.Goals as goal
 
 pub new-requires : goal.new-requires
-new-requires g c = let e : c.push.new.self.items ≡ Some c.args.desk ∷ [] = search rules in
-    subst (λ (l : List (Option g.row.D.Denot)). Ruled (on_slot g.D.Desk.stands) c.args.shape.rows c.args.shape.passes (opening (0 ∷ []) l (dealer c.args.shape.rows c.args.shape.passes 1))) (sym e)
-    (opens (on_slot g.D.Desk.stands) c.args.shape.rows c.args.shape.passes (Some c.args.desk) c.requires.stands)
+new-requires g c =
+    let R : ℕ = c.args.shape.rows in let N : ℕ = c.args.shape.passes in let d : State = fresh_desk R N in let ws : List ℕ = c.in_ok-words.words.items in
+    let front : (i : ℕ) → i < 38 → slice_index ws i ≡ 0 = c.in_ok-words.ensures.front in
+    let slots : c.in_ok-slots.slots.items ≡ Some d ∷ [] = c.in_ok-slots.ensures.ok ∙ ap (λ (x : State). Some x ∷ []) c.requires.fresh in
+    subst (λ (z : List ℕ × List (Option State)). Ruled stored R N (opening z.0 z.1 (dealer R N 1))) (λ i. (sym c.deref.ensures.value i, sym slots i))
+    (opens stored stored_framed R N ws (Some d) (desk_state d) c.in_ok-words.ensures.long (λ i l. front i (omega arith)) (let few = c.requires.few_passes in omega arith) (fresh_is_desk R N) refl
+    (fresh_standing R N ws front c.in_ok-words.ensures.digest))
+
+pub returns-in_err-words : goal.returns-in_err-words
+returns-in_err-words g c = search rules
+
+pub returns-in_err-slots : goal.returns-in_err-slots
+returns-in_err-slots g c = search rules
+
+pub returns-in_default : goal.returns-in_default
+returns-in_default g c = search rules
+
+pub returns : goal.returns
+returns g c = search rules
+
+pub first_words-requires : goal.first_words-requires
+first_words-requires g c = search rules
+
+pub same-desk : goal.same-desk
+same-desk g c = search rules
+
+pub invariant_of-result : goal.invariant_of-result
+invariant_of-result g c = search rules

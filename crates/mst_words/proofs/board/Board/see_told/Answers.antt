@@ -1,7 +1,9 @@
-use Rattle.std.proofs.Common.{rules}
-use Rattle.mst_words.specs.Rule.{on_slot}
+use Rattle.std.proofs.Common.{rules, arith, ap}
+use Rattle.atomic_table.specs.Seated.{TableId}
+use Rattle.mst_words.specs.Stored.{stored}
+use Rattle.mst_words.proofs.Framed.{stored_framed}
 use Rattle.mst_words.proofs.Hearing.{told_allows}
 use Rattle.mst_words.proofs.board.Board.see_told.Goals as goal
 
 pub load-requires : goal.load-requires
-load-requires g c = (search rules, search rules, told_allows (on_slot g.D.Desk.stands) _ _ _ _ 0 c.args.seat.now.me c.requires.off)
+load-requires g c = (search rules, (let v = ap (λ (z : TableId). z.words) c.self.view_is in let e = c.requires.wide in omega arith), told_allows stored stored_framed _ _ _ _ 1 c.args.seat.now.me c.requires.off c.requires.forward)

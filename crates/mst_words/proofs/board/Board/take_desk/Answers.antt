@@ -1,7 +1,23 @@
 use Rattle.std.proofs.Common.{rules, ◌∷◌, List, ℕ, ap, sym, ◌∙◌, Some, Option}
 use Rattle.atomic_table.specs.Table.{rest}
+use Rattle.mst_arena.specs.Lives.{State}
 use Rattle.mst_words.proofs.board.Board.take_desk.Goals as goal
 
 pub exchange-requires : goal.exchange-requires
 exchange-requires g c = let h = c.requires.holds in
-    (search rules, (Some h.0, h.1 ∙ ap (λ (l : List (ℕ × Option g.row.D.Denot)). (0, Some h.0) ∷ rest l) (sym h.1)))
+    (search rules, (Some h.0, h.1 ∙ ap (λ (l : List (ℕ × Option State)). (0, Some h.0) ∷ rest l) (sym h.1)))
+
+pub unreachable-requires : goal.unreachable-requires
+unreachable-requires g c = search rules
+
+pub unreachable-unreachable : goal.unreachable-unreachable
+unreachable-unreachable g c = search rules
+
+pub returns-clause-same : goal.returns-clause-same
+returns-clause-same g c = search rules
+
+pub returns-clause-desk : goal.returns-clause-desk
+returns-clause-desk g c = search rules
+
+pub returns-clause-left : goal.returns-clause-left
+returns-clause-left g c = search rules

@@ -1,2 +1,0 @@
-pub mod Courier
-pub mod AllPasses

@@ -1,5 +1,0 @@
-use Rattle.mst_passes.proofs.settling.deliver.Given as goal
-
--- the note that is heard
-abbrev pub ghosts-hear_note : goal.ghosts-hear_note
-ghosts-hear_note g a = record { note = a.note.me.0 }

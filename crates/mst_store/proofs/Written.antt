@@ -1,0 +1,107 @@
+-- From the turn that was begun to what the pass knows after its write.
+use Rattle.std.proofs.Common.{◌≡◌, ℕ, ◌+◌, ◌<◌, ◌≤◌, List, [], ◌∷◌, ◌++◌, length, map, slice_index, Option, true, false, sym, ap, ◌∙◌, subst, arith}
+use mathlib.Core.Logic.{dite}
+use native.Mathlib.Decide.{ℕ_discrete}
+use Rattle.mst_key.specs.declared.history.Change.{Change}
+use Rattle.mst_key.specs.declared.history.Event.{Event}
+use Rattle.mst_key.specs.History.{History, after}
+use Rattle.mst_arena.specs.Lives.{version, reaches, free_count, swept, last_version}
+use Rattle.mst_arena.specs.Standing.{numbers}
+use Rattle.mst_arena.specs.declared.life.Life.{Life}
+use Rattle.mst_arena.specs.declared.life.Life.TheVariants.{Free, Born, Dead}
+use Rattle.mst_arena.specs.declared.row.Root.{Root}
+use Rattle.mst_path.specs.Moves as moves
+use Rattle.mst_path.specs.Versions.{HasMap}
+use Rattle.mst_path.proofs.Moving.{one_row}
+use Rattle.mst_path.proofs.Taking.{frees, frees_is}
+use Rattle.mst_path.proofs.Versions.{room_alone, rows_of_map}
+use Rattle.mst_words.specs.declared.view.View.{View}
+use Rattle.mst_words.specs.Access.{content_of}
+use Rattle.mst_words.specs.Pins.{In}
+use Rattle.mst_store.specs.declared.turn.Turn.{Turn}
+use Rattle.mst_store.specs.declared.faults.WriteFault.TheVariants.{NoRoom}
+use Rattle.mst_store.specs.Turns.{Seat, IsKept, AreKept, HasTurn, Begun, Added}
+use Rattle.mst_store.specs.Writes.{made_at_seat, rows_of, rows_taken, Made, LacksRows, WroteAtSeat, LookedAtSeat, RefusesAtSeat}
+use Rattle.mst_store.proofs.Asked.{in_last}
+
+dead_more : (b d : ℕ) (life : Life) (old new : List Life) → frees old ≤ frees new → frees (Dead b d ∷ old) ≤ frees (life ∷ new)
+unfolding frees
+dead_more b d Free old new more = omega (arith, more)
+dead_more b d (Born c) old new more = omega (arith, more)
+dead_more b d (Dead c e) old new more = omega (arith, more)
+
+-- a sweep leaves at least the rows free that were so
+free_more : (live : List ℕ) (lives : List Life) → frees lives ≤ frees (map (swept live) lives)
+unfolding frees
+free_more live [] = omega arith
+free_more live (Free ∷ lives) = omega (arith, free_more live lives)
+free_more live (Born b ∷ lives) = omega (arith, free_more live lives)
+free_more live (Dead b d ∷ lives) = dead_more b d (swept live (Dead b d)) lives (map (swept live) lives) (free_more live lives)
+
+-- the free rows and those of the map are at most all rows
+pub room_left : {A : Type 0} (t : Turn A) (m : Seat) → HasTurn t m → free_count t.desk.lives + rows_of (after m.0.seen) ≤ m.0.rows
+room_left t m h =
+    let has : HasMap (content_of m.0) t.desk.lives (version t.desk) t.root (after m.0.seen) = record { stands = h.stands; rows = h.reached } in
+    let all = room_alone (content_of m.0) t.desk t.root (after m.0.seen) h.settled has in
+    let live = version t.desk ∷ [] in
+    omega (arith, all, free_more live t.desk.lives, frees_is t.desk.lives, frees_is (map (swept live) t.desk.lives), h.holds.rows_is)
+
+none_of : (r : ℕ) (xs : List ℕ) → length xs < 1 → In r xs → ⊥
+none_of r [] few within = within
+none_of r (x ∷ xs) few within = omega (arith, few)
+
+-- where no other record was found pinned the current version alone is kept
+alone_kept : {A : Type 0} (t : Turn A) (m : Seat) → HasTurn t m → length m.0.blocked < 1 → AreKept t.desk m.0 (version t.desk ∷ [])
+alone_kept t m h none v = (
+  (λ i. subst (IsKept t.desk m.0) (sym (one_row v (version t.desk) i)) h.now),
+  (λ (r, l, out, is). dite (ℕ_discrete r t.desk.current)
+      (λ e. subst (λ (n : ℕ). moves.In n (version t.desk ∷ [])) (sym (is ∙ ap (λ (k : ℕ). slice_index t.desk.versions k) e)) (in_last (version t.desk) []))
+      (λ other. absurd (none_of r m.0.blocked none (h.kept r l out other)))),
+)
+
+-- so all rows but those of the map are free
+pub room_alone_left : {A : Type 0} (t : Turn A) (m : Seat) → HasTurn t m → length m.0.blocked < 1 → free_count t.desk.lives + rows_of (after m.0.seen) ≡ m.0.rows
+room_alone_left t m h none =
+    let v = version t.desk in
+    let all = h.count (v ∷ []) (numbers h.stands) (alone_kept t m h none) h.stands.tree.once
+    (λ x. (
+      (λ (w, i, is). (h.reached x).0 (subst (λ (n : ℕ). reaches t.desk.lives n x ≡ true) (one_row w v i) is)),
+      (λ i. (v, in_last v [], (h.reached x).1 i)),
+    )) in
+    omega (arith, all, rows_of_map (content_of m.0) t.root (after m.0.seen) h.stands)
+
+-- the event is the pass's own
+pub own_event : (m m' : Seat) (e : Event) → e.pass ≡ m.0.number → m'.0.number ≡ m.0.number → made_at_seat m' e.change ≡ e
+own_event m m' e mine same = ap (λ (p : ℕ). record { pass = p; change = e.change }) (same ∙ sym mine)
+
+module _ {A : Type 0} (m m1 : Seat) (t : Turn A) (b : Begun m t m1) where
+  -- the turn was given back with the history as it was
+  module _ (m2 m' : Seat) (still : m2 ≡ m1) (gave : m' ≡ (record m2.0 { turn = false }, [])) where
+    back : m' ≡ (record m1.0 { turn = false }, [])
+    back = gave ∙ ap (λ (z : Seat). (record z.0 { turn = false }, [])) still
+
+    looked : LookedAtSeat m m'
+    looked = subst (LookedAtSeat m) (sym back) (record { later = b.later; own = b.own; mine = ap (λ (v : View). v.mine) b.rest; asked = b.asked })
+
+    pub refused : (change : Change) → length m1.0.seen < last_version → LacksRows change t m1 → RefusesAtSeat NoRoom change m m'
+    refused change early lacks =
+        let seen : m'.0.seen ≡ m1.0.seen = ap (λ (z : Seat). z.0.seen) back in (
+          looked,
+          subst (λ (log : History). length log < last_version) (sym seen) early,
+          (λ one. subst (λ (log : History). m.0.rows < rows_of (after log) + rows_taken (after log) change) (sym seen)
+              (let f = b.has.fewer in let k = ap (λ (v : View). v.passes) b.rest in let all = room_alone_left t m1 b.has (omega (arith, f, k, one)) in let n = ap (λ (v : View). v.rows) b.rest in omega (arith, all, lacks, n))),
+        )
+
+  -- the version that was made is published
+  pub wrote : (e : Event) (root : Root) (old : Option (List ℕ)) (t' : Turn A) (m2 m' : Seat) → Made e.change t m1 root old t' m2 → Added e m2 m' → length m1.0.seen < last_version → WroteAtSeat e m old m'
+  wrote e root old t' m2 m' made added early = let room = room_left t m1 b.has in record {
+    log = m1.0.seen;
+    later = b.later;
+    own = b.own;
+    numbered = early;
+    room = (let r = made.rows in let n = ap (λ (v : View). v.rows) b.rest in omega (arith, room, r, n));
+    answer = made.answer;
+    seen = added.seen ∙ ap (λ (z : Seat). z.0.seen ++ e ∷ []) made.kept;
+    asked = (let a = added.asked in let k = ap (λ (z : Seat). z.0.asked) made.kept in let n = b.asked in omega (arith, a, k, n));
+    mine = added.mine ∙ ap (λ (z : Seat). z.0.mine ++ e ∷ []) made.kept ∙ ap (λ (v : View). v.mine ++ e ∷ []) b.rest;
+  }

@@ -1,0 +1,13 @@
+use Rattle.std.proofs.Common.{sym, subst}
+use Rattle.mst_words.specs.Access.{Seated}
+use Rattle.mst_store.specs.Pinned.{Pins}
+use Rattle.mst_store.proofs.Pinning.{pinned_link, pinned_root}
+use Rattle.mst_store.proofs.reading.pin.Goals as goal
+
+pub read_root-version-requires-clause-link : goal.read_root-version-requires-clause-link
+read_root-version-requires-clause-link g c = let p = c.pin-pinned.ensures.pinned in pinned_link c.args.seat.now.me c.pin-pinned.new.self.me p.0 c.pin-pinned.result p.1 p.2 c.requires.few_rows
+
+pub returns-clause-pinned : goal.returns-clause-pinned
+returns-clause-pinned g c = let p = c.pin-pinned.ensures.pinned in let r = c.read_root-version in
+    subst (λ (z : Seated). Pins c.args.seat.now.me record { pinned = c.pin-pinned.result; version = r.result.0; root = r.result.1 } z.me) (sym r.ensures.same)
+    (pinned_root c.args.seat.now.me c.pin-pinned.new.self.me p.0 p.1 (record { pinned = c.pin-pinned.result; version = r.result.0; root = r.result.1 }) p.2 r.ensures.version r.ensures.root)

@@ -1,0 +1,5 @@
+use Rattle.mst_store.proofs.settling.collect_pinned.Given as goal
+
+-- the note that is heard
+abbrev pub ghosts-hear_note : goal.ghosts-hear_note
+ghosts-hear_note g a = record { note = a.note.me.0 }

@@ -1,0 +1,8 @@
+use Rattle.std.proofs.Common.{Some, sym, subst}
+use Rattle.mst_words.specs.Steps.{IsGiving}
+use Rattle.mst_words.specs.Stored.{stored, desk_state}
+use Rattle.mst_store.specs.Turns.{Seat}
+use Rattle.mst_store.proofs.turn.lay_back.Goals as goal
+
+pub give_turn-requires : goal.give_turn-requires
+give_turn-requires g c = record { giving = (Some c.args.desk, desk_state c.args.desk, subst (λ (z : Seat). IsGiving stored (Some c.args.desk) (desk_state c.args.desk) z) (sym c.return_desk.ensures.returned) c.requires.giving) }

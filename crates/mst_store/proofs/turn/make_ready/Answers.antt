@@ -1,0 +1,24 @@
+use Rattle.std.proofs.Common.{rules, ◌≤◌, sym, ap, subst, ◌∙◌}
+use Rattle.mst_words.specs.Access.{Seated}
+use Rattle.mst_store.specs.Turns.{Seat, HasTurn}
+use Rattle.mst_store.proofs.Beginning.{only_asked, link_there, of_turn, ready, all_asked, knows, none_drained, none_blocked}
+use Rattle.mst_store.proofs.turn.make_ready.Goals as goal
+
+pub read_root-requires-clause-link : goal.read_root-requires-clause-link
+read_root-requires-clause-link g c = let t = c.requires.taken.1 in let a = c.ask_others-asked in
+    link_there c.requires.taken.0 t.0 t.1 c.args.desk a.new.seat.me c.current-current.result.0
+    t.2 (only_asked t.0 c.args.seat.now.me a.new.seat.me t.3 a.ensures.kept) (ap (λ z. z.0) c.current-current.ensures.current) (subst (λ (z : Seat). z.0.rows ≤ 65535) t.3 c.requires.few_rows)
+
+pub returns-clause-has : goal.returns-clause-has
+returns-clause-has g c = let t = c.requires.taken.1 in let a = c.ask_others-asked in let r = c.read_root in
+    subst (λ (z : Seated). HasTurn (of_turn {A = g.row.A.Denot} c.sweep.new.self r.result.1 a.result.into c.len.result) z.me) (sym r.ensures.same)
+    (ready c.requires.taken.0 t.0 t.1 {A = g.row.A.Denot} c.args.desk c.sweep.new.self a.result c.deref.result.now r.result.1 a.new.seat.me c.current-current.result.0 c.args.passes c.len.result (search rules)
+    t.2 (only_asked t.0 c.args.seat.now.me a.new.seat.me t.3 a.ensures.kept) (c.requires.passes ∙ ap (λ (z : Seat). z.0.passes) t.3)
+    a.ensures.asked (ap (λ z. z.0) c.current-current.ensures.current) r.ensures.root c.deref.ensures.0 c.sweep.ensures.swept)
+
+pub returns-clause-asked : goal.returns-clause-asked
+returns-clause-asked g c = let t = c.requires.taken.1 in let a = c.ask_others-asked in let held = c.read_root.ensures.same in
+    ap (λ (z : Seated). z.me.0.asked) held ∙ all_asked c.args.desk a.result c.args.seat.now.me a.new.seat.me c.args.passes c.requires.passes (none_drained c.requires.taken.0 c.args.desk c.args.seat.now.me t) (none_blocked c.requires.taken.0 c.args.desk c.args.seat.now.me t) a.ensures.kept a.ensures.counted a.ensures.asked
+
+pub ask_others-asked-requires-clause-knows : goal.ask_others-asked-requires-clause-knows
+ask_others-asked-requires-clause-knows g c = let t = c.requires.taken in knows t.0 c.args.desk c.args.seat.now.me t.1 c.args.passes c.requires.holder c.requires.passes c.requires.few

@@ -1,0 +1,20 @@
+use Rattle.mst_key.specs.declared.history.Change.TheVariants.{Remove}
+use Rattle.mst_key.specs.History.{after}
+use Rattle.mst_store.proofs.Made.{map_stands, same_seat, change_made}
+use Rattle.mst_store.proofs.writing.make_remove.Goals as goal
+
+pub remove-requires : goal.remove-requires
+remove-requires g c = record { stands = map_stands c.args.turn.now c.args.seat.now.me c.requires.turn; free = c.requires.turn.blank }
+
+pub returns-clause-same : goal.returns-clause-same
+returns-clause-same g c = same_seat c.args.seat.now c.remove.new.rows c.remove.ensures.kept
+
+pub returns-clause-made : goal.returns-clause-made
+returns-clause-made g c =
+    let s = c.args.seat.now in
+    let h = c.requires.turn in
+    let done = c.in-Ok.ensures in
+    let m = after s.me.0.seen in
+    change_made c.args.turn.now s c.remove.new.rows h c.in-Ok.root c.in-Ok.old c.remove.new.desk (Remove c.args.key.now) done.kept c.requires.open
+    (done.stands m h.stands) (λ n stands. record { taken = done.taken m n h.stands stands; killed = done.killed m n h.stands stands; others = done.others m n h.stands stands; versions = done.versions })
+    (done.value m h.stands) (done.cost m h.stands)

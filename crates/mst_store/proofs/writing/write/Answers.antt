@@ -1,0 +1,29 @@
+use Rattle.std.proofs.Common.{sym, ap, subst, ◌∙◌}
+use Rattle.mst_key.specs.declared.history.Event.{Event}
+use Rattle.mst_words.specs.declared.view.View.{View}
+use Rattle.mst_words.specs.Access.{Seated}
+use Rattle.mst_store.specs.declared.turn.Turn.{Turn}
+use Rattle.mst_store.specs.Turns.{HasTurn, HasMade}
+use Rattle.mst_store.proofs.Written.{own_event, refused, wrote}
+use Rattle.mst_store.proofs.writing.write.Goals as goal
+
+pub publish-requires : goal.publish-requires
+publish-requires g c = record {
+  made = subst (λ (e : Event). HasMade c.make.new.turn c.in-Ok-make.root e c.make.new.seat.me)
+      (own_event c.args.seat.now.me c.begin_write.new.seat.me c.args.event.now (c.requires.mine ∙ sym c.requires.free.3) (ap (λ (v : View). v.number) c.in-Ok.ensures.begun.rest)) c.in-Ok-make.ensures.made.has;
+}
+
+pub give_back-requires : goal.give_back-requires
+give_back-requires g c = let same = c.in-Err.ensures.untouched in record {
+  turn = subst (λ (t : Turn g.row.A.Denot). HasTurn t c.make.new.seat.me) (sym same.0) (subst (λ (z : Seated). HasTurn c.in-Ok.turn z.me) (sym same.1) c.in-Ok.ensures.begun.has);
+}
+
+pub returns-in-Ok-make-clause-wrote : goal.returns-in-Ok-make-clause-wrote
+returns-in-Ok-make-clause-wrote g c =
+    wrote c.args.seat.now.me c.begin_write.new.seat.me c.in-Ok.turn c.in-Ok.ensures.begun c.args.event.now c.in-Ok-make.root c.in-Ok-make.old c.make.new.turn c.make.new.seat.me c.publish.new.seat.me
+    c.in-Ok-make.ensures.made c.publish.ensures.added c.in-Ok.ensures.room
+
+pub returns-in-Err-clause-refused : goal.returns-in-Err-clause-refused
+returns-in-Err-clause-refused g c =
+    refused c.args.seat.now.me c.begin_write.new.seat.me c.in-Ok.turn c.in-Ok.ensures.begun c.make.new.seat.me c.give_back.new.seat.me (ap (λ (z : Seated). z.me) c.in-Err.ensures.untouched.1) c.give_back.ensures.gave
+    c.args.event.now.change c.in-Ok.ensures.room c.in-Err.ensures.lacks

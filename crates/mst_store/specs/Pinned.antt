@@ -1,0 +1,23 @@
+-- What a pass knows of the version that it pins.
+use Rattle.std.specs.Prelude.{◌≡◌, ◌+◌, ◌<◌, length, Some}
+use Rattle.atomic_table.specs.Table.{Me}
+use Rattle.mst_key.specs.declared.format.Format.TheVariants.{One}
+use Rattle.mst_key.specs.History.{after, events_of, Begins}
+use Rattle.mst_arena.specs.Standing.{Stands}
+use Rattle.mst_words.specs.declared.view.View.{View}
+use Rattle.mst_words.specs.Access.{content_of}
+use Rattle.mst_store.specs.declared.reading.PinnedRoot.{PinnedRoot}
+
+-- The record is pinned. The map of the history at the pin stands at the root, on rows that the pass may read, and the version is the number of events.
+pub record HasPinned (at : PinnedRoot) (v : View) : Type 0 where
+  pub pin : v.pin ≡ Some at.pinned
+  pub there : at.pinned < v.passes + 2
+  pub version : at.version ≡ length v.place
+  pub stands : Stands One (content_of v) at.root (after v.place)
+
+-- The current version was pinned. The history at the pin begins with all that the pass had seen, and its events there are its own. One step was counted, the pin. Nothing else changed
+pub record Pins {S : Type 0} (m : Me S View) (at : PinnedRoot) (m' : Me S View) : Type 0 where
+  pub later : Begins m.0.seen m'.0.place
+  pub own : events_of m.0.number m'.0.place ≡ m.0.mine
+  pub has : HasPinned at m'.0
+  pub rest : m' ≡ (record m.0 { pin = m'.0.pin; place = m'.0.place; stood = m'.0.stood; held = m'.0.held; asked = m.0.asked + 1 }, m.1)

@@ -1,0 +1,69 @@
+-- A write: what the holder of the turn makes of the map in free rows, what the pass then knows, and why a change is refused.
+use Rattle.std.specs.Prelude.{◌≡◌, ℕ, ◌+◌, ◌<◌, ◌≤◌, List, [], ◌∷◌, ◌++◌, length, Option}
+use Rattle.mst_key.specs.Map.{Pair}
+use Rattle.mst_key.specs.declared.format.Format.TheVariants.{One}
+use Rattle.mst_key.specs.declared.history.Change.{Change}
+use Rattle.mst_key.specs.declared.history.Event.{Event}
+use Rattle.mst_key.specs.History.{History, after, changed, reply, events_of, Begins}
+use Rattle.mst_node.specs.Tree.{tree}
+use Rattle.mst_node.specs.Cost.{cost}
+use Rattle.mst_arena.specs.Lives.{free_count, last_version}
+use Rattle.mst_arena.specs.declared.row.Root.{Root}
+use Rattle.mst_path.specs.Planting.{node_count}
+use Rattle.mst_words.specs.Steps.{Misses}
+use Rattle.mst_store.specs.declared.turn.Turn.{Turn}
+use Rattle.mst_store.specs.declared.faults.WriteFault.{WriteFault}
+use Rattle.mst_store.specs.declared.faults.WriteFault.TheVariants.{Busy, VersionsSpent, NoRoom}
+use Rattle.mst_store.specs.Turns.{Seat, HasMade, Spent}
+
+-- the event of a change that the pass at this seat makes
+abbrev pub made_at_seat : Seat → Change → Event
+made_at_seat m change = record { pass = m.0.number; change = change }
+
+-- how many rows a map takes: one for each key and one for each node of its tree
+abbrev pub rows_of : List Pair → ℕ
+rows_of m = length m + node_count (tree One m)
+
+-- how many rows a change takes: one for each entry and each node that it makes new
+abbrev pub rows_taken : List Pair → Change → ℕ
+rows_taken m change = cost One m (changed m change)
+
+-- The change is made in free rows, as many as it takes, and can be published. Of what the seat knows only the words of those rows have changed. The answer is what the history replies
+pub record Made {A : Type 0} (change : Change) (t : Turn A) (m : Seat) (root : Root) (old : Option (List ℕ)) (t' : Turn A) (m' : Seat) : Type 0 where
+  pub has : HasMade t' root (made_at_seat m change) m'
+  pub answer : old ≡ reply m.0.seen (made_at_seat m change)
+  pub rows : free_count t'.desk.lives + rows_taken (after m.0.seen) change ≡ free_count t.desk.lives
+  pub kept : m' ≡ (record m.0 { held = m'.0.held }, m.1)
+
+-- fewer rows are free than the change takes
+abbrev pub LacksRows : {A : Type 0} → Change → Turn A → Seat → Type 0
+LacksRows change t m = free_count t.desk.lives < rows_taken (after m.0.seen) change
+
+-- at the seat is the same pass of the same store, which was told the same
+abbrev pub KeepsPass : Seat → Seat → Type 0
+KeepsPass m m' = (m'.0.number ≡ m.0.number) × (m'.0.rows ≡ m.0.rows) × (m'.0.passes ≡ m.0.passes) × (m'.0.told ≡ m.0.told)
+
+-- The event stands right behind a history that begins with all that the pass had seen, and the answer is what that history replies. The pass has now seen both. It tried the turn once, asked each record but the current one once, and published once
+pub record WroteAtSeat (e : Event) (m : Seat) (old : Option (List ℕ)) (m' : Seat) : Type 0 where
+  pub log : History
+  pub later : Begins m.0.seen log
+  pub own : events_of m.0.number log ≡ m.0.mine
+  pub numbered : length log < last_version
+  pub room : rows_of (after log) + rows_taken (after log) e.change ≤ m.0.rows
+  pub answer : old ≡ reply log e
+  pub seen : m'.0.seen ≡ log ++ e ∷ []
+  pub mine : m'.0.mine ≡ m.0.mine ++ e ∷ []
+  pub asked : m'.0.asked ≡ m.0.asked + m.0.passes + 3
+
+-- The pass has now seen a history that begins with all that it had seen. Its events in it are its own, and none was added. It tried the turn once, and asked each record but the current one once
+pub record LookedAtSeat (m m' : Seat) : Type 0 where
+  pub later : Begins m.0.seen m'.0.seen
+  pub own : events_of m.0.number m'.0.seen ≡ m.0.mine
+  pub mine : m'.0.mine ≡ m.0.mine
+  pub asked : m'.0.asked ≡ m.0.asked + m.0.passes + 2
+
+-- Why a change was refused. In a store of one pass the map alone is kept, so there is no room exactly where the rows that it leaves over are too few
+abbrev pub RefusesAtSeat : WriteFault → Change → Seat → Seat → Type 0
+RefusesAtSeat Busy change m m' = Misses m m'
+RefusesAtSeat VersionsSpent change m m' = Spent m m'
+RefusesAtSeat NoRoom change m m' = LookedAtSeat m m' × (length m'.0.seen < last_version) × (m.0.passes ≡ 1 → m.0.rows < rows_of (after m'.0.seen) + rows_taken (after m'.0.seen) change)

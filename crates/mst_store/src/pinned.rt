@@ -1,0 +1,149 @@
+//! A pass that pins a version: it reads that version as long as it likes, whatever other passes write.
+ghost use Rattle.std.specs.Prelude.{◌≡◌, ◌+◌, ◌<◌, ◌^◌, length, IfOk};
+ghost use Rattle.mst_key.specs.Map.{look, successor, span};
+ghost use Rattle.mst_key.specs.declared.format.Format.TheVariants.{One};
+ghost use Rattle.mst_node.specs.Text as text;
+ghost use Rattle.mst_node.specs.Trail.{proof_text};
+ghost use Rattle.std.specs.Option.{option_copied};
+ghost use Rattle.mst_store.specs.Passes.{Looks};
+ghost use Rattle.mst_key.specs.History.{after as after_events};
+
+use crate::pass::Pass;
+use crate::reading::{self, PinnedRoot};
+use mst_key::{Key, Memory, Value};
+use mst_words::PassSeat;
+use std::alloc::Allocator;
+use std::marker::Model;
+
+/// A pass that pins a version. It may go to another thread, as a pass may.
+///
+/// Each of its calls answers for the history at the pin, and makes no step whose answer depends on other passes. The rows of its version are not used again before [`Pinned::unpin`]; a pinned pass that is dropped holds them for good.
+#[derive(Drop)]
+pub struct Pinned<'a, A: Allocator + Copy> {
+    pub(crate) seat: PassSeat<'a, A>,
+    at: PinnedRoot,
+    number: u32,
+    passes: u32,
+    rows: u32,
+}
+
+/// Contracts see which store it is of, its number, the history at its pin, and its own events.
+impl<'a, A: Allocator + Copy> Model for Pinned<'a, A> {
+    ghost use Rattle.mst_store.specs.Passes.{Known, known_at_pin, IsPinning};
+
+    ghost Value = { Known };
+
+    ghost view = { λ p. known_at_pin p.number p.seat };
+
+    ghost invariant = { λ p. IsPinning p.number p.passes p.rows p.at p.seat };
+}
+
+impl<'a, A: Allocator + Copy> Pass<'a, A> {
+    /// Pins the current version, by one step. The history at the pin begins with all that the pass had seen.
+    pub fn pin(self) -> Pinned<'a, A>
+        ensures looks { Looks self.entry result }
+        ensures once { result.asked ≡ self.entry.asked + 1 }
+    {
+        let Pass {
+            mut seat,
+            number,
+            passes,
+            rows,
+        } = self;
+        let at = reading::pin(&mut seat, number);
+        Pinned {
+            seat,
+            at,
+            number,
+            passes,
+            rows,
+        }
+    }
+}
+
+impl<'a, A: Allocator + Copy> Pinned<'a, A> {
+    /// The number of the pass, from 1 to the number of the store's passes.
+    pub fn number(&self) -> u32
+        ensures number { result ≡ self.now.number }
+    {
+        self.number
+    }
+
+    /// The number of the pinned version: how many events led to it.
+    pub fn version(&self) -> u64
+        ensures version { result ≡ length self.now.seen }
+    {
+        self.at.version
+    }
+
+    /// The value of the key in the pinned version. It takes no memory.
+    pub fn get(&mut self, key: &Key) -> Option<Value>
+        ensures found { result ≡ look (after_events self.old.seen) key.now }
+        ensures same { self.new ≡ self.old }
+    {
+        reading::get(&mut self.seat, &self.at, key)
+    }
+
+    /// The pair of the least key above the bound in the pinned version; with no bound, of the least key. It takes no memory.
+    pub fn next(&mut self, after: Option<&Key>) -> Option<(Key, Value)>
+        ensures found { result ≡ successor (after_events self.old.seen) (option_copied after.entry) }
+        ensures same { self.new ≡ self.old }
+    {
+        reading::next(&mut self.seat, &self.at, after)
+    }
+
+    /// The first pairs of the pinned version, at most `limit`, of the keys that are at least `from` and below `to`, in the order of their keys. A bound that is not given does not bind.
+    ///
+    /// `Memory` comes where the growth of the list was refused.
+    pub fn range<B: Allocator>(
+        &mut self,
+        alloc: B,
+        from: Option<&Key>,
+        to: Option<&Key>,
+        limit: usize,
+    ) -> Result<Vec<(Key, Value), B>, Memory>
+        ensures found { IfOk result (λ found. found.items ≡ span (after_events self.old.seen) (option_copied from.entry) (option_copied to.entry) limit) }
+        ensures same { self.new ≡ self.old }
+    {
+        reading::range(&mut self.seat, alloc, &self.at, from, to, limit)
+    }
+
+    /// The root digest of the pinned version, as [`Pass::root`] has it. It takes no memory.
+    pub fn root(&mut self) -> [u8; 32]
+        ensures found { result ≡ text.root One (after_events self.old.seen) }
+        ensures same { self.new ≡ self.old }
+    {
+        reading::root(&mut self.seat, &self.at)
+    }
+
+    /// The proof of the pinned version's answer for the key against its root digest, as [`Pass::prove`] has it, of fewer than 2^32 bytes.
+    ///
+    /// `Memory` comes where a growth was refused.
+    pub fn prove<B: Allocator + Copy>(&mut self, alloc: B, key: &Key) -> Result<Vec<u8, B>, Memory>
+        ensures found { IfOk result (λ found. found.items ≡ proof_text One (after_events self.old.seen) key.now) }
+        ensures short { IfOk result (λ found. length found.items < 2 ^ 32) }
+        ensures same { self.new ≡ self.old }
+    {
+        reading::prove(&mut self.seat, alloc, &self.at, key)
+    }
+
+    /// Ends the pin, by one step. The pass has then seen the history at the pin.
+    pub fn unpin(self) -> Pass<'a, A>
+        ensures same { result ≡ self.entry }
+    {
+        let Pinned {
+            mut seat,
+            at,
+            number,
+            passes,
+            rows,
+        } = self;
+        seat.unpin(number, at.pinned);
+        Pass {
+            seat,
+            number,
+            passes,
+            rows,
+        }
+    }
+}

@@ -1,0 +1,116 @@
+//! The version that a pass pins.
+ghost use Rattle.std.specs.Prelude.{◌≡◌, ◌<◌, ◌≤◌, ◌^◌, length, IfOk};
+ghost use Rattle.std.specs.Option.{option_copied};
+ghost use Rattle.mst_key.specs.Map.{look, successor, span};
+ghost use Rattle.mst_key.specs.History.{after};
+ghost use Rattle.mst_key.specs.declared.format.Format.TheVariants.{One};
+ghost use Rattle.mst_node.specs.Text as text;
+ghost use Rattle.mst_node.specs.Trail.{proof_text};
+ghost use Rattle.mst_words.specs.Access.{IsSameSeat};
+ghost use Rattle.mst_words.specs.Layout.{most_passes};
+ghost use Rattle.mst_words.specs.Steps.{IsFree};
+ghost use Rattle.mst_store.specs.Pinned.{HasPinned, Pins};
+
+use crate::roots::read_root;
+use mst_arena::Root;
+use mst_key::{Key, Memory, Value};
+use mst_words::PassSeat;
+use std::alloc::Allocator;
+
+/// Where the map of a pinned version stands.
+#[derive(Clone, Copy, Debug, PartialEq, Eq)]
+pub(crate) struct PinnedRoot {
+    /// The record that is pinned.
+    pub(crate) pinned: u32,
+    /// The number of the version: how many events led to it.
+    pub(crate) version: u64,
+    pub(crate) root: Root,
+}
+
+/// Pins the current version and reads where its map stands: one xor and six loads.
+pub(crate) fn pin<A: Allocator + Copy>(seat: &mut PassSeat<'_, A>, number: u32) -> PinnedRoot
+    requires free { IsFree number seat.old.me }
+    requires few { number ≤ most_passes }
+    requires few_rows { seat.old.me.0.rows ≤ 65535 }
+    requires few_passes { seat.old.me.0.passes ≤ 32 }
+    ensures same { IsSameSeat seat.old seat.new }
+    ensures pinned { Pins seat.old.me result seat.new.me }
+{
+    let pinned = seat.pin(number);
+    let (version, root) = read_root(seat, pinned);
+    PinnedRoot {
+        pinned,
+        version,
+        root,
+    }
+}
+
+/// The value of the key in the pinned version.
+pub(crate) fn get<A: Allocator + Copy>(
+    seat: &mut PassSeat<'_, A>,
+    at: &PinnedRoot,
+    key: &Key,
+) -> Option<Value>
+    requires pinned { HasPinned at.now seat.old.me.0 }
+    ensures found { result ≡ look (after seat.old.me.0.place) key.now }
+    ensures same { seat.new ≡ seat.old }
+{
+    mst_read::get(seat, &at.root, key)
+}
+
+/// The pair of the least key above the bound in the pinned version; with no bound, of the least key.
+pub(crate) fn next<A: Allocator + Copy>(
+    seat: &mut PassSeat<'_, A>,
+    at: &PinnedRoot,
+    bound: Option<&Key>,
+) -> Option<(Key, Value)>
+    requires pinned { HasPinned at.now seat.old.me.0 }
+    ensures found { result ≡ successor (after seat.old.me.0.place) (option_copied bound.entry) }
+    ensures same { seat.new ≡ seat.old }
+{
+    mst_read::next(seat, &at.root, bound)
+}
+
+/// The root digest of the pinned version's map.
+pub(crate) fn root<A: Allocator + Copy>(seat: &mut PassSeat<'_, A>, at: &PinnedRoot) -> [u8; 32]
+    requires pinned { HasPinned at.now seat.old.me.0 }
+    ensures found { result ≡ text.root One (after seat.old.me.0.place) }
+    ensures same { seat.new ≡ seat.old }
+{
+    mst_read::root(seat, &at.root)
+}
+
+/// The first pairs of the pinned version, at most `limit`, of the keys that are at least `from` and below `to`. A bound that is not given does not bind.
+///
+/// `Memory` comes where the growth of the list was refused.
+pub(crate) fn range<A: Allocator + Copy, B: Allocator>(
+    seat: &mut PassSeat<'_, A>,
+    alloc: B,
+    at: &PinnedRoot,
+    from: Option<&Key>,
+    to: Option<&Key>,
+    limit: usize,
+) -> Result<Vec<(Key, Value), B>, Memory>
+    requires pinned { HasPinned at.now seat.old.me.0 }
+    ensures found { IfOk result (λ found. found.items ≡ span (after seat.old.me.0.place) (option_copied from.entry) (option_copied to.entry) limit) }
+    ensures same { seat.new ≡ seat.old }
+{
+    mst_read::range(alloc, seat, &at.root, from, to, limit)
+}
+
+/// The proof of the pinned version's answer for the key, against its root digest, of fewer than 2^32 bytes.
+///
+/// `Memory` comes where a growth was refused.
+pub(crate) fn prove<A: Allocator + Copy, B: Allocator + Copy>(
+    seat: &mut PassSeat<'_, A>,
+    alloc: B,
+    at: &PinnedRoot,
+    key: &Key,
+) -> Result<Vec<u8, B>, Memory>
+    requires pinned { HasPinned at.now seat.old.me.0 }
+    ensures proof { IfOk result (λ proof. proof.items ≡ proof_text One (after seat.old.me.0.place) key.now) }
+    ensures short { IfOk result (λ proof. length proof.items < 2 ^ 32) }
+    ensures same { seat.new ≡ seat.old }
+{
+    mst_read::prove(alloc, seat, &at.root, key)
+}

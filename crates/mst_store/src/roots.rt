@@ -1,0 +1,81 @@
+//! The words of a record.
+ghost use Rattle.std.specs.Prelude.{◌≡◌, ◌<◌, ◌≤◌, ℕ, length};
+ghost use Rattle.mst_words.specs.Layout.{most_records, record_words, first_row, record_word};
+ghost use Rattle.mst_words.specs.Records.{field};
+ghost use Rattle.mst_words.specs.Stored.{root_in};
+ghost use Rattle.mst_words.specs.Pins.{In};
+ghost use Rattle.mst_words.specs.Steps.{IsReadable, IsHolder};
+ghost use Rattle.mst_store.specs.Filing.{IsFiled, OthersKept};
+
+use mst_arena::Root;
+use mst_words::PassSeat;
+use mst_words::layout::{RECORD_WORDS, record_word};
+use std::alloc::Allocator;
+
+// Word k of a record: one load.
+fn field<A: Allocator + Copy>(seat: &mut PassSeat<'_, A>, which: u32, k: usize) -> u64
+    requires there { (which < most_records) × (k < record_words) }
+    requires readable { (j : ℕ) → j < record_words → IsReadable seat.old.me.0 (record_word which j) }
+    ensures word { result ≡ field seat.old.me.0.held which k }
+    ensures same { seat.new ≡ seat.old }
+{
+    seat.load(record_word(which, k))
+}
+
+/// The version number and the root of a record.
+pub(crate) fn read_root<A: Allocator + Copy>(seat: &mut PassSeat<'_, A>, which: u32) -> (u64, Root)
+    requires there { which < most_records }
+    requires readable { (k : ℕ) → k < record_words → IsReadable seat.old.me.0 (record_word which k) }
+    requires link { field seat.old.me.0.held which 1 ≤ 65535 }
+    ensures version { result.0 ≡ field seat.old.me.0.held which 0 }
+    ensures root { result.1 ≡ root_in (field seat.old.me.0.held which) }
+    ensures same { seat.new ≡ seat.old }
+{
+    let version = field(seat, which, 0);
+    let words = [
+        field(seat, which, 1),
+        field(seat, which, 2),
+        field(seat, which, 3),
+        field(seat, which, 4),
+        field(seat, which, 5),
+    ];
+    (version, Root::read(&words))
+}
+
+// Stores the six words of a drained record.
+fn store_all<A: Allocator + Copy>(
+    seat: &mut PassSeat<'_, A>,
+    which: u32,
+    words: &[u64; RECORD_WORDS],
+)
+    requires there { which < most_records }
+    requires holder { IsHolder seat.old.me }
+    requires drained { In which seat.old.me.0.drained }
+    requires wide { first_row ≤ length seat.old.me.0.held }
+    ensures kept { seat.new ≡ record seat.old { me = (record seat.old.me.0 { held = seat.new.me.0.held }, seat.old.me.1) } }
+    ensures stored { IsFiled which record_words words.now seat.old.me.0.held seat.new.me.0.held }
+{
+    for k in 0..RECORD_WORDS {
+        seat.store(record_word(which, k), words[k]);
+    }
+}
+
+/// Stores the version number and the root of a drained record: a store for each of its six words.
+pub(crate) fn write_root<A: Allocator + Copy>(
+    seat: &mut PassSeat<'_, A>,
+    which: u32,
+    version: u64,
+    root: &Root,
+)
+    requires there { which < most_records }
+    requires holder { IsHolder seat.old.me }
+    requires drained { In which seat.old.me.0.drained }
+    requires wide { first_row ≤ length seat.old.me.0.held }
+    ensures kept { seat.new ≡ record seat.old { me = (record seat.old.me.0 { held = seat.new.me.0.held }, seat.old.me.1) } }
+    ensures version { field seat.new.me.0.held which 0 ≡ version }
+    ensures root { root_in (field seat.new.me.0.held which) ≡ root.now }
+    ensures others { OthersKept which seat.old.me.0.held seat.new.me.0.held }
+{
+    let [link, first, second, third, last] = root.words();
+    store_all(seat, which, &[version, link, first, second, third, last]);
+}

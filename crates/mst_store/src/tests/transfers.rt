@@ -1,0 +1,80 @@
+//! Who pins a record, by what the words say, while another pass publishes.
+ghost use Rattle.std.specs.Prelude.{◌≤◌};
+ghost use Rattle.mst_words.specs.Layout.{first_row};
+ghost use Rattle.mst_store.specs.Turns.{HasMade};
+
+use crate::reading::pin;
+use crate::roots::write_root;
+use crate::tests::versions::{opened, putting};
+use crate::turn::{Turn, begin_write};
+use crate::writing::{make, write};
+use mst_arena::Root;
+use mst_key::Event;
+use mst_words::{Board, PassSeat};
+use std::alloc::Allocator;
+use std::marker::Brand;
+use std::test::Fail;
+
+// Publishes as `publish` does, up to the transfer. It answers who pins the record that was current, before the transfer and behind it.
+fn publish_by_steps<A: Allocator + Copy>(
+    board: &Board<A>,
+    seat: &mut PassSeat<'_, A>,
+    turn: Turn<A>,
+    root: &Root,
+    event: &Event,
+) -> (u32, u32)
+    requires made { HasMade turn root.now event.now seat.old.me }
+    requires wide { first_row ≤ board.now.words }
+{
+    let Turn { mut desk, into, .. } = turn;
+    let (old, version) = desk.current();
+    write_root(seat, into, version + 1, root);
+    desk.advance(into);
+    let found = seat.publish::<Brand>(into, event, &desk);
+    let published = board.pins(old);
+    seat.transfer(old, found % 4_294_967_296);
+    (published, board.pins(old))
+}
+
+#[test]
+fn a_publication_leaves_the_pins_to_its_transfer(rt: HostRuntime) -> Result<(), Fail> {
+    let Ok((board, mut dealer)) = opened(rt.alloc()) else {
+        panic!(rt; "no memory")
+    };
+    let mut first = board.deal(&mut dealer);
+    let mut second = board.deal(&mut dealer);
+    let event = putting(1, b"1")?;
+    let at = pin(&mut second, 2);
+    assert!(rt; board.pins(at.pinned) == 2);
+    let Ok(mut turn) = begin_write(&mut first, 1, 2) else {
+        panic!(rt; "the turn is free")
+    };
+    let Ok((root, _)) = make(&mut first, &mut turn, &event.change) else {
+        panic!(rt; "there is room")
+    };
+    // between the two steps the mask is with the first pass alone
+    let (published, moved) = publish_by_steps(&board, &mut first, turn, &root, &event);
+    assert!(rt; (published, moved) == (0, 2));
+    second.unpin(2, at.pinned);
+    assert!(rt; board.pins(at.pinned) == 0);
+    Ok(())
+}
+
+#[test]
+fn a_write_keeps_the_pins_of_the_record_before(rt: HostRuntime) -> Result<(), Fail> {
+    let Ok((board, mut dealer)) = opened(rt.alloc()) else {
+        panic!(rt; "no memory")
+    };
+    let mut first = board.deal(&mut dealer);
+    let mut second = board.deal(&mut dealer);
+    let old = pin(&mut second, 2);
+    let Ok(None) = write(&mut first, 1, 2, &putting(1, b"1")?) else {
+        panic!(rt; "the map was empty")
+    };
+    let new = pin(&mut first, 1);
+    assert!(rt; board.pins(old.pinned) == 2 && board.pins(new.pinned) == 1);
+    second.unpin(2, old.pinned);
+    first.unpin(1, new.pinned);
+    assert!(rt; board.pins(old.pinned) == 0 && board.pins(new.pinned) == 0);
+    Ok(())
+}

@@ -1,9 +1,0 @@
-use Rattle.std.proofs.Common.{rules, arith, ap}
-use Rattle.atomic_table.specs.Seated.{TableId}
-use Rattle.mst_table.specs.Stored.{stored}
-use Rattle.mst_table.proofs.Framed.{stored_framed}
-use Rattle.mst_table.proofs.HoldSteps.{notes_allows}
-use Rattle.mst_table.proofs.board.Board.note_current.Goals as goal
-
-pub load-requires : goal.load-requires
-load-requires g c = (search rules, (let v = ap (λ (z : TableId). z.words) c.self.view_is in let e = c.requires.wide in omega arith), notes_allows stored stored_framed _ _ _ _ c.args.seat.now.me c.requires.holder)

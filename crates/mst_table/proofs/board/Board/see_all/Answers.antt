@@ -1,9 +1,0 @@
-use Rattle.std.proofs.Common.{rules, arith, ap}
-use Rattle.atomic_table.specs.Seated.{TableId}
-use Rattle.mst_table.specs.Stored.{stored}
-use Rattle.mst_table.proofs.Framed.{stored_framed}
-use Rattle.mst_table.proofs.Hearing.{all_allows}
-use Rattle.mst_table.proofs.board.Board.see_all.Goals as goal
-
-pub load-requires : goal.load-requires
-load-requires g c = (search rules, (let v = ap (λ (z : TableId). z.words) c.self.view_is in let e = c.requires.wide in omega arith), all_allows stored stored_framed _ _ _ _ 1 c.args.seat.now.me c.requires.off)

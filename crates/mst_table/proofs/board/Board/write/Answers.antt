@@ -1,8 +1,0 @@
-use Rattle.std.proofs.Common.{rules}
-use Rattle.mst_table.specs.Stored.{stored}
-use Rattle.mst_table.proofs.Framed.{stored_framed}
-use Rattle.mst_table.proofs.Steps.{writes_allows}
-use Rattle.mst_table.proofs.board.Board.write.Goals as goal
-
-pub store-requires : goal.store-requires
-store-requires g c = let h = c.requires.holder in (search rules, search rules, writes_allows stored stored_framed _ _ _ _ _ c.args.value c.args.seat.now.me h.0 h.1 c.requires.writable)

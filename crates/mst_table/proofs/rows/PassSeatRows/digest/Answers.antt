@@ -1,8 +1,0 @@
-use Rattle.std.proofs.Common.{rules}
-use Rattle.mst_table.proofs.rows.PassSeatRows.digest.Goals as goal
-
-pub returns-clause-value : goal.returns-clause-value
-returns-clause-value g c = search rules
-
-pub returns-clause-same : goal.returns-clause-same
-returns-clause-same g c = search rules

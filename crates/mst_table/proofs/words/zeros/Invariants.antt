@@ -1,9 +1,0 @@
-use Rattle.std.proofs.Common.{◌≡◌, replicate, vec_capacity, vec_len}
-use Rattle.mst_table.proofs.words.zeros.Given as goal
-
-abbrev pub invariant-loop : goal.invariant-loop
-invariant-loop g l = record {
-  items : l.words.items ≡ replicate l.counter 0;
-  len : vec_len l.words ≡ l.counter;
-  room : vec_capacity l.words ≡ l.count;
-}

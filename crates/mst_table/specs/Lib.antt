@@ -1,9 +1,0 @@
-pub mod World
-pub mod Pins
-pub mod Path
-pub mod Records
-pub mod Rule
-pub mod Steps
-pub mod Notes
-pub mod Stored
-pub mod Access

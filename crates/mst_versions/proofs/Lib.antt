@@ -1,9 +1,0 @@
-pub mod Asked
-pub mod Beginning
-pub mod Members
-pub mod Pinning
-pub mod Filing
-pub mod Ready
-mod Made
-mod Written
-mod Counted

@@ -1,8 +1,0 @@
-use Rattle.std.proofs.Common.{Some, sym, subst}
-use Rattle.mst_table.specs.Steps.{IsGiving}
-use Rattle.mst_table.specs.Stored.{stored, desk_state}
-use Rattle.mst_versions.specs.Turns.{Seat}
-use Rattle.mst_versions.proofs.turn.lay_back.Goals as goal
-
-pub give_turn-requires : goal.give_turn-requires
-give_turn-requires g c = record { giving = (Some c.args.desk, desk_state c.args.desk, subst (λ (z : Seat). IsGiving stored (Some c.args.desk) (desk_state c.args.desk) z) (sym c.return_desk.ensures.returned) c.requires.giving) }

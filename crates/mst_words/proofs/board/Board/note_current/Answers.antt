@@ -1,0 +1,9 @@
+use Rattle.std.proofs.Common.{rules, arith, ap}
+use Rattle.atomic_table.specs.Seated.{TableId}
+use Rattle.mst_words.specs.Stored.{stored}
+use Rattle.mst_words.proofs.Framed.{stored_framed}
+use Rattle.mst_words.proofs.HoldSteps.{notes_allows}
+use Rattle.mst_words.proofs.board.Board.note_current.Goals as goal
+
+pub load-requires : goal.load-requires
+load-requires g c = (search rules, (let v = ap (λ (z : TableId). z.words) c.self.view_is in let e = c.requires.wide in omega arith), notes_allows stored stored_framed _ _ _ _ c.args.seat.now.me c.requires.holder)

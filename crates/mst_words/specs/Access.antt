@@ -1,0 +1,55 @@
+-- What a pass may read and write of the rows, by what it knows of the words.
+use Rattle.std.specs.Prelude.{◌≡◌, length, take, List, [], ℕ, zero, suc, ◌+◌, is_some, is_none, Bool, true, ◌&&◌, ◌||◌, not, nat_lt, eqb, if◌then◌else◌, Option, None}
+use Rattle.std.specs.List.{list_any}
+use Rattle.atomic_table.specs.Seated.{TableId}
+use Rattle.atomic_table.specs.Table.{Me}
+use Rattle.mst_arena.specs.Content.{Content}
+use Rattle.mst_arena.specs.Lives as lives
+use Rattle.mst_words.specs.declared.view.View.{View}
+use Rattle.mst_words.specs.Layout.{first_row, row_word}
+use Rattle.mst_words.specs.Records.{row}
+use Rattle.mst_words.specs.Stored.{rows_in, version_of}
+
+-- a seat at a table: which table, its place there, and what the pass knows and holds of the slot
+pub record Seated : Type 0 where
+  pub table : TableId
+  pub id : ℕ
+  pub me : Me (Option lives.State) View
+
+-- what a seat is beside the words of the rows: all else that it knows and holds, the words in front of the rows, and how many words it knows
+pub record Beside : Type 0 where
+  pub seat : Seated
+  pub front : List ℕ
+  pub long : ℕ
+
+-- the seat, when it knows these words
+abbrev pub with_words : List ℕ → Seated → Seated
+with_words words s = record s { me = (record s.me.0 { held = words }, s.me.1) }
+
+abbrev pub beside : Seated → Beside
+beside s = record { seat = with_words [] s; front = take first_row s.me.0.held; long = length s.me.0.held }
+
+-- the same seat of the same table
+abbrev pub IsSameSeat : Seated → Seated → Type 0
+IsSameSeat p q = (q.table ≡ p.table) × (q.id ≡ p.id)
+
+-- the holder of the turn may read every row, and a pinned pass the rows that stand for its version
+abbrev pub may_read : View → ℕ → Bool
+may_read v x = nat_lt x v.rows && (v.turn || (is_some v.pin && list_any (eqb x) v.stood))
+
+-- the rows that it may read, as the words spell them
+abbrev pub content_of : View → Content
+content_of v x = if may_read v x then rows_in (row v.held) x else None
+
+-- for each number below n
+abbrev pub all_below : ℕ → (ℕ → Bool) → Bool
+all_below zero p = true
+all_below (suc n) p = p n && all_below n p
+
+-- no version of a record reaches the row, but of records that were found drained
+abbrev pub is_unreached : View → ℕ → Bool
+is_unreached v x = all_below (v.passes + 2) (λ r. list_any (eqb r) v.drained || not (lives.reaches v.desk.lives (version_of v.desk r) x))
+
+-- the holder of the turn, which knows the words, may write such rows, before it publishes
+abbrev pub is_blank : View → ℕ → Bool
+is_blank v x = nat_lt (row_word x 15) (length v.held) && nat_lt x v.rows && v.turn && is_none v.pin && is_none v.due && is_unreached v x

@@ -1,0 +1,50 @@
+-- Where the words of a table lie, and how many there are. Word 0 is the turn, word 1 the current record and the mask of its pins; then come a word DONE for each of the most records, the words of these records, and the words of the rows.
+use Rattle.std.specs.Prelude.{ℕ, ◌+◌, ◌*◌}
+
+-- the most passes that a table serves
+abbrev pub most_passes : ℕ
+most_passes = 32
+
+-- the most records that a table has: one for each pass, and two more
+abbrev pub most_records : ℕ
+most_records = 34
+
+-- how many words a record has: the number of its version, the link of its root, and the four words of its root digest
+abbrev pub record_words : ℕ
+record_words = 6
+
+-- how many words a row has
+abbrev pub row_words : ℕ
+row_words = 16
+
+-- the place of the turn
+abbrev pub turn_word : ℕ
+turn_word = 0
+
+-- the place of the word of the current record
+abbrev pub current_word : ℕ
+current_word = 1
+
+-- the place of the word DONE of a record
+abbrev pub done_word : ℕ → ℕ
+done_word r = r + 2
+
+-- the place of the first word of record 0
+abbrev pub first_record : ℕ
+first_record = 36
+
+-- the place of the first word of row 0
+abbrev pub first_row : ℕ
+first_row = 240
+
+-- the place of word k of a record
+abbrev pub record_word : ℕ → ℕ → ℕ
+record_word r k = r * record_words + k + first_record
+
+-- the place of word k of a row
+abbrev pub row_word : ℕ → ℕ → ℕ
+row_word x k = x * row_words + k + first_row
+
+-- how many words a table with so many rows has
+abbrev pub table_words : ℕ → ℕ
+table_words rows = rows * row_words + first_row

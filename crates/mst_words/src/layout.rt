@@ -1,0 +1,58 @@
+//! Where the words of a table lie, and how many there are.
+//!
+//! Word 0 is the turn, and word 1 names the current record. Then come a word DONE for each of the most records that a table can have, the words of these records, and the words of the rows.
+ghost use Rattle.std.specs.Prelude.{◌≡◌, ◌<◌};
+ghost use Rattle.mst_words.specs.Layout.{record_word, row_word, table_words};
+
+/// The most passes that a table serves.
+pub const MOST_PASSES: u32 = 32;
+
+/// The most records that a table has: one for each pass, and two more.
+pub const MOST_RECORDS: usize = 34;
+
+/// How many words a record has: the number of its version, the link of its root, and the four words of its root digest.
+pub const RECORD_WORDS: usize = 6;
+
+/// How many words a row has.
+pub const ROW_WORDS: usize = 16;
+
+/// The place of the turn: 0, or the number of the pass that has it.
+pub(crate) const TURN: usize = 0;
+
+/// The place of the word of the current record: its number * 2^32 + the mask of its pins.
+pub(crate) const CURRENT: usize = 1;
+
+/// The place of the word DONE of record 0.
+pub(crate) const FIRST_DONE: usize = 2;
+
+/// The place of the first word of record 0.
+const FIRST_RECORD: usize = FIRST_DONE + MOST_RECORDS;
+
+/// The place of the first word of the digest in record 0, behind the version and the link.
+pub(crate) const FIRST_DIGEST: usize = FIRST_RECORD + 2;
+
+/// The place of the first word of row 0.
+const FIRST_ROW: usize = FIRST_RECORD + MOST_RECORDS * RECORD_WORDS;
+
+/// The place of word k of a record.
+pub const fn record_word(which: u32, k: usize) -> usize
+    requires there { k < RECORD_WORDS }
+    ensures place { result ≡ record_word which k }
+{
+    which as usize * RECORD_WORDS + k + FIRST_RECORD
+}
+
+/// The place of word k of a row.
+pub const fn row_word(row: u32, k: usize) -> usize
+    requires there { k < ROW_WORDS }
+    ensures place { result ≡ row_word row k }
+{
+    row as usize * ROW_WORDS + k + FIRST_ROW
+}
+
+/// How many words a table with so many rows has.
+pub const fn table_words(rows: u32) -> usize
+    ensures count { result ≡ table_words rows }
+{
+    rows as usize * ROW_WORDS + FIRST_ROW
+}

@@ -1,0 +1,105 @@
+//! The steps of a pass that pins: the pin, the loads of words, and the end of the pin.
+ghost use Rattle.std.specs.Prelude.{◌≡◌, ◌≢◌, ◌%◌, ◌^◌, ◌<◌, ◌≤◌, ◌-◌, ℕ, [], true, false, slice_index, Some, None};
+ghost use Rattle.mst_words.specs.Layout.{most_passes, most_records, first_row, table_words};
+ghost use Rattle.mst_words.specs.Stored.{stored};
+ghost use Rattle.mst_words.specs.Steps.{IsFree, IsPinned, PinsNow, Unpins, Forgets, IsReadable};
+
+use crate::board::{Board, Token};
+use crate::layout::{CURRENT, FIRST_DONE};
+use crate::plays::{Forget, Pin, Read, Unpin};
+use std::alloc::Allocator;
+
+/// The bit of a pass in the masks: pass p has bit p - 1.
+fn bit_of(number: u32) -> u64
+    requires some { 0 < number }
+    requires few { number ≤ most_passes }
+    ensures bit { result ≡ 2 ^ (number - 1) }
+{
+    1 << (number - 1)
+}
+
+impl<A: Allocator + Copy> Board<A> {
+    /// Pins the current record: one xor of the pass's bit into the word of the current record. It answers the record.
+    pub(crate) fn pin(&self, seat: &mut Token<A>, number: u32) -> u32
+        requires own { seat.old.table_id ≡ self.now }
+        requires wide { self.now.words ≡ table_words seat.old.me.0.rows }
+        requires free { IsFree number seat.old.me }
+        requires few { number ≤ most_passes }
+        ensures same { (seat.new.table_id ≡ seat.old.table_id) × (seat.new.id ≡ seat.old.id) }
+        ensures pinned { (found : ℕ) × (p : PinsNow stored seat.old.me found seat.new.me) × (p.cur ≡ result) }
+    {
+        let found = self
+            .table
+            .shared
+            .fetch_xor::<Pin>(seat, CURRENT, bit_of(number));
+        (found >> 32) as u32
+    }
+
+    /// Ends the pin: one xor of the pass's bit into the record's word DONE. The pass has then seen the history at its pin.
+    pub(crate) fn unpin(&self, seat: &mut Token<A>, number: u32, which: u32)
+        requires own { seat.old.table_id ≡ self.now }
+        requires wide { self.now.words ≡ table_words seat.old.me.0.rows }
+        requires pinned { IsPinned number which seat.old.me }
+        requires some { 0 < number }
+        requires few { number ≤ most_passes }
+        requires there { which < most_records }
+        ensures same { (seat.new.table_id ≡ seat.old.table_id) × (seat.new.id ≡ seat.old.id) }
+        ensures free { Unpins seat.old.me seat.new.me }
+    {
+        self.table
+            .shared
+            .fetch_xor::<Unpin>(seat, which as usize + FIRST_DONE, bit_of(number));
+    }
+
+    /// Ends the pin as [`Board::unpin`] does, but the pass has seen no more than before its pin.
+    pub(crate) fn forget(&self, seat: &mut Token<A>, number: u32, which: u32)
+        requires own { seat.old.table_id ≡ self.now }
+        requires wide { self.now.words ≡ table_words seat.old.me.0.rows }
+        requires pinned { IsPinned number which seat.old.me }
+        requires some { 0 < number }
+        requires few { number ≤ most_passes }
+        requires there { which < most_records }
+        ensures same { (seat.new.table_id ≡ seat.old.table_id) × (seat.new.id ≡ seat.old.id) }
+        ensures free { Forgets seat.old.me seat.new.me }
+    {
+        self.table
+            .shared
+            .fetch_xor::<Forget>(seat, which as usize + FIRST_DONE, bit_of(number));
+    }
+
+    /// Loads a word of a record or of a row: one load.
+    pub(crate) fn read(&self, seat: &mut Token<A>, word: usize) -> u64
+        requires own { seat.old.table_id ≡ self.now }
+        requires there { word < self.now.words }
+        requires readable { IsReadable seat.old.me.0 word }
+        ensures same { (seat.new.table_id ≡ seat.old.table_id) × (seat.new.id ≡ seat.old.id) × (seat.new.me ≡ seat.old.me) }
+        ensures value { result ≡ slice_index seat.old.me.0.held word }
+    {
+        self.table.shared.load::<Read>(seat, word)
+    }
+}
+
+// The low half of a word: a mask of passes.
+fn low_half(word: u64) -> u32
+    ensures half { result ≡ word % 4294967296 }
+{
+    (word % 4_294_967_296) as u32
+}
+
+impl<A: Allocator + Copy> Board<A> {
+    /// For tests: the passes that pin a record, by what the words say; pass p has bit p - 1. It takes no seat, and nothing is proved of its answer.
+    ///
+    /// It loads two words, one after the other, so it tells the pins of one moment only while no pass makes a step. Between a publication and its transfer the mask of the old record stands in no word, and the answer for that record lacks it.
+    pub fn pins(&self, which: u32) -> u32
+        requires there { which < most_records }
+        requires wide { first_row ≤ self.now.words }
+    {
+        let current = self.table.shared.peek(CURRENT);
+        let done = low_half(self.table.shared.peek(which as usize + FIRST_DONE));
+        if current >> 32 == u64::from(which) {
+            low_half(current) ^ done
+        } else {
+            done
+        }
+    }
+}

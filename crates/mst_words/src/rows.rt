@@ -1,0 +1,102 @@
+//! The rows of the table, as a pass reads and writes them.
+ghost use Rattle.std.specs.Prelude.{◌≡◌, ◌+◌, ◌<◌, ◌≤◌, length, map, slice_set, true, IsTrue};
+ghost use Rattle.std.specs.List.{range_with_len};
+ghost use Rattle.mst_words.specs.Layout.{row_words, row_word};
+ghost use Rattle.mst_words.specs.Records as records;
+ghost use Rattle.mst_words.specs.Access.{may_read, is_blank};
+
+use crate::layout::{ROW_WORDS, row_word};
+use crate::seat::PassSeat;
+use mst_arena::{EntryLinks, HeadLinks, Row, Rows};
+use mst_key::Value;
+use std::alloc::Allocator;
+
+impl<'a, A: Allocator + Copy> PassSeat<'a, A> {
+    // Word k of a row: one load.
+    fn word(&mut self, row: u32, k: usize) -> u64
+        requires readable { may_read self.old.me.0 row ≡ true }
+        requires there { k < row_words }
+        ensures word { result ≡ records.row self.old.me.0.held row k }
+        ensures same { self.new ≡ self.old }
+    {
+        self.load(row_word(row, k))
+    }
+
+    // The words of a row from one on: a load for each.
+    fn words<const N: usize>(&mut self, row: u32, from: usize) -> [u64; N]
+        requires readable { may_read self.old.me.0 row ≡ true }
+        requires there { from + N ≤ row_words }
+        ensures words { result ≡ map (records.row self.old.me.0.held row) (range_with_len from N) }
+        ensures same { self.new ≡ self.old }
+    {
+        let mut words = [0; N];
+        for k in 0..N {
+            words[k] = self.word(row, from + k);
+        }
+        words
+    }
+
+    // Makes word k of a blank row this one: one load, and a store where another word stands there, since a store costs some twenty times as much as a load.
+    fn store_word(&mut self, row: u32, k: usize, value: u64)
+        requires blank { IsTrue (is_blank self.old.me.0 row) }
+        requires there { k < row_words }
+        ensures stored { self.new ≡ record self.old { me = (record self.old.me.0 { held = slice_set self.old.me.0.held (row_word row k) value }, self.old.me.1) } }
+        ensures wide { row_word row 15 < length self.old.me.0.held }
+    {
+        if self.word(row, k) != value {
+            self.store(row_word(row, k), value);
+        }
+    }
+}
+
+impl<'a, A: Allocator + Copy> Rows for PassSeat<'a, A> {
+    ghost use Rattle.mst_words.specs.Access.{content_of, is_blank, Beside, beside};
+
+    ghost content = { λ c. content_of c.me.0 };
+
+    ghost blank = { λ c. is_blank c.me.0 };
+
+    ghost Kept = { Beside };
+
+    ghost kept = { beside };
+
+    fn read(&mut self, row: u32) -> Row {
+        match Row::read(&self.words(row, 0)) {
+            Some(row) => row,
+            None => unreachable!(),
+        }
+    }
+
+    fn write(&mut self, row: u32, value: &Row) {
+        let words = value.words();
+        for k in 0..ROW_WORDS {
+            self.store_word(row, k, words[k]);
+        }
+    }
+
+    fn head(&mut self, row: u32) -> HeadLinks {
+        match HeadLinks::read(&self.words(row, 1)) {
+            Some(links) => links,
+            None => unreachable!(),
+        }
+    }
+
+    fn digest(&mut self, row: u32) -> [u8; 32] {
+        Row::read_digest(&self.words(row, 5))
+    }
+
+    fn entry(&mut self, row: u32) -> EntryLinks {
+        match EntryLinks::read(&self.words(row, 1)) {
+            Some(links) => links,
+            None => unreachable!(),
+        }
+    }
+
+    fn value(&mut self, row: u32) -> Value {
+        let lengths = self.word(row, 3);
+        match Row::read_value(lengths, &self.words(row, 8)) {
+            Some(value) => value,
+            None => unreachable!(),
+        }
+    }
+}

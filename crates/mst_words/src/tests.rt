@@ -1,0 +1,164 @@
+ghost use Rattle.std.specs.Prelude.{◌≡◌, [], IfOk};
+ghost use Rattle.mst_words.specs.Layout.{table_words};
+ghost use Rattle.mst_words.specs.World.{dealer};
+
+use crate::{Board, Shape, Token};
+use linked_list_allocator::LocalHeap;
+use mst_arena::{Desk, Row, Rows};
+use mst_key::Memory;
+use std::alloc::Allocator;
+use std::marker::Brand;
+use std::process::Abort;
+use std::test::Fail;
+
+const SMALL: Shape = Shape { rows: 4, passes: 2 };
+
+// A table for 4 rows and 2 passes, and the dealer's token.
+fn opened<A: Allocator + Copy>(alloc: A) -> Result<(Board<A>, Token<A>), Memory>
+    ensures ok { IfOk result (λ r. (r.1.table_id ≡ r.0) × (r.0.words ≡ table_words 4) × (r.1.me ≡ (dealer 4 2 1, []))) }
+{
+    let desk = Desk::new(alloc, SMALL.rows, SMALL.passes + 2, 0)?;
+    Board::open(alloc, SMALL, desk)
+}
+
+#[test]
+fn a_pass_pins_the_first_record(rt: HostRuntime) -> Result<(), Fail> {
+    let Ok((board, mut dealer)) = opened(rt.alloc()) else {
+        panic!(rt; "no memory")
+    };
+    let mut first = board.deal(&mut dealer);
+    let record = first.pin(1);
+    assert!(rt; record == 0);
+    first.unpin(1, record);
+    let again = first.pin(1);
+    assert!(rt; again == 0);
+    first.forget(1, again);
+    Ok(())
+}
+
+#[test]
+fn one_pass_has_the_turn(rt: HostRuntime) -> Result<(), Fail> {
+    let Ok((board, mut dealer)) = opened(rt.alloc()) else {
+        panic!(rt; "no memory")
+    };
+    let mut first = board.deal(&mut dealer);
+    let mut second = board.deal(&mut dealer);
+    assert!(rt; second.take_turn(2));
+    assert!(rt; !first.take_turn(1));
+    let desk = second.take_desk();
+    assert!(rt; desk.current() == (0, 0) && desk.free() == 4);
+    second.return_desk(desk);
+    second.give_turn();
+    assert!(rt; first.take_turn(1));
+    Ok(())
+}
+
+#[test]
+fn records_that_nobody_pins_are_drained(rt: HostRuntime) -> Result<(), Fail> {
+    let Ok((board, mut dealer)) = opened(rt.alloc()) else {
+        panic!(rt; "no memory")
+    };
+    let mut first = board.deal(&mut dealer);
+    let mut second = board.deal(&mut dealer);
+    assert!(rt; first.pin(1) == 0);
+    assert!(rt; second.take_turn(2));
+    // the word of the current record has its number, 0, and the bit of the pass that pins it
+    assert!(rt; second.note_current() == 1);
+    assert!(rt; second.ask_current(0) == 0);
+    assert!(rt; second.ask(1));
+    assert!(rt; second.ask(2));
+    assert!(rt; second.ask(3));
+    Ok(())
+}
+
+#[test]
+fn the_holder_of_the_turn_writes_a_row(rt: HostRuntime) -> Result<(), Fail> {
+    let Ok((board, mut dealer)) = opened(rt.alloc()) else {
+        panic!(rt; "no memory")
+    };
+    let mut first = board.deal(&mut dealer);
+    assert!(rt; first.take_turn(1));
+    let mut desk = first.take_desk();
+    let Some(row) = desk.take() else {
+        panic!(rt; "a free row")
+    };
+    let head = Row::Head {
+        layer: 2,
+        count: 1,
+        first: 3,
+        tail: 4,
+        digest: [7; 32],
+    };
+    first.write(row, &head);
+    assert!(rt; first.read(row) == head);
+    Ok(())
+}
+
+#[test]
+fn a_note_is_heard_and_seen(rt: HostRuntime) -> Result<(), Fail> {
+    let Ok((board, mut dealer)) = opened(rt.alloc()) else {
+        panic!(rt; "no memory")
+    };
+    let mut first = board.deal(&mut dealer);
+    let mut second = board.deal(&mut dealer);
+    first.see_all();
+    let note = first.write_note();
+    second.hear_note::<Brand>(note);
+    second.see_told();
+    assert!(rt; second.pin(2) == 0);
+    Ok(())
+}
+
+// Whether a table of a heap of so many bytes is opened. If not, the answer is memory, and nothing is kept.
+fn opens_in<R: Abort + AllocGlobal>(rt: &R, bytes: usize) -> bool {
+    let Ok(heap) = LocalHeap::new(rt.alloc(), bytes) else {
+        panic!(rt; "no memory")
+    };
+    match opened(&heap) {
+        Ok(_) => true,
+        Err(Memory) => {
+            assert!(rt; heap.used() == 0);
+            false
+        }
+    }
+}
+
+#[test]
+fn each_growth_of_open_is_refused_in_turn(rt: HostRuntime) -> Result<(), Fail> {
+    // The words alone take more than two kilobytes, so growths beyond the first are refused too.
+    let mut refused = 0u32;
+    for step in 1..512usize {
+        if !opens_in(&rt, step * 16) {
+            assert!(rt;
+                refused as usize == step - 1,
+                "once opened, a larger heap serves too"
+            );
+            refused = step as u32;
+        }
+    }
+    assert!(rt; 152 <= refused && refused < 511);
+    Ok(())
+}
+
+#[test]
+fn the_words_say_who_pins_a_record(rt: HostRuntime) -> Result<(), Fail> {
+    let Ok((board, mut dealer)) = opened(rt.alloc()) else {
+        panic!(rt; "no memory")
+    };
+    let mut first = board.deal(&mut dealer);
+    let mut second = board.deal(&mut dealer);
+    assert!(rt; board.pins(0) == 0 && board.pins(1) == 0);
+    let record = first.pin(1);
+    assert!(rt; board.pins(0) == 1 && board.pins(1) == 0);
+    let other = second.pin(2);
+    assert!(rt; board.pins(0) == 3);
+    first.unpin(1, record);
+    assert!(rt; board.pins(0) == 2);
+    let again = first.pin(1);
+    assert!(rt; board.pins(0) == 3);
+    second.forget(2, other);
+    assert!(rt; board.pins(0) == 1);
+    first.unpin(1, again);
+    assert!(rt; board.pins(0) == 0 && board.pins(33) == 0);
+    Ok(())
+}
