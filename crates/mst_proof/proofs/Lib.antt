@@ -14,3 +14,4 @@ pub mod Stepwise
 pub mod Nodewise
 pub mod Around
 pub mod Faults
+pub mod Heights

@@ -23,6 +23,11 @@ pub fn trail_by_spans()
     ensures trail { (format : Format) (m : List Pair) (k : List ℕ) → IsAscending m → trail format m k ≡ nodes_around k (tree format m) }
 {}
 
+/// A trail has at most 65 nodes: layers fall from node to node, from 64 at most. So the number of its texts fits the one byte that a proof has for it.
+pub fn trail_is_short()
+    ensures few { (m : List Pair) (k : List ℕ) → length (trail One m k) ≤ 65 }
+{}
+
 /// Each map of at most 65,535 pairs has its root digest, and no other digest. So what `verify` says of a map that has the root holds of each such map.
 pub fn each_map_has_its_root()
     ensures has { (m : List Pair) → IsMap m → length m ≤ 65535 → HasRoot m (root_of One m) }

@@ -16,5 +16,6 @@ pub use collision::{Pair, collide};
 pub use fault::ProofFault;
 pub use laws::{
     collisions_among, each_map_has_its_root, faults_in_order, texts_by_grammar, trail_by_spans,
+    trail_is_short,
 };
 pub use verifier::verify;

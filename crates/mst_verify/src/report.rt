@@ -1,6 +1,8 @@
 //! What is said of the text of a proof.
-ghost use Rattle.std.specs.Prelude.{◌≡◌, ◌≤◌, ◌<◌, ◌+◌, ◌*◌, ◌++◌, length, IfOk};
-ghost use Rattle.mst_verify.specs.Report.{without_newline as up_to_newline, report_of, fault_words as words_of_fault, digits_of, line_of, is_refusal};
+ghost use Rattle.std.specs.Prelude.{◌≡◌, ◌≤◌, ◌<◌, ◌+◌, ◌*◌, ◌++◌, ◌↔◌, length, IfOk, IsOk, IsTrue, OnErr};
+ghost use Rattle.std.specs.List.{list_all};
+ghost use Rattle.hex.specs.Hex.{decode_of, is_hex_digit};
+ghost use Rattle.mst_verify.specs.Report.{limit, without_newline as up_to_newline, report_of, fault_words as words_of_fault, digits_of, line_of, is_refusal};
 
 use arrayvec::ArrayVec;
 use hex::FromHexError;
@@ -39,7 +41,33 @@ fn without_newline(text: &[u8]) -> &[u8]
     }
 }
 
-/// What a text says of the key in the map with this root digest: the hexadecimal digits of a proof, in either case, with at most one newline behind them. `Memory` comes only where the room for the proof was refused.
+/// Whether the byte is a hexadecimal digit, in either case.
+fn is_digit(byte: u8) -> bool
+    ensures digit { result ≡ is_hex_digit byte }
+{
+    matches!(byte, b'0'..=b'9' | b'A'..=b'F' | b'a'..=b'f')
+}
+
+/// Whether each byte is a hexadecimal digit.
+fn are_digits(text: &[u8]) -> bool
+    ensures all { result ≡ list_all is_hex_digit text.now }
+{
+    text.iter().all(|byte| is_digit(*byte))
+}
+
+/// Whether the text is an even number of hexadecimal digits. It takes no memory.
+fn is_hex(text: &[u8]) -> bool
+    ensures hex { IsTrue result ↔ IsOk (decode_of text.now) }
+{
+    if text.len() % 2 != 0 {
+        return false;
+    }
+    are_digits(text)
+}
+
+/// What a text says of the key in the map with this root digest: the hexadecimal digits of a proof, in either case, with at most one newline behind them.
+///
+/// `Memory` comes only where the room for the proof was refused. A text that is too long, or no even number of digits, takes no memory.
 pub fn report_on<A: Allocator>(
     alloc: A,
     root: &[u8; 32],
@@ -47,11 +75,17 @@ pub fn report_on<A: Allocator>(
     text: &[u8],
 ) -> Result<Report, Memory>
     ensures report { IfOk result (λ r. r ≡ report_of root.now key.now text.now) }
+    ensures within { OnErr result (length text.now ≤ limit) }
+    ensures digits { OnErr result (IsOk (decode_of (up_to_newline text.now))) }
 {
     if text.len() > LIMIT {
         return Ok(Report::Long);
     }
-    let proof = match hex::decode(alloc, without_newline(text)) {
+    let digits = without_newline(text);
+    if !is_hex(digits) {
+        return Ok(Report::NotHex);
+    }
+    let proof = match hex::decode(alloc, digits) {
         Ok(proof) => proof,
         Err(FromHexError::OutOfMemory) => return Err(Memory),
         Err(_) => return Ok(Report::NotHex),

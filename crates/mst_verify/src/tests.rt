@@ -77,5 +77,20 @@ fn room_is_refused(rt: HostRuntime) -> Result<(), Fail> {
     text.resize(8_000, b'0')?;
     assert!(rt; matches!(report_on(&heap, &root, &key, text.as_slice()), Err(Memory)));
     assert!(rt; matches!(report_on(&heap, &root, &key, b"0"), Ok(Report::NotHex)));
+    // what is no even number of digits takes no room
+    text.push(b'0')?;
+    assert!(rt;
+        matches!(
+            report_on(&heap, &root, &key, text.as_slice()),
+            Ok(Report::NotHex)
+        )
+    );
+    text.push(b'g')?;
+    assert!(rt;
+        matches!(
+            report_on(&heap, &root, &key, text.as_slice()),
+            Ok(Report::NotHex)
+        )
+    );
     Ok(())
 }
