@@ -6,6 +6,8 @@ mod both;
 #[cfg(test)]
 mod changes;
 #[cfg(test)]
+mod counted;
+#[cfg(test)]
 mod pairs;
 #[cfg(test)]
 mod planting;

@@ -1,4 +1,5 @@
 //! Get, next, range and root of planted maps.
+mod counts;
 mod proofs;
 mod sizes;
 

@@ -3,7 +3,8 @@ ghost use Rattle.std.specs.Prelude.{◌≡◌, ◌≤◌, ◌<◌, length};
 ghost use Rattle.mst_arena.specs.Lives.{next, last_version};
 ghost use Rattle.mst_row_tests.specs.Ready.{IsPublished};
 
-use mst_arena::{Desk, PlainRows, Root};
+use crate::counted::{CountedRows, Reads};
+use mst_arena::{Desk, Root};
 use mst_key::{Key, Memory, Value};
 use mst_node::{build, is_map};
 use mst_path::{NoRoom, plant, put, remove};
@@ -15,7 +16,7 @@ use std::test::Fail;
 /// A map in rows. Each change is published at once, and then no earlier version is live.
 #[derive(Drop)]
 pub struct StandingMap {
-    rows: PlainRows<Global>,
+    rows: CountedRows,
     desk: Desk<Global>,
     root: Root,
 }
@@ -62,7 +63,7 @@ impl StandingMap {
         assert!(rt; 0 < size && size <= 65_535);
         let tree = build(alloc, pairs)?;
         let mut desk = Desk::new(alloc, size, 2, 0)?;
-        let mut rows = PlainRows::new(alloc, size)?;
+        let mut rows = CountedRows::new(alloc, size)?;
         let root = plant(&mut rows, &mut desk, tree.as_deref())?;
         publish(&mut desk);
         Ok(StandingMap { rows, desk, root })
@@ -71,6 +72,16 @@ impl StandingMap {
     /// How many rows are free.
     pub fn free(&self) -> u32 {
         self.desk.free()
+    }
+
+    /// What was read of the rows since the counts began.
+    pub fn reads(&self) -> Reads {
+        self.rows.reads()
+    }
+
+    /// The counts of what was read begin anew.
+    pub fn forget_reads(&mut self) {
+        self.rows.forget_reads();
     }
 
     /// Puts a pair, and answers the value that the key had.

@@ -161,6 +161,14 @@ fn texts_outside_the_grammar(rt: HostRuntime) -> Result<(), Fail> {
 }
 
 #[test]
+fn the_fault_of_a_text_prints_its_cause(rt: HostRuntime) -> Result<(), Fail> {
+    let alloc = rt.alloc();
+    let text = format!(in alloc; "{NodeFault}")?;
+    assert!(rt; text.as_str() == "not a node text");
+    Ok(())
+}
+
+#[test]
 fn first_texts(rt: HostRuntime) -> Result<(), Fail> {
     let alloc = rt.alloc();
     for (proof, want) in [

@@ -5,6 +5,7 @@ ghost use Rattle.mst_key.specs.Map.{IsMap};
 mod collisions;
 mod forged;
 mod maps;
+mod sizes;
 mod verdicts;
 
 use crate::pairs::top;
@@ -105,7 +106,9 @@ fn proof_for(
         };
         assert!(rt; proof.len() > 1);
         proof[1] = count;
-        let size = text.len().min(65535) as u32;
+        let Ok(size) = u32::try_from(text.len()) else {
+            return Err("a text too long".into());
+        };
         proof.extend_from_slice(size.to_be_bytes().as_slice())?;
         proof.extend_from_slice(text.as_slice())?;
         match gap_of(alloc, gap, key)? {

@@ -1,5 +1,6 @@
 //! Proofs that are spelt out.
 use super::{THREE, THREE_PROOF, TWO, TWO_PROOF, root_in, verdict, verdict_in};
+use mst_proof::ProofFault;
 use std::alloc::Global;
 use std::process::Abort;
 use std::test::Fail;
@@ -9,6 +10,26 @@ fn compare(rt: &impl Abort, alloc: Global, rows: &[(&str, &str, &str, &str)]) ->
     for (root, key, proof, want) in rows {
         let verdict = verdict_in(alloc, root, key.as_bytes(), proof)?;
         assert!(rt; verdict.as_str() == *want, "{key} in {proof}");
+    }
+    Ok(())
+}
+
+#[test]
+fn each_fault_prints_its_number(rt: HostRuntime) -> Result<(), Fail> {
+    let alloc = rt.alloc();
+    for (fault, want) in [
+        (ProofFault::Version, "P1"),
+        (ProofFault::CutShort, "P2"),
+        (ProofFault::LeftOver, "P3"),
+        (ProofFault::NoNode, "P4"),
+        (ProofFault::OtherDigest, "P5"),
+        (ProofFault::LayerNotBelow, "P6"),
+        (ProofFault::KeyOutside, "P7"),
+        (ProofFault::Unfinished, "P8"),
+        (ProofFault::TextBehind, "P9"),
+    ] {
+        let text = format!(in alloc; "{fault}")?;
+        assert!(rt; text.as_str() == want, "{want}");
     }
     Ok(())
 }

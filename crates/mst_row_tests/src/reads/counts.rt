@@ -1,0 +1,118 @@
+//! What the reads take of the rows: a range no more than its limit needs, a look-up and a next pair one path.
+//!
+//! The rows are of 300 pairs in three layers, with the numbers in three bytes as keys. The counts were worked out apart, from the layers of these keys (Python's hashlib): the head of each node that is met, its entries up to the one that ends the search in it, and the value of each pair of the answer.
+use crate::counted::Reads;
+use crate::planting::numbered;
+use crate::standing::StandingMap;
+use mst_key::Key;
+use std::alloc::Global;
+use std::process::Abort;
+use std::test::Fail;
+
+/// The map of 300 pairs, of which nothing was read.
+fn map_of_300(rt: &impl Abort, alloc: Global) -> Result<StandingMap, Fail> {
+    let pairs = numbered(alloc, 300)?;
+    let mut map = StandingMap::new(rt, alloc, pairs.as_slice(), 1_000)?;
+    map.forget_reads();
+    Ok(map)
+}
+
+/// Whether no more was read than so many heads, entries and values, and nothing else.
+fn is_within(reads: Reads, heads: u32, entries: u32, values: u32) -> bool {
+    reads.heads <= heads && reads.entries <= entries && reads.values <= values && reads.others == 0
+}
+
+/// The key of a number, if there is one.
+fn key_of(number: Option<u32>) -> Result<Option<Key>, Fail> {
+    let Some(number) = number else {
+        return Ok(None);
+    };
+    let bytes = number.to_be_bytes();
+    Ok(Some(Key::new(&bytes[1..])?))
+}
+
+#[test]
+fn a_range_reads_no_row_past_its_limit(rt: HostRuntime) -> Result<(), Fail> {
+    let alloc = rt.alloc();
+    let mut map = map_of_300(&rt, alloc)?;
+    for (from, to, limit, heads, entries, values) in [
+        (None, None, 0usize, 0, 0, 0),
+        (None, None, 1, 3, 3, 1),
+        (None, None, 2, 3, 4, 2),
+        (None, None, 10, 3, 12, 10),
+        (None, None, 300, 22, 300, 300),
+        (Some(100), None, 0, 0, 0, 0),
+        (Some(100), None, 1, 3, 26, 1),
+        (Some(100), None, 2, 3, 26, 2),
+        (Some(100), None, 10, 4, 35, 10),
+        (Some(17), Some(19), 1, 3, 20, 1),
+        (Some(17), Some(19), 10, 3, 22, 2),
+        (Some(150), Some(160), 2, 3, 13, 2),
+        (Some(150), Some(160), 300, 3, 22, 10),
+    ] {
+        let (from, to) = (key_of(from)?, key_of(to)?);
+        map.forget_reads();
+        let found = map.range(alloc, from.as_ref(), to.as_ref(), limit)?;
+        assert!(rt; found.len() == values as usize, "{limit}");
+        assert!(rt;
+            is_within(map.reads(), heads, entries, values),
+            "{limit}: {:?}",
+            map.reads()
+        );
+    }
+    Ok(())
+}
+
+#[test]
+fn a_look_up_reads_one_path(rt: HostRuntime) -> Result<(), Fail> {
+    let mut map = map_of_300(&rt, rt.alloc())?;
+    for (number, heads, entries) in [
+        (0, 3, 3),
+        (39, 2, 4),
+        (100, 3, 26),
+        (150, 3, 12),
+        (286, 3, 41),
+        (299, 3, 7),
+    ] {
+        let key = key_of(Some(number))?.ok_or("no key")?;
+        map.forget_reads();
+        assert!(rt; map.get(&key).is_some(), "{number}");
+        assert!(rt;
+            is_within(map.reads(), heads, entries, 1),
+            "{number}: {:?}",
+            map.reads()
+        );
+    }
+    let absent = Key::new(&[0, 0, 49, 0])?;
+    map.forget_reads();
+    assert!(rt; map.get(&absent).is_none());
+    assert!(rt; is_within(map.reads(), 3, 16, 0), "{:?}", map.reads());
+    map.forget_reads();
+    let _ = map.root();
+    assert!(rt; is_within(map.reads(), 0, 0, 0), "the root is at hand");
+    Ok(())
+}
+
+#[test]
+fn the_next_pair_is_on_one_path(rt: HostRuntime) -> Result<(), Fail> {
+    let mut map = map_of_300(&rt, rt.alloc())?;
+    for (after, heads, entries, values) in [
+        (None, 3, 3, 1),
+        (Some(39), 3, 6, 1),
+        (Some(100), 3, 26, 1),
+        (Some(150), 3, 13, 1),
+        (Some(246), 3, 21, 1),
+        (Some(299), 3, 7, 0),
+    ] {
+        let after = key_of(after)?;
+        map.forget_reads();
+        let found = map.next(after.as_ref());
+        assert!(rt; found.is_some() == (values == 1));
+        assert!(rt;
+            is_within(map.reads(), heads, entries, values),
+            "{:?}",
+            map.reads()
+        );
+    }
+    Ok(())
+}
