@@ -1,0 +1,29 @@
+//! The auditor. He trusts nobody: what he goes by is a root digest, and a proof for each answer.
+use anyhow::Result;
+use mst_key::Key;
+use mst_proof::verify;
+use std::alloc::Global;
+use std::str;
+
+/// The first digits of a digest.
+pub fn shortened(alloc: Global, digest: &[u8; 32]) -> Result<String> {
+    let [first, second, third, fourth, ..] = *digest;
+    Ok(hex::encode(alloc, [first, second, third, fourth])?)
+}
+
+/// Prints what the proof shows of the price of a fruit in the map with this root digest. A proof that is refused shows nothing.
+pub fn audit(rt: &HostRuntime, root: &[u8; 32], fruit: &str, proof: &[u8]) -> Result<()> {
+    let key = Key::new(fruit.as_bytes())?;
+    let digits = shortened(rt.alloc(), root)?;
+    match verify(root, &key, proof) {
+        Ok(Some(value)) => {
+            let price = str::from_utf8(value.bytes())?;
+            println!(rt; "auditor: under {digits}.. the price of {fruit} is {price}")?;
+        }
+        Ok(None) => println!(rt; "auditor: under {digits}.. {fruit} has no price")?,
+        Err(fault) => {
+            println!(rt; "auditor: under {digits}.. the proof for {fruit} is refused, {fault:?}")?;
+        }
+    }
+    Ok(())
+}

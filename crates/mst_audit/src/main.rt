@@ -1,0 +1,117 @@
+//! One writer and one auditor: how the library is used, in an example.
+//!
+//! A writer keeps the prices of fruits in a store, and hands out root digests. A reader, who may be anybody, brings the auditor answers with their proofs. The auditor trusts neither: he has a root digest, and checks each proof against it by [`mst_proof::verify`]. The program shows
+//!
+//! - a price that is there, and one that is not;
+//! - a proof in which one byte was changed, which is refused;
+//! - a newer answer against an older root digest, which is refused;
+//! - a version that the reader pinned, whose root digest and proofs stay while the writer goes on.
+//!
+//! `rt run` in this folder proves it and runs it; `rt try` runs it unproved, in seconds.
+#![tactic(auto)]
+
+mod auditor;
+
+use anyhow::{Context, Error, Result};
+use auditor::{audit, shortened};
+use mst_key::{Key, Value};
+use mst_store::{Pass, Pinned, Shape, Store};
+use std::alloc::Global;
+
+/// Room for a few fruits, and for the older versions that are pinned. One pass writes, the other reads.
+const SHAPE: Shape = Shape {
+    rows: 16,
+    passes: 2,
+};
+
+// Gives the fruit a price.
+fn put(rt: &HostRuntime, writer: &mut Pass<'_, Global>, fruit: &str, price: &str) -> Result<()> {
+    let key = Key::new(fruit.as_bytes())?;
+    writer.try_put(&key, &Value::new(price.as_bytes())?)?;
+    println!(rt; "writer: the price of {fruit} is {price}")?;
+    Ok(())
+}
+
+// Hands out the root digest of the current version.
+fn hand_out(rt: &HostRuntime, writer: &mut Pass<'_, Global>) -> Result<[u8; 32]> {
+    let root = writer.root();
+    let version = writer.version();
+    let digits = hex::encode(rt.alloc(), root.as_slice())?;
+    println!(rt; "writer: the root digest of version {version} is {digits}")?;
+    Ok(root)
+}
+
+// Prints that the reader brings a proof.
+fn bring(rt: &HostRuntime, fruit: &str, proof: &[u8]) -> Result<()> {
+    let bytes = proof.len();
+    println!(rt; "reader: a proof for {fruit}, of {bytes} bytes")?;
+    Ok(())
+}
+
+// The proof of the current version's answer for the fruit.
+fn prove(rt: &HostRuntime, reader: &mut Pass<'_, Global>, fruit: &str) -> Result<Vec<u8>> {
+    let proof = reader.prove(rt.alloc(), &Key::new(fruit.as_bytes())?)?;
+    bring(rt, fruit, &proof)?;
+    Ok(proof)
+}
+
+// The proof of the pinned version's answer for the fruit.
+fn prove_pinned(rt: &HostRuntime, reader: &mut Pinned<'_, Global>, fruit: &str) -> Result<Vec<u8>> {
+    let proof = reader.prove(rt.alloc(), &Key::new(fruit.as_bytes())?)?;
+    bring(rt, fruit, &proof)?;
+    Ok(proof)
+}
+
+// A price that is there, one that is not, and a proof in which the reader changed the price.
+fn one_version(rt: &HostRuntime, root: &[u8; 32], reader: &mut Pass<'_, Global>) -> Result<()> {
+    let proof = prove(rt, reader, "cherry")?;
+    audit(rt, root, "cherry", &proof)?;
+    let mut proof = prove(rt, reader, "apple")?;
+    audit(rt, root, "apple", &proof)?;
+    // the last byte but one is the last digit of the price
+    let place = proof.len().saturating_sub(2);
+    if let Some(digit) = proof.get_mut(place) {
+        *digit = b'1';
+    }
+    println!(rt; "reader: the same proof, with the price made 31")?;
+    audit(rt, root, "apple", &proof)
+}
+
+// An answer that is newer than the root digest, and one of the version that the reader pinned.
+fn two_versions(
+    rt: &HostRuntime,
+    old: &[u8; 32],
+    writer: &mut Pass<'_, Global>,
+    reader: Pass<'_, Global>,
+) -> Result<()> {
+    let mut pinned = reader.pin();
+    let version = pinned.version();
+    println!(rt; "reader: version {version} is pinned")?;
+    put(rt, writer, "apple", "35")?;
+    let new = hand_out(rt, writer)?;
+    let digits = shortened(rt.alloc(), &pinned.root())?;
+    println!(rt; "reader: the pinned root digest is still {digits}..")?;
+    let proof = prove_pinned(rt, &mut pinned, "apple")?;
+    audit(rt, old, "apple", &proof)?;
+    audit(rt, &new, "apple", &proof)?;
+    let mut reader = pinned.unpin();
+    println!(rt; "reader: the pin is ended")?;
+    let proof = prove(rt, &mut reader, "apple")?;
+    audit(rt, old, "apple", &proof)?;
+    audit(rt, &new, "apple", &proof)
+}
+
+fn main(rt: HostRuntime) -> Result<()> {
+    let (store, seats) = Store::open(rt.alloc(), SHAPE)?;
+    let Ok(mut passes) = store.deal(rt.alloc(), seats) else {
+        return Err(Error::msg("no memory"));
+    };
+    let mut reader = passes.pop().context("a store of two passes")?;
+    let mut writer = passes.pop().context("a store of two passes")?;
+    for (fruit, price) in [("apple", "30"), ("grape", "25"), ("plum", "12")] {
+        put(&rt, &mut writer, fruit, price)?;
+    }
+    let root = hand_out(&rt, &mut writer)?;
+    one_version(&rt, &root, &mut reader)?;
+    two_versions(&rt, &root, &mut writer, reader)
+}

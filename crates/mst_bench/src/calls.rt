@@ -1,0 +1,83 @@
+//! Calls of a store, each made many times.
+ghost use Rattle.std.specs.Prelude.{◌<◌, length};
+
+use crate::keys::value;
+use mst_key::Key;
+use mst_store::Pass;
+use std::alloc::Global;
+
+/// From one call's key to the next one's in the list, so that the calls are spread over the map. It shares no factor with the numbers of keys.
+const STRIDE: usize = 7_919;
+
+/// The number of the first value that is put into a full map. All values of a map that is filled have smaller numbers.
+const FIRST_NEW_VALUE: u64 = 1 << 40;
+
+/// Puts each key with its first value. True where each call went through.
+pub fn fill(pass: &mut Pass<'_, Global>, keys: &[Key]) -> bool {
+    for (number, key) in keys.iter().enumerate() {
+        if pass.try_put(key, &value(number as u64)).is_err() {
+            return false;
+        }
+    }
+    true
+}
+
+// The key of a call.
+fn picked(keys: &[Key], call: u32) -> &Key
+    requires some { 0 < length keys.now }
+{
+    &keys[call as usize * STRIDE % keys.len()]
+}
+
+/// Puts so many new values at keys that the map has. True where each call went through.
+pub fn put(pass: &mut Pass<'_, Global>, keys: &[Key], calls: u32) -> bool
+    requires some { 0 < length keys.now }
+{
+    for call in 0..calls {
+        let new = value(FIRST_NEW_VALUE + u64::from(call));
+        let Ok(Some(_)) = pass.try_put(picked(keys, call), &new) else {
+            return false;
+        };
+    }
+    true
+}
+
+/// Gets so many keys, each with a pin of its own. True where each has a value.
+pub fn get(pass: &mut Pass<'_, Global>, keys: &[Key], calls: u32) -> bool
+    requires some { 0 < length keys.now }
+{
+    for call in 0..calls {
+        if pass.get(picked(keys, call)).is_none() {
+            return false;
+        }
+    }
+    true
+}
+
+/// Proves the answers for so many keys, each with a pin of its own. True where memory sufficed.
+pub fn prove(alloc: Global, pass: &mut Pass<'_, Global>, keys: &[Key], calls: u32) -> bool
+    requires some { 0 < length keys.now }
+{
+    for call in 0..calls {
+        if pass.prove(alloc, picked(keys, call)).is_err() {
+            return false;
+        }
+    }
+    true
+}
+
+/// Removes so many keys, and puts each back before the next is removed. True where each call went through.
+pub fn remove_and_put_back(pass: &mut Pass<'_, Global>, keys: &[Key], calls: u32) -> bool
+    requires some { 0 < length keys.now }
+{
+    for call in 0..calls {
+        let key = picked(keys, call);
+        let Ok(Some(old)) = pass.try_remove(key) else {
+            return false;
+        };
+        let Ok(None) = pass.try_put(key, &old) else {
+            return false;
+        };
+    }
+    true
+}

@@ -1,0 +1,54 @@
+//! Keys and values that are the same in each run.
+use mst_key::{Key, Value};
+use std::alloc::{AllocError, Global};
+
+/// How many bytes a key has.
+const KEY_BYTES: usize = 16;
+
+/// How many bytes a value has.
+const VALUE_BYTES: usize = 32;
+
+/// One step of the generator SplitMix64 (Steele, Lea and Flood 2014) from the index on.
+fn mixed(index: u64) -> u64 {
+    let start = index.wrapping_mul(0x9e37_79b9_7f4a_7c15);
+    let first = (start ^ (start >> 30)).wrapping_mul(0xbf58_476d_1ce4_e5b9);
+    let second = (first ^ (first >> 27)).wrapping_mul(0x94d0_49bb_1331_11eb);
+    second ^ (second >> 31)
+}
+
+// The bytes that a seed gives. Seeds that differ by less than their number share some.
+fn bytes_of<const N: usize>(seed: u64) -> [u8; N] {
+    let mut bytes = [0; N];
+    for k in 0..N {
+        let [first, ..] = mixed(seed.wrapping_add(k as u64)).to_be_bytes();
+        bytes[k] = first;
+    }
+    bytes
+}
+
+/// The key of this number.
+pub fn key(number: u32) -> Key {
+    let bytes: [u8; KEY_BYTES] = bytes_of(u64::from(number) * 64);
+    let Ok(key) = Key::new(&bytes) else {
+        unreachable!()
+    };
+    key
+}
+
+/// The keys of the numbers below `count`.
+pub fn keys(alloc: Global, count: u32) -> Result<Vec<Key>, AllocError> {
+    let mut keys = Vec::with_capacity(alloc, count as usize)?;
+    for number in 0..count {
+        keys.push(key(number))?;
+    }
+    Ok(keys)
+}
+
+/// The value of this number.
+pub fn value(number: u64) -> Value {
+    let bytes: [u8; VALUE_BYTES] = bytes_of(number.wrapping_mul(64).wrapping_add(32));
+    let Ok(value) = Value::new(&bytes) else {
+        unreachable!()
+    };
+    value
+}
