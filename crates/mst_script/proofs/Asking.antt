@@ -85,7 +85,7 @@ written change p q (Ok old) a is ok err = (
 written change p q (Err write.Busy) a is ok err = (p.seen, [], idle_of 1 p q err.0, inr (inl (ap text_of is, err.1), idle_seen 1 p q err.0))
 written change p q (Err write.VersionsSpent) a is ok err = (q.seen, [], looked p q err.0, inr (inr (inl (ap text_of is, err.1)), refl))
 written change p q (Err write.NoRoom) a is ok err =
-    (q.seen, [], looked p q err.0, inr (inr (inr (ap text_of is, err.1, λ one. subst (λ (s : StoreId). LacksRoom s.rows (after q.seen) change) (store_is p q err.0) (err.2 one))), refl))
+    (q.seen, [], looked p q err.0, inr (inr (inr (ap text_of is, err.1, λ one. subst (λ (s : StoreId). LacksRoom s.rows (after q.seen) change) (store_is p q err.0) (err.2 one), err.4)), refl))
 
 -- ---- commands
 

@@ -11,7 +11,7 @@ use Rattle.mst_node.specs.Text.{root, text as text_of_node}
 use Rattle.mst_node.specs.Tree.{Tree, empty, node, tree}
 use Rattle.mst_node.specs.Trail.{proof_text}
 use Rattle.mst_arena.specs.Lives.{last_version}
-use Rattle.mst_store.specs.Writes.{rows_of}
+use Rattle.mst_store.specs.Writes.{rows_of, LacksKept}
 use Rattle.mst_store.specs.Passes.{StoreId, HasRoom, LacksRoom}
 use Rattle.mst_requests.specs.declared.request.Fault.{Fault}
 use Rattle.mst_requests.specs.declared.request.Command.{Command}
@@ -45,9 +45,9 @@ LacksMemory text = text ≡ line_of (codes "memory")
 abbrev pub IsSpent : History → List ℕ → Type 0
 IsSpent h text = (text ≡ line_of (codes "spent")) × (length h ≡ last_version)
 
--- There is a next version, and the change finds no room. Where there is one pass, the rows that the map leaves over are too few
+-- There is a next version, and the change finds no room: the versions that are kept hold too many rows, the last one and at most one for each other pass. Where there is one pass, the rows that the map leaves over are too few
 abbrev pub HasNoRoom : StoreId → Change → History → List ℕ → Type 0
-HasNoRoom store change h text = (text ≡ line_of (codes "noroom")) × (length h < last_version) × (store.passes ≡ 1 → LacksRoom store.rows (after h) change)
+HasNoRoom store change h text = (text ≡ line_of (codes "noroom")) × (length h < last_version) × (store.passes ≡ 1 → LacksRoom store.rows (after h) change) × LacksKept store.rows store.passes h change
 
 -- ---- the steps
 

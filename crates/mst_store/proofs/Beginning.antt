@@ -1,5 +1,7 @@
 -- What the holder of the turn has, once it has asked and swept.
 use Rattle.std.proofs.Common.{◌≡◌, ℕ, zero, suc, ◌+◌, ◌<◌, ◌≤◌, ◌&&◌, ◌||◌, not, is_some, is_none, nat_lt, eqb, if◌then◌else◌, Bool, true, false, List, [], ◌∷◌, length, map, slice_index, Option, Some, None, refl, sym, ap, ◌∙◌, subst, ⊎_elim, arith}
+use mathlib.Core.Logic.{dite}
+use native.Mathlib.Decide.{ℕ_discrete}
 use Rattle.std.specs.Prelude.{◌↔◌, slice_get, option_map, IsTrue}
 use Rattle.std.specs.List.{AllByRecursion, list_any}
 use Rattle.std.proofs.lemmas.Bool.{lt-ltb}
@@ -13,8 +15,10 @@ use Rattle.mst_arena.specs.declared.life.Life.TheVariants.{Free, Born, Dead}
 use Rattle.mst_arena.specs.Standing.{IsDistinct, numbers}
 use Rattle.mst_arena.specs.declared.row.Root.{Root}
 use Rattle.mst_path.specs.Moves as moves
+use Rattle.mst_path.specs.Ages.{HasPlace}
 use Rattle.mst_path.specs.Reached.{TogetherReach, swept_by}
 use Rattle.mst_path.proofs.FreeCounts.{count_swept}
+use Rattle.mst_path.proofs.KeptRoom.{held_free}
 use Rattle.mst_path.proofs.Reached.{same_swept, settled_swept, free_swept, some_reach}
 use Rattle.mst_words.specs.declared.view.View.{View}
 use Rattle.mst_words.specs.Layout.{row_word}
@@ -24,27 +28,21 @@ use Rattle.mst_words.specs.Steps.{IsHolder, Takes, IsGiving}
 use Rattle.mst_words.specs.Stored.{rows_in, root_in, stored, state_of, desk_state}
 use Rattle.mst_words.specs.Access.{content_of, all_below, is_unreached, is_blank}
 use Rattle.mst_words.proofs.Accesses.{blank_row}
-use Rattle.mst_words.proofs.Framed.{stands_frame}
+use Rattle.mst_words.proofs.Framed.{aged_frame}
+use Rattle.mst_words.proofs.AgeFrames.{SameAges}
 use Rattle.mst_store.specs.declared.turn.Asked.{Asked}
 use Rattle.mst_store.specs.declared.turn.Turn.{Turn}
 use Rattle.mst_store.specs.Asking.{KnowsRecords, HasAsked, AsksOnly, AsksEach}
-use Rattle.mst_store.specs.Turns.{Seat, IsKept, AreKept, HoldsDesk, HasTurn, TakesDesk}
+use Rattle.mst_store.specs.Turns.{Seat, StoodAtAsk, IsKept, AreKept, LeavesFree, HoldsDesk, HasTurn, TakesDesk}
 use Rattle.mst_store.proofs.Asked.{some_drained}
 use Rattle.mst_store.proofs.Members.{counted, found}
+use Rattle.mst_store.proofs.Places.{reached_inside, place_of}
 use Rattle.mst_store.proofs.Pinning.{link_of_root, in_list, each}
 
 -- the holder of the turn may read each row
 pub reads_held : (v : View) (x : ℕ) → v.turn ≡ true → x < v.rows → content_of v x ≡ rows_in (row v.held) x
 reads_held v x turn lt = ap (λ (b : Bool). if (b && (v.turn || (is_some v.pin && list_any (eqb x) v.stood))) then rows_in (row v.held) x else None) (lt-ltb x v.rows lt)
     ∙ ap (λ (b : Bool). if (b || (is_some v.pin && list_any (eqb x) v.stood)) then rows_in (row v.held) x else None) turn
-
--- a row that a version reaches is one of the rows
-reached_inside : (lives : List Life) (v x : ℕ) → reaches lives v x ≡ true → x < length lives
-reached_inside lives v x is = go (slice_get lives x) refl is
-  where
-    go : (o : Option Life) → slice_get lives x ≡ o → reached_at o v ≡ true → x < length lives
-    go None e i = cc
-    go (Some life) e i = slice_get_within lives x life e
 
 all_below_true : (n : ℕ) (p : ℕ → Bool) → ((r : ℕ) → r < n → p r ≡ true) → all_below n p ≡ true
 all_below_true zero p all = refl
@@ -197,19 +195,46 @@ module _ (before taken : Seat) (p : Takes stored before taken) where
         λ i. same ∙ subst (λ (v : ℕ). reaches p.desk.lives v x ≡ true) (sym number) (p.stands.reached x (found x p.used i)),
       )
 
+  -- each version that is live has its place in rows
+  places : (drained blocked : List ℕ) (asked : ℕ) (a : Asked) → HasAsked (before.0.passes + 2) (state_of p.desk) a (asked_seat drained blocked asked) → (v : ℕ) → moves.In v a.live.items → (v ≤ length p.log) × HasPlace p.desk.lives p.log v
+  places drained blocked asked a h v i = ⊎_elim (λ (e : v ≡ version (state_of p.desk)). current v e)
+      (λ (t : (r : ℕ) × (r < before.0.passes + 2) × (In r drained → ⊥) × (v ≡ slice_index p.desk.versions r)). dite (ℕ_discrete t.0 p.desk.current)
+      (λ same. current v (t.3 ∙ ap (λ (r : ℕ). slice_index p.desk.versions r) same))
+      (λ other. let stood : StoodAtAsk t.0 (asked_view drained blocked asked) = h.stood t.0 (h.found t.0 t.1 other t.2) in
+      place_of before.0.rows before.0.passes p.words p.log p.desk t.0 stood.0 stood.1 p.is_desk.rows_is stood.2 v t.3)) (h.only v i)
+    where
+      current : (v : ℕ) → v ≡ version (state_of p.desk) → (v ≤ length p.log) × HasPlace p.desk.lives p.log v
+      current v e = place_of before.0.rows before.0.passes p.words p.log p.desk p.desk.current p.log p.used p.is_desk.rows_is p.stands v e
+
+  leaves : (drained blocked : List ℕ) (asked : ℕ) (a : Asked) → HasAsked (before.0.passes + 2) (state_of p.desk) a (asked_seat drained blocked asked) → LeavesFree (map (swept a.live.items) p.desk.lives) p.log (length a.live.items) before.0.rows
+  leaves drained blocked asked a h = record {
+    live = a.live.items;
+    now = subst (λ (v : ℕ). moves.In v a.live.items) p.stands.filed h.now;
+    below = λ v i. (places drained blocked asked a h v i).0;
+    as_many = refl;
+    left = held_free (state_of p.desk) p.log a.live.items p.is_desk.settled h.now (places drained blocked asked a h) ∙ p.is_desk.rows_is;
+  }
+
+  -- the rows of the map keep their ages in the sweep
+  swept_ages : (a : Asked) → moves.In (version (state_of p.desk)) a.live.items → SameAges p.desk.lives (map (swept a.live.items) p.desk.lives) p.log (numbers p.stands.aged.0.0)
+  swept_ages a now x v i le =
+      let within : In x p.used = subst (In x) p.stands.aged.0.1 (found x (numbers p.stands.aged.0.0) i) in
+      same_ages a.live.items p.desk.lives (version (state_of p.desk)) x v now (subst (λ (n : ℕ). reaches p.desk.lives n x ≡ true) (sym p.stands.filed) (p.stands.reached x within))
+
   known : {A : Type 0} (drained blocked : List ℕ) (asked : ℕ) (a : Asked) (root : Root) → HasAsked (before.0.passes + 2) (state_of p.desk) a (asked_seat drained blocked asked) → root ≡ root_in (field p.words p.desk.current)
       → HasTurn (turn_of {A = A} (state_of p.desk) a root) (asked_seat drained blocked asked)
   known {A} drained blocked asked a root h here =
       let v : View = asked_view drained blocked asked in
-      let s = p.stands.stands in
+      let s = p.stands.aged.0 in
       let content : AllByRecursion (λ x. content_of v x ≡ rows_in (row p.words) x) (numbers s.0) = subst (AllByRecursion (λ x. content_of v x ≡ rows_in (row p.words) x)) (sym s.1)
       (each (λ x. content_of v x ≡ rows_in (row p.words) x) p.used (λ x within. reads_held v x refl (p.stands.inside x within))) in
-      let t = stands_frame (rows_in (row p.words)) (content_of v) (root_in (field p.words p.desk.current)) root (after p.log) s.0 content here in
+      let t = aged_frame (rows_in (row p.words)) (content_of v) (root_in (field p.words p.desk.current)) root p.log p.desk.lives (map (swept a.live.items) p.desk.lives) s.0 content here (swept_ages a h.now) p.stands.aged.1 in
       record {
         holds = holds {A = A} drained blocked asked a root h;
         settled = settled_swept (state_of p.desk) a.live.items p.is_desk.settled;
         stands = t.0;
         reached = λ x. subst (λ (used : List ℕ). reaches (map (swept a.live.items) p.desk.lives) (version (state_of p.desk)) x ≡ true ↔ moves.In x used) (sym (t.1 ∙ s.1)) (reached_now a h.now x);
+        aged = t.2;
         blank = λ x free. blank_free drained blocked asked a h x free;
         free = λ x blank. free_blank drained blocked asked a h x blank;
         kept = λ r l out other. h.found r l other out;
@@ -219,6 +244,7 @@ module _ (before taken : Seat) (p : Takes stored before taken) where
         number = h.room;
         there = h.knows.there;
         count = λ live rows kept once together. counted_rows drained blocked asked a h live rows kept once together;
+        leaves = leaves drained blocked asked a h;
       }
 
   pub slot_there : taken.1 ≡ (0, Some (state_of p.desk)) ∷ []

@@ -18,6 +18,7 @@ still t m noted asked h = let k = h.holds in record {
   settled = h.settled;
   stands = h.stands;
   reached = h.reached;
+  aged = h.aged;
   blank = h.blank;
   free = h.free;
   kept = h.kept;
@@ -27,6 +28,7 @@ still t m noted asked h = let k = h.holds in record {
   number = h.number;
   there = h.there;
   count = h.count;
+  leaves = h.leaves;
 }
 
 module _ {A : Type 0} (t : Turn A) (m1 m2 m3 : Seat) (noted done : ℕ) (n : NotesCurrent m1 noted m2) (a : AsksCurrent m2 done m3) where

@@ -14,7 +14,7 @@ use Rattle.mst_key.specs.declared.history.Event.{Event}
 use Rattle.mst_key.specs.History.{History, events_of, Begins}
 use Rattle.mst_words.specs.declared.view.View.{View}
 use Rattle.mst_words.specs.Notes.{having_heard, IsOfPasses, SeesTold}
-use Rattle.mst_store.specs.Passes.{StoreId, Known, IsPinning, having_asked}
+use Rattle.mst_store.specs.Passes.{Known, IsPinning, having_asked}
 use Rattle.mst_store.specs.Turns.{Seat}
 use Rattle.mst_store.specs.Settling.{AreAllPasses, IsOfOne, IsBeside, GoesOn}
 use Rattle.mst_key.proofs.HistoryLaws.{Begins-chain, events_of-between}

@@ -4,13 +4,20 @@ use Rattle.mst_key.specs.declared.format.Format.TheVariants.{One}
 use Rattle.mst_key.specs.declared.history.Change.{Change}
 use Rattle.mst_key.specs.declared.history.Event.{Event}
 use Rattle.mst_key.specs.Map.{Pair}
-use Rattle.mst_key.specs.History.{after, changed, reply}
+use Rattle.mst_key.specs.History.{History, after, changed, reply}
 use Rattle.mst_key.proofs.HistoryLaws.{after-push}
+use Rattle.mst_node.specs.Cost.{cost, new_rows}
+use Rattle.mst_arena.specs.Content.{Content}
 use Rattle.mst_arena.specs.Lives.{State, version, reaches, free_count, last_version}
-use Rattle.mst_arena.specs.Standing.{Stands, numbers}
+use Rattle.mst_arena.specs.Standing.{Stands, numbers, tree_of, used}
 use Rattle.mst_arena.specs.declared.row.Root.{Root}
-use Rattle.mst_path.specs.Changing.{MapStands}
-use Rattle.mst_path.specs.Reached.{ReachesExactly, Changes}
+use Rattle.mst_path.specs.Ages.{HasAges}
+use Rattle.mst_path.specs.Changing.{MapStands, OnlyFreeWritten}
+use Rattle.mst_path.specs.Made.{IsMade}
+use Rattle.mst_path.specs.Reached.{ReachesExactly, Changes, IsSettled}
+use Rattle.mst_path.proofs.AgeSteps.{ages_next}
+use Rattle.mst_path.proofs.Changes.{distinct_times}
+use Rattle.mst_path.proofs.NodeAges.{aged}
 use Rattle.mst_path.proofs.Reached.{older, newest, settled_after, reached_old}
 use Rattle.mst_path.proofs.RowCounts.{as_many}
 use Rattle.mst_words.specs.Access.{Seated, Beside, beside, with_words, content_of, IsSameSeat}
@@ -24,6 +31,17 @@ use Rattle.mst_store.specs.Writes.{made_at_seat, rows_taken, Made}
 -- the map that stands may be changed
 pub map_stands : {A : Type 0} (t : Turn A) (m : Seat) → HasTurn t m → MapStands (content_of m.0) t.desk t.root
 map_stands t m h = (after m.0.seen, h.stands, reached_old t.desk (numbers h.stands) h.settled h.reached)
+
+-- the ages of the rows of the new map
+next_ages : (old new : State) (before now : Content) (root at : Root) (h : History) (e : Event) (stood : Stands One before root (after h)) (stands : Stands One now at (after (h ++ e ∷ []))) → IsSettled old
+    → ReachesExactly old.lives (version old) (numbers stood) → version old ≡ length h → Changes old new (numbers stood) (numbers stands) → OnlyFreeWritten old before now → IsMade new stands.tree.placed
+    → free_count new.lives + cost One (after h) (after (h ++ e ∷ [])) ≡ free_count old.lives → HasAges old.lives h stood.tree.placed → HasAges new.lives (h ++ e ∷ []) stands.tree.placed
+next_ages old new before now root at h e stood stands settled exact number change written made count ages =
+    let o = stood.tree.placed in
+    let w = stands.tree.placed in
+    let costs : cost One (after h) (after (h ++ e ∷ [])) ≡ new_rows (tree_of One o) (tree_of One w) = λ i. new_rows (sym stood.tree.is i) (sym stands.tree.is i) in
+    ages_next old new o w h e change settled exact number stood.tree.is stands.tree.is ages
+    (aged before now old new o w stood.tree.rows change written (reached_old old (used o) settled exact) stands.tree.rows made (distinct_times (used w) stands.tree.once) (ap (λ (c : ℕ). free_count new.lives + c) (sym costs) ∙ count))
 
 -- the seat is as before but for its words, of which it knows as many
 frame : (s z : Seated) → beside z ≡ beside s → (z ≡ with_words z.me.0.held s) × (length z.me.0.held ≡ length s.me.0.held)
@@ -83,13 +101,14 @@ module _ {A : Type 0} (t : Turn A) (s z : Seated) (h : HasTurn t s.me) (root : R
   }
 
   -- the change is made, if it is the pass's own and a version is left
-  made : e.pass ≡ s.me.0.number → length s.me.0.seen < last_version → HasMade made_turn root e z.me
-  made mine room = record {
+  made : e.pass ≡ s.me.0.number → length s.me.0.seen < last_version → HasAges d.lives (z.me.0.seen ++ e ∷ []) stands.tree.placed → HasMade made_turn root e z.me
+  made mine room ages = record {
     holds = subst (HoldsDesk made_turn) (sym is_now) holds;
     mine = mine ∙ sym (ap (λ (m : Seat). m.0.number) is_now);
     room = subst (λ (m : Seat). length m.0.seen < last_version) (sym is_now) room;
     stands = stands;
     reached = subst (λ (v : ℕ). ReachesExactly d.lives v (numbers stands)) (sym (ap (λ (v : ℕ). v + 1) same_version)) (newest t.desk d (numbers h.stands) (numbers stands) change h.settled h.reached);
+    aged = ages;
     settled = settled_after t.desk d (numbers h.stands) (numbers stands) change t.into (let r = k.records in let i = k.into_in in omega (arith, r, i)) h.settled;
   }
 
@@ -97,14 +116,27 @@ module _ {A : Type 0} (t : Turn A) (s z : Seated) (h : HasTurn t s.me) (root : R
 with_event : (s z : Seated) (root : Root) (e : Event) → beside z ≡ beside s → Stands One (content_of z.me.0) root (changed (after s.me.0.seen) e.change) → Stands One (content_of z.me.0) root (after (z.me.0.seen ++ e ∷ []))
 with_event s z root e same stands = subst (Stands One (content_of z.me.0) root) (sym (ap (λ (b : Beside). after (b.seat.me.0.seen ++ e ∷ [])) same ∙ after-push s.me.0.seen e)) stands
 
+-- the ages of its rows: the same history has been seen before and after
+made_ages : {A : Type 0} (t : Turn A) (m : Seat) (h : HasTurn t m) (now : Content) (root : Root) (d : State) (e : Event) (seen : History) (stands : Stands One now root (after (seen ++ e ∷ []))) → m.0.seen ≡ seen
+    → Changes t.desk d (numbers h.stands) (numbers stands) → OnlyFreeWritten t.desk (content_of m.0) now → IsMade d stands.tree.placed
+    → free_count d.lives + rows_taken (after m.0.seen) e.change ≡ free_count t.desk.lives → HasAges d.lives (seen ++ e ∷ []) stands.tree.placed
+made_ages t m h now root d e seen stands same change written made rows =
+    let costs : cost One (after m.0.seen) (after (m.0.seen ++ e ∷ [])) ≡ rows_taken (after m.0.seen) e.change = ap (cost One (after m.0.seen)) (after-push m.0.seen e) in
+    let count : free_count d.lives + cost One (after m.0.seen) (after (m.0.seen ++ e ∷ [])) ≡ free_count t.desk.lives = ap (λ (c : ℕ). free_count d.lives + c) costs ∙ rows in
+    subst (λ (l : History). (on : Stands One now root (after (l ++ e ∷ []))) → Changes t.desk d (numbers h.stands) (numbers on) → IsMade d on.tree.placed → HasAges d.lives (l ++ e ∷ []) on.tree.placed) same
+    (λ on moved new. next_ages t.desk d (content_of m.0) now t.root root m.0.seen e h.stands on h.settled h.reached h.holds.version_is moved written new count h.aged) stands change made
+
 -- from what the path copying says
 pub change_made : {A : Type 0} (t : Turn A) (s z : Seated) (h : HasTurn t s.me) (root : Root) (old : Option (List ℕ)) (d : State) (change : Change) → beside z ≡ beside s → length s.me.0.seen < last_version
     → Stands One (content_of z.me.0) root (changed (after s.me.0.seen) change) → ((n : List Pair) (stands : Stands One (content_of z.me.0) root n) → Changes t.desk d (numbers h.stands) (numbers stands))
-    → old ≡ reply s.me.0.seen (made_at_seat s.me change) → free_count d.lives + rows_taken (after s.me.0.seen) change ≡ free_count t.desk.lives → Made change t s.me root old (record t { desk = d }) z.me
-change_made t s z h root old d change same early stands changes answer rows =
+    → old ≡ reply s.me.0.seen (made_at_seat s.me change) → free_count d.lives + rows_taken (after s.me.0.seen) change ≡ free_count t.desk.lives → OnlyFreeWritten t.desk (content_of s.me.0) (content_of z.me.0)
+    → ((n : List Pair) (stands : Stands One (content_of z.me.0) root n) → IsMade d stands.tree.placed) → Made change t s.me root old (record t { desk = d }) z.me
+change_made t s z h root old d change same early stands changes answer rows written news =
     let e : Event = made_at_seat s.me change in
-    let standing = with_event s z root e same stands in record {
-      has = made t s z h root e d same standing (changes (after (z.me.0.seen ++ e ∷ [])) standing) refl early;
+    let standing = with_event s z root e same stands in
+    let longer = after (z.me.0.seen ++ e ∷ []) in
+    let ages = made_ages t s.me h (content_of z.me.0) root d e z.me.0.seen standing (sym (ap (λ (b : Beside). b.seat.me.0.seen) same)) (changes longer standing) written (news longer standing) rows in record {
+      has = made t s z h root e d same standing (changes longer standing) refl early ages;
       answer = answer;
       rows = rows;
       kept = ap (λ (q : Seated). q.me) (frame s z same).0;

@@ -5,7 +5,7 @@ use mathlib.Core.Logic.{dite}
 use native.Mathlib.Decide.{ℕ_discrete}
 use Rattle.std.proofs.lemmas.Option.{slice_get_within}
 use Rattle.mst_key.specs.declared.history.Event.{Event}
-use Rattle.mst_key.specs.History.{History, after}
+use Rattle.mst_key.specs.History.{History}
 use Rattle.mst_key.proofs.HistoryLaws.{Begins-itself}
 use Rattle.mst_arena.specs.Lives.{State, version, next, reaches, reached_at}
 use Rattle.mst_arena.specs.Standing.{numbers}
@@ -18,8 +18,8 @@ use Rattle.mst_words.specs.Access.{content_of}
 use Rattle.mst_words.specs.Pins.{In}
 use Rattle.mst_words.specs.Records.{row, field, Standing, Agrees}
 use Rattle.mst_words.specs.Steps.{IsReady, IsGiving}
-use Rattle.mst_words.specs.Stored.{stored, desk_state, rows_in, root_in, version_of}
-use Rattle.mst_words.proofs.Framed.{stands_frame, same_row}
+use Rattle.mst_words.specs.Stored.{AgedOn, stored, desk_state, rows_in, root_in, version_of}
+use Rattle.mst_words.proofs.Framed.{aged_frame, same_row}
 use Rattle.mst_store.specs.declared.turn.Turn.{Turn}
 use Rattle.mst_store.specs.Turns.{Seat, HoldsDesk, HasMade}
 use Rattle.mst_store.specs.Filing.{OthersKept}
@@ -56,13 +56,17 @@ module _ {A : Type 0} (t : Turn A) (root : Root) (e : Event) (m : Seat) (made : 
   numbered : length (m.0.seen ++ e ∷ []) ≡ version t.desk + 1
   numbered = length_more m.0.seen e ∙ ap (λ (n : ℕ). n + 1) (sym holds.version_is)
 
+  aged : AgedOn (row held) (field held t.into) state (m.0.seen ++ e ∷ []) (numbers made.stands)
+  aged = let moved = aged_frame (content_of m.0) (rows_in (row held)) root (root_in (field held t.into)) (m.0.seen ++ e ∷ []) t.desk.lives t.desk.lives made.stands same_content spelt (λ x v _ _. refl) made.aged in ((moved.0, moved.1), moved.2)
+
   standing : Standing stored m.0.rows m.0.passes held (m.0.seen ++ e ∷ []) state t.into (m.0.seen ++ e ∷ []) (numbers made.stands)
   standing = record {
     numbered = holds.into_in;
     begins = Begins-itself (m.0.seen ++ e ∷ []);
     version = filed ∙ sym numbered;
     filed = get_or-set_same t.desk.versions t.into (next t.desk) 0 (let l = holds.records in let i = holds.into_in in omega arith) ∙ sym numbered;
-    stands = stands_frame (content_of m.0) (rows_in (row held)) root (root_in (field held t.into)) (after (m.0.seen ++ e ∷ [])) made.stands same_content spelt;
+    stands = aged.0;
+    aged = aged;
     inside = within_rows;
     reached = λ x within. subst (λ (n : ℕ). reaches t.desk.lives n x ≡ true) (sym numbered) ((made.reached x).1 (counted x (numbers made.stands) within));
     exactly = λ x l r. found x (numbers made.stands) ((made.reached x).0 (subst (λ (n : ℕ). reaches t.desk.lives n x ≡ true) numbered r));

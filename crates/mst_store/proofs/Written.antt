@@ -21,7 +21,7 @@ use Rattle.mst_words.specs.Pins.{In}
 use Rattle.mst_store.specs.declared.turn.Turn.{Turn}
 use Rattle.mst_store.specs.declared.faults.WriteFault.TheVariants.{NoRoom}
 use Rattle.mst_store.specs.Turns.{Seat, IsKept, AreKept, HasTurn, Begun, Added}
-use Rattle.mst_store.specs.Writes.{made_at_seat, rows_of, rows_taken, Made, LacksRows, WroteAtSeat, LookedAtSeat, RefusesAtSeat}
+use Rattle.mst_store.specs.Writes.{made_at_seat, rows_of, rows_taken, Made, LacksRows, WroteAtSeat, LookedAtSeat, LacksKept, RefusesAtSeat}
 use Rattle.mst_store.proofs.Asked.{in_last}
 
 dead_more : (b d : ℕ) (life : Life) (old new : List Life) → frees old ≤ frees new → frees (Dead b d ∷ old) ≤ frees (life ∷ new)
@@ -75,6 +75,16 @@ pub own_event : (m m' : Seat) (e : Event) → e.pass ≡ m.0.number → m'.0.num
 own_event m m' e mine same = ap (λ (p : ℕ). record { pass = p; change = e.change }) (same ∙ sym mine)
 
 module _ {A : Type 0} (m m1 : Seat) (t : Turn A) (b : Begun m t m1) where
+  -- the versions that are kept leave too few rows free
+  lacks_kept : (change : Change) → LacksRows change t m1 → LacksKept m.0.rows m.0.passes m1.0.seen change
+  lacks_kept change lacks = let l = b.has.leaves in let n = ap (λ (v : View). v.rows) b.rest in let k = ap (λ (v : View). v.passes) b.rest in record {
+    live = l.live;
+    now = l.now;
+    below = l.below;
+    few = (let as_many = l.as_many in let number = b.has.number in let fewer = b.has.fewer in omega (arith, as_many, number, fewer, k));
+    lacks = (let left = l.left in omega (arith, left, lacks, n));
+  }
+
   -- the turn was given back with the history as it was
   module _ (m2 m' : Seat) (still : m2 ≡ m1) (gave : m' ≡ (record m2.0 { turn = false }, [])) where
     back : m' ≡ (record m1.0 { turn = false }, [])
@@ -90,6 +100,7 @@ module _ {A : Type 0} (m m1 : Seat) (t : Turn A) (b : Begun m t m1) where
           subst (λ (log : History). length log < last_version) (sym seen) early,
           (λ one. subst (λ (log : History). m.0.rows < rows_of (after log) + rows_taken (after log) change) (sym seen)
               (let f = b.has.fewer in let k = ap (λ (v : View). v.passes) b.rest in let all = room_alone_left t m1 b.has (omega (arith, f, k, one)) in let n = ap (λ (v : View). v.rows) b.rest in omega (arith, all, lacks, n))),
+          subst (λ (log : History). LacksKept m.0.rows m.0.passes log change) (sym seen) (lacks_kept change lacks),
         )
 
   -- the version that was made is published

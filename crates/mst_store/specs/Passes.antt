@@ -13,7 +13,7 @@ use Rattle.mst_store.specs.declared.reading.PinnedRoot.{PinnedRoot}
 use Rattle.mst_store.specs.Pinned.{HasPinned}
 use Rattle.mst_store.specs.declared.faults.WriteFault.{WriteFault}
 use Rattle.mst_store.specs.declared.faults.WriteFault.TheVariants.{Busy, VersionsSpent, NoRoom}
-use Rattle.mst_store.specs.Writes.{rows_of, rows_taken}
+use Rattle.mst_store.specs.Writes.{rows_of, rows_taken, LacksKept}
 
 -- which store it is, and its size
 pub record StoreId : Type 0 where
@@ -129,8 +129,8 @@ pub record Wrote (e : Event) (p : Known) (old : Option (List ℕ)) (q : Known) :
 abbrev pub FindsBusy : Known → Known → Type 0
 FindsBusy p q = (q ≡ having_asked 1 p) × (1 < p.store.passes)
 
--- Why a change was refused. Nothing was added to the history. In a store of one pass there is no room exactly where the rows that the map leaves over are too few
+-- Why a change was refused. Nothing was added to the history. There is no room where the versions that are kept hold too many rows: the last one, and at most one for each other pass. In a store of one pass there is no room exactly where the rows that the map leaves over are too few
 abbrev pub Refuses : WriteFault → Change → Known → Known → Type 0
 Refuses Busy change p q = FindsBusy p q
 Refuses VersionsSpent change p q = Looks p q × (length q.seen ≡ last_version) × (q.asked ≡ p.asked + 1)
-Refuses NoRoom change p q = Looks p q × (length q.seen < last_version) × (p.store.passes ≡ 1 → LacksRoom q.store.rows (after q.seen) change) × (q.asked ≡ p.asked + p.store.passes + 2)
+Refuses NoRoom change p q = Looks p q × (length q.seen < last_version) × (p.store.passes ≡ 1 → LacksRoom q.store.rows (after q.seen) change) × (q.asked ≡ p.asked + p.store.passes + 2) × LacksKept p.store.rows p.store.passes q.seen change

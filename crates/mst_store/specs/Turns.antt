@@ -4,10 +4,13 @@ use Rattle.atomic_table.specs.Table.{Me}
 use Rattle.mst_key.specs.declared.format.Format.TheVariants.{One}
 use Rattle.mst_key.specs.declared.history.Event.{Event}
 use Rattle.mst_key.specs.History.{History, after, events_of, Begins}
+use Rattle.mst_node.specs.Stays.{held}
 use Rattle.mst_arena.specs.Lives.{State, version, next, last_version, free_count, IsSettled}
 use Rattle.mst_arena.specs.Standing.{IsDistinct, Stands, numbers}
+use Rattle.mst_arena.specs.declared.life.Life.{Life}
 use Rattle.mst_arena.specs.declared.life.Life.TheVariants.{Free}
 use Rattle.mst_arena.specs.declared.row.Root.{Root}
+use Rattle.mst_path.specs.Ages.{HasAges}
 use Rattle.mst_path.specs.Moves as moves
 use Rattle.mst_path.specs.Takes.{FreeIsBlank}
 use Rattle.mst_path.specs.Reached.{ReachesExactly, TogetherReach, advanced}
@@ -55,12 +58,21 @@ IsKept desk v n = (r : ℕ) × (r < v.passes + 2) × (In r v.drained → ⊥) ×
 abbrev pub AreKept : State → View → List ℕ → Type 0
 AreKept desk v live = (n : ℕ) → moves.In n live ↔ IsKept desk v n
 
--- The map of the whole history stands at the root, on exactly the rows that the current version reaches, and no write is under way. The rows that may be written are free, and no others: all rows but those that the versions together reach that are kept: the current one and those of the records that were found pinned, each of which stood for a map. These are fewer than the passes, and their number is known
+-- Of the history so many versions are kept: the last one, and none above it. All rows are free but those that they hold
+pub record LeavesFree (lives : List Life) (log : History) (kept rows : ℕ) : Type 0 where
+  pub live : List ℕ
+  pub now : moves.In (length log) live
+  pub below : (v : ℕ) → moves.In v live → v ≤ length log
+  pub as_many : length live ≡ kept
+  pub left : free_count lives + held One log live ≡ rows
+
+-- The map of the whole history stands at the root, on exactly the rows that the current version reaches, and no write is under way. The rows that may be written are free, and no others: all rows but those that the versions together reach that are kept: the current one and those of the records that were found pinned, each of which stood for a map. These are fewer than the passes, and their number is known; what they hold is not free, and all else is. The age of each row of the map is known
 pub record HasTurn {A : Type 0} (t : Turn A) (m : Seat) : Type 0 where
   pub holds : HoldsDesk t m
   pub settled : IsSettled t.desk
   pub stands : Stands One (content_of m.0) t.root (after m.0.seen)
   pub reached : ReachesExactly t.desk.lives (version t.desk) (numbers stands)
+  pub aged : HasAges t.desk.lives m.0.seen stands.tree.placed
   pub blank : FreeIsBlank t.desk.lives (is_blank m.0)
   pub free : (x : ℕ) → IsTrue (is_blank m.0 x) → slice_get t.desk.lives x ≡ Some Free
   pub kept : (r : ℕ) → r < m.0.passes + 2 → (In r m.0.drained → ⊥) → r ≢ t.desk.current → In r m.0.blocked
@@ -70,6 +82,7 @@ pub record HasTurn {A : Type 0} (t : Turn A) (m : Seat) : Type 0 where
   pub number : t.kept ≡ length m.0.blocked + 1
   pub there : t.desk.current < m.0.passes + 2
   pub count : (live rows : List ℕ) → AreKept t.desk m.0 live → IsDistinct rows → TogetherReach t.desk.lives live rows → free_count t.desk.lives + length rows ≡ m.0.rows
+  pub leaves : LeavesFree t.desk.lives m.0.seen t.kept m.0.rows
 
 -- the turn was taken, and the desk out of the slot
 abbrev pub TakesDesk : Seat → State → Seat → Type 0
@@ -95,13 +108,14 @@ abbrev pub IsNotBegun : NotBegun → Seat → Seat → Type 0
 IsNotBegun Busy m m' = Misses m m'
 IsNotBegun VersionsSpent m m' = Spent m m'
 
--- A change is made, and not yet published: the map of the history with the event stands at a root, on exactly the rows that the version to come reaches
+-- A change is made, and not yet published: the map of the history with the event stands at a root, on exactly the rows that the version to come reaches, and the age of each is known
 pub record HasMade {A : Type 0} (t : Turn A) (root : Root) (e : Event) (m : Seat) : Type 0 where
   pub holds : HoldsDesk t m
   pub mine : e.pass ≡ m.0.number
   pub room : length m.0.seen < last_version
   pub stands : Stands One (content_of m.0) root (after (m.0.seen ++ e ∷ []))
   pub reached : ReachesExactly t.desk.lives (next t.desk) (numbers stands)
+  pub aged : HasAges t.desk.lives (m.0.seen ++ e ∷ []) stands.tree.placed
   pub settled : IsSettled (advanced t.into t.desk)
 
 -- The turn was given back, and the history has the event behind what the pass had seen. One step was counted, the publication

@@ -7,8 +7,10 @@ use Rattle.mst_key.specs.declared.history.Event.{Event}
 use Rattle.mst_key.specs.History.{History, after, changed, reply, events_of, Begins}
 use Rattle.mst_node.specs.Tree.{tree}
 use Rattle.mst_node.specs.Cost.{cost}
+use Rattle.mst_node.specs.Stays.{held}
 use Rattle.mst_arena.specs.Lives.{free_count, last_version}
 use Rattle.mst_arena.specs.declared.row.Root.{Root}
+use Rattle.mst_path.specs.Moves.{In}
 use Rattle.mst_path.specs.Planting.{node_count}
 use Rattle.mst_words.specs.Steps.{Misses}
 use Rattle.mst_store.specs.declared.turn.Turn.{Turn}
@@ -34,6 +36,14 @@ pub record Made {A : Type 0} (change : Change) (t : Turn A) (m : Seat) (root : R
   pub answer : old ≡ reply m.0.seen (made_at_seat m change)
   pub rows : free_count t'.desk.lives + rows_taken (after m.0.seen) change ≡ free_count t.desk.lives
   pub kept : m' ≡ (record m.0 { held = m'.0.held }, m.1)
+
+-- Versions are kept that hold too many of these rows for the change. The last one is among them, none is above it, and they are at most as many as the passes
+pub record LacksKept (rows passes : ℕ) (log : History) (change : Change) : Type 0 where
+  pub live : List ℕ
+  pub now : In (length log) live
+  pub below : (v : ℕ) → In v live → v ≤ length log
+  pub few : length live ≤ passes
+  pub lacks : rows < held One log live + rows_taken (after log) change
 
 -- fewer rows are free than the change takes
 abbrev pub LacksRows : {A : Type 0} → Change → Turn A → Seat → Type 0
@@ -62,8 +72,8 @@ pub record LookedAtSeat (m m' : Seat) : Type 0 where
   pub mine : m'.0.mine ≡ m.0.mine
   pub asked : m'.0.asked ≡ m.0.asked + m.0.passes + 2
 
--- Why a change was refused. In a store of one pass the map alone is kept, so there is no room exactly where the rows that it leaves over are too few
+-- Why a change was refused. There is no room where the versions that are kept hold too many rows. In a store of one pass the map alone is kept, so there is none exactly where the rows that it leaves over are too few
 abbrev pub RefusesAtSeat : WriteFault → Change → Seat → Seat → Type 0
 RefusesAtSeat Busy change m m' = Misses m m'
 RefusesAtSeat VersionsSpent change m m' = Spent m m'
-RefusesAtSeat NoRoom change m m' = LookedAtSeat m m' × (length m'.0.seen < last_version) × (m.0.passes ≡ 1 → m.0.rows < rows_of (after m'.0.seen) + rows_taken (after m'.0.seen) change)
+RefusesAtSeat NoRoom change m m' = LookedAtSeat m m' × (length m'.0.seen < last_version) × (m.0.passes ≡ 1 → m.0.rows < rows_of (after m'.0.seen) + rows_taken (after m'.0.seen) change) × LacksKept m.0.rows m.0.passes m'.0.seen change

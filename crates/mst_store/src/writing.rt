@@ -78,7 +78,7 @@ pub(crate) fn make<A: Allocator + Copy>(
 ///
 /// The steps, in this order: the turn is taken, the desk is taken, each record but the current one is asked, and the dead rows are freed that no version reaches which is kept; the nodes along the change's path are copied into free rows; then the version is published, the mask of the old record's pins is moved, and desk and turn go back. It takes no memory.
 ///
-/// `Busy` comes only where another pass has the turn, else `VersionsSpent` exactly where the current version has the last number, else `NoRoom` exactly where fewer rows are free than the change takes: a row for each entry and one for each node that it makes new. In a store of one pass all rows are free then but those of the map.
+/// `Busy` comes only where another pass has the turn, else `VersionsSpent` exactly where the current version has the last number, else `NoRoom` exactly where fewer rows are free than the change takes: a row for each entry and one for each node that it makes new. All rows are free then but those that the kept versions hold: the current one and those that other passes pin. In a store of one pass these are the rows of the map.
 pub(crate) fn write<A: Allocator + Copy>(
     seat: &mut PassSeat<'_, A>,
     number: u32,

@@ -16,7 +16,8 @@ use Rattle.mst_arena.specs.Standing.{none}
 use Rattle.mst_arena.specs.Words.{word_from, byte_of_words, bytes_in}
 use Rattle.mst_arena.proofs.Packing.{packed, bytes_back}
 use Rattle.mst_words.specs.Records.{field, row, Standing}
-use Rattle.mst_words.specs.Stored.{StandsOn, IsDesk, stored, fresh_desk, desk_state}
+use Rattle.mst_words.specs.declared.view.DeskState.{DeskState}
+use Rattle.mst_words.specs.Stored.{AgedOn, IsDesk, stored, fresh_desk, desk_state}
 
 -- ---- a digest in four words
 
@@ -63,15 +64,18 @@ unreached : (n v x : ℕ) → reaches (replicate n Free) v x ≡ true → ⊥
 unreached n v x = at_free (λ l. reached_at l v ≡ true → ⊥) (λ e. let c : false ≡ true = e in cc) (λ e. let c : false ≡ true = e in cc) n x
 
 -- words that spell the empty root stand for the empty map, on no row
-empty_stands : (word : ℕ → ℕ → ℕ) (fields : ℕ → ℕ) → fields 1 ≡ 0 → bytes_in (fields 2 ∷ fields 3 ∷ fields 4 ∷ fields 5 ∷ []) ≡ digest_of [] → StandsOn word fields [] []
+empty_stands : (word : ℕ → ℕ → ℕ) (fields : ℕ → ℕ) (d : DeskState) → fields 1 ≡ 0 → bytes_in (fields 2 ∷ fields 3 ∷ fields 4 ∷ fields 5 ∷ []) ≡ digest_of [] → AgedOn word fields d [] []
 unfolding tree tree_within
-empty_stands word fields link digest = (
-  record {
-    map = record { ascending = tt; limits = tt };
-    digest = digest;
-    tree = record { placed = none; at = sym link; is = refl; rows = tt; once = tt };
-  },
-  refl,
+empty_stands word fields d link digest = (
+  (
+    record {
+      map = record { ascending = tt; limits = tt };
+      digest = digest;
+      tree = record { placed = none; at = sym link; is = refl; rows = tt; once = tt };
+    },
+    refl,
+  ),
+  tt,
 )
 
 pub fresh_standing : (R N : ℕ) (ws : List ℕ) → ((i : ℕ) → i < 38 → slice_index ws i ≡ 0) → bytes_in (slice_index ws 38 ∷ slice_index ws 39 ∷ slice_index ws 40 ∷ slice_index ws 41 ∷ []) ≡ digest_of []
@@ -81,7 +85,8 @@ fresh_standing R N ws front digest = record {
   begins = Begins-nil [];
   version = front 36 (omega arith);
   filed = get_or-replicate (N + 2) 0 0 0 (omega arith);
-  stands = empty_stands (row ws) (field ws 0) (front 37 (omega arith)) digest;
+  stands = (empty_stands (row ws) (field ws 0) (desk_state (fresh_desk R N)) (front 37 (omega arith)) digest).0;
+  aged = empty_stands (row ws) (field ws 0) (desk_state (fresh_desk R N)) (front 37 (omega arith)) digest;
   inside = λ x within. absurd within;
   reached = λ x within. absurd within;
   exactly = λ x l e. absurd (unreached R 0 x e);

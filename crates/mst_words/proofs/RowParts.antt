@@ -40,7 +40,8 @@ module _ {S : Type 0} (T : Meaning S) (framed : IsFramed T) (R N : ℕ) where
     begins = begins_longer p log more s.begins;
     version = kept.0 0 (omega arith) ∙ s.version;
     filed = a.version ∙ s.filed;
-    stands = framed (row ws) (row ws') (field ws r) (field ws' r) (T.after p) u kept.1 kept.0 s.stands;
+    stands = framed.stands (row ws) (row ws') (field ws r) (field ws' r) (T.after p) u (kept.1, kept.0) s.stands;
+    aged = framed.aged (row ws) (row ws') (field ws r) (field ws' r) p u desk desk' r (kept.1, kept.0) s.filed s.reached a s.aged;
     inside = s.inside;
     reached = λ x within. subst (λ (n : ℕ). T.Reaches desk' n x) s.filed (a.reached x (subst (λ (n : ℕ). T.Reaches desk n x) (sym s.filed) (s.reached x within)));
     exactly = λ x l h. s.exactly x l (subst (λ (n : ℕ). T.Reaches desk n x) s.filed (a.exactly x (subst (λ (n : ℕ). T.Reaches desk' n x) (sym s.filed) h)));

@@ -15,18 +15,19 @@ field ws r k = slice_index ws (record_word r k)
 abbrev pub row : List ℕ → ℕ → ℕ → ℕ
 row ws x k = slice_index ws (row_word x k)
 
--- What the rule is about: the map of a history; when the words of rows and of a record stand for a map, on which rows; what lies in the slot; which rows a version reaches; and the version of each record.
+-- What the rule is about: the map of a history; when the words of rows and of a record stand for a map, on which rows; when they stand for the map of a history, and the desk knows how old these rows are; what lies in the slot; which rows a version reaches; and the version of each record.
 pub record Meaning (S : Type 0) : Type 1 where
   pub M : Type 0
   pub after : History → M
   pub Stands : (ℕ → ℕ → ℕ) → (ℕ → ℕ) → M → List ℕ → Type 0
+  pub Aged : (ℕ → ℕ → ℕ) → (ℕ → ℕ) → DeskState → History → List ℕ → Type 0
   pub IsDesk : S → ℕ → ℕ → DeskState → Type 0
   pub Reaches : DeskState → ℕ → ℕ → Type 0
   pub version : DeskState → ℕ → ℕ
 
--- what stands does so by the words of the record and of those rows alone
-abbrev pub IsFramed : {S : Type 0} → Meaning S → Type 0
-IsFramed T = (f g : ℕ → ℕ → ℕ) (p q : ℕ → ℕ) (m : T.M) (used : List ℕ) → ((x : ℕ) → In x used → (k : ℕ) → k < row_words → g x k ≡ f x k) → ((k : ℕ) → k < record_words → q k ≡ p k) → T.Stands f p m used → T.Stands g q m used
+-- words g and q agree with f and p where a record and these rows stand
+abbrev pub SameWords : (ℕ → ℕ → ℕ) → (ℕ → ℕ → ℕ) → (ℕ → ℕ) → (ℕ → ℕ) → List ℕ → Type 0
+SameWords f g p q used = ((x : ℕ) → In x used → (k : ℕ) → k < row_words → g x k ≡ f x k) × ((k : ℕ) → k < record_words → q k ≡ p k)
 
 -- a record that is current or pinned
 abbrev pub IsLive : ℕ → List View → ℕ → Type 0
@@ -44,14 +45,21 @@ module _ {S : Type 0} (T : Meaning S) where
     pub exactly : (x : ℕ) → T.Reaches d' (T.version d r) x → T.Reaches d (T.version d r) x
     pub ages : (x v : ℕ) → v ≤ T.version d r → T.Reaches d (T.version d r) x → T.Reaches d v x ↔ T.Reaches d' v x
 
+  -- What stands does so by the words of the record and of those rows alone. The age of its rows is known to each desk that agrees on the record
+  pub record IsFramed : Type 0 where
+    pub stands : (f g : ℕ → ℕ → ℕ) (p q : ℕ → ℕ) (m : T.M) (used : List ℕ) → SameWords f g p q used → T.Stands f p m used → T.Stands g q m used
+    pub aged : (f g : ℕ → ℕ → ℕ) (p q : ℕ → ℕ) (h : History) (used : List ℕ) (d d' : DeskState) (r : ℕ) → SameWords f g p q used → T.version d r ≡ length h
+        → ((x : ℕ) → In x used → T.Reaches d (length h) x) → Agrees d d' r → T.Aged f p d h used → T.Aged g q d' h used
+
   module _ (R n : ℕ) where
-    -- a record stands for the map at a place of the history, by these rows, which are those that its version reaches
+    -- a record stands for the map at a place of the history, by these rows, which are those that its version reaches; and the desk knows how old they are
     pub record Standing (ws : List ℕ) (log : History) (desk : DeskState) (r : ℕ) (place : History) (used : List ℕ) : Type 0 where
       pub numbered : r < n + 2
       pub begins : Begins place log
       pub version : field ws r 0 ≡ length place
       pub filed : T.version desk r ≡ length place
       pub stands : T.Stands (row ws) (field ws r) (T.after place) used
+      pub aged : T.Aged (row ws) (field ws r) desk place used
       pub inside : (x : ℕ) → In x used → x < R
       pub reached : (x : ℕ) → In x used → T.Reaches desk (length place) x
       pub exactly : (x : ℕ) → x < R → T.Reaches desk (length place) x → In x used

@@ -2,7 +2,7 @@
 use Rattle.std.specs.Prelude.{◌≡◌, ℕ, ◌+◌, ◌<◌, ◌≤◌, List, [], ◌∷◌, length, true, slice_index, replicate, Option, Some}
 use Rattle.mst_key.specs.declared.format.Format.TheVariants.{One}
 use Rattle.mst_key.specs.Map.{Pair}
-use Rattle.mst_key.specs.History.{after}
+use Rattle.mst_key.specs.History.{History, after}
 use Rattle.mst_arena.specs.Words as words
 use Rattle.mst_arena.specs.Words.{row_in}
 use Rattle.mst_arena.specs.Content.{Content}
@@ -10,6 +10,7 @@ use Rattle.mst_arena.specs.Lives as lives
 use Rattle.mst_arena.specs.declared.life.Life.TheVariants.{Free}
 use Rattle.mst_arena.specs.Standing as standing
 use Rattle.mst_arena.specs.declared.row.Root.{Root}
+use Rattle.mst_path.specs.Ages.{HasAges}
 use Rattle.mst_words.specs.declared.view.DeskState.{DeskState}
 use Rattle.mst_words.specs.Records.{Meaning}
 
@@ -41,6 +42,10 @@ pub record IsDesk (x : Option lives.State) (rows passes : ℕ) (d : DeskState) :
   pub settled : lives.IsSettled (state_of d)
   pub earlier : (r : ℕ) → r < passes + 2 → slice_index d.versions r ≤ lives.version (state_of d)
 
+-- They stand for the map of a history, and the desk says of the rows of each node that the versions that reach them are those since which the node's tree has stood
+abbrev pub AgedOn : (ℕ → ℕ → ℕ) → (ℕ → ℕ) → DeskState → History → List ℕ → Type 0
+AgedOn word field d h used = (s : StandsOn word field (after h) used) × HasAges d.lives h s.0.tree.placed
+
 -- the desk of a new store: record 0 is current, each record has version 0, and each row is free
 abbrev pub fresh_desk : ℕ → ℕ → lives.State
 fresh_desk rows passes = record { current = 0; versions = replicate (passes + 2) 0; lives = replicate rows Free }
@@ -53,4 +58,4 @@ abbrev pub version_of : DeskState → ℕ → ℕ
 version_of d r = slice_index d.versions r
 
 abbrev pub stored : Meaning (Option lives.State)
-stored = record { M = List Pair; after = after; Stands = StandsOn; IsDesk = IsDesk; Reaches = Reaches; version = version_of }
+stored = record { M = List Pair; after = after; Stands = StandsOn; Aged = AgedOn; IsDesk = IsDesk; Reaches = Reaches; version = version_of }

@@ -1,4 +1,4 @@
-use Rattle.std.proofs.Common.{◌≡◌, ℕ, List, get_or, set, ap, ◌∙◌, subst, sym}
+use Rattle.std.proofs.Common.{◌≡◌, ℕ, List, get_or, set, ap, ◌∙◌, subst}
 use Rattle.mst_key.specs.History.{Begins}
 use Rattle.mst_key.proofs.HistoryLaws.{Begins-chain}
 use Rattle.mst_store.specs.Passes.{Known, having_asked}

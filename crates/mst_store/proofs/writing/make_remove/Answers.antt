@@ -17,4 +17,4 @@ returns-clause-made g c =
     let m = after s.me.0.seen in
     change_made c.args.turn.now s c.remove.new.rows h c.in-Ok.root c.in-Ok.old c.remove.new.desk (Remove c.args.key.now) done.kept c.requires.open
     (done.stands m h.stands) (λ n stands. record { taken = done.taken m n h.stands stands; killed = done.killed m n h.stands stands; others = done.others m n h.stands stands; versions = done.versions })
-    (done.value m h.stands) (done.cost m h.stands)
+    (done.value m h.stands) (done.cost m h.stands) done.written done.made
