@@ -1,7 +1,7 @@
 //! Devices and memory that fail, and devices that take their time.
 use super::run_over;
 use linked_list_allocator::LocalHeap;
-use mst_devices::{BytesSink, BytesSource, StdSink, StdSource};
+use mst_devices::{BytesSink, BytesSource, Device, StdSink, StdSource};
 use mst_script::RunFault;
 use mst_store::Shape;
 use std::alloc::Global;
@@ -240,5 +240,12 @@ fn sinks_are_full(rt: HostRuntime) -> Result<(), Fail> {
         assert!(rt; matches!(ran, Err(RunFault::Device)));
         assert!(rt; sink.bytes() == &ANSWERS[..room], "with room for {room}");
     }
+    Ok(())
+}
+
+#[test]
+fn a_run_that_ended_early_says_why(rt: HostRuntime) -> Result<(), Fail> {
+    let told = format!(in rt.alloc(); "{Device}, {}, {}", RunFault::Device, RunFault::Memory)?;
+    assert!(rt; told.as_str() == "a device failed, a device failed, no memory");
     Ok(())
 }
