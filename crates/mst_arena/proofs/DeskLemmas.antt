@@ -1,18 +1,16 @@
 -- What a desk keeps follows the changes of its rows.
 use Rattle.std.proofs.Common.{◌≡◌, ◌≢◌, ℕ, zero, suc, ◌+◌, ◌<◌, ◌≤◌, ◌^◌, Bool, true, false, cond, List, [], ◌∷◌, ◌++◌, length, map, Option, Some, None, refl, sym, ◌∙◌, ap, arith, inl, inr, ◌⊎◌, get_or}
-use Rattle.std.specs.Prelude.{slice_get, slice_set, slice_index, option_map, replicate, ◌==◌}
+use Rattle.std.specs.Prelude.{slice_get, slice_set, slice_index, option_map, replicate, ◌==◌, ◌&&◌}
 use Rattle.std.specs.List.{list_any, list_all}
-use Rattle.std.specs.List.Sorted.{IsPermutation}
-use Rattle.std.proofs.lemmas.List.Sorted.{list_any-IsPermutation}
 use Rattle.std.proofs.Math.ListN.{length-set}
-use Rattle.std.proofs.lemmas.Bool.{cases_eq}
+use Rattle.std.proofs.lemmas.Bool.{cases_eq, and_parts, and_from}
 use Rattle.std.proofs.lemmas.Bool.Decides.{nat_tests}
 use Rattle.std.proofs.lemmas.List.{append-nil, map-set}
 use Rattle.std.proofs.lemmas.Option.{slice_get-map, slice_get-get_or, get_or_from_slice_get}
 use Rattle.mst_arena.specs.declared.life.Life.{Life}
 use Rattle.mst_arena.specs.declared.life.Life.TheVariants.{Free, Born, Dead}
 use Rattle.mst_arena.specs.Lives.{is_free, reaches_life, swept}
-use Rattle.mst_arena.specs.Lists.{bit, is_at, is_dead, times, Lists, AllReached, StayBut, IsDesk}
+use Rattle.mst_arena.specs.Lists.{bit, is_at, is_dead, times, Lists, AllReached, AllOlder, is_older, StayBut, IsDesk}
 use Rattle.mst_arena.proofs.SetLemmas.{get_set_other}
 use Rattle.mst_arena.proofs.ListLemmas.{times-append, lists_come, lists_stay, lists_room, swept_twice}
 
@@ -22,7 +20,7 @@ out_of_held lives dead held r x lists at alive =
     let none : bit (is_at is_dead (slice_get lives r)) ≡ 0 = ap (λ o. bit (is_at is_dead o)) at ∙ ap bit alive in
     omega (arith, lists r, times-append r dead held)
 
-reached_after : (last : List ℕ) (lives : List Life) (held : List ℕ) (r : ℕ) (y : Life) → AllReached last lives held → times r held ≡ 0 → AllReached last (slice_set lives r y) held
+pub reached_after : (last : List ℕ) (lives : List Life) (held : List ℕ) (r : ℕ) (y : Life) → AllReached last lives held → times r held ≡ 0 → AllReached last (slice_set lives r y) held
 reached_after last lives held r y reached none k z at some = go (cases_eq k r)
   where
     go : (k ≡ r) ⊎ (k ≢ r) → list_any (reaches_life z) last ≡ true
@@ -104,14 +102,24 @@ any_member P (w ∷ ws) v has is = go (w == v) (P w) refl refl (any_member P ws 
     go true false e f more = grind (arith, nat_tests)
     go false false e f more = grind (arith, nat_tests)
 
--- what a version reached that is still live is reached by a live version
-any_live : (P : ℕ → Bool) (live last : List ℕ) → list_all (λ v. list_any (λ w. w == v) live) last ≡ true → list_any P last ≡ true → list_any P live ≡ true
-any_live P live [] all some = cc
-any_live P live (v ∷ vs) all some = go (list_any (λ w. w == v) live) (P v) refl refl (any_live P live vs)
+-- what a version reached that is still live, and not the newest, is reached by a live version that is not
+any_older : (P : ℕ → Bool) (live last : List ℕ) → list_all (λ v. list_any (λ w. w == v) live && is_older live v) last ≡ true → list_any P last ≡ true → list_any (λ v. P v && is_older live v) live ≡ true
+any_older P live [] all some = cc
+any_older P live (v ∷ vs) all some = go (P v) refl (any_older P live vs)
   where
-    go : (s t : Bool) → list_any (λ w. w == v) live ≡ s → P v ≡ t → (list_all (λ u. list_any (λ w. w == u) live) vs ≡ true → list_any P vs ≡ true → list_any P live ≡ true) → list_any P live ≡ true
-    go true true e f more = any_member P live v e f
-    go true false e f more = more (grind (arith, nat_tests)) (grind (arith, nat_tests))
+    here : (list_any (λ w. w == v) live && is_older live v) ≡ true
+    here = (and_parts _ _ all).0
+
+    go : (t : Bool) → P v ≡ t → (list_all (λ u. list_any (λ w. w == u) live && is_older live u) vs ≡ true → list_any P vs ≡ true → list_any (λ u. P u && is_older live u) live ≡ true) → list_any (λ u. P u && is_older live u) live ≡ true
+    go true f more = any_member (λ u. P u && is_older live u) live v (and_parts _ _ here).0 (and_from _ _ f (and_parts _ _ here).1)
+    go false f more = more (and_parts _ _ all).1 (grind (arith, nat_tests))
+
+any_weaker : (P Q : ℕ → Bool) (live : List ℕ) → list_any (λ v. P v && Q v) live ≡ true → list_any P live ≡ true
+any_weaker P Q [] some = cc
+any_weaker P Q (v ∷ vs) some = go (P v) (Q v) refl refl (any_weaker P Q vs)
+  where
+    go : (s t : Bool) → P v ≡ s → Q v ≡ t → (list_any (λ u. P u && Q u) vs ≡ true → list_any P vs ≡ true) → list_any P (v ∷ vs) ≡ true
+    go true t e f more = grind (arith, nat_tests)
     go false t e f more = grind (arith, nat_tests)
 
 swept_dead : (live : List ℕ) (b d : ℕ) → list_any (reaches_life (Dead b d)) live ≡ true → swept live (Dead b d) ≡ Dead b d
@@ -144,9 +152,16 @@ from_map f [] r x at = cc
 from_map f (l ∷ ls) zero x at = (l, cc)
 from_map f (l ∷ ls) (suc r) x at = from_map f ls r x at
 
+-- a dead row that a sweep leaves is reached by a live version
+pub kept_reached : (live : List ℕ) (lives new : List Life) (held : List ℕ) → new ≡ map (swept live) lives → Lists is_dead new held → AllReached live new held
+kept_reached live lives new held is lists r x at some =
+    let y = from_map (swept live) lives r x (ap (λ (ls : List Life). slice_get ls r) (sym is) ∙ at) in
+    let stays : swept live x ≡ x = ap (swept live) y.1 ∙ swept_twice live y.0 ∙ sym y.1 in
+    dead_swept live x stays (kind_of new held r x lists at some)
+
 module _ (current : ℕ) (versions : List ℕ) (lives : List Life) (free : List Bool) (dead held last : List ℕ) (dc hc : ℕ) (desk : IsDesk current versions lives free dead held last dc hc) where
   -- a sweep leaves each row alone that it does not look at
-  pub stay_but : (live dead' held' : List ℕ) → ((r : ℕ) → times r (dead' ++ held') ≡ times r (dead ++ held)) → ((held' ≡ []) ⊎ ((held' ≡ held) × (list_all (λ v. list_any (λ w. w == v) live) last ≡ true))) → StayBut live lives dead'
+  pub stay_but : (live dead' held' : List ℕ) → ((r : ℕ) → times r (dead' ++ held') ≡ times r (dead ++ held)) → ((held' ≡ []) ⊎ ((held' ≡ held) × (list_all (λ v. list_any (λ w. w == v) live && is_older live v) last ≡ true))) → StayBut live lives dead'
   stay_but live dead' held' same either r Free at none = refl
   stay_but live dead' held' same either r (Born b) at none = refl
   stay_but live dead' held' same either r (Dead b d) at none = go either
@@ -156,14 +171,21 @@ module _ (current : ℕ) (versions : List ℕ) (lives : List Life) (free : List 
           let one : bit (is_at is_dead (slice_get lives r)) ≡ 1 = ap (λ o. bit (is_at is_dead o)) at in
           omega (arith, same r, desk.dead_rows r, times-append r dead' held')
 
-      go : ((held' ≡ []) ⊎ ((held' ≡ held) × (list_all (λ v. list_any (λ w. w == v) live) last ≡ true))) → swept live (Dead b d) ≡ Dead b d
+      go : ((held' ≡ []) ⊎ ((held' ≡ held) × (list_all (λ v. list_any (λ w. w == v) live && is_older live v) last ≡ true))) → swept live (Dead b d) ≡ Dead b d
       go (inl e) = let zero_times : times r held' ≡ 0 = ap (times r) e in absurd (omega (arith, once))
       go (inr e) =
           let in_held : times r held ≡ 1 = ap (times r) (sym e.0) ∙ once in
-          swept_dead live b d (any_live (reaches_life (Dead b d)) live last e.1 (desk.reached r (Dead b d) at (omega arith)))
+          swept_dead live b d (any_weaker (reaches_life (Dead b d)) (is_older live) live (any_older (reaches_life (Dead b d)) live last e.1 (desk.reached r (Dead b d) at (omega arith))))
 
-  -- after a sweep, with the live versions remembered
-  pub desk_swept : (live : List ℕ) (new : List Life) (free' : List Bool) (dead' held' last' : List ℕ) (dc' hc' : ℕ) → new ≡ map (swept live) lives → free' ≡ map is_free new → Lists is_dead new held' → dead' ≡ [] → IsPermutation live last' → dc' ≡ dc → hc' ≡ hc → IsDesk current versions new free' dead' held' last' dc' hc'
+  -- what it does not look at is reached by a live version that is not the newest
+  pub held_older : (live held' : List ℕ) → ((held' ≡ []) ⊎ ((held' ≡ held) × (list_all (λ v. list_any (λ w. w == v) live && is_older live v) last ≡ true))) → AllOlder live lives held'
+  held_older live held' (inl e) r x at some = let none : times r held' ≡ 0 = ap (times r) e in absurd (omega (arith, some))
+  held_older live held' (inr e) r x at some =
+      let same : times r held' ≡ times r held = ap (times r) e.0 in
+      any_older (reaches_life x) live last e.1 (desk.reached r x at (omega (arith, some)))
+
+  -- after a sweep, with live versions remembered that reach what is held
+  pub desk_swept : (live : List ℕ) (new : List Life) (free' : List Bool) (dead' held' last' : List ℕ) (dc' hc' : ℕ) → new ≡ map (swept live) lives → free' ≡ map is_free new → Lists is_dead new held' → dead' ≡ [] → AllReached last' new held' → dc' ≡ dc → hc' ≡ hc → IsDesk current versions new free' dead' held' last' dc' hc'
   desk_swept live new free' dead' held' last' dc' hc' is f lists e l d h =
       let len : length new ≡ length lives = ap (λ (ls : List Life). length ls) is ∙ length_mapped (swept live) lives in
       record {
@@ -172,16 +194,10 @@ module _ (current : ℕ) (versions : List ℕ) (lives : List Life) (free : List 
         few = omega (arith, len, desk.few);
         free_rows = f;
         dead_rows = λ r. ap (λ (rows : List ℕ). times r (rows ++ held')) e ∙ lists r;
-        reached = λ r x at some. sym (list_any-IsPermutation (reaches_life x) live last' l) ∙ here r x at some;
+        reached = l;
         dead_room = omega (arith, len, desk.dead_room);
         held_room = omega (arith, len, desk.held_room);
       }
-    where
-      here : (r : ℕ) (x : Life) → slice_get new r ≡ Some x → 0 < times r held' → list_any (reaches_life x) live ≡ true
-      here r x at some =
-          let y = from_map (swept live) lives r x (ap (λ (ls : List Life). slice_get ls r) (sym is) ∙ at) in
-          let stays : swept live x ≡ x = ap (swept live) y.1 ∙ swept_twice live y.0 ∙ sym y.1 in
-          dead_swept live x stays (kind_of new held' r x lists at some)
 
   -- after a sweep, with all rows to be looked at again
   pub desk_forgot : (live : List ℕ) (new : List Life) (free' : List Bool) (dead' held' last' : List ℕ) (dc' hc' : ℕ) → new ≡ map (swept live) lives → free' ≡ map is_free new → Lists is_dead new dead' → held' ≡ [] → dc' ≡ hc → hc' ≡ dc → IsDesk current versions new free' dead' held' last' dc' hc'

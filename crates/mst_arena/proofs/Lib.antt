@@ -6,6 +6,7 @@ pub mod FlagLemmas
 pub mod SetLemmas
 pub mod ListLemmas
 pub mod Rising
+pub mod Older
 pub mod SweepLemmas
 pub mod DeskLemmas
 pub mod Stands

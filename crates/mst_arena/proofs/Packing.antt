@@ -4,7 +4,7 @@ use Rattle.std.specs.Prelude.{slice_index}
 use Rattle.std.specs.Int.{w64, to_be_bytes}
 use Rattle.std.specs.List.{range_with_len}
 use Rattle.std.proofs.lemmas.Nat.{be_bytes_8}
-use Rattle.std.proofs.lemmas.List.{ext_get_or}
+use Rattle.std.proofs.lemmas.List.{ext_get_or, get_or_past}
 use Rattle.std.proofs.lemmas.List.FromFn.{length-map-range_with_len, get_or-map-range_with_len, take-map-range_with_len}
 use Rattle.mst_key.specs.Bytes.{IsBytes}
 use Rattle.mst_arena.specs.Words.{eight_from, word_from, byte_of_words}
@@ -36,6 +36,12 @@ eight_at bytes i (suc (suc (suc (suc (suc zero))))) lt = refl
 eight_at bytes i (suc (suc (suc (suc (suc (suc zero)))))) lt = refl
 eight_at bytes i (suc (suc (suc (suc (suc (suc (suc zero))))))) lt = refl
 eight_at bytes i (suc (suc (suc (suc (suc (suc (suc (suc j)))))))) lt = absurd (omega arith)
+
+-- the word of eight bytes past the end
+pub past_word : (bytes : List ℕ) (i : ℕ) → length bytes ≤ i → 0 ≡ word_from bytes i
+unfolding word_from
+past_word bytes i le =
+    rw (get_or_past bytes i 0 le, get_or_past bytes (i + 1) 0 (omega (arith, le)), get_or_past bytes (i + 2) 0 (omega (arith, le)), get_or_past bytes (i + 3) 0 (omega (arith, le)), get_or_past bytes (i + 4) 0 (omega (arith, le)), get_or_past bytes (i + 5) 0 (omega (arith, le)), get_or_past bytes (i + 6) 0 (omega (arith, le)), get_or_past bytes (i + 7) 0 (omega (arith, le)))
 
 -- so many words of the bytes
 abbrev pub packed : ℕ → List ℕ → List ℕ

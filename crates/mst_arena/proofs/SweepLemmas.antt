@@ -1,13 +1,14 @@
 -- A sweep along the list of dead rows.
-use Rattle.std.proofs.Common.{◌≡◌, ◌≢◌, ℕ, zero, suc, ◌+◌, ◌<◌, Bool, true, false, cond, eqb, List, [], ◌∷◌, ◌++◌, length, map, Some, refl, sym, ◌∙◌, ap, subst, arith}
+use Rattle.std.proofs.Common.{◌≡◌, ◌≢◌, ℕ, zero, suc, ◌+◌, ◌<◌, ◌≤◌, Bool, true, false, cond, eqb, List, [], ◌∷◌, ◌++◌, length, map, Some, refl, sym, ◌∙◌, ap, subst, arith}
 use Rattle.std.specs.Prelude.{slice_get, slice_set, option_map}
+use Rattle.std.specs.List.{list_any}
 use Rattle.std.proofs.lemmas.Bool.Decides.{nat_tests}
 use Rattle.std.proofs.lemmas.List.{map-set}
 use Rattle.std.proofs.lemmas.Option.{slice_get-map}
 use Rattle.mst_arena.specs.declared.life.Life.{Life}
 use Rattle.mst_arena.specs.declared.life.Life.TheVariants.{Free, Born, Dead}
-use Rattle.mst_arena.specs.Lives.{swept, is_free}
-use Rattle.mst_arena.specs.Lists.{bit, is_at, is_dead, times, Lists, StayBut}
+use Rattle.mst_arena.specs.Lives.{swept, is_free, reaches_life}
+use Rattle.mst_arena.specs.Lists.{bit, is_at, is_dead, times, Lists, StayBut, AllReached}
 use Rattle.mst_arena.proofs.ListLemmas.{get-set, times-append, lists_leave, lists_turn, lists_room, swept_twice, swept_after, there, count_one}
 
 pub record Sweeping (live : List ℕ) (start lives : List Life) (free : List Bool) (dead held : List ℕ) : Type 0 where
@@ -113,3 +114,44 @@ held_room live start lives free dead held r s =
 pub length_nil : (xs : List ℕ) → length xs ≡ 0 → xs ≡ []
 length_nil [] e = refl
 length_nil (x ∷ xs) e = absurd (omega arith)
+
+-- ---- what older versions reach among the held rows
+
+bit_small : (b : Bool) → bit b ≤ 1
+bit_small true = omega arith
+bit_small false = omega arith
+
+-- a row that is looked at is not held
+not_held : (live : List ℕ) (start lives : List Life) (free : List Bool) (dead held : List ℕ) (r : ℕ) → Sweeping live start lives free (dead ++ r ∷ []) held → times r held ≡ 0
+not_held live start lives free dead held r s =
+    omega (arith, s.dead_is r, bit_small (is_at is_dead (slice_get lives r)), once_at r dead [], times-append r (dead ++ r ∷ []) [], times-append r (dead ++ r ∷ []) held)
+
+reached_beside : (front : List ℕ) (lives : List Life) (held : List ℕ) (r : ℕ) (x y : Life) → slice_get lives r ≡ Some x → times r held ≡ 0 → AllReached front lives held → AllReached front (slice_set lives r y) held
+reached_beside front lives held r x y at none reached k z got some = go (eqb k r) refl (get-set lives r k x y at)
+  where
+    go : (t : Bool) → eqb k r ≡ t → slice_get (slice_set lives r y) k ≡ cond t (Some y) (slice_get lives k) → list_any (reaches_life z) front ≡ true
+    go true e set =
+        let same : k ≡ r = grind (arith, nat_tests) in
+        let gone : times k held ≡ 0 = ap (λ (j : ℕ). times j held) same ∙ none in
+        absurd (omega (arith, some))
+    go false e set = reached k z (sym set ∙ got) some
+
+pub older_free : (live front : List ℕ) (start lives : List Life) (free : List Bool) (dead held : List ℕ) (r : ℕ) (x : Life) → Sweeping live start lives free (dead ++ r ∷ []) held → slice_get lives r ≡ Some x → AllReached front lives held → AllReached front (slice_set lives r Free) held
+older_free live front start lives free dead held r x s at = reached_beside front lives held r x Free at (not_held live start lives free dead held r s)
+
+pub older_keep : (live front : List ℕ) (start lives : List Life) (free : List Bool) (dead held : List ℕ) (r : ℕ) (x y : Life) → Sweeping live start lives free (dead ++ r ∷ []) held → slice_get lives r ≡ Some x → list_any (reaches_life y) front ≡ true → AllReached front lives held → AllReached front (slice_set lives r y) (held ++ r ∷ [])
+older_keep live front start lives free dead held r x y s at has reached k z got some = go (eqb k r) refl (get-set lives r k x y at)
+  where
+    go : (t : Bool) → eqb k r ≡ t → slice_get (slice_set lives r y) k ≡ cond t (Some y) (slice_get lives k) → list_any (reaches_life z) front ≡ true
+    go true e set =
+        let z_is : y ≡ z = cc in
+        subst (λ (w : Life). list_any (reaches_life w) front ≡ true) z_is has
+    go false e set =
+        let one : times k (r ∷ []) ≡ 0 = count_one k r ∙ ap (λ t. cond {A = ℕ} t 1 0) e in
+        reached k z (sym set ∙ got) (omega (arith, some, times-append k held (r ∷ []), one))
+
+-- what stays dead is what it was
+pub stays_dead : (live : List ℕ) (start lives : List Life) (free : List Bool) (dead held : List ℕ) (r : ℕ) (x y : Life) → Sweeping live start lives free (dead ++ r ∷ []) held → slice_get lives r ≡ Some x → swept live x ≡ y → y ≢ Free → is_dead y ≡ true
+stays_dead live start lives free dead held r x y s at is other =
+    let was = is_dead_there live start lives free dead held r x s at in
+    ap is_dead (swept_cases live x y was is other) ∙ was

@@ -1,5 +1,5 @@
 -- Lists that have each dead row once, and what a desk keeps.
-use Rattle.std.specs.Prelude.{◌≡◌, ◌≤◌, ◌<◌, ◌+◌, ◌^◌, ℕ, Bool, true, false, eqb, List, [], ◌∷◌, ◌++◌, length, map, slice_get, slice_index, Option, Some, None}
+use Rattle.std.specs.Prelude.{◌≡◌, ◌≤◌, ◌<◌, ◌+◌, ◌^◌, ℕ, Bool, true, false, eqb, nat_lt, ◌&&◌, List, [], ◌∷◌, ◌++◌, length, map, slice_get, slice_index, Option, Some, None}
 use Rattle.std.specs.List.{list_any}
 use Rattle.mst_arena.specs.declared.life.Life.{Life}
 use Rattle.mst_arena.specs.declared.life.Life.TheVariants.{Free, Born, Dead}
@@ -35,7 +35,15 @@ StayBut live lives rows = (r : ℕ) (x : Life) → slice_get lives r ≡ Some x 
 abbrev pub AllReached : List ℕ → List Life → List ℕ → Type 0
 AllReached live lives rows = (r : ℕ) (x : Life) → slice_get lives r ≡ Some x → 0 < times r rows → list_any (reaches_life x) live ≡ true
 
--- what a desk keeps: the free rows; each dead row in one of two lists; and in the second of these only rows that a version of the last sweep reaches
+-- a newer version than this is among them
+abbrev pub is_older : List ℕ → ℕ → Bool
+is_older live v = list_any (λ w. nat_lt v w) live
+
+-- each row of the list is reached by one of these versions that is not the newest of them
+abbrev pub AllOlder : List ℕ → List Life → List ℕ → Type 0
+AllOlder live lives rows = (r : ℕ) (x : Life) → slice_get lives r ≡ Some x → 0 < times r rows → list_any (λ v. reaches_life x v && is_older live v) live ≡ true
+
+-- what a desk keeps: the free rows; each dead row in one of two lists; and in the second of these only rows that a version reaches which the last sweep remembered
 pub record IsDesk (current : ℕ) (versions : List ℕ) (lives : List Life) (free : List Bool) (dead held last : List ℕ) (dead_cap held_cap : ℕ) : Type 0 where
   pub there : current < length versions
   pub small : slice_index versions current < 2 ^ 63

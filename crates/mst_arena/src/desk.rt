@@ -30,9 +30,9 @@ pub struct Desk<A: Allocator> {
     free: FreeRows<A>,
     /// The rows killed since the last sweep.
     dead: Vec<u32, A>,
-    /// The other dead rows. Each is reached by a version that was live at the last sweep.
+    /// The other dead rows. Each is reached by a version that the last sweep remembered.
     held: Vec<u32, A>,
-    /// The versions that were live at the last sweep, in rising order.
+    /// The versions that the last sweep remembered: of those live then, in rising order, the ones that hold a row.
     live: Vec<u64, A>,
 }
 
@@ -181,7 +181,7 @@ impl<A: Allocator> Desk<A> {
 
     /// Frees the dead rows that no live version reaches.
     ///
-    /// It looks at the rows killed since the last sweep, with one search among the live versions for each. At the other dead rows it looks only where a version that was live then is no longer live. It never looks at rows that are not dead.
+    /// It looks at the rows killed since the last sweep, with one search among the live versions for each. At the other dead rows it looks only where a version that held one of them then is no longer live, or is the newest. It never looks at rows that are not dead.
     pub fn sweep(&mut self, live: &[u64])
         ensures swept { self.new ≡ record self.old { lives = map (swept live.now) self.old.lives } }
     {

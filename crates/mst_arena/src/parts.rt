@@ -8,24 +8,41 @@ use crate::row::{EntryLinks, HeadLinks, Row};
 use mst_key::{Key, Value};
 use std::array;
 
-/// Byte `index` of the words, the highest byte of each word first.
-fn byte_of_words(words: &[u64], index: usize) -> u8
-    requires there { index < 8 * length words.now }
-    ensures byte { result ≡ byte_of_words words.now index }
+/// The 32 bytes of four words, the highest byte of each word first.
+///
+/// They are written out: there is no loop, and no index to find for each byte.
+pub(crate) fn bytes_of_four(words: &[u64; 4]) -> [u8; 32]
+    ensures bytes { result ≡ map (byte_of_words words.now) (range_with_len 0 32) }
 {
-    words[index / 8].to_be_bytes()[index % 8]
+    let [a, b, c, d] = *words;
+    let [a0, a1, a2, a3, a4, a5, a6, a7] = a.to_be_bytes();
+    let [b0, b1, b2, b3, b4, b5, b6, b7] = b.to_be_bytes();
+    let [c0, c1, c2, c3, c4, c5, c6, c7] = c.to_be_bytes();
+    let [d0, d1, d2, d3, d4, d5, d6, d7] = d.to_be_bytes();
+    [
+        a0, a1, a2, a3, a4, a5, a6, a7, b0, b1, b2, b3, b4, b5, b6, b7, c0, c1, c2, c3, c4, c5, c6,
+        c7, d0, d1, d2, d3, d4, d5, d6, d7,
+    ]
 }
 
-/// The first `N` bytes of the words.
-pub(crate) fn bytes_of_words<const N: usize>(words: &[u64]) -> [u8; N]
-    requires there { N ≤ 8 * length words.now }
-    ensures bytes { result ≡ map (byte_of_words words.now) (range_with_len 0 N) }
+/// The 64 bytes of eight words, as [`bytes_of_four`] has those of four.
+fn bytes_of_eight(words: &[u64; 8]) -> [u8; 64]
+    ensures bytes { result ≡ map (byte_of_words words.now) (range_with_len 0 64) }
 {
-    let mut bytes = [0; N];
-    for i in 0..N {
-        bytes[i] = byte_of_words(words, i);
-    }
-    bytes
+    let [a, b, c, d, e, f, g, h] = *words;
+    let [a0, a1, a2, a3, a4, a5, a6, a7] = a.to_be_bytes();
+    let [b0, b1, b2, b3, b4, b5, b6, b7] = b.to_be_bytes();
+    let [c0, c1, c2, c3, c4, c5, c6, c7] = c.to_be_bytes();
+    let [d0, d1, d2, d3, d4, d5, d6, d7] = d.to_be_bytes();
+    let [e0, e1, e2, e3, e4, e5, e6, e7] = e.to_be_bytes();
+    let [f0, f1, f2, f3, f4, f5, f6, f7] = f.to_be_bytes();
+    let [g0, g1, g2, g3, g4, g5, g6, g7] = g.to_be_bytes();
+    let [h0, h1, h2, h3, h4, h5, h6, h7] = h.to_be_bytes();
+    [
+        a0, a1, a2, a3, a4, a5, a6, a7, b0, b1, b2, b3, b4, b5, b6, b7, c0, c1, c2, c3, c4, c5, c6,
+        c7, d0, d1, d2, d3, d4, d5, d6, d7, e0, e1, e2, e3, e4, e5, e6, e7, f0, f1, f2, f3, f4, f5,
+        f6, f7, g0, g1, g2, g3, g4, g5, g6, g7, h0, h1, h2, h3, h4, h5, h6, h7,
+    ]
 }
 
 impl HeadLinks {
@@ -53,14 +70,15 @@ impl EntryLinks {
         ensures part { (all : List ℕ) → words.now ≡ slice_range all 1 8
             → IsSome (part_in entry_links all) → part_in entry_links all ≡ result }
     {
-        let bytes: [u8; 32] = bytes_of_words(&words[3..7]);
-        let len = (words[2] % 256) as usize;
+        let [child, next, lengths, a, b, c, d] = *words;
+        let bytes = bytes_of_four(&[a, b, c, d]);
+        let len = (lengths % 256) as usize;
         if len > 32 {
             return None;
         }
         Some(EntryLinks {
-            child: u32::try_from(words[0]).ok()?,
-            next: u32::try_from(words[1]).ok()?,
+            child: u32::try_from(child).ok()?,
+            next: u32::try_from(next).ok()?,
             key: Key::new(&bytes[..len]).ok()?,
         })
     }
@@ -72,7 +90,7 @@ impl Row {
         ensures part { (all : List ℕ) → words.now ≡ slice_range all 5 9
             → IsSome (part_in head_digest all) → part_in head_digest all ≡ Some result }
     {
-        bytes_of_words::<32>(words)
+        bytes_of_four(words)
     }
 
     /// The value of an entry, from word 3 of its sixteen, which has the lengths, and words 8 to 15.
@@ -83,7 +101,7 @@ impl Row {
             → words.now ≡ slice_range all 8 16
             → IsSome (part_in entry_value all) → part_in entry_value all ≡ result }
     {
-        let bytes: [u8; 64] = bytes_of_words(words);
+        let bytes = bytes_of_eight(words);
         let len = lengths / 256;
         if len > 64 {
             return None;

@@ -1,11 +1,11 @@
 //! The sweep along the lists of dead rows.
-ghost use Rattle.std.specs.Prelude.{◌≡◌, ◌⊎◌, ◌≤◌, ◌+◌, ◌==◌, ℕ, [], ◌++◌, true, map, length, vec_len, vec_capacity};
+ghost use Rattle.std.specs.Prelude.{◌≡◌, ◌⊎◌, ◌≤◌, ◌+◌, ◌-◌, ◌==◌, ◌&&◌, ℕ, [], ◌++◌, true, take, map, length, vec_len, vec_capacity};
 ghost use Rattle.std.specs.Bool.{MatchBool};
 ghost use Rattle.std.specs.List.{list_any, list_all};
 ghost use Rattle.std.specs.List.Sorted.{IsPermutation, IsNonDecreasing};
 ghost use Rattle.mst_arena.specs.declared.life.Life.TheVariants.{Dead};
 ghost use Rattle.mst_arena.specs.Lives.{swept, is_free, reaches_life};
-ghost use Rattle.mst_arena.specs.Lists.{Lists, StayBut, is_dead, times};
+ghost use Rattle.mst_arena.specs.Lists.{Lists, StayBut, AllReached, AllOlder, is_older, is_dead, times};
 
 use crate::free_rows::FreeRows;
 use crate::life::Life;
@@ -41,11 +41,32 @@ fn after_sweep(life: Life, live: &[u64], rising: bool) -> Life
     }
 }
 
-/// Whether each of the versions is still live.
-fn are_live(versions: &[u64], live: &[u64]) -> bool
-    ensures all { result ≡ list_all (λ v. list_any (λ w. w == v) live.now) versions.now }
+/// Whether a version that is not the newest of the live ones reaches a dead row, where these rise.
+fn is_older_kept(life: Life, live: &[u64], rising: bool) -> bool
+    requires rising { rising ≡ true → IsNonDecreasing live.now }
+    ensures kept { is_dead life ≡ true → result ≡ list_any (reaches_life life) (take (length live.now - 1) live.now) }
 {
-    versions.iter().all(|v| live.contains(v))
+    let older = live.len().saturating_sub(1);
+    match life {
+        Life::Dead { birth, death } => is_reached(birth, death, &live[..older], rising),
+        _ => false,
+    }
+}
+
+/// Whether a newer version than this is live.
+fn is_overtaken(version: u64, live: &[u64]) -> bool
+    ensures newer { result ≡ is_older live.now version }
+{
+    live.iter().any(|newer| version < *newer)
+}
+
+/// Whether each of the versions is still live, and none is the newest of the live ones.
+fn are_older(versions: &[u64], live: &[u64]) -> bool
+    ensures all { result ≡ list_all (λ v. list_any (λ w. w == v) live.now && is_older live.now v) versions.now }
+{
+    versions
+        .iter()
+        .all(|v| live.contains(v) && is_overtaken(*v, live))
 }
 
 /// Moves all rows of one list to another, which has room for them.
@@ -61,7 +82,7 @@ fn move_all<A: Allocator>(from: &mut Vec<u32, A>, to: &mut Vec<u32, A>)
     }
 }
 
-/// Moves the held rows to the other dead rows, unless each version that was live at the last sweep still is.
+/// Moves the held rows to the other dead rows, unless each version that the last sweep remembered is live and not the newest.
 pub fn look_again<A: Allocator>(
     dead: &mut Vec<u32, A>,
     held: &mut Vec<u32, A>,
@@ -72,11 +93,11 @@ pub fn look_again<A: Allocator>(
     ensures times { (r : ℕ) → times r (dead.new.items ++ held.new.items)
         ≡ times r (dead.old.items ++ held.old.items) }
     ensures held { (held.new.items ≡ []) ⊎ ((held.new.items ≡ held.old.items)
-        × (list_all (λ v. list_any (λ w. w == v) live.now) last.now ≡ true)) }
+        × (list_all (λ v. list_any (λ w. w == v) live.now && is_older live.now v) last.now ≡ true)) }
     ensures dead_room { vec_capacity dead.new ≡ vec_capacity dead.old }
     ensures held_room { vec_capacity held.new ≡ vec_capacity held.old }
 {
-    if !are_live(last, live) {
+    if !are_older(last, live) {
         move_all(held, dead);
     }
 }
@@ -98,6 +119,8 @@ fn remember<A: Allocator>(last: &mut Vec<u64, A>, live: &[u64]) -> bool
 }
 
 /// Frees the rows of `dead` that no live version reaches, and moves the others to `held`. No other row is looked at.
+///
+/// It answers whether each of those is reached by a version that is not the newest of the live ones.
 fn free_unreached<A: Allocator>(
     lives: &mut [Life],
     free: &mut FreeRows<A>,
@@ -105,7 +128,7 @@ fn free_unreached<A: Allocator>(
     held: &mut Vec<u32, A>,
     live: &[u64],
     rising: bool,
-)
+) -> bool
     requires free { free.old ≡ map is_free lives.old }
     requires dead { Lists is_dead lives.old (dead.old.items ++ held.old.items) }
     requires others { StayBut live.now lives.old dead.old.items }
@@ -115,22 +138,29 @@ fn free_unreached<A: Allocator>(
     ensures free { free.new ≡ map is_free lives.new }
     ensures dead { Lists is_dead lives.new held.new.items }
     ensures empty { dead.new.items ≡ [] }
+    ensures older { result ≡ true → AllReached (take (length live.now - 1) live.now) lives.old held.old.items
+        → AllReached (take (length live.now - 1) live.now) lives.new held.new.items }
     ensures room { vec_capacity held.new ≡ vec_capacity held.old }
     ensures dead_room { vec_capacity dead.new ≡ vec_capacity dead.old }
 {
+    let mut older = true;
     while let Some(row) = dead.pop() {
         let life = after_sweep(lives[row as usize], live, rising);
         lives[row as usize] = life;
         match life {
             Life::Free => free.put(row),
-            _ => held.push_reserved(row),
+            _ => {
+                older &= is_older_kept(life, live, rising);
+                held.push_reserved(row);
+            }
         }
     }
+    older
 }
 
-/// Frees the rows of `dead` that no live version reaches, and remembers the live versions. The others are held by them; where there was no room to remember them all, the next sweep looks at each dead row.
+/// Frees the rows of `dead` that no live version reaches, and remembers the live versions that hold the others: all of them, or all but the newest where it holds none alone. In a store that is the current version, which reaches no dead row; so held rows are not looked at again with each write, but only once a pin ends. Where there was no room to remember the live versions, the next sweep looks at each dead row.
 ///
-/// A row that is looked at costs one search among the live versions. Only with more live versions than there is room for they are asked one by one.
+/// A row that is looked at costs one search among the live versions, or two where it stays. Only with more live versions than there is room for they are asked one by one.
 pub fn sweep_dead<A: Allocator>(
     lives: &mut [Life],
     free: &mut FreeRows<A>,
@@ -142,17 +172,20 @@ pub fn sweep_dead<A: Allocator>(
     requires free { free.old ≡ map is_free lives.old }
     requires dead { Lists is_dead lives.old (dead.old.items ++ held.old.items) }
     requires others { StayBut live.now lives.old dead.old.items }
+    requires held { AllOlder live.now lives.old held.old.items }
     requires room { length lives.old ≤ vec_capacity held.old }
     ensures swept { lives.new ≡ map (swept live.now) lives.old }
     ensures free { free.new ≡ map is_free lives.new }
-    ensures lists { (IsPermutation live.now last.new.items × Lists is_dead lives.new held.new.items × (dead.new.items ≡ [])
+    ensures lists { (AllReached last.new.items lives.new held.new.items × Lists is_dead lives.new held.new.items × (dead.new.items ≡ [])
         × (vec_capacity dead.new ≡ vec_capacity dead.old) × (vec_capacity held.new ≡ vec_capacity held.old))
         ⊎ (Lists is_dead lives.new dead.new.items × (held.new.items ≡ [])
         × (vec_capacity dead.new ≡ vec_capacity held.old) × (vec_capacity held.new ≡ vec_capacity dead.old)) }
     ensures last_room { vec_capacity last.new ≡ vec_capacity last.old }
 {
     if remember(last, live) {
-        free_unreached(lives, free, dead, held, last, true);
+        if free_unreached(lives, free, dead, held, last, true) {
+            let _ = last.pop();
+        }
         return;
     }
     free_unreached(lives, free, dead, held, live, false);

@@ -1,11 +1,11 @@
 //! The sixteen words of a row.
-ghost use Rattle.std.specs.Prelude.{[], ◌∷◌, ◌≡◌, ◌≢◌, ◌↔◌, ◌<◌, ◌≤◌, ◌*◌, length, slice_index, map, Some, IsSome, IfSome, IfNone};
+ghost use Rattle.std.specs.Prelude.{[], ◌∷◌, ◌≡◌, ◌≢◌, ◌↔◌, ◌<◌, ◌≤◌, ◌+◌, ◌*◌, length, slice_index, map, Some, IsSome, IfSome, IfNone};
 ghost use Rattle.std.specs.List.{range_with_len};
 ghost use Rattle.mst_arena.specs.declared.row.Row.{Row};
 ghost use Rattle.mst_arena.specs.Row.{IsRow, HasBytes};
 ghost use Rattle.mst_arena.specs.Words.{word_from, words_of, byte_of_words, bytes_in, row_in, root_in};
 
-use crate::parts::bytes_of_words;
+use crate::parts::bytes_of_four;
 use crate::row::{EntryLinks, HeadLinks, Root, Row};
 use mst_key::{Key, Value};
 
@@ -16,8 +16,8 @@ fn byte_or_zero(bytes: &[u8], index: usize) -> u8
     if index < bytes.len() { bytes[index] } else { 0 }
 }
 
-/// The word of the eight bytes from an index on, the first of them highest. Bytes past the end are 0.
-fn word_from(bytes: &[u8], index: usize) -> u64
+/// The word of the eight bytes from an index on, the first of them highest, where the bytes end before those eight do. Bytes past the end are 0.
+fn last_word(bytes: &[u8], index: usize) -> u64
     requires small { index < 64 }
     ensures word { result ≡ word_from bytes.now index }
 {
@@ -31,6 +31,38 @@ fn word_from(bytes: &[u8], index: usize) -> u64
         byte_or_zero(bytes, index + 6),
         byte_or_zero(bytes, index + 7),
     ])
+}
+
+/// The word of eight bytes, the first of them highest.
+fn word_of(bytes: &[u8], index: usize) -> u64
+    requires there { index + 8 ≤ length bytes.now }
+    ensures word { result ≡ word_from bytes.now index }
+{
+    u64::from_be_bytes([
+        bytes[index],
+        bytes[index + 1],
+        bytes[index + 2],
+        bytes[index + 3],
+        bytes[index + 4],
+        bytes[index + 5],
+        bytes[index + 6],
+        bytes[index + 7],
+    ])
+}
+
+/// The word of the eight bytes from an index on, the first of them highest. Bytes past the end are 0.
+#[tactic(auto, using(crate::proofs::Packing::past_word))]
+fn word_from(bytes: &[u8], index: usize) -> u64
+    requires small { index < 64 }
+    ensures word { result ≡ word_from bytes.now index }
+{
+    if index + 8 <= bytes.len() {
+        word_of(bytes, index)
+    } else if bytes.len() <= index {
+        0
+    } else {
+        last_word(bytes, index)
+    }
 }
 
 /// The entry that these words may be of. Nothing is said of words that spell none.
@@ -217,7 +249,7 @@ impl Root {
         let [link, first, second, third, last] = *words;
         Root {
             link: link as u32,
-            digest: bytes_of_words(&[first, second, third, last]),
+            digest: bytes_of_four(&[first, second, third, last]),
         }
     }
 }

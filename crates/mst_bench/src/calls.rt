@@ -1,16 +1,16 @@
 //! Calls of a store, each made many times.
-ghost use Rattle.std.specs.Prelude.{◌<◌, length};
+ghost use Rattle.std.specs.Prelude.{◌<◌, ◌≤◌, ◌^◌, length};
 
 use crate::keys::value;
 use mst_key::Key;
-use mst_store::Pass;
+use mst_store::{Pass, Pinned};
 use std::alloc::Global;
 
 /// From one call's key to the next one's in the list, so that the calls are spread over the map. It shares no factor with the numbers of keys.
 const STRIDE: usize = 7_919;
 
 /// The number of the first value that is put into a full map. All values of a map that is filled have smaller numbers.
-const FIRST_NEW_VALUE: u64 = 1 << 40;
+pub const FIRST_NEW_VALUE: u64 = 1 << 40;
 
 /// Puts each key with its first value. True where each call went through.
 pub fn fill(pass: &mut Pass<'_, Global>, keys: &[Key]) -> bool {
@@ -29,12 +29,13 @@ fn picked(keys: &[Key], call: u32) -> &Key
     &keys[call as usize * STRIDE % keys.len()]
 }
 
-/// Puts so many new values at keys that the map has. True where each call went through.
-pub fn put(pass: &mut Pass<'_, Global>, keys: &[Key], calls: u32) -> bool
+/// Puts so many values, numbered from `first` on and other than those that stand, at keys that the map has. True where each call went through.
+pub fn put(pass: &mut Pass<'_, Global>, keys: &[Key], calls: u32, first: u64) -> bool
     requires some { 0 < length keys.now }
+    requires few { first ≤ 2 ^ 63 }
 {
     for call in 0..calls {
-        let new = value(FIRST_NEW_VALUE + u64::from(call));
+        let new = value(first + u64::from(call));
         let Ok(Some(_)) = pass.try_put(picked(keys, call), &new) else {
             return false;
         };
@@ -48,6 +49,18 @@ pub fn get(pass: &mut Pass<'_, Global>, keys: &[Key], calls: u32) -> bool
 {
     for call in 0..calls {
         if pass.get(picked(keys, call)).is_none() {
+            return false;
+        }
+    }
+    true
+}
+
+/// Gets so many keys of a version that stays pinned. True where each has a value.
+pub fn get_pinned(pinned: &mut Pinned<'_, Global>, keys: &[Key], calls: u32) -> bool
+    requires some { 0 < length keys.now }
+{
+    for call in 0..calls {
+        if pinned.get(picked(keys, call)).is_none() {
             return false;
         }
     }

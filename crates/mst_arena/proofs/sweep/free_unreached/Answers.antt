@@ -1,11 +1,12 @@
 use Rattle.std.proofs.Common.{◌≡◌, List, ℕ, [], length, get_or, sym, ◌∙◌, subst, arith, Some}
 use Rattle.std.proofs.Math.ListN.{set, length-set}
 use Rattle.std.proofs.lemmas.Option.{slice_get-get_or}
+use Rattle.std.proofs.lemmas.Bool.{and_parts}
 use Rattle.std.proofs.lemmas.List.{append-nil}
 use Rattle.std.specs.Prelude.{slice_get}
 use Rattle.mst_arena.specs.declared.life.Life.TheVariants.{Free}
 use Rattle.mst_arena.specs.Lives.{swept}
-use Rattle.mst_arena.proofs.SweepLemmas.{Sweeping, sweep_end, dead_there, not_free, sweep_free, sweep_keep, held_room, length_nil}
+use Rattle.mst_arena.proofs.SweepLemmas.{Sweeping, sweep_end, dead_there, not_free, sweep_free, sweep_keep, older_free, older_keep, stays_dead, held_room, length_nil}
 use Rattle.mst_arena.proofs.sweep.free_unreached.Goals as goal
 
 pub slice_copy_out-after_sweep : goal.slice_copy_out-after_sweep
@@ -32,6 +33,7 @@ loop-row-preserved-in-Free g c =
     let len : length (set c.loop-row.lives c.in-Some.row c.after_sweep-life.result) ≡ length c.loop-row.lives = length-set c.loop-row.lives c.in-Some.row c.after_sweep-life.result in
     record {
       sweeping = rw (c.in-Free.is, c.put.ensures.put) (sweep_free _ _ _ _ _ _ c.in-Some.row x s at is);
+      older = λ is_older start. rw c.in-Free.is (older_free _ _ _ _ _ _ _ c.in-Some.row x s at (c.loop-row.invariant.older is_older start));
       room = omega (arith, len, c.loop-row.invariant.room);
       held_cap = c.loop-row.invariant.held_cap;
       dead_cap = c.in-Some.ensures.capacity ∙ c.loop-row.invariant.dead_cap;
@@ -51,6 +53,10 @@ loop-row-preserved g c =
     let len : length (set c.loop-row.lives c.in-Some.row c.after_sweep-life.result) ≡ length c.loop-row.lives = length-set c.loop-row.lives c.in-Some.row c.after_sweep-life.result in
     record {
       sweeping = rw c.push_reserved.ensures.items (sweep_keep _ _ _ _ _ _ c.in-Some.row x c.after_sweep-life.result s at is c.in_default-life.not-Free);
+      older = λ is_older start.
+          let both = and_parts c.loop-row.older c.is_older_kept-older.result is_older in
+          let dead = stays_dead _ _ _ _ _ _ c.in-Some.row x c.after_sweep-life.result s at is c.in_default-life.not-Free in
+          rw c.push_reserved.ensures.items (older_keep _ _ _ _ _ _ _ c.in-Some.row x c.after_sweep-life.result s at (sym (c.is_older_kept-older.ensures.kept dead) ∙ both.1) (c.loop-row.invariant.older both.0 start));
       room = omega (arith, len, c.push_reserved.ensures.capacity, c.loop-row.invariant.room);
       held_cap = c.push_reserved.ensures.capacity ∙ c.loop-row.invariant.held_cap;
       dead_cap = c.in-Some.ensures.capacity ∙ c.loop-row.invariant.dead_cap;

@@ -2,9 +2,9 @@ use Rattle.std.proofs.Common.{◌≡◌, ◌∙◌, ap, sym, subst, arith, List,
 use Rattle.std.specs.Prelude.{map, vec_capacity}
 use Rattle.mst_arena.specs.declared.life.Life.{Life}
 use Rattle.mst_arena.specs.Lives.{swept}
-use Rattle.mst_arena.specs.Lists.{StayBut}
+use Rattle.mst_arena.specs.Lists.{StayBut, AllOlder}
 use Rattle.mst_arena.proofs.SetLemmas.{written}
-use Rattle.mst_arena.proofs.DeskLemmas.{move_room, stay_but, desk_swept, desk_forgot, length_mapped}
+use Rattle.mst_arena.proofs.DeskLemmas.{move_room, stay_but, held_older, desk_swept, desk_forgot, length_mapped}
 use Rattle.mst_arena.proofs.desk.Desk.sweep.Goals as goal
 
 pub look_again-requires : goal.look_again-requires
@@ -16,6 +16,12 @@ sweep_dead-requires-clause-others g c =
     let i = c.self.inside in
     let stays : StayBut c.args.live.now i.lives.items c.look_again.new.dead.items = stay_but _ _ _ _ _ _ _ _ _ c.self.invariant c.args.live.now c.look_again.new.dead.items c.look_again.new.held.items c.look_again.ensures.times (rw c.deref.ensures.value at c.look_again.ensures.held) in
     subst (λ (ls : List Life). StayBut c.args.live.now ls c.look_again.new.dead.items) (sym c.deref_mut.ensures.value) stays
+
+pub sweep_dead-requires-clause-held : goal.sweep_dead-requires-clause-held
+sweep_dead-requires-clause-held g c =
+    let i = c.self.inside in
+    let older : AllOlder c.args.live.now i.lives.items c.look_again.new.held.items = held_older _ _ _ _ _ _ _ _ _ c.self.invariant c.args.live.now c.look_again.new.held.items (rw c.deref.ensures.value at c.look_again.ensures.held) in
+    subst (λ (ls : List Life). AllOlder c.args.live.now ls c.look_again.new.held.items) (sym c.deref_mut.ensures.value) older
 
 pub invariant_of-self : goal.invariant_of-self
 invariant_of-self g c =

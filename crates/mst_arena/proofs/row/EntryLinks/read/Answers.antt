@@ -17,17 +17,8 @@ returns-in_err-ok-3 c = record { part = λ all at some. entry_links_of c.args.wo
 pub returns : goal.returns
 returns c = record { part = λ all at some. entry_links_of c.args.words.now all _ (λ child next key a b size e f len front. search rules) at some }
 
-pub slice_bounds-bytes_of_words-count : goal.slice_bounds-bytes_of_words-count
-slice_bounds-bytes_of_words-count c = search rules
-
-pub slice_bounds-bytes_of_words-start : goal.slice_bounds-bytes_of_words-start
-slice_bounds-bytes_of_words-start c = search rules
-
-pub slice_bounds-bytes_of_words-end : goal.slice_bounds-bytes_of_words-end
-slice_bounds-bytes_of_words-end c = search rules
-
-pub bytes_of_words-bytes-requires : goal.bytes_of_words-bytes-requires
-bytes_of_words-bytes-requires c = search rules
+pub bytes_of_four-bytes-requires : goal.bytes_of_four-bytes-requires
+bytes_of_four-bytes-requires c = search rules
 
 pub bounds-words-2 : goal.bounds-words-2
 bounds-words-2 c = search rules

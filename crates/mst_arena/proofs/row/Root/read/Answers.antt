@@ -19,11 +19,8 @@ bounds-words-4 c = search rules
 pub overflow_cast-result : goal.overflow_cast-result
 overflow_cast-result c = search rules
 
-pub slice_bounds-bytes_of_words-end : goal.slice_bounds-bytes_of_words-end
-slice_bounds-bytes_of_words-end c = search rules
-
-pub bytes_of_words-requires : goal.bytes_of_words-requires
-bytes_of_words-requires c = search rules
+pub bytes_of_four-requires : goal.bytes_of_four-requires
+bytes_of_four-requires c = search rules
 
 pub returns : goal.returns
 returns c = search rules

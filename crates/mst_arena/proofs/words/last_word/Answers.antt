@@ -1,5 +1,5 @@
 use Rattle.mst_arena.specs.Words.{word_from}
-use Rattle.mst_arena.proofs.words.word_from.Goals as goal
+use Rattle.mst_arena.proofs.words.last_word.Goals as goal
 
 pub returns : goal.returns
 unfolding word_from

@@ -1,0 +1,118 @@
+//! Calls beside a version that stays pinned.
+ghost use Rattle.std.specs.Prelude.{◌<◌, ◌≤◌, ◌^◌, length};
+
+use crate::calls::{self, FIRST_NEW_VALUE};
+use crate::timing::tell;
+use mst_key::Key;
+use mst_store::{Pass, Pinned, Shape, Store};
+use std::alloc::Global;
+use std::io;
+use std::time::Instant;
+
+/// How many puts there are for each key.
+const PUTS_PER_KEY: u32 = 10;
+
+/// Rows for the path of one put, beside those of the map and of the pinned version.
+const PATH_ROWS: u32 = 512;
+
+/// The number of the first value that is put beside the pinned version.
+const FIRST_VALUE_BESIDE: u64 = FIRST_NEW_VALUE * 2;
+
+/// How many rows the map takes.
+pub fn rows_of(pass: &mut Pass<'_, Global>) -> io::Result<u32> {
+    match pass.rows() {
+        Ok(Some(rows)) => Ok(rows),
+        _ => Err(io::ErrorKind::Other.into()),
+    }
+}
+
+// Times puts of so many values, numbered from `first` on.
+fn time_puts(
+    rt: &HostRuntime,
+    call: &str,
+    writer: &mut Pass<'_, Global>,
+    keys: &[Key],
+    first: u64,
+) -> io::Result<()>
+    requires some { 0 < length keys.now }
+    requires few { length keys.now ≤ 65535 }
+    requires first { first ≤ 2 ^ 63 }
+{
+    let count = keys.len() as u32;
+    let puts = count * PUTS_PER_KEY;
+    let start = Instant::now(rt)?;
+    let done = calls::put(writer, keys, puts, first);
+    tell(rt, call, count, puts, start, done)
+}
+
+// Times gets of a pinned version.
+fn time_gets(
+    rt: &HostRuntime,
+    pinned: &mut Pinned<'_, Global>,
+    keys: &[Key],
+    calls: u32,
+) -> io::Result<()>
+    requires some { 0 < length keys.now }
+    requires few { length keys.now ≤ 65535 }
+{
+    let start = Instant::now(rt)?;
+    let done = calls::get_pinned(pinned, keys, calls);
+    tell(
+        rt,
+        "get of a pinned version",
+        keys.len() as u32,
+        calls,
+        start,
+        done,
+    )
+}
+
+// Times puts with nothing pinned, then puts beside a pin of the other pass, and gets of what it pins.
+fn time_both(
+    rt: &HostRuntime,
+    reader: Pass<'_, Global>,
+    writer: &mut Pass<'_, Global>,
+    keys: &[Key],
+    calls: u32,
+) -> io::Result<()>
+    requires some { 0 < length keys.now }
+    requires few { length keys.now ≤ 65535 }
+{
+    time_puts(rt, "put with no pin", writer, keys, FIRST_NEW_VALUE)?;
+    let mut pinned = reader.pin();
+    time_puts(rt, "put beside a pin", writer, keys, FIRST_VALUE_BESIDE)?;
+    time_gets(rt, &mut pinned, keys, calls)?;
+    let _ = pinned.unpin();
+    Ok(())
+}
+
+/// Times ten puts a key, first with nothing pinned and then while one version stays pinned, and gets of the pinned version. The store has rows for twice the map and one path, and each put has to find room: so never more rows are in use, which the last line tells.
+pub fn run(rt: &HostRuntime, keys: &[Key], calls: u32, map_rows: u32) -> io::Result<()>
+    requires some { 0 < length keys.now }
+    requires few { length keys.now ≤ 65535 }
+{
+    let alloc = rt.alloc();
+    let rows = map_rows
+        .saturating_mul(2)
+        .saturating_add(PATH_ROWS)
+        .min(65_535);
+    let Ok((store, seats)) = Store::open(alloc, Shape { rows, passes: 2 }) else {
+        return Err(io::ErrorKind::OutOfMemory.into());
+    };
+    let Ok(mut passes) = store.deal(alloc, seats) else {
+        return Err(io::ErrorKind::OutOfMemory.into());
+    };
+    let (Some(reader), Some(mut writer)) = (passes.pop(), passes.pop()) else {
+        return Err(io::ErrorKind::Other.into());
+    };
+    if !calls::fill(&mut writer, keys) {
+        return Err(io::ErrorKind::Other.into());
+    }
+    let before = rows_of(&mut writer)?;
+    time_both(rt, reader, &mut writer, keys, calls)?;
+    let after = rows_of(&mut writer)?;
+    let count = keys.len();
+    println!(rt;
+        "rows: {count} keys, {before} of the map before, {after} after, at most {rows} in use"
+    )
+}
