@@ -1,5 +1,5 @@
 -- A walk down from node to node.
-use Rattle.std.proofs.Common.{◌≡◌, ℕ, ◌+◌, ◌<◌, ◌≤◌, List, [], Option, Some, None, sym, ◌∙◌, ap, subst, arith}
+use Rattle.std.proofs.Common.{◌≡◌, ℕ, ◌+◌, ◌<◌, ◌≤◌, List, [], Option, Some, None, refl, sym, ◌∙◌, ap, subst, arith}
 use Rattle.std.specs.Prelude.{IfSome}
 use Rattle.mst_key.specs.declared.format.Format.{Format}
 use Rattle.mst_key.specs.Map.{Pair, IsAscending}
@@ -10,7 +10,7 @@ use Rattle.mst_arena.specs.declared.row.Root.{Root}
 use Rattle.mst_arena.specs.declared.row.HeadLinks.{HeadLinks}
 use Rattle.mst_arena.specs.Row.{IsHead}
 use Rattle.mst_arena.specs.Standing.{Placed, none, head, Chain, tree_of, entries_of, first_of, tail_of, count_of, rows_of, HasRows, Stands}
-use Rattle.mst_read.specs.Search.{Lies, LiesBehind, TreeLies, head_of}
+use Rattle.mst_read.specs.Search.{Lies, LiesBehind, TreeLies, StandsBelow, head_of}
 
 -- a Merkle search tree whose keys rise lies at the link, and something holds of its pairs
 pub record Ahead (format : Format) (content : Content) (link : ℕ) (P : List Pair → Type 0) : Type 0 where
@@ -62,6 +62,10 @@ module _ (format : Format) (content : Content) where
         rise = subst IsAscending (sym same) s.map.ascending;
         holds = subst P (sym same) holds;
       }
+
+  -- and at its link, whatever digest is kept beside it
+  pub at_link : (at : Root) (m : List Pair) → Stands format content at m → StandsBelow format content at.link m
+  at_link at m s = record { map = s.map; digest = refl; tree = s.tree }
 
   -- the head of the tree ahead is read, and what follows from what holds of it
   pub reach : (link : ℕ) (P Q : List Pair → Type 0) → ((ps : List Pair) → P ps → Q ps) → (a : Ahead format content link P) (top : Option HeadLinks) → top ≡ head_of a.placed → Reached format content top Q

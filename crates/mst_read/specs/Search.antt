@@ -2,6 +2,7 @@
 use Rattle.std.specs.Prelude.{◌≡◌, ℕ, if◌then◌else◌, List, Option, Some, None}
 use Rattle.mst_key.specs.declared.format.Format.{Format}
 use Rattle.mst_key.specs.Map.{Pair, key_cmp, above}
+use Rattle.mst_node.specs.Text.{root}
 use Rattle.mst_node.specs.Trail.{by_order}
 use Rattle.mst_arena.specs.Content.{Content}
 use Rattle.mst_arena.specs.Standing.{Placed, none, head, Chain, end, cell, link_of, first_of, tail_of, count_of, rows_of, chain_rows, HasRows, Stands}
@@ -14,6 +15,13 @@ use Rattle.mst_read.specs.declared.lookup.Place.TheVariants.{Held, Gap}
 -- the rows stand for some map at the root
 abbrev pub MapStands : Content → Root → Type 0
 MapStands content at = (format : Format) × (m : List Pair) × Stands format content at m
+
+-- the rows stand for the map at a link, whatever digest is kept beside it: at the root of this link that has the map's own
+abbrev pub StandsBelow : Format → Content → ℕ → List Pair → Type 0
+StandsBelow format content link m = Stands format content (record { link = link; digest = root format m }) m
+
+abbrev pub LinkStands : Content → ℕ → Type 0
+LinkStands content link = (format : Format) × (m : List Pair) × StandsBelow format content link m
 
 -- ---- the rows of a tree, and those of a node behind its head
 

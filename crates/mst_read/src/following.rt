@@ -4,7 +4,7 @@ ghost use Rattle.std.specs.Option.{option_copied};
 ghost use Rattle.mst_key.specs.declared.format.Format.{Format};
 ghost use Rattle.mst_key.specs.Map.{Pair, above, successor};
 ghost use Rattle.mst_arena.specs.Standing.{Chain, Stands};
-ghost use Rattle.mst_read.specs.Search.{ChainLies, LiesBehind, MapStands, entry_above};
+ghost use Rattle.mst_read.specs.Search.{ChainLies, LiesBehind, LinkStands, MapStands, StandsBelow, entry_above};
 
 use crate::descent::head_at;
 use mst_arena::{EntryLinks, HeadLinks, Root, Rows};
@@ -43,18 +43,18 @@ fn first_above<R: Rows>(
     None
 }
 
-/// The pair of the least key above the bound, in the map that stands at the root; with no bound, of the least key.
+/// The pair of the least key above the bound, in the map that stands at the link; with no bound, of the least key.
 ///
 /// It reads the head of each node on the way to the place just above the bound, at most 65, and of the entries of these nodes those with keys up to the first that is above the bound; and at last the value of the pair, once.
-pub fn next<R: Rows>(rows: &mut R, root: &Root, after: Option<&Key>) -> Option<(Key, Value)>
-    requires stands { MapStands (R.content rows.old) root.now }
-    ensures found { (f : Format) (m : List Pair) → Stands f (R.content rows.old) root.now m
+pub fn next_below<R: Rows>(rows: &mut R, link: u32, after: Option<&Key>) -> Option<(Key, Value)>
+    requires stands { LinkStands (R.content rows.old) link }
+    ensures found { (f : Format) (m : List Pair) → StandsBelow f (R.content rows.old) link m
         → result ≡ successor m (option_copied after.entry) }
     ensures same { rows.new ≡ rows.old }
 {
     // the pair of the answer, if the tree at hand has none: that of the entry right of its gap
     let mut right = None;
-    let mut top = head_at(rows, root.link);
+    let mut top = head_at(rows, link);
     while let Some(head) = top {
         match first_above(rows, &head, after) {
             Some((row, entry)) => {
@@ -66,4 +66,14 @@ pub fn next<R: Rows>(rows: &mut R, root: &Root, after: Option<&Key>) -> Option<(
     }
     let (row, key) = right?;
     Some((key, rows.value(row)))
+}
+
+/// The pair of the least key above the bound, in the map that stands at the root, as [`next_below`] has it at a link.
+pub fn next<R: Rows>(rows: &mut R, root: &Root, after: Option<&Key>) -> Option<(Key, Value)>
+    requires stands { MapStands (R.content rows.old) root.now }
+    ensures found { (f : Format) (m : List Pair) → Stands f (R.content rows.old) root.now m
+        → result ≡ successor m (option_copied after.entry) }
+    ensures same { rows.new ≡ rows.old }
+{
+    next_below(rows, root.link, after)
 }

@@ -1,6 +1,6 @@
 //! Reads over the rows that stand for the tree of a map.
 //!
-//! Each call is exact by the sorted list of the map's pairs, and walks the rows of the tree without making that list: [`get`], [`next`] and [`prove`] go down one path, [`range`] visits only the nodes that its answer meets. `specs/` defines where a search comes to in the rows of a node.
+//! Each call is exact by the sorted list of the map's pairs, and walks the rows of the tree without making that list: [`get`], [`next`] and [`prove`] go down one path, [`range`] visits only the nodes that its answer meets. Of a root only [`root`] needs more than the link: the others have a twin that takes the link alone. `specs/` defines where a search comes to in the rows of a node.
 #![tactic(auto)]
 
 mod descent;
@@ -11,9 +11,9 @@ mod proving;
 mod ranges;
 mod roots;
 
-pub use following::next;
+pub use following::{next, next_below};
 pub use laws::each_map_may_be_read;
-pub use lookup::get;
-pub use proving::prove;
-pub use ranges::range;
+pub use lookup::{get, get_below};
+pub use proving::{prove, prove_below};
+pub use ranges::{range, range_below};
 pub use roots::root;

@@ -3,7 +3,7 @@ ghost use Rattle.std.specs.Prelude.{◌≡◌, List};
 ghost use Rattle.mst_key.specs.declared.format.Format.{Format};
 ghost use Rattle.mst_key.specs.Map.{Pair, look};
 ghost use Rattle.mst_arena.specs.Standing.{Chain, Stands};
-ghost use Rattle.mst_read.specs.Search.{ChainLies, LiesBehind, MapStands, place};
+ghost use Rattle.mst_read.specs.Search.{ChainLies, LiesBehind, LinkStands, MapStands, StandsBelow, place};
 
 use crate::descent::head_at;
 use mst_arena::{HeadLinks, Root, Rows};
@@ -39,16 +39,16 @@ pub fn seek<R: Rows>(rows: &mut R, head: &HeadLinks, key: &Key) -> Place
     Place::Gap(head.tail)
 }
 
-/// The value of the key in the map that stands at the root.
+/// The value of the key in the map that stands at the link.
 ///
 /// It reads the head of each node on the way to the key, at most 65, and of the entries of these nodes those with keys up to the first that is not below the key; and at last the key's value, once.
-pub fn get<R: Rows>(rows: &mut R, root: &Root, key: &Key) -> Option<Value>
-    requires stands { MapStands (R.content rows.old) root.now }
-    ensures found { (f : Format) (m : List Pair) → Stands f (R.content rows.old) root.now m
+pub fn get_below<R: Rows>(rows: &mut R, link: u32, key: &Key) -> Option<Value>
+    requires stands { LinkStands (R.content rows.old) link }
+    ensures found { (f : Format) (m : List Pair) → StandsBelow f (R.content rows.old) link m
         → result ≡ look m key.now }
     ensures same { rows.new ≡ rows.old }
 {
-    let mut top = head_at(rows, root.link);
+    let mut top = head_at(rows, link);
     while let Some(head) = top {
         match seek(rows, &head, key) {
             Place::Held(row) => return Some(rows.value(row)),
@@ -56,4 +56,14 @@ pub fn get<R: Rows>(rows: &mut R, root: &Root, key: &Key) -> Option<Value>
         }
     }
     None
+}
+
+/// The value of the key in the map that stands at the root, as [`get_below`] has it at a link.
+pub fn get<R: Rows>(rows: &mut R, root: &Root, key: &Key) -> Option<Value>
+    requires stands { MapStands (R.content rows.old) root.now }
+    ensures found { (f : Format) (m : List Pair) → Stands f (R.content rows.old) root.now m
+        → result ≡ look m key.now }
+    ensures same { rows.new ≡ rows.old }
+{
+    get_below(rows, root.link, key)
 }

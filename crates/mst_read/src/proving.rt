@@ -9,7 +9,7 @@ ghost use Rattle.mst_arena.specs.Row.{IsHead};
 ghost use Rattle.mst_arena.specs.Standing.{Placed, Chain, Stands, tree_of, entries_of};
 ghost use Rattle.std.specs.Int.{w32, to_be_bytes};
 ghost use Rattle.mst_key.specs.declared.format.Format.{Format};
-ghost use Rattle.mst_read.specs.Search.{ChainLies, Lies, LiesBehind, gap_placed, head_of};
+ghost use Rattle.mst_read.specs.Search.{ChainLies, Lies, LiesBehind, StandsBelow, gap_placed, head_of};
 
 use crate::descent::head_at;
 use crate::lookup::{Place, seek};
@@ -93,11 +93,40 @@ fn gap_met<R: Rows>(rows: &mut R, head: &HeadLinks, key: &Key) -> Option<HeadLin
     }
 }
 
-/// The proof of the map's answer for the key: the texts of the nodes that the search for the key meets, from the top down, each behind its length in four bytes, and in front of them the version 1 and their number.
+/// The proof of the answer for the key of the map that stands at the link: the texts of the nodes that the search for the key meets, from the top down, each behind its length in four bytes, and in front of them the version 1 and their number.
 ///
 /// The proof has fewer than 2^32 bytes. `Memory` comes only where a growth was refused, and changes nothing.
 ///
 /// It reads the nodes on the way to the key, at most 65: of each all entries with their values, and the digests of its children.
+pub fn prove_below<R: Rows, A: Allocator + Copy>(
+    alloc: A,
+    rows: &mut R,
+    link: u32,
+    key: &Key,
+) -> Result<Vec<u8, A>, Memory>
+    requires stands { (m : List Pair) × StandsBelow One (R.content rows.old) link m }
+    ensures proof { (m : List Pair) → StandsBelow One (R.content rows.old) link m
+        → IfOk result (λ proof. proof.items ≡ proof_text One m key.now) }
+    ensures short { IfOk result (λ proof. length proof.items < 2 ^ 32) }
+    ensures same { rows.new ≡ rows.old }
+{
+    let mut texts = Vec::new(alloc);
+    let mut count = 0u8;
+    let mut top = head_at(rows, link);
+    while let Some(head) = top {
+        let text = node_text(alloc, rows, &head)?;
+        push_framed(&mut texts, text.as_slice())?;
+        count += 1;
+        top = gap_met(rows, &head, key);
+    }
+    let mut proof = Vec::new(alloc);
+    proof.push(1)?;
+    proof.push(count)?;
+    proof.extend_from_slice(texts.as_slice())?;
+    Ok(proof)
+}
+
+/// The proof of the answer for the key of the map that stands at the root, as [`prove_below`] has it at a link.
 pub fn prove<R: Rows, A: Allocator + Copy>(
     alloc: A,
     rows: &mut R,
@@ -110,18 +139,5 @@ pub fn prove<R: Rows, A: Allocator + Copy>(
     ensures short { IfOk result (λ proof. length proof.items < 2 ^ 32) }
     ensures same { rows.new ≡ rows.old }
 {
-    let mut texts = Vec::new(alloc);
-    let mut count = 0u8;
-    let mut top = head_at(rows, root.link);
-    while let Some(head) = top {
-        let text = node_text(alloc, rows, &head)?;
-        push_framed(&mut texts, text.as_slice())?;
-        count += 1;
-        top = gap_met(rows, &head, key);
-    }
-    let mut proof = Vec::new(alloc);
-    proof.push(1)?;
-    proof.push(count)?;
-    proof.extend_from_slice(texts.as_slice())?;
-    Ok(proof)
+    prove_below(alloc, rows, root.link, key)
 }

@@ -7,7 +7,7 @@ ghost use Rattle.mst_node.specs.Tree.{pairs};
 ghost use Rattle.mst_arena.specs.Content.{part_at};
 ghost use Rattle.mst_arena.specs.Row.{entry_value};
 ghost use Rattle.mst_arena.specs.Standing.{Placed, Stands, tree_of};
-ghost use Rattle.mst_read.specs.Search.{Lies, MapStands, TreeLies, head_of};
+ghost use Rattle.mst_read.specs.Search.{Lies, LinkStands, MapStands, StandsBelow, TreeLies, head_of};
 ghost use Rattle.mst_read.specs.Span.{HeadStands, filled};
 
 use crate::descent::head_at;
@@ -106,11 +106,36 @@ fn gather<R: Rows, A: Allocator>(
     gather(rows, tail, from, to, limit, found)
 }
 
-/// The first pairs, at most `limit`, of the keys that are at least `from` and below `to`, in the map that stands at the root, in the order of their keys. A bound that is not given does not bind.
+/// The first pairs, at most `limit`, of the keys that are at least `from` and below `to`, in the map that stands at the link, in the order of their keys. A bound that is not given does not bind.
 ///
 /// `Memory` comes only where a growth of the list was refused, and changes nothing.
 ///
 /// It visits the nodes on the way to the two bounds, at most 65 each, and of the nodes between them only those that hold a pair of the answer; it reads the head of each node once and of its entries those up to the upper bound, and the value of each pair of the answer once. It stops at the limit, and reads nothing where that is 0.
+pub fn range_below<R: Rows, A: Allocator>(
+    alloc: A,
+    rows: &mut R,
+    link: u32,
+    from: Option<&Key>,
+    to: Option<&Key>,
+    limit: usize,
+) -> Result<Vec<(Key, Value), A>, Memory>
+    requires stands { LinkStands (R.content rows.old) link }
+    ensures found { (f : Format) (m : List Pair) → StandsBelow f (R.content rows.old) link m
+        → IfOk result (λ found. found.items ≡ span m (option_copied from.entry) (option_copied to.entry) limit) }
+    ensures same { rows.new ≡ rows.old }
+{
+    let mut found = Vec::new(alloc);
+    if limit == 0 {
+        return Ok(found);
+    }
+    let top = head_at(rows, link);
+    gather(rows, top, from, to, limit, &mut found)?;
+    Ok(found)
+}
+
+/// The first pairs between two bounds in the map that stands at the root, as [`range_below`] has them at a link.
+///
+/// `Memory` comes only where a growth of the list was refused, and changes nothing.
 pub fn range<R: Rows, A: Allocator>(
     alloc: A,
     rows: &mut R,
@@ -124,11 +149,5 @@ pub fn range<R: Rows, A: Allocator>(
         → IfOk result (λ found. found.items ≡ span m (option_copied from.entry) (option_copied to.entry) limit) }
     ensures same { rows.new ≡ rows.old }
 {
-    let mut found = Vec::new(alloc);
-    if limit == 0 {
-        return Ok(found);
-    }
-    let top = head_at(rows, root.link);
-    gather(rows, top, from, to, limit, &mut found)?;
-    Ok(found)
+    range_below(alloc, rows, root.link, from, to, limit)
 }

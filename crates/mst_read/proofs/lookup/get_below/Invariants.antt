@@ -1,15 +1,15 @@
 use Rattle.std.proofs.Common.{◌≡◌, List}
 use Rattle.mst_key.specs.declared.format.Format.{Format}
 use Rattle.mst_key.specs.Map.{Pair, look}
-use Rattle.mst_arena.specs.Standing.{Stands}
+use Rattle.mst_read.specs.Search.{StandsBelow}
 use Rattle.mst_read.proofs.Descend.{Reached, depth}
-use Rattle.mst_read.proofs.lookup.get.Given as goal
+use Rattle.mst_read.proofs.lookup.get_below.Given as goal
 
 -- the key has in the tree under the search the value that it has in the map
 abbrev pub invariant-loop-top : goal.invariant-loop-top
 invariant-loop-top g l = record {
   same : l.rows ≡ l.fn.rows;
-  reached : (f : Format) (m : List Pair) → Stands f (g.R.Rows.content l.fn.rows) l.root m
+  reached : (f : Format) (m : List Pair) → StandsBelow f (g.R.Rows.content l.fn.rows) l.link m
       → Reached f (g.R.Rows.content l.fn.rows) l.top (λ ps. look ps l.key ≡ look m l.key);
 }
 
