@@ -1,5 +1,5 @@
 //! The collision behind a false answer.
-ghost use Rattle.std.specs.Prelude.{◌≡◌, ◌≤◌, List, length, IfOk, IfSome, IfNone};
+ghost use Rattle.std.specs.Prelude.{◌≡◌, ◌≤◌, List, ℕ, [], None, Contains, length, IfOk, IfSome, IfNone, IsOk, OnErr};
 ghost use Rattle.std.specs.Option.{option_copied};
 ghost use Rattle.mst_key.specs.declared.format.Format.TheVariants.{One};
 ghost use Rattle.mst_key.specs.Map.{Pair as KeyValue, IsMap};
@@ -7,7 +7,8 @@ ghost use Rattle.mst_node.specs.Collision.{Collision};
 ghost use Rattle.mst_node.specs.Shape.{tree_of, tree_of_child};
 ghost use Rattle.mst_node.specs.Tree.{tree as tree_of_map};
 ghost use Rattle.mst_proof.specs.Beside.{top_of, gap_tree, IsSmall, NoOther, ShowsNoOther, CollidesWith, CollidesAmong};
-ghost use Rattle.mst_proof.specs.Theorem.{texts_named};
+ghost use Rattle.mst_proof.specs.Frame.{frame_at};
+ghost use Rattle.mst_proof.specs.Theorem.{texts_named, texts_of};
 
 use crate::texts::Texts;
 use mst_key::{Key, Memory};
@@ -30,6 +31,7 @@ fn pair_of<A: Allocator + Copy>(
 ) -> Result<Option<Pair<A>>, Memory>
     ensures none { IfOk result (λ pair. IfNone pair (Collision one.now other.items → ⊥)) }
     ensures some { IfOk result (λ pair. IfSome pair (λ p. (p.one.items ≡ one.now) × (p.other.items ≡ other.items) × Collision one.now other.items)) }
+    ensures memory { OnErr result (Collision one.now other.items) }
 {
     if one == other.as_slice() || digest(one) != digest(other.as_slice()) {
         return Ok(None);
@@ -89,7 +91,7 @@ fn walk<A: Allocator + Copy>(
 
 /// The collision behind a false answer: two different texts with one SHA-256 (FIPS 180-4), each of them a text of the proof, the text of a node of the tree, or the empty text. The tree is that of a map of at most 65,535 pairs.
 ///
-/// Where `verify` shows of the key, for the map's root digest, another answer than the map's, there is such a pair and it is found: `None` comes only where the proof shows no other answer. `Memory` comes only where a growth was refused. The texts of the nodes that a search for the key meets are made one after another, up to the first that is not the proof's.
+/// Where `verify` shows of the key, for the map's root digest, another answer than the map's, there is such a pair and it is found: `None` comes only where the proof shows no other answer. `Memory` comes only where a growth was refused: never where the proof's frame is broken, and without a tree only where the pair stands. The texts of the nodes that a search for the key meets are made one after another, up to the first that is not the proof's.
 pub fn collide<A: Allocator + Copy>(
     alloc: A,
     key: &Key,
@@ -99,6 +101,9 @@ pub fn collide<A: Allocator + Copy>(
     requires map { (m : List KeyValue) × IsMap m × (length m ≤ 65535) × (top_of (option_copied tree) ≡ tree_of_map One m) }
     ensures none { IfOk result (λ pair. IfNone pair (ShowsNoOther (top_of (option_copied tree.entry)) key.now proof.now)) }
     ensures some { IfOk result (λ pair. IfSome pair (λ p. CollidesAmong (texts_named proof.now (top_of (option_copied tree.entry))) p.one.items p.other.items)) }
+    ensures memory { OnErr result (IsOk (frame_at proof.now)) }
+    // without a tree only the pair itself takes memory
+    ensures memory_of_pair { OnErr result (tree.entry ≡ None → (text : List ℕ) × Contains (texts_of proof.now) text × Collision text []) }
 {
     let Ok(mut texts) = Texts::of(proof) else {
         return Ok(None);

@@ -1,3 +1,4 @@
+use Rattle.std.proofs.Common.{rules}
 use Rattle.std.proofs.Common.{◌≡◌, ◌∙◌, sym, ap, subst, arith, length}
 use Rattle.std.specs.Option.{option_copied}
 use Rattle.std.proofs.lemmas.Bool.Decides.{nat_tests}
@@ -58,3 +59,60 @@ returns-clause-some g c =
     let t = top_of (option_copied c.args.tree) in
     let is : t ≡ tree_of One c.in-Some.node.now = ap (λ o. top_of (option_copied o)) c.in-Some.is in
     some_of_walk c.walk.result c.args.key.now c.args.proof.now c.in-Ok.texts t (tree_of One c.in-Some.node.now) c.in-Ok.ensures.frame is c.walk.ensures.some
+
+pub returns-in_default-clause-none : goal.returns-in_default-clause-none
+returns-in_default-clause-none g c = search rules
+
+pub returns-in_default-clause-some : goal.returns-in_default-clause-some
+returns-in_default-clause-some g c = search rules
+
+pub returns-in_default-clause-memory : goal.returns-in_default-clause-memory
+returns-in_default-clause-memory g c = search rules
+
+pub returns-in_default-clause-memory_of_pair : goal.returns-in_default-clause-memory_of_pair
+returns-in_default-clause-memory_of_pair g c = search rules
+
+pub returns-in-None-clause-none : goal.returns-in-None-clause-none
+returns-in-None-clause-none g c = search rules
+
+pub returns-in-None-clause-some : goal.returns-in-None-clause-some
+returns-in-None-clause-some g c = search rules
+
+pub returns-in-None-clause-memory : goal.returns-in-None-clause-memory
+returns-in-None-clause-memory g c = search rules
+
+pub returns-in-None-clause-memory_of_pair : goal.returns-in-None-clause-memory_of_pair
+returns-in-None-clause-memory_of_pair g c = search rules
+
+pub returns-in-Some-next-clause-memory : goal.returns-in-Some-next-clause-memory
+returns-in-Some-next-clause-memory g c = search rules
+
+pub returns-in-Some-next-clause-memory_of_pair : goal.returns-in-Some-next-clause-memory_of_pair
+returns-in-Some-next-clause-memory_of_pair g c = search rules
+
+pub as_slice-requires : goal.as_slice-requires
+as_slice-requires g c = search rules
+
+pub returns-in_err-text-clause-none : goal.returns-in_err-text-clause-none
+returns-in_err-text-clause-none g c = search rules
+
+pub returns-in_err-text-clause-some : goal.returns-in_err-text-clause-some
+returns-in_err-text-clause-some g c = search rules
+
+pub returns-in_err-text-clause-memory : goal.returns-in_err-text-clause-memory
+returns-in_err-text-clause-memory g c = search rules
+
+pub returns-in_err-text-clause-memory_of_pair : goal.returns-in_err-text-clause-memory_of_pair
+returns-in_err-text-clause-memory_of_pair g c = search rules
+
+pub returns-then-is_empty-clause-memory : goal.returns-then-is_empty-clause-memory
+returns-then-is_empty-clause-memory g c = search rules
+
+pub returns-then-is_empty-clause-memory_of_pair : goal.returns-then-is_empty-clause-memory_of_pair
+returns-then-is_empty-clause-memory_of_pair g c = search rules
+
+pub returns-clause-memory : goal.returns-clause-memory
+returns-clause-memory g c = search rules
+
+pub returns-clause-memory_of_pair : goal.returns-clause-memory_of_pair
+returns-clause-memory_of_pair g c = search rules

@@ -18,3 +18,12 @@ returns-clause-none g c = search rules
 
 pub returns-clause-some : goal.returns-clause-some
 returns-clause-some g c = search rules
+
+pub returns-then-eq-clause-memory : goal.returns-then-eq-clause-memory
+returns-then-eq-clause-memory g c = search rules
+
+pub returns-in_err-one-clause-memory : goal.returns-in_err-one-clause-memory
+returns-in_err-one-clause-memory g c = search rules
+
+pub returns-clause-memory : goal.returns-clause-memory
+returns-clause-memory g c = search rules
