@@ -10,3 +10,4 @@ mod Written
 mod Counted
 pub mod Courier
 pub mod AllPasses
+mod Waits

@@ -7,7 +7,9 @@ use Rattle.atomic_table.specs.Table.{Me}
 use Rattle.mst_key.specs.Map.{Pair}
 use Rattle.mst_key.specs.History.{after}
 use Rattle.mst_arena.specs.Lives as lives
-use Rattle.mst_arena.specs.Standing.{Placed, none, head, link_of, used, numbers}
+use Rattle.mst_key.specs.declared.format.Format.TheVariants.{One}
+use Rattle.mst_node.specs.Tree.{tree}
+use Rattle.mst_arena.specs.Standing.{Placed, none, head, link_of, used, numbers, Stands, StandsAt}
 use Rattle.mst_words.specs.declared.view.View.{View}
 use Rattle.mst_words.specs.Pins.{In}
 use Rattle.mst_words.specs.Records.{row, field}
@@ -51,8 +53,8 @@ pinned_link m m' found which p is few = let l = link_of_root (row p.words) (fiel
     let same : field m'.0.held which 1 ≡ field p.words p.cur 1 = ap (λ (z : Me Slot View). field z.0.held which 1) p.is ∙ ap (λ (r : ℕ). field p.words r 1) (sym is) in omega arith
 
 -- what the pass then knows
-pub pinned_root : (m m' : Me Slot View) (found : ℕ) (p : PinsNow stored m found m') (at : PinnedRoot) → p.cur ≡ at.pinned → at.version ≡ field m'.0.held at.pinned 0 → at.root ≡ root_in (field m'.0.held at.pinned) → Pins m at m'
-pinned_root m m' found p at is version root = subst (λ (z : Me Slot View). at.version ≡ field z.0.held at.pinned 0 → at.root ≡ root_in (field z.0.held at.pinned) → Pins m at z) (sym p.is) known version root
+pub pinned_root : (m m' : Me Slot View) (found : ℕ) (p : PinsNow stored m found m') (at : PinnedRoot) → m.0.passes ≤ 32 → p.cur ≡ at.pinned → at.version ≡ field m'.0.held at.pinned 0 → at.link ≡ field m'.0.held at.pinned 1 → Pins m at m'
+pinned_root m m' found p at few is version link = subst (λ (z : Me Slot View). at.version ≡ field z.0.held at.pinned 0 → at.link ≡ field z.0.held at.pinned 1 → Pins m at z) (sym p.is) known version link
   where
     w : View
     w = record m.0 { pin = Some p.cur; place = p.log; stood = p.used; held = p.words; asked = m.0.asked + 1 }
@@ -61,15 +63,20 @@ pinned_root m m' found p at is version root = subst (λ (z : Me Slot View). at.v
     content = subst (AllByRecursion (λ x. content_of w x ≡ rows_in (row p.words) x)) (sym p.stands.1)
         (each (λ x. content_of w x ≡ rows_in (row p.words) x) p.used (λ x within. reads_stood w p.cur x refl within (p.inside x within)))
 
-    known : at.version ≡ field p.words at.pinned 0 → at.root ≡ root_in (field p.words at.pinned) → Pins m at (w, m.1)
+    stood : Stands One (content_of w) (root_in (field p.words p.cur)) (after p.log)
+    stood = (stands_frame (rows_in (row p.words)) (content_of w) (root_in (field p.words p.cur)) (root_in (field p.words p.cur)) (after p.log) p.stands.0 content refl).0
+
+    known : at.version ≡ field p.words at.pinned 0 → at.link ≡ field p.words at.pinned 1 → Pins m at (w, m.1)
     known number here = record {
       later = p.later;
       own = p.own;
       has = record {
         pin = ap Some is;
         there = subst (λ (r : ℕ). r < m.0.passes + 2) is p.in_table;
+        low = let l = subst (λ (r : ℕ). r < m.0.passes + 2) is p.in_table in omega (arith, l, few);
         version = number ∙ ap (λ (r : ℕ). field p.words r 0) (sym is) ∙ p.version;
-        stands = (stands_frame (rows_in (row p.words)) (content_of w) (root_in (field p.words p.cur)) at.root (after p.log) p.stands.0 content (here ∙ ap (λ (r : ℕ). root_in (field p.words r)) (sym is))).0;
+        stands = record { map = stood.map; digest = refl; tree = subst (λ (l : ℕ). StandsAt One (content_of w) l (tree One (after p.log))) (sym (here ∙ ap (λ (r : ℕ). field p.words r 1) (sym is))) stood.tree };
+        digest = ap (λ (r : ℕ). (root_in (field p.words r)).digest) (sym is) ∙ stood.digest;
       };
       rest = refl;
     }

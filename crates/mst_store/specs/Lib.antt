@@ -6,3 +6,4 @@ pub mod Writes
 pub mod Counting
 pub mod Passes
 pub mod Settling
+pub mod Waiting

@@ -3,17 +3,23 @@ use Rattle.std.specs.Prelude.{◌≡◌, ◌+◌, ◌<◌, length, Some}
 use Rattle.atomic_table.specs.Table.{Me}
 use Rattle.mst_key.specs.declared.format.Format.TheVariants.{One}
 use Rattle.mst_key.specs.History.{after, events_of, Begins}
-use Rattle.mst_arena.specs.Standing.{Stands}
+use Rattle.mst_node.specs.Text.{root}
+use Rattle.mst_read.specs.Search.{StandsBelow}
 use Rattle.mst_words.specs.declared.view.View.{View}
 use Rattle.mst_words.specs.Access.{content_of}
+use Rattle.mst_words.specs.Layout.{most_records}
+use Rattle.mst_words.specs.Records.{field}
+use Rattle.mst_words.specs.Stored.{root_in}
 use Rattle.mst_store.specs.declared.reading.PinnedRoot.{PinnedRoot}
 
--- The record is pinned. The map of the history at the pin stands at the root, on rows that the pass may read, and the version is the number of events.
+-- The record is pinned. The map of the history at the pin stands at the link, on rows that the pass may read, its root digest stands in the record, and the version is the number of events.
 pub record HasPinned (at : PinnedRoot) (v : View) : Type 0 where
   pub pin : v.pin ≡ Some at.pinned
   pub there : at.pinned < v.passes + 2
+  pub low : at.pinned < most_records
   pub version : at.version ≡ length v.place
-  pub stands : Stands One (content_of v) at.root (after v.place)
+  pub stands : StandsBelow One (content_of v) at.link (after v.place)
+  pub digest : (root_in (field v.held at.pinned)).digest ≡ root One (after v.place)
 
 -- The current version was pinned. The history at the pin begins with all that the pass had seen, and its events there are its own. One step was counted, the pin. Nothing else changed
 pub record Pins {S : Type 0} (m : Me S View) (at : PinnedRoot) (m' : Me S View) : Type 0 where

@@ -26,6 +26,17 @@ pub enum WriteFault {
     NoRoom,
 }
 
+/// Why a write that waits for the turn was refused. It changed nothing.
+#[derive(Clone, Copy, Debug, PartialEq, Eq, Error)]
+pub enum ChangeFault {
+    /// The current version has the last number, 2^63 - 1.
+    #[error("version numbers are spent")]
+    VersionsSpent,
+    /// The rows that are free are too few for the nodes that the write makes new.
+    #[error("no room")]
+    NoRoom,
+}
+
 /// Another pass had the turn, so nothing was counted.
 #[derive(Clone, Copy, Debug, PartialEq, Eq, Error)]
 #[error("another pass has the turn")]

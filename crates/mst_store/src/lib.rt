@@ -13,9 +13,10 @@ mod store;
 #[cfg(test)]
 mod tests;
 mod turn;
+mod waiting;
 mod writing;
 
-pub use faults::{Busy, OpenFault, WriteFault};
+pub use faults::{Busy, ChangeFault, OpenFault, WriteFault};
 pub use mst_key::Memory;
 pub use mst_words::Shape;
 pub use pass::Pass;

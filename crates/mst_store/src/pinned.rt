@@ -21,7 +21,7 @@ use std::marker::Model;
 #[derive(Drop)]
 pub struct Pinned<'a, A: Allocator + Copy> {
     pub(crate) seat: PassSeat<'a, A>,
-    at: PinnedRoot,
+    pub(crate) at: PinnedRoot,
     number: u32,
     passes: u32,
     rows: u32,

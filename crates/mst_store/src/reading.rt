@@ -11,8 +11,7 @@ ghost use Rattle.mst_words.specs.Layout.{most_passes};
 ghost use Rattle.mst_words.specs.Steps.{IsFree};
 ghost use Rattle.mst_store.specs.Pinned.{HasPinned, Pins};
 
-use crate::roots::read_root;
-use mst_arena::Root;
+use crate::roots::{read_digest, read_link};
 use mst_key::{Key, Memory, Value};
 use mst_words::PassSeat;
 use std::alloc::Allocator;
@@ -24,10 +23,11 @@ pub(crate) struct PinnedRoot {
     pub(crate) pinned: u32,
     /// The number of the version: how many events led to it.
     pub(crate) version: u64,
-    pub(crate) root: Root,
+    /// The link of the tree of its map. The root digest is read where it is asked for.
+    pub(crate) link: u32,
 }
 
-/// Pins the current version and reads where its map stands: one xor and six loads.
+/// Pins the current version and reads where its map stands: one xor and two loads.
 pub(crate) fn pin<A: Allocator + Copy>(seat: &mut PassSeat<'_, A>, number: u32) -> PinnedRoot
     requires free { IsFree number seat.old.me }
     requires few { number ≤ most_passes }
@@ -37,11 +37,11 @@ pub(crate) fn pin<A: Allocator + Copy>(seat: &mut PassSeat<'_, A>, number: u32) 
     ensures pinned { Pins seat.old.me result seat.new.me }
 {
     let pinned = seat.pin(number);
-    let (version, root) = read_root(seat, pinned);
+    let (version, link) = read_link(seat, pinned);
     PinnedRoot {
         pinned,
         version,
-        root,
+        link,
     }
 }
 
@@ -55,7 +55,7 @@ pub(crate) fn get<A: Allocator + Copy>(
     ensures found { result ≡ look (after seat.old.me.0.place) key.now }
     ensures same { seat.new ≡ seat.old }
 {
-    mst_read::get(seat, &at.root, key)
+    mst_read::get_below(seat, at.link, key)
 }
 
 /// The pair of the least key above the bound in the pinned version; with no bound, of the least key.
@@ -68,16 +68,16 @@ pub(crate) fn next<A: Allocator + Copy>(
     ensures found { result ≡ successor (after seat.old.me.0.place) (option_copied bound.entry) }
     ensures same { seat.new ≡ seat.old }
 {
-    mst_read::next(seat, &at.root, bound)
+    mst_read::next_below(seat, at.link, bound)
 }
 
-/// The root digest of the pinned version's map.
+/// The root digest of the pinned version's map: four loads.
 pub(crate) fn root<A: Allocator + Copy>(seat: &mut PassSeat<'_, A>, at: &PinnedRoot) -> [u8; 32]
     requires pinned { HasPinned at.now seat.old.me.0 }
     ensures found { result ≡ text.root One (after seat.old.me.0.place) }
     ensures same { seat.new ≡ seat.old }
 {
-    mst_read::root(seat, &at.root)
+    read_digest(seat, at.pinned)
 }
 
 /// The first pairs of the pinned version, at most `limit`, of the keys that are at least `from` and below `to`. A bound that is not given does not bind.
@@ -95,7 +95,7 @@ pub(crate) fn range<A: Allocator + Copy, B: Allocator>(
     ensures found { IfOk result (λ found. found.items ≡ span (after seat.old.me.0.place) (option_copied from.entry) (option_copied to.entry) limit) }
     ensures same { seat.new ≡ seat.old }
 {
-    mst_read::range(alloc, seat, &at.root, from, to, limit)
+    mst_read::range_below(alloc, seat, at.link, from, to, limit)
 }
 
 /// The proof of the pinned version's answer for the key, against its root digest, of fewer than 2^32 bytes.
@@ -112,5 +112,5 @@ pub(crate) fn prove<A: Allocator + Copy, B: Allocator + Copy>(
     ensures short { IfOk result (λ proof. length proof.items < 2 ^ 32) }
     ensures same { seat.new ≡ seat.old }
 {
-    mst_read::prove(alloc, seat, &at.root, key)
+    mst_read::prove_below(alloc, seat, at.link, key)
 }

@@ -42,6 +42,34 @@ pub(crate) fn read_root<A: Allocator + Copy>(seat: &mut PassSeat<'_, A>, which: 
     (version, Root::read(&words))
 }
 
+/// The version number and the link of a record.
+pub(crate) fn read_link<A: Allocator + Copy>(seat: &mut PassSeat<'_, A>, which: u32) -> (u64, u32)
+    requires there { which < most_records }
+    requires readable { (k : ℕ) → k < record_words → IsReadable seat.old.me.0 (record_word which k) }
+    requires link { field seat.old.me.0.held which 1 ≤ 65535 }
+    ensures version { result.0 ≡ field seat.old.me.0.held which 0 }
+    ensures link { result.1 ≡ field seat.old.me.0.held which 1 }
+    ensures same { seat.new ≡ seat.old }
+{
+    let version = field(seat, which, 0);
+    let link = field(seat, which, 1);
+    (version, link as u32)
+}
+
+/// The root digest of a record.
+pub(crate) fn read_digest<A: Allocator + Copy>(seat: &mut PassSeat<'_, A>, which: u32) -> [u8; 32]
+    requires there { which < most_records }
+    requires readable { (k : ℕ) → k < record_words → IsReadable seat.old.me.0 (record_word which k) }
+    ensures digest { result ≡ (root_in (field seat.old.me.0.held which)).digest }
+    ensures same { seat.new ≡ seat.old }
+{
+    let first = field(seat, which, 2);
+    let second = field(seat, which, 3);
+    let third = field(seat, which, 4);
+    let last = field(seat, which, 5);
+    Root::read(&[0, first, second, third, last]).digest
+}
+
 // Stores the six words of a drained record.
 fn store_all<A: Allocator + Copy>(
     seat: &mut PassSeat<'_, A>,

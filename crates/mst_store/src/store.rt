@@ -1,6 +1,7 @@
 //! A store, and the dealing of its passes.
-ghost use Rattle.std.specs.Prelude.{◌≡◌, ◌↔◌, true, length, IfOk, IfErr, OnOk, IsErrOf};
+ghost use Rattle.std.specs.Prelude.{◌≡◌, ◌<◌, ◌↔◌, true, length, IfOk, IfErr, OnOk, IsErrOf};
 ghost use Rattle.mst_store.specs.Passes.{IsShape, HasShape, new_passes};
+ghost use Rattle.mst_words.specs.Layout.{most_records};
 
 use crate::faults::OpenFault;
 use crate::pass::Pass;
@@ -84,6 +85,14 @@ impl<A: Allocator + Copy> Store<A> {
         ensures passes { result ≡ self.now.passes }
     {
         self.shape.passes
+    }
+
+    // Who pins the record, by what the words say now, as a mask of their bits.
+    #[cfg(test)]
+    pub(crate) fn pins(&self, which: u32) -> u32
+        requires there { which < most_records }
+    {
+        self.board.pins(which)
     }
 
     /// The passes of the store, in the order of their numbers from 1. None of them has seen or done anything.

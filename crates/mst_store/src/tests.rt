@@ -1,15 +1,5 @@
-//! The tests of the store, and what they share.
-mod fixtures;
-mod memory;
-mod opening;
-mod pinned;
-mod pins;
-mod plain_list;
-mod reads;
-mod refusals;
-mod room;
-mod settling;
-mod sharing;
+//! The tests of what this crate keeps to itself: the turn, and the pins while a version is published. Those of its public calls stand in `mst_store_tests`.
+mod orders;
+mod tables;
 mod transfers;
 mod turns;
-mod versions;

@@ -5,7 +5,7 @@ ghost use Rattle.mst_store.specs.Turns.{HasMade};
 
 use crate::reading::pin;
 use crate::roots::write_root;
-use crate::tests::versions::{opened, putting};
+use crate::tests::tables::{opened, putting};
 use crate::turn::{Turn, begin_write};
 use crate::writing::{make, write};
 use mst_arena::Root;

@@ -1,3 +1,5 @@
+use Rattle.std.proofs.Common.{arith, rules}
+use Rattle.std.proofs.lemmas.Grind.{elements}
 use Rattle.std.proofs.Common.{◌≡◌, ◌++◌, List, map, sym, ap, ◌∙◌, subst}
 use Rattle.std.specs.List.{All}
 use Rattle.std.proofs.lemmas.List.Elements.{All-append, All-map}
@@ -55,3 +57,18 @@ returns g c = let w = c.requires.whole in let free : List Known = c.args.free.no
         alone = all_alone (free ++ held) last.me.0.passes log w (pinned.courier.passes_is ∙ there.courier.passes_is ∙ sym beside.passes_is ∙ ap (λ (s : StoreId). s.passes) (w.of_one 0 (new_pass w.store 0) c.in-Some.ensures.some)) pinned.courier.courier.alone;
       };
     }
+
+pub first_courier-requires : goal.first_courier-requires
+first_courier-requires g c = search rules
+
+pub returns-in_default : goal.returns-in_default
+returns-in_default g c = search rules
+
+pub collect_all-requires-clause-own : goal.collect_all-requires-clause-own
+collect_all-requires-clause-own g c = grind (arith, elements)
+
+pub collect_all-requires-clause-courier : goal.collect_all-requires-clause-courier
+collect_all-requires-clause-courier g c = search rules
+
+pub collect_held-requires-clause-courier : goal.collect_held-requires-clause-courier
+collect_held-requires-clause-courier g c = search rules

@@ -22,3 +22,30 @@ returns-clause-asked g c = let t = c.requires.taken.1 in let a = c.ask_others-as
 
 pub ask_others-asked-requires-clause-knows : goal.ask_others-asked-requires-clause-knows
 ask_others-asked-requires-clause-knows g c = let t = c.requires.taken in knows t.0 c.args.desk c.args.seat.now.me t.1 c.args.passes c.requires.holder c.requires.passes c.requires.few
+
+pub ask_others-asked-requires-clause-passes : goal.ask_others-asked-requires-clause-passes
+ask_others-asked-requires-clause-passes g c = search rules
+
+pub ask_others-asked-requires-clause-none : goal.ask_others-asked-requires-clause-none
+ask_others-asked-requires-clause-none g c = search rules
+
+pub read_root-requires-clause-there : goal.read_root-requires-clause-there
+read_root-requires-clause-there g c = search rules
+
+pub read_root-requires-clause-readable : goal.read_root-requires-clause-readable
+read_root-requires-clause-readable g c = search rules
+
+pub deref-requires : goal.deref-requires
+deref-requires g c = search rules
+
+pub len-requires : goal.len-requires
+len-requires g c = search rules
+
+pub overflow_cast-result : goal.overflow_cast-result
+overflow_cast-result g c = search rules
+
+pub returns-clause-same : goal.returns-clause-same
+returns-clause-same g c = search rules
+
+pub returns-clause-kept : goal.returns-clause-kept
+returns-clause-kept g c = search rules

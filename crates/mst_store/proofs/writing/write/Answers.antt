@@ -1,3 +1,4 @@
+use Rattle.std.proofs.Common.{rules}
 use Rattle.std.proofs.Common.{sym, ap, subst, ◌∙◌}
 use Rattle.mst_key.specs.declared.history.Event.{Event}
 use Rattle.mst_words.specs.declared.view.View.{View}
@@ -27,3 +28,75 @@ pub returns-in-Err-clause-refused : goal.returns-in-Err-clause-refused
 returns-in-Err-clause-refused g c =
     refused c.args.seat.now.me c.begin_write.new.seat.me c.in-Ok.turn c.in-Ok.ensures.begun c.make.new.seat.me c.give_back.new.seat.me (ap (λ (z : Seated). z.me) c.in-Err.ensures.untouched.1) c.give_back.ensures.gave
     c.args.event.now.change c.in-Ok.ensures.room c.in-Err.ensures.lacks
+
+pub begin_write-requires-clause-free : goal.begin_write-requires-clause-free
+begin_write-requires-clause-free g c = search rules
+
+pub begin_write-requires-clause-passes : goal.begin_write-requires-clause-passes
+begin_write-requires-clause-passes g c = search rules
+
+pub begin_write-requires-clause-few : goal.begin_write-requires-clause-few
+begin_write-requires-clause-few g c = search rules
+
+pub begin_write-requires-clause-few_rows : goal.begin_write-requires-clause-few_rows
+begin_write-requires-clause-few_rows g c = search rules
+
+pub returns-in-Err-Busy-clause-same : goal.returns-in-Err-Busy-clause-same
+returns-in-Err-Busy-clause-same g c = search rules
+
+pub returns-in-Err-Busy-clause-pass : goal.returns-in-Err-Busy-clause-pass
+returns-in-Err-Busy-clause-pass g c = search rules
+
+pub returns-in-Err-Busy-clause-free : goal.returns-in-Err-Busy-clause-free
+returns-in-Err-Busy-clause-free g c = search rules
+
+pub returns-in-Err-Busy-clause-wrote : goal.returns-in-Err-Busy-clause-wrote
+returns-in-Err-Busy-clause-wrote g c = search rules
+
+pub returns-in-Err-Busy-clause-refused : goal.returns-in-Err-Busy-clause-refused
+returns-in-Err-Busy-clause-refused g c = search rules
+
+pub returns-in-Err-VersionsSpent-clause-same : goal.returns-in-Err-VersionsSpent-clause-same
+returns-in-Err-VersionsSpent-clause-same g c = search rules
+
+pub returns-in-Err-VersionsSpent-clause-pass : goal.returns-in-Err-VersionsSpent-clause-pass
+returns-in-Err-VersionsSpent-clause-pass g c = search rules
+
+pub returns-in-Err-VersionsSpent-clause-free : goal.returns-in-Err-VersionsSpent-clause-free
+returns-in-Err-VersionsSpent-clause-free g c = search rules
+
+pub returns-in-Err-VersionsSpent-clause-wrote : goal.returns-in-Err-VersionsSpent-clause-wrote
+returns-in-Err-VersionsSpent-clause-wrote g c = search rules
+
+pub returns-in-Err-VersionsSpent-clause-refused : goal.returns-in-Err-VersionsSpent-clause-refused
+returns-in-Err-VersionsSpent-clause-refused g c = search rules
+
+pub make-requires-clause-turn : goal.make-requires-clause-turn
+make-requires-clause-turn g c = search rules
+
+pub make-requires-clause-open : goal.make-requires-clause-open
+make-requires-clause-open g c = search rules
+
+pub returns-in-Ok-make-clause-same : goal.returns-in-Ok-make-clause-same
+returns-in-Ok-make-clause-same g c = search rules
+
+pub returns-in-Ok-make-clause-pass : goal.returns-in-Ok-make-clause-pass
+returns-in-Ok-make-clause-pass g c = search rules
+
+pub returns-in-Ok-make-clause-free : goal.returns-in-Ok-make-clause-free
+returns-in-Ok-make-clause-free g c = search rules
+
+pub returns-in-Ok-make-clause-refused : goal.returns-in-Ok-make-clause-refused
+returns-in-Ok-make-clause-refused g c = search rules
+
+pub returns-in-Err-clause-same : goal.returns-in-Err-clause-same
+returns-in-Err-clause-same g c = search rules
+
+pub returns-in-Err-clause-pass : goal.returns-in-Err-clause-pass
+returns-in-Err-clause-pass g c = search rules
+
+pub returns-in-Err-clause-free : goal.returns-in-Err-clause-free
+returns-in-Err-clause-free g c = search rules
+
+pub returns-in-Err-clause-wrote : goal.returns-in-Err-clause-wrote
+returns-in-Err-clause-wrote g c = search rules

@@ -1,3 +1,4 @@
+use Rattle.std.proofs.Common.{rules}
 use Rattle.std.proofs.Common.{ℕ, [], ◌∷◌, ◌++◌, refl, sym, ap, ◌∙◌}
 use Rattle.mst_store.proofs.Asked.{asked_current, asked_drained, asked_blocked, asks_drained, asks_blocked, not_asked}
 use Rattle.mst_store.proofs.turn.Asked.ask.Goals as goal
@@ -26,3 +27,39 @@ returns-then-ask-clause-counted g c = asks_drained c.args.which c.args.seat.now.
 
 pub returns-else-ask-clause-counted : goal.returns-else-ask-clause-counted
 returns-else-ask-clause-counted g c = asks_blocked c.args.which c.args.seat.now.me c.ask.new.self.me (c.ask.ensures.blocked c.if-ask.false)
+
+pub returns-then-which-current-clause-same : goal.returns-then-which-current-clause-same
+returns-then-which-current-clause-same g c = search rules
+
+pub returns-then-which-current-clause-kept : goal.returns-then-which-current-clause-kept
+returns-then-which-current-clause-kept g c = search rules
+
+pub ask-requires-clause-holder : goal.ask-requires-clause-holder
+ask-requires-clause-holder g c = search rules
+
+pub ask-requires-clause-there : goal.ask-requires-clause-there
+ask-requires-clause-there g c = search rules
+
+pub ask-requires-clause-few : goal.ask-requires-clause-few
+ask-requires-clause-few g c = search rules
+
+pub ask-requires-clause-other : goal.ask-requires-clause-other
+ask-requires-clause-other g c = search rules
+
+pub version_of-requires : goal.version_of-requires
+version_of-requires g c = search rules
+
+pub push-requires : goal.push-requires
+push-requires g c = search rules
+
+pub returns-then-ask-clause-same : goal.returns-then-ask-clause-same
+returns-then-ask-clause-same g c = search rules
+
+pub returns-then-ask-clause-kept : goal.returns-then-ask-clause-kept
+returns-then-ask-clause-kept g c = search rules
+
+pub returns-else-ask-clause-same : goal.returns-else-ask-clause-same
+returns-else-ask-clause-same g c = search rules
+
+pub returns-else-ask-clause-kept : goal.returns-else-ask-clause-kept
+returns-else-ask-clause-kept g c = search rules

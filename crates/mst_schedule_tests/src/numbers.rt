@@ -1,0 +1,46 @@
+//! Stores with each number of passes.
+use crate::fixtures::{counts, dealt, gets, opened, puts};
+use mst_store::Pass;
+use std::alloc::Global;
+use std::process::Abort;
+use std::test::Fail;
+
+// Whether each pass in turn puts its number as the value of one key, finds the value of the pass before, and reads its own.
+fn each_puts_and_gets(passes: &mut [Pass<'_, Global>]) -> bool {
+    let mut number = 0u8;
+    for pass in passes.iter_mut() {
+        let old = [number];
+        let old = if number == 0 {
+            None
+        } else {
+            Some(old.as_slice())
+        };
+        number = number.wrapping_add(1);
+        if !puts(pass, b"a", &[number], old) || !gets(pass, b"a", Some(&[number])) {
+            return false;
+        }
+    }
+    true
+}
+
+// Whether each pass reads the last value, and counts the rows of the map, whose one node has one key.
+fn each_reads_the_last(passes: &mut [Pass<'_, Global>], last: u8) -> bool {
+    for pass in passes.iter_mut() {
+        if !gets(pass, b"a", Some(&[last])) || !counts(pass, Some(2)) {
+            return false;
+        }
+    }
+    true
+}
+
+#[test]
+fn each_number_of_passes(rt: HostRuntime) -> Result<(), Fail> {
+    for number in 1..=32u8 {
+        let (store, seats) = opened(&rt, 4, u32::from(number));
+        let mut passes = dealt(&rt, &store, seats);
+        assert!(rt; passes.len() == usize::from(number));
+        assert!(rt; each_puts_and_gets(&mut passes), "{number} passes");
+        assert!(rt; each_reads_the_last(&mut passes, number), "{number} passes");
+    }
+    Ok(())
+}

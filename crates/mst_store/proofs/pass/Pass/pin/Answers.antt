@@ -1,0 +1,23 @@
+use Rattle.std.proofs.Common.{rules}
+use Rattle.mst_store.proofs.pass.Pass.pin.Goals as goal
+
+pub pin-at-requires-clause-free : goal.pin-at-requires-clause-free
+pin-at-requires-clause-free g c = search rules
+
+pub pin-at-requires-clause-few : goal.pin-at-requires-clause-few
+pin-at-requires-clause-few g c = search rules
+
+pub pin-at-requires-clause-few_rows : goal.pin-at-requires-clause-few_rows
+pin-at-requires-clause-few_rows g c = search rules
+
+pub pin-at-requires-clause-few_passes : goal.pin-at-requires-clause-few_passes
+pin-at-requires-clause-few_passes g c = search rules
+
+pub invariant_of-result : goal.invariant_of-result
+invariant_of-result g c = search rules
+
+pub returns-clause-looks : goal.returns-clause-looks
+returns-clause-looks g c = search rules
+
+pub returns-clause-once : goal.returns-clause-once
+returns-clause-once g c = search rules

@@ -1,0 +1,5 @@
+use Rattle.std.proofs.Common.{rules}
+use Rattle.mst_store.proofs.pinned.Pinned.version.Goals as goal
+
+pub returns : goal.returns
+returns g c = search rules

@@ -1,0 +1,212 @@
+//! Two passes that each pin and end their pin, and a third that puts twice, in each of the 90 orders in which these calls can come. The answers are those of the plain list of the puts, and after each call the words say the pins of a core of pins that is fed the same events.
+use crate::{Pass, Pinned, Shape, Store};
+use mst_key::{Key, Value};
+use mst_pin::{Answer, Core, Event};
+use std::alloc::Global;
+use std::process::Abort;
+use std::test::Fail;
+
+/// A pass, free or pinned.
+#[derive(Drop)]
+enum Place<'a> {
+    Free(Pass<'a, Global>),
+    Held(Pinned<'a, Global>),
+}
+
+/// A pass that pins; while it does, the record that the core answered, and how many puts its version has.
+#[derive(Drop)]
+struct Pinner<'a> {
+    number: u8,
+    place: Option<Place<'a>>,
+    held: Option<(u8, u8)>,
+}
+
+/// The passes, and the core that is fed what they do. The current version has so many puts, and this record.
+#[derive(Drop)]
+struct World<'a> {
+    core: Core,
+    puts: u8,
+    current: u8,
+    pinners: Vec<Pinner<'a>>,
+    writer: Option<Pass<'a, Global>>,
+}
+
+// Whether this is the value of a version of so many puts, of which each gives its number.
+fn is_after(found: &Option<Value>, puts: u8) -> bool {
+    match found {
+        Some(value) => puts > 0 && value.bytes() == [puts].as_slice(),
+        None => puts == 0,
+    }
+}
+
+impl<'a> Pinner<'a> {
+    // Pins, or reads and ends the pin. Whether the store and the core answer alike.
+    fn calls(&mut self, core: &mut Core, puts: u8) -> bool {
+        match self.place.take() {
+            Some(Place::Free(pass)) => {
+                let pinned = pass.pin();
+                let Answer::Record(record) = core.step(Event::Pin(self.number)) else {
+                    return false;
+                };
+                self.held = Some((record, puts));
+                let same = pinned.at.pinned == u32::from(record);
+                self.place = Some(Place::Held(pinned));
+                same
+            }
+            Some(Place::Held(mut pinned)) => {
+                let (Ok(key), Some((_, puts))) = (Key::new(b"a"), self.held) else {
+                    return false;
+                };
+                let right = is_after(&pinned.get(&key), puts);
+                self.held = None;
+                self.place = Some(Place::Free(pinned.unpin()));
+                right && core.step(Event::Unpin(self.number)) == Answer::Done
+            }
+            None => false,
+        }
+    }
+
+    // The pass's bit, if it pins this record.
+    fn bit(&self, record: u8) -> u32 {
+        match self.held {
+            Some((held, _)) if held == record => { if self.number == 1 { 1 } else { 2 } }
+            _ => 0,
+        }
+    }
+}
+
+impl<'a> World<'a> {
+    // Puts, and feeds the core the publication and its transfer. The writer then pins to learn the record.
+    fn puts(&mut self) -> bool {
+        let Some(mut pass) = self.writer.take() else {
+            return false;
+        };
+        let next = self.puts.saturating_add(1);
+        let (Ok(key), Ok(value)) = (Key::new(b"a"), Value::new(&[next])) else {
+            return false;
+        };
+        let right = match pass.try_put(&key, &value) {
+            Ok(old) => is_after(&old, self.puts),
+            Err(_) => false,
+        };
+        let pinned = pass.pin();
+        let into = (pinned.at.pinned % 256) as u8;
+        self.writer = Some(pinned.unpin());
+        self.puts = next;
+        self.current = into;
+        right
+            && self.core.step(Event::Publish { into, rows: 0 }) == Answer::Done
+            && self.core.step(Event::Transfer) == Answer::Done
+            && self.core.step(Event::Pin(3)) == Answer::Record(into)
+            && self.core.step(Event::Unpin(3)) == Answer::Done
+    }
+
+    // One call of the pass at this place.
+    fn calls(&mut self, who: usize) -> bool {
+        let puts = self.puts;
+        match self.pinners.get_mut(who) {
+            Some(pinner) => pinner.calls(&mut self.core, puts),
+            None => self.puts(),
+        }
+    }
+
+    // Who pins the record, by what the core answered.
+    fn pins(&self, record: u8) -> u32 {
+        let mut bits = 0;
+        for pinner in &self.pinners {
+            bits |= pinner.bit(record);
+        }
+        bits
+    }
+
+    // Whether the words say of each record who pins it, and the core that it is drained where nobody does.
+    fn agrees(&self, store: &Store<Global>) -> bool {
+        for record in 0..5u8 {
+            let pins = store.pins(u32::from(record));
+            let mut core = self.core;
+            let asked = match core.step(Event::Ask(record)) {
+                Answer::Yes => pins == 0,
+                Answer::No => pins > 0,
+                _ => record == self.current,
+            };
+            if pins != self.pins(record) || !asked {
+                return false;
+            }
+        }
+        true
+    }
+}
+
+// The passes of the store: two that pin, and the writer behind them.
+fn begun<'a>(
+    rt: &impl Abort,
+    alloc: Global,
+    passes: Vec<Pass<'a, Global>>,
+) -> Result<World<'a>, Fail> {
+    let mut passes = passes;
+    let Some(core) = Core::new(3) else {
+        panic!(rt; "a core has 1 to 32 passes")
+    };
+    let writer = passes.pop();
+    let mut pinners = Vec::new(alloc);
+    let mut number = 0u8;
+    for pass in passes {
+        number = number.saturating_add(1);
+        pinners.push(Pinner {
+            number,
+            place: Some(Place::Free(pass)),
+            held: None,
+        })?;
+    }
+    Ok(World {
+        core,
+        puts: 0,
+        current: 0,
+        pinners,
+        writer,
+    })
+}
+
+// Whether the order, six digits of base 3, has each digit twice.
+fn is_order(order: u32) -> bool {
+    let mut counts = [0u32; 3];
+    let mut rest = order;
+    for _ in 0..6u32 {
+        let digit = (rest % 3) as usize;
+        counts[digit] = counts[digit].saturating_add(1);
+        rest /= 3;
+    }
+    counts == [2, 2, 2]
+}
+
+// Makes the calls in this order in a new store.
+fn runs(rt: &(impl Abort + AllocGlobal), order: u32) -> Result<(), Fail> {
+    let shape = Shape { rows: 6, passes: 3 };
+    let Ok((store, seats)) = Store::open(rt.alloc(), shape) else {
+        panic!(rt; "no memory")
+    };
+    let Ok(passes) = store.deal(rt.alloc(), seats) else {
+        panic!(rt; "no memory")
+    };
+    let mut world = begun(rt, rt.alloc(), passes)?;
+    let mut rest = order;
+    for _ in 0..6u32 {
+        assert!(rt; world.calls((rest % 3) as usize), "order {order}");
+        assert!(rt; world.agrees(&store), "order {order}");
+        rest /= 3;
+    }
+    Ok(())
+}
+
+#[test]
+fn each_order_agrees_with_the_core(rt: HostRuntime) -> Result<(), Fail> {
+    let mut orders = 0u32;
+    for order in 0..729u32 {
+        if is_order(order) {
+            runs(&rt, order)?;
+            orders = orders.saturating_add(1);
+        }
+    }
+    assert!(rt; orders == 90);
+    Ok(())
+}

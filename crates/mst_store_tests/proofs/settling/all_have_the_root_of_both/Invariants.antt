@@ -1,0 +1,5 @@
+use Rattle.mst_store.specs.Settling.{AreAllPasses}
+use Rattle.mst_store_tests.proofs.settling.all_have_the_root_of_both.Given as goal
+
+abbrev pub invariant-loop-pass : goal.invariant-loop-pass
+invariant-loop-pass g l = AreAllPasses l.passes

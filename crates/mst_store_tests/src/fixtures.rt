@@ -1,0 +1,219 @@
+//! What the tests share: stores with their passes, and calls whose answers are compared.
+//!
+//! None of these functions says anything in a contract, so that what calls them is proved from few facts.
+ghost use Rattle.std.specs.Prelude.{◌≡◌};
+
+use linked_list_allocator::LocalHeap;
+use mst_key::{Key, Value};
+use mst_store::{Pass, Seats, Shape, Store, WriteFault};
+use std::alloc::{Allocator, Global};
+use std::process::Abort;
+
+pub(crate) const SMALL: Shape = Shape { rows: 8, passes: 2 };
+
+/// The root digest of the empty map: the SHA-256 of the empty string.
+pub(crate) const ROOT_OF_NONE: [u8; 32] = [
+    0xe3, 0xb0, 0xc4, 0x42, 0x98, 0xfc, 0x1c, 0x14, 0x9a, 0xfb, 0xf4, 0xc8, 0x99, 0x6f, 0xb9, 0x24,
+    0x27, 0xae, 0x41, 0xe4, 0x64, 0x9b, 0x93, 0x4c, 0xa4, 0x95, 0x99, 0x1b, 0x78, 0x52, 0xb8, 0x55,
+];
+
+/// The root digest of the map of abc with x and a with 1: the SHA-256 of the 17 bytes 01 00 0002 00 01 61 01 31 00 03 616263 01 78 00.
+pub(crate) const ROOT_OF_BOTH: [u8; 32] = [
+    0xd4, 0xa8, 0xa9, 0xfc, 0x55, 0x05, 0x84, 0x27, 0x16, 0x3b, 0xd8, 0xa1, 0xf0, 0x9c, 0xa5, 0xec,
+    0x54, 0x2d, 0xe1, 0xcd, 0xaf, 0x28, 0xdf, 0x10, 0x0b, 0xe5, 0x47, 0x2e, 0x47, 0xb7, 0x25, 0x03,
+];
+
+/// The proof of a key of that map: the version 1, the number 1 of texts, the length of the one text, and the text of the node of both.
+pub(crate) const PROOF_OF_BOTH: [u8; 23] = [
+    1, 1, 0, 0, 0, 17, 1, 0, 0, 2, 0, 1, 0x61, 1, 0x31, 0, 3, 0x61, 0x62, 0x63, 1, 0x78, 0,
+];
+
+pub(crate) fn key(rt: &impl Abort, bytes: &[u8]) -> Key {
+    let Ok(key) = Key::new(bytes) else {
+        panic!(rt; "a key has 1 to 32 bytes")
+    };
+    key
+}
+
+pub(crate) fn value(rt: &impl Abort, bytes: &[u8]) -> Value {
+    let Ok(value) = Value::new(bytes) else {
+        panic!(rt; "a value has at most 64 bytes")
+    };
+    value
+}
+
+/// A heap of so many bytes.
+pub(crate) fn heap_of(rt: &(impl Abort + AllocGlobal), bytes: usize) -> LocalHeap {
+    let Ok(heap) = LocalHeap::new(rt.alloc(), bytes) else {
+        panic!(rt; "no memory")
+    };
+    heap
+}
+
+/// A store of this size.
+pub(crate) fn opened(
+    rt: &(impl Abort + AllocGlobal),
+    shape: Shape,
+) -> (Store<Global>, Seats<Global>)
+    ensures own { result.1 ≡ result.0 }
+{
+    let Ok(opened) = Store::open(rt.alloc(), shape) else {
+        panic!(rt; "no memory")
+    };
+    opened
+}
+
+/// The passes of a store of two.
+pub(crate) fn both_passes<'a>(
+    rt: &(impl Abort + AllocGlobal),
+    store: &'a Store<Global>,
+    seats: Seats<Global>,
+) -> (Pass<'a, Global>, Pass<'a, Global>)
+    requires own { seats ≡ store.now }
+{
+    let Ok(mut passes) = store.deal(rt.alloc(), seats) else {
+        panic!(rt; "no memory")
+    };
+    let Some(second) = passes.pop() else {
+        panic!(rt; "two passes")
+    };
+    let Some(first) = passes.pop() else {
+        panic!(rt; "two passes")
+    };
+    (first, second)
+}
+
+/// Whether what was found is a value of these bytes, or nothing where none are given.
+pub(crate) fn is_value(found: &Option<Value>, wanted: Option<&[u8]>) -> bool {
+    match (found, wanted) {
+        (Some(value), Some(bytes)) => value.bytes() == bytes,
+        (None, None) => true,
+        _ => false,
+    }
+}
+
+/// Puts, or removes where no value is given.
+pub(crate) fn write<A: Allocator + Copy>(
+    pass: &mut Pass<A>,
+    key: &Key,
+    new: Option<&Value>,
+) -> Result<Option<Value>, WriteFault> {
+    match new {
+        Some(value) => pass.try_put(key, value),
+        None => pass.try_remove(key),
+    }
+}
+
+/// Whether a put goes through, and answers this old value.
+pub(crate) fn puts<A: Allocator + Copy>(
+    pass: &mut Pass<A>,
+    key: &[u8],
+    value: &[u8],
+    old: Option<&[u8]>,
+) -> bool {
+    let (Ok(key), Ok(value)) = (Key::new(key), Value::new(value)) else {
+        return false;
+    };
+    match pass.try_put(&key, &value) {
+        Ok(found) => is_value(&found, old),
+        Err(_) => false,
+    }
+}
+
+/// Whether a put is refused so.
+pub(crate) fn put_fails<A: Allocator + Copy>(
+    pass: &mut Pass<A>,
+    key: &[u8],
+    value: &[u8],
+    fault: WriteFault,
+) -> bool {
+    match (Key::new(key), Value::new(value)) {
+        (Ok(key), Ok(value)) => pass.try_put(&key, &value).err() == Some(fault),
+        _ => false,
+    }
+}
+
+/// Whether a remove goes through, and answers this old value.
+pub(crate) fn removes<A: Allocator + Copy>(
+    pass: &mut Pass<A>,
+    key: &[u8],
+    old: Option<&[u8]>,
+) -> bool {
+    let Ok(key) = Key::new(key) else {
+        return false;
+    };
+    match pass.try_remove(&key) {
+        Ok(found) => is_value(&found, old),
+        Err(_) => false,
+    }
+}
+
+/// Whether the key has this value, or none where none is given.
+pub(crate) fn gets<A: Allocator + Copy>(
+    pass: &mut Pass<A>,
+    key: &[u8],
+    value: Option<&[u8]>,
+) -> bool {
+    match Key::new(key) {
+        Ok(key) => is_value(&pass.get(&key), value),
+        Err(_) => false,
+    }
+}
+
+/// Whether the next pair has this key, or there is none where none is given.
+pub(crate) fn next_is<A: Allocator + Copy>(
+    pass: &mut Pass<A>,
+    after: Option<&Key>,
+    wanted: Option<&[u8]>,
+) -> bool {
+    match (pass.next(after), wanted) {
+        (Some((key, _)), Some(bytes)) => key.bytes() == bytes,
+        (None, None) => true,
+        _ => false,
+    }
+}
+
+/// Whether the root digest is this.
+pub(crate) fn has_root<A: Allocator + Copy>(pass: &mut Pass<A>, root: &[u8; 32]) -> bool {
+    pass.root() == *root
+}
+
+/// Whether the version has this number.
+pub(crate) fn has_version<A: Allocator + Copy>(pass: &mut Pass<A>, version: u64) -> bool {
+    pass.version() == version
+}
+
+/// Whether the map takes so many rows; or, with none, whether they were not counted since a version is pinned.
+pub(crate) fn counts<A: Allocator + Copy>(pass: &mut Pass<A>, rows: Option<u32>) -> bool {
+    pass.rows() == Ok(rows)
+}
+
+/// How many pairs of the keys between the bounds there are, up to the limit; none where memory was refused.
+pub(crate) fn count_pairs<A: Allocator + Copy, B: Allocator>(
+    pass: &mut Pass<A>,
+    alloc: B,
+    from: Option<&Key>,
+    to: Option<&Key>,
+    limit: usize,
+) -> Option<usize> {
+    match pass.range(alloc, from, to, limit) {
+        Ok(pairs) => Some(pairs.len()),
+        Err(_) => None,
+    }
+}
+
+/// Whether the proof of the key of these bytes is this text.
+pub(crate) fn proves<A: Allocator + Copy, B: Allocator + Copy>(
+    pass: &mut Pass<A>,
+    alloc: B,
+    key: &[u8],
+    text: &[u8],
+) -> bool {
+    let Ok(key) = Key::new(key) else {
+        return false;
+    };
+    match pass.prove(alloc, &key) {
+        Ok(proof) => proof.as_slice() == text,
+        Err(_) => false,
+    }
+}

@@ -1,0 +1,25 @@
+//! Tests of the store over its public calls: opening, reads and writes of several passes, pins, room, settling, and memory that is refused.
+#![tactic(auto)]
+
+#[cfg(test)]
+mod fixtures;
+#[cfg(test)]
+mod memory;
+#[cfg(test)]
+mod opening;
+#[cfg(test)]
+mod pinned;
+#[cfg(test)]
+mod pins;
+#[cfg(test)]
+mod plain_list;
+#[cfg(test)]
+mod reads;
+#[cfg(test)]
+mod refusals;
+#[cfg(test)]
+mod room;
+#[cfg(test)]
+mod settling;
+#[cfg(test)]
+mod sharing;

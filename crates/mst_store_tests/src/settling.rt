@@ -1,0 +1,117 @@
+//! Passes that met or settled get what the others put.
+ghost use Rattle.mst_store.specs.Passes.{IsSamePass};
+ghost use Rattle.mst_store.specs.Settling.{AreAllPasses};
+
+use crate::fixtures::{ROOT_OF_BOTH, gets, has_root, has_version, opened};
+use mst_key::{Key, Value};
+use mst_store::{Pass, Shape, meet, settle};
+use std::alloc::{Allocator, Global};
+use std::process::Abort;
+
+const LARGER: Shape = Shape { rows: 9, passes: 3 };
+
+// Whether a put of a new key goes through.
+fn adds<A: Allocator + Copy>(pass: &mut Pass<A>, key: &[u8], value: &[u8]) -> bool
+    ensures same { IsSamePass pass.old pass.new }
+{
+    match (Key::new(key), Value::new(value)) {
+        (Ok(key), Ok(value)) => matches!(pass.try_put(&key, &value), Ok(None)),
+        _ => false,
+    }
+}
+
+// Lets all passes settle, none of which pins a version.
+fn settle_free<A: Allocator + Copy>(passes: &mut [Pass<'_, A>])
+    requires whole { AreAllPasses passes.old }
+{
+    settle(passes, &mut []);
+}
+
+// Each pass puts a key of its own. Settled, each gets them all, in the order in which they stand here.
+pub(crate) fn each_gets_what_all_put<A: Allocator + Copy>(
+    rt: &impl Abort,
+    passes: &mut [Pass<A>],
+    order: &[u32],
+)
+    requires whole { AreAllPasses passes.old }
+{
+    for pass in passes.iter_mut() {
+        let own = pass.number().to_le_bytes();
+        assert!(rt; adds(pass, &own, b"x"));
+    }
+    settle_free(passes);
+    for (pass, number) in passes.iter_mut().zip(order) {
+        assert!(rt; pass.number() == *number);
+        for other in order {
+            assert!(rt; gets(pass, &other.to_le_bytes(), Some(b"x")));
+        }
+    }
+}
+
+#[test]
+fn settled_passes_get_what_each_put(rt: HostRuntime) {
+    let (store, seats) = opened(&rt, Shape { rows: 9, passes: 2 });
+    let Ok(mut passes) = store.deal(rt.alloc(), seats) else {
+        panic!(rt; "no memory")
+    };
+    each_gets_what_all_put(&rt, &mut passes, &[1, 2]);
+}
+
+#[test]
+fn passes_settle_in_any_order(rt: HostRuntime) {
+    let (store, seats) = opened(&rt, LARGER);
+    let Ok(mut passes) = store.deal(rt.alloc(), seats) else {
+        panic!(rt; "no memory")
+    };
+    assert!(rt; passes.len() == 3);
+    passes.swap(0, 2);
+    passes.swap(1, 2);
+    each_gets_what_all_put(&rt, &mut passes, &[3, 1, 2]);
+}
+
+#[test]
+fn passes_that_met_get_what_both_put(rt: HostRuntime) {
+    let (store, seats) = opened(&rt, LARGER);
+    let Ok(mut passes) = store.deal(rt.alloc(), seats) else {
+        panic!(rt; "no memory")
+    };
+    assert!(rt; passes.len() == 3);
+    let (front, back) = passes.split_at_mut(1);
+    assert!(rt; adds(&mut front[0], b"a", b"x") && adds(&mut back[1], b"b", b"x"));
+    meet(&mut front[0], &mut back[1]);
+    assert!(rt; gets(&mut front[0], b"b", Some(b"x")) && gets(&mut back[1], b"a", Some(b"x")));
+}
+
+// Puts abc by the first pass, and a by another.
+fn adds_its_own(pass: &mut Pass<Global>) -> bool
+    ensures same { IsSamePass pass.old pass.new }
+{
+    let (key, value): (&[u8], &[u8]) = if pass.number() == 1 {
+        (b"abc", b"x")
+    } else {
+        (b"a", b"1")
+    };
+    adds(pass, key, value)
+}
+
+// The first pass puts abc and the other a. Settled, both have the version and the root of both.
+fn all_have_the_root_of_both(rt: &impl Abort, passes: &mut [Pass<Global>])
+    requires whole { AreAllPasses passes.old }
+{
+    for pass in passes.iter_mut() {
+        assert!(rt; adds_its_own(pass));
+    }
+    settle_free(passes);
+    for pass in passes.iter_mut() {
+        assert!(rt; has_version(pass, 2) && has_root(pass, &ROOT_OF_BOTH));
+    }
+}
+
+#[test]
+fn settled_passes_have_one_version_and_root(rt: HostRuntime) {
+    let (store, seats) = opened(&rt, Shape { rows: 9, passes: 2 });
+    let Ok(mut passes) = store.deal(rt.alloc(), seats) else {
+        panic!(rt; "no memory")
+    };
+    all_have_the_root_of_both(&rt, &mut passes);
+}
