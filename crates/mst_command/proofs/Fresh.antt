@@ -3,7 +3,7 @@ use Rattle.std.proofs.Common.{◌≡◌, ℕ, List, subst}
 use Rattle.mst_key.specs.History.{History}
 use Rattle.mst_words.specs.declared.view.Shape.{Shape}
 use Rattle.mst_store.specs.Passes.{StoreId, Known, HasShape, new_passes}
-use Rattle.mst_script.specs.Machine.{Line}
+use Rattle.mst_script.specs.Machine.{Line, with_no_pins}
 use Rattle.mst_lines.specs.Runs.{Ran, Stopped}
 use Rattle.mst_script.specs.Scripts as script
 use Rattle.mst_script.specs.Serving.{Gathers}
@@ -16,7 +16,7 @@ fresh_run gives takes shape store s t w x ps qs size is r = record {
   store = store;
   size = size;
   last = r.last;
-  ran = subst (λ (h : History). Ran gives takes (Line store) s w h t x r.last) (nothing_yet store r.start (subst (Gathers r.start) is r.begun)) r.ran;
+  ran = subst (λ (h : History). Ran gives takes (Line store) s w (with_no_pins h) t x r.last) (nothing_yet store r.start (subst (Gathers r.start) is r.begun)) r.ran;
 }
 
 pub fresh_stop : {S W : Type 0} (gives : S → List ℕ → S → Type 0) (takes : W → List ℕ → W → Type 0) (failures : W → ℕ) (shape : Shape) (store : StoreId) (s t : S) (w x : W) (ps qs : List Known) → HasShape shape store → ps ≡ new_passes store →
@@ -25,5 +25,5 @@ fresh_stop gives takes failures shape store s t w x ps qs size is r = record {
   store = store;
   size = size;
   last = r.last;
-  stopped = subst (λ (h : History). Stopped gives takes failures (Line store) s w h t x r.last) (nothing_yet store r.start (subst (Gathers r.start) is r.begun)) r.stopped;
+  stopped = subst (λ (h : History). Stopped gives takes failures (Line store) s w (with_no_pins h) t x r.last) (nothing_yet store r.start (subst (Gathers r.start) is r.begun)) r.stopped;
 }

@@ -1,12 +1,11 @@
 -- What the programs read and wrote.
 use Rattle.std.specs.Prelude.{◌≡◌, ◌<◌, ◌⊎◌, ℕ, if◌then◌else◌, List, [], length, Some, None, IsSome, string_bytes}
-use Rattle.mst_key.specs.History.{History}
 use Rattle.mst_words.specs.declared.view.Shape.{Shape}
 use Rattle.mst_store.specs.Passes.{StoreId, HasShape, IsShape}
 use Rattle.mst_replay.specs.declared.Replay.{Replay}
 use Rattle.mst_replay.specs.Replay.{core_state}
 use Rattle.mst_devices.specs.Device.{Breaks}
-use Rattle.mst_script.specs.Machine.{Line}
+use Rattle.mst_script.specs.Machine.{Machine, Line, with_no_pins}
 use Rattle.mst_lines.specs.Runs.{Ran, Stopped}
 use Rattle.mst_verify.specs.declared.report.Report.{Report}
 use Rattle.mst_verify.specs.Words.{root_of, key_of}
@@ -25,19 +24,19 @@ use Rattle.mst_command.specs.Recalling.{Recalls}
 abbrev pub ending_of : Report → Ending
 ending_of report = if is_refusal report then ProofRefused else Done
 
--- The source gave a script, and the sink took what the script machine answers its lines, from the empty history on, over a store of this size.
+-- The source gave a script, and the sink took what the script machine answers its lines, from the empty history on and with nothing pinned, over a store of this size.
 pub record RanScript {S W : Type 0} (gives : S → List ℕ → S → Type 0) (takes : W → List ℕ → W → Type 0) (shape : Shape) (s : S) (w : W) (t : S) (x : W) : Type 0 where
   pub store : StoreId
   pub size : HasShape shape store
-  pub last : History
-  pub ran : Ran gives takes (Line store) s w [] t x last
+  pub last : Machine
+  pub ran : Ran gives takes (Line store) s w (with_no_pins []) t x last
 
 -- The same, where a device failed.
 pub record BrokeScript {S W : Type 0} (gives : S → List ℕ → S → Type 0) (takes : W → List ℕ → W → Type 0) (failures : W → ℕ) (shape : Shape) (s : S) (w : W) (t : S) (x : W) : Type 0 where
   pub store : StoreId
   pub size : HasShape shape store
-  pub last : History
-  pub stopped : Stopped gives takes failures (Line store) s w [] t x last
+  pub last : Machine
+  pub stopped : Stopped gives takes failures (Line store) s w (with_no_pins []) t x last
 
 -- The source gave events of a core, and the sink took what the core answers each of them, from no core on.
 pub record RanReplay {S W : Type 0} (gives : S → List ℕ → S → Type 0) (takes : W → List ℕ → W → Type 0) (s : S) (w : W) (t : S) (x : W) : Type 0 where

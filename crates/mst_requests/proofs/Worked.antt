@@ -1,9 +1,11 @@
 -- The definitions at lines that were worked by hand.
-use Rattle.std.proofs.Common.{◌≡◌, [], ◌∷◌, refl, codes, Some, None}
+use Rattle.std.proofs.Common.{◌≡◌, ℕ, List, [], ◌++◌, refl, ap, arith, codes, Some, None}
 use Rattle.std.specs.Prelude.{Ok, Err}
+use Rattle.std.proofs.lemmas.Fmt.{decimal_digit}
 use Rattle.mst_requests.specs.declared.request.Fault.TheVariants.{NoPass, NoCommand, FieldCount}
-use Rattle.mst_requests.specs.declared.request.Command.TheVariants.{Root}
+use Rattle.mst_requests.specs.declared.request.Command.TheVariants.{Root, Pin, Unpin}
 use Rattle.mst_requests.specs.Grammar.{asked, count_in}
+use Rattle.mst_requests.specs.Texts.{pinned_words}
 use Rattle.mst_lines.specs.Lines.{kept}
 
 no_such_pass : asked 4 (kept (codes "9 get 61")) ≡ Err NoPass
@@ -29,6 +31,21 @@ two_blanks = refl
 
 root_asked : asked 4 (kept (codes "2 root")) ≡ Ok record { pass = 2; command = Root }
 root_asked = refl
+
+pin_asked : asked 4 (kept (codes "2 pin")) ≡ Ok record { pass = 2; command = Pin }
+pin_asked = refl
+
+unpin_asked : asked 4 (kept (codes "4 unpin")) ≡ Ok record { pass = 4; command = Unpin }
+unpin_asked = refl
+
+pin_of_a_key : asked 4 (kept (codes "1 pin 61")) ≡ Err FieldCount
+pin_of_a_key = refl
+
+blank_behind_unpin : asked 4 (kept (codes "1 unpin ")) ≡ Err FieldCount
+blank_behind_unpin = refl
+
+version_pinned : pinned_words 1 ≡ codes "pinned 1"
+version_pinned = ap (λ (digits : List ℕ). codes "pinned " ++ digits) (decimal_digit 1 (omega arith))
 
 most_pairs : count_in (codes "65535") ≡ Some 65535
 most_pairs = refl

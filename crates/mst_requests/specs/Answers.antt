@@ -2,8 +2,8 @@
 use Rattle.std.specs.Prelude.{ℕ, List, [], ◌++◌, codes}
 use Rattle.hex.specs.Hex.{encode_lower}
 use Rattle.mst_requests.specs.declared.answer.Answer.{Answer}
-use Rattle.mst_requests.specs.declared.answer.Answer.TheVariants.{Refused, Value, Pair, Pairs, Root, Rows, Bytes, NoNode, Busy, Spent, NoRoom, Memory}
-use Rattle.mst_requests.specs.Texts.{line_of, fault_words, digits_of, value_words, found_words, count_words, pair_lines, rows_words}
+use Rattle.mst_requests.specs.declared.answer.Answer.TheVariants.{Refused, Value, Pair, Pairs, Root, Pinned, Unpinned, Rows, Bytes, NoNode, Busy, Spent, NoRoom, Memory}
+use Rattle.mst_requests.specs.Texts.{line_of, fault_words, digits_of, value_words, found_words, count_words, pair_lines, pinned_words, rows_words}
 
 -- the words of the first line, without the digits of bytes, which may be many
 abbrev pub first_words : {A : Type 0} → Answer A → List ℕ
@@ -12,6 +12,8 @@ first_words (Value found) = value_words found
 first_words (Pair found) = found_words found
 first_words (Pairs found) = count_words found.items
 first_words (Root digest) = digits_of digest
+first_words (Pinned version) = pinned_words version
+first_words Unpinned = codes "unpinned"
 first_words (Rows found) = rows_words found
 first_words (Bytes found) = []
 first_words NoNode = codes "empty"
@@ -27,6 +29,8 @@ text_of (Value found) = line_of (value_words found)
 text_of (Pair found) = line_of (found_words found)
 text_of (Pairs found) = line_of (count_words found.items) ++ pair_lines found.items
 text_of (Root digest) = line_of (digits_of digest)
+text_of (Pinned version) = line_of (pinned_words version)
+text_of Unpinned = line_of (codes "unpinned")
 text_of (Rows found) = line_of (rows_words found)
 text_of (Bytes found) = line_of (encode_lower found.items)
 text_of NoNode = line_of (codes "empty")

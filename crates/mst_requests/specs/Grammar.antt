@@ -9,7 +9,7 @@ use denote.Ref.{Bor}
 use Rattle.mst_requests.specs.declared.request.Fault.{Fault}
 use Rattle.mst_requests.specs.declared.request.Fault.TheVariants.{LongLine, NoPass, NoCommand, FieldCount, BadField, KeySize, ValueSize}
 use Rattle.mst_requests.specs.declared.request.Command.{Command}
-use Rattle.mst_requests.specs.declared.request.Command.TheVariants.{Put, Remove, Get, Next, Range, Root, Node, Prove, Rows}
+use Rattle.mst_requests.specs.declared.request.Command.TheVariants.{Put, Remove, Get, Next, Range, Root, Node, Prove, Pin, Unpin, Rows}
 use Rattle.mst_requests.specs.declared.request.Request.{Request}
 
 -- the parts between single blanks
@@ -126,6 +126,8 @@ named_command name fields =
     else if bytes_eq name (codes "root") then no_fields Root fields
     else if bytes_eq name (codes "node") then no_fields Node fields
     else if bytes_eq name (codes "prove") then about_key Prove (key_fields fields)
+    else if bytes_eq name (codes "pin") then no_fields Pin fields
+    else if bytes_eq name (codes "unpin") then no_fields Unpin fields
     else if bytes_eq name (codes "rows") then no_fields Rows fields
     else Err NoCommand
 

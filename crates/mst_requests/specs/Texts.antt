@@ -3,7 +3,7 @@ use Rattle.std.specs.Prelude.{ℕ, List, [], ◌∷◌, ◌++◌, length, Option
 use Rattle.hex.specs.Hex.{encode_lower}
 use Rattle.mst_key.specs.Map.{Pair}
 use Rattle.mst_requests.specs.declared.request.Fault.{Fault}
-use Rattle.mst_requests.specs.declared.request.Fault.TheVariants.{LongLine, NoPass, NoCommand, FieldCount, BadField, KeySize, ValueSize}
+use Rattle.mst_requests.specs.declared.request.Fault.TheVariants.{LongLine, NoPass, NoCommand, FieldCount, BadField, KeySize, ValueSize, Pinning}
 
 -- words with the newline that ends their line
 abbrev pub line_of : List ℕ → List ℕ
@@ -17,6 +17,7 @@ fault_words FieldCount = codes "fault L4"
 fault_words BadField = codes "fault L5"
 fault_words KeySize = codes "keysize"
 fault_words ValueSize = codes "valuesize"
+fault_words Pinning = codes "fault L6"
 
 -- lower case, and `-` for no bytes
 abbrev pub digits_of : List ℕ → List ℕ
@@ -44,6 +45,10 @@ pair_lines (p ∷ ps) = line_of (pair_words p) ++ pair_lines ps
 -- how many pairs there are
 abbrev pub count_words : List Pair → List ℕ
 count_words ps = codes "pairs " ++ decimal (length ps)
+
+-- which version is pinned
+abbrev pub pinned_words : ℕ → List ℕ
+pinned_words n = codes "pinned " ++ decimal n
 
 -- how many rows the map takes, or that they are held
 abbrev pub rows_words : Option ℕ → List ℕ

@@ -2,7 +2,7 @@
 ghost use Rattle.std.specs.Prelude.{◌≡◌, ◌≤◌, ◌<◌, ◌*◌, ◌+◌, ◌-◌, ◌^◌, ◌++◌, length, codes, decimal, OnOk, OnErr};
 ghost use Rattle.mst_devices.specs.Device.{Puts, Breaks};
 ghost use Rattle.hex.specs.Hex.{encode_lower};
-ghost use Rattle.mst_requests.specs.Texts.{fault_words as words_of_fault, digits_of, line_of, pair_words, pair_lines, rows_words};
+ghost use Rattle.mst_requests.specs.Texts.{fault_words as words_of_fault, digits_of, line_of, pair_words, pair_lines, pinned_words, rows_words};
 ghost use Rattle.mst_requests.specs.Answers.{first_words, text_of};
 
 use crate::request::Fault;
@@ -25,6 +25,10 @@ pub enum Answer<A: Allocator> {
     Pairs(Vec<(Key, Value), A>),
     /// The root digest.
     Root([u8; 32]),
+    /// The number of the version that is pinned.
+    Pinned(u64),
+    /// The pin was ended.
+    Unpinned,
     /// How many rows the map takes; none where they are held.
     Rows(Option<u32>),
     /// Bytes of a format: a proof, or the text of a node.
@@ -60,6 +64,7 @@ fn fault_words(fault: Fault) -> &'static [u8]
         Fault::BadField => b"fault L5",
         Fault::KeySize => b"keysize",
         Fault::ValueSize => b"valuesize",
+        Fault::Pinning => b"fault L6",
     }
 }
 
@@ -130,6 +135,17 @@ fn extend_count(text: &mut Text, count: usize)
     extend(text, buffer.format(count).as_bytes());
 }
 
+// Appends the words that say which version is pinned.
+fn extend_pinned(text: &mut Text, version: u64)
+    requires { length text.old.items ≡ 0 }
+    ensures pinned { text.new.items ≡ text.old.items ++ pinned_words version }
+    ensures small { length text.new.items ≤ 100 }
+{
+    let mut buffer = Buffer::new();
+    extend(text, b"pinned ");
+    extend(text, buffer.format(version).as_bytes());
+}
+
 // Appends the words that say how many rows the map takes.
 fn extend_rows(text: &mut Text, rows: Option<u32>)
     requires { length text.old.items ≡ 0 }
@@ -170,6 +186,8 @@ fn first_line<A: Allocator>(answer: &Answer<A>) -> Text
         Answer::Pair(Some((key, value))) => extend_pair(&mut text, key, value),
         Answer::Pairs(pairs) => extend_count(&mut text, pairs.len()),
         Answer::Root(digest) => extend_digest(&mut text, digest),
+        Answer::Pinned(version) => extend_pinned(&mut text, *version),
+        Answer::Unpinned => extend(&mut text, b"unpinned"),
         Answer::Rows(rows) => extend_rows(&mut text, *rows),
         Answer::Bytes(_) => {}
         Answer::NoNode => extend(&mut text, b"empty"),

@@ -125,6 +125,12 @@ fn command_named(name: &[u8], fields: Option<&[u8]>) -> Result<Command, Fault>
     if name == b"prove".as_slice() {
         return prove_command(fields);
     }
+    if name == b"pin".as_slice() {
+        return without_fields(Command::Pin, fields);
+    }
+    if name == b"unpin".as_slice() {
+        return without_fields(Command::Unpin, fields);
+    }
     if name == b"rows".as_slice() {
         return without_fields(Command::Rows, fields);
     }
@@ -158,7 +164,7 @@ fn request_of(line: &[u8], passes: u32) -> Result<Request, Fault>
 
 /// What is asked for by what is kept of a line, where the passes 1 to `passes` are dealt.
 ///
-/// Each fault comes where none that stands before it in `Fault` does.
+/// Each fault comes where none that stands before it in `Fault` does. `Pinning` never comes here.
 pub fn request_in(line: &LineBuffer, passes: u32) -> Result<Request, Fault>
     ensures asked { result ≡ asked passes line.now }
     ensures dealt { IfOk result (λ request. IsDealt passes request) }

@@ -2,6 +2,8 @@
 use mst_key::{Key, Value};
 
 /// Why a line is refused. The first that holds is told, in this order.
+///
+/// All but `Pinning` are in the line alone; `Pinning` depends on the store, so whoever runs the line tells it.
 #[derive(Clone, Copy, Debug, PartialEq, Eq)]
 pub enum Fault {
     /// It has more bytes than a line may have.
@@ -18,6 +20,8 @@ pub enum Fault {
     KeySize,
     /// The value is too long.
     ValueSize,
+    /// The pass is pinned where it may not be, or is not where it must be.
+    Pinning,
 }
 
 /// What a pass is asked for.
@@ -39,6 +43,10 @@ pub enum Command {
     Node,
     /// For the proof of the map's answer for a key.
     Prove(Key),
+    /// To pin the current version.
+    Pin,
+    /// To end its pin.
+    Unpin,
     /// For how many rows the map takes.
     Rows,
 }

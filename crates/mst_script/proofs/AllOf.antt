@@ -1,15 +1,16 @@
 -- All passes of one store: so they are when they are dealt, and so they stay.
-use Rattle.std.proofs.Common.{◌≡◌, ℕ, zero, suc, ◌<◌, ◌≤◌, ◌≢◌, List, [], ◌∷◌, ◌++◌, length, append-nil, get_or, set, map, sym, refl, ap, ◌∙◌, subst, arith}
+use Rattle.std.proofs.Common.{◌≡◌, ℕ, zero, suc, ◌<◌, ◌≤◌, ◌≢◌, List, [], ◌∷◌, ◌++◌, append-nil, map, sym, refl, ap, ◌∙◌, subst, arith}
 use Rattle.std.specs.List.{All, Contains}
-use Rattle.std.proofs.lemmas.List.Elements.{All-append, All-map, All-set, Contains-append_left, Contains-append_right}
-use Rattle.std.proofs.Math.Seq.{map-set_same}
+use Rattle.std.specs.List.Sorted.{IsPermutation}
+use Rattle.std.proofs.lemmas.List.Elements.{All-append, All-cons, All-head, All-tail, All-map, Contains-append_left, Contains-append_right}
+use Rattle.std.proofs.lemmas.List.Sorted.{IsPermutation-map, IsPermutation-sym, All-permutation, Contains-permutation}
 use mathlib.Core.Logic.{dite}
 use native.Mathlib.Decide.{ℕ_discrete}
 use Rattle.mst_key.specs.History.{History}
-use Rattle.mst_store.specs.Passes.{StoreId, Known, IsSamePass, new_pass, first_passes, new_passes}
-use Rattle.mst_key.specs.History.{events_of, Begins}
-use Rattle.mst_store.specs.Settling.{numbers, having_seen, AreAllPasses, IsOfOne, Settled}
-use Rattle.mst_script.specs.Serving.{AreAllOf}
+use Rattle.mst_store.specs.Passes.{StoreId, Known, IsSamePass, having_asked, new_pass, first_passes, new_passes}
+use Rattle.mst_store.specs.Settling.{numbers, having_seen, AreAllPasses, Settled}
+use Rattle.mst_script.specs.Serving.{AreAllOf, Roster, everyone}
+use Rattle.mst_script.proofs.Lines.{front_of, back_of}
 
 lone : (s : StoreId) (p : Known) → p.store ≡ s → All (λ q. q.store ≡ s) (p ∷ [])
 lone s p is zero d l = is
@@ -23,7 +24,7 @@ first_stores : (s : StoreId) (n : ℕ) → All (λ p. p.store ≡ s) (first_pass
 first_stores s zero k d l = absurd (omega arith)
 first_stores s (suc n) k d l = All-append (λ (p : Known). p.store ≡ s) (first_passes s n) (new_pass s (suc n) ∷ []) (first_stores s n) (lone s (new_pass s (suc n)) refl) k d l
 
-numbers-append : (ps qs : List Known) → numbers (ps ++ qs) ≡ numbers ps ++ numbers qs
+pub numbers-append : (ps qs : List Known) → numbers (ps ++ qs) ≡ numbers ps ++ numbers qs
 numbers-append [] qs = refl
 numbers-append (p ∷ ps) qs = ap (λ (l : List ℕ). p.number ∷ l) (numbers-append ps qs)
 
@@ -48,43 +49,50 @@ all_dealt s = record { of_one = first_stores s s.passes; complete = first_number
 pub all_of : (s : StoreId) (ps : List Known) → ps ≡ new_passes s → AreAllOf s ps
 all_of s ps is = subst (AreAllOf s) (sym is) (all_dealt s)
 
-pub all_passes : (s : StoreId) (ps : List Known) → AreAllOf s ps → AreAllPasses ps
-all_passes s ps w = record { store = s; of_one = w.of_one; complete = w.complete }
+pub all_passes : (s : StoreId) (r : Roster) → AreAllOf s (everyone r) → AreAllPasses (everyone r)
+all_passes s r w = record { store = s; of_one = w.of_one; complete = w.complete }
+
+-- in another order
+pub all_moved : (s : StoreId) (ps qs : List Known) → IsPermutation ps qs → AreAllOf s ps → AreAllOf s qs
+all_moved s ps qs moved w = record {
+  of_one = All-permutation (λ (p : Known). p.store ≡ s) ps qs moved w.of_one;
+  complete = λ n low high. Contains-permutation (numbers ps) (numbers qs) n (IsPermutation-map (λ (p : Known). p.number) ps qs moved) (w.complete n low high);
+}
 
 -- one of them did something
-pub all_changed : (s : StoreId) (ps : List Known) (i : ℕ) (q d : Known) → i < length ps → IsSamePass (get_or ps i d) q → AreAllOf s ps → AreAllOf s (set ps i q)
-all_changed s ps i q d l same w = record {
-  of_one = All-set (λ (p : Known). p.store ≡ s) ps i q (same.0 ∙ w.of_one i d l) w.of_one;
-  complete = λ n low high. subst (λ (l : List ℕ). Contains l n) (sym (map-set_same (λ (p : Known). p.number) ps i q d same.1)) (w.complete n low high);
+first_changed : (s : StoreId) (p q : Known) (os : List Known) → IsSamePass p q → AreAllOf s (p ∷ os) → AreAllOf s (q ∷ os)
+first_changed s p q os same w = record {
+  of_one = All-cons (λ (x : Known). x.store ≡ s) q os (same.0 ∙ All-head (λ (x : Known). x.store ≡ s) p os w.of_one) (All-tail (λ (x : Known). x.store ≡ s) p os w.of_one);
+  complete = λ n low high. subst (λ (k : ℕ). Contains (k ∷ numbers os) n) (sym same.1) (w.complete n low high);
 }
+
+pub all_changed : (s : StoreId) (ps qs os : List Known) (p q : Known) → IsPermutation ps (p ∷ os) → IsPermutation qs (q ∷ os) → IsSamePass p q → AreAllOf s ps → AreAllOf s qs
+all_changed s ps qs os p q from to same w = all_moved s (q ∷ os) qs (IsPermutation-sym qs (q ∷ os) to) (first_changed s p q os same (all_moved s ps (p ∷ os) from w))
 
 pub seen_numbers : (log : History) (ps : List Known) → numbers (map (having_seen log) ps) ≡ numbers ps
 seen_numbers log [] = refl
 seen_numbers log (p ∷ ps) = ap (λ (l : List ℕ). p.number ∷ l) (seen_numbers log ps)
 
--- all passes settled, and none pins a version
-pub record AllSettled (ps qs : List Known) : Type 0 where
-  pub log : History
-  pub now : qs ≡ map (having_seen log) ps
-  pub later : All (λ p. Begins p.seen log) ps
-  pub own : All (λ p. events_of p.number log ≡ p.mine) ps
-  pub alone : All (IsOfOne ps) log
+pub asked_numbers : (n : ℕ) (ps : List Known) → numbers (map (having_asked n) ps) ≡ numbers ps
+asked_numbers n [] = refl
+asked_numbers n (p ∷ ps) = ap (λ (l : List ℕ). p.number ∷ l) (asked_numbers n ps)
 
-pub none_held : (ps qs ks : List Known) → Settled ps [] qs ks → AllSettled ps qs
-none_held ps qs ks t = record {
-  log = t.log;
-  now = t.now;
-  later = subst (All (λ p. Begins p.seen t.log)) (append-nil ps) t.later;
-  own = subst (All (λ p. events_of p.number t.log ≡ p.mine)) (append-nil ps) t.own;
-  alone = subst (λ (l : List Known). All (IsOfOne l) t.log) (append-nil ps) t.alone;
-}
-
-pub whole_free : (ps : List Known) → AreAllPasses ps → AreAllPasses (ps ++ [])
-whole_free ps = subst AreAllPasses (sym (append-nil ps))
+pub settled_numbers : (ps hs qs ks : List Known) → (t : Settled ps hs qs ks) → numbers (qs ++ ks) ≡ numbers (ps ++ hs)
+settled_numbers ps hs qs ks t = numbers-append qs ks ∙ ap (λ (l : List ℕ). l ++ numbers ks) (ap numbers t.now ∙ seen_numbers t.log ps)
+    ∙ ap (λ (l : List ℕ). numbers ps ++ l) (ap numbers t.still ∙ asked_numbers 3 hs) ∙ sym (numbers-append ps hs)
 
 -- they settled
-pub all_settled : (s : StoreId) (ps qs : List Known) → AllSettled ps qs → AreAllOf s ps → AreAllOf s qs
-all_settled s ps qs t w = record {
-  of_one = subst (All (λ p. p.store ≡ s)) (sym t.now) (All-map (λ (p : Known). p.store ≡ s) (having_seen t.log) ps w.of_one);
-  complete = λ n low high. subst (λ (l : List Known). Contains (numbers l) n) (sym t.now) (subst (λ (l : List ℕ). Contains l n) (sym (seen_numbers t.log ps)) (w.complete n low high));
+pub all_settled : (s : StoreId) (r t : Roster) → Settled r.free r.held t.free t.held → AreAllOf s (everyone r) → AreAllOf s (everyone t)
+all_settled s r t st w = record {
+  of_one = All-append (λ (p : Known). p.store ≡ s) t.free t.held
+      (subst (All (λ p. p.store ≡ s)) (sym st.now) (All-map (λ (p : Known). p.store ≡ s) (having_seen st.log) r.free (front_of (λ (p : Known). p.store ≡ s) r.free r.held w.of_one)))
+      (subst (All (λ p. p.store ≡ s)) (sym st.still) (All-map (λ (p : Known). p.store ≡ s) (having_asked 3) r.held (back_of (λ (p : Known). p.store ≡ s) r.free r.held w.of_one)));
+  complete = λ n low high. subst (λ (l : List ℕ). Contains l n) (sym (settled_numbers r.free r.held t.free t.held st)) (w.complete n low high);
 }
+
+-- where no one of them pins a version
+pub all_free : (s : StoreId) (r : Roster) → r.held ≡ [] → AreAllOf s (everyone r) → AreAllOf s r.free
+all_free s r none w = subst (AreAllOf s) (ap (λ (l : List Known). r.free ++ l) none ∙ append-nil r.free) w
+
+pub all_free_again : (s : StoreId) (r : Roster) → r.held ≡ [] → AreAllOf s r.free → AreAllOf s (everyone r)
+all_free_again s r none w = subst (AreAllOf s) (sym (ap (λ (l : List Known). r.free ++ l) none ∙ append-nil r.free)) w

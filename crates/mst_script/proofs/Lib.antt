@@ -1,6 +1,9 @@
+pub mod Lines
 pub mod AllOf
-pub mod Settling
+pub mod Gathering
+pub mod Finding
+pub mod Knowing
 pub mod ProofTops
-pub mod Asking
+pub mod Calling
 pub mod Serving
 pub mod Scripts

@@ -1,41 +1,46 @@
 -- A run of the passes is a run of the machine.
 use Rattle.std.proofs.Common.{◌≡◌, ℕ, List, [], ◌∷◌, length, refl, sym, ap, ◌∙◌, subst}
 use Rattle.mst_key.specs.History.{History}
-use Rattle.mst_store.specs.Passes.{StoreId, Known, new_passes}
+use Rattle.mst_store.specs.Passes.{StoreId, new_passes}
+use Rattle.mst_store.specs.Settling.{Settled}
 use Rattle.mst_lines.specs.Runs.{Replies, Ran, Stopped}
-use Rattle.mst_script.specs.Machine.{Line}
-use Rattle.mst_script.specs.Serving.{Gathers, AllSaw, Serves}
+use Rattle.mst_script.specs.Machine.{Machine, Line, with_no_pins}
+use Rattle.mst_script.specs.Serving.{Gathers, Roster, Shows, Serves, Released}
 use Rattle.mst_script.specs.Scripts.{RanScript, StoppedScript}
-use Rattle.mst_script.proofs.Settling.{settled_gathers, settled_saw, nobody}
-use Rattle.mst_script.proofs.AllOf.{AllSettled, none_done}
+use Rattle.mst_script.proofs.Gathering.{nobody}
+use Rattle.mst_script.proofs.Serving.{first_shown, first_gathers, last_saw}
+use Rattle.mst_script.proofs.AllOf.{none_done}
 
-machine_replies : (store : StoreId) (lines : List (List ℕ)) (ps qs : List Known) (h : History) (text : List ℕ) → AllSaw h ps → Replies (Serves store) ps lines text qs →
-    (new : History) × Replies (Line store) h lines text new × AllSaw new qs
-machine_replies store [] ps qs h text saw r = (h, (refl, r.1), subst (AllSaw h) (sym r.0) saw)
-machine_replies store (line ∷ lines) ps qs h text saw r =
-    let one = r.3 h saw in
-    let more = machine_replies store lines r.2 qs one.0 r.1 one.2 r.4 in
-    (more.0, (r.0, r.1, one.0, one.1, more.1, r.5), more.2)
+machine_replies : (store : StoreId) (lines : List (List ℕ)) (r s : Roster) (m : Machine) (text : List ℕ) → Shows m r → Replies (Serves store) r lines text s →
+    (new : Machine) × Replies (Line store) m lines text new × Shows new s
+machine_replies store [] r s m text shows a = (m, (refl, a.1), subst (Shows m) (sym a.0) shows)
+machine_replies store (line ∷ lines) r s m text shows a =
+    let one = a.3 m shows in
+    let more = machine_replies store lines a.2 s one.0 a.1 one.2 a.4 in
+    (more.0, (a.0, a.1, one.0, one.1, more.1, a.5), more.2)
 
 -- passes that were dealt begin with the empty history
 pub nothing_yet : (store : StoreId) (start : History) → Gathers start (new_passes store) → start ≡ []
 nothing_yet store start g = nobody (new_passes store) start g.alone (λ k d l. ap length (g.own k d l ∙ none_done store k d l))
 
+-- the passes r settled as s, did what the lines asked as t, and were released as v
 module _ {S W : Type 0} (gives : S → List ℕ → S → Type 0) (takes : W → List ℕ → W → Type 0) (failures : W → ℕ) where
-  pub ran_script : (store : StoreId) (s t : S) (w x : W) (ps rs qs : List Known) → AllSettled ps rs → Ran gives takes (Serves store) s w rs t x qs → RanScript gives takes store s w ps t x qs
-  ran_script store s t w x ps rs qs met r = let all = machine_replies store _ rs qs met.log r.text (settled_saw ps rs met) r.replies in record {
-    start = met.log;
-    begun = settled_gathers ps rs met;
+  pub ran_script : (store : StoreId) (b c : S) (w x : W) (r s t v : Roster) → r.held ≡ [] → Settled r.free r.held s.free s.held → Ran gives takes (Serves store) b w s c x t → Released t v →
+      RanScript gives takes store b w r.free c x v.free
+  ran_script store b c w x r s t v none first a end = let all = machine_replies store _ s t (with_no_pins first.log) a.text (first_shown r s none first) a.replies in record {
+    start = first.log;
+    begun = first_gathers r s none first;
     last = all.0;
-    ran = record { input = r.input; given = r.given; text = r.text; replies = all.1; taken = r.taken };
-    seen = all.2;
+    ran = record { input = a.input; given = a.given; text = a.text; replies = all.1; taken = a.taken };
+    seen = last_saw all.0 t end.s v all.2 end.freed end.settled;
   }
 
-  pub stopped_script : (store : StoreId) (s t : S) (w x : W) (ps rs qs : List Known) → AllSettled ps rs → Stopped gives takes failures (Serves store) s w rs t x qs → StoppedScript gives takes failures store s w ps t x qs
-  stopped_script store s t w x ps rs qs met r = let all = machine_replies store r.first rs qs met.log r.text (settled_saw ps rs met) r.replies in record {
-    start = met.log;
-    begun = settled_gathers ps rs met;
+  pub stopped_script : (store : StoreId) (b c : S) (w x : W) (r s t v : Roster) → r.held ≡ [] → Settled r.free r.held s.free s.held → Stopped gives takes failures (Serves store) b w s c x t → Released t v →
+      StoppedScript gives takes failures store b w r.free c x v.free
+  stopped_script store b c w x r s t v none first a end = let all = machine_replies store a.first s t (with_no_pins first.log) a.text (first_shown r s none first) a.replies in record {
+    start = first.log;
+    begun = first_gathers r s none first;
     last = all.0;
-    stopped = record { input = r.input; given = r.given; first = r.first; others = r.others; some = r.some; text = r.text; replies = all.1; breaks = r.breaks; whole = r.whole };
-    seen = all.2;
+    stopped = record { input = a.input; given = a.given; first = a.first; others = a.others; some = a.some; text = a.text; replies = all.1; breaks = a.breaks; whole = a.whole };
+    seen = last_saw all.0 t end.s v all.2 end.freed end.settled;
   }

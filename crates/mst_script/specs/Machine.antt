@@ -1,11 +1,11 @@
--- The script machine: what a line is answered where the events so far are this history, and the history then. Its state is the history alone.
-use Rattle.std.specs.Prelude.{◌≡◌, ◌≢◌, ℕ, ◌<◌, ◌⊎◌, List, [], ◌∷◌, ◌++◌, length, Option, None, Some, Result, Ok, Err, codes}
+-- The script machine: what a line is answered, and the machine's next state. Its state is the history so far, and for each pass the version that it pins, or none.
+use Rattle.std.specs.Prelude.{◌≡◌, ◌≢◌, ℕ, ◌==◌, ◌<◌, ◌⊎◌, List, [], ◌∷◌, ◌++◌, length, take, if◌then◌else◌, Option, None, Some, Result, Ok, Err, codes}
 use Rattle.hex.specs.Hex.{encode_lower}
 use Rattle.mst_key.specs.declared.format.Format.TheVariants.{One}
 use Rattle.mst_key.specs.declared.history.Change.{Change}
 use Rattle.mst_key.specs.declared.history.Change.TheVariants as change
 use Rattle.mst_key.specs.declared.history.Event.{Event}
-use Rattle.mst_key.specs.Map.{look, successor, span}
+use Rattle.mst_key.specs.Map.{Pair, look, successor, span}
 use Rattle.mst_key.specs.History.{History, after, reply}
 use Rattle.mst_node.specs.Text.{root, text as text_of_node}
 use Rattle.mst_node.specs.Tree.{Tree, empty, node, tree}
@@ -14,11 +14,25 @@ use Rattle.mst_arena.specs.Lives.{last_version}
 use Rattle.mst_store.specs.Writes.{rows_of, LacksKept}
 use Rattle.mst_store.specs.Passes.{StoreId, HasRoom, LacksRoom}
 use Rattle.mst_requests.specs.declared.request.Fault.{Fault}
+use Rattle.mst_requests.specs.declared.request.Fault.TheVariants.{Pinning}
 use Rattle.mst_requests.specs.declared.request.Command.{Command}
-use Rattle.mst_requests.specs.declared.request.Command.TheVariants.{Put, Remove, Get, Next, Range, Root, Node, Prove, Rows}
+use Rattle.mst_requests.specs.declared.request.Command.TheVariants.{Put, Remove, Get, Next, Range, Root, Node, Prove, Pin, Unpin, Rows}
 use Rattle.mst_requests.specs.declared.request.Request.{Request}
 use Rattle.mst_requests.specs.Grammar.{asked}
-use Rattle.mst_requests.specs.Texts.{line_of, digits_of, fault_words, value_words, found_words, count_words, pair_lines, rows_words}
+use Rattle.mst_requests.specs.Texts.{line_of, fault_words, digits_of, value_words, found_words, count_words, pair_lines, pinned_words, rows_words}
+
+-- The history so far, and which version each pass pins, if it pins one: the version is that of so many first events.
+pub record Machine : Type 0 where
+  pub history : History
+  pub pinned : ℕ → Option ℕ
+
+-- the machine at this history, where no pass pins a version
+abbrev pub with_no_pins : History → Machine
+with_no_pins h = record { history = h; pinned = λ p. None }
+
+-- the machine, when the pass p pins this version, or none
+abbrev pub with_pin : ℕ → Option ℕ → Machine → Machine
+with_pin p version m = record { history = m.history; pinned = λ q. if q == p then version else m.pinned q }
 
 -- ---- what is written of a tree
 
@@ -49,7 +63,7 @@ IsSpent h text = (text ≡ line_of (codes "spent")) × (length h ≡ last_versio
 abbrev pub HasNoRoom : StoreId → Change → History → List ℕ → Type 0
 HasNoRoom store change h text = (text ≡ line_of (codes "noroom")) × (length h < last_version) × (store.passes ≡ 1 → LacksRoom store.rows (after h) change) × LacksKept store.rows store.passes h change
 
--- ---- the steps
+-- ---- writes and counts
 
 -- The event is added, and the answer is the value that its key had. There is a next version, and room.
 pub record Adds (store : StoreId) (e : Event) (h : History) (text : List ℕ) (new : History) : Type 0 where
@@ -64,35 +78,69 @@ Writes store p change h text new =
     Adds store (record { pass = p; change = change }) h text new
     ⊎ ((IsBusy store text ⊎ IsSpent h text ⊎ HasNoRoom store change h text) × (new ≡ h))
 
--- a read, which finds what this text says
-abbrev pub Reads : List ℕ → History → List ℕ → History → Type 0
-Reads found h text new = (text ≡ found) × (new ≡ h)
-
--- a read that takes memory for what it finds
-abbrev pub Collects : List ℕ → History → List ℕ → History → Type 0
-Collects found h text new = ((text ≡ found) ⊎ LacksMemory text) × (new ≡ h)
-
 -- the count of the map's rows, for which the turn is taken
 abbrev pub Counts : StoreId → History → List ℕ → History → Type 0
 Counts store h text new = ((text ≡ line_of (rows_words (Some (rows_of (after h))))) ⊎ IsBusy store text ⊎ IsHeld store text) × (new ≡ h)
 
+-- ---- reads
+
+-- what a read finds in a map; for some of it memory is taken
+abbrev pub Finds : Command → List Pair → List ℕ → Type 0
+Finds (Get k) m text = text ≡ line_of (value_words (look m k))
+Finds (Next bound) m text = text ≡ line_of (found_words (successor m bound))
+Finds (Range from to n) m text = (text ≡ line_of (count_words (span m from to n)) ++ pair_lines (span m from to n)) ⊎ LacksMemory text
+Finds Root m text = text ≡ line_of (digits_of (root One m))
+Finds Node m text = (text ≡ line_of (top_words (tree One m))) ⊎ LacksMemory text
+Finds (Prove k) m text = (text ≡ line_of (encode_lower (proof_text One m k))) ⊎ LacksMemory text
+Finds _ m text = ⊥
+
+-- ---- the steps
+
+-- the pass pins a version where it may not, or pins none where it must
+abbrev pub IsMispinned : List ℕ → Type 0
+IsMispinned text = text ≡ line_of (fault_words Pinning)
+
+-- what a pass that pins no version is asked for, but to pin one, and answers; and the history then
+abbrev pub Acts : StoreId → ℕ → Command → History → List ℕ → History → Type 0
+Acts store p (Put k v) h text new = Writes store p (change.Put k v) h text new
+Acts store p (Remove k) h text new = Writes store p (change.Remove k) h text new
+Acts store p Rows h text new = Counts store h text new
+Acts store p Pin h text new = ⊥
+Acts store p Unpin h text new = IsMispinned text × (new ≡ h)
+Acts store p read h text new = Finds read (after h) text × (new ≡ h)
+
+-- the step of a pass that pins no version
+abbrev pub FreeStep : StoreId → ℕ → Command → Machine → List ℕ → Machine → Type 0
+FreeStep store p Pin m text new = (text ≡ line_of (pinned_words (length m.history))) × (new ≡ with_pin p (Some (length m.history)) m)
+FreeStep store p command m text new = Acts store p command m.history text new.history × (new.pinned ≡ m.pinned)
+
+-- what a pass is asked for that pins a version with this map, but to unpin it, and answers
+abbrev pub Recalls : Command → List Pair → List ℕ → Type 0
+Recalls (Put k v) m text = IsMispinned text
+Recalls (Remove k) m text = IsMispinned text
+Recalls Rows m text = IsMispinned text
+Recalls Pin m text = IsMispinned text
+Recalls Unpin m text = ⊥
+Recalls read m text = Finds read m text
+
+-- the step of a pass that pins the version n
+abbrev pub PinnedStep : ℕ → ℕ → Command → Machine → List ℕ → Machine → Type 0
+PinnedStep p n Unpin m text new = (text ≡ line_of (codes "unpinned")) × (new ≡ with_pin p None m)
+PinnedStep p n command m text new = Recalls command (after (take n m.history)) text × (new ≡ m)
+
+abbrev pub StepOf : Option ℕ → StoreId → ℕ → Command → Machine → List ℕ → Machine → Type 0
+StepOf None store p command m text new = FreeStep store p command m text new
+StepOf (Some n) store p command m text new = PinnedStep p n command m text new
+
 -- what the pass p is asked for, and answers
-abbrev pub Step : StoreId → ℕ → Command → History → List ℕ → History → Type 0
-Step store p (Put k v) h text new = Writes store p (change.Put k v) h text new
-Step store p (Remove k) h text new = Writes store p (change.Remove k) h text new
-Step store p (Get k) h text new = Reads (line_of (value_words (look (after h) k))) h text new
-Step store p (Next bound) h text new = Reads (line_of (found_words (successor (after h) bound))) h text new
-Step store p (Range from to n) h text new = Collects (line_of (count_words (span (after h) from to n)) ++ pair_lines (span (after h) from to n)) h text new
-Step store p Root h text new = Reads (line_of (digits_of (root One (after h)))) h text new
-Step store p Node h text new = Collects (line_of (top_words (tree One (after h)))) h text new
-Step store p (Prove k) h text new = Collects (line_of (encode_lower (proof_text One (after h) k))) h text new
-Step store p Rows h text new = Counts store h text new
+abbrev pub Step : StoreId → ℕ → Command → Machine → List ℕ → Machine → Type 0
+Step store p command m text new = StepOf (m.pinned p) store p command m text new
 
 -- a request that is refused is answered its fault, and changes nothing
-abbrev pub AnswersRequest : StoreId → Result Request Fault → History → List ℕ → History → Type 0
-AnswersRequest store (Ok request) h text new = Step store request.pass request.command h text new
-AnswersRequest store (Err fault) h text new = (text ≡ line_of (fault_words fault)) × (new ≡ h)
+abbrev pub AnswersRequest : StoreId → Result Request Fault → Machine → List ℕ → Machine → Type 0
+AnswersRequest store (Ok request) m text new = Step store request.pass request.command m text new
+AnswersRequest store (Err fault) m text new = (text ≡ line_of (fault_words fault)) × (new ≡ m)
 
 -- what is kept of a line is answered with the text
-abbrev pub Line : StoreId → History → Option (List ℕ) → List ℕ → History → Type 0
-Line store h line text new = AnswersRequest store (asked store.passes line) h text new
+abbrev pub Line : StoreId → Machine → Option (List ℕ) → List ℕ → Machine → Type 0
+Line store m line text new = AnswersRequest store (asked store.passes line) m text new

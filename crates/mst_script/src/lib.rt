@@ -1,6 +1,9 @@
 //! Scripts: the lines of a source, asked of the passes of a store, and answered into a sink.
 #![tactic(auto)]
 
+mod asking;
+mod passes;
+mod recalling;
 mod script;
 mod serve;
 

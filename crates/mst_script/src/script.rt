@@ -2,15 +2,17 @@
 ghost use Rattle.std.specs.Prelude.{◌≡◌, ◌<◌, ◌≤◌, ◌-◌, ◌+◌, ◌^◌, [], OnOk, OnErr};
 ghost use Rattle.mst_lines.specs.Runs.{Ran, Stopped};
 ghost use Rattle.mst_lines.specs.Driving.{Answered, Lost, Closed, NotClosed};
-ghost use Rattle.mst_script.specs.Serving.{AreAllOf, Serves};
+ghost use Rattle.mst_script.specs.Serving.{AreAllOf, everyone, Serves};
 ghost use Rattle.mst_script.specs.Scripts.{RanScript, StoppedScript};
 
+use crate::passes::Passes;
 use crate::serve::serve;
 use mst_devices::{Device, Pending, Sink, Source};
 use mst_lines::{LineBuffer, Reader};
 use mst_requests::put_answer;
-use mst_store::{Pass, Store, settle};
+use mst_store::{Pass, Store};
 use std::alloc::Allocator;
+use std::mem;
 use thiserror::Error;
 
 /// Why a run ended early.
@@ -25,17 +27,17 @@ pub enum RunFault {
 }
 
 // Answers the line that was read.
-fn answer_line<W: Sink, A: Allocator + Copy, B: Allocator, C: Allocator + Copy>(
+fn answer_line<W: Sink, A: Allocator + Copy, B: Allocator + Copy>(
     alloc: A,
     sink: &mut W,
-    pending: &mut Pending<B>,
+    pending: &mut Pending<A>,
     line: &LineBuffer,
-    store: &Store<C>,
-    passes: &mut [Pass<'_, C>],
+    store: &Store<B>,
+    passes: &mut Passes<'_, A, B>,
 ) -> Result<(), Device>
     requires few { W.failures sink.old < 2 ^ 64 - 1 }
-    requires whole { AreAllOf store.now passes.old }
-    ensures whole { AreAllOf store.now passes.new }
+    requires whole { AreAllOf store.now (everyone passes.old) }
+    ensures whole { AreAllOf store.now (everyone passes.new) }
     ensures ok { OnOk result (Answered W.takes (Serves store.now) line.now sink.old pending.old passes.old sink.new pending.new passes.new) }
     ensures steady { OnOk result (W.failures sink.new ≡ W.failures sink.old) }
     ensures err { OnErr result (Lost W.takes (Serves store.now) line.now sink.old pending.old passes.old sink.new passes.new) }
@@ -46,17 +48,17 @@ fn answer_line<W: Sink, A: Allocator + Copy, B: Allocator, C: Allocator + Copy>(
 }
 
 // Answers a rest that is not empty, and writes what waits.
-fn finish<W: Sink, A: Allocator + Copy, B: Allocator, C: Allocator + Copy>(
+fn finish<W: Sink, A: Allocator + Copy, B: Allocator + Copy>(
     alloc: A,
     sink: &mut W,
-    pending: &mut Pending<B>,
+    pending: &mut Pending<A>,
     line: &LineBuffer,
-    store: &Store<C>,
-    passes: &mut [Pass<'_, C>],
+    store: &Store<B>,
+    passes: &mut Passes<'_, A, B>,
 ) -> Result<(), Device>
     requires few { W.failures sink.old < 2 ^ 64 - 1 }
-    requires whole { AreAllOf store.now passes.old }
-    ensures whole { AreAllOf store.now passes.new }
+    requires whole { AreAllOf store.now (everyone passes.old) }
+    ensures whole { AreAllOf store.now (everyone passes.new) }
     ensures ok { OnOk result (Closed W.takes (Serves store.now) line.now sink.old pending.old passes.old sink.new passes.new) }
     ensures steady { OnOk result (W.failures sink.new ≡ W.failures sink.old) }
     ensures err { OnErr result (NotClosed W.takes (Serves store.now) line.now sink.old pending.old passes.old sink.new passes.new) }
@@ -77,14 +79,14 @@ fn drive<S: Source, W: Sink, A: Allocator + Copy, B: Allocator + Copy>(
     pending: &mut Pending<A>,
     reader: &mut Reader<A>,
     store: &Store<B>,
-    passes: &mut [Pass<'_, B>],
+    passes: &mut Passes<'_, A, B>,
 ) -> Result<(), Device>
     requires source { S.failures source.old < 2 ^ 64 - 1 }
     requires sink { W.failures sink.old < 2 ^ 64 - 1 }
     requires pending { pending.old ≡ [] }
     requires reader { reader.old ≡ [] }
-    requires whole { AreAllOf store.now passes.old }
-    ensures whole { AreAllOf store.now passes.new }
+    requires whole { AreAllOf store.now (everyone passes.old) }
+    ensures whole { AreAllOf store.now (everyone passes.new) }
     ensures ok { OnOk result (Ran S.gives W.takes (Serves store.now) source.old sink.old passes.old source.new sink.new passes.new) }
     ensures ended { OnOk result (S.left source.new ≡ 0) }
     ensures steady_source { OnOk result (S.failures source.new ≡ S.failures source.old) }
@@ -99,7 +101,7 @@ fn drive<S: Source, W: Sink, A: Allocator + Copy, B: Allocator + Copy>(
     finish(alloc, sink, pending, &line, store, passes)
 }
 
-// Lets the passes settle, and answers all lines.
+// Lets the passes settle, and answers all lines. Then all pins are ended, and the passes settle once more.
 fn settle_and_drive<S: Source, W: Sink, A: Allocator + Copy, B: Allocator + Copy>(
     alloc: A,
     source: &mut S,
@@ -107,28 +109,31 @@ fn settle_and_drive<S: Source, W: Sink, A: Allocator + Copy, B: Allocator + Copy
     pending: &mut Pending<A>,
     reader: &mut Reader<A>,
     store: &Store<B>,
-    passes: &mut [Pass<'_, B>],
+    passes: &mut Passes<'_, A, B>,
 ) -> Result<(), Device>
     requires source { S.failures source.old < 2 ^ 64 - 1 }
     requires sink { W.failures sink.old < 2 ^ 64 - 1 }
     requires pending { pending.old ≡ [] }
     requires reader { reader.old ≡ [] }
-    requires whole { AreAllOf store.now passes.old }
-    ensures whole { AreAllOf store.now passes.new }
-    ensures ok { OnOk result (RanScript S.gives W.takes store.now source.old sink.old passes.old source.new sink.new passes.new) }
+    requires whole { AreAllOf store.now passes.old.free }
+    requires free { passes.old.held ≡ [] }
+    ensures whole { AreAllOf store.now passes.new.free }
+    ensures ok { OnOk result (RanScript S.gives W.takes store.now source.old sink.old passes.old.free source.new sink.new passes.new.free) }
     ensures ended { OnOk result (S.left source.new ≡ 0) }
     ensures steady_source { OnOk result (S.failures source.new ≡ S.failures source.old) }
     ensures steady_sink { OnOk result (W.failures sink.new ≡ W.failures sink.old) }
-    ensures err { OnErr result (StoppedScript S.gives W.takes W.failures store.now source.old sink.old passes.old source.new sink.new passes.new) }
+    ensures err { OnErr result (StoppedScript S.gives W.takes W.failures store.now source.old sink.old passes.old.free source.new sink.new passes.new.free) }
     ensures failed { OnErr result (S.failures source.old + W.failures sink.old < S.failures source.new + W.failures sink.new) }
 {
-    settle(passes, &mut []);
-    drive(alloc, source, sink, pending, reader, store, passes)
+    passes.settle();
+    let driven = drive(alloc, source, sink, pending, reader, store, passes);
+    passes.release_all();
+    driven
 }
 
-/// Answers the lines of the source into the sink, up to the end of the source or to the first failure of a device. The passes settle before the first line and after each.
+/// Answers the lines of the source into the sink, up to the end of the source or to the first failure of a device. The passes settle before the first line and after each; at the end pins are ended, and they settle once more.
 ///
-/// The passes must be all those of the store, in any order. `Memory` comes where a growth at the start was refused, before anything was read, written or changed; `Device` where a read or a write failed. A line takes memory for what its `range`, `prove` or `node` finds alone, and is answered `memory` where that is refused.
+/// The passes must be all those of the store, in any order, and so they are then in the vector again. `Memory` comes where a growth at the start was refused, before anything was read, written or changed; `Device` where a read or a write failed. A line takes memory for what its `range`, `prove` or `node` finds alone, and is answered `memory` where that is refused.
 pub fn run<S: Source, W: Sink, A: Allocator + Copy, B: Allocator + Copy>(
     alloc: A,
     source: &mut S,
@@ -156,15 +161,22 @@ pub fn run<S: Source, W: Sink, A: Allocator + Copy, B: Allocator + Copy>(
     let Ok(mut reader) = Reader::new(alloc) else {
         return Err(RunFault::Memory);
     };
-    match settle_and_drive(
+    let Ok(held) = Vec::with_capacity(alloc, passes.len()) else {
+        return Err(RunFault::Memory);
+    };
+    let none = Vec::new(*passes.allocator());
+    let mut all = Passes::new(mem::replace(passes, none), held);
+    let driven = settle_and_drive(
         alloc,
         source,
         sink,
         &mut pending,
         &mut reader,
         store,
-        passes.as_mut_slice(),
-    ) {
+        &mut all,
+    );
+    *passes = all.into_free();
+    match driven {
         Ok(()) => Ok(()),
         Err(Device) => Err(RunFault::Device),
     }

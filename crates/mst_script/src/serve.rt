@@ -1,152 +1,75 @@
 //! One line, asked of the passes of a store.
-ghost use Rattle.std.specs.Prelude.{◌≡◌, ◌<◌, ◌^◌, length, slice_index_or};
-ghost use Rattle.std.specs.List.{Contains};
-ghost use Rattle.std.specs.Option.{option_copied};
-ghost use Rattle.mst_store.specs.Settling.{numbers};
-ghost use Rattle.mst_requests.specs.declared.request.Command.TheVariants.{Range, Node, Prove};
+ghost use Rattle.std.specs.Prelude.{◌≡◌};
 ghost use Rattle.mst_requests.specs.Answers.{text_of};
-ghost use Rattle.mst_script.specs.Answers.{rows_answer, write_answer};
-ghost use Rattle.mst_script.specs.Serving.{AreAllOf, Asked, Serves, IsPlace, Tops};
+ghost use Rattle.mst_requests.specs.Grammar.{IsDealt};
+ghost use Rattle.mst_script.specs.Serving.{AreAllOf, everyone, is_pin as asks_pin, is_unpin as asks_unpin, Does, Serves};
 
-use mst_key::{Key, Value};
+use crate::passes::{Passes, Place};
 use mst_lines::LineBuffer;
-use mst_node::top_text;
-use mst_requests::{Answer, Command, request_in};
-use mst_store::{Busy, Memory, Pass, Store, WriteFault, settle};
+use mst_requests::{Answer, Command, Request, request_in};
+use mst_store::Store;
 use std::alloc::Allocator;
 
-// How many rows the map takes, as an answer.
-fn rows_answer_of<A: Allocator>(found: Result<Option<u32>, Busy>) -> Answer<A>
-    ensures { result ≡ rows_answer found }
+// Whether a pass is asked to pin a version.
+fn is_pin(command: &Command) -> bool
+    ensures { result ≡ asks_pin command.now }
 {
-    match found {
-        Ok(rows) => Answer::Rows(rows),
-        Err(Busy) => Answer::Busy,
-    }
+    matches!(command, Command::Pin)
 }
 
-// What a write answered, as an answer.
-fn write_answer_of<A: Allocator>(written: Result<Option<Value>, WriteFault>) -> Answer<A>
-    ensures { result ≡ write_answer written }
+// Whether a pass is asked to end its pin.
+fn is_unpin(command: &Command) -> bool
+    ensures { result ≡ asks_unpin command.now }
 {
-    match written {
-        Ok(old) => Answer::Value(old),
-        Err(WriteFault::Busy) => Answer::Busy,
-        Err(WriteFault::VersionsSpent) => Answer::Spent,
-        Err(WriteFault::NoRoom) => Answer::NoRoom,
-    }
+    matches!(command, Command::Unpin)
 }
 
-// Asks a pass for the pairs between two bounds.
-fn ask_range<A: Allocator, B: Allocator + Copy>(
+// Lets the pass that is named do what it is asked for.
+fn answer<A: Allocator + Copy, B: Allocator, C: Allocator + Copy>(
     alloc: A,
-    pass: &mut Pass<'_, B>,
-    from: Option<&Key>,
-    to: Option<&Key>,
-    limit: u32,
+    store: &Store<C>,
+    passes: &mut Passes<'_, B, C>,
+    request: &Request,
 ) -> Answer<A>
-    ensures { Asked (Range (option_copied from.entry) (option_copied to.entry) limit) pass.old (text_of result) pass.new }
+    requires whole { AreAllOf store.now (everyone passes.old) }
+    requires dealt { IsDealt store.now.passes request.now }
+    ensures whole { AreAllOf store.now (everyone passes.new) }
+    ensures does { Does store.now request.now.pass request.now.command passes.old (text_of result) passes.new }
 {
-    match pass.range(alloc, from, to, limit as usize) {
-        Ok(pairs) => Answer::Pairs(pairs),
-        Err(Memory) => Answer::Memory,
-    }
-}
-
-// Asks a pass for the proof of the map's answer for a key.
-fn ask_proof<A: Allocator + Copy, B: Allocator + Copy>(
-    alloc: A,
-    pass: &mut Pass<'_, B>,
-    key: &Key,
-) -> Answer<A>
-    ensures { Asked (Prove key.now) pass.old (text_of result) pass.new }
-{
-    match pass.prove(alloc, key) {
-        Ok(proof) => Answer::Bytes(proof),
-        Err(Memory) => Answer::Memory,
-    }
-}
-
-// The text of the top node, which stands first in each proof.
-fn top_of<A: Allocator>(alloc: A, proof: &[u8]) -> Answer<A>
-    requires short { length proof.now < 2 ^ 32 }
-    ensures { Tops proof.now (text_of result) }
-{
-    let Some(top) = top_text(proof) else {
-        return Answer::NoNode;
-    };
-    match top.to_vec(alloc) {
-        Ok(text) => Answer::Bytes(text),
-        Err(_) => Answer::Memory,
-    }
-}
-
-// Asks a pass for the text of the top node.
-fn ask_node<A: Allocator + Copy, B: Allocator + Copy>(alloc: A, pass: &mut Pass<'_, B>) -> Answer<A>
-    ensures { Asked Node pass.old (text_of result) pass.new }
-{
-    let Ok(least) = Key::new(&[0]) else {
-        unreachable!();
-    };
-    match pass.prove(alloc, &least) {
-        Ok(proof) => top_of(alloc, proof.as_slice()),
-        Err(Memory) => Answer::Memory,
-    }
-}
-
-// Lets a pass do what it is asked for.
-fn ask<A: Allocator + Copy, B: Allocator + Copy>(
-    alloc: A,
-    pass: &mut Pass<'_, B>,
-    command: &Command,
-) -> Answer<A>
-    ensures { Asked command.now pass.old (text_of result) pass.new }
-{
-    match command {
-        Command::Put(key, value) => write_answer_of(pass.try_put(key, value)),
-        Command::Remove(key) => write_answer_of(pass.try_remove(key)),
-        Command::Get(key) => Answer::Value(pass.get(key)),
-        Command::Next(bound) => Answer::Pair(pass.next(bound.as_ref())),
-        Command::Range(from, to, limit) => {
-            ask_range(alloc, pass, from.as_ref(), to.as_ref(), *limit)
+    let command = &request.command;
+    match passes.find(request.pass) {
+        Place::Free(place) => {
+            if is_pin(command) {
+                return Answer::Pinned(passes.pin(place));
+            }
+            passes.ask(alloc, place, command)
         }
-        Command::Root => Answer::Root(pass.root()),
-        Command::Node => ask_node(alloc, pass),
-        Command::Prove(key) => ask_proof(alloc, pass, key),
-        Command::Rows => rows_answer_of(pass.rows()),
-    }
-}
-
-// The place of the pass with this number.
-fn place_of<B: Allocator + Copy>(passes: &[Pass<'_, B>], number: u32) -> usize
-    requires { Contains (numbers passes.now) number }
-    ensures { IsPlace passes.now number result }
-{
-    for (place, pass) in passes.iter().enumerate() {
-        if pass.number() == number {
-            return place;
+        Place::Held(place) => {
+            if is_unpin(command) {
+                passes.unpin(place);
+                return Answer::Unpinned;
+            }
+            passes.recall(alloc, place, command)
         }
     }
-    0
 }
 
 /// Lets the pass that a line names do what the line asks, and then all passes settle.
-pub fn serve<A: Allocator + Copy, B: Allocator + Copy>(
+pub fn serve<A: Allocator + Copy, B: Allocator, C: Allocator + Copy>(
     alloc: A,
-    store: &Store<B>,
-    passes: &mut [Pass<'_, B>],
+    store: &Store<C>,
+    passes: &mut Passes<'_, B, C>,
     line: &LineBuffer,
 ) -> Answer<A>
-    requires whole { AreAllOf store.now passes.old }
-    ensures whole { AreAllOf store.now passes.new }
+    requires whole { AreAllOf store.now (everyone passes.old) }
+    ensures whole { AreAllOf store.now (everyone passes.new) }
     ensures serves { Serves store.now passes.old line.now (text_of result) passes.new }
 {
     let request = match request_in(line, store.passes()) {
         Ok(request) => request,
         Err(fault) => return Answer::Refused(fault),
     };
-    let place = place_of(passes, request.pass);
-    let answer = ask(alloc, &mut passes[place], &request.command);
-    settle(passes, &mut []);
+    let answer = answer(alloc, store, passes, &request);
+    passes.settle();
     answer
 }

@@ -46,3 +46,32 @@ fn rows_run_out(rt: HostRuntime) -> Result<(), Fail> {
     assert_eq!(rt; outcome.status, 0);
     Ok(())
 }
+
+// A pinned version in the least stores that serve the script, and in one where its rows leave no room.
+#[test]
+fn pins_are_answered(rt: HostRuntime) -> Result<(), Fail> {
+    let rows: [(&[&str], &[u8], &str); 3] = [
+        (
+            &["mst", "run", "--passes", "2"],
+            b"1 put 61 31\n1 pin\n2 put 61 32\n1 get 61\n1 put 62 33\n2 rows\n1 unpin\n1 get 61\n2 rows\n",
+            "none\npinned 1\nsome 31\nsome 31\nfault L6\nheld\nunpinned\nsome 32\nrows 2\n",
+        ),
+        (
+            &["mst", "run", "--rows", "6", "--passes", "2"],
+            b"1 put 61 31\n1 pin\n2 put 61 32\n2 put 61 33\n2 put 61 34\n1 get 61\n1 range - - 10\n1 prove 61\n",
+            "none\npinned 1\nsome 31\nsome 32\nsome 33\nsome 31\npairs 1\npair 61 31\n01010000000a01000001000161013100\n",
+        ),
+        (
+            &["mst", "run", "--rows", "5", "--passes", "2"],
+            b"1 put 61 31\n1 pin\n2 put 61 32\n2 put 61 33\n2 get 61\n1 unpin\n2 put 61 33\n",
+            "none\npinned 1\nsome 31\nnoroom\nsome 32\nunpinned\nsome 32\n",
+        ),
+    ];
+    for (words, script, answers) in rows {
+        let outcome = outcome_of(rt.alloc(), words, script)?;
+        assert_eq!(rt; outcome.out.as_slice(), answers.as_bytes());
+        assert_eq!(rt; outcome.err.len(), 0);
+        assert_eq!(rt; outcome.status, 0);
+    }
+    Ok(())
+}

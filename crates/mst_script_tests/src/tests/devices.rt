@@ -1,81 +1,40 @@
-//! Devices and memory that fail, and devices that take their time.
+//! Devices that fail, and devices that take their time.
+use super::failing::{Reader, Writer};
 use super::run_over;
-use linked_list_allocator::LocalHeap;
 use mst_devices::{BytesSink, BytesSource, Device, StdSink, StdSource};
 use mst_script::RunFault;
 use mst_store::Shape;
-use std::alloc::Global;
-use std::io::{self, Read, Write};
-use std::process::Abort;
+use std::alloc::{AllocError, Global};
 use std::test::Fail;
 
 const SCRIPT: &[u8] = b"1 put 61 31\n2 put 616263 78\n3 range - - 10\n1 frob\n4 get 61";
 
 const ANSWERS: &[u8] = b"none\nnone\npairs 2\npair 61 31\npair 616263 78\nfault L3\nsome 31\n";
 
-const NO_MEMORY: &[u8] = b"none\nnone\nmemory\nfault L3\nsome 31\n";
+/// The lines of a script in which a pass pins a version, and their answers.
+const PINS: [(&[u8], &[u8]); 9] = [
+    (b"1 put 61 31\n", b"none\n"),
+    (b"1 pin\n", b"pinned 1\n"),
+    (b"2 put 61 32\n", b"some 31\n"),
+    (b"1 get 61\n", b"some 31\n"),
+    (b"1 put 62 33\n", b"fault L6\n"),
+    (b"2 rows\n", b"held\n"),
+    (b"1 unpin\n", b"unpinned\n"),
+    (b"1 get 61\n", b"some 32\n"),
+    (b"2 rows\n", b"rows 2\n"),
+];
 
 const SHAPE: Shape = Shape { rows: 5, passes: 4 };
 
-/// Reads at most so many bytes at a time, and fails after so many reads.
-#[derive(Drop)]
-struct Reader<'a> {
-    rest: &'a [u8],
-    most: usize,
-    reads: u64,
-}
-
-impl<'a> Read for Reader<'a> {
-    fn read(&mut self, buf: &mut [u8]) -> io::Result<usize> {
-        if self.reads == 0 {
-            return Err(io::Error::from(io::ErrorKind::BrokenPipe));
-        }
-        self.reads -= 1;
-        let count = self.rest.len().min(buf.len()).min(self.most);
-        let (front, rest) = self.rest.split_at(count);
-        buf[..count].copy_from_slice(front);
-        self.rest = rest;
-        Ok(count)
+/// All lines of the script of a pin, and all answers.
+fn pins(alloc: Global) -> Result<(Vec<u8>, Vec<u8>), AllocError> {
+    let mut script = Vec::new(alloc);
+    let mut answers = Vec::new(alloc);
+    for (line, answer) in PINS {
+        script.extend_from_slice(line)?;
+        answers.extend_from_slice(answer)?;
     }
-}
-
-/// Writes at most so many bytes at a time, and fails after so many writes: by a write of 0 or an error.
-#[derive(Drop)]
-struct Writer {
-    bytes: Vec<u8>,
-    most: usize,
-    writes: u64,
-    by_zero: bool,
-}
-
-impl Writer {
-    fn new(alloc: Global, most: usize, writes: u64, by_zero: bool) -> Writer {
-        Writer {
-            bytes: Vec::new(alloc),
-            most,
-            writes,
-            by_zero,
-        }
-    }
-}
-
-impl Write for Writer {
-    fn write(&mut self, buf: &[u8]) -> io::Result<usize> {
-        if self.writes == 0 {
-            if self.by_zero {
-                return Ok(0);
-            }
-            return Err(io::Error::from(io::ErrorKind::BrokenPipe));
-        }
-        self.writes -= 1;
-        let count = buf.len().min(self.most);
-        self.bytes.extend_from_slice(&buf[..count])?;
-        Ok(count)
-    }
-
-    fn flush(&mut self) -> io::Result<()> {
-        Ok(())
-    }
+    Ok((script, answers))
 }
 
 /// Runs the script between such devices.
@@ -102,6 +61,21 @@ fn devices_may_take_their_time(rt: HostRuntime) -> Result<(), Fail> {
         );
         assert!(rt; ran.is_ok());
     }
+    Ok(())
+}
+
+#[test]
+fn devices_may_take_their_time_under_pins(rt: HostRuntime) -> Result<(), Fail> {
+    let (script, answers) = pins(rt.alloc())?;
+    let reader = Reader {
+        rest: script.as_slice(),
+        most: 1,
+        reads: u64::MAX,
+    };
+    let mut out = Writer::new(rt.alloc(), 1, u64::MAX, false);
+    let ran = run_between(rt.alloc(), reader, &mut out);
+    assert!(rt; out.bytes.as_slice() == answers.as_slice());
+    assert!(rt; ran.is_ok());
     Ok(())
 }
 
@@ -136,6 +110,29 @@ fn reads_fail(rt: HostRuntime) -> Result<(), Fail> {
     Ok(())
 }
 
+// Reads of one byte, so that each fails in turn; no line is complete before its newline.
+#[test]
+fn reads_fail_under_pins(rt: HostRuntime) -> Result<(), Fail> {
+    let mut read = Vec::new(rt.alloc());
+    let mut answers = Vec::new(rt.alloc());
+    for (line, answer) in PINS {
+        for byte in line {
+            let reader = Reader {
+                rest: read.as_slice(),
+                most: 1,
+                reads: read.len() as u64,
+            };
+            let mut out = Writer::new(rt.alloc(), 1, u64::MAX, false);
+            let ran = run_between(rt.alloc(), reader, &mut out);
+            assert!(rt; out.bytes.as_slice() == answers.as_slice());
+            assert!(rt; matches!(ran, Err(RunFault::Device)));
+            read.push(*byte)?;
+        }
+        answers.extend_from_slice(answer)?;
+    }
+    Ok(())
+}
+
 // With a write that fails, what was written is a beginning of the answers.
 #[test]
 fn writes_fail(rt: HostRuntime) -> Result<(), Fail> {
@@ -156,77 +153,23 @@ fn writes_fail(rt: HostRuntime) -> Result<(), Fail> {
     Ok(())
 }
 
-// What the script is answered where such a heap gives the memory of the run; none where that is too small for the start.
-fn answers_in_heap(
-    rt: &impl Abort,
-    alloc: Global,
-    bytes: usize,
-    script: &[u8],
-) -> Result<Option<Vec<u8>>, Fail> {
-    let heap = LocalHeap::new(alloc, bytes)?;
-    let mut source = BytesSource::new(script);
-    let mut sink = BytesSink::new(alloc, 128)?;
-    match run_over(alloc, &heap, SHAPE, &mut source, &mut sink) {
-        Ok(()) => Ok(Some(sink.bytes().to_vec(alloc)?)),
-        Err(why) => {
-            assert!(rt; why == RunFault::Memory);
-            assert!(rt; sink.bytes().is_empty());
-            Ok(None)
-        }
-    }
-}
-
-// A heap of each size: too small for the start, then for the pairs of the range alone, and then large enough for all.
 #[test]
-fn growths_are_refused(rt: HostRuntime) -> Result<(), Fail> {
-    let mut at_start = false;
-    let mut at_range = false;
-    let mut enough = false;
-    for step in 0..1_200 {
-        let bytes = if step < 200 {
-            1_024 * step
-        } else {
-            130_000 + 8 * step
-        };
-        match answers_in_heap(&rt, rt.alloc(), 64 + bytes, SCRIPT)? {
-            None => at_start = true,
-            Some(answers) if answers.as_slice() == ANSWERS => enough = true,
-            Some(answers) => {
-                assert!(rt; answers.as_slice() == NO_MEMORY, "in {bytes} bytes");
-                at_range = true;
-            }
+fn writes_fail_under_pins(rt: HostRuntime) -> Result<(), Fail> {
+    let (script, answers) = pins(rt.alloc())?;
+    for by_zero in [false, true] {
+        for writes in 0..answers.len() as u64 {
+            let reader = Reader {
+                rest: script.as_slice(),
+                most: 9,
+                reads: u64::MAX,
+            };
+            let mut out = Writer::new(rt.alloc(), 1, writes, by_zero);
+            let ran = run_between(rt.alloc(), reader, &mut out);
+            assert!(rt; out.bytes.len() as u64 == writes, "after {writes} writes");
+            assert!(rt; answers.starts_with(out.bytes.as_slice()));
+            assert!(rt; matches!(ran, Err(RunFault::Device)));
         }
     }
-    assert!(rt; at_start && at_range && enough);
-    Ok(())
-}
-
-const PROOFS: &[u8] = b"1 put 61 31\n1 prove 61\n1 node\n1 get 61";
-
-const PROVED: &[u8] = b"none\n01010000000a01000001000161013100\n01000001000161013100\nsome 31\n";
-
-// The text of the node takes a little more memory than the proof in which it stands.
-const NO_NODE: &[u8] = b"none\n01010000000a01000001000161013100\nmemory\nsome 31\n";
-
-const NO_PROOF: &[u8] = b"none\nmemory\nmemory\nsome 31\n";
-
-// A heap that is large enough for the start, too small for a proof at first, and then large enough for all.
-#[test]
-fn proofs_are_refused(rt: HostRuntime) -> Result<(), Fail> {
-    let mut refused = false;
-    let mut enough = false;
-    for step in 0..200 {
-        match answers_in_heap(&rt, rt.alloc(), 130_900 + 8 * step, PROOFS)? {
-            None => {}
-            Some(answers) if answers.as_slice() == PROVED => enough = true,
-            Some(answers) => {
-                let answers = answers.as_slice();
-                assert!(rt; answers == NO_NODE || answers == NO_PROOF, "at step {step}");
-                refused = true;
-            }
-        }
-    }
-    assert!(rt; refused && enough);
     Ok(())
 }
 

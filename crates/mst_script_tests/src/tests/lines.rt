@@ -1,5 +1,5 @@
 //! Lines and their answers.
-use super::answers_to;
+use super::{answers_to, each_follows};
 use std::alloc::{AllocError, Global};
 use std::process::Abort;
 use std::test::Fail;
@@ -86,7 +86,9 @@ fn command_is_not_known(rt: HostRuntime) -> Result<(), Fail> {
         "1 frob - - -",
         "1 GET 61",
         "1 root\r",
-        "1 unpin",
+        "1 pins",
+        "1 Pin",
+        "1 unpinned",
         "1 nodes",
         "1 proof 61",
         "1 ge",
@@ -118,6 +120,9 @@ fn fields_are_too_few_or_too_many(rt: HostRuntime) -> Result<(), Fail> {
         "1 prove",
         "1 prove 61 62",
         "1 rows ",
+        "1 pin ",
+        "1 pin 61",
+        "1 unpin -",
         "1 rows 1",
     ];
     each_is_answered(&rt, rt.alloc(), &lines, "fault L4\n")
@@ -230,22 +235,22 @@ fn long_lines_are_skipped(rt: HostRuntime) -> Result<(), Fail> {
     Ok(())
 }
 
-const TWO_PUTS: &str = "1 put 616263 78\n1 put 61 31\n";
-
-// What more lines are answered after two puts, of which the later has the lesser key.
-fn each_follows_two_puts(
-    rt: &impl Abort,
-    alloc: Global,
-    rows: &[(&str, &str)],
-) -> Result<(), Fail> {
-    for (more, answers) in rows {
-        let script = format!(in alloc; "{TWO_PUTS}{more}")?;
-        let expected = format!(in alloc; "none\nnone\n{answers}")?;
-        let found = answers_to(alloc, script.as_bytes())?;
-        assert!(rt; found.as_slice() == expected.as_bytes(), "to {more}");
-    }
+// Each fault in turn, by one script.
+#[test]
+fn faults_change_nothing(rt: HostRuntime) -> Result<(), Fail> {
+    let lines = "9 get 61\n\n1 frob\n1 get\n1 get  61\n1 get 6\n1 get 6g\n1 get \n1 unpin\n1 put ";
+    let mut script = lines.as_bytes().to_vec(rt.alloc())?;
+    script.resize(lines.len() + 4_091, b'6')?;
+    script.extend_from_slice(b"\n1 next -")?;
+    let answers = answers_to(rt.alloc(), script.as_slice())?;
+    let expected =
+        "fault L2\nfault L2\nfault L3\nfault L4\nfault L4\nfault L5\nfault L5\nfault L5\nfault L6\nfault L1\nnone\n";
+    assert!(rt; answers.as_slice() == expected.as_bytes());
     Ok(())
 }
+
+// Two puts, of which the later has the lesser key.
+const TWO_PUTS: (&str, &str) = ("1 put 616263 78\n1 put 61 31\n", "none\nnone\n");
 
 #[test]
 fn reads_find_what_was_put(rt: HostRuntime) -> Result<(), Fail> {
@@ -265,7 +270,7 @@ fn reads_find_what_was_put(rt: HostRuntime) -> Result<(), Fail> {
         ("1 next 60", "pair 61 31\n"),
         ("1 next 616263", "none\n"),
     ];
-    each_follows_two_puts(&rt, rt.alloc(), &rows)
+    each_follows(&rt, rt.alloc(), TWO_PUTS, &rows)
 }
 
 #[test]
@@ -284,7 +289,7 @@ fn writes_change_what_was_put(rt: HostRuntime) -> Result<(), Fail> {
             "some 31\nd4a8a9fc55058427163bd8a1f09ca5ec542de1cdaf28df100be5472e47b72503\nfault L2\nsome 31\n",
         ),
     ];
-    each_follows_two_puts(&rt, rt.alloc(), &rows)
+    each_follows(&rt, rt.alloc(), TWO_PUTS, &rows)
 }
 
 // The root digest depends on the pairs, and not on how they came.

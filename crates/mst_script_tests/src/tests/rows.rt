@@ -1,24 +1,6 @@
 //! Stores that run out of rows.
-use super::answers_over;
-use std::alloc::Global;
-use std::process::Abort;
+use super::each_is_answered;
 use std::test::Fail;
-
-// Each script is given to a new store of so many rows.
-fn each_is_answered(
-    rt: &impl Abort,
-    alloc: Global,
-    scripts: &[(u32, &str, &str)],
-) -> Result<(), Fail> {
-    for (rows, script, expected) in scripts {
-        let answers = answers_over(alloc, *rows, script.as_bytes())?;
-        assert!(rt;
-            answers.as_slice() == expected.as_bytes(),
-            "in {rows} rows to {script}"
-        );
-    }
-    Ok(())
-}
 
 // Beside the rows of the map that stands, a write takes a row for each entry and for each node that it makes new.
 #[test]
@@ -26,26 +8,31 @@ fn writes_take_rows(rt: HostRuntime) -> Result<(), Fail> {
     let scripts = [
         (
             4,
+            4,
             "1 put 31 78\n1 put 61 7a\n1 del 7a\n1 put 31 78\n1 put 31 79",
             "none\nnoroom\nnone\nsome 78\nsome 78\n",
         ),
         (
             5,
+            4,
             "1 put 31 78\n1 put 61 7a\n1 put 31 79\n1 get 31",
             "none\nnone\nnoroom\nsome 78\n",
         ),
         (
             6,
+            4,
             "1 put 31 78\n1 put 61 7a\n1 put 31 79",
             "none\nnone\nsome 78\n",
         ),
         (
             9,
+            4,
             "1 put 31 78\n1 put 61 7a\n1 put 3339 79\n1 put 31 79",
             "none\nnone\nnone\nnoroom\n",
         ),
         (
             10,
+            4,
             "1 put 31 78\n1 put 61 7a\n1 put 3339 79\n1 put 31 79\n1 rows",
             "none\nnone\nnone\nsome 78\nrows 6\n",
         ),
@@ -64,11 +51,13 @@ fn rows_come_back(rt: HostRuntime) -> Result<(), Fail> {
     let scripts = [
         (
             9,
+            4,
             "1 put 31 78\n1 put 61 7a\n1 root\n1 put 3339 79\n1 rows\n1 del 3339\n1 rows\n1 root",
             removed.as_str(),
         ),
         (
             8,
+            4,
             "1 put 31 78\n1 put 61 7a\n1 put 3339 79\n1 root\n1 rows",
             refused.as_str(),
         ),

@@ -73,5 +73,17 @@ as_slice-requires-9 c = search rules
 pub returns-then-eq-9 : goal.returns-then-eq-9
 returns-then-eq-9 c = search rules
 
+pub as_slice-requires-10 : goal.as_slice-requires-10
+as_slice-requires-10 c = search rules
+
+pub returns-then-eq-10 : goal.returns-then-eq-10
+returns-then-eq-10 c = search rules
+
+pub as_slice-requires-11 : goal.as_slice-requires-11
+as_slice-requires-11 c = search rules
+
+pub returns-then-eq-11 : goal.returns-then-eq-11
+returns-then-eq-11 c = search rules
+
 pub returns : goal.returns
 returns c = search rules

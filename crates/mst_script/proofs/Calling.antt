@@ -1,0 +1,93 @@
+-- A call of a pass is a turn at which the machine answers so.
+use Rattle.std.proofs.Common.{◌≡◌, ℕ, List, [], ◌∷◌, sym, refl, ap, ◌∙◌, subst, append-nil, inl, inr, ◌⊎◌, Option, Some}
+use Rattle.std.specs.Prelude.{Result, Ok, Err, IfOk, IfErr, IfSome, IsSome, OnOk, OnErr, None}
+use Rattle.std.proofs.lemmas.Bool.{false≢true}
+use Rattle.mst_key.specs.declared.history.Change.{Change}
+use Rattle.mst_key.specs.Map.{Pair}
+use Rattle.mst_key.specs.History.{History, after}
+use Rattle.mst_key.proofs.HistoryLaws.{Begins-itself}
+use Rattle.mst_store.specs.declared.faults.WriteFault.{WriteFault}
+use Rattle.mst_store.specs.declared.faults.WriteFault.TheVariants as write
+use Rattle.mst_store.specs.Writes.{rows_of}
+use Rattle.mst_store.specs.Passes.{StoreId, Known, having_asked, LacksRoom, made_by, Looks, Answers, Wrote, Refuses, FindsBusy}
+use Rattle.mst_requests.specs.declared.answer.Answer.{Answer}
+use Rattle.mst_requests.specs.Answers.{text_of}
+use Rattle.mst_script.specs.Answers.{rows_answer, write_answer}
+use Rattle.mst_requests.specs.Texts.{line_of, value_words, rows_words}
+use Rattle.mst_requests.specs.declared.request.Command.{Command}
+use Rattle.mst_script.specs.Machine.{LacksMemory, Writes, Counts, Acts}
+use Rattle.mst_script.specs.Serving.{Turn, Asked}
+use Rattle.mst_script.proofs.Gathering.{looked}
+
+-- the pass asked, and neither saw nor did anything
+idle : (n : ℕ) (p : Known) → Turn p.seen [] p (having_asked n p)
+idle n p = record { same = (refl, refl); later = Begins-itself p.seen; seen = sym (append-nil p.seen); mine = sym (append-nil p.mine); own = tt }
+
+pub unmoved : (p : Known) → Turn p.seen [] p p
+unmoved p = record { same = (refl, refl); later = Begins-itself p.seen; seen = sym (append-nil p.seen); mine = sym (append-nil p.mine); own = tt }
+
+pub idle_of : (n : ℕ) (p q : Known) → q ≡ having_asked n p → Turn p.seen [] p q
+idle_of n p q is = subst (λ (x : Known). Turn p.seen [] p x) (sym is) (idle n p)
+
+pub idle_seen : (n : ℕ) (p q : Known) → q ≡ having_asked n p → q.seen ≡ p.seen
+idle_seen n p q is = ap (λ (x : Known). x.seen) is
+
+-- a call of a pass, with what it says of the machine's step
+abbrev pub Calls : (Known → History → History → Type 0) → Known → Known → Type 0
+Calls step p q = (log : History) × (t : History) × Turn log t p q × step p log q.seen
+
+store_is : (p q : Known) → Looks p q → q.store ≡ p.store
+store_is p q l = l.same.0
+
+-- ---- reads
+
+abbrev ReadsSo : (List Pair → List ℕ) → List ℕ → Known → History → History → Type 0
+ReadsSo question text p log new = (text ≡ question (after log)) × (new ≡ log)
+
+pub read_found : {R : Type 0} (question : List Pair → R) (words : R → List ℕ) (text : List ℕ) (p q : Known) (answer : R) → Answers question p answer q → text ≡ words answer → Calls (ReadsSo (λ m. words (question m)) text) p q
+read_found question words text p q answer a is = (q.seen, [], looked p q a.looks, (is ∙ ap words a.answer_is, refl))
+
+-- ---- reads that take memory
+
+abbrev CollectsSo : (List Pair → List ℕ) → List ℕ → Known → History → History → Type 0
+CollectsSo question text p log new = ((text ≡ question (after log)) ⊎ LacksMemory text) × (new ≡ log)
+
+pub collected : (question : List Pair → List ℕ) (text : List ℕ) (p q : Known) → Looks p q → (text ≡ question (after q.seen)) ⊎ LacksMemory text → Calls (CollectsSo question text) p q
+collected question text p q l is = (q.seen, [], looked p q l, (is, refl))
+
+pub missed : (question : List Pair → List ℕ) (text : List ℕ) (p q : Known) → q ≡ having_asked 1 p → LacksMemory text → Calls (CollectsSo question text) p q
+missed question text p q same is = (p.seen, [], idle_of 1 p q same, (inr is, idle_seen 1 p q same))
+
+-- ---- the count of rows
+
+abbrev CountsSo : List ℕ → Known → History → History → Type 0
+CountsSo text p log new = Counts p.store log text new
+
+pub counted : {A E : Type 0} (p q : Known) (r : Result (Option ℕ) E) (a : Answer A) → a ≡ rows_answer r → OnOk r (Looks p q) →
+    IfOk r (λ found. IfSome found (λ n. n ≡ rows_of (after q.seen))) → IfOk r (λ found. p.store.passes ≡ 1 → IsSome found) → OnErr r (FindsBusy p q) → Calls (CountsSo (text_of a)) p q
+counted p q (Ok (Some n)) a is looks some alone busy = (q.seen, [], looked p q looks, (inl (ap text_of is ∙ ap (λ (x : ℕ). line_of (rows_words (Some x))) some), refl))
+counted p q (Ok None) a is looks some alone busy = (q.seen, [], looked p q looks, (inr (inr (ap text_of is, λ one. false≢true (alone one))), refl))
+counted p q (Err e) a is looks some alone busy = (p.seen, [], idle_of 1 p q busy.0, (inr (inl (ap text_of is, busy.1)), idle_seen 1 p q busy.0))
+
+-- ---- writes
+
+abbrev WritesSo : Change → List ℕ → Known → History → History → Type 0
+WritesSo change text p log new = Writes p.store p.number change log text new
+
+pub written : {A : Type 0} (change : Change) (p q : Known) (r : Result (Option (List ℕ)) WriteFault) (a : Answer A) → a ≡ write_answer r →
+    IfOk r (λ old. Wrote (made_by p change) p old q) → IfErr r (λ fault. Refuses fault change p q) → Calls (WritesSo change (text_of a)) p q
+written change p q (Ok old) a is ok err = (
+  ok.log,
+  made_by p change ∷ [],
+  record { same = ok.same; later = ok.later; seen = ok.seen; mine = ok.mine; own = (refl, tt) },
+  inl (record { answer = ap text_of is ∙ ap (λ x. line_of (value_words x)) ok.answer; added = ok.seen; numbered = ok.numbered; room = ok.room }),
+)
+written change p q (Err write.Busy) a is ok err = (p.seen, [], idle_of 1 p q err.0, inr (inl (ap text_of is, err.1), idle_seen 1 p q err.0))
+written change p q (Err write.VersionsSpent) a is ok err = (q.seen, [], looked p q err.0, inr (inr (inl (ap text_of is, err.1)), refl))
+written change p q (Err write.NoRoom) a is ok err =
+    (q.seen, [], looked p q err.0, inr (inr (inr (ap text_of is, err.1, λ one. subst (λ (s : StoreId). LacksRoom s.rows (after q.seen) change) (store_is p q err.0) (err.2 one), err.4)), refl))
+
+-- ---- commands
+
+pub asked : (command c : Command) (p q : Known) (text : List ℕ) → command ≡ c → Calls (λ x log new. Acts x.store x.number c log text new) p q → Asked command p text q
+asked command c p q text is d = record { log = d.0; t = d.1; turn = d.2; step = subst (λ (k : Command). Acts p.store p.number k d.0 text q.seen) (sym is) d.3 }

@@ -1,0 +1,24 @@
+use Rattle.std.proofs.Common.{rules}
+use Rattle.std.proofs.Common.{refl}
+use Rattle.mst_key.specs.declared.format.Format.TheVariants.{One}
+use Rattle.mst_node.specs.Tree.{tree}
+use Rattle.mst_requests.specs.declared.request.Command.TheVariants.{Node}
+use Rattle.std.specs.Prelude.{codes}
+use Rattle.mst_requests.specs.Texts.{line_of}
+use Rattle.mst_script.specs.Machine.{top_words}
+use Rattle.mst_script.proofs.Calling.{asked, missed}
+use Rattle.mst_script.proofs.asking.ask_node.Goals as goal
+
+pub returns-in-Err : goal.returns-in-Err
+returns-in-Err g c = let p = c.args.pass.now in let q = c.prove.new.self in
+    asked Node Node p q (line_of (codes "memory")) refl
+    (missed (λ m. line_of (top_words (tree One m))) (line_of (codes "memory")) p q c.in-Err.ensures.memory refl)
+
+pub unreachable-requires : goal.unreachable-requires
+unreachable-requires g c = search rules
+
+pub unreachable-unreachable : goal.unreachable-unreachable
+unreachable-unreachable g c = search rules
+
+pub returns-in-Ok-prove : goal.returns-in-Ok-prove
+returns-in-Ok-prove g c = search rules

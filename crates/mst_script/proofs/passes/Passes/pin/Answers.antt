@@ -1,0 +1,19 @@
+use Rattle.std.proofs.Common.{◌≡◌, ◌++◌, ◌∷◌, [], get_or, rules, ap, ◌∙◌}
+use Rattle.std.specs.List.{swap_remove}
+use Rattle.mst_script.proofs.passes.Passes.pin.Goals as goal
+
+pub returns : goal.returns
+returns g c =
+    let free : c.self.inside.free.items ≡ c.args.self.now.free = search rules in
+    let held : c.self.inside.held.items ≡ c.args.self.now.held = search rules in
+    let p = c.swap_remove.result in record {
+      pins = record {
+        p = p;
+        q = c.pin-pinned.result;
+        here = c.swap_remove.ensures.value ∙ ap (λ xs. get_or xs c.args.place p) free;
+        looks = c.pin-pinned.ensures.looks;
+        version_is = c.version-version.ensures.version;
+        free = c.swap_remove.ensures.items ∙ ap (λ xs. swap_remove xs c.args.place p) free;
+        held = c.push_reserved.ensures.items ∙ ap (λ xs. xs ++ c.pin-pinned.result ∷ []) held;
+      };
+    }

@@ -1,0 +1,15 @@
+use Rattle.std.proofs.Common.{◌++◌, ◌+◌, ◌≤◌, vec_len, vec_capacity}
+use Rattle.std.specs.List.Sorted.{IsPermutation}
+use Rattle.mst_script.specs.Serving.{everyone}
+use Rattle.mst_script.proofs.passes.Passes.unpin_all.Given as goal
+
+-- the passes are still all there, with room on either side
+abbrev pub invariant-loop-pinned : goal.invariant-loop-pinned
+invariant-loop-pinned g l = record {
+  same : IsPermutation (everyone l.fn.self) (l.self-inside.free.items ++ l.self-inside.held.items);
+  free_room : vec_len l.self-inside.free + vec_len l.self-inside.held ≤ vec_capacity l.self-inside.free;
+  held_room : vec_len l.self-inside.free + vec_len l.self-inside.held ≤ vec_capacity l.self-inside.held;
+}
+
+abbrev pub decreases-loop-pinned : goal.decreases-loop-pinned
+decreases-loop-pinned g l = vec_len l.self-inside.held

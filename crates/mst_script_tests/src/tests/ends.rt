@@ -1,0 +1,124 @@
+//! What a run leaves behind: all passes, and none of them pinned.
+ghost use Rattle.std.specs.Prelude.{◌<◌, ◌-◌, ◌^◌};
+
+use super::failing::{Reader, Writer};
+use mst_devices::{BytesSink, BytesSource, Sink, Source, StdSink, StdSource};
+use mst_script::{RunFault, run};
+use mst_store::{Pass, Shape, Store};
+use std::alloc::Global;
+use std::test::Fail;
+
+// Three versions are pinned, and no pin is ended.
+const PINS: &[u8] = b"1 pin\n2 put 61 30\n2 pin\n3 put 61 31\n1 get 61\n4 pin\n3 rows\n";
+
+const PINNED: &[u8] = b"pinned 0\nnone\npinned 1\nsome 30\nnone\npinned 2\nheld\n";
+
+// Each pass writes and counts, which no pinned pass does; a version that is kept would leave too little room.
+const AGAIN: &[u8] =
+    b"1 put 61 31\n1 rows\n2 put 61 32\n2 rows\n3 put 61 33\n3 rows\n4 put 61 34\n4 rows\n";
+
+// The answers behind the first, which is the value of an earlier run.
+const SERVED: &[u8] = b"rows 2\nsome 31\nrows 2\nsome 32\nrows 2\nsome 33\nrows 2\n";
+
+/// How a run ended, and whether each pass serves again behind it.
+#[derive(Drop)]
+struct Ending {
+    ended: Result<(), RunFault>,
+    all_serve: bool,
+}
+
+// Whether the pass with this number stands among these.
+fn has_pass(passes: &[Pass<'_, Global>], number: u32) -> bool {
+    for pass in passes {
+        if pass.number() == number {
+            return true;
+        }
+    }
+    false
+}
+
+// Whether the four passes stand in the line, each of them once.
+fn has_four(passes: &[Pass<'_, Global>]) -> bool {
+    passes.len() == 4
+        && has_pass(passes, 1)
+        && has_pass(passes, 2)
+        && has_pass(passes, 3)
+        && has_pass(passes, 4)
+}
+
+// Runs a script over a store of five rows, and another over the same passes.
+fn ending_of<S: Source, W: Sink>(global: Global, source: &mut S, sink: &mut W) -> Option<Ending>
+    requires source { S.failures source.old < 2 ^ 64 - 1 }
+    requires sink { W.failures sink.old < 2 ^ 64 - 1 }
+{
+    let Ok((store, seats)) = Store::open(global, Shape { rows: 5, passes: 4 }) else {
+        return None;
+    };
+    let Ok(mut passes) = store.deal(global, seats) else {
+        return None;
+    };
+    let ended = run(global, source, sink, &store, &mut passes);
+    let there = has_four(passes.as_slice());
+    let mut again = BytesSource::new(AGAIN);
+    let Ok(mut answers) = BytesSink::new(global, 128) else {
+        return None;
+    };
+    let ran = run(global, &mut again, &mut answers, &store, &mut passes);
+    let all_serve = ran.is_ok() && there && answers.bytes().ends_with(SERVED);
+    Some(Ending { ended, all_serve })
+}
+
+#[test]
+fn pins_end_with_the_script(rt: HostRuntime) -> Result<(), Fail> {
+    let mut source = BytesSource::new(PINS);
+    let mut sink = BytesSink::new(rt.alloc(), 128)?;
+    let Some(ending) = ending_of(rt.alloc(), &mut source, &mut sink) else {
+        panic!(rt; "no memory")
+    };
+    assert!(rt; sink.bytes() == PINNED);
+    assert!(rt; ending.ended.is_ok() && ending.all_serve);
+    Ok(())
+}
+
+// How the run between such devices ends.
+fn ending_between(alloc: Global, reader: Reader<'_>, out: &mut Writer) -> Option<Ending> {
+    let mut source = StdSource::new(reader);
+    let mut sink = StdSink::new(out);
+    ending_of(alloc, &mut source, &mut sink)
+}
+
+#[test]
+fn pins_end_where_a_read_fails(rt: HostRuntime) -> Result<(), Fail> {
+    for reads in 0..=PINS.len() as u64 {
+        let reader = Reader {
+            rest: PINS,
+            most: 1,
+            reads,
+        };
+        let mut out = Writer::new(rt.alloc(), 64, u64::MAX, false);
+        let Some(ending) = ending_between(rt.alloc(), reader, &mut out) else {
+            panic!(rt; "no memory")
+        };
+        assert!(rt; ending.all_serve, "after {reads} reads");
+        assert!(rt; ending.ended == Err(RunFault::Device));
+    }
+    Ok(())
+}
+
+#[test]
+fn pins_end_where_a_write_fails(rt: HostRuntime) -> Result<(), Fail> {
+    for writes in 0..PINNED.len() as u64 {
+        let reader = Reader {
+            rest: PINS,
+            most: 7,
+            reads: u64::MAX,
+        };
+        let mut out = Writer::new(rt.alloc(), 1, writes, false);
+        let Some(ending) = ending_between(rt.alloc(), reader, &mut out) else {
+            panic!(rt; "no memory")
+        };
+        assert!(rt; ending.all_serve, "after {writes} writes");
+        assert!(rt; ending.ended == Err(RunFault::Device));
+    }
+    Ok(())
+}
