@@ -29,3 +29,9 @@ returns-clause-sound c = λ m a has told other.
     let is = to_z-of_z fits_code ∙ c.tell.ensures.code in
     let v = verdict_told c.args.format c.args.root.now c.args.key.now c.args.proof.now c.args.room.now _ _ a is c.tell.ensures.room told in
     other_answer m c.args.root.now c.args.key.now c.args.proof.now a b has (accepted c.args.root.now c.args.key.now c.args.proof.now a b v) other
+
+pub returns-clause-code : goal.returns-clause-code
+returns-clause-code c = search rules
+
+pub returns-clause-room : goal.returns-clause-room
+returns-clause-room c = search rules
