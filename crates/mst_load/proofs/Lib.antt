@@ -1,0 +1,2 @@
+mod Returning
+mod Working

@@ -1,0 +1,20 @@
+use Rattle.std.specs.Prelude.{◌≡◌, vec_len, length}
+use Rattle.std.proofs.Common.{rules, sym, subst, arith}
+use Rattle.mst_store.specs.Settling.{AreAllPasses}
+use Rattle.mst_load.proofs.Returning.{dealt_own, all_back}
+use Rattle.mst_load.proofs.engine.load.Goals as goal
+
+-- the passes that go to the workers are those that were dealt
+pub run_all-requires-clause-own : goal.run_all-requires-clause-own
+run_all-requires-clause-own g c κs within =
+    let store = c.in-Ok-open.store in let dealt = c.in-Ok-deal in
+    let count : vec_len dealt.passes ≡ store.passes = search rules in
+    (λ k d below. dealt_own store dealt.passes.items k d dealt.ensures.ok (omega (arith, below, count)))
+
+-- and those that come back are all of them
+pub report_of-requires : goal.report_of-requires
+report_of-requires g c =
+    let store = c.in-Ok-open.store in let back = c.in_ok-passes in let passes = back.passes.items in
+    let count : length passes ≡ store.passes = search rules in
+    let whole : AreAllPasses passes = all_back store passes count (λ k d below. back.ensures.own k d (search rules)) (λ k d below. back.ensures.numbered k d (search rules)) in
+    record { whole = subst AreAllPasses (sym c.as_mut_slice.ensures.value) whole }

@@ -1,0 +1,79 @@
+//! The calls of the writers, and the map that they leave.
+ghost use Rattle.std.specs.Prelude.{◌≡◌, ◌<◌, ◌≤◌, ◌+◌, vec_len, IfSome, IfOk, OnOk};
+ghost use Rattle.mst_load.specs.Calls.{key_of, value_of};
+
+use mst_key::{Key, Memory, Value};
+use std::alloc::Allocator;
+
+/// How many keys a writer goes round.
+const KEYS: u32 = 32;
+
+/// The key of a call of a writer: two bytes, the writer's number and the call's by 32.
+pub(crate) fn key(writer: u32, call: u32) -> Key
+    requires { writer < 256 }
+    ensures { result ≡ key_of writer call }
+{
+    let Ok(key) = Key::new(&[writer as u8, (call % KEYS) as u8]) else {
+        unreachable!()
+    };
+    key
+}
+
+/// The value of a call: its number in four bytes, the highest first.
+pub(crate) fn value(call: u32) -> Value
+    ensures { result ≡ value_of call }
+{
+    let Ok(value) = Value::new(&call.to_be_bytes()) else {
+        unreachable!()
+    };
+    value
+}
+
+// The last of so many calls that has this place in the round, where there is one.
+fn last_call(place: u32, calls: u32) -> Option<u32>
+    requires { place < 32 }
+    ensures { IfSome result (λ call. call ≤ calls) }
+{
+    // how many calls of other places came after it
+    let after = (calls % KEYS + KEYS - place) % KEYS;
+    if after < calls {
+        Some(calls - after)
+    } else {
+        None
+    }
+}
+
+// Appends the pairs that so many calls of the writer leave.
+fn append<A: Allocator>(
+    pairs: &mut Vec<(Key, Value), A>,
+    writer: u32,
+    calls: u32,
+) -> Result<(), Memory>
+    requires { writer < 256 }
+    ensures { OnOk result (vec_len pairs.new ≤ vec_len pairs.old + 32) }
+{
+    for place in 0..KEYS {
+        if let Some(call) = last_call(place, calls) {
+            if pairs.push((key(writer, call), value(call))).is_err() {
+                return Err(Memory);
+            }
+        }
+    }
+    Ok(())
+}
+
+/// The map that so many calls of so many writers leave, in the order of its keys.
+pub(crate) fn left_by<A: Allocator>(
+    alloc: A,
+    writers: u32,
+    calls: u32,
+) -> Result<Vec<(Key, Value), A>, Memory>
+    requires { writers ≤ 8 }
+    ensures { IfOk result (λ pairs. vec_len pairs ≤ 256) }
+{
+    let mut pairs = Vec::new(alloc);
+    for index in 0..writers {
+        append(&mut pairs, index + 1, calls)?;
+    }
+    Ok(pairs)
+}

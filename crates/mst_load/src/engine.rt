@@ -1,0 +1,109 @@
+//! A load of readers and writers, from the store's opening to its end.
+ghost use Rattle.std.specs.Prelude.{◌≡◌, ◌≤◌, IfOk};
+ghost use Rattle.mst_store.specs.Settling.{AreAllPasses};
+
+use crate::calls::left_by;
+use crate::gate::Gate;
+use crate::running::run_all;
+use crate::worker::Plan;
+use mst_node::root_of;
+use mst_store::{Pass, Shape, Store, settle};
+use std::alloc::{AllocGlobal, Allocator, Global};
+use std::marker::Brand;
+use std::sync::Wait;
+use std::thread::Threads;
+use thiserror::Error;
+
+/// How many rows the store has.
+const ROWS: u32 = 32_768;
+
+/// What a load came to.
+#[derive(Clone, Copy, Debug, PartialEq, Eq)]
+pub struct Report {
+    /// How many events there were: the number of the last version.
+    pub events: u64,
+    /// How often a version that a reader read was below one that it had read before.
+    pub falls: u64,
+    /// The root digest of the map.
+    pub root: [u8; 32],
+    /// The root digest of the map that the writers' calls leave where none was refused.
+    pub built: [u8; 32],
+}
+
+/// Why a load did not come to its end. All threads that were started had returned.
+#[derive(Clone, Copy, Debug, PartialEq, Eq, Error)]
+pub enum LoadFault {
+    /// A growth was refused.
+    #[error("no memory")]
+    Memory,
+    /// A thread could not be started.
+    #[error("no thread")]
+    Thread,
+}
+
+// Lets all passes settle, none of which pins a version.
+fn settle_all(passes: &mut [Pass<'_, Global>])
+    requires whole { AreAllPasses passes.old }
+{
+    settle(passes, &mut []);
+}
+
+// What a pass finds when all have settled.
+fn report_of(passes: &mut [Pass<'_, Global>], falls: u64, built: [u8; 32]) -> Report
+    requires whole { AreAllPasses passes.old }
+    ensures falls { result.falls ≡ falls }
+{
+    settle_all(passes);
+    match passes.first_mut() {
+        Some(pass) => Report {
+            events: pass.version(),
+            falls,
+            root: pass.root(),
+            built,
+        },
+        None => Report {
+            events: 0,
+            falls,
+            root: built,
+            built,
+        },
+    }
+}
+
+/// Lets readers and writers work at one store at once, each in a thread of its own, and reports what they left. The writers are the first passes, the readers follow.
+///
+/// Call `c` of writer `w` puts the value `c` at the key of `w` and `c` by 32, and waits for its turn. A put that is refused is no event, and the writer goes on. A reader asks for the version and for a value in turns. Each worker asks the gate before each call and tells it after.
+///
+/// There are at most 24 readers, 1 to 8 writers, and 1 to 100,000 calls of each worker. The store, which the threads share, lies in the runtime's memory, the lists of passes and threads in `alloc`. It returns when all threads have returned, also with a fault: `Memory` where a growth was refused, `Thread` where a thread could not be started.
+#[tactic(auto, using(crate::proofs::Returning::dealt_own, crate::proofs::Returning::all_back))]
+pub fn load<R: Threads + Wait + AllocGlobal + Sync, A: Allocator + Copy, G: Gate + Sync>(
+    rt: &R,
+    alloc: A,
+    readers: u32,
+    writers: u32,
+    calls: u32,
+    gate: &G,
+) -> Result<Report, LoadFault>
+    requires readers { readers ≤ 24 }
+    requires writers { (1 ≤ writers) × (writers ≤ 8) }
+    requires calls { (1 ≤ calls) × (calls ≤ 100000) }
+    ensures never { IfOk result (λ report. report.falls ≡ 0) }
+{
+    let Ok(pairs) = left_by(alloc, writers, calls) else {
+        return Err(LoadFault::Memory);
+    };
+    let built = root_of(&pairs);
+    let shape = Shape {
+        rows: ROWS,
+        passes: readers + writers,
+    };
+    let Ok((store, seats)) = Store::open(rt.alloc(), shape) else {
+        return Err(LoadFault::Memory);
+    };
+    let Ok(passes) = store.deal(alloc, seats) else {
+        return Err(LoadFault::Memory);
+    };
+    let plan = Plan { writers, calls };
+    let (mut passes, falls) = run_all::<R, A, G, Brand>(rt, alloc, &store, gate, passes, plan)?;
+    Ok(report_of(passes.as_mut_slice(), falls, built))
+}

@@ -1,0 +1,133 @@
+//! The threads: one for each worker, all of them joined.
+ghost use Rattle.std.specs.Prelude.{◌≡◌, ◌<◌, ◌≤◌, ◌+◌, ℕ, IfOk, get_or, vec_len};
+ghost use Rattle.mst_store.specs.Passes.{Known};
+
+use crate::course::{Course, Worker};
+use crate::engine::LoadFault;
+use crate::gate::Gate;
+use crate::worker::{Plan, work};
+use mst_store::{Pass, Store};
+use std::alloc::{Allocator, Global};
+use std::marker::PhantomData;
+use std::sync::Wait;
+use std::thread;
+use std::thread::{JoinHandle, Scope, Threads};
+
+// Starts the thread of a worker.
+fn start<'s, 'a: 's, E, R: Wait + Sync, G: Gate + Sync, C: Course + Send + 's>(
+    scope: &Scope<'s, E>,
+    rt: &'s R,
+    gate: &'s G,
+    pass: Pass<'a, Global>,
+    plan: Plan,
+) -> Result<JoinHandle<Worker<'a, C>>, LoadFault>
+    requires few { plan.writers ≤ 8 }
+    requires own { pass.store ≡ C.store }
+{
+    let worker = Worker {
+        pass,
+        falls: 0,
+        of: PhantomData,
+    };
+    match scope.spawn(move || work(rt, gate, worker, plan)) {
+        Ok(handle) => Ok(handle),
+        Err(_) => Err(LoadFault::Thread),
+    }
+}
+
+// Starts the threads of all workers. Those that were started before a fault run on, and the scope joins them.
+fn start_all<'s, 'a: 's, E, R: Wait + Sync, A: Allocator, G: Gate + Sync, C: Course + Send + 's>(
+    scope: &Scope<'s, E>,
+    rt: &'s R,
+    alloc: A,
+    gate: &'s G,
+    passes: Vec<Pass<'a, Global>, A>,
+    plan: Plan,
+) -> Result<Vec<JoinHandle<Worker<'a, C>>, A>, LoadFault>
+    requires few { plan.writers ≤ 8 }
+    requires own { (k : ℕ) (d : Known) → k < vec_len passes → (get_or passes.items k d).store ≡ C.store }
+    ensures count { IfOk result (λ handles. vec_len handles ≡ vec_len passes.entry) }
+{
+    let mut handles = Vec::new(alloc);
+    for pass in passes {
+        let handle = start(scope, rt, gate, pass, plan)?;
+        if handles.push(handle).is_err() {
+            return Err(LoadFault::Memory);
+        }
+    }
+    Ok(handles)
+}
+
+// Joins the threads of all workers: their passes, and how often a version was below an earlier one. The passes come back in the order of their numbers, since the threads were started so.
+fn join_all<'a, R: Threads, A: Allocator, C: Course>(
+    rt: &R,
+    alloc: A,
+    handles: Vec<JoinHandle<Worker<'a, C>>, A>,
+) -> Result<(Vec<Pass<'a, Global>, A>, u64), LoadFault>
+    requires few { vec_len handles ≤ 32 }
+    ensures count { IfOk result (λ r. vec_len r.0 ≡ vec_len handles.entry) }
+    ensures never { IfOk result (λ r. r.1 ≡ 0) }
+    ensures own { IfOk result (λ r. (k : ℕ) (d : Known) → k < vec_len r.0 → (get_or r.0.items k d).store ≡ C.store) }
+    ensures numbered { IfOk result (λ r. (k : ℕ) (d : Known) → k < vec_len r.0 → (get_or r.0.items k d).number ≡ k + 1) }
+{
+    let mut passes = Vec::new(alloc);
+    let mut falls = 0;
+    for handle in handles {
+        let Worker {
+            pass,
+            falls: more,
+            ..
+        } = handle.join(rt);
+        falls += more;
+        if pass.number() as usize != passes.len() + 1 {
+            // no thread gives back another pass than it was given
+            return Err(LoadFault::Thread);
+        }
+        if passes.push(pass).is_err() {
+            return Err(LoadFault::Memory);
+        }
+    }
+    Ok((passes, falls))
+}
+
+/// Runs a thread for each pass of the store, and returns when all have returned, also where one could not be started or a growth was refused.
+pub(crate) fn run_all<'a, R, A, G, C>(
+    rt: &R,
+    alloc: A,
+    _store: &Store<Global>,
+    gate: &G,
+    passes: Vec<Pass<'a, Global>, A>,
+    plan: Plan,
+) -> Result<(Vec<Pass<'a, Global>, A>, u64), LoadFault>
+where
+    R: Threads + Wait + Sync,
+    A: Allocator + Copy,
+    G: Gate + Sync,
+    C: Course + Send + 'static,
+    requires few { plan.writers ≤ 8 }
+    requires count { vec_len passes ≤ 32 }
+    requires own { (k : ℕ) (d : Known) → k < vec_len passes → (get_or passes.items k d).store ≡ C.store }
+    ensures count { IfOk result (λ r. vec_len r.0 ≡ vec_len passes.entry) }
+    ensures never { IfOk result (λ r. r.1 ≡ 0) }
+    ensures own { IfOk result (λ r. (k : ℕ) (d : Known) → k < vec_len r.0 → (get_or r.0.items k d).store ≡ C.store) }
+    ensures numbered { IfOk result (λ r. (k : ℕ) (d : Known) → k < vec_len r.0 → (get_or r.0.items k d).number ≡ k + 1) }
+{
+    thread::scope(
+        thread::scope_env(),
+        rt,
+        move |scope| -> Result<(Vec<Pass<Global>, A>, u64), LoadFault>
+            requires few { plan.writers ≤ 8 }
+            requires count { vec_len passes ≤ 32 }
+            requires own { (k : ℕ) (d : Known) → k < vec_len passes → (get_or passes.items k d).store ≡ C.store }
+            ensures count { IfOk result (λ r. vec_len r.0 ≡ vec_len passes.entry) }
+            ensures never { IfOk result (λ r. r.1 ≡ 0) }
+            ensures own { IfOk result (λ r. (k : ℕ) (d : Known) → k < vec_len r.0 → (get_or r.0.items k d).store ≡ C.store) }
+            ensures numbered { IfOk result (λ r. (k : ℕ) (d : Known) → k < vec_len r.0 → (get_or r.0.items k d).number ≡ k + 1) }
+        {
+            let handles: Vec<JoinHandle<Worker<C>>, A> = start_all(
+                scope, rt, alloc, gate, passes, plan,
+            )?;
+            join_all(rt, alloc, handles)
+        },
+    )
+}
