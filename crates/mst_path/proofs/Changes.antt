@@ -21,6 +21,7 @@ use Rattle.mst_path.specs.Made.{IsMade}
 use Rattle.mst_path.specs.Making.{Grown}
 use Rattle.mst_path.specs.Removing.{SearchTree}
 use Rattle.mst_path.specs.Changing.{AreOld, MapStands, IsTaken, AreTaken, AreKilled, OthersLive, OnlyFreeWritten, SameVersions}
+use Rattle.mst_path.specs.Reached.{Changes}
 use Rattle.mst_path.proofs.Copies.{kept_at, old_alive}
 use Rattle.mst_path.proofs.Fewness.{few_alive}
 use Rattle.mst_path.proofs.Joined.{unchanged}
@@ -186,9 +187,7 @@ pub record AfterChange (c c1 : Content) (s s1 : State) (root at : Root) (change 
   pub stands : (m : List Pair) → Stands One c root m → Stands One c1 at (change m)
   pub written : OnlyFreeWritten s c c1
   pub counted : (m : List Pair) → Stands One c root m → free_count s1.lives + cost One m (change m) ≡ free_count s.lives
-  pub taken : (m n : List Pair) (o : Stands One c root m) (w : Stands One c1 at n) → AreTaken s s1 (numbers o) (numbers w)
-  pub killed : (m n : List Pair) (o : Stands One c root m) (w : Stands One c1 at n) → AreKilled s s1 (numbers o) (numbers w)
-  pub others : (m n : List Pair) (o : Stands One c root m) (w : Stands One c1 at n) → OthersLive s s1 (numbers o) (numbers w)
+  pub changes : (m n : List Pair) (o : Stands One c root m) (w : Stands One c1 at n) → Changes s s1 (numbers o) (numbers w)
   pub versions : SameVersions s s1
   pub made : (n : List Pair) (w : Stands One c1 at n) → IsMade s1 w.tree.placed
 
@@ -212,9 +211,12 @@ after_change c c1 s s1 root at change one fits grows =
       counted = λ m1 st1.
           let old1 = any_old c s root one m1 st1 in
           cost_after c c1 s s1 root at m1 (change m1) st1 old1 (cost One m1 (change m1)) (grows m1 st1 old1);
-      taken = taken_after c c1 s s1 root at m n st one.2 count g;
-      killed = killed_after c c1 s s1 root at m n st one.2 count g;
-      others = others_after c c1 s s1 root at m n st one.2 count g;
+      changes = λ a b o w. record {
+        taken = taken_after c c1 s s1 root at m n st one.2 count g a b o w;
+        killed = killed_after c c1 s s1 root at m n st one.2 count g a b o w;
+        others = others_after c c1 s s1 root at m n st one.2 count g a b o w;
+        versions = versions_after c c1 s s1 root at m n st one.2 count g;
+      };
       versions = versions_after c c1 s s1 root at m n st one.2 count g;
       made = made_after c c1 s s1 root at m n st one.2 count g;
     }

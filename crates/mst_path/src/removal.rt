@@ -8,7 +8,8 @@ ghost use Rattle.mst_arena.specs.Lives.{free_count};
 ghost use Rattle.mst_arena.specs.Standing.{Stands, numbers};
 ghost use Rattle.mst_path.specs.Takes.{FreeIsBlank};
 ghost use Rattle.mst_path.specs.Made.{IsMade};
-ghost use Rattle.mst_path.specs.Changing.{MapStands, AreTaken, AreKilled, OthersLive, OnlyFreeWritten, SameVersions};
+ghost use Rattle.mst_path.specs.Changing.{MapStands, OnlyFreeWritten, SameVersions};
+ghost use Rattle.mst_path.specs.Reached.{Changes};
 
 use crate::faults::NoRoom;
 use crate::finding::find;
@@ -39,12 +40,8 @@ pub fn remove<R: Rows, A: Allocator>(
     // as many rows as the nodes that are new have entries and heads
     ensures cost { IfOk result (λ _. (m : List Pair) → Stands One (R.content rows.old) root.now m
         → free_count desk.new.lives + cost One m (map.remove m key.now) ≡ free_count desk.old.lives) }
-    ensures taken { IfOk result (λ done. (m n : List Pair) (old : Stands One (R.content rows.old) root.now m)
-        (new : Stands One (R.content rows.new) done.0 n) → AreTaken desk.old desk.new (numbers old) (numbers new)) }
-    ensures killed { IfOk result (λ done. (m n : List Pair) (old : Stands One (R.content rows.old) root.now m)
-        (new : Stands One (R.content rows.new) done.0 n) → AreKilled desk.old desk.new (numbers old) (numbers new)) }
-    ensures others { IfOk result (λ done. (m n : List Pair) (old : Stands One (R.content rows.old) root.now m)
-        (new : Stands One (R.content rows.new) done.0 n) → OthersLive desk.old desk.new (numbers old) (numbers new)) }
+    ensures changes { IfOk result (λ done. (m n : List Pair) (old : Stands One (R.content rows.old) root.now m)
+        (new : Stands One (R.content rows.new) done.0 n) → Changes desk.old desk.new (numbers old) (numbers new)) }
     ensures versions { SameVersions desk.old desk.new }
     // the rows of a node are of one age: with all below it they were there before, or they are all new
     ensures made { IfOk result (λ done. (n : List Pair) (new : Stands One (R.content rows.new) done.0 n) → IsMade desk.new new.tree.placed) }

@@ -38,11 +38,8 @@ returns-then-is_same-clause-value g c m st =
 pub returns-then-is_same-clause-cost : goal.returns-then-is_same-clause-cost
 returns-then-is_same-clause-cost g c = (nothing g c).counted
 
-pub returns-then-is_same-clause-taken : goal.returns-then-is_same-clause-taken
-returns-then-is_same-clause-taken g c = (nothing g c).taken
-
-pub returns-then-is_same-clause-killed : goal.returns-then-is_same-clause-killed
-returns-then-is_same-clause-killed g c = (nothing g c).killed
+pub returns-then-is_same-clause-changes : goal.returns-then-is_same-clause-changes
+returns-then-is_same-clause-changes g c = (nothing g c).changes
 
 pub returns-then-is_same-clause-made : goal.returns-then-is_same-clause-made
 returns-then-is_same-clause-made g c = (nothing g c).made
@@ -116,14 +113,8 @@ returns-clause-written g c = (inserted g c).written
 pub returns-clause-cost : goal.returns-clause-cost
 returns-clause-cost g c = (inserted g c).counted
 
-pub returns-clause-taken : goal.returns-clause-taken
-returns-clause-taken g c = (inserted g c).taken
-
-pub returns-clause-killed : goal.returns-clause-killed
-returns-clause-killed g c = (inserted g c).killed
-
-pub returns-clause-others : goal.returns-clause-others
-returns-clause-others g c = (inserted g c).others
+pub returns-clause-changes : goal.returns-clause-changes
+returns-clause-changes g c = (inserted g c).changes
 
 pub returns-clause-versions : goal.returns-clause-versions
 returns-clause-versions g c = (inserted g c).versions

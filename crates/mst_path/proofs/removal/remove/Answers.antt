@@ -37,11 +37,8 @@ returns-in_default-clause-value g c m st =
 pub returns-in_default-clause-cost : goal.returns-in_default-clause-cost
 returns-in_default-clause-cost g c = (nothing g c).counted
 
-pub returns-in_default-clause-taken : goal.returns-in_default-clause-taken
-returns-in_default-clause-taken g c = (nothing g c).taken
-
-pub returns-in_default-clause-killed : goal.returns-in_default-clause-killed
-returns-in_default-clause-killed g c = (nothing g c).killed
+pub returns-in_default-clause-changes : goal.returns-in_default-clause-changes
+returns-in_default-clause-changes g c = (nothing g c).changes
 
 pub returns-in_default-clause-made : goal.returns-in_default-clause-made
 returns-in_default-clause-made g c = (nothing g c).made
@@ -106,14 +103,8 @@ returns-clause-written g c = (removed g c).written
 pub returns-clause-cost : goal.returns-clause-cost
 returns-clause-cost g c = (removed g c).counted
 
-pub returns-clause-taken : goal.returns-clause-taken
-returns-clause-taken g c = (removed g c).taken
-
-pub returns-clause-killed : goal.returns-clause-killed
-returns-clause-killed g c = (removed g c).killed
-
-pub returns-clause-others : goal.returns-clause-others
-returns-clause-others g c = (removed g c).others
+pub returns-clause-changes : goal.returns-clause-changes
+returns-clause-changes g c = (removed g c).changes
 
 pub returns-clause-versions : goal.returns-clause-versions
 returns-clause-versions g c = (removed g c).versions

@@ -16,5 +16,5 @@ returns-clause-made g c =
     let done = c.in-Ok.ensures in
     let m = after s.me.0.seen in
     change_made c.args.turn.now s c.remove.new.rows h c.in-Ok.root c.in-Ok.old c.remove.new.desk (Remove c.args.key.now) done.kept c.requires.open
-    (done.stands m h.stands) (λ n stands. record { taken = done.taken m n h.stands stands; killed = done.killed m n h.stands stands; others = done.others m n h.stands stands; versions = done.versions })
+    (done.stands m h.stands) (λ n stands. done.changes m n h.stands stands)
     (done.value m h.stands) (done.cost m h.stands) done.written done.made
