@@ -7,10 +7,11 @@ use Rattle.std.proofs.lemmas.Bool.{false≢true}
 use Rattle.std.proofs.lemmas.Option.{none-some, same_Some}
 use denote.Ref.{Bor}
 use Rattle.mst_command.specs.Commanding.{AsksFor, Ends, EndsWords, IsDevice, IsPlain, NamesShape, Unread, Untouched, status_of, told, asks_replay, asks_verify, verified_words}
+use Rattle.mst_command.specs.Loading.{NamesLoad, RanLoad, asks_load}
 use Rattle.mst_devices.specs.Device.{Breaks}
 use Rattle.mst_command.specs.Programs.{RanScript, RanReplay, RanVerify, Did, Helped, HasBadShape, HasBadRoot, HasBadKey, IsBad, Comes}
 use Rattle.mst_command.specs.declared.task.Task.{Task}
-use Rattle.mst_command.specs.declared.task.Task.TheVariants.{Run, Verify, Replay, Help}
+use Rattle.mst_command.specs.declared.task.Task.TheVariants.{Run, Verify, Replay, Load, Help}
 use Rattle.mst_command.specs.declared.task.Ending.{Ending}
 use Rattle.mst_command.specs.declared.task.Ending.TheVariants.{Done}
 use Rattle.mst_command.specs.declared.task.Refusal.{Refusal}
@@ -20,19 +21,30 @@ module _ {S W : Type 0} (gives : S → List ℕ → S → Type 0) (left : S → 
   helped : (text : String Global) (s t : S) (w x : W) → AsksFor words (Help text) → takes w (string_bytes text) x → t ≡ s → Helped takes words s w t x
   helped text s t w x asked taken same = record { asked = asked.0; other = asked.1; text = string_bytes text; taken = taken; unread = same }
 
-  pub asked_script : (task : Task) (r : Result Ending Refusal) (s t : S) (w x : W) → AsksFor words task → IfOk r (λ ending. Did gives left takes task s w ending t x) → asks_replay words ≡ false → asks_verify words ≡ None →
+  pub asked_script : (task : Task) (r : Result Ending Refusal) (s t : S) (w x : W) → AsksFor words task → IfOk r (λ ending. Did gives left takes task s w ending t x) → asks_replay words ≡ false → asks_verify words ≡ None → asks_load words ≡ false →
       OnOk r (((shape : _) × NamesShape words shape × RanScript gives takes shape s w t x × (left t ≡ 0)) ⊎ Helped takes words s w t x)
-  asked_script (Run shape) (Ok ending) s t w x asked did is none = inl (shape, asked.2, did.0, did.1)
-  asked_script (Verify root key) (Ok ending) s t w x asked did is none = absurd (none-some (root.now, key.now) (sym none ∙ sym asked.1))
-  asked_script Replay (Ok ending) s t w x asked did is none = absurd (false≢true (sym (asked.0 ∙ is)))
-  asked_script (Help text) (Ok ending) s t w x asked did is none = inr (helped text s t w x asked did.0 did.1)
-  asked_script task (Err why) s t w x asked did is none = tt
+  asked_script (Run shape) (Ok ending) s t w x asked did is none other = inl (shape, asked.2, did.0, did.1)
+  asked_script (Verify root key) (Ok ending) s t w x asked did is none other = absurd (none-some (root.now, key.now) (sym none ∙ sym asked.1))
+  asked_script Replay (Ok ending) s t w x asked did is none other = absurd (false≢true (sym (asked.0 ∙ is)))
+  asked_script (Load size) (Ok ending) s t w x asked did is none other = absurd (false≢true (sym (asked.3 ∙ other)))
+  asked_script (Help text) (Ok ending) s t w x asked did is none other = inr (helped text s t w x asked did.0 did.1)
+  asked_script task (Err why) s t w x asked did is none other = tt
+
+  pub asked_load : (task : Task) (r : Result Ending Refusal) (s t : S) (w x : W) → AsksFor words task → IfOk r (λ ending. Did gives left takes task s w ending t x) → asks_load words ≡ true →
+      OnOk r (((size : _) × NamesLoad words size × RanLoad takes size w x × (t ≡ s)) ⊎ Helped takes words s w t x)
+  asked_load (Run shape) (Ok ending) s t w x asked did is = absurd (false≢true (asked.3 ∙ is))
+  asked_load (Verify root key) (Ok ending) s t w x asked did is = absurd (false≢true (asked.3 ∙ is))
+  asked_load Replay (Ok ending) s t w x asked did is = absurd (false≢true (asked.3 ∙ is))
+  asked_load (Load size) (Ok ending) s t w x asked did is = inl (size, asked.2, did.0, did.1)
+  asked_load (Help text) (Ok ending) s t w x asked did is = inr (helped text s t w x asked did.0 did.1)
+  asked_load task (Err why) s t w x asked did is = tt
 
   pub asked_replay : (task : Task) (r : Result Ending Refusal) (s t : S) (w x : W) → AsksFor words task → IfOk r (λ ending. Did gives left takes task s w ending t x) → asks_replay words ≡ true →
       OnOk r ((RanReplay gives takes s w t x × (left t ≡ 0)) ⊎ Helped takes words s w t x)
   asked_replay (Run shape) (Ok ending) s t w x asked did is = absurd (false≢true (asked.0 ∙ is))
   asked_replay (Verify root key) (Ok ending) s t w x asked did is = absurd (false≢true (asked.0 ∙ is))
   asked_replay Replay (Ok ending) s t w x asked did is = inl (did.0, did.1)
+  asked_replay (Load size) (Ok ending) s t w x asked did is = absurd (false≢true (asked.0 ∙ is))
   asked_replay (Help text) (Ok ending) s t w x asked did is = inr (helped text s t w x asked did.0 did.1)
   asked_replay task (Err why) s t w x asked did is = tt
 
@@ -41,6 +53,7 @@ module _ {S W : Type 0} (gives : S → List ℕ → S → Type 0) (left : S → 
   asked_verify (Run shape) (Ok ending) s t w x asked did = λ named is. absurd (none-some named (asked.1 ∙ is))
   asked_verify (Verify root key) (Ok ending) s t w x asked did = λ named is. inl (subst (λ (words : List ℕ × List ℕ). RanVerify gives left takes words s w ending t x) (same_Some (root.now, key.now) named (asked.1 ∙ is)) did)
   asked_verify Replay (Ok ending) s t w x asked did = λ named is. absurd (none-some named (asked.1 ∙ is))
+  asked_verify (Load size) (Ok ending) s t w x asked did = λ named is. absurd (none-some named (asked.1 ∙ is))
   asked_verify (Help text) (Ok ending) s t w x asked did = λ named is. inr (helped text s t w x asked did.0 did.1, did.2)
   asked_verify task (Err why) s t w x asked did = tt
 
@@ -49,6 +62,7 @@ module _ {S W : Type 0} (gives : S → List ℕ → S → Type 0) (left : S → 
   asked_others (Run shape) (Ok ending) s t w x asked did = λ none. did.2
   asked_others (Verify root key) (Ok ending) s t w x asked did = λ none. absurd (none-some (root.now, key.now) (sym none ∙ sym asked.1))
   asked_others Replay (Ok ending) s t w x asked did = λ none. did.2
+  asked_others (Load size) (Ok ending) s t w x asked did = λ none. did.2
   asked_others (Help text) (Ok ending) s t w x asked did = λ none. did.2
   asked_others task (Err why) s t w x asked did = tt
 
@@ -57,6 +71,7 @@ pub not_verified : (words : List (Bor (List ℕ))) (task : Task) → AsksFor wor
 not_verified words (Run shape) asked none = refl
 not_verified words (Verify root key) asked none = asked.1 ∙ none
 not_verified words Replay asked none = refl
+not_verified words (Load size) asked none = refl
 not_verified words (Help text) asked none = refl
 
 -- words that are refused touch no device
@@ -106,6 +121,8 @@ no_words (Verify root key) (Words text) ends of = ends
 no_words (Verify root key) NotText ends of = ends
 no_words Replay (Words text) ends of = ends
 no_words Replay NotText ends of = ends
+no_words (Load size) (Words text) ends of = ends
+no_words (Load size) NotText ends of = ends
 no_words (Help text) (Words said) ends of = ends
 no_words (Help text) NotText ends of = ends
 no_words task Shape ends of = of

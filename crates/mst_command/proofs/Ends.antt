@@ -1,7 +1,7 @@
 -- Errors that do not come.
 use Rattle.std.proofs.Common.{◌↔◌, Result, IfErr, IsErrOf}
 use Rattle.std.proofs.lemmas.Result.{IfErr-at_err}
-use Rattle.mst_command.specs.Commanding.{EndsScript, EndsVerify, EndsReplay, EndsHelp}
+use Rattle.mst_command.specs.Commanding.{EndsScript, EndsVerify, EndsReplay, EndsLoad, EndsHelp}
 use Rattle.mst_command.specs.declared.task.Ending.{Ending}
 use Rattle.mst_command.specs.declared.task.Refusal.{Refusal}
 use Rattle.mst_command.specs.declared.task.Refusal.TheVariants.{Shape, BadRoot, BadKey}
@@ -26,6 +26,12 @@ replay_root r h = never EndsReplay BadRoot r h (λ b. b)
 
 pub replay_key : (r : Result Ending Refusal) → IfErr r (λ why. EndsReplay why) → IsErrOf r BadKey ↔ ⊥
 replay_key r h = never EndsReplay BadKey r h (λ b. b)
+
+pub load_root : (r : Result Ending Refusal) → IfErr r (λ why. EndsLoad why) → IsErrOf r BadRoot ↔ ⊥
+load_root r h = never EndsLoad BadRoot r h (λ b. b)
+
+pub load_key : (r : Result Ending Refusal) → IfErr r (λ why. EndsLoad why) → IsErrOf r BadKey ↔ ⊥
+load_key r h = never EndsLoad BadKey r h (λ b. b)
 
 pub help_shape : (r : Result Ending Refusal) → IfErr r (λ why. EndsHelp why) → IsErrOf r Shape ↔ ⊥
 help_shape r h = never EndsHelp Shape r h (λ b. b)

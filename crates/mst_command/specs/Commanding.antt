@@ -5,11 +5,13 @@ use Rattle.std.specs.Str.{bytes_eq}
 use denote.Ref.{Bor}
 use Rattle.mst_words.specs.declared.view.Shape.{Shape as Size}
 use Rattle.mst_command.specs.declared.task.Task.{Task}
-use Rattle.mst_command.specs.declared.task.Task.TheVariants.{Run, Verify, Replay, Help}
+use Rattle.mst_command.specs.declared.task.Load.{Load as LoadSize}
+use Rattle.mst_command.specs.declared.task.Task.TheVariants.{Run, Verify, Replay, Load, Help}
 use Rattle.mst_command.specs.declared.task.Ending.{Ending}
 use Rattle.mst_command.specs.declared.task.Ending.TheVariants.{Done, ProofRefused}
 use Rattle.mst_command.specs.declared.task.Refusal.{Refusal}
 use Rattle.mst_command.specs.declared.task.Refusal.TheVariants.{Words, NotText, Shape, BadRoot, BadKey, Device, Memory}
+use Rattle.mst_command.specs.Loading.{asks_load, IsLoadOf, NamesLoad}
 
 -- the first word behind the program's name is `replay`
 abbrev pub asks_replay : List (Bor (List ℕ)) → Bool
@@ -89,7 +91,7 @@ is_plain_verify _ = false
 
 -- the words are of a plain form, and so are never refused by their form
 abbrev pub IsPlain : List (Bor (List ℕ)) → Type 0
-IsPlain words = ((shape : Size) × IsRunOf words shape) ⊎ (is_plain_replay words ≡ true) ⊎ (is_plain_verify words ≡ true)
+IsPlain words = ((shape : Size) × IsRunOf words shape) ⊎ (is_plain_replay words ≡ true) ⊎ (is_plain_verify words ≡ true) ⊎ ((size : LoadSize) × IsLoadOf words size)
 
 -- a word that asks for help: `help`, `--help`, or one that begins with `-h`
 abbrev pub IsHelp : List ℕ → Type 0
@@ -99,27 +101,50 @@ IsHelp word = (word ≡ codes "help") ⊎ (word ≡ codes "--help") ⊎ ((rest :
 abbrev pub AskHelp : List (Bor (List ℕ)) → Type 0
 AskHelp words = (word : Bor (List ℕ)) × Contains words word × IsHelp word.now
 
+-- a word that asks for the version: `--version`, or one that begins with `-V`
+abbrev pub IsVersion : List ℕ → Type 0
+IsVersion word = (word ≡ codes "--version") ⊎ ((rest : List ℕ) × (word ≡ codes "-V" ++ rest))
+
+-- the first word behind the program's name asks for the version
+abbrev pub AskVersion : List (Bor (List ℕ)) → Type 0
+AskVersion (program ∷ name ∷ words) = IsVersion name.now
+AskVersion _ = ⊥
+
+-- the words ask for a text that tells of the program
+abbrev pub AskText : List (Bor (List ℕ)) → Type 0
+AskText words = AskHelp words ⊎ AskVersion words
+
 abbrev pub is_replay : Task → Bool
 is_replay (Run shape) = false
 is_replay (Verify root key) = false
 is_replay Replay = true
+is_replay (Load size) = false
 is_replay (Help text) = false
+
+abbrev pub is_load : Task → Bool
+is_load (Run shape) = false
+is_load (Verify root key) = false
+is_load Replay = false
+is_load (Load size) = true
+is_load (Help text) = false
 
 abbrev pub verified_words : Task → Option (List ℕ × List ℕ)
 verified_words (Run shape) = None
 verified_words (Verify root key) = Some (root.now, key.now)
 verified_words Replay = None
+verified_words (Load size) = None
 verified_words (Help text) = None
 
--- a script's size is what plain words name
+-- a script's size, and a load's numbers, are what plain words name
 abbrev pub IsSized : List (Bor (List ℕ)) → Task → Type 0
 IsSized words (Run shape) = NamesShape words shape
+IsSized words (Load size) = NamesLoad words size
 IsSized words task = Unit {0}
 
--- The words ask for this task: some word for help, in no plain form, and else the first word behind the program's name for the rest.
+-- The words ask for this task: some word for help, or the first for the version, in no plain form, and else the first word behind the program's name for the rest.
 abbrev pub AsksFor : List (Bor (List ℕ)) → Task → Type 0
-AsksFor words (Help text) = AskHelp words × ¬ (IsPlain words)
-AsksFor words task = (is_replay task ≡ asks_replay words) × (verified_words task ≡ asks_verify words) × IsSized words task
+AsksFor words (Help text) = AskText words × ¬ (IsPlain words)
+AsksFor words task = (is_replay task ≡ asks_replay words) × (verified_words task ≡ asks_verify words) × IsSized words task × (is_load task ≡ asks_load words)
 
 -- how a script may end early
 abbrev pub EndsScript : Refusal → Type 0
@@ -142,6 +167,13 @@ EndsReplay Device = Unit {0}
 EndsReplay Memory = Unit {0}
 EndsReplay _ = ⊥
 
+-- how a load may end early
+abbrev pub EndsLoad : Refusal → Type 0
+EndsLoad Shape = Unit {0}
+EndsLoad Device = Unit {0}
+EndsLoad Memory = Unit {0}
+EndsLoad _ = ⊥
+
 -- how help may end early
 abbrev pub EndsHelp : Refusal → Type 0
 EndsHelp Device = Unit {0}
@@ -152,6 +184,7 @@ abbrev pub Ends : Task → Refusal → Type 0
 Ends (Run shape) why = EndsScript why
 Ends (Verify root key) why = EndsVerify why
 Ends Replay why = EndsReplay why
+Ends (Load size) why = EndsLoad why
 Ends (Help text) why = EndsHelp why
 
 -- how words may be refused

@@ -1,3 +1,4 @@
+pub mod Loading
 pub mod Commanding
 pub mod Recalling
 pub mod Reading

@@ -11,13 +11,14 @@ use Rattle.mst_verify.specs.declared.report.Report.{Report}
 use Rattle.mst_verify.specs.Words.{root_of, key_of}
 use Rattle.mst_verify.specs.Report.{limit, report_of, line_of, is_refusal}
 use Rattle.mst_command.specs.declared.task.Task.{Task}
-use Rattle.mst_command.specs.declared.task.Task.TheVariants.{Run, Verify, Replay as TaskReplay, Help}
+use Rattle.mst_command.specs.declared.task.Task.TheVariants.{Run, Verify, Replay as TaskReplay, Load, Help}
 use Rattle.mst_command.specs.declared.task.Ending.{Ending}
 use Rattle.mst_command.specs.declared.task.Ending.TheVariants.{Done, ProofRefused}
 use denote.Ref.{Bor}
 use Rattle.mst_command.specs.declared.task.Refusal.{Refusal}
 use Rattle.mst_command.specs.declared.task.Refusal.TheVariants.{Words, NotText, Shape as BadShape, BadRoot, BadKey, Device, Memory}
-use Rattle.mst_command.specs.Commanding.{AskHelp, AsksFor, IsPlain}
+use Rattle.mst_command.specs.Commanding.{AskText, AsksFor, IsPlain}
+use Rattle.mst_command.specs.Loading.{IsLoadSize, RanLoad, BrokeLoad}
 use Rattle.mst_command.specs.Recalling.{Recalls}
 
 -- how the program ends that said this
@@ -85,6 +86,7 @@ abbrev pub Did : {S W : Type 0} → (S → List ℕ → S → Type 0) → (S →
 Did gives left takes (Run shape) s w ending t x = RanScript gives takes shape s w t x × (left t ≡ 0) × (ending ≡ Done)
 Did gives left takes (Verify root key) s w ending t x = RanVerify gives left takes (root.now, key.now) s w ending t x
 Did gives left takes TaskReplay s w ending t x = RanReplay gives takes s w t x × (left t ≡ 0) × (ending ≡ Done)
+Did gives left takes (Load size) s w ending t x = RanLoad takes size w x × (t ≡ s) × (ending ≡ Done)
 Did gives left takes (Help text) s w ending t x = takes w (string_bytes text) x × (t ≡ s) × (ending ≡ Done)
 
 -- A device failed while the task was done: what was read, and what the sink took.
@@ -92,19 +94,21 @@ abbrev pub Broke : {S W : Type 0} → (S → List ℕ → S → Type 0) → (S �
 Broke gives left takes failures (Run shape) s w t x = BrokeScript gives takes failures shape s w t x
 Broke gives left takes failures (Verify root key) s w t x = (x ≡ w) ⊎ BrokeVerify gives left takes (root.now, key.now) s w t x
 Broke gives left takes failures TaskReplay s w t x = BrokeReplay gives takes failures s w t x
+Broke gives left takes failures (Load size) s w t x = BrokeLoad takes size w x × (t ≡ s)
 Broke gives left takes failures (Help text) s w t x = Breaks takes w [] (string_bytes text) x × (t ≡ s)
 
 -- A text of the words was written, for which some word of no plain form asked, and nothing was read.
 pub record Helped {S W : Type 0} (takes : W → List ℕ → W → Type 0) (words : List (Bor (List ℕ))) (s : S) (w : W) (t : S) (x : W) : Type 0 where
-  pub asked : AskHelp words
+  pub asked : AskText words
   pub other : ¬ (IsPlain words)
   pub text : List ℕ
   pub taken : takes w text x
   pub unread : t ≡ s
 
--- a task over a store that cannot have its size
+-- a task over a store that cannot have its size, or a load that cannot have its numbers
 abbrev pub HasBadShape : Task → Type 0
 HasBadShape (Run shape) = ¬ (IsShape shape)
+HasBadShape (Load size) = ¬ (IsLoadSize size)
 HasBadShape _ = ⊥
 
 -- a task whose word for the root digest spells none

@@ -6,6 +6,8 @@
 mod ending;
 mod events;
 mod input;
+mod loading;
+mod numbers;
 mod plain;
 mod programs;
 mod replay;
@@ -18,5 +20,5 @@ mod words;
 pub use ending::{DONE, PROOF_REFUSED, complain};
 pub use plain::plain_task;
 pub use programs::execute;
-pub use task::{Ending, Refusal, Task};
-pub use words::{ask_help, named_task};
+pub use task::{Ending, Load, Refusal, Task};
+pub use words::{ask_text, named_task};

@@ -1,8 +1,10 @@
 //! Words of a plain form, which name their task by themselves.
 ghost use Rattle.std.specs.Prelude.{◌≡◌, ◌↔◌, ◌<◌, ◌^◌, ℕ, Some, None, IfSome, IfNone, IsTrue, false, is_some, decimal};
 ghost use Rattle.std.specs.Option.{option_map};
+ghost use Rattle.mst_command.specs.Loading.{IsLoadOf};
 ghost use Rattle.mst_command.specs.Commanding.{AsksFor, IsPlain, IsRunOf, IsShapeIn, asks_run, asks_verify, is_dashed as begins_dashed, is_plain_replay as asks_replay_alone, is_plain_verify, one_option as one_named, options_of, two_options as two_named};
 
+use crate::numbers::plain_load;
 use crate::task::Task;
 use crate::words::verify_words;
 use itoa::Buffer;
@@ -71,8 +73,8 @@ fn is_numeral(word: &str, n: u32) -> bool
     buffer.format(n).as_bytes() == word.as_bytes()
 }
 
-// The number that the word is the numeral of.
-fn number(word: &str) -> Option<u32>
+/// The number that the word is the numeral of.
+pub fn number(word: &str) -> Option<u32>
     ensures some { IfSome result (λ n. word.now ≡ decimal n) }
     ensures only { (n : ℕ) → n < 2 ^ 32 → word.now ≡ decimal n → result ≡ Some n }
 {
@@ -130,8 +132,8 @@ fn plain_verify<'a>(words: &[&'a str]) -> Option<(&'a str, &'a str)>
     }
 }
 
-// The task of plain words that are no script.
-fn plain_other<'a>(words: &[&'a str]) -> Option<Task<'a>>
+// The task of plain words that read standard input and are no script.
+fn plain_reader<'a>(words: &[&'a str]) -> Option<Task<'a>>
     ensures asked { IfSome result (λ task. AsksFor words.now task) }
     ensures plain { IfNone result ((asks_replay_alone words.now ≡ false) × (is_plain_verify words.now ≡ false)) }
 {
@@ -142,7 +144,19 @@ fn plain_other<'a>(words: &[&'a str]) -> Option<Task<'a>>
     Some(Task::Verify(root, key))
 }
 
-/// The task that plain words ask for: `run` with `--rows N` and `--passes N` at most once each, `replay` alone, or `verify` and two words that begin with no dash.
+// The task of plain words that are no script.
+fn plain_other<'a>(words: &[&'a str]) -> Option<Task<'a>>
+    ensures asked { IfSome result (λ task. AsksFor words.now task) }
+    ensures plain { IfNone result ((asks_replay_alone words.now ≡ false) × (is_plain_verify words.now ≡ false) × ((size : _) → ¬ (IsLoadOf words.now size))) }
+{
+    match plain_load(words) {
+        Some(size) => Some(Task::Load(size)),
+        None => plain_reader(words),
+    }
+}
+
+/// The task that plain words ask for: `run` with `--rows N` and `--passes N` at most once each, `replay` alone, `verify` and two words that begin with no dash, or
+/// `load` with `--readers N`, `--writers N` and `--calls N` in this order.
 pub fn plain_task<'a>(words: &[&'a str]) -> Option<Task<'a>>
     ensures asked { IfSome result (λ task. AsksFor words.now task) }
     ensures plain { IfNone result (¬ (IsPlain words.now)) }

@@ -7,13 +7,16 @@ ghost use Rattle.mst_command.specs.Commanding.{IsDevice, Ends, EndsHelp, EndsRep
 ghost use Rattle.mst_command.specs.declared.task.Ending.TheVariants.{Done};
 
 use crate::events::replay_events;
+use crate::loading::run_load;
 use crate::task::{Ending, Refusal, Task};
 use crate::verify::run_verify;
 use mst_devices::{Device, Sink, Source, write_all};
 use mst_replay::Replay;
 use mst_script::{RunFault, run};
 use mst_store::{OpenFault, Shape, Store};
-use std::alloc::Allocator;
+use std::alloc::{AllocGlobal, Allocator};
+use std::sync::Wait;
+use std::thread::Threads;
 
 /// Answers the lines of the source over a new store.
 ///
@@ -99,10 +102,11 @@ fn show<W: Sink>(out: &mut W, text: &str) -> Result<Ending, Refusal>
 
 /// Does the task, and says how the program ends, or why it ends early.
 ///
-/// `Shape` comes for a size out of the store's limits, `BadRoot` and then `BadKey` for words that spell no root digest and no key, all before
-/// anything is read. `Memory` comes where a growth was refused: nothing was written then, and nothing read but a proof. `Device` comes where a read or a
-/// write failed.
-pub fn execute<A: Allocator + Copy, S: Source, W: Sink>(
+/// `Shape` comes for a size out of the store's limits and for numbers that a load may not have, `BadRoot` and then `BadKey` for words that spell no
+/// root digest and no key, all before anything is read or run. `Memory` comes where a growth was refused or a thread could not be started: nothing was
+/// written then, and nothing read but a proof. `Device` comes where a read or a write failed.
+pub fn execute<R: Threads + Wait + AllocGlobal + Sync, A: Allocator + Copy, S: Source, W: Sink>(
+    rt: &R,
     alloc: A,
     task: Task<'_>,
     source: &mut S,
@@ -126,6 +130,7 @@ pub fn execute<A: Allocator + Copy, S: Source, W: Sink>(
         Task::Run(shape) => run_script(alloc, shape, source, out),
         Task::Verify(root, key) => run_verify(alloc, root, key, source, out),
         Task::Replay => run_replay(alloc, source, out),
+        Task::Load(size) => run_load(rt, alloc, size, out),
         Task::Help(text) => show(out, text.as_str()),
     }
 }

@@ -1,6 +1,17 @@
 //! What a program is to do, and how it ends.
 use mst_store::Shape;
 
+/// The numbers of a load.
+#[derive(Clone, Copy, Debug, PartialEq, Eq)]
+pub struct Load {
+    /// How many threads read.
+    pub readers: u32,
+    /// How many threads write.
+    pub writers: u32,
+    /// How many calls each thread makes.
+    pub calls: u32,
+}
+
 /// What the words of a command line ask for.
 #[derive(Drop)]
 pub enum Task<'a> {
@@ -10,7 +21,9 @@ pub enum Task<'a> {
     Verify(&'a str, &'a str),
     /// To answer the events of a core.
     Replay,
-    /// To write this text, which tells of the words.
+    /// To let readers and writers work at one store at once, and to report what they left.
+    Load(Load),
+    /// To write this text, which tells of the words or of the program.
     Help(String),
 }
 
@@ -30,7 +43,7 @@ pub enum Refusal {
     Words(String),
     /// A word is not UTF-8.
     NotText,
-    /// The store cannot have this size.
+    /// The store cannot have this size, or a load these numbers.
     Shape,
     /// The word for the root digest is not 64 hexadecimal digits.
     BadRoot,
@@ -38,6 +51,6 @@ pub enum Refusal {
     BadKey,
     /// A read or a write failed.
     Device,
-    /// A growth was refused.
+    /// A growth was refused, or a thread could not be started.
     Memory,
 }

@@ -3,8 +3,10 @@ use crate::{DONE, Ending, Refusal, Task, complain, execute};
 use linked_list_allocator::LocalHeap;
 use mst_devices::{BytesSink, BytesSource};
 use mst_store::Shape;
-use std::alloc::Global;
+use std::alloc::AllocGlobal;
+use std::sync::Wait;
 use std::test::Fail;
+use std::thread::Threads;
 
 const SCRIPT: &[u8] = b"1 put 61 31\n2 get 61\n1 frob\n3 put 61 -\n4 get 61";
 
@@ -21,7 +23,7 @@ fn growths_are_refused(rt: HostRuntime) -> Result<(), Fail> {
         let mut source = BytesSource::new(SCRIPT);
         let mut out = BytesSink::new(rt.alloc(), 64)?;
         let mut err = BytesSink::new(rt.alloc(), 64)?;
-        match execute(&heap, Task::Run(shape), &mut source, &mut out) {
+        match execute(&rt, &heap, Task::Run(shape), &mut source, &mut out) {
             Ok(ending) => {
                 was_enough = true;
                 assert!(rt; ending == Ending::Done);
@@ -86,7 +88,7 @@ fn growths_of_a_replay_are_refused(rt: HostRuntime) -> Result<(), Fail> {
         let heap = LocalHeap::new(rt.alloc(), 64 + 4_096 * step)?;
         let mut source = BytesSource::new(EVENTS.as_bytes());
         let mut out = BytesSink::new(rt.alloc(), 256)?;
-        match execute(&heap, Task::Replay, &mut source, &mut out) {
+        match execute(&rt, &heap, Task::Replay, &mut source, &mut out) {
             Ok(ending) => {
                 was_enough = true;
                 assert!(rt; ending == Ending::Done);
@@ -108,12 +110,17 @@ fn growths_of_a_replay_are_refused(rt: HostRuntime) -> Result<(), Fail> {
 const TWO: &str = "d4a8a9fc55058427163bd8a1f09ca5ec542de1cdaf28df100be5472e47b72503";
 
 /// The status of a proof that is verified in a heap of so many bytes, and what was written.
-fn outcome_in(alloc: Global, size: usize, text: &[u8]) -> Result<(u8, Vec<u8>), Fail> {
+fn outcome_in<R: Threads + Wait + AllocGlobal + Sync>(
+    rt: &R,
+    size: usize,
+    text: &[u8],
+) -> Result<(u8, Vec<u8>), Fail> {
+    let alloc = rt.alloc();
     let heap = LocalHeap::new(alloc, size)?;
     let mut source = BytesSource::new(text);
     let mut out = BytesSink::new(alloc, 64)?;
     let mut err = BytesSink::new(alloc, 64)?;
-    let status = match execute(&heap, Task::Verify(TWO, "62"), &mut source, &mut out) {
+    let status = match execute(rt, &heap, Task::Verify(TWO, "62"), &mut source, &mut out) {
         Ok(_) => DONE,
         Err(why) => complain(&mut err, &why),
     };
@@ -128,7 +135,7 @@ fn growths_of_a_proof_are_refused(rt: HostRuntime) -> Result<(), Fail> {
     let mut was_short = false;
     let mut was_enough = false;
     for step in 0..60 {
-        let (status, written) = outcome_in(rt.alloc(), 64 + 4_096 * step, text.as_slice())?;
+        let (status, written) = outcome_in(&rt, 64 + 4_096 * step, text.as_slice())?;
         if status == DONE {
             was_enough = true;
             assert_eq!(rt; written.as_slice(), b"P1\n".as_slice());

@@ -1,5 +1,5 @@
 use Rattle.std.proofs.Common.{rules}
-use Rattle.mst_command.proofs.Ends.{script_root, script_key, verify_shape, replay_shape, replay_root, replay_key, help_shape, help_root, help_key}
+use Rattle.mst_command.proofs.Ends.{script_root, script_key, verify_shape, replay_shape, replay_root, replay_key, load_root, load_key, help_shape, help_root, help_key}
 use Rattle.mst_command.proofs.programs.execute.Goals as goal
 
 pub returns-in-Run-clause-root : goal.returns-in-Run-clause-root
@@ -19,6 +19,12 @@ returns-in-Replay-clause-root g c = search (rules, replay_root)
 
 pub returns-in-Replay-clause-key : goal.returns-in-Replay-clause-key
 returns-in-Replay-clause-key g c = search (rules, replay_key)
+
+pub returns-in-Load-clause-root : goal.returns-in-Load-clause-root
+returns-in-Load-clause-root g c = search (rules, load_root)
+
+pub returns-in-Load-clause-key : goal.returns-in-Load-clause-key
+returns-in-Load-clause-key g c = search (rules, load_key)
 
 pub returns-in-Help-clause-shape : goal.returns-in-Help-clause-shape
 returns-in-Help-clause-shape g c = search (rules, help_shape)
