@@ -2,6 +2,7 @@
 ghost use Rattle.std.specs.Prelude.{◌≡◌, ◌<◌, ◌-◌, ◌+◌, ◌^◌, ◌↔◌, ◌⊎◌, OnOk, IfOk, IfErr, IsErrOf, [], Some, None, true, false};
 ghost use Rattle.mst_devices.specs.Device.{Breaks};
 ghost use Rattle.mst_command.specs.Programs.{RanScript, RanReplay, RanVerify, Helped, Broke, Comes};
+ghost use Rattle.mst_command.specs.Loading.{NamesLoad, RanLoad, asks_load};
 ghost use Rattle.mst_command.specs.Commanding.{AsksFor, IsDevice, NamesShape, Untouched, Unread, asks_replay, asks_verify, status_of, told};
 ghost use Rattle.mst_command.specs.declared.task.Refusal.TheVariants.{Device};
 ghost use Rattle.mst_command.specs.declared.task.Ending.TheVariants.{Done, ProofRefused};
@@ -9,10 +10,13 @@ ghost use Rattle.mst_command.specs.declared.task.Ending.TheVariants.{Done, Proof
 use crate::words::task_of;
 use mst_command::{DONE, Ending, PROOF_REFUSED, Refusal, complain, execute};
 use mst_devices::{Sink, Source};
-use std::alloc::Global;
+use std::alloc::{AllocGlobal, Global};
+use std::sync::Wait;
+use std::thread::Threads;
 
 // Does what the words ask for.
-fn perform<S: Source, W: Sink>(
+fn perform<R: Threads + Wait + AllocGlobal + Sync, S: Source, W: Sink>(
+    rt: &R,
     alloc: Global,
     words: &[&str],
     source: &mut S,
@@ -20,8 +24,9 @@ fn perform<S: Source, W: Sink>(
 ) -> Result<Ending, Refusal>
     requires source { S.failures source.old < 2 ^ 64 - 1 }
     requires out { W.failures out.old < 2 ^ 64 - 1 }
-    ensures ran { asks_replay words.now ≡ false → asks_verify words.now ≡ None → OnOk result (((shape : _) × NamesShape words.now shape × RanScript S.gives W.takes shape source.old out.old source.new out.new × (S.left source.new ≡ 0)) ⊎ Helped W.takes words.now source.old out.old source.new out.new) }
+    ensures ran { asks_replay words.now ≡ false → asks_verify words.now ≡ None → asks_load words.now ≡ false → OnOk result (((shape : _) × NamesShape words.now shape × RanScript S.gives W.takes shape source.old out.old source.new out.new × (S.left source.new ≡ 0)) ⊎ Helped W.takes words.now source.old out.old source.new out.new) }
     ensures replayed { asks_replay words.now ≡ true → OnOk result ((RanReplay S.gives W.takes source.old out.old source.new out.new × (S.left source.new ≡ 0)) ⊎ Helped W.takes words.now source.old out.old source.new out.new) }
+    ensures loaded { asks_load words.now ≡ true → OnOk result (((size : _) × NamesLoad words.now size × RanLoad W.takes size out.old out.new × (source.new ≡ source.old)) ⊎ Helped W.takes words.now source.old out.old source.new out.new) }
     ensures verified { IfOk result (λ ending. (named : _) → asks_verify words.now ≡ Some named → RanVerify S.gives S.left W.takes named source.old out.old ending source.new out.new ⊎ (Helped W.takes words.now source.old out.old source.new out.new × (ending ≡ Done))) }
     ensures others { IfOk result (λ ending. asks_verify words.now ≡ None → ending ≡ Done) }
     ensures steady { OnOk result (S.failures source.new + W.failures out.new ≡ S.failures source.old + W.failures out.old) }
@@ -33,29 +38,33 @@ fn perform<S: Source, W: Sink>(
     ensures unwritten { IfErr result (λ why. Untouched why out.old out.new) }
 {
     match task_of(alloc, words) {
-        Ok(task) => execute(alloc, task, source, out),
+        Ok(task) => execute(rt, alloc, task, source, out),
         Err(why) => Err(why),
     }
 }
 
 /// Does what the words ask for, the first of which is the program's name, and answers the exit
 /// status: 0 done, 1 a proof refused, 2 words refused, 3 a read or a write failed, 4 a growth was
-/// refused. With 2, 3 and 4 it says so on standard error, with 2 by clap's own text, `shape`,
-/// `bad root` or `bad key`.
-pub fn command<S: Source, O: Sink, E: Sink>(
+/// refused or a thread could not be started. With 2, 3 and 4 it says so on standard error, with 2 by
+/// clap's own text, `shape`, `bad root` or `bad key`.
+pub fn command<R, S: Source, O: Sink, E: Sink>(
+    rt: &R,
     alloc: Global,
     words: &[&str],
     source: &mut S,
     out: &mut O,
     err: &mut E,
 ) -> u8
+where
+    R: Threads + Wait + AllocGlobal + Sync,
     requires source { S.failures source.old < 2 ^ 64 - 1 }
     requires out { O.failures out.old < 2 ^ 64 - 1 }
     requires err { E.failures err.old < 2 ^ 64 - 1 }
     ensures range { (result ≡ 0) ⊎ (result ≡ 1) ⊎ (result ≡ 2) ⊎ (result ≡ 3) ⊎ (result ≡ 4) }
     ensures device { (result ≡ 3) ↔ (S.failures source.old + O.failures out.old + E.failures err.old < S.failures source.new + O.failures out.new + E.failures err.new) }
-    ensures done { result ≡ 0 → asks_replay words.now ≡ false → asks_verify words.now ≡ None → ((shape : _) × NamesShape words.now shape × RanScript S.gives O.takes shape source.old out.old source.new out.new × (S.left source.new ≡ 0)) ⊎ Helped O.takes words.now source.old out.old source.new out.new }
+    ensures done { result ≡ 0 → asks_replay words.now ≡ false → asks_verify words.now ≡ None → asks_load words.now ≡ false → ((shape : _) × NamesShape words.now shape × RanScript S.gives O.takes shape source.old out.old source.new out.new × (S.left source.new ≡ 0)) ⊎ Helped O.takes words.now source.old out.old source.new out.new }
     ensures replayed { result ≡ 0 → asks_replay words.now ≡ true → (RanReplay S.gives O.takes source.old out.old source.new out.new × (S.left source.new ≡ 0)) ⊎ Helped O.takes words.now source.old out.old source.new out.new }
+    ensures loaded { result ≡ 0 → asks_load words.now ≡ true → ((size : _) × NamesLoad words.now size × RanLoad O.takes size out.old out.new × (source.new ≡ source.old)) ⊎ Helped O.takes words.now source.old out.old source.new out.new }
     ensures verified { result ≡ 0 → (named : _) → asks_verify words.now ≡ Some named → RanVerify S.gives S.left O.takes named source.old out.old Done source.new out.new ⊎ Helped O.takes words.now source.old out.old source.new out.new }
     ensures proof_refused { result ≡ 1 → (named : _) × (asks_verify words.now ≡ Some named) × RanVerify S.gives S.left O.takes named source.old out.old ProofRefused source.new out.new }
     ensures silent { (result ≡ 0) ⊎ (result ≡ 1) → err.new ≡ err.old }
@@ -65,7 +74,7 @@ pub fn command<S: Source, O: Sink, E: Sink>(
     ensures memory { result ≡ 4 → out.new ≡ out.old }
     ensures memory_unread { result ≡ 4 → asks_verify words.now ≡ None → source.new ≡ source.old }
 {
-    match perform(alloc, words, source, out) {
+    match perform(rt, alloc, words, source, out) {
         Ok(Ending::Done) => DONE,
         Ok(Ending::ProofRefused) => PROOF_REFUSED,
         Err(why) => complain(err, &why),

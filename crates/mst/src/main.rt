@@ -38,6 +38,7 @@ fn main(rt: HostRuntime) -> ExitCode {
     };
     let words: Vec<&str> = words;
     ExitCode::from(command(
+        &rt,
         rt.alloc(),
         words.as_slice(),
         &mut source,

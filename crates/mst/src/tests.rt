@@ -1,5 +1,6 @@
 //! What no clause says: whole scripts, the texts for the user, and devices that fail.
 mod failures;
+mod loads;
 mod proofs;
 mod replays;
 mod scripts;
@@ -7,7 +8,9 @@ mod words;
 
 use crate::command::command;
 use mst_devices::{BytesSink, BytesSource};
-use std::alloc::{AllocError, Global};
+use std::alloc::{AllocError, AllocGlobal};
+use std::sync::Wait;
+use std::thread::Threads;
 
 /// The exit status of a program, and what it wrote.
 #[derive(Drop)]
@@ -18,11 +21,16 @@ struct Outcome {
 }
 
 /// Runs the program over memory.
-fn outcome_of(alloc: Global, words: &[&str], input: &[u8]) -> Result<Outcome, AllocError> {
+fn outcome_of<R: Threads + Wait + AllocGlobal + Sync>(
+    rt: &R,
+    words: &[&str],
+    input: &[u8],
+) -> Result<Outcome, AllocError> {
+    let alloc = rt.alloc();
     let mut source = BytesSource::new(input);
     let mut out = BytesSink::new(alloc, 65_536)?;
     let mut err = BytesSink::new(alloc, 65_536)?;
-    let status = command(alloc, words, &mut source, &mut out, &mut err);
+    let status = command(rt, alloc, words, &mut source, &mut out, &mut err);
     Ok(Outcome {
         status,
         out: out.bytes().to_vec(alloc)?,

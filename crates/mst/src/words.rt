@@ -4,12 +4,48 @@ ghost use Rattle.mst_command.specs.Commanding.{AsksFor, EndsWords, IsPlain};
 
 use clap::error::ErrorKind;
 use clap::{Arg, ArgAction, ArgMatches, Command, Error, value_parser};
-use mst_command::{Refusal, Task, ask_help, named_task, plain_task};
+use mst_command::{Load, Refusal, Task, ask_text, named_task, plain_task};
 use mst_store::Shape;
 use std::alloc::{AllocError, Global};
 
-// The program, with its commands.
-fn program<'a>(alloc: Global) -> Result<Command<'a>, AllocError> {
+/// What the help says behind the commands and the options.
+const AFTER_HELP: &str = "Examples:
+  mst run --rows 64 --passes 2 < script
+  mst verify ROOT KEY < proof
+  mst load --readers 4 --writers 2 --calls 1000
+
+Exit statuses:
+  0  what the words ask for is done
+  1  the proof is refused
+  2  the words are refused
+  3  a read or a write failed
+  4  memory was refused, or a thread could not be started";
+
+// An option that is a number and has to be given.
+fn required_number<'a>(alloc: Global, name: &'a str, help: &'a str) -> Arg<'a> {
+    Arg::new(alloc, name)
+        .long(name)
+        .value_name("N")
+        .help(help)
+        .required(true)
+        .action(ArgAction::Set)
+        .value_parser(value_parser!(u32))
+}
+
+// The command of a load.
+fn load_command<'a>(alloc: Global) -> Result<Command<'a>, AllocError> {
+    let readers = required_number(alloc, "readers", "How many threads read, 1 to 24");
+    let writers = required_number(alloc, "writers", "How many threads write, 1 to 8");
+    let calls = required_number(alloc, "calls", "How many calls each makes, 1 to 100000");
+    Command::new(alloc, "load")
+        .about("Lets threads read and write one store at once, and reports what they left")
+        .arg(readers)?
+        .arg(writers)?
+        .arg(calls)
+}
+
+// The command of a script.
+fn run_command<'a>(alloc: Global) -> Result<Command<'a>, AllocError> {
     let rows = Arg::new(alloc, "rows")
         .long("rows")
         .value_name("N")
@@ -24,13 +60,14 @@ fn program<'a>(alloc: Global) -> Result<Command<'a>, AllocError> {
         .action(ArgAction::Set)
         .value_parser(value_parser!(u32))
         .default_value("4");
-    let run = Command::new(alloc, "run")
+    Command::new(alloc, "run")
         .about("Answers the lines of standard input, each of them a command of a pass")
         .arg(rows)?
-        .arg(passes)?;
-    let replay = Command::new(alloc, "replay").about(
-        "Answers the lines of standard input, each of them an event of the core of pins",
-    );
+        .arg(passes)
+}
+
+// The command that verifies a proof.
+fn verify_command<'a>(alloc: Global) -> Result<Command<'a>, AllocError> {
     let root = Arg::new(alloc, "ROOT")
         .required(true)
         .action(ArgAction::Set)
@@ -39,20 +76,30 @@ fn program<'a>(alloc: Global) -> Result<Command<'a>, AllocError> {
         .required(true)
         .action(ArgAction::Set)
         .help("The key, 1 to 32 bytes of two hexadecimal digits each");
-    let verify = Command::new(alloc, "verify")
+    Command::new(alloc, "verify")
         .about("Says what the proof on standard input, in hexadecimal, shows of a key")
         .arg(root)?
-        .arg(key)?;
+        .arg(key)
+}
+
+// The program, with its commands.
+fn program<'a>(alloc: Global) -> Result<Command<'a>, AllocError> {
+    let replay = Command::new(alloc, "replay").about(
+        "Answers the lines of standard input, each of them an event of the core of pins",
+    );
     Command::new(alloc, "mst")
         .about("A map of short keys to short values, shared by several passes")
         .subcommand_required(true)
         .arg_required_else_help(true)
-        .subcommand(run)?
-        .subcommand(verify)?
-        .subcommand(replay)
+        .version("0.1.0")
+        .after_help(AFTER_HELP)
+        .subcommand(run_command(alloc)?)?
+        .subcommand(verify_command(alloc)?)?
+        .subcommand(replay)?
+        .subcommand(load_command(alloc)?)
 }
 
-// The number that an option gives. Each option has a default, so there is one.
+// The number that an option gives. Each option has a default or has to be given, so there is one where its command is.
 fn number(matches: &ArgMatches<'_>, option: &str) -> u32 {
     matches.get_one::<u32>(option).unwrap_or_default()
 }
@@ -69,10 +116,16 @@ fn task_in<'a>(alloc: Global, words: &[&'a str]) -> Result<Task<'a>, Error>
         rows: number(run, "rows"),
         passes: number(run, "passes"),
     };
-    Ok(named_task(words, shape))
+    let load = matches.subcommand_matches("load").unwrap_or(&matches);
+    let size = Load {
+        readers: number(load, "readers"),
+        writers: number(load, "writers"),
+        calls: number(load, "calls"),
+    };
+    Ok(named_task(words, shape, size))
 }
 
-// What clap answers words that name no task: help that was asked for is one, and all else is a refusal.
+// What clap answers words that name no task: help and the version that were asked for are one, and all else is a refusal.
 fn answer_words<'a>(alloc: Global, words: &[&'a str], error: &Error) -> Result<Task<'a>, Refusal>
     requires { ¬ (IsPlain words.now) }
     ensures help { IfOk result (λ task. AsksFor words.now task) }
@@ -84,7 +137,7 @@ fn answer_words<'a>(alloc: Global, words: &[&'a str], error: &Error) -> Result<T
     let Ok(text) = format!(in alloc; "{error}") else {
         return Err(Refusal::Memory);
     };
-    if error.use_stderr() || !ask_help(words) {
+    if error.use_stderr() || !ask_text(words) {
         return Err(Refusal::Words(text));
     }
     Ok(Task::Help(text))

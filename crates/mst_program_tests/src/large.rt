@@ -3,9 +3,11 @@ use mst_command::{Ending, Refusal, execute, plain_task};
 use mst_devices::{BytesSink, BytesSource};
 use mst_key::Key;
 use mst_node::digest;
-use std::alloc::Global;
+use std::alloc::{AllocGlobal, Global};
 use std::process::Abort;
+use std::sync::Wait;
 use std::test::Fail;
+use std::thread::Threads;
 
 const COUNT: u16 = 1_000;
 
@@ -88,13 +90,18 @@ fn answers_of(
 }
 
 // What the program of these words, which are of a plain form, wrote, if it did what they ask for.
-fn output_of(alloc: Global, words: &[&str], input: &[u8]) -> Result<Vec<u8>, Fail> {
+fn output_of<R: Threads + Wait + AllocGlobal + Sync>(
+    rt: &R,
+    words: &[&str],
+    input: &[u8],
+) -> Result<Vec<u8>, Fail> {
+    let alloc = rt.alloc();
     let mut source = BytesSource::new(input);
     let mut out = BytesSink::new(alloc, 1_000_000)?;
     let Some(task) = plain_task(words) else {
         return Err("words of no plain form".into());
     };
-    match execute(alloc, task, &mut source, &mut out) {
+    match execute(rt, alloc, task, &mut source, &mut out) {
         Ok(Ending::Done) => Ok(out.bytes().to_vec(alloc)?),
         Ok(Ending::ProofRefused) => Err("a proof was refused".into()),
         Err(Refusal::Memory) => Err("memory was refused".into()),
@@ -115,14 +122,14 @@ fn a_node_of_a_thousand_keys(rt: HostRuntime) -> Result<(), Fail> {
     let proof = hex::encode(alloc, proof_of(alloc, node.as_slice())?.as_slice())?;
     let script = script_of(alloc, numbers)?;
     let words = ["mst", "run", "--rows", "2100", "--passes", "1"];
-    let output = output_of(alloc, &words, script.as_slice())?;
+    let output = output_of(&rt, &words, script.as_slice())?;
     let answers = answers_of(alloc, numbers, text.as_str(), proof.as_str())?;
     assert!(rt; output.as_slice() == answers.as_slice());
     let words = ["mst", "verify", root.as_str(), "ffff"];
-    let verdict = output_of(alloc, &words, proof.as_bytes())?;
+    let verdict = output_of(&rt, &words, proof.as_bytes())?;
     assert!(rt; verdict.as_slice() == b"absent\n".as_slice());
     let words = ["mst", "verify", root.as_str(), "0000"];
-    let verdict = output_of(alloc, &words, proof.as_bytes())?;
+    let verdict = output_of(&rt, &words, proof.as_bytes())?;
     let zeros = hex::encode(alloc, [0u8; 64].as_slice())?;
     let present = format!(in alloc; "present {zeros}\n")?;
     assert!(rt; verdict.as_slice() == present.as_bytes());

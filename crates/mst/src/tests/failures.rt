@@ -1,13 +1,22 @@
 //! Devices that fail, and devices that take their time.
 use crate::command::command;
 use mst_devices::{StdSink, StdSource};
-use std::alloc::Global;
+use std::alloc::{AllocGlobal, Global};
 use std::io::{self, Read, Write};
+use std::sync::Wait;
 use std::test::Fail;
+use std::thread::Threads;
 
 const SCRIPT: &[u8] = b"1 put 61 31\n2 get 61\n1 frob\n3 put 61 -\n4 get 61";
 
 const ANSWERS: &[u8] = b"none\nsome 31\nfault L3\nsome 31\nsome -\n";
+
+/// The report of a load of one call: the digest is the SHA-256 of the text of the node that has the key 0101 with the value 00000001.
+const ONE_CALL_EACH: &str = "events 1
+falls 0
+root d67d0c748b5dfcf53175350f0cc336e4b706fbc761243e4b7056b5b010063223
+built d67d0c748b5dfcf53175350f0cc336e4b706fbc761243e4b7056b5b010063223
+";
 
 /// Reads at most so many bytes at a time, and fails after so many reads.
 #[derive(Drop)]
@@ -71,8 +80,8 @@ impl Write for Writer {
 }
 
 /// Runs a command between such devices, and answers the exit status.
-fn command_status(
-    alloc: Global,
+fn command_status<R: Threads + Wait + AllocGlobal + Sync>(
+    rt: &R,
     words: &[&str],
     reader: Reader<'_>,
     out: &mut Writer,
@@ -81,12 +90,17 @@ fn command_status(
     let mut source = StdSource::new(reader);
     let mut out = StdSink::new(out);
     let mut err = StdSink::new(err);
-    command(alloc, words, &mut source, &mut out, &mut err)
+    command(rt, rt.alloc(), words, &mut source, &mut out, &mut err)
 }
 
 /// Runs the script between such devices, and answers the exit status.
-fn status_of(alloc: Global, reader: Reader<'_>, out: &mut Writer, err: &mut Writer) -> u8 {
-    command_status(alloc, &["mst", "run"], reader, out, err)
+fn status_of<R: Threads + Wait + AllocGlobal + Sync>(
+    rt: &R,
+    reader: Reader<'_>,
+    out: &mut Writer,
+    err: &mut Writer,
+) -> u8 {
+    command_status(rt, &["mst", "run"], reader, out, err)
 }
 
 // One byte at a read and one at a write.
@@ -100,7 +114,7 @@ fn devices_may_take_their_time(rt: HostRuntime) -> Result<(), Fail> {
         };
         let mut out = Writer::new(rt.alloc(), write_most, u64::MAX, false);
         let mut err = Writer::new(rt.alloc(), 1, u64::MAX, false);
-        let status = status_of(rt.alloc(), reader, &mut out, &mut err);
+        let status = status_of(&rt, reader, &mut out, &mut err);
         assert_eq!(rt; out.bytes.as_slice(), ANSWERS);
         assert_eq!(rt; err.bytes.len(), 0);
         assert_eq!(rt; status, 0);
@@ -128,7 +142,7 @@ fn reads_fail(rt: HostRuntime) -> Result<(), Fail> {
         };
         let mut out = Writer::new(rt.alloc(), 64, u64::MAX, false);
         let mut err = Writer::new(rt.alloc(), 64, u64::MAX, false);
-        let status = status_of(rt.alloc(), reader, &mut out, &mut err);
+        let status = status_of(&rt, reader, &mut out, &mut err);
         assert_eq!(rt;
             out.bytes.as_slice(),
             &ANSWERS[..answered],
@@ -152,7 +166,7 @@ fn writes_fail(rt: HostRuntime) -> Result<(), Fail> {
             };
             let mut out = Writer::new(rt.alloc(), 1, writes, by_zero);
             let mut err = Writer::new(rt.alloc(), 64, u64::MAX, false);
-            let status = status_of(rt.alloc(), reader, &mut out, &mut err);
+            let status = status_of(&rt, reader, &mut out, &mut err);
             assert_eq!(rt; out.bytes.len() as u64, writes);
             assert!(rt; ANSWERS.starts_with(out.bytes.as_slice()));
             assert_eq!(rt; err.bytes.as_slice(), b"device\n".as_slice());
@@ -185,7 +199,7 @@ fn devices_of_a_replay_fail(rt: HostRuntime) -> Result<(), Fail> {
         let mut out = Writer::new(rt.alloc(), 1, writes, false);
         let mut err = Writer::new(rt.alloc(), 64, u64::MAX, false);
         assert_eq!(rt;
-            command_status(rt.alloc(), &["mst", "replay"], reader, &mut out, &mut err),
+            command_status(&rt, &["mst", "replay"], reader, &mut out, &mut err),
             status
         );
         assert_eq!(rt;
@@ -220,11 +234,38 @@ fn devices_of_a_proof_fail(rt: HostRuntime) -> Result<(), Fail> {
         let mut out = Writer::new(rt.alloc(), 1, writes, by_zero);
         let mut err = Writer::new(rt.alloc(), 64, u64::MAX, false);
         let words = ["mst", "verify", root, "61"];
-        let got = command_status(rt.alloc(), words.as_slice(), reader, &mut out, &mut err);
+        let got = command_status(&rt, words.as_slice(), reader, &mut out, &mut err);
         assert_eq!(rt; got, status, "after {reads} reads");
         assert_eq!(rt; out.bytes.as_slice(), &b"absent\n".as_slice()[..written]);
         let said = if status == 3 { "device\n" } else { "" };
         assert_eq!(rt; err.bytes.as_slice(), said.as_bytes());
+    }
+    Ok(())
+}
+
+// With a write that fails in any of the four lines of a load's report, what was written is a beginning of them.
+#[test]
+fn devices_of_a_load_fail(rt: HostRuntime) -> Result<(), Fail> {
+    let lines = ONE_CALL_EACH.as_bytes();
+    let words = [
+        "mst", "load", "--readers", "1", "--writers", "1", "--calls", "1",
+    ];
+    for by_zero in [false, true] {
+        // in each line, and between one and the next
+        for (writes, status) in [(0, 3), (4, 3), (9, 3), (12, 3), (17, 3), (50, 3), (87, 3), (100, 3), (157, 3), (158, 0)] {
+            let reader = Reader {
+                rest: b"",
+                most: 9,
+                reads: 0,
+            };
+            let mut out = Writer::new(rt.alloc(), 1, writes, by_zero);
+            let mut err = Writer::new(rt.alloc(), 64, u64::MAX, false);
+            let got = command_status(&rt, words.as_slice(), reader, &mut out, &mut err);
+            assert_eq!(rt; got, status, "after {writes} writes");
+            assert_eq!(rt; out.bytes.as_slice(), &lines[..writes as usize]);
+            let said = if status == 3 { "device\n" } else { "" };
+            assert_eq!(rt; err.bytes.as_slice(), said.as_bytes());
+        }
     }
     Ok(())
 }
@@ -240,7 +281,7 @@ fn standard_error_fails(rt: HostRuntime) -> Result<(), Fail> {
         };
         let mut out = Writer::new(rt.alloc(), 64, u64::MAX, false);
         let mut err = Writer::new(rt.alloc(), 64, 0, false);
-        assert_eq!(rt; status_of(rt.alloc(), reader, &mut out, &mut err), status);
+        assert_eq!(rt; status_of(&rt, reader, &mut out, &mut err), status);
     }
     Ok(())
 }

@@ -1,8 +1,10 @@
 //! Proofs that are verified.
 use super::outcome_of;
-use std::alloc::Global;
+use std::alloc::AllocGlobal;
 use std::process::Abort;
+use std::sync::Wait;
 use std::test::Fail;
+use std::thread::Threads;
 
 const NOTHING: &str = "e3b0c44298fc1c149afbf4c8996fb92427ae41e4649b934ca495991b7852b855";
 
@@ -22,14 +24,13 @@ const THREE_PROOF: &str =
     "01020000004b01010001017dfdf041db1f9c4de0e5e646a376510cfb7c4e47760ef8f74cb3181b74c061e6023339017901d2c0950048c47bae86f8557f6e7357048963954bbb6f1328ea6cc19d8898c5d80000000a01000001000131017800";
 
 /// Verifies each proof, and compares the line and the status.
-fn compare(
-    rt: &impl Abort,
-    alloc: Global,
+fn compare<R: Abort + Threads + Wait + AllocGlobal + Sync>(
+    rt: &R,
     rows: &[(&str, &str, &str, &str, u8)],
 ) -> Result<(), Fail> {
     for (root, key, proof, line, status) in rows {
         let words = ["mst", "verify", *root, *key];
-        let outcome = outcome_of(alloc, words.as_slice(), proof.as_bytes())?;
+        let outcome = outcome_of(rt, words.as_slice(), proof.as_bytes())?;
         assert_eq!(rt; outcome.out.as_slice(), line.as_bytes(), "{key} in {proof}");
         assert_eq!(rt; outcome.err.len(), 0);
         assert_eq!(rt; outcome.status, *status);
@@ -53,7 +54,6 @@ fn proofs_of_one_node(rt: HostRuntime) -> Result<(), Fail> {
     let empty_proof = "010100000009010000010001610000";
     compare(
         &rt,
-        rt.alloc(),
         &[
             (TWO, "62", TWO_PROOF, "absent\n", 0),
             (TWO, "61", TWO_PROOF, "present 31\n", 0),
@@ -71,7 +71,6 @@ fn proofs_of_one_node(rt: HostRuntime) -> Result<(), Fail> {
 fn proofs_of_the_empty_map(rt: HostRuntime) -> Result<(), Fail> {
     compare(
         &rt,
-        rt.alloc(),
         &[
             (NOTHING, "61", "0100", "absent\n", 0),
             (NOTHING, "61", "", "P2\n", 1),
@@ -87,7 +86,6 @@ fn proofs_of_the_empty_map(rt: HostRuntime) -> Result<(), Fail> {
 fn proofs_of_two_nodes(rt: HostRuntime) -> Result<(), Fail> {
     compare(
         &rt,
-        rt.alloc(),
         &[
             (THREE, "31", THREE_PROOF, "present 78\n", 0),
             (
@@ -124,7 +122,6 @@ fn texts_are_read(rt: HostRuntime) -> Result<(), Fail> {
     let upper = "E3B0C44298FC1C149AFBF4C8996FB92427AE41E4649B934CA495991B7852B855";
     compare(
         &rt,
-        rt.alloc(),
         &[
             (upper, "6A", "0100\n", "absent\n", 0),
             (NOTHING, "61", "\n", "P2\n", 1),
@@ -149,7 +146,7 @@ fn long_texts(rt: HostRuntime) -> Result<(), Fail> {
     ] {
         let text = vec![in rt.alloc(); byte; size]?;
         let words = ["mst", "verify", TWO, "62"];
-        let outcome = outcome_of(rt.alloc(), words.as_slice(), text.as_slice())?;
+        let outcome = outcome_of(&rt, words.as_slice(), text.as_slice())?;
         assert_eq!(rt; outcome.out.as_slice(), line.as_bytes(), "{size}");
         assert_eq!(rt; outcome.status, 1);
     }

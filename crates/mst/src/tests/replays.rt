@@ -59,7 +59,7 @@ fn events_are_answered(rt: HostRuntime) -> Result<(), Fail> {
         ),
     ];
     for (events, answers) in rows {
-        let outcome = outcome_of(rt.alloc(), &["mst", "replay"], events.as_bytes())?;
+        let outcome = outcome_of(&rt, &["mst", "replay"], events.as_bytes())?;
         assert_eq!(rt; outcome.out.as_slice(), answers.as_bytes(), "to {events}");
         assert_eq!(rt; outcome.err.len(), 0);
         assert_eq!(rt; outcome.status, 0);
@@ -75,7 +75,7 @@ fn long_lines_are_faults(rt: HostRuntime) -> Result<(), Fail> {
         let whole = events.len() + length;
         events.resize(whole, b'1')?;
         events.extend_from_slice(b"\nunpin 1\n")?;
-        let outcome = outcome_of(rt.alloc(), &["mst", "replay"], events.as_slice())?;
+        let outcome = outcome_of(&rt, &["mst", "replay"], events.as_slice())?;
         let answers = b"records 3\nrecord 0\nfault line\ndone\n".as_slice();
         assert_eq!(rt; outcome.out.as_slice(), answers, "at {length}");
         assert_eq!(rt; outcome.status, 0);

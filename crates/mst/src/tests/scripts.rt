@@ -27,7 +27,7 @@ fn scripts_are_answered(rt: HostRuntime) -> Result<(), Fail> {
         ),
     ];
     for (script, answers) in rows {
-        let outcome = outcome_of(rt.alloc(), &["mst", "run"], script)?;
+        let outcome = outcome_of(&rt, &["mst", "run"], script)?;
         assert_eq!(rt; outcome.out.as_slice(), answers.as_bytes());
         assert_eq!(rt; outcome.err.len(), 0);
         assert_eq!(rt; outcome.status, 0);
@@ -40,7 +40,7 @@ fn scripts_are_answered(rt: HostRuntime) -> Result<(), Fail> {
 fn rows_run_out(rt: HostRuntime) -> Result<(), Fail> {
     let script =
         b"1 put 61 -\n1 put 62 -\n1 put 63 -\n1 put 61 31\n1 get 63\n1 del 62\n1 put 63 -\n1 rows\n";
-    let outcome = outcome_of(rt.alloc(), &["mst", "run", "--rows=6"], script)?;
+    let outcome = outcome_of(&rt, &["mst", "run", "--rows=6"], script)?;
     let answers = b"none\nnone\nnoroom\nsome -\nnone\nsome -\nnone\nrows 3\n";
     assert_eq!(rt; outcome.out.as_slice(), answers.as_slice());
     assert_eq!(rt; outcome.status, 0);
@@ -68,7 +68,7 @@ fn pins_are_answered(rt: HostRuntime) -> Result<(), Fail> {
         ),
     ];
     for (words, script, answers) in rows {
-        let outcome = outcome_of(rt.alloc(), words, script)?;
+        let outcome = outcome_of(&rt, words, script)?;
         assert_eq!(rt; outcome.out.as_slice(), answers.as_bytes());
         assert_eq!(rt; outcome.err.len(), 0);
         assert_eq!(rt; outcome.status, 0);

@@ -10,10 +10,33 @@ Commands:
   run     Answers the lines of standard input, each of them a command of a pass
   verify  Says what the proof on standard input, in hexadecimal, shows of a key
   replay  Answers the lines of standard input, each of them an event of the core of pins
+  load    Lets threads read and write one store at once, and reports what they left
   help    Print this message or the help of the given subcommand(s)
 
 Options:
-  -h, --help  Print help
+  -h, --help     Print help
+  -V, --version  Print version
+
+Examples:
+  mst run --rows 64 --passes 2 < script
+  mst verify ROOT KEY < proof
+  mst load --readers 4 --writers 2 --calls 1000
+
+Exit statuses:
+  0  what the words ask for is done
+  1  the proof is refused
+  2  the words are refused
+  3  a read or a write failed
+  4  memory was refused, or a thread could not be started
+";
+
+const VERSION: &str = "mst 0.1.0\n";
+
+const NO_SUCH_OPTION: &str = "error: unexpected argument '--version' found
+
+Usage: mst run [OPTIONS]
+
+For more information, try '--help'.
 ";
 
 const RUN_HELP: &str = "Answers the lines of standard input, each of them a command of a pass
@@ -102,7 +125,7 @@ For more information, try '--help'.
 // The words, the status, and what stands on the two outputs where the input is one get.
 #[test]
 fn words_are_read(rt: HostRuntime) -> Result<(), Fail> {
-    let rows: [(&[&str], u8, &str, &str); 27] = [
+    let rows: [(&[&str], u8, &str, &str); 30] = [
         (&["mst", "run"], 0, "none\n", ""),
         (&["mst", "run", "--rows", "4"], 0, "none\n", ""),
         (
@@ -143,11 +166,14 @@ fn words_are_read(rt: HostRuntime) -> Result<(), Fail> {
         (&["mst", "frob"], 2, "", NO_COMMAND),
         (&["mst"], 2, "", HELP),
         (&["mst", "--help"], 0, HELP, ""),
+        (&["mst", "--version"], 0, VERSION, ""),
+        (&["mst", "-V", "run"], 0, VERSION, ""),
+        (&["mst", "run", "--version"], 2, "", NO_SUCH_OPTION),
         (&["mst", "help", "run"], 0, RUN_HELP, ""),
         (&["mst", "run", "--help"], 0, RUN_HELP, ""),
     ];
     for (words, status, out, err) in rows {
-        let outcome = outcome_of(rt.alloc(), words, b"1 get 61\n")?;
+        let outcome = outcome_of(&rt, words, b"1 get 61\n")?;
         assert_eq!(rt; outcome.out.as_slice(), out.as_bytes(), "in {words:?}");
         assert_eq!(rt; outcome.err.as_slice(), err.as_bytes(), "in {words:?}");
         assert_eq!(rt; outcome.status, status, "in {words:?}");
@@ -189,7 +215,7 @@ fn words_of_verify_are_read(rt: HostRuntime) -> Result<(), Fail> {
         (&["mst", "verify", ROOT, "61", "--help"], 0, VERIFY_HELP, ""),
     ];
     for (words, status, out, err) in rows {
-        let outcome = outcome_of(rt.alloc(), words, b"0100")?;
+        let outcome = outcome_of(&rt, words, b"0100")?;
         assert_eq!(rt; outcome.out.as_slice(), out.as_bytes(), "in {words:?}");
         assert_eq!(rt; outcome.err.as_slice(), err.as_bytes(), "in {words:?}");
         assert_eq!(rt; outcome.status, status, "in {words:?}");
@@ -209,7 +235,7 @@ fn keys_and_roots_of_a_wrong_form(rt: HostRuntime) -> Result<(), Fail> {
         (long, "61", "bad root\n"),
     ] {
         let words = ["mst", "verify", root, key];
-        let outcome = outcome_of(rt.alloc(), words.as_slice(), b"0100")?;
+        let outcome = outcome_of(&rt, words.as_slice(), b"0100")?;
         assert_eq!(rt; outcome.out.len(), 0);
         assert_eq!(rt; outcome.err.as_slice(), err.as_bytes());
         assert_eq!(rt; outcome.status, 2);

@@ -1,5 +1,5 @@
 use Rattle.std.proofs.Common.{◌+◌}
-use Rattle.mst_command.proofs.Asked.{asked_script, asked_replay, asked_verify, asked_others, not_verified, words_device, still_unread, still_untouched, task_comes, words_come, no_device}
+use Rattle.mst_command.proofs.Asked.{asked_script, asked_replay, asked_verify, asked_load, asked_others, not_verified, words_device, still_unread, still_untouched, task_comes, words_come, no_device}
 use Rattle.mst.proofs.command.perform.Goals as goal
 
 pub returns-in-Ok-clause-ran : goal.returns-in-Ok-clause-ran
@@ -7,6 +7,9 @@ returns-in-Ok-clause-ran g c = asked_script g.S.Source.gives g.S.Source.left g.W
 
 pub returns-in-Ok-clause-replayed : goal.returns-in-Ok-clause-replayed
 returns-in-Ok-clause-replayed g c = asked_replay g.S.Source.gives g.S.Source.left g.W.Sink.takes c.args.words.now c.in-Ok.task c.execute.result c.args.source.now c.execute.new.source c.args.out.now c.execute.new.out c.in-Ok.ensures.asked c.execute.ensures.did
+
+pub returns-in-Ok-clause-loaded : goal.returns-in-Ok-clause-loaded
+returns-in-Ok-clause-loaded g c = asked_load g.S.Source.gives g.S.Source.left g.W.Sink.takes c.args.words.now c.in-Ok.task c.execute.result c.args.source.now c.execute.new.source c.args.out.now c.execute.new.out c.in-Ok.ensures.asked c.execute.ensures.did
 
 pub returns-in-Ok-clause-verified : goal.returns-in-Ok-clause-verified
 returns-in-Ok-clause-verified g c = asked_verify g.S.Source.gives g.S.Source.left g.W.Sink.takes c.args.words.now c.in-Ok.task c.execute.result c.args.source.now c.execute.new.source c.args.out.now c.execute.new.out c.in-Ok.ensures.asked c.execute.ensures.did
