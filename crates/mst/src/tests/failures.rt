@@ -248,11 +248,29 @@ fn devices_of_a_proof_fail(rt: HostRuntime) -> Result<(), Fail> {
 fn devices_of_a_load_fail(rt: HostRuntime) -> Result<(), Fail> {
     let lines = ONE_CALL_EACH.as_bytes();
     let words = [
-        "mst", "load", "--readers", "1", "--writers", "1", "--calls", "1",
+        "mst",
+        "load",
+        "--readers",
+        "1",
+        "--writers",
+        "1",
+        "--calls",
+        "1",
     ];
     for by_zero in [false, true] {
         // in each line, and between one and the next
-        for (writes, status) in [(0, 3), (4, 3), (9, 3), (12, 3), (17, 3), (50, 3), (87, 3), (100, 3), (157, 3), (158, 0)] {
+        for (writes, status) in [
+            (0, 3),
+            (4, 3),
+            (9, 3),
+            (12, 3),
+            (17, 3),
+            (50, 3),
+            (87, 3),
+            (100, 3),
+            (157, 3),
+            (158, 0),
+        ] {
             let reader = Reader {
                 rest: b"",
                 most: 9,

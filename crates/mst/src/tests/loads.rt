@@ -1,6 +1,32 @@
 //! Loads: what is reported, numbers out of range, and words that are refused.
-use super::outcome_of;
+use super::{Outcome, outcome_of};
+use std::alloc::{AllocError, AllocGlobal};
+use std::sync::Wait;
 use std::test::Fail;
+use std::thread::Threads;
+
+/// Runs `mst load` with these words behind it. The input is not read.
+fn outcome_with<R: Threads + Wait + AllocGlobal + Sync>(
+    rt: &R,
+    options: &[&str],
+) -> Result<Outcome, AllocError> {
+    let mut words = Vec::new(rt.alloc());
+    words.push("mst")?;
+    words.push("load")?;
+    words.extend_from_slice(options)?;
+    outcome_of(rt, words.as_slice(), b"1 get 61\n")
+}
+
+/// Runs a load with these numbers.
+fn outcome_at<R: Threads + Wait + AllocGlobal + Sync>(
+    rt: &R,
+    readers: &str,
+    writers: &str,
+    calls: &str,
+) -> Result<Outcome, AllocError> {
+    let options = ["--readers", readers, "--writers", writers, "--calls", calls];
+    outcome_with(rt, options.as_slice())
+}
 
 /// The report of two writers that make 1,000 calls each. The digest was computed apart from the program, of the map that these calls leave.
 const TWO_WRITERS: &str = "events 2000
@@ -32,17 +58,7 @@ fn loads_are_reported(rt: HostRuntime) -> Result<(), Fail> {
         ("+1", "01", "1", ONE_CALL),
         ("24", "8", "1", EIGHT_WRITERS),
     ] {
-        let words = [
-            "mst",
-            "load",
-            "--readers",
-            readers,
-            "--writers",
-            writers,
-            "--calls",
-            calls,
-        ];
-        let outcome = outcome_of(&rt, words.as_slice(), b"1 get 61\n")?;
+        let outcome = outcome_at(&rt, readers, writers, calls)?;
         assert_eq!(rt; outcome.out.as_slice(), report.as_bytes());
         assert_eq!(rt; outcome.err.len(), 0);
         assert_eq!(rt; outcome.status, 0);
@@ -65,17 +81,7 @@ fn numbers_out_of_range(rt: HostRuntime) -> Result<(), Fail> {
         ("1", "1", "4294967295"),
         ("8", "24", "1"),
     ] {
-        let words = [
-            "mst",
-            "load",
-            "--readers",
-            readers,
-            "--writers",
-            writers,
-            "--calls",
-            calls,
-        ];
-        let outcome = outcome_of(&rt, words.as_slice(), b"")?;
+        let outcome = outcome_at(&rt, readers, writers, calls)?;
         assert_eq!(rt; outcome.out.len(), 0);
         assert_eq!(rt; outcome.err.as_slice(), b"shape\n".as_slice());
         assert_eq!(rt; outcome.status, 2);
@@ -112,8 +118,7 @@ Usage: mst load --readers <N> --writers <N> --calls <N>
 For more information, try '--help'.
 ";
 
-const NO_NUMBER: &str =
-    "error: invalid value 'x' for '--readers <N>': invalid digit found in string
+const NO_NUMBER: &str = "error: invalid value 'x' for '--readers <N>': invalid digit found in string
 
 For more information, try '--help'.
 ";
@@ -135,7 +140,12 @@ For more information, try '--help'.
 #[test]
 fn words_of_a_load_are_read(rt: HostRuntime) -> Result<(), Fail> {
     let rows: [(&[&str], u8, &str, &str); 8] = [
-        (&["--calls", "1", "--writers=1", "--readers", "1"], 0, ONE_CALL, ""),
+        (
+            &["--calls", "1", "--writers=1", "--readers", "1"],
+            0,
+            ONE_CALL,
+            "",
+        ),
         (&["--help"], 0, LOAD_HELP, ""),
         (&[], 2, "", NO_NUMBERS),
         (&["--readers", "4", "--writers", "2"], 2, "", NO_CALLS),
@@ -160,11 +170,7 @@ fn words_of_a_load_are_read(rt: HostRuntime) -> Result<(), Fail> {
         (&["extra"], 2, "", EXTRA_WORD),
     ];
     for (options, status, out, err) in rows {
-        let mut words = Vec::new(rt.alloc());
-        words.push("mst")?;
-        words.push("load")?;
-        words.extend_from_slice(options)?;
-        let outcome = outcome_of(&rt, words.as_slice(), b"")?;
+        let outcome = outcome_with(&rt, options)?;
         assert_eq!(rt; outcome.out.as_slice(), out.as_bytes(), "in {options:?}");
         assert_eq!(rt; outcome.err.as_slice(), err.as_bytes(), "in {options:?}");
         assert_eq!(rt; outcome.status, status, "in {options:?}");
