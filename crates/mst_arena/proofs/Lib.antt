@@ -1,6 +1,8 @@
 pub mod Packing
 pub mod Spelling
 pub mod Readers
+pub mod WordOrder
+pub mod WayLemmas
 pub mod BitLemmas
 pub mod FlagLemmas
 pub mod SetLemmas

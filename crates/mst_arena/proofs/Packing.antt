@@ -10,7 +10,7 @@ use Rattle.mst_key.specs.Bytes.{IsBytes}
 use Rattle.mst_arena.specs.Words.{eight_from, word_from, byte_of_words}
 
 -- each byte is below 256, and so is what stands for one past the end
-byte_lt : (bytes : List ℕ) (i : ℕ) → IsBytes bytes → slice_index bytes i < 256
+pub byte_lt : (bytes : List ℕ) (i : ℕ) → IsBytes bytes → slice_index bytes i < 256
 byte_lt [] i all = omega arith
 byte_lt (b ∷ bytes) zero all = all.0
 byte_lt (b ∷ bytes) (suc i) all = byte_lt bytes i all.1

@@ -1,5 +1,6 @@
 pub mod Row
 pub mod Words
+pub mod Ways
 pub mod Content
 pub mod Lives
 pub mod Bits

@@ -12,6 +12,7 @@ mod parts;
 mod plain;
 mod row;
 mod rows;
+mod sought;
 mod sweep;
 mod words;
 
@@ -21,3 +22,4 @@ pub use life::Life;
 pub use plain::PlainRows;
 pub use row::{EntryLinks, HeadLinks, Root, Row};
 pub use rows::Rows;
+pub use sought::{Sought, Way};

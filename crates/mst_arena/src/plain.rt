@@ -3,6 +3,7 @@ ghost use Rattle.std.specs.Prelude.{◌≡◌, ◌≤◌, ◌<◌, None, IfOk, r
 
 use crate::row::{EntryLinks, HeadLinks, Row};
 use crate::rows::Rows;
+use crate::sought::{Sought, Way};
 use mst_key::{Memory, Value};
 use std::alloc::Allocator;
 use std::marker::Model;
@@ -107,6 +108,20 @@ impl<A: Allocator> Rows for PlainRows<A> {
                 next: *next,
                 key: key.copy(),
             },
+            _ => unreachable!(),
+        }
+    }
+
+    fn way(&mut self, row: u32, key: &Sought) -> Way {
+        match &self.places[row as usize] {
+            Some(
+                Row::Entry {
+                    child,
+                    next,
+                    key: held,
+                    ..
+                },
+            ) => key.way(*child, *next, held),
             _ => unreachable!(),
         }
     }

@@ -2,8 +2,10 @@
 ghost use Rattle.std.specs.Prelude.{◌≡◌, IsTrue, IsSome, Some};
 ghost use Rattle.mst_arena.specs.Row.{IsRow, IsHead, head_links, head_digest, entry_links, entry_value};
 ghost use Rattle.mst_arena.specs.Content.{part_at, Writes};
+ghost use Rattle.mst_arena.specs.Ways.{entry_way};
 
 use crate::row::{EntryLinks, HeadLinks, Row};
+use crate::sought::{Sought, Way};
 use mst_key::Value;
 
 /// Rows that the holder may read, and blank rows that it may write.
@@ -90,6 +92,16 @@ pub trait Rows {
             } => EntryLinks { child, next, key },
             Row::Head { .. } => unreachable!(),
         }
+    }
+
+    /// Where a search for the key goes on from the entry at this number.
+    fn way(&mut self, row: u32, key: &Sought) -> Way
+        requires there { IsSome (part_at entry_links (content self.old) row) }
+        ensures way { part_at (entry_way key.now) (content self.old) row ≡ Some result }
+        ensures same { self.new ≡ self.old }
+    {
+        let entry = self.entry(row);
+        key.way(entry.child, entry.next, &entry.key)
     }
 
     /// The value of the entry at this number.

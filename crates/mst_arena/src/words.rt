@@ -52,7 +52,7 @@ fn word_of(bytes: &[u8], index: usize) -> u64
 
 /// The word of the eight bytes from an index on, the first of them highest. Bytes past the end are 0.
 #[tactic(auto, using(crate::proofs::Packing::past_word))]
-fn word_from(bytes: &[u8], index: usize) -> u64
+pub(crate) fn word_from(bytes: &[u8], index: usize) -> u64
     requires small { index < 64 }
     ensures word { result ≡ word_from bytes.now index }
 {

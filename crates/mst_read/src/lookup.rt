@@ -6,9 +6,8 @@ ghost use Rattle.mst_arena.specs.Standing.{Chain, Stands};
 ghost use Rattle.mst_read.specs.Search.{ChainLies, LiesBehind, LinkStands, MapStands, StandsBelow, place};
 
 use crate::descent::head_at;
-use mst_arena::{HeadLinks, Root, Rows};
+use mst_arena::{HeadLinks, Root, Rows, Sought, Way};
 use mst_key::{Key, Value};
-use std::cmp::Ordering;
 
 /// Where a search comes to in a node.
 #[derive(Clone, Copy, Debug)]
@@ -20,7 +19,7 @@ pub enum Place {
 }
 
 /// Searches the entries of a node, from the least key on.
-pub fn seek<R: Rows>(rows: &mut R, head: &HeadLinks, key: &Key) -> Place
+pub fn seek<R: Rows>(rows: &mut R, head: &HeadLinks, key: &Sought) -> Place
     requires lies { ChainLies (R.content rows.old) head.now }
     ensures place { (f : Format) (c : Chain) → LiesBehind f (R.content rows.old) head.now c
         → result ≡ place key.now c }
@@ -29,11 +28,10 @@ pub fn seek<R: Rows>(rows: &mut R, head: &HeadLinks, key: &Key) -> Place
     let mut link = head.first;
     for _ in 0..head.count {
         let row = link - 1;
-        let entry = rows.entry(row);
-        match key.cmp(&entry.key) {
-            Ordering::Less => return Place::Gap(entry.child),
-            Ordering::Equal => return Place::Held(row),
-            Ordering::Greater => link = entry.next,
+        match rows.way(row, key) {
+            Way::Child(link) => return Place::Gap(link),
+            Way::Here => return Place::Held(row),
+            Way::Next(next) => link = next,
         }
     }
     Place::Gap(head.tail)
@@ -48,9 +46,10 @@ pub fn get_below<R: Rows>(rows: &mut R, link: u32, key: &Key) -> Option<Value>
         → result ≡ look m key.now }
     ensures same { rows.new ≡ rows.old }
 {
+    let sought = Sought::new(key);
     let mut top = head_at(rows, link);
     while let Some(head) = top {
-        match seek(rows, &head, key) {
+        match seek(rows, &head, &sought) {
             Place::Held(row) => return Some(rows.value(row)),
             Place::Gap(link) => top = head_at(rows, link),
         }

@@ -13,7 +13,7 @@ ghost use Rattle.mst_read.specs.Search.{ChainLies, Lies, LiesBehind, StandsBelow
 
 use crate::descent::head_at;
 use crate::lookup::{Place, seek};
-use mst_arena::{HeadLinks, Root, Rows};
+use mst_arena::{HeadLinks, Root, Rows, Sought};
 use mst_key::{Key, Memory};
 use mst_node::{push_child, push_counted};
 use std::alloc::Allocator;
@@ -80,7 +80,7 @@ fn push_framed<A: Allocator>(out: &mut Vec<u8, A>, text: &[u8]) -> Result<(), Me
 }
 
 /// The head of the tree in the gap in which the key would lie; none where the node has the key, or the gap no tree.
-fn gap_met<R: Rows>(rows: &mut R, head: &HeadLinks, key: &Key) -> Option<HeadLinks>
+fn gap_met<R: Rows>(rows: &mut R, head: &HeadLinks, key: &Sought) -> Option<HeadLinks>
     requires lies { ChainLies (R.content rows.old) head.now }
     ensures head { (f : Format) (c : Chain) → LiesBehind f (R.content rows.old) head.now c
         → result ≡ head_of (gap_placed key.now c) }
@@ -110,6 +110,7 @@ pub fn prove_below<R: Rows, A: Allocator + Copy>(
     ensures short { IfOk result (λ proof. length proof.items < 2 ^ 32) }
     ensures same { rows.new ≡ rows.old }
 {
+    let sought = Sought::new(key);
     let mut texts = Vec::new(alloc);
     let mut count = 0u8;
     let mut top = head_at(rows, link);
@@ -117,7 +118,7 @@ pub fn prove_below<R: Rows, A: Allocator + Copy>(
         let text = node_text(alloc, rows, &head)?;
         push_framed(&mut texts, text.as_slice())?;
         count += 1;
-        top = gap_met(rows, &head, key);
+        top = gap_met(rows, &head, &sought);
     }
     let mut proof = Vec::new(alloc);
     proof.push(1)?;

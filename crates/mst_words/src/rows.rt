@@ -7,7 +7,7 @@ ghost use Rattle.mst_words.specs.Access.{may_read, is_blank};
 
 use crate::layout::{ROW_WORDS, row_word};
 use crate::seat::PassSeat;
-use mst_arena::{EntryLinks, HeadLinks, Row, Rows};
+use mst_arena::{EntryLinks, HeadLinks, Row, Rows, Sought, Way};
 use mst_key::Value;
 use std::alloc::Allocator;
 
@@ -88,6 +88,13 @@ impl<'a, A: Allocator + Copy> Rows for PassSeat<'a, A> {
     fn entry(&mut self, row: u32) -> EntryLinks {
         match EntryLinks::read(&self.words(row, 1)) {
             Some(links) => links,
+            None => unreachable!(),
+        }
+    }
+
+    fn way(&mut self, row: u32, key: &Sought) -> Way {
+        match key.way_in(&self.words(row, 1)) {
+            Some(way) => way,
             None => unreachable!(),
         }
     }

@@ -1,0 +1,48 @@
+-- The way to a key from an entry, by its links and by its words.
+use Rattle.std.proofs.Common.{◌≡◌, ℕ, ◌*◌, ◌+◌, ◌%◌, ◌≤◌, List, length, Option, Some, None, refl, sym, ◌∙◌, ap, arith}
+use Rattle.std.specs.Prelude.{slice_index, option_and_then, IsSome}
+use Rattle.mst_key.specs.Bytes.{IsKey, IsBytes}
+use Rattle.mst_key.specs.Map.{key_cmp}
+use Rattle.mst_node.specs.Trail.{by_order}
+use Rattle.mst_arena.specs.declared.row.Row.{Row}
+use Rattle.mst_arena.specs.declared.row.Row.TheVariants.{Entry, Head}
+use Rattle.mst_arena.specs.declared.row.EntryLinks.{EntryLinks}
+use Rattle.mst_arena.specs.declared.sought.Way.{Way}
+use Rattle.mst_arena.specs.declared.sought.Way.TheVariants.{Child, Here, Next}
+use Rattle.mst_arena.specs.Row.{IsRow, HasBytes, entry_links}
+use Rattle.mst_arena.specs.Words.{words_of, part_in}
+use Rattle.mst_arena.specs.Ways.{entry_way, way_at, words_order}
+use Rattle.mst_arena.proofs.Readers.{EntryIn, entry_with}
+use Rattle.mst_arena.proofs.WordOrder.{by_words}
+
+-- from the links and the key of an entry
+pub from_links : (k : List ℕ) (o : Option Row) (e : EntryLinks) → option_and_then entry_links o ≡ Some e → option_and_then (entry_way k) o ≡ Some (way_at k e.child e.next e.key)
+from_links k None e is = absurd (let no : None ≡ Some e = is in cc)
+from_links k (Some (Head layer count first tail digest)) e is = absurd (let no : None ≡ Some e = is in cc)
+from_links k (Some (Entry child next key value)) e is =
+    let some : Some (record { child = child; next = next; key = key }) ≡ Some e = is in
+    let fields : record { child = child; next = next; key = key } ≡ e = cc in
+    ap (λ (x : EntryLinks). Some (way_at k x.child x.next x.key)) fields
+
+-- the words of an entry: its links are small, and the order by words chooses the way
+pub record WayIn (k words : List ℕ) : Type 0 where
+  pub child : slice_index words 1 ≤ 65535
+  pub next : slice_index words 2 ≤ 65535
+  pub way : part_in (entry_way k) words ≡ Some (by_order (words_order k (slice_index words)) (Child (slice_index words 1)) Here (Next (slice_index words 2)))
+
+pub way_in_words : (k words : List ℕ) → IsKey k → IsBytes k → IsSome (part_in entry_links words) → WayIn k words
+way_in_words k words size all some =
+    let e : EntryIn words = entry_with entry_links words (λ layer count first tail digest. refl) some in
+    let limits : IsRow (Entry e.child e.next e.key e.value) = e.limits in
+    let bytes : HasBytes (Entry e.child e.next e.key e.value) = e.bytes in
+    let spelt : List ℕ = words_of (Entry e.child e.next e.key e.value) in
+    let at : (i : ℕ) → slice_index words i ≡ slice_index spelt i = λ i. ap (λ (l : List ℕ). slice_index l i) (sym e.same) in
+    let one : slice_index words 1 ≡ e.child = at 1 in
+    let two : slice_index words 2 ≡ e.next = at 2 in
+    let three : slice_index words 3 ≡ length e.key + 256 * length e.value = at 3 in
+    let order : words_order k (slice_index words) ≡ key_cmp k e.key = by_words k e.key (slice_index words) all bytes.1 size.1 bytes.0.1 (at 4) (at 5) (at 6) (at 7) (omega (arith, three, bytes.0)) in
+    record {
+      child = omega (arith, one, limits.0);
+      next = omega (arith, two, limits.1);
+      way = ap (option_and_then (entry_way k)) e.row ∙ sym (ap Some (rw (order, one, two) refl));
+    }

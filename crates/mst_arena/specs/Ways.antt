@@ -1,0 +1,30 @@
+-- Where a search for a key goes on from an entry, and the order of two keys by words.
+use Rattle.std.specs.Prelude.{ℕ, ◌%◌, List, length, Option, Some, None}
+use Rattle.std.specs.declared.cmp.Ordering.{Ordering}
+use Rattle.std.specs.Ordering.{nat_cmp, ordering_then}
+use Rattle.mst_key.specs.Map.{key_cmp}
+use Rattle.mst_node.specs.Trail.{by_order}
+use Rattle.mst_arena.specs.Words.{word_from}
+use Rattle.mst_arena.specs.declared.row.Row.{Row}
+use Rattle.mst_arena.specs.declared.row.Row.TheVariants.{Entry, Head}
+use Rattle.mst_arena.specs.declared.sought.Way.{Way}
+use Rattle.mst_arena.specs.declared.sought.Way.TheVariants.{Child, Here, Next}
+
+-- the way to a key from an entry that has these links and this key
+abbrev pub way_at : List ℕ → ℕ → ℕ → List ℕ → Way
+way_at k child next key = by_order (key_cmp k key) (Child child) Here (Next next)
+
+-- the way to a key from a row, where it is an entry
+abbrev pub entry_way : List ℕ → Row → Option Way
+entry_way k (Entry child next key value) = Some (way_at k child next key)
+entry_way k (Head layer count first tail digest) = None
+
+-- the order of a key and of that whose length and bytes stand in words 3 to 7: the first words that differ decide, and else the lengths
+abbrev pub words_order : List ℕ → (ℕ → ℕ) → Ordering
+words_order k word =
+    ordering_then (ordering_then (ordering_then (ordering_then
+        (nat_cmp (word_from k 0) (word 4))
+        (nat_cmp (word_from k 8) (word 5)))
+        (nat_cmp (word_from k 16) (word 6)))
+        (nat_cmp (word_from k 24) (word 7)))
+        (nat_cmp (length k) (word 3 % 256))

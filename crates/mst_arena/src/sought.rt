@@ -1,0 +1,88 @@
+//! A key that is sought, and the way to it from an entry.
+ghost use Rattle.std.specs.Prelude.{◌≡◌, ◌∷◌, [], length};
+ghost use Rattle.mst_key.specs.Bytes.{IsKey, IsBytes};
+ghost use Rattle.mst_arena.specs.Words.{word_from};
+ghost use Rattle.mst_arena.specs.Ways.{way_at};
+
+use crate::words::word_from;
+use mst_key::Key;
+use std::cmp::Ordering;
+use std::marker::Model;
+
+/// A key that is sought, with its bytes as words too, so that a search over words compares numbers.
+#[derive(Drop)]
+pub struct Sought {
+    key: Key,
+    words: [u64; 4],
+}
+
+/// Contracts see the list of the key's bytes.
+impl Model for Sought {
+    ghost use Rattle.std.specs.Prelude.{◌≡◌, ◌∷◌, [], List, ℕ};
+    ghost use Rattle.mst_key.specs.Bytes.{IsKey, IsBytes};
+    ghost use Rattle.mst_arena.specs.Words.{word_from};
+
+    ghost Value = { List ℕ };
+
+    ghost view = { λ s. s.key };
+
+    ghost invariant = { λ s. IsKey s.key × IsBytes s.key
+        × (s.words ≡ word_from s.key 0 ∷ word_from s.key 8 ∷ word_from s.key 16 ∷ word_from s.key 24 ∷ []) };
+}
+
+/// Where a search goes on from an entry.
+#[derive(Clone, Copy, Debug, PartialEq, Eq)]
+pub enum Way {
+    /// Down to the tree at this link: the key is below the entry's.
+    Child(u32),
+    /// Nowhere: the entry has the key.
+    Here,
+    /// To the entry at this link: the key is above the entry's.
+    Next(u32),
+}
+
+impl Sought {
+    /// The key to be sought.
+    pub fn new(key: &Key) -> Sought
+        ensures key { result ≡ key.now }
+    {
+        let bytes = key.bytes();
+        let words = [
+            word_from(bytes, 0),
+            word_from(bytes, 8),
+            word_from(bytes, 16),
+            word_from(bytes, 24),
+        ];
+        Sought {
+            key: key.copy(),
+            words,
+        }
+    }
+
+    /// The bytes of the key in four words, the first of them highest; what is left over is 0.
+    pub fn words(&self) -> [u64; 4]
+        ensures words { result ≡ word_from self.now 0 ∷ word_from self.now 8 ∷ word_from self.now 16 ∷ word_from self.now 24 ∷ [] }
+    {
+        self.words
+    }
+
+    /// How many bytes the key has.
+    pub fn len(&self) -> u64
+        ensures count { result ≡ length self.now }
+        ensures limits { IsKey self.now }
+        ensures range { IsBytes self.now }
+    {
+        self.key.bytes().len() as u64
+    }
+
+    /// The way from an entry with these links and this key.
+    pub fn way(&self, child: u32, next: u32, key: &Key) -> Way
+        ensures way { result ≡ way_at self.now child next key.now }
+    {
+        match self.key.cmp(key) {
+            Ordering::Less => Way::Child(child),
+            Ordering::Equal => Way::Here,
+            Ordering::Greater => Way::Next(next),
+        }
+    }
+}
