@@ -23,3 +23,4 @@ pub mod Hearing
 pub mod Opens
 pub mod Accesses
 pub mod Limits
+pub mod WordWays

@@ -1,6 +1,8 @@
 //! The rows of the table, as a pass reads and writes them.
-ghost use Rattle.std.specs.Prelude.{◌≡◌, ◌+◌, ◌<◌, ◌≤◌, length, map, slice_set, true, IsTrue};
+ghost use Rattle.std.specs.Prelude.{◌≡◌, ◌+◌, ◌%◌, ◌<◌, ◌≤◌, length, map, slice_set, true, IsTrue};
 ghost use Rattle.std.specs.List.{range_with_len};
+ghost use Rattle.std.specs.Ordering.{nat_cmp, ordering_then};
+ghost use Rattle.mst_arena.specs.Ways.{words_order};
 ghost use Rattle.mst_words.specs.Layout.{row_words, row_word};
 ghost use Rattle.mst_words.specs.Records as records;
 ghost use Rattle.mst_words.specs.Access.{may_read, is_blank};
@@ -10,6 +12,7 @@ use crate::seat::PassSeat;
 use mst_arena::{EntryLinks, HeadLinks, Row, Rows, Sought, Way};
 use mst_key::Value;
 use std::alloc::Allocator;
+use std::cmp::Ordering;
 
 impl<'a, A: Allocator + Copy> PassSeat<'a, A> {
     // Word k of a row: one load.
@@ -34,6 +37,47 @@ impl<'a, A: Allocator + Copy> PassSeat<'a, A> {
             words[k] = self.word(row, from + k);
         }
         words
+    }
+
+    // The order of what was compared before, and where that is the same, of a number and word k of a row: one load at most.
+    fn next_order(&mut self, before: Ordering, number: u64, row: u32, k: usize) -> Ordering
+        requires readable { may_read self.old.me.0 row ≡ true }
+        requires there { k < row_words }
+        ensures order { result ≡ ordering_then before (nat_cmp number (records.row self.old.me.0.held row k)) }
+        ensures same { self.new ≡ self.old }
+    {
+        match before {
+            Ordering::Less => Ordering::Less,
+            Ordering::Equal => number.cmp(&self.word(row, k)),
+            Ordering::Greater => Ordering::Greater,
+        }
+    }
+
+    // The order of what was compared before, and where that is the same, of a length and that of the key of a row.
+    fn length_order(&mut self, before: Ordering, len: u64, row: u32) -> Ordering
+        requires readable { may_read self.old.me.0 row ≡ true }
+        ensures order { result ≡ ordering_then before (nat_cmp len (records.row self.old.me.0.held row 3 % 256)) }
+        ensures same { self.new ≡ self.old }
+    {
+        match before {
+            Ordering::Less => Ordering::Less,
+            Ordering::Equal => len.cmp(&(self.word(row, 3) % 256)),
+            Ordering::Greater => Ordering::Greater,
+        }
+    }
+
+    // The order of a key and that of an entry: words are loaded until two differ, mostly one.
+    fn order(&mut self, row: u32, key: &Sought) -> Ordering
+        requires readable { may_read self.old.me.0 row ≡ true }
+        ensures order { result ≡ words_order key.now (records.row self.old.me.0.held row) }
+        ensures same { self.new ≡ self.old }
+    {
+        let [first, second, third, last] = key.words();
+        let order = first.cmp(&self.word(row, 4));
+        let order = self.next_order(order, second, row, 5);
+        let order = self.next_order(order, third, row, 6);
+        let order = self.next_order(order, last, row, 7);
+        self.length_order(order, key.len(), row)
     }
 
     // Makes word k of a blank row this one: one load, and a store where another word stands there, since a store costs some twenty times as much as a load.
@@ -93,9 +137,10 @@ impl<'a, A: Allocator + Copy> Rows for PassSeat<'a, A> {
     }
 
     fn way(&mut self, row: u32, key: &Sought) -> Way {
-        match key.way_in(&self.words(row, 1)) {
-            Some(way) => way,
-            None => unreachable!(),
+        match self.order(row, key) {
+            Ordering::Less => Way::Child(self.word(row, 1) as u32),
+            Ordering::Equal => Way::Here,
+            Ordering::Greater => Way::Next(self.word(row, 2) as u32),
         }
     }
 

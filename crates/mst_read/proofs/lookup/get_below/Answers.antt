@@ -1,4 +1,4 @@
-use Rattle.std.proofs.Common.{◌≡◌, ◌<◌, ◌+◌, List, Some, IsSome, refl, ◌∙◌, sym, ap, subst, arith}
+use Rattle.std.proofs.Common.{◌≡◌, ℕ, ◌<◌, ◌+◌, List, Some, IsSome, refl, ◌∙◌, sym, ap, subst, arith}
 use Rattle.mst_key.specs.Map.{Pair, look}
 use Rattle.mst_arena.specs.Content.{Content, part_at}
 use Rattle.mst_arena.specs.Row.{entry_value}
@@ -43,7 +43,7 @@ value-requires g c =
     let now : content ≡ g.R.Rows.content c.loop-top.rows = sym (ap g.R.Rows.content c.loop-top.invariant.same) in
     let P = λ (ps : List Pair). look ps k ≡ look s.1 k in
     let d = inside s.0 content links c.loop-top.top P c.in-Some.is (c.loop-top.invariant.reached s.0 s.1 s.2) in
-    let at : place k d.chain ≡ Held c.in-Held.row = sym (c.seek.ensures.place s.0 d.chain (subst (λ (x : Content). LiesBehind s.0 x links d.chain) now d.lies)) ∙ c.in-Held.is in
+    let at : place k d.chain ≡ Held c.in-Held.row = ap (λ (x : List ℕ). place x d.chain) (sym c.new-sought.ensures.key) ∙ sym (c.seek.ensures.place s.0 d.chain (subst (λ (x : Content). LiesBehind s.0 x links d.chain) now d.lies)) ∙ c.in-Held.is in
     record { there = subst (λ (x : Content). IsSome (part_at entry_value x c.in-Held.row)) (now ∙ sym (ap g.R.Rows.content c.seek.ensures.same)) (held_there s.0 content k c.in-Held.row d.chain d.lies.rows at) }
 
 pub returns-in-Held-clause-found : goal.returns-in-Held-clause-found
@@ -54,7 +54,7 @@ returns-in-Held-clause-found g c f m s =
     let now : content ≡ g.R.Rows.content c.loop-top.rows = sym (ap g.R.Rows.content c.loop-top.invariant.same) in
     let P = λ (ps : List Pair). look ps k ≡ look m k in
     let d = inside f content links c.loop-top.top P c.in-Some.is (c.loop-top.invariant.reached f m s) in
-    let at : place k d.chain ≡ Held c.in-Held.row = sym (c.seek.ensures.place f d.chain (subst (λ (x : Content). LiesBehind f x links d.chain) now d.lies)) ∙ c.in-Held.is in
+    let at : place k d.chain ≡ Held c.in-Held.row = ap (λ (x : List ℕ). place x d.chain) (sym c.new-sought.ensures.key) ∙ sym (c.seek.ensures.place f d.chain (subst (λ (x : Content). LiesBehind f x links d.chain) now d.lies)) ∙ c.in-Held.is in
     let value : part_at entry_value content c.in-Held.row ≡ Some c.value.result = ap (λ (x : Content). part_at entry_value x c.in-Held.row) (now ∙ sym (ap g.R.Rows.content c.seek.ensures.same)) ∙ c.value.ensures.value in
     sym value ∙ held f content k c.in-Held.row d.chain d.lies.rows d.rise at ∙ d.holds
 
@@ -67,7 +67,7 @@ head_at-top-requires-in-Gap g c =
     let now : content ≡ g.R.Rows.content c.loop-top.rows = sym (ap g.R.Rows.content c.loop-top.invariant.same) in
     let P = λ (ps : List Pair). look ps k ≡ look s.1 k in
     let d = inside s.0 content links c.loop-top.top P c.in-Some.is (c.loop-top.invariant.reached s.0 s.1 s.2) in
-    let at : place k d.chain ≡ Gap c.in-Gap.link = sym (c.seek.ensures.place s.0 d.chain (subst (λ (x : Content). LiesBehind s.0 x links d.chain) now d.lies)) ∙ c.in-Gap.is in
+    let at : place k d.chain ≡ Gap c.in-Gap.link = ap (λ (x : List ℕ). place x d.chain) (sym c.new-sought.ensures.key) ∙ sym (c.seek.ensures.place s.0 d.chain (subst (λ (x : Content). LiesBehind s.0 x links d.chain) now d.lies)) ∙ c.in-Gap.is in
     let b = gap s.0 content k links.layer c.in-Gap.link d.chain d.lies.rows d.mst d.rise at in
     record { lies = subst (λ (x : Content). TreeLies x c.in-Gap.link) (now ∙ sym (ap g.R.Rows.content c.seek.ensures.same)) (s.0, b.ahead.placed, b.ahead.lies) }
 
@@ -80,7 +80,7 @@ loop-top-smaller g c =
     let now : content ≡ g.R.Rows.content c.loop-top.rows = sym (ap g.R.Rows.content c.loop-top.invariant.same) in
     let P = λ (ps : List Pair). look ps k ≡ look s.1 k in
     let d = inside s.0 content links c.loop-top.top P c.in-Some.is (c.loop-top.invariant.reached s.0 s.1 s.2) in
-    let at : place k d.chain ≡ Gap c.in-Gap.link = sym (c.seek.ensures.place s.0 d.chain (subst (λ (x : Content). LiesBehind s.0 x links d.chain) now d.lies)) ∙ c.in-Gap.is in
+    let at : place k d.chain ≡ Gap c.in-Gap.link = ap (λ (x : List ℕ). place x d.chain) (sym c.new-sought.ensures.key) ∙ sym (c.seek.ensures.place s.0 d.chain (subst (λ (x : Content). LiesBehind s.0 x links d.chain) now d.lies)) ∙ c.in-Gap.is in
     let b = gap s.0 content k links.layer c.in-Gap.link d.chain d.lies.rows d.mst d.rise at in
     let top = c.head_at-top-in-Gap.ensures.head s.0 b.ahead.placed (subst (λ (x : Content). Lies s.0 x c.in-Gap.link b.ahead.placed) (now ∙ sym (ap g.R.Rows.content c.seek.ensures.same)) b.ahead.lies) in
     let old : depth c.loop-top.top ≡ links.layer + 1 = ap depth c.in-Some.is in
@@ -97,7 +97,7 @@ loop-top-preserved g c = record {
       let now : content ≡ g.R.Rows.content c.loop-top.rows = sym (ap g.R.Rows.content c.loop-top.invariant.same) in
       let P = λ (ps : List Pair). look ps k ≡ look m k in
       let d = inside f content links c.loop-top.top P c.in-Some.is (c.loop-top.invariant.reached f m s) in
-      let at : place k d.chain ≡ Gap c.in-Gap.link = sym (c.seek.ensures.place f d.chain (subst (λ (x : Content). LiesBehind f x links d.chain) now d.lies)) ∙ c.in-Gap.is in
+      let at : place k d.chain ≡ Gap c.in-Gap.link = ap (λ (x : List ℕ). place x d.chain) (sym c.new-sought.ensures.key) ∙ sym (c.seek.ensures.place f d.chain (subst (λ (x : Content). LiesBehind f x links d.chain) now d.lies)) ∙ c.in-Gap.is in
       let b = gap f content k links.layer c.in-Gap.link d.chain d.lies.rows d.mst d.rise at in
       let top = c.head_at-top-in-Gap.ensures.head f b.ahead.placed (subst (λ (x : Content). Lies f x c.in-Gap.link b.ahead.placed) (now ∙ sym (ap g.R.Rows.content c.seek.ensures.same)) b.ahead.lies) in
       reach f content c.in-Gap.link _ P (λ ps e. e ∙ d.holds) b.ahead c.head_at-top-in-Gap.result top;

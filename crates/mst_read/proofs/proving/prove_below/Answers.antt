@@ -5,7 +5,7 @@ use Rattle.mst_node.specs.Text.{text}
 use Rattle.mst_node.specs.Trail.{trail}
 use Rattle.mst_arena.specs.Content.{Content}
 use Rattle.mst_arena.specs.Standing.{entries_of}
-use Rattle.mst_read.specs.Search.{LiesBehind, ChainLies}
+use Rattle.mst_read.specs.Search.{LiesBehind, ChainLies, head_of, gap_placed}
 use Rattle.mst_read.proofs.Descend.{depth, depth_small}
 use Rattle.mst_read.proofs.Trails.{Met, framed_length, begins, opens, goes_on, goes_down}
 use Rattle.mst_read.proofs.proving.prove_below.Goals as goal
@@ -51,7 +51,7 @@ loop-top-smaller g c =
     let links = c.in-Some.head in
     let after : content ≡ g.R.Rows.content c.node_text.new.rows = sym (ap g.R.Rows.content (c.node_text.ensures.same ∙ c.loop-top.invariant.same)) in
     let d = opens content k links c.loop-top.top c.loop-top.texts.items c.loop-top.count (trail One s.0 k) c.in-Some.is (c.loop-top.invariant.met s.0 s.1) in
-    let top = c.gap_met-top.ensures.head One d.chain (subst (λ (x : Content). LiesBehind One x links d.chain) after d.lies) in
+    let top = c.gap_met-top.ensures.head One d.chain (subst (λ (x : Content). LiesBehind One x links d.chain) after d.lies) ∙ ap (λ (x : List ℕ). head_of (gap_placed x d.chain)) c.new-sought.ensures.key in
     let old : depth c.loop-top.top ≡ links.layer + 1 = ap depth c.in-Some.is in
     let new : depth c.gap_met-top.result < links.layer + 1 = goes_down content k links c.loop-top.texts.items c.loop-top.count (trail One s.0 k) d c.gap_met-top.result top in
     omega (arith, old, new)
@@ -67,7 +67,7 @@ loop-top-preserved g c = record {
       let links = c.in-Some.head in
       let after : content ≡ g.R.Rows.content c.node_text.new.rows = sym (ap g.R.Rows.content (c.node_text.ensures.same ∙ c.loop-top.invariant.same)) in
       let d = opens content k links c.loop-top.top c.loop-top.texts.items c.loop-top.count (trail One s.0 k) c.in-Some.is (c.loop-top.invariant.met s.0 s.1) in
-      let top = c.gap_met-top.ensures.head One d.chain (subst (λ (x : Content). LiesBehind One x links d.chain) after d.lies) in
+      let top = c.gap_met-top.ensures.head One d.chain (subst (λ (x : Content). LiesBehind One x links d.chain) after d.lies) ∙ ap (λ (x : List ℕ). head_of (gap_placed x d.chain)) c.new-sought.ensures.key in
       let old : depth c.loop-top.top ≡ links.layer + 1 = ap depth c.in-Some.is in
       let new : depth c.gap_met-top.result < links.layer + 1 = goes_down content k links c.loop-top.texts.items c.loop-top.count (trail One s.0 k) d c.gap_met-top.result top in
       omega (arith, old, new, c.loop-top.invariant.few);
@@ -82,7 +82,7 @@ loop-top-preserved g c = record {
       let before : content ≡ g.R.Rows.content c.loop-top.rows = sym (ap g.R.Rows.content c.loop-top.invariant.same) in
       let after : content ≡ g.R.Rows.content c.node_text.new.rows = sym (ap g.R.Rows.content (c.node_text.ensures.same ∙ c.loop-top.invariant.same)) in
       let d = opens content k links c.loop-top.top c.loop-top.texts.items c.loop-top.count (trail One m k) c.in-Some.is (c.loop-top.invariant.met m s) in
-      let top = c.gap_met-top.ensures.head One d.chain (subst (λ (x : Content). LiesBehind One x links d.chain) after d.lies) in
+      let top = c.gap_met-top.ensures.head One d.chain (subst (λ (x : Content). LiesBehind One x links d.chain) after d.lies) ∙ ap (λ (x : List ℕ). head_of (gap_placed x d.chain)) c.new-sought.ensures.key in
       let text_is : c.as_slice.result.now ≡ text (node One links.layer (entries_of One d.chain)) = c.as_slice.ensures.value ∙ c.in_ok-text.ensures.ok d.chain (subst (λ (x : Content). LiesBehind One x links d.chain) before d.lies) in
       goes_on content k links c.loop-top.texts.items c.push_framed.new.out.items c.as_slice.result.now c.loop-top.count (trail One m k) d c.gap_met-top.result top text_is c.in_ok-push_framed.ensures.ok;
 }
