@@ -2,6 +2,7 @@
 ghost use Rattle.std.specs.Prelude.{◌≡◌, ◌+◌, ◌%◌, ◌<◌, ◌≤◌, length, map, slice_set, true, IsTrue};
 ghost use Rattle.std.specs.List.{range_with_len};
 ghost use Rattle.std.specs.Ordering.{nat_cmp, ordering_then};
+ghost use Rattle.mst_key.specs.Bytes.{IsKey, IsBytes};
 ghost use Rattle.mst_arena.specs.Ways.{words_order};
 ghost use Rattle.mst_words.specs.Layout.{row_words, row_word};
 ghost use Rattle.mst_words.specs.Records as records;
@@ -70,6 +71,8 @@ impl<'a, A: Allocator + Copy> PassSeat<'a, A> {
     fn order(&mut self, row: u32, key: &Sought) -> Ordering
         requires readable { may_read self.old.me.0 row ≡ true }
         ensures order { result ≡ words_order key.now (records.row self.old.me.0.held row) }
+        ensures limits { IsKey key.now }
+        ensures range { IsBytes key.now }
         ensures same { self.new ≡ self.old }
     {
         let [first, second, third, last] = key.words();
