@@ -1,0 +1,128 @@
+//! The map as a plain sorted list.
+ghost use Rattle.std.specs.Prelude.{vec_len};
+ghost use Rattle.std.specs.List.Sorted.{IsSearchInRange};
+
+use mst_key::{Key, Value};
+use mst_node::root_of;
+use std::alloc::{AllocError, Global};
+use std::io;
+
+/// The pairs of a map in the order of their keys, and how many changes led to it.
+#[derive(Drop)]
+pub struct List {
+    pairs: Vec<(Key, Value)>,
+    changes: u64,
+}
+
+impl List {
+    /// The empty list.
+    pub fn new(alloc: Global) -> List {
+        List {
+            pairs: Vec::new(alloc),
+            changes: 0,
+        }
+    }
+
+    /// The same list once more.
+    pub fn copy(&self, alloc: Global) -> Result<List, AllocError> {
+        let mut pairs = Vec::with_capacity(alloc, self.pairs.len())?;
+        for (key, value) in self.pairs.iter() {
+            pairs.push((key.copy(), value.copy()))?;
+        }
+        Ok(List {
+            pairs,
+            changes: self.changes,
+        })
+    }
+
+    /// How many pairs there are.
+    pub fn len(&self) -> usize {
+        self.pairs.len()
+    }
+
+    /// How many changes there were.
+    pub fn changes(&self) -> u64 {
+        self.changes
+    }
+
+    // The place of the key, or the one where it would stand.
+    fn find(&self, key: &Key) -> Result<usize, usize>
+        ensures inside { IsSearchInRange result (vec_len self.now.pairs) }
+    {
+        self.pairs.binary_search_by(|pair| pair.0.cmp(key))
+    }
+
+    /// The value of the key.
+    pub fn get(&self, key: &Key) -> Option<Value> {
+        let Ok(place) = self.find(key) else {
+            return None;
+        };
+        let (_, value) = self.pairs.get(place)?;
+        Some(value.copy())
+    }
+
+    /// Gives the key the value or, where none is given, takes it out.
+    pub fn change(&mut self, key: &Key, new: Option<&Value>) -> Result<(), AllocError> {
+        match (self.find(key), new) {
+            (Ok(place), Some(value)) => {
+                if let Some(pair) = self.pairs.get_mut(place) {
+                    pair.1 = value.copy();
+                }
+            }
+            (Err(place), Some(value)) => self.pairs.insert(place, (key.copy(), value.copy()))?,
+            (Ok(place), None) => {
+                let _ = self.pairs.remove(place);
+            }
+            (Err(_), None) => {}
+        }
+        self.changes = self.changes.saturating_add(1);
+        Ok(())
+    }
+
+    // The place of the first key that is at least the bound.
+    fn start(&self, from: Option<&Key>) -> usize {
+        match from {
+            Some(key) => match self.find(key) {
+                Ok(place) | Err(place) => place,
+            },
+            None => 0,
+        }
+    }
+
+    /// Whether this is the pair of the least key above the bound.
+    pub fn is_next(&self, after: Option<&Key>, found: Option<&(Key, Value)>) -> bool {
+        let place = match after {
+            Some(key) => match self.find(key) {
+                Ok(place) => place.saturating_add(1),
+                Err(place) => place,
+            },
+            None => 0,
+        };
+        self.pairs.get(place) == found
+    }
+
+    /// Whether these are the first pairs, at most `limit`, of the keys between the bounds.
+    pub fn is_range(
+        &self,
+        from: Option<&Key>,
+        to: Option<&Key>,
+        limit: usize,
+        found: &[(Key, Value)],
+    ) -> bool {
+        let start = self.start(from);
+        let end = match to {
+            Some(_) => self.start(to),
+            None => self.pairs.len(),
+        };
+        let end = end.max(start).min(start.saturating_add(limit));
+        self.pairs.get(start..end) == Some(found)
+    }
+
+    /// The root digest of the map.
+    pub fn root(&self) -> io::Result<[u8; 32]> {
+        if self.pairs.len() > 65_535 {
+            return Err(io::ErrorKind::Other.into());
+        }
+        Ok(root_of(self.pairs.as_slice()))
+    }
+}

@@ -1,0 +1,85 @@
+//! Walks at random over one store, and compares each answer with the map as a plain sorted list.
+//!
+//! `mst_walk [OPERATIONS]` makes so many calls, 20,000 where no number is given, by the eight passes of one store in one thread: puts, removes, gets, nexts, ranges, proofs, which it verifies, pins and unpins, and the numbers of versions and rows. After each 1,000 calls, and at the end, it compares the root digest of each pass with that of the list that the pass is to read. Then it prints how many calls of each kind there were, how many writes found no room, how many answers were not the list's, and the root digest of the list. The status is 1 where an answer was not the list's. Calls, keys and values are the same in each run.
+//!
+//! `rt run -- 10000000` in this folder proves and builds it by LLVM, optimised, and runs it; the executable is then `out/mst_walk`.
+#![tactic(auto)]
+
+ghost use Rattle.std.specs.Prelude.{◌<◌};
+
+mod chance;
+mod list;
+mod pairs;
+mod reads;
+mod tally;
+mod walk;
+
+use mst_store::{Shape, Store};
+use std::{env, io};
+use walk::{PASSES, Walk};
+
+/// Rows for the map, and for some of the versions that are pinned: at times a write finds no room.
+const SHAPE: Shape = Shape {
+    rows: 3_000,
+    passes: PASSES as u32,
+};
+
+/// How many calls there are where the command line has no number.
+const OPERATIONS: u64 = 20_000;
+
+/// After how many calls all root digests are compared.
+const BETWEEN_ROOTS: u64 = 1_000;
+
+// The number of calls that the command line asks for: its only word, or else the usual number.
+fn asked_operations(rt: &HostRuntime) -> io::Result<Option<u64>> {
+    let mut words = env::args(rt)?;
+    let _ = words.next();
+    let (word, None) = (words.next(), words.next()) else {
+        return Ok(None);
+    };
+    match word {
+        Some(word) => Ok(word.as_str().parse::<u64>().ok()),
+        None => Ok(Some(OPERATIONS)),
+    }
+}
+
+// Makes the calls, and compares the root digests.
+fn make_calls(walk: &mut Walk<'_>, operations: u64) -> io::Result<()> {
+    for operation in 0..operations {
+        if operation % BETWEEN_ROOTS == 0 {
+            walk.compare_roots()?;
+        }
+        walk.step()?;
+    }
+    walk.compare_roots()
+}
+
+// Prints what the walk came to; an error where an answer was not the list's.
+fn report(rt: &HostRuntime, walk: &Walk<'_>, operations: u64) -> io::Result<()> {
+    println!(rt; "operations {operations}")?;
+    walk.tally().print(rt)?;
+    let keys = walk.list().len();
+    let root = walk.list().root()?;
+    let digits = hex::encode(rt.alloc(), root.as_slice())?;
+    println!(rt; "keys {keys}")?;
+    println!(rt; "root {digits}")?;
+    if walk.tally().differences() > 0 {
+        return Err(io::ErrorKind::InvalidData.into());
+    }
+    Ok(())
+}
+
+fn main(rt: HostRuntime) -> io::Result<()> {
+    let Some(operations) = asked_operations(&rt)? else {
+        return println!(rt; "mst_walk [OPERATIONS]: makes so many calls by chance");
+    };
+    let Ok((store, seats)) = Store::open(rt.alloc(), SHAPE) else {
+        return Err(io::ErrorKind::OutOfMemory.into());
+    };
+    let Ok(passes) = store.deal(rt.alloc(), seats) else {
+        return Err(io::ErrorKind::OutOfMemory.into());
+    };
+    let mut walk = Walk::new(rt.alloc(), passes);
+    make_calls(&mut walk, operations)?;
+    report(&rt, &walk, operations)
+}

@@ -1,0 +1,51 @@
+//! Keys and values of all lengths.
+use crate::chance::Chance;
+use mst_key::{Key, Value};
+
+/// Of how many keys the walk is.
+const KEYS: usize = 1_000;
+
+// The most bytes that a key and a value have.
+const KEY_BYTES: usize = 32;
+
+const VALUE_BYTES: usize = 64;
+
+// The next bytes by chance.
+fn bytes<const N: usize>(chance: &mut Chance) -> [u8; N] {
+    let mut bytes = [0; N];
+    for place in 0..N {
+        let [first, ..] = chance.number().to_be_bytes();
+        bytes[place] = first;
+    }
+    bytes
+}
+
+/// One of the keys, each of which has its bytes from its number.
+pub fn some_key(chance: &mut Chance) -> Key {
+    let mut own = Chance::from(chance.below(KEYS) as u64);
+    let length = own.below(KEY_BYTES) + 1;
+    let bytes: [u8; KEY_BYTES] = bytes(&mut own);
+    let Ok(key) = Key::new(&bytes[..length]) else {
+        unreachable!()
+    };
+    key
+}
+
+/// One of the keys or, one time of eight, none.
+pub fn some_bound(chance: &mut Chance) -> Option<Key> {
+    if chance.below(8) == 0 {
+        None
+    } else {
+        Some(some_key(chance))
+    }
+}
+
+/// A value of any length.
+pub fn some_value(chance: &mut Chance) -> Value {
+    let length = chance.below(VALUE_BYTES + 1);
+    let bytes: [u8; VALUE_BYTES] = bytes(chance);
+    let Ok(value) = Value::new(&bytes[..length]) else {
+        unreachable!()
+    };
+    value
+}
