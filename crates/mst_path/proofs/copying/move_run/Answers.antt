@@ -1,3 +1,4 @@
+use Rattle.std.proofs.Common.{rules}
 use Rattle.std.proofs.Common.{◌≡◌, ◌+◌, ◌-◌, ℕ, Bool, List, [], ◌∷◌, ◌++◌, IfSome, IsTrue, refl, sym, ◌∙◌, ap, subst, arith}
 use Rattle.mst_key.specs.declared.format.Format.TheVariants.{One}
 use Rattle.mst_arena.specs.Content.{Content}
@@ -138,3 +139,6 @@ returns-clause-kept g c = c.loop.invariant.kept
 
 pub returns-clause-next : goal.returns-clause-next
 returns-clause-next g c = c.loop.invariant.next
+
+pub move_entry-requires-clause-value : goal.move_entry-requires-clause-value
+move_entry-requires-clause-value g c = search rules

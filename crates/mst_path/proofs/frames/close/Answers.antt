@@ -1,3 +1,4 @@
+use Rattle.std.proofs.Common.{rules}
 use Rattle.mst_path.proofs.Framing.{spare_old, closed}
 use Rattle.mst_path.proofs.frames.close.Goals as goal
 
@@ -10,3 +11,27 @@ kill_both-requires-clause-old g c =
 pub returns-clause-made : goal.returns-clause-made
 returns-clause-made g c = λ p root piece f.
     closed (g.R.Rows.content c.args.rows.now) c.args.desk.now c.args.frame.now _ f (g.R.Rows.content c.fill-root.new.rows) c.fill-root.new.desk _ c.fill-root.result _ (c.fill-root.ensures.made p root piece f) c.kill_both.new.desk c.kill_both.ensures.moves
+
+pub fill-root-requires-clause-frame : goal.fill-root-requires-clause-frame
+fill-root-requires-clause-frame g c = search rules
+
+pub fill-root-requires-clause-low : goal.fill-root-requires-clause-low
+fill-root-requires-clause-low g c = search rules
+
+pub fill-root-requires-clause-room : goal.fill-root-requires-clause-room
+fill-root-requires-clause-room g c = search rules
+
+pub fill-root-requires-clause-few : goal.fill-root-requires-clause-few
+fill-root-requires-clause-few g c = search rules
+
+pub fill-root-requires-clause-free : goal.fill-root-requires-clause-free
+fill-root-requires-clause-free g c = search rules
+
+pub kill_both-requires-clause-once : goal.kill_both-requires-clause-once
+kill_both-requires-clause-once g c = search rules
+
+pub returns-clause-blank : goal.returns-clause-blank
+returns-clause-blank g c = search rules
+
+pub returns-clause-kept : goal.returns-clause-kept
+returns-clause-kept g c = search rules

@@ -1,3 +1,4 @@
+use Rattle.std.proofs.Common.{rules}
 use Rattle.std.proofs.Common.{◌≡◌, ◌∙◌, ◌≤◌, List, ℕ, true≢false, sym, ap, subst, arith}
 use Rattle.mst_arena.specs.Content.{Content}
 use Rattle.mst_arena.specs.Lives.{State, free_count}
@@ -126,3 +127,93 @@ pub returns-clause-same_value : goal.returns-clause-same_value
 returns-clause-same_value g c m st same =
     let found = says (g.R.Rows.content c.args.rows.now) c.args.desk.now c.args.root.now c.args.key.now c.requires.stands c.find-old.result c.find-old.ensures.found m st in
     absurd (true≢false (sym (ap (λ o. is_same o c.args.value.now) (sym found ∙ same) ∙ same_found c.args.value.now) ∙ sym c.is_same.ensures.same ∙ c.if-is_same.false))
+
+pub returns-then-is_same-clause-written : goal.returns-then-is_same-clause-written
+returns-then-is_same-clause-written g c = search rules
+
+pub returns-then-is_same-clause-others : goal.returns-then-is_same-clause-others
+returns-then-is_same-clause-others g c = search rules
+
+pub returns-then-is_same-clause-versions : goal.returns-then-is_same-clause-versions
+returns-then-is_same-clause-versions g c = search rules
+
+pub returns-then-is_same-clause-same_value : goal.returns-then-is_same-clause-same_value
+returns-then-is_same-clause-same_value g c = search rules
+
+pub returns-then-is_same-clause-blank : goal.returns-then-is_same-clause-blank
+returns-then-is_same-clause-blank g c = search rules
+
+pub returns-then-is_same-clause-kept : goal.returns-then-is_same-clause-kept
+returns-then-is_same-clause-kept g c = search rules
+
+pub returns-then-is_same-clause-no_room : goal.returns-then-is_same-clause-no_room
+returns-then-is_same-clause-no_room g c = search rules
+
+pub returns-then-is_same-clause-untouched : goal.returns-then-is_same-clause-untouched
+returns-then-is_same-clause-untouched g c = search rules
+
+pub put_cost-requires-clause-layer : goal.put_cost-requires-clause-layer
+put_cost-requires-clause-layer g c = search rules
+
+pub returns-then-put_cost-free-clause-stands : goal.returns-then-put_cost-free-clause-stands
+returns-then-put_cost-free-clause-stands g c = search rules
+
+pub returns-then-put_cost-free-clause-value : goal.returns-then-put_cost-free-clause-value
+returns-then-put_cost-free-clause-value g c = search rules
+
+pub returns-then-put_cost-free-clause-written : goal.returns-then-put_cost-free-clause-written
+returns-then-put_cost-free-clause-written g c = search rules
+
+pub returns-then-put_cost-free-clause-cost : goal.returns-then-put_cost-free-clause-cost
+returns-then-put_cost-free-clause-cost g c = search rules
+
+pub returns-then-put_cost-free-clause-taken : goal.returns-then-put_cost-free-clause-taken
+returns-then-put_cost-free-clause-taken g c = search rules
+
+pub returns-then-put_cost-free-clause-killed : goal.returns-then-put_cost-free-clause-killed
+returns-then-put_cost-free-clause-killed g c = search rules
+
+pub returns-then-put_cost-free-clause-others : goal.returns-then-put_cost-free-clause-others
+returns-then-put_cost-free-clause-others g c = search rules
+
+pub returns-then-put_cost-free-clause-versions : goal.returns-then-put_cost-free-clause-versions
+returns-then-put_cost-free-clause-versions g c = search rules
+
+pub returns-then-put_cost-free-clause-made : goal.returns-then-put_cost-free-clause-made
+returns-then-put_cost-free-clause-made g c = search rules
+
+pub returns-then-put_cost-free-clause-same_value : goal.returns-then-put_cost-free-clause-same_value
+returns-then-put_cost-free-clause-same_value g c = search rules
+
+pub returns-then-put_cost-free-clause-blank : goal.returns-then-put_cost-free-clause-blank
+returns-then-put_cost-free-clause-blank g c = search rules
+
+pub returns-then-put_cost-free-clause-kept : goal.returns-then-put_cost-free-clause-kept
+returns-then-put_cost-free-clause-kept g c = search rules
+
+pub returns-then-put_cost-free-clause-untouched : goal.returns-then-put_cost-free-clause-untouched
+returns-then-put_cost-free-clause-untouched g c = search rules
+
+pub put_at-new-requires-clause-layer : goal.put_at-new-requires-clause-layer
+put_at-new-requires-clause-layer g c = search rules
+
+pub put_at-new-requires-clause-low : goal.put_at-new-requires-clause-low
+put_at-new-requires-clause-low g c = search rules
+
+pub put_at-new-requires-clause-few : goal.put_at-new-requires-clause-few
+put_at-new-requires-clause-few g c = search rules
+
+pub put_at-new-requires-clause-free : goal.put_at-new-requires-clause-free
+put_at-new-requires-clause-free g c = search rules
+
+pub returns-clause-blank : goal.returns-clause-blank
+returns-clause-blank g c = search rules
+
+pub returns-clause-kept : goal.returns-clause-kept
+returns-clause-kept g c = search rules
+
+pub returns-clause-no_room : goal.returns-clause-no_room
+returns-clause-no_room g c = search rules
+
+pub returns-clause-untouched : goal.returns-clause-untouched
+returns-clause-untouched g c = search rules

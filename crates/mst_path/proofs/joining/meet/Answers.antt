@@ -1,3 +1,4 @@
+use Rattle.std.proofs.Common.{rules}
 use Rattle.std.proofs.Common.{◌≡◌, ◌∙◌, ◌-◌, Some, IsSome, sym, ap, subst, arith}
 use Rattle.mst_arena.specs.Content.{Content, part_at}
 use Rattle.mst_arena.specs.Row.{head_links, entry_links}
@@ -45,3 +46,33 @@ returns-clause-met g c = λ s t.
     let first = subst (λ (x : Content). part_at entry_links x (c.head-high.result.first - 1) ≡ Some c.entry-first.result) (ap g.R.Rows.content (c.head-high.ensures.same ∙ c.head-low.ensures.same)) c.entry-first.ensures.value in
     subst (Met (g.R.Rows.content c.args.rows.now) s c.args.left c.args.right t) (sym c.level.ensures.is)
     (met_level (g.R.Rows.content c.args.rows.now) s c.args.left c.args.right t c.head-low.result c.head-high.result c.requires.left c.requires.right c.head-low.ensures.value read c.entry-first.result first (omega (arith, c.if-high-low.false, c.if-low-high.false)))
+
+pub overflow_sub-left : goal.overflow_sub-left
+overflow_sub-left g c = search rules
+
+pub head-low-requires : goal.head-low-requires
+head-low-requires g c = search rules
+
+pub overflow_sub-right : goal.overflow_sub-right
+overflow_sub-right g c = search rules
+
+pub higher-requires : goal.higher-requires
+higher-requires g c = search rules
+
+pub returns-then-high-low-clause-same : goal.returns-then-high-low-clause-same
+returns-then-high-low-clause-same g c = search rules
+
+pub lower-requires : goal.lower-requires
+lower-requires g c = search rules
+
+pub returns-then-low-high-clause-same : goal.returns-then-low-high-clause-same
+returns-then-low-high-clause-same g c = search rules
+
+pub level-requires-clause-left : goal.level-requires-clause-left
+level-requires-clause-left g c = search rules
+
+pub level-requires-clause-right : goal.level-requires-clause-right
+level-requires-clause-right g c = search rules
+
+pub returns-clause-same : goal.returns-clause-same
+returns-clause-same g c = search rules

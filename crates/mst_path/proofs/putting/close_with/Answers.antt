@@ -1,3 +1,4 @@
+use Rattle.std.proofs.Common.{rules}
 use Rattle.std.proofs.Common.{◌+◌, refl, arith}
 use Rattle.mst_path.specs.Frames.{in_entries}
 use Rattle.mst_path.specs.Putting.{in_two, with_rows}
@@ -28,3 +29,21 @@ returns-clause-made g c = λ t f.
     let made = c.make_node_with-root.ensures.made (frame_parts _ _ c.args.frame.now c.args.lower.now c.args.upper.now t f) t.lower t.lower_root t.lower_piece (λ x. omega (arith, f.once x)) in
     let grown = grown_as _ _ _ _ _ _ _ _ (λ x. in_two t x + in_entries f x) _ (with_rows c.args.frame.now) refl (λ x. omega arith) refl made in
     closed _ _ c.args.frame.now _ f _ _ _ _ _ grown _ c.kill_both.ensures.moves
+
+pub make_node_with-root-requires-clause-low : goal.make_node_with-root-requires-clause-low
+make_node_with-root-requires-clause-low g c = search rules
+
+pub make_node_with-root-requires-clause-room : goal.make_node_with-root-requires-clause-room
+make_node_with-root-requires-clause-room g c = search rules
+
+pub make_node_with-root-requires-clause-few : goal.make_node_with-root-requires-clause-few
+make_node_with-root-requires-clause-few g c = search rules
+
+pub make_node_with-root-requires-clause-free : goal.make_node_with-root-requires-clause-free
+make_node_with-root-requires-clause-free g c = search rules
+
+pub returns-clause-blank : goal.returns-clause-blank
+returns-clause-blank g c = search rules
+
+pub returns-clause-kept : goal.returns-clause-kept
+returns-clause-kept g c = search rules

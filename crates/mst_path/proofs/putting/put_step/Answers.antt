@@ -1,3 +1,4 @@
+use Rattle.std.proofs.Common.{rules}
 use Rattle.std.proofs.Common.{sym, ap, subst}
 use Rattle.mst_arena.specs.Content.{Content}
 use Rattle.mst_arena.specs.Lives.{State}
@@ -41,3 +42,15 @@ returns-in-Here-clause-step g c = λ s t.
     let opened = subst (λ (x : Content). (q : State) (y : SearchTree x q c.args.link) → IsOpened x q c.args.link y c.args.key.now c.top_step.result) (ap g.R.Rows.content c.is_lower.ensures.same) c.top_step.ensures.opened s t.tree in
     let here : OpensEntry C s c.args.link t.tree c.args.key.now c.in-Here.meeting = subst (IsOpened C s c.args.link t.tree c.args.key.now) c.in-Here.is opened in
     puts_anew C s c.args.link t c.args.layer c.args.key.now c.requires.layer c.in-Here.meeting here
+
+pub returns-then-is_lower-clause-same : goal.returns-then-is_lower-clause-same
+returns-then-is_lower-clause-same g c = search rules
+
+pub returns-then-frame-layer-clause-same : goal.returns-then-frame-layer-clause-same
+returns-then-frame-layer-clause-same g c = search rules
+
+pub returns-else-frame-layer-clause-same : goal.returns-else-frame-layer-clause-same
+returns-else-frame-layer-clause-same g c = search rules
+
+pub returns-in-Here-clause-same : goal.returns-in-Here-clause-same
+returns-in-Here-clause-same g c = search rules

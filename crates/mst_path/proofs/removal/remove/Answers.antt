@@ -1,3 +1,4 @@
+use Rattle.std.proofs.Common.{rules}
 use Rattle.std.proofs.Common.{◌≡◌, ◌∙◌, ◌≤◌, Some, None, sym, ap, subst, arith}
 use Rattle.mst_arena.specs.Content.{Content}
 use Rattle.mst_arena.specs.Lives.{State, free_count}
@@ -116,3 +117,84 @@ pub returns-clause-absent : goal.returns-clause-absent
 returns-clause-absent g c m st none =
     let found = says (g.R.Rows.content c.args.rows.now) c.args.desk.now c.args.root.now c.args.key.now c.requires.stands c.find.result c.find.ensures.found m st ∙ c.in-Some.is in
     absurd (let no : Some c.in-Some.value ≡ None = sym found ∙ none in cc)
+
+pub returns-in_default-clause-written : goal.returns-in_default-clause-written
+returns-in_default-clause-written g c = search rules
+
+pub returns-in_default-clause-others : goal.returns-in_default-clause-others
+returns-in_default-clause-others g c = search rules
+
+pub returns-in_default-clause-versions : goal.returns-in_default-clause-versions
+returns-in_default-clause-versions g c = search rules
+
+pub returns-in_default-clause-absent : goal.returns-in_default-clause-absent
+returns-in_default-clause-absent g c = search rules
+
+pub returns-in_default-clause-blank : goal.returns-in_default-clause-blank
+returns-in_default-clause-blank g c = search rules
+
+pub returns-in_default-clause-kept : goal.returns-in_default-clause-kept
+returns-in_default-clause-kept g c = search rules
+
+pub returns-in_default-clause-no_room : goal.returns-in_default-clause-no_room
+returns-in_default-clause-no_room g c = search rules
+
+pub returns-in_default-clause-untouched : goal.returns-in_default-clause-untouched
+returns-in_default-clause-untouched g c = search rules
+
+pub returns-then-remove_cost-free-clause-stands : goal.returns-then-remove_cost-free-clause-stands
+returns-then-remove_cost-free-clause-stands g c = search rules
+
+pub returns-then-remove_cost-free-clause-value : goal.returns-then-remove_cost-free-clause-value
+returns-then-remove_cost-free-clause-value g c = search rules
+
+pub returns-then-remove_cost-free-clause-written : goal.returns-then-remove_cost-free-clause-written
+returns-then-remove_cost-free-clause-written g c = search rules
+
+pub returns-then-remove_cost-free-clause-cost : goal.returns-then-remove_cost-free-clause-cost
+returns-then-remove_cost-free-clause-cost g c = search rules
+
+pub returns-then-remove_cost-free-clause-taken : goal.returns-then-remove_cost-free-clause-taken
+returns-then-remove_cost-free-clause-taken g c = search rules
+
+pub returns-then-remove_cost-free-clause-killed : goal.returns-then-remove_cost-free-clause-killed
+returns-then-remove_cost-free-clause-killed g c = search rules
+
+pub returns-then-remove_cost-free-clause-others : goal.returns-then-remove_cost-free-clause-others
+returns-then-remove_cost-free-clause-others g c = search rules
+
+pub returns-then-remove_cost-free-clause-versions : goal.returns-then-remove_cost-free-clause-versions
+returns-then-remove_cost-free-clause-versions g c = search rules
+
+pub returns-then-remove_cost-free-clause-made : goal.returns-then-remove_cost-free-clause-made
+returns-then-remove_cost-free-clause-made g c = search rules
+
+pub returns-then-remove_cost-free-clause-absent : goal.returns-then-remove_cost-free-clause-absent
+returns-then-remove_cost-free-clause-absent g c = search rules
+
+pub returns-then-remove_cost-free-clause-blank : goal.returns-then-remove_cost-free-clause-blank
+returns-then-remove_cost-free-clause-blank g c = search rules
+
+pub returns-then-remove_cost-free-clause-kept : goal.returns-then-remove_cost-free-clause-kept
+returns-then-remove_cost-free-clause-kept g c = search rules
+
+pub returns-then-remove_cost-free-clause-untouched : goal.returns-then-remove_cost-free-clause-untouched
+returns-then-remove_cost-free-clause-untouched g c = search rules
+
+pub remove_at-new-requires-clause-few : goal.remove_at-new-requires-clause-few
+remove_at-new-requires-clause-few g c = search rules
+
+pub remove_at-new-requires-clause-free : goal.remove_at-new-requires-clause-free
+remove_at-new-requires-clause-free g c = search rules
+
+pub returns-clause-blank : goal.returns-clause-blank
+returns-clause-blank g c = search rules
+
+pub returns-clause-kept : goal.returns-clause-kept
+returns-clause-kept g c = search rules
+
+pub returns-clause-no_room : goal.returns-clause-no_room
+returns-clause-no_room g c = search rules
+
+pub returns-clause-untouched : goal.returns-clause-untouched
+returns-clause-untouched g c = search rules

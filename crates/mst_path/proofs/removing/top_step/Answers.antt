@@ -1,3 +1,4 @@
+use Rattle.std.proofs.Common.{rules}
 use Rattle.std.proofs.Common.{◌≡◌, ◌∙◌, List, ◌∷◌, sym, ap, subst}
 use Rattle.mst_arena.specs.Content.{Content}
 use Rattle.mst_arena.specs.Standing.{Placed, link_of, HasRows}
@@ -56,3 +57,21 @@ returns-in-Held-clause-opened g c = λ s t.
     let rows = back_rows (g.R.Rows.content c.args.rows.now) held.before (held.here ∷ held.behind) (subst (λ (l : List PlacedEntry). HasRows (g.R.Rows.content c.args.rows.now) (own_rows 0 l)) held.whole o.run.rows) in
     let right = c.first_tree-right.ensures.tree held.behind o.tail held.back_is (subst (λ (x : Content). HasRows x (own_rows 0 held.behind)) (sym (ap g.R.Rows.content (c.cut_at.ensures.same ∙ c.head-head.ensures.same))) rows.1) o.tail_at in
     opens_entry (g.R.Rows.content c.args.rows.now) s c.args.link t c.args.key.now c.head-head.result c.requires.some c.head-head.ensures.value c.in-Held.front c.in-Held.back c.in-Held.row c.in-Held.child c.first_tree-right.result c.kept_tail-in-Held.result held right c.kept_tail-in-Held.ensures.tail
+
+pub overflow_sub-link : goal.overflow_sub-link
+overflow_sub-link g c = search rules
+
+pub head-head-requires : goal.head-head-requires
+head-head-requires g c = search rules
+
+pub overflow_sub-result : goal.overflow_sub-result
+overflow_sub-result g c = search rules
+
+pub overflow_sub-frame : goal.overflow_sub-frame
+overflow_sub-frame g c = search rules
+
+pub returns-in-Gap-clause-same : goal.returns-in-Gap-clause-same
+returns-in-Gap-clause-same g c = search rules
+
+pub returns-in-Held-clause-same : goal.returns-in-Held-clause-same
+returns-in-Held-clause-same g c = search rules

@@ -1,3 +1,4 @@
+use Rattle.std.proofs.Common.{rules}
 use Rattle.std.proofs.Common.{◌≡◌, ◌≤◌, ◌+◌, List, length, option_copied, refl, sym, subst, ap, ◌∙◌, arith}
 use Rattle.mst_key.specs.Map.{Pair}
 use Rattle.mst_key.specs.declared.format.Format.TheVariants.{One}
@@ -79,3 +80,66 @@ returns-clause-count g c m is =
     let same = subst (λ o. IsTreeOf (tree_at (option_copied o)) m) c.in-Some.is is in
     let p = c.plant_node.ensures.planted in
     omega (arith, takes_count _ _ _ p.takes, used_count p.placed, ap rows_needed p.is, needed _ m same)
+
+pub returns-in_default-clause-takes : goal.returns-in_default-clause-takes
+returns-in_default-clause-takes g c = search rules
+
+pub returns-in_default-clause-keeps : goal.returns-in_default-clause-keeps
+returns-in_default-clause-keeps g c = search rules
+
+pub returns-in_default-clause-blank : goal.returns-in_default-clause-blank
+returns-in_default-clause-blank g c = search rules
+
+pub returns-in_default-clause-kept : goal.returns-in_default-clause-kept
+returns-in_default-clause-kept g c = search rules
+
+pub returns-in_default-clause-no_room : goal.returns-in_default-clause-no_room
+returns-in_default-clause-no_room g c = search rules
+
+pub returns-in_default-clause-untouched : goal.returns-in_default-clause-untouched
+returns-in_default-clause-untouched g c = search rules
+
+pub returns-then-rows_of_node-free-clause-stands : goal.returns-then-rows_of_node-free-clause-stands
+returns-then-rows_of_node-free-clause-stands g c = search rules
+
+pub returns-then-rows_of_node-free-clause-takes : goal.returns-then-rows_of_node-free-clause-takes
+returns-then-rows_of_node-free-clause-takes g c = search rules
+
+pub returns-then-rows_of_node-free-clause-keeps : goal.returns-then-rows_of_node-free-clause-keeps
+returns-then-rows_of_node-free-clause-keeps g c = search rules
+
+pub returns-then-rows_of_node-free-clause-count : goal.returns-then-rows_of_node-free-clause-count
+returns-then-rows_of_node-free-clause-count g c = search rules
+
+pub returns-then-rows_of_node-free-clause-blank : goal.returns-then-rows_of_node-free-clause-blank
+returns-then-rows_of_node-free-clause-blank g c = search rules
+
+pub returns-then-rows_of_node-free-clause-kept : goal.returns-then-rows_of_node-free-clause-kept
+returns-then-rows_of_node-free-clause-kept g c = search rules
+
+pub returns-then-rows_of_node-free-clause-untouched : goal.returns-then-rows_of_node-free-clause-untouched
+returns-then-rows_of_node-free-clause-untouched g c = search rules
+
+pub plant_node-requires-clause-room : goal.plant_node-requires-clause-room
+plant_node-requires-clause-room g c = search rules
+
+pub plant_node-requires-clause-few : goal.plant_node-requires-clause-few
+plant_node-requires-clause-few g c = search rules
+
+pub plant_node-requires-clause-blank : goal.plant_node-requires-clause-blank
+plant_node-requires-clause-blank g c = search rules
+
+pub returns-clause-stands : goal.returns-clause-stands
+returns-clause-stands g c = search rules
+
+pub returns-clause-blank : goal.returns-clause-blank
+returns-clause-blank g c = search rules
+
+pub returns-clause-kept : goal.returns-clause-kept
+returns-clause-kept g c = search rules
+
+pub returns-clause-no_room : goal.returns-clause-no_room
+returns-clause-no_room g c = search rules
+
+pub returns-clause-untouched : goal.returns-clause-untouched
+returns-clause-untouched g c = search rules

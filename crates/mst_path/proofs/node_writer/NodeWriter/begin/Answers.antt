@@ -1,3 +1,4 @@
+use Rattle.std.proofs.Common.{rules}
 use Rattle.std.proofs.Common.{arith}
 use Rattle.mst_path.proofs.Taking.{takes_append, takes_count, takes_small}
 use Rattle.mst_path.proofs.node_writer.NodeWriter.begin.Goals as goal
@@ -19,3 +20,21 @@ returns-clause-writer g c =
 
 pub returns-clause-takes : goal.returns-clause-takes
 returns-clause-takes g c = takes_append _ _ _ _ _ c.take_row-head.ensures.takes c.take_row-first.ensures.takes
+
+pub take_row-head-requires : goal.take_row-head-requires
+take_row-head-requires g c = search rules
+
+pub as_slice-requires : goal.as_slice-requires
+as_slice-requires g c = search rules
+
+pub overflow_cast-shown : goal.overflow_cast-shown
+overflow_cast-shown g c = search rules
+
+pub as_slice-requires-2 : goal.as_slice-requires-2
+as_slice-requires-2 g c = search rules
+
+pub returns-clause-written : goal.returns-clause-written
+returns-clause-written g c = search rules
+
+pub returns-clause-node : goal.returns-clause-node
+returns-clause-node g c = search rules

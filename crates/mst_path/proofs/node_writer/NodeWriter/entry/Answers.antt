@@ -1,3 +1,5 @@
+use Rattle.std.proofs.Common.{rules}
+use Rattle.std.proofs.lemmas.Grind.{elements}
 use Rattle.std.proofs.Common.{◌≡◌, ◌≢◌, ◌+◌, ◌∷◌, [], ℕ, List, Option, Some, sym, ◌∙◌, ap, subst, arith, length-append}
 use Rattle.std.specs.List.{AllByRecursion}
 use Rattle.sha2.specs.Hashers.{Holds256}
@@ -42,3 +44,42 @@ returns-clause-written g c es p r next w root has out =
           (entries_frame old new (r + 1) es (other (entries_used es) (out_front r (entries_used es) (used p) out)) before)
           (here, placed_frame One old new p (other (used p) (out_back r (entries_used es) (used p) out)) has));
     }
+
+pub overflow_sub-self : goal.overflow_sub-self
+overflow_sub-self g c = search rules
+
+pub take_next-self-requires : goal.take_next-self-requires
+take_next-self-requires g c = search rules
+
+pub overflow_add-next : goal.overflow_add-next
+overflow_add-next g c = grind (arith, elements)
+
+pub write-requires-clause-blank : goal.write-requires-clause-blank
+write-requires-clause-blank g c = search rules
+
+pub write-requires-clause-limits : goal.write-requires-clause-limits
+write-requires-clause-limits g c = grind (arith, elements)
+
+pub feed_counted-requires : goal.feed_counted-requires
+feed_counted-requires g c = search rules
+
+pub feed_counted-requires-2 : goal.feed_counted-requires-2
+feed_counted-requires-2 g c = search rules
+
+pub returns-clause-writer : goal.returns-clause-writer
+returns-clause-writer g c = grind (arith, elements)
+
+pub returns-clause-node : goal.returns-clause-node
+returns-clause-node g c = search rules
+
+pub returns-clause-takes : goal.returns-clause-takes
+returns-clause-takes g c = search rules
+
+pub returns-clause-keeps : goal.returns-clause-keeps
+returns-clause-keeps g c = search rules
+
+pub returns-clause-blank : goal.returns-clause-blank
+returns-clause-blank g c = search rules
+
+pub returns-clause-kept : goal.returns-clause-kept
+returns-clause-kept g c = search rules

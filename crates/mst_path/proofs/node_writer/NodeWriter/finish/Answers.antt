@@ -1,3 +1,4 @@
+use Rattle.std.proofs.Common.{rules}
 use Rattle.std.proofs.Common.{◌≡◌, ◌+◌, ◌++◌, ℕ, List, length, Option, None, Some, refl, sym, ◌∙◌, ap, subst, arith}
 use Rattle.sha2.specs.Sha256.{sha256}
 use Rattle.mst_key.specs.declared.format.Format.TheVariants.{One}
@@ -46,3 +47,24 @@ returns-clause-stands g c es p w root has out =
           (entries_frame old new 0 es (other (entries_used es) (out_front c.args.self.head (entries_used es) (used p) out)) before)
           (placed_frame One old new p (other (used p) (out_back c.args.self.head (entries_used es) (used p) out)) has)),
     )
+
+pub overflow_add-head : goal.overflow_add-head
+overflow_add-head g c = search rules
+
+pub write-requires-clause-blank : goal.write-requires-clause-blank
+write-requires-clause-blank g c = search rules
+
+pub write-requires-clause-limits : goal.write-requires-clause-limits
+write-requires-clause-limits g c = search rules
+
+pub overflow_add-result : goal.overflow_add-result
+overflow_add-result g c = search rules
+
+pub returns-clause-keeps : goal.returns-clause-keeps
+returns-clause-keeps g c = search rules
+
+pub returns-clause-blank : goal.returns-clause-blank
+returns-clause-blank g c = search rules
+
+pub returns-clause-kept : goal.returns-clause-kept
+returns-clause-kept g c = search rules
