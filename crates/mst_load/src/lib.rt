@@ -1,5 +1,15 @@
 //! Many threads at one store: readers and writers, each with a pass of its own, and what they leave.
 //!
+//! ```
+//! let report = load(&rt, rt.alloc(), 4, 2, 1000, &Open)?;    // 4 readers and 2 writers, of 1,000 calls each
+//! report.falls                    // 0: no reader read an older version after a newer one
+//! report.events                   // 2000, where no put was refused
+//! report.root == report.built     // true then: the map is the one that the calls leave
+//! report.lines()                  // the same in four lines
+//! ```
+//!
+//! That `falls` is 0 is proved, from what each read says of its own pass. The rest is tested. A [`Gate`] is asked before each call and told after it, so that a test can hold a worker until another has come.
+//!
 //! Nothing is proved of threads that run at once. What is said of a worker follows from the contracts of its pass, and what is said of the end from those of all passes together.
 #![tactic(auto)]
 

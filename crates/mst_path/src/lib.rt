@@ -2,6 +2,18 @@
 //!
 //! [`plant`] writes a whole tree into free rows, [`put`] puts a pair into the map that stands at a root, and [`remove`] takes a key out of it. A node is written entry by entry, and its text is fed to the hash on the way, so that no call takes memory.
 //!
+//! ```
+//! let mut desk = Desk::new(alloc, 64, 2, 0)?;
+//! let mut rows = PlainRows::new(alloc, 64)?;
+//! let root = plant(&mut rows, &mut desk, build(alloc, &pairs)?.as_deref())?;
+//! desk.advance(1);                                  // the planted map is version 1
+//! let (root, old) = put(&mut rows, &mut desk, &root, &apple, &Value::new(b"35")?)?;
+//! desk.advance(0);                                  // version 2 has the new price,
+//! desk.sweep(&[2]);                                 // and what only version 1 reached is free again
+//! ```
+//!
+//! The calls write rows for the version to come and publish nothing: their caller advances the desk, and sweeps. A change of too few free rows is refused before a row is written, by [`NoRoom`].
+//!
 //! The tree of the map after a put or a remove is made from the old one along one path, which is split or joined from the top down; all beside the path is shared. `mst_change` defines these trees and counts the rows of the nodes that are made new. [`reach_laws`] says which rows a version reaches after such a change, [`version_laws`] that the map of each version that is kept stays as it is, [`age_laws`] how old the rows of a node are, and [`room_laws`] how many rows kept versions leave free.
 //!
 //! Below the calls, from the top down:

@@ -2,6 +2,16 @@
 //!
 //! A proof frames the texts of the nodes that a search for a key meets in a map's Merkle search tree (Auvolat and Taïani 2019). `verify` follows them down from the root digest to the key's value or its absence. It needs nothing of the store that made the proof.
 //!
+//! ```
+//! match verify(&root, &apple, &proof) {
+//!     Ok(Some(price)) => ..     // the map with this root digest has this price
+//!     Ok(None) => ..            // it has no apple
+//!     Err(fault) => ..          // the proof shows nothing: P1 to P9, the first test that it fails
+//! }
+//! ```
+//!
+//! An answer is worth what its root digest is: who made that, and when, is not told here. Where an answer is false, `collide` names two texts with one SHA-256. Proofs are made by `mst_read` and `mst_store`.
+//!
 //! The definitions that the contracts cite stand in `specs/`: `Verdict`, `Accepted`, `Frame`, and in `mst_node` `Trail`.
 #![tactic(auto)]
 

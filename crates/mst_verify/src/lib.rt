@@ -1,6 +1,16 @@
 //! What is said of a proof that is spelt in hexadecimal digits: a text in, a line out.
 //!
+//! ```
+//! let Some(root) = root_in(digits) else { .. };        // 64 digits
+//! let Some(key) = key_in("6170706c65") else { .. };    // apple
+//! let report = report_on(rt.alloc(), &root, &key, text)?;
+//! report.line()           // "present 3330\n", or "absent\n", or "P5\n"
+//! report.is_refusal()     // false of the first two
+//! ```
+//!
 //! `specs/Report.antt` defines what a text, a root digest and a key come to, by the verdict on proofs of `mst_proof`.
+//!
+//! It reads no device, and has no opinion on the root digest: both are its caller's.
 #![tactic(auto)]
 
 mod report;

@@ -1,4 +1,23 @@
 //! The table that the passes of a store share without locks: its words, its rule, and one call for each atomic step.
+//!
+//! ```
+//! let desk = Desk::new(alloc, 16, 4, 0)?;
+//! let (board, mut dealer) = Board::open(alloc, Shape { rows: 16, passes: 2 }, desk)?;
+//! let mut reader = board.deal(&mut dealer);     // pass 1
+//! let mut writer = board.deal(&mut dealer);     // pass 2
+//! let record = reader.pin(1);                   // one xor, which names the current record
+//! reader.load(record_word(record, 0))           // 0, the number of its version
+//! if writer.take_turn(2) {                      // one compare-exchange
+//!     let desk = writer.take_desk();            // one exchange
+//!     writer.return_desk(desk);
+//!     writer.give_turn();
+//! }
+//! reader.unpin(1, record);
+//! ```
+//!
+//! A seat carries what its pass knows, in contracts alone: of each step they say what the pass may know before it and what it then knows. The rule that all steps keep is in `specs/Rule.antt`, the words in `specs/Layout.antt`.
+//!
+//! The steps are put together in `mst_store`: nothing here decides which comes next, loops, waits, or takes memory once the table is open.
 #![tactic(auto)]
 
 mod board;
