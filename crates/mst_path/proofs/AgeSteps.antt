@@ -28,7 +28,8 @@ use Rattle.mst_path.specs.Reached.{ReachesExactly, Changes, IsSettled, swept_by}
 use Rattle.mst_path.proofs.NodeAges.{node_in}
 use Rattle.mst_path.proofs.Reached.{older, newest, has_in, some_reach}
 
-all_contained : {A : Type 0} (P : A → Type 0) (xs : List A) → ((x : A) → Contains xs x → P x) → AllByRecursion P xs
+-- what holds of each element that a list contains holds of all
+pub all_contained : {A : Type 0} (P : A → Type 0) (xs : List A) → ((x : A) → Contains xs x → P x) → AllByRecursion P xs
 all_contained P [] each = tt
 all_contained P (x ∷ xs) each = (each x (contains-first x xs x refl), all_contained P xs (λ y has. each y (contains-later x xs y has)))
 
@@ -50,7 +51,7 @@ head_inside at layer chain r i = go (bit (eqb r at)) refl
     go (suc n) e = omega (arith, e)
 
 mutual
-  top_inside : (p q : Placed) → Contains (placed_nodes p) q → (r : ℕ) → In r (top_rows q) → In r (used p)
+  pub top_inside : (p q : Placed) → Contains (placed_nodes p) q → (r : ℕ) → In r (top_rows q) → In r (used p)
   top_inside none q has r i = absurd (contains-nothing q has)
   top_inside (head at layer chain) q has r i = go (contains-cases (head at layer chain) (chain_nodes chain) q has) (λ k. chain_inside chain q k r i)
     where

@@ -15,7 +15,7 @@ use Rattle.mst_words.specs.Stored.{stored}
 use Rattle.mst_store.specs.Turns.{Seat, StoodAtAsk}
 use Rattle.mst_store.specs.Asking.{KnowsRecords, HasAsked, AsksEach}
 use Rattle.mst_store.specs.declared.turn.Asked.{Asked}
-use Rattle.mst_store.proofs.Members.{counted}
+use Rattle.mst_words.proofs.Members.{counted}
 
 -- the last of a list stands in it, and so do those before it
 pub in_last : (x : ℕ) (xs : List ℕ) → moves.In x (xs ++ x ∷ [])

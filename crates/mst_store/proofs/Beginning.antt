@@ -35,7 +35,7 @@ use Rattle.mst_store.specs.declared.turn.Turn.{Turn}
 use Rattle.mst_store.specs.Asking.{KnowsRecords, HasAsked, AsksOnly, AsksEach}
 use Rattle.mst_store.specs.Turns.{Seat, StoodAtAsk, IsKept, AreKept, LeavesFree, HoldsDesk, HasTurn, TakesDesk}
 use Rattle.mst_store.proofs.Asked.{some_drained}
-use Rattle.mst_store.proofs.Members.{counted, found}
+use Rattle.mst_words.proofs.Members.{counted, found}
 use Rattle.mst_store.proofs.Places.{reached_inside, place_of}
 use Rattle.mst_store.proofs.Pinning.{link_of_root, in_list, each}
 

@@ -1,7 +1,6 @@
 pub mod Asked
 pub mod Beginning
 mod Places
-pub mod Members
 pub mod Pinning
 pub mod Filing
 pub mod Ready

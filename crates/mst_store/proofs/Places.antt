@@ -14,7 +14,7 @@ use Rattle.mst_words.specs.declared.view.DeskState.{DeskState}
 use Rattle.mst_words.specs.Pins.{In}
 use Rattle.mst_words.specs.Records.{Standing}
 use Rattle.mst_words.specs.Stored.{stored, version_of}
-use Rattle.mst_store.proofs.Members.{counted, found}
+use Rattle.mst_words.proofs.Members.{counted, found}
 
 -- a row that a version reaches is one of the rows
 pub reached_inside : (lives : List Life) (v x : ℕ) → reaches lives v x ≡ true → x < length lives

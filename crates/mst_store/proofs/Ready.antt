@@ -23,7 +23,7 @@ use Rattle.mst_words.proofs.Framed.{aged_frame, same_row}
 use Rattle.mst_store.specs.declared.turn.Turn.{Turn}
 use Rattle.mst_store.specs.Turns.{Seat, HoldsDesk, HasMade}
 use Rattle.mst_store.specs.Filing.{OthersKept}
-use Rattle.mst_store.proofs.Members.{counted, found}
+use Rattle.mst_words.proofs.Members.{counted, found}
 use Rattle.mst_store.proofs.Pinning.{each, reads_all}
 
 -- a version reaches only rows that there are

@@ -16,7 +16,8 @@ use Rattle.mst_words.specs.Pins.{In}
 use Rattle.mst_words.specs.Records.{SameWords, Agrees, IsFramed}
 use Rattle.mst_words.specs.Stored.{rows_in, root_in, StandsOn, AgedOn, Reaches, version_of, stored}
 use Rattle.mst_words.specs.declared.view.DeskState.{DeskState}
-use Rattle.mst_words.proofs.AgeFrames.{SameAges, ages_to, found}
+use Rattle.mst_words.proofs.AgeFrames.{SameAges, ages_to}
+use Rattle.mst_words.proofs.Members.{found}
 
 -- words, cut at a bound
 abbrev below : ℕ → (ℕ → ℕ) → ℕ → ℕ

@@ -1,5 +1,6 @@
 pub mod Histories
 pub mod Worlds
+pub mod Members
 pub mod AgeFrames
 pub mod Framed
 pub mod Fresh
