@@ -18,6 +18,7 @@ use Rattle.mst_path.proofs.Versions.{room_alone, rows_of_map}
 use Rattle.mst_words.specs.declared.view.View.{View}
 use Rattle.mst_words.specs.Access.{content_of}
 use Rattle.mst_words.specs.Pins.{In}
+use Rattle.mst_words.proofs.Members.{counted, found, contained, within}
 use Rattle.mst_store.specs.declared.turn.Turn.{Turn}
 use Rattle.mst_store.specs.declared.faults.WriteFault.TheVariants.{NoRoom}
 use Rattle.mst_store.specs.Turns.{Seat, IsKept, AreKept, HasTurn, Begun, Added}
@@ -79,8 +80,8 @@ module _ {A : Type 0} (m m1 : Seat) (t : Turn A) (b : Begun m t m1) where
   lacks_kept : (change : Change) → LacksRows change t m1 → LacksKept m.0.rows m.0.passes m1.0.seen change
   lacks_kept change lacks = let l = b.has.leaves in let n = ap (λ (v : View). v.rows) b.rest in let k = ap (λ (v : View). v.passes) b.rest in record {
     live = l.live;
-    now = l.now;
-    below = l.below;
+    now = contained (length m1.0.seen) l.live (found (length m1.0.seen) l.live l.now);
+    below = λ v has. l.below v (counted v l.live (within v l.live has));
     few = (let as_many = l.as_many in let number = b.has.number in let fewer = b.has.fewer in omega (arith, as_many, number, fewer, k));
     lacks = (let left = l.left in omega (arith, left, lacks, n));
   }

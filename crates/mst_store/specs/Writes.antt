@@ -1,5 +1,5 @@
 -- A write: what the holder of the turn makes of the map in free rows, what the pass then knows, and why a change is refused.
-use Rattle.std.specs.Prelude.{◌≡◌, ℕ, ◌+◌, ◌<◌, ◌≤◌, List, [], ◌∷◌, ◌++◌, length, Option}
+use Rattle.std.specs.Prelude.{◌≡◌, ℕ, ◌+◌, ◌<◌, ◌≤◌, List, [], ◌∷◌, ◌++◌, length, Option, Contains}
 use Rattle.mst_key.specs.Map.{Pair}
 use Rattle.mst_key.specs.declared.format.Format.TheVariants.{One}
 use Rattle.mst_key.specs.declared.history.Change.{Change}
@@ -10,7 +10,6 @@ use Rattle.mst_node.specs.Cost.{cost}
 use Rattle.mst_node.specs.Stays.{held}
 use Rattle.mst_arena.specs.Lives.{free_count, last_version}
 use Rattle.mst_arena.specs.declared.row.Root.{Root}
-use Rattle.mst_path.specs.Moves.{In}
 use Rattle.mst_path.specs.Planting.{node_count}
 use Rattle.mst_words.specs.Steps.{Misses}
 use Rattle.mst_store.specs.declared.turn.Turn.{Turn}
@@ -40,8 +39,8 @@ pub record Made {A : Type 0} (change : Change) (t : Turn A) (m : Seat) (root : R
 -- Versions are kept that hold too many of these rows for the change. The last one is among them, none is above it, and they are at most as many as the passes
 pub record LacksKept (rows passes : ℕ) (log : History) (change : Change) : Type 0 where
   pub live : List ℕ
-  pub now : In (length log) live
-  pub below : (v : ℕ) → In v live → v ≤ length log
+  pub now : Contains live (length log)
+  pub below : (v : ℕ) → Contains live v → v ≤ length log
   pub few : length live ≤ passes
   pub lacks : rows < held One log live + rows_taken (after log) change
 
