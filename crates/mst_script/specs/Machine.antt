@@ -61,7 +61,8 @@ IsSpent h text = (text ≡ line_of (codes "spent")) × (length h ≡ last_versio
 
 -- There is a next version, and the change finds no room: the versions that are kept hold too many rows, the last one and at most one for each other pass. Where there is one pass, the rows that the map leaves over are too few
 abbrev pub HasNoRoom : StoreId → Change → History → List ℕ → Type 0
-HasNoRoom store change h text = (text ≡ line_of (codes "noroom")) × (length h < last_version) × (store.passes ≡ 1 → LacksRoom store.rows (after h) change) × LacksKept store.rows store.passes h change
+HasNoRoom store change h text = (text ≡ line_of (codes "noroom")) × (length h < last_version)
+    × (store.passes ≡ 1 → LacksRoom store.rows (after h) change) × LacksKept store.rows store.passes h change
 
 -- ---- writes and counts
 
@@ -80,7 +81,8 @@ Writes store p change h text new =
 
 -- the count of the map's rows, for which the turn is taken
 abbrev pub Counts : StoreId → History → List ℕ → History → Type 0
-Counts store h text new = ((text ≡ line_of (rows_words (Some (rows_of (after h))))) ⊎ IsBusy store text ⊎ IsHeld store text) × (new ≡ h)
+Counts store h text new = ((text ≡ line_of (rows_words (Some (rows_of (after h)))))
+    ⊎ IsBusy store text ⊎ IsHeld store text) × (new ≡ h)
 
 -- ---- reads
 
@@ -88,7 +90,8 @@ Counts store h text new = ((text ≡ line_of (rows_words (Some (rows_of (after h
 abbrev pub Finds : Command → List Pair → List ℕ → Type 0
 Finds (Get k) m text = text ≡ line_of (value_words (look m k))
 Finds (Next bound) m text = text ≡ line_of (found_words (successor m bound))
-Finds (Range from to n) m text = (text ≡ line_of (count_words (span m from to n)) ++ pair_lines (span m from to n)) ⊎ LacksMemory text
+Finds (Range from to n) m text = (text ≡ line_of (count_words (span m from to n)) ++ pair_lines (span m from to n))
+    ⊎ LacksMemory text
 Finds Root m text = text ≡ line_of (digits_of (root One m))
 Finds Node m text = (text ≡ line_of (top_words (tree One m))) ⊎ LacksMemory text
 Finds (Prove k) m text = (text ≡ line_of (encode_lower (proof_text One m k))) ⊎ LacksMemory text
@@ -111,7 +114,8 @@ Acts store p read h text new = Finds read (after h) text × (new ≡ h)
 
 -- the step of a pass that pins no version
 abbrev pub FreeStep : StoreId → ℕ → Command → Machine → List ℕ → Machine → Type 0
-FreeStep store p Pin m text new = (text ≡ line_of (pinned_words (length m.history))) × (new ≡ with_pin p (Some (length m.history)) m)
+FreeStep store p Pin m text new = (text ≡ line_of (pinned_words (length m.history)))
+    × (new ≡ with_pin p (Some (length m.history)) m)
 FreeStep store p command m text new = Acts store p command m.history text new.history × (new.pinned ≡ m.pinned)
 
 -- what a pass is asked for that pins a version with this map, but to unpin it, and answers

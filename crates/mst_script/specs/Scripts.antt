@@ -1,13 +1,18 @@
 -- A script over the passes of a store.
-use Rattle.std.specs.Prelude.{ℕ, List}
+use Rattle.std.specs.Prelude.{ℕ, ◌+◌, ◌<◌, List}
 use Rattle.mst_key.specs.History.{History}
 use Rattle.mst_store.specs.Passes.{StoreId, Known}
 use Rattle.mst_lines.specs.Runs.{Ran, Stopped}
 use Rattle.mst_script.specs.Machine.{Machine, Line, with_no_pins}
 use Rattle.mst_script.specs.Serving.{Gathers, AllSaw}
 
+-- more reads or writes have failed than before
+abbrev pub Fails : {S W : Type 0} → (S → ℕ) → (W → ℕ) → S → W → S → W → Type 0
+Fails reads writes s w t x = reads s + writes w < reads t + writes x
+
 -- The source gave a script, and the sink took what the machine answers its lines, from a history on that the passes had made and with nothing pinned; all passes have then seen the machine's last history.
-pub record RanScript {S W : Type 0} (gives : S → List ℕ → S → Type 0) (takes : W → List ℕ → W → Type 0) (store : StoreId) (s : S) (w : W) (ps : List Known) (t : S) (x : W) (qs : List Known) : Type 0 where
+pub record RanScript {S W : Type 0} (gives : S → List ℕ → S → Type 0) (takes : W → List ℕ → W → Type 0)
+    (store : StoreId) (s : S) (w : W) (ps : List Known) (t : S) (x : W) (qs : List Known) : Type 0 where
   pub start : History
   pub begun : Gathers start ps
   pub last : Machine
@@ -15,7 +20,8 @@ pub record RanScript {S W : Type 0} (gives : S → List ℕ → S → Type 0) (t
   pub seen : AllSaw last.history qs
 
 -- The same, where a device failed.
-pub record StoppedScript {S W : Type 0} (gives : S → List ℕ → S → Type 0) (takes : W → List ℕ → W → Type 0) (failures : W → ℕ) (store : StoreId) (s : S) (w : W) (ps : List Known) (t : S) (x : W) (qs : List Known) : Type 0 where
+pub record StoppedScript {S W : Type 0} (gives : S → List ℕ → S → Type 0) (takes : W → List ℕ → W → Type 0)
+    (failures : W → ℕ) (store : StoreId) (s : S) (w : W) (ps : List Known) (t : S) (x : W) (qs : List Known) : Type 0 where
   pub start : History
   pub begun : Gathers start ps
   pub last : Machine

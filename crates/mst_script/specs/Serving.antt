@@ -92,7 +92,8 @@ is_unpin _ = false
 
 -- Of a proof that a map gives for a key, whichever these are, the text is the line of the top node of the map's tree; or memory was refused.
 abbrev pub Tops : List ℕ → List ℕ → Type 0
-Tops proof text = (m : List Pair) (k : List ℕ) → proof ≡ proof_text One m k → (text ≡ line_of (top_words (tree One m))) ⊎ LacksMemory text
+Tops proof text = (m : List Pair) (k : List ℕ) → proof ≡ proof_text One m k
+    → (text ≡ line_of (top_words (tree One m))) ⊎ LacksMemory text
 
 -- where the passes are in a state of the machine, the line is answered as the machine does there, and they are then in its next
 abbrev pub Serves : StoreId → Roster → Option (List ℕ) → List ℕ → Roster → Type 0
@@ -100,7 +101,8 @@ Serves store r line text s = (m : Machine) → Shows m r → (new : Machine) × 
 
 -- the same for what the pass p is asked for, once the passes have settled that come of it
 abbrev pub Does : StoreId → ℕ → Command → Roster → List ℕ → Roster → Type 0
-Does store p command r text s = (m : Machine) → Shows m r → (t : Roster) → Settled s.free s.held t.free t.held → (new : Machine) × Step store p command m text new × Shows new t
+Does store p command r text s = (m : Machine) → Shows m r → (t : Roster) → Settled s.free s.held t.free t.held
+    → (new : Machine) × Step store p command m text new × Shows new t
 
 -- at this place stands the pass with this number
 abbrev pub IsPlace : List Known → ℕ → ℕ → Type 0

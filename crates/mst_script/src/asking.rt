@@ -42,7 +42,8 @@ fn ask_range<A: Allocator, B: Allocator + Copy>(
     to: Option<&Key>,
     limit: u32,
 ) -> Answer<A>
-    ensures { Asked (Range (option_copied from.entry) (option_copied to.entry) limit) pass.old (text_of result) pass.new }
+    ensures { Asked (Range (option_copied from.entry) (option_copied to.entry) limit)
+        pass.old (text_of result) pass.new }
 {
     match pass.range(alloc, from, to, limit as usize) {
         Ok(pairs) => Answer::Pairs(pairs),

@@ -39,7 +39,8 @@ impl<'a, A: Allocator, B: Allocator + Copy> Model for Passes<'a, A, B> {
 
     ghost view = { λ p. roster p.free.items p.held.items };
 
-    ghost invariant = { λ p. (vec_len p.free + vec_len p.held ≤ vec_capacity p.free) × (vec_len p.free + vec_len p.held ≤ vec_capacity p.held) };
+    ghost invariant = { λ p. (vec_len p.free + vec_len p.held ≤ vec_capacity p.free)
+        × (vec_len p.free + vec_len p.held ≤ vec_capacity p.held) };
 }
 
 impl<'a, A: Allocator, B: Allocator + Copy> Passes<'a, A, B> {

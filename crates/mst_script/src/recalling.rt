@@ -21,7 +21,8 @@ fn recall_range<A: Allocator, B: Allocator + Copy>(
     to: Option<&Key>,
     limit: u32,
 ) -> Answer<A>
-    ensures found { Recalls (Range (option_copied from.entry) (option_copied to.entry) limit) (after_events pinned.old.seen) (text_of result) }
+    ensures found { Recalls (Range (option_copied from.entry) (option_copied to.entry) limit)
+        (after_events pinned.old.seen) (text_of result) }
     ensures same { pinned.new ≡ pinned.old }
 {
     match pinned.range(alloc, from, to, limit as usize) {

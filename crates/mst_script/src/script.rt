@@ -3,7 +3,7 @@ ghost use Rattle.std.specs.Prelude.{◌≡◌, ◌<◌, ◌≤◌, ◌-◌, ◌+
 ghost use Rattle.mst_lines.specs.Runs.{Ran, Stopped};
 ghost use Rattle.mst_lines.specs.Driving.{Answered, Lost, Closed, NotClosed};
 ghost use Rattle.mst_script.specs.Serving.{AreAllOf, everyone, Serves};
-ghost use Rattle.mst_script.specs.Scripts.{RanScript, StoppedScript};
+ghost use Rattle.mst_script.specs.Scripts.{RanScript, StoppedScript, Fails};
 
 use crate::passes::Passes;
 use crate::serve::serve;
@@ -38,9 +38,11 @@ fn answer_line<W: Sink, A: Allocator + Copy, B: Allocator + Copy>(
     requires few { W.failures sink.old < 2 ^ 64 - 1 }
     requires whole { AreAllOf store.now (everyone passes.old) }
     ensures whole { AreAllOf store.now (everyone passes.new) }
-    ensures ok { OnOk result (Answered W.takes (Serves store.now) line.now sink.old pending.old passes.old sink.new pending.new passes.new) }
+    ensures ok { OnOk result (Answered W.takes (Serves store.now) line.now
+        sink.old pending.old passes.old sink.new pending.new passes.new) }
     ensures steady { OnOk result (W.failures sink.new ≡ W.failures sink.old) }
-    ensures err { OnErr result (Lost W.takes (Serves store.now) line.now sink.old pending.old passes.old sink.new passes.new) }
+    ensures err { OnErr result (Lost W.takes (Serves store.now) line.now
+        sink.old pending.old passes.old sink.new passes.new) }
     ensures failed { OnErr result (W.failures sink.old < W.failures sink.new) }
 {
     let answer = serve(alloc, store, passes, line);
@@ -59,9 +61,11 @@ fn finish<W: Sink, A: Allocator + Copy, B: Allocator + Copy>(
     requires few { W.failures sink.old < 2 ^ 64 - 1 }
     requires whole { AreAllOf store.now (everyone passes.old) }
     ensures whole { AreAllOf store.now (everyone passes.new) }
-    ensures ok { OnOk result (Closed W.takes (Serves store.now) line.now sink.old pending.old passes.old sink.new passes.new) }
+    ensures ok { OnOk result (Closed W.takes (Serves store.now) line.now
+        sink.old pending.old passes.old sink.new passes.new) }
     ensures steady { OnOk result (W.failures sink.new ≡ W.failures sink.old) }
-    ensures err { OnErr result (NotClosed W.takes (Serves store.now) line.now sink.old pending.old passes.old sink.new passes.new) }
+    ensures err { OnErr result (NotClosed W.takes (Serves store.now) line.now
+        sink.old pending.old passes.old sink.new passes.new) }
     ensures failed { OnErr result (W.failures sink.old < W.failures sink.new) }
 {
     if line.is_empty() {
@@ -87,12 +91,14 @@ fn drive<S: Source, W: Sink, A: Allocator + Copy, B: Allocator + Copy>(
     requires reader { reader.old ≡ [] }
     requires whole { AreAllOf store.now (everyone passes.old) }
     ensures whole { AreAllOf store.now (everyone passes.new) }
-    ensures ok { OnOk result (Ran S.gives W.takes (Serves store.now) source.old sink.old passes.old source.new sink.new passes.new) }
+    ensures ok { OnOk result (Ran S.gives W.takes (Serves store.now)
+        source.old sink.old passes.old source.new sink.new passes.new) }
     ensures ended { OnOk result (S.left source.new ≡ 0) }
     ensures steady_source { OnOk result (S.failures source.new ≡ S.failures source.old) }
     ensures steady_sink { OnOk result (W.failures sink.new ≡ W.failures sink.old) }
-    ensures err { OnErr result (Stopped S.gives W.takes W.failures (Serves store.now) source.old sink.old passes.old source.new sink.new passes.new) }
-    ensures failed { OnErr result (S.failures source.old + W.failures sink.old < S.failures source.new + W.failures sink.new) }
+    ensures err { OnErr result (Stopped S.gives W.takes W.failures (Serves store.now)
+        source.old sink.old passes.old source.new sink.new passes.new) }
+    ensures failed { OnErr result (Fails S.failures W.failures source.old sink.old source.new sink.new) }
 {
     let mut line = LineBuffer::new();
     while reader.next(source, sink, pending, &mut line)? {
@@ -118,12 +124,14 @@ fn settle_and_drive<S: Source, W: Sink, A: Allocator + Copy, B: Allocator + Copy
     requires whole { AreAllOf store.now passes.old.free }
     requires free { passes.old.held ≡ [] }
     ensures whole { AreAllOf store.now passes.new.free }
-    ensures ok { OnOk result (RanScript S.gives W.takes store.now source.old sink.old passes.old.free source.new sink.new passes.new.free) }
+    ensures ok { OnOk result (RanScript S.gives W.takes store.now
+        source.old sink.old passes.old.free source.new sink.new passes.new.free) }
     ensures ended { OnOk result (S.left source.new ≡ 0) }
     ensures steady_source { OnOk result (S.failures source.new ≡ S.failures source.old) }
     ensures steady_sink { OnOk result (W.failures sink.new ≡ W.failures sink.old) }
-    ensures err { OnErr result (StoppedScript S.gives W.takes W.failures store.now source.old sink.old passes.old.free source.new sink.new passes.new.free) }
-    ensures failed { OnErr result (S.failures source.old + W.failures sink.old < S.failures source.new + W.failures sink.new) }
+    ensures err { OnErr result (StoppedScript S.gives W.takes W.failures store.now
+        source.old sink.old passes.old.free source.new sink.new passes.new.free) }
+    ensures failed { OnErr result (Fails S.failures W.failures source.old sink.old source.new sink.new) }
 {
     passes.settle();
     let driven = drive(alloc, source, sink, pending, reader, store, passes);
@@ -146,14 +154,18 @@ pub fn run<S: Source, W: Sink, A: Allocator + Copy, B: Allocator + Copy>(
     requires whole { AreAllOf store.now passes.old.items }
 
     ensures whole { AreAllOf store.now passes.new.items }
-    ensures ok { OnOk result (RanScript S.gives W.takes store.now source.old sink.old passes.old.items source.new sink.new passes.new.items) }
+    ensures ok { OnOk result (RanScript S.gives W.takes store.now
+        source.old sink.old passes.old.items source.new sink.new passes.new.items) }
     ensures ended { OnOk result (S.left source.new ≡ 0) }
     ensures steady_source { OnOk result (S.failures source.new ≡ S.failures source.old) }
     ensures steady_sink { OnOk result (W.failures sink.new ≡ W.failures sink.old) }
 
-    ensures stopped { result ≡ Err RunFault.Device → StoppedScript S.gives W.takes W.failures store.now source.old sink.old passes.old.items source.new sink.new passes.new.items }
-    ensures device { result ≡ Err RunFault.Device → S.failures source.old + W.failures sink.old < S.failures source.new + W.failures sink.new }
-    ensures memory { result ≡ Err RunFault.Memory → (source.new ≡ source.old) × (sink.new ≡ sink.old) × (passes.new ≡ passes.old) }
+    ensures stopped { result ≡ Err RunFault.Device → StoppedScript S.gives W.takes W.failures store.now
+        source.old sink.old passes.old.items source.new sink.new passes.new.items }
+    ensures device { result ≡ Err RunFault.Device
+        → Fails S.failures W.failures source.old sink.old source.new sink.new }
+    ensures memory { result ≡ Err RunFault.Memory
+        → (source.new ≡ source.old) × (sink.new ≡ sink.old) × (passes.new ≡ passes.old) }
 {
     let Ok(mut pending) = Pending::new(alloc) else {
         return Err(RunFault::Memory);

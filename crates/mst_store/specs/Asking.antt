@@ -26,8 +26,10 @@ pub record HasAsked (n : ℕ) (desk : State) (a : Asked) (m : Seat) : Type 0 whe
   pub blocked : (r : ℕ) → In r m.0.blocked → r < n
   pub drained : (r : ℕ) → In r m.0.drained → (r < n) × (r ≢ desk.current)
   pub now : moves.In (version desk) a.live.items
-  pub others : (r : ℕ) → r < n → r ≢ desk.current → (In r m.0.drained → ⊥) → moves.In (slice_index desk.versions r) a.live.items
-  pub only : (v : ℕ) → moves.In v a.live.items → (v ≡ version desk) ⊎ ((r : ℕ) × (r < n) × (In r m.0.drained → ⊥) × (v ≡ slice_index desk.versions r))
+  pub others : (r : ℕ) → r < n → r ≢ desk.current → (In r m.0.drained → ⊥)
+      → moves.In (slice_index desk.versions r) a.live.items
+  pub only : (v : ℕ) → moves.In v a.live.items → (v ≡ version desk)
+      ⊎ ((r : ℕ) × (r < n) × (In r m.0.drained → ⊥) × (v ≡ slice_index desk.versions r))
   pub found : (r : ℕ) → r < n → r ≢ desk.current → (In r m.0.drained → ⊥) → In r m.0.blocked
   pub stood : (r : ℕ) → In r m.0.blocked → StoodAtAsk r m.0
   pub into : 0 < length m.0.drained → In a.into m.0.drained
@@ -38,4 +40,5 @@ AsksOnly m m' = m' ≡ (record m.0 { drained = m'.0.drained; blocked = m'.0.bloc
 
 -- one question was counted for each record that was asked
 abbrev pub AsksEach : Seat → Seat → Type 0
-AsksEach m m' = m'.0.asked + length m.0.drained + length m.0.blocked ≡ m.0.asked + length m'.0.drained + length m'.0.blocked
+AsksEach m m' = m'.0.asked + length m.0.drained + length m.0.blocked
+    ≡ m.0.asked + length m'.0.drained + length m'.0.blocked

@@ -29,13 +29,21 @@ pub record Known : Type 0 where
   pub mine : History
   pub asked : ℕ
 
+-- which store a seat is of
+abbrev pub store_of : access.Seated → StoreId
+store_of s = record { table = s.table; rows = s.me.0.rows; passes = s.me.0.passes }
+
 -- what the seat of a pass shows to callers
 abbrev pub known : ℕ → access.Seated → Known
-known number s = record { store = record { table = s.table; rows = s.me.0.rows; passes = s.me.0.passes }; number = number; seen = s.me.0.seen; mine = s.me.0.mine; asked = s.me.0.asked }
+known number s = record {
+  store = store_of s; number = number; seen = s.me.0.seen; mine = s.me.0.mine; asked = s.me.0.asked
+}
 
 -- What a pinned pass shows to callers: of what it has seen the history at its pin, which lasts until the pin ends
 abbrev pub known_at_pin : ℕ → access.Seated → Known
-known_at_pin number s = record { store = record { table = s.table; rows = s.me.0.rows; passes = s.me.0.passes }; number = number; seen = s.me.0.place; mine = s.me.0.mine; asked = s.me.0.asked }
+known_at_pin number s = record {
+  store = store_of s; number = number; seen = s.me.0.place; mine = s.me.0.mine; asked = s.me.0.asked
+}
 
 -- The pass has no pin and not the turn, and its events in what it has seen are its own
 pub record IsAtRest (number passes rows : ℕ) (s : access.Seated) : Type 0 where
@@ -133,4 +141,6 @@ FindsBusy p q = (q ≡ having_asked 1 p) × (1 < p.store.passes)
 abbrev pub Refuses : WriteFault → Change → Known → Known → Type 0
 Refuses Busy change p q = FindsBusy p q
 Refuses VersionsSpent change p q = Looks p q × (length q.seen ≡ last_version) × (q.asked ≡ p.asked + 1)
-Refuses NoRoom change p q = Looks p q × (length q.seen < last_version) × (p.store.passes ≡ 1 → LacksRoom q.store.rows (after q.seen) change) × (q.asked ≡ p.asked + p.store.passes + 2) × LacksKept p.store.rows p.store.passes q.seen change
+Refuses NoRoom change p q = Looks p q × (length q.seen < last_version)
+    × (p.store.passes ≡ 1 → LacksRoom q.store.rows (after q.seen) change)
+    × (q.asked ≡ p.asked + p.store.passes + 2) × LacksKept p.store.rows p.store.passes q.seen change

@@ -81,19 +81,22 @@ pub record HasTurn {A : Type 0} (t : Turn A) (m : Seat) : Type 0 where
   pub fewer : length m.0.blocked < m.0.passes
   pub number : t.kept ≡ length m.0.blocked + 1
   pub there : t.desk.current < m.0.passes + 2
-  pub count : (live rows : List ℕ) → AreKept t.desk m.0 live → IsDistinct rows → TogetherReach t.desk.lives live rows → free_count t.desk.lives + length rows ≡ m.0.rows
+  pub count : (live rows : List ℕ) → AreKept t.desk m.0 live → IsDistinct rows → TogetherReach t.desk.lives live rows
+      → free_count t.desk.lives + length rows ≡ m.0.rows
   pub leaves : LeavesFree t.desk.lives m.0.seen t.kept m.0.rows
 
 -- the turn was taken, and the desk out of the slot
 abbrev pub TakesDesk : Seat → State → Seat → Type 0
-TakesDesk before desk m = (taken : Seat) × Takes stored before taken × (taken.1 ≡ (0, Some desk) ∷ []) × (m ≡ (taken.0, (0, None) ∷ []))
+TakesDesk before desk m = (taken : Seat) × Takes stored before taken × (taken.1 ≡ (0, Some desk) ∷ [])
+    × (m ≡ (taken.0, (0, None) ∷ []))
 
 -- The turn was taken, by one try, and each record but the current one was asked once. The whole history begins with all that the pass had seen, and its events there are its own. Nothing else changed
 pub record Begun {A : Type 0} (m : Seat) (t : Turn A) (m' : Seat) : Type 0 where
   pub later : Begins m.0.seen m'.0.seen
   pub own : events_of m.0.number m'.0.seen ≡ m.0.mine
   pub has : HasTurn t m'
-  pub rest : m'.0 ≡ record m.0 { seen = m'.0.seen; held = m'.0.held; turn = true; desk = m'.0.desk; due = None; mask = 0; drained = m'.0.drained; blocked = m'.0.blocked; noted = None; asked = m'.0.asked }
+  pub rest : m'.0 ≡ record m.0 { seen = m'.0.seen; held = m'.0.held; turn = true; desk = m'.0.desk; due = None;
+      mask = 0; drained = m'.0.drained; blocked = m'.0.blocked; noted = None; asked = m'.0.asked }
   pub asked : m'.0.asked ≡ m.0.asked + m.0.passes + 2
 
 -- The turn was taken, by one try, and given back, since the last version number is spent; no record was asked. The pass has seen the whole history
@@ -101,7 +104,8 @@ pub record Spent (m m' : Seat) : Type 0 where
   pub later : Begins m.0.seen m'.0.seen
   pub own : events_of m.0.number m'.0.seen ≡ m.0.mine
   pub spent : length m'.0.seen ≡ last_version
-  pub rest : m' ≡ (record m.0 { seen = m'.0.seen; held = m'.0.held; turn = false; desk = m'.0.desk; due = None; mask = 0; drained = []; blocked = []; noted = None; asked = m.0.asked + 1 }, [])
+  pub rest : m' ≡ (record m.0 { seen = m'.0.seen; held = m'.0.held; turn = false; desk = m'.0.desk; due = None;
+      mask = 0; drained = []; blocked = []; noted = None; asked = m.0.asked + 1 }, [])
 
 -- what is so where no write is begun
 abbrev pub IsNotBegun : NotBegun → Seat → Seat → Type 0
@@ -123,4 +127,5 @@ pub record Added (e : Event) (m m' : Seat) : Type 0 where
   pub seen : m'.0.seen ≡ m.0.seen ++ e ∷ []
   pub mine : m'.0.mine ≡ m.0.mine ++ e ∷ []
   pub asked : m'.0.asked ≡ m.0.asked + 1
-  pub free : (m'.1 ≡ []) × (m'.0.turn ≡ false) × (m'.0.pin ≡ None) × (m'.0.number ≡ m.0.number) × (m'.0.rows ≡ m.0.rows) × (m'.0.passes ≡ m.0.passes) × (m'.0.told ≡ m.0.told)
+  pub free : (m'.1 ≡ []) × (m'.0.turn ≡ false) × (m'.0.pin ≡ None)
+      × (m'.0.number ≡ m.0.number) × (m'.0.rows ≡ m.0.rows) × (m'.0.passes ≡ m.0.passes) × (m'.0.told ≡ m.0.told)

@@ -30,7 +30,8 @@ abbrev pub rows_taken : List Pair → Change → ℕ
 rows_taken m change = cost One m (changed m change)
 
 -- The change is made in free rows, as many as it takes, and can be published. Of what the seat knows only the words of those rows have changed. The answer is what the history replies
-pub record Made {A : Type 0} (change : Change) (t : Turn A) (m : Seat) (root : Root) (old : Option (List ℕ)) (t' : Turn A) (m' : Seat) : Type 0 where
+pub record Made {A : Type 0} (change : Change) (t : Turn A) (m : Seat)
+    (root : Root) (old : Option (List ℕ)) (t' : Turn A) (m' : Seat) : Type 0 where
   pub has : HasMade t' root (made_at_seat m change) m'
   pub answer : old ≡ reply m.0.seen (made_at_seat m change)
   pub rows : free_count t'.desk.lives + rows_taken (after m.0.seen) change ≡ free_count t.desk.lives
@@ -50,7 +51,8 @@ LacksRows change t m = free_count t.desk.lives < rows_taken (after m.0.seen) cha
 
 -- at the seat is the same pass of the same store, which was told the same
 abbrev pub KeepsPass : Seat → Seat → Type 0
-KeepsPass m m' = (m'.0.number ≡ m.0.number) × (m'.0.rows ≡ m.0.rows) × (m'.0.passes ≡ m.0.passes) × (m'.0.told ≡ m.0.told)
+KeepsPass m m' = (m'.0.number ≡ m.0.number) × (m'.0.rows ≡ m.0.rows)
+    × (m'.0.passes ≡ m.0.passes) × (m'.0.told ≡ m.0.told)
 
 -- The event stands right behind a history that begins with all that the pass had seen, and the answer is what that history replies. The pass has now seen both. It tried the turn once, asked each record but the current one once, and published once
 pub record WroteAtSeat (e : Event) (m : Seat) (old : Option (List ℕ)) (m' : Seat) : Type 0 where
@@ -75,4 +77,6 @@ pub record LookedAtSeat (m m' : Seat) : Type 0 where
 abbrev pub RefusesAtSeat : WriteFault → Change → Seat → Seat → Type 0
 RefusesAtSeat Busy change m m' = Misses m m'
 RefusesAtSeat VersionsSpent change m m' = Spent m m'
-RefusesAtSeat NoRoom change m m' = LookedAtSeat m m' × (length m'.0.seen < last_version) × (m.0.passes ≡ 1 → m.0.rows < rows_of (after m'.0.seen) + rows_taken (after m'.0.seen) change) × LacksKept m.0.rows m.0.passes m'.0.seen change
+RefusesAtSeat NoRoom change m m' = LookedAtSeat m m' × (length m'.0.seen < last_version)
+    × (m.0.passes ≡ 1 → m.0.rows < rows_of (after m'.0.seen) + rows_taken (after m'.0.seen) change)
+    × LacksKept m.0.rows m.0.passes m'.0.seen change

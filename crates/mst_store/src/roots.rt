@@ -1,5 +1,6 @@
 //! The words of a record.
 ghost use Rattle.std.specs.Prelude.{◌≡◌, ◌<◌, ◌≤◌, ℕ, length};
+ghost use Rattle.mst_words.specs.Access.{with_words};
 ghost use Rattle.mst_words.specs.Layout.{most_records, record_words, first_row, record_word};
 ghost use Rattle.mst_words.specs.Records.{field};
 ghost use Rattle.mst_words.specs.Stored.{root_in};
@@ -80,7 +81,7 @@ fn store_all<A: Allocator + Copy>(
     requires holder { IsHolder seat.old.me }
     requires drained { In which seat.old.me.0.drained }
     requires wide { first_row ≤ length seat.old.me.0.held }
-    ensures kept { seat.new ≡ record seat.old { me = (record seat.old.me.0 { held = seat.new.me.0.held }, seat.old.me.1) } }
+    ensures kept { seat.new ≡ with_words seat.new.me.0.held seat.old }
     ensures stored { IsFiled which record_words words.now seat.old.me.0.held seat.new.me.0.held }
 {
     for k in 0..RECORD_WORDS {
@@ -99,7 +100,7 @@ pub(crate) fn write_root<A: Allocator + Copy>(
     requires holder { IsHolder seat.old.me }
     requires drained { In which seat.old.me.0.drained }
     requires wide { first_row ≤ length seat.old.me.0.held }
-    ensures kept { seat.new ≡ record seat.old { me = (record seat.old.me.0 { held = seat.new.me.0.held }, seat.old.me.1) } }
+    ensures kept { seat.new ≡ with_words seat.new.me.0.held seat.old }
     ensures version { field seat.new.me.0.held which 0 ≡ version }
     ensures root { root_in (field seat.new.me.0.held which) ≡ root.now }
     ensures others { OthersKept which seat.old.me.0.held seat.new.me.0.held }

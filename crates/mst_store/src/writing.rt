@@ -26,7 +26,8 @@ fn make_put<A: Allocator + Copy>(
     requires turn { HasTurn turn.old seat.old.me }
     requires open { length seat.old.me.0.seen < last_version }
     ensures same { IsSameSeat seat.old seat.new }
-    ensures made { IfOk result (λ done. Made (Put key.now value.now) turn.old seat.old.me done.0 done.1 turn.new seat.new.me) }
+    ensures made { IfOk result (λ done. Made (Put key.now value.now)
+        turn.old seat.old.me done.0 done.1 turn.new seat.new.me) }
     ensures lacks { OnErr result (LacksRows (Put key.now value.now) turn.old seat.old.me) }
     ensures untouched { OnErr result ((turn.new ≡ turn.old) × (seat.new ≡ seat.old)) }
 {
