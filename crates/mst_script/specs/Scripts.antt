@@ -6,9 +6,9 @@ use Rattle.mst_lines.specs.Runs.{Ran, Stopped}
 use Rattle.mst_script.specs.Machine.{Machine, Line, with_no_pins}
 use Rattle.mst_script.specs.Serving.{Gathers, AllSaw}
 
--- more reads or writes have failed than before
-abbrev pub Fails : {S W : Type 0} → (S → ℕ) → (W → ℕ) → S → W → S → W → Type 0
-Fails reads writes s w t x = reads s + writes w < reads t + writes x
+-- a read or a write has failed since
+abbrev pub HasFailed : {S W : Type 0} → (S → ℕ) → (W → ℕ) → S → W → S → W → Type 0
+HasFailed reads writes s w t x = reads s + writes w < reads t + writes x
 
 -- The source gave a script, and the sink took what the machine answers its lines, from a history on that the passes had made and with nothing pinned; all passes have then seen the machine's last history.
 pub record RanScript {S W : Type 0} (gives : S → List ℕ → S → Type 0) (takes : W → List ℕ → W → Type 0)

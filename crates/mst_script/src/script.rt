@@ -3,7 +3,7 @@ ghost use Rattle.std.specs.Prelude.{◌≡◌, ◌<◌, ◌≤◌, ◌-◌, ◌+
 ghost use Rattle.mst_lines.specs.Runs.{Ran, Stopped};
 ghost use Rattle.mst_lines.specs.Driving.{Answered, Lost, Closed, NotClosed};
 ghost use Rattle.mst_script.specs.Serving.{AreAllOf, everyone, Serves};
-ghost use Rattle.mst_script.specs.Scripts.{RanScript, StoppedScript, Fails};
+ghost use Rattle.mst_script.specs.Scripts.{RanScript, StoppedScript, HasFailed};
 
 use crate::passes::Passes;
 use crate::serve::serve;
@@ -98,7 +98,7 @@ fn drive<S: Source, W: Sink, A: Allocator + Copy, B: Allocator + Copy>(
     ensures steady_sink { OnOk result (W.failures sink.new ≡ W.failures sink.old) }
     ensures err { OnErr result (Stopped S.gives W.takes W.failures (Serves store.now)
         source.old sink.old passes.old source.new sink.new passes.new) }
-    ensures failed { OnErr result (Fails S.failures W.failures source.old sink.old source.new sink.new) }
+    ensures failed { OnErr result (HasFailed S.failures W.failures source.old sink.old source.new sink.new) }
 {
     let mut line = LineBuffer::new();
     while reader.next(source, sink, pending, &mut line)? {
@@ -131,7 +131,7 @@ fn settle_and_drive<S: Source, W: Sink, A: Allocator + Copy, B: Allocator + Copy
     ensures steady_sink { OnOk result (W.failures sink.new ≡ W.failures sink.old) }
     ensures err { OnErr result (StoppedScript S.gives W.takes W.failures store.now
         source.old sink.old passes.old.free source.new sink.new passes.new.free) }
-    ensures failed { OnErr result (Fails S.failures W.failures source.old sink.old source.new sink.new) }
+    ensures failed { OnErr result (HasFailed S.failures W.failures source.old sink.old source.new sink.new) }
 {
     passes.settle();
     let driven = drive(alloc, source, sink, pending, reader, store, passes);
@@ -163,7 +163,7 @@ pub fn run<S: Source, W: Sink, A: Allocator + Copy, B: Allocator + Copy>(
     ensures stopped { result ≡ Err RunFault.Device → StoppedScript S.gives W.takes W.failures store.now
         source.old sink.old passes.old.items source.new sink.new passes.new.items }
     ensures device { result ≡ Err RunFault.Device
-        → Fails S.failures W.failures source.old sink.old source.new sink.new }
+        → HasFailed S.failures W.failures source.old sink.old source.new sink.new }
     ensures memory { result ≡ Err RunFault.Memory
         → (source.new ≡ source.old) × (sink.new ≡ sink.old) × (passes.new ≡ passes.old) }
 {
