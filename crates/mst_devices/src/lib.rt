@@ -1,4 +1,17 @@
 //! What bytes are read from, and what they are written to.
+//!
+//! ```
+//! let mut source = BytesSource::new(b"abc");
+//! let mut buffer = [0; 2];
+//! source.read(&mut buffer)?                      // 2, and the buffer has "ab"
+//! let mut sink = BytesSink::new(alloc, 100)?;    // takes 100 bytes and no more
+//! let mut pending = Pending::new(alloc)?;
+//! pending.put(&mut sink, b"xyz")?;               // waits
+//! pending.flush(&mut sink)?;
+//! sink.bytes()                                   // "xyz"
+//! ```
+//!
+//! A failure is told, and raises a count that contracts see; a device that failed may be asked again. What a terminal gives or takes no contract can say: of [`StdSource`] and [`StdSink`] it is known which reads and writes failed, and the bytes where std knows them.
 #![tactic(auto)]
 
 ghost use Rattle.std.specs.Prelude.{◌≡◌, ℕ, ◌+◌, ◌-◌, ◌^◌, ◌<◌, ◌≤◌, List, [], ◌++◌, length, IfOk, OnOk, OnErr};
