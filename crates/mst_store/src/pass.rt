@@ -79,8 +79,8 @@ impl<'a, A: Allocator + Copy> Pass<'a, A> {
         to: Option<&Key>,
         limit: usize,
     ) -> Result<Vec<(Key, Value), B>, Memory>
-        ensures ok { IfOk result (λ found.
-            Answers (λ m. span m (option_copied from.entry) (option_copied to.entry) limit) self.old found.items self.new) }
+        ensures ok { IfOk result (λ found. Answers
+            (λ m. span m (option_copied from.entry) (option_copied to.entry) limit) self.old found.items self.new) }
         ensures memory { OnErr result (self.new ≡ having_asked 1 self.old) }
         ensures once { self.new.asked ≡ self.old.asked + 1 }
     {

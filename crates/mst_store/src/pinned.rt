@@ -102,8 +102,8 @@ impl<'a, A: Allocator + Copy> Pinned<'a, A> {
         to: Option<&Key>,
         limit: usize,
     ) -> Result<Vec<(Key, Value), B>, Memory>
-        ensures found { IfOk result (λ found. found.items
-            ≡ span (after_events self.old.seen) (option_copied from.entry) (option_copied to.entry) limit) }
+        ensures found { IfOk result (λ found. found.items ≡ span
+            (after_events self.old.seen) (option_copied from.entry) (option_copied to.entry) limit) }
         ensures same { self.new ≡ self.old }
     {
         reading::range(&mut self.seat, alloc, &self.at, from, to, limit)

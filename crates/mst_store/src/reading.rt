@@ -92,8 +92,8 @@ pub(crate) fn range<A: Allocator + Copy, B: Allocator>(
     limit: usize,
 ) -> Result<Vec<(Key, Value), B>, Memory>
     requires pinned { HasPinned at.now seat.old.me.0 }
-    ensures found { IfOk result (λ found. found.items
-        ≡ span (after seat.old.me.0.place) (option_copied from.entry) (option_copied to.entry) limit) }
+    ensures found { IfOk result (λ found. found.items ≡ span
+        (after seat.old.me.0.place) (option_copied from.entry) (option_copied to.entry) limit) }
     ensures same { seat.new ≡ seat.old }
 {
     mst_read::range_below(alloc, seat, at.link, from, to, limit)
