@@ -131,9 +131,6 @@ returns-clause-same_value g c m st same =
 pub returns-then-is_same-clause-written : goal.returns-then-is_same-clause-written
 returns-then-is_same-clause-written g c = search rules
 
-pub returns-then-is_same-clause-others : goal.returns-then-is_same-clause-others
-returns-then-is_same-clause-others g c = search rules
-
 pub returns-then-is_same-clause-versions : goal.returns-then-is_same-clause-versions
 returns-then-is_same-clause-versions g c = search rules
 
@@ -167,14 +164,8 @@ returns-then-put_cost-free-clause-written g c = search rules
 pub returns-then-put_cost-free-clause-cost : goal.returns-then-put_cost-free-clause-cost
 returns-then-put_cost-free-clause-cost g c = search rules
 
-pub returns-then-put_cost-free-clause-taken : goal.returns-then-put_cost-free-clause-taken
-returns-then-put_cost-free-clause-taken g c = search rules
-
-pub returns-then-put_cost-free-clause-killed : goal.returns-then-put_cost-free-clause-killed
-returns-then-put_cost-free-clause-killed g c = search rules
-
-pub returns-then-put_cost-free-clause-others : goal.returns-then-put_cost-free-clause-others
-returns-then-put_cost-free-clause-others g c = search rules
+pub returns-then-put_cost-free-clause-changes : goal.returns-then-put_cost-free-clause-changes
+returns-then-put_cost-free-clause-changes g c = search rules
 
 pub returns-then-put_cost-free-clause-versions : goal.returns-then-put_cost-free-clause-versions
 returns-then-put_cost-free-clause-versions g c = search rules

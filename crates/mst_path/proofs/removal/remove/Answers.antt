@@ -121,9 +121,6 @@ returns-clause-absent g c m st none =
 pub returns-in_default-clause-written : goal.returns-in_default-clause-written
 returns-in_default-clause-written g c = search rules
 
-pub returns-in_default-clause-others : goal.returns-in_default-clause-others
-returns-in_default-clause-others g c = search rules
-
 pub returns-in_default-clause-versions : goal.returns-in_default-clause-versions
 returns-in_default-clause-versions g c = search rules
 
@@ -154,14 +151,8 @@ returns-then-remove_cost-free-clause-written g c = search rules
 pub returns-then-remove_cost-free-clause-cost : goal.returns-then-remove_cost-free-clause-cost
 returns-then-remove_cost-free-clause-cost g c = search rules
 
-pub returns-then-remove_cost-free-clause-taken : goal.returns-then-remove_cost-free-clause-taken
-returns-then-remove_cost-free-clause-taken g c = search rules
-
-pub returns-then-remove_cost-free-clause-killed : goal.returns-then-remove_cost-free-clause-killed
-returns-then-remove_cost-free-clause-killed g c = search rules
-
-pub returns-then-remove_cost-free-clause-others : goal.returns-then-remove_cost-free-clause-others
-returns-then-remove_cost-free-clause-others g c = search rules
+pub returns-then-remove_cost-free-clause-changes : goal.returns-then-remove_cost-free-clause-changes
+returns-then-remove_cost-free-clause-changes g c = search rules
 
 pub returns-then-remove_cost-free-clause-versions : goal.returns-then-remove_cost-free-clause-versions
 returns-then-remove_cost-free-clause-versions g c = search rules
