@@ -1,4 +1,5 @@
 pub mod Calls
 pub mod Lines
+pub mod Reports
 pub mod Stores
 pub mod Workers

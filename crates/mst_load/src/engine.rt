@@ -1,12 +1,13 @@
 //! A load of readers and writers, from the store's opening to its end.
 ghost use Rattle.std.specs.Prelude.{◌≡◌, ◌≤◌, IfOk};
 ghost use Rattle.mst_store.specs.Settling.{AreAllPasses};
+ghost use Rattle.mst_load.specs.Reports.{IsOneVersion};
 
 use crate::calls::left_by;
 use crate::gate::Gate;
 use crate::running::run_all;
 use crate::worker::Plan;
-use mst_node::root_of;
+use mst_node::{empty_digest, root_of};
 use mst_store::{Pass, Shape, Store, settle};
 use std::alloc::{AllocGlobal, Allocator, Global};
 use std::marker::Brand;
@@ -24,7 +25,7 @@ pub struct Report {
     pub events: u64,
     /// How often a version that a reader read was below one that it had read before.
     pub falls: u64,
-    /// The root digest of the map.
+    /// The root digest of the last version's map.
     pub root: [u8; 32],
     /// The root digest of the map that the writers' calls leave where none was refused.
     pub built: [u8; 32],
@@ -48,25 +49,35 @@ fn settle_all(passes: &mut [Pass<'_, Global>])
     settle(passes, &mut []);
 }
 
-// What a pass finds when all have settled.
-fn report_of(passes: &mut [Pass<'_, Global>], falls: u64, built: [u8; 32]) -> Report
-    requires whole { AreAllPasses passes.old }
-    ensures falls { result.falls ≡ falls }
+// The number of the version that a pass finds, and the root digest of its map.
+fn version_of(pass: Pass<'_, Global>) -> (u64, [u8; 32])
+    ensures version { IsOneVersion result.0 result.1 }
 {
-    settle_all(passes);
-    match passes.first_mut() {
-        Some(pass) => Report {
-            events: pass.version(),
-            falls,
-            root: pass.root(),
-            built,
-        },
-        None => Report {
-            events: 0,
-            falls,
-            root: built,
-            built,
-        },
+    let mut pinned = pass.pin();
+    (pinned.version(), pinned.root())
+}
+
+// What a pass finds when all have settled.
+fn report_of<A: Allocator>(
+    passes: Vec<Pass<'_, Global>, A>,
+    falls: u64,
+    built: [u8; 32],
+) -> Report
+    requires whole { AreAllPasses passes.items }
+    ensures falls { result.falls ≡ falls }
+    ensures version { IsOneVersion result.events result.root }
+{
+    let mut passes = passes;
+    settle_all(passes.as_mut_slice());
+    let (events, root) = match passes.pop() {
+        Some(pass) => version_of(pass),
+        None => (0, empty_digest()),
+    };
+    Report {
+        events,
+        falls,
+        root,
+        built,
     }
 }
 
@@ -88,6 +99,7 @@ pub fn load<R: Threads + Wait + AllocGlobal + Sync, A: Allocator + Copy, G: Gate
     requires writers { (1 ≤ writers) × (writers ≤ 8) }
     requires calls { (1 ≤ calls) × (calls ≤ 100000) }
     ensures never { IfOk result (λ report. report.falls ≡ 0) }
+    ensures version { IfOk result (λ report. IsOneVersion report.events report.root) }
 {
     let Ok(pairs) = left_by(alloc, writers, calls) else {
         return Err(LoadFault::Memory);
@@ -104,6 +116,6 @@ pub fn load<R: Threads + Wait + AllocGlobal + Sync, A: Allocator + Copy, G: Gate
         return Err(LoadFault::Memory);
     };
     let plan = Plan { writers, calls };
-    let (mut passes, falls) = run_all::<R, A, G, Brand>(rt, alloc, &store, gate, passes, plan)?;
-    Ok(report_of(passes.as_mut_slice(), falls, built))
+    let (passes, falls) = run_all::<R, A, G, Brand>(rt, alloc, &store, gate, passes, plan)?;
+    Ok(report_of(passes, falls, built))
 }
