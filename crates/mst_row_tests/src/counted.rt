@@ -3,7 +3,7 @@ ghost use Rattle.std.specs.Prelude.{◌≡◌, ◌≤◌, ◌<◌, None, IfOk, r
 
 use mst_arena::{EntryLinks, HeadLinks, PlainRows, Row, Rows};
 use mst_key::{Memory, Value};
-use std::alloc::Global;
+use std::alloc::{Allocator, Global};
 use std::marker::Model;
 
 /// How many parts of rows were read: heads, entries with their keys, values, and digests or whole rows.
@@ -26,13 +26,13 @@ impl Reads {
 
 /// Plain rows, and what was read of them.
 #[derive(Drop)]
-pub struct CountedRows {
-    rows: PlainRows<Global>,
+pub struct CountedRows<A: Allocator = Global> {
+    rows: PlainRows<A>,
     reads: Reads,
 }
 
 /// Contracts see the rows alone.
-impl Model for CountedRows {
+impl<A: Allocator> Model for CountedRows<A> {
     ghost use Rattle.std.specs.Prelude.{List, Option};
     ghost use Rattle.mst_arena.specs.declared.row.Row.{Row};
 
@@ -41,9 +41,9 @@ impl Model for CountedRows {
     ghost view = { λ c. c.rows };
 }
 
-impl CountedRows {
+impl<A: Allocator> CountedRows<A> {
     /// So many rows, none of them written, of which nothing was read.
-    pub fn new(alloc: Global, rows: u32) -> Result<CountedRows, Memory>
+    pub fn new(alloc: A, rows: u32) -> Result<CountedRows<A>, Memory>
         requires some { 0 < rows }
         requires few { rows ≤ 65535 }
         ensures ok { IfOk result (λ c. c ≡ replicate rows None) }
@@ -68,7 +68,7 @@ impl CountedRows {
     }
 }
 
-impl Rows for CountedRows {
+impl<A: Allocator> Rows for CountedRows<A> {
     ghost use Rattle.std.specs.Prelude.{length, nat_lt};
     ghost use Rattle.mst_arena.specs.Content.{listed};
 

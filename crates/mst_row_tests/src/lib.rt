@@ -8,6 +8,8 @@ mod changes;
 #[cfg(test)]
 mod counted;
 #[cfg(test)]
+mod full_heap;
+#[cfg(test)]
 mod pairs;
 #[cfg(test)]
 mod planting;

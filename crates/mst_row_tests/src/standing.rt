@@ -15,14 +15,14 @@ use std::test::Fail;
 
 /// A map in rows. Each change is published at once, and then no earlier version is live.
 #[derive(Drop)]
-pub struct StandingMap {
-    rows: CountedRows,
-    desk: Desk<Global>,
+pub struct StandingMap<A: Allocator = Global> {
+    rows: CountedRows<A>,
+    desk: Desk<A>,
     root: Root,
 }
 
 /// Contracts see the rows, the desk and the root.
-impl Model for StandingMap {
+impl<A: Allocator> Model for StandingMap<A> {
     ghost use Rattle.std.specs.Prelude.{List, Option};
     ghost use Rattle.mst_arena.specs.Lives.{State};
     ghost use Rattle.mst_arena.specs.declared.row.Root.{Root};
@@ -37,7 +37,7 @@ impl Model for StandingMap {
 }
 
 /// Makes the version to come the current one, and frees the rows that it does not reach.
-fn publish(desk: &mut Desk<Global>)
+fn publish<A: Allocator>(desk: &mut Desk<A>)
     requires records { length desk.old.versions ≡ 2 }
     requires current { desk.old.current < 2 }
     requires more { next desk.old ≤ last_version }
@@ -50,23 +50,38 @@ fn publish(desk: &mut Desk<Global>)
     desk.sweep(&[version]);
 }
 
-impl StandingMap {
-    /// The map of these pairs, planted in so many rows.
-    pub fn new(
+impl<A: Allocator + Copy> StandingMap<A> {
+    /// The map of these pairs, planted in so many rows. Its tree is built in memory of its own.
+    ///
+    /// `Memory` comes where a growth was refused.
+    pub fn new_beside<B: Allocator + Copy>(
         rt: &impl Abort,
-        alloc: Global,
+        trees: B,
+        alloc: A,
         pairs: &[(Key, Value)],
         size: u32,
-    ) -> Result<StandingMap, Fail> {
+    ) -> Result<StandingMap<A>, Memory> {
         assert!(rt; is_map(pairs));
         assert!(rt; pairs.len() <= 65_535);
         assert!(rt; 0 < size && size <= 65_535);
-        let tree = build(alloc, pairs)?;
+        let tree = build(trees, pairs)?;
         let mut desk = Desk::new(alloc, size, 2, 0)?;
         let mut rows = CountedRows::new(alloc, size)?;
-        let root = plant(&mut rows, &mut desk, tree.as_deref())?;
+        let Ok(root) = plant(&mut rows, &mut desk, tree.as_deref()) else {
+            panic!(rt; "no room")
+        };
         publish(&mut desk);
         Ok(StandingMap { rows, desk, root })
+    }
+
+    /// The map of these pairs, planted in so many rows.
+    pub fn new(
+        rt: &impl Abort,
+        alloc: A,
+        pairs: &[(Key, Value)],
+        size: u32,
+    ) -> Result<StandingMap<A>, Fail> {
+        Ok(StandingMap::new_beside(rt, alloc, alloc, pairs, size)?)
     }
 
     /// How many rows are free.
@@ -118,23 +133,32 @@ impl StandingMap {
         mst_read::next(&mut self.rows, &self.root, after)
     }
 
+    /// The value of a key, and the pair of the next key, by the link of the root alone.
+    pub fn get_and_next(&mut self, key: &Key) -> (Option<Value>, Option<(Key, Value)>) {
+        let found = mst_read::get_below(&mut self.rows, self.root.link, key);
+        (
+            found,
+            mst_read::next_below(&mut self.rows, self.root.link, Some(key)),
+        )
+    }
+
     /// The pairs between two bounds, so many at most.
-    pub fn range<A: Allocator>(
+    pub fn range<B: Allocator>(
         &mut self,
-        alloc: A,
+        alloc: B,
         from: Option<&Key>,
         to: Option<&Key>,
         limit: usize,
-    ) -> Result<Vec<(Key, Value), A>, Memory> {
+    ) -> Result<Vec<(Key, Value), B>, Memory> {
         mst_read::range(alloc, &mut self.rows, &self.root, from, to, limit)
     }
 
     /// The proof for a key.
-    pub fn prove<A: Allocator + Copy>(
+    pub fn prove<B: Allocator + Copy>(
         &mut self,
-        alloc: A,
+        alloc: B,
         key: &Key,
-    ) -> Result<Vec<u8, A>, Memory> {
+    ) -> Result<Vec<u8, B>, Memory> {
         mst_read::prove(alloc, &mut self.rows, &self.root, key)
     }
 

@@ -3,7 +3,7 @@ use Rattle.mst_row_tests.proofs.Publishing.{changes_of, ready_after}
 use Rattle.mst_row_tests.proofs.standing.StandingMap.put.Goals as goal
 
 pub invariant_of-self-2 : goal.invariant_of-self-2
-invariant_of-self-2 c =
+invariant_of-self-2 g c =
     let places = c.self.inside.rows in
     let s = c.self.inside.desk in
     let one = c.self.invariant.stands in
