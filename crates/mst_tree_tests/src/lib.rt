@@ -2,6 +2,8 @@
 #![tactic(auto)]
 
 #[cfg(test)]
+mod full_heap;
+#[cfg(test)]
 mod keys;
 #[cfg(test)]
 mod nodes;
