@@ -22,3 +22,6 @@ unreachable-unreachable g c = search rules
 
 pub returns-in-Ok-prove : goal.returns-in-Ok-prove
 returns-in-Ok-prove g c = search rules
+
+pub top_of-requires : goal.top_of-requires
+top_of-requires g c = search rules

@@ -1,3 +1,4 @@
+use Rattle.std.proofs.Common.{rules}
 use Rattle.std.proofs.Common.{◌++◌, List, refl}
 use Rattle.std.specs.Option.{option_copied}
 use Rattle.mst_key.specs.Map.{Pair, span}
@@ -13,3 +14,6 @@ returns-in-Err g c = let p = c.args.pass.now in let q = c.range.new.self in
     let found = λ (m : List Pair). span m from to c.args.limit in
     asked (Range from to c.args.limit) (Range from to c.args.limit) p q (line_of (codes "memory")) refl
     (missed (λ m. line_of (count_words (found m)) ++ pair_lines (found m)) (line_of (codes "memory")) p q c.in-Err.ensures.memory refl)
+
+pub returns-in-Ok : goal.returns-in-Ok
+returns-in-Ok g c = search rules

@@ -51,3 +51,102 @@ returns-in_default-new-clause-memory g c = search rules
 
 pub same-pending : goal.same-pending
 same-pending g c = search rules
+
+pub returns-in_default-with_capacity-clause-whole : goal.returns-in_default-with_capacity-clause-whole
+returns-in_default-with_capacity-clause-whole g c = search rules
+
+pub returns-in_default-with_capacity-clause-ok : goal.returns-in_default-with_capacity-clause-ok
+returns-in_default-with_capacity-clause-ok g c = search rules
+
+pub returns-in_default-with_capacity-clause-ended : goal.returns-in_default-with_capacity-clause-ended
+returns-in_default-with_capacity-clause-ended g c = search rules
+
+pub returns-in_default-with_capacity-clause-steady_source : goal.returns-in_default-with_capacity-clause-steady_source
+returns-in_default-with_capacity-clause-steady_source g c = search rules
+
+pub returns-in_default-with_capacity-clause-steady_sink : goal.returns-in_default-with_capacity-clause-steady_sink
+returns-in_default-with_capacity-clause-steady_sink g c = search rules
+
+pub returns-in_default-with_capacity-clause-stopped : goal.returns-in_default-with_capacity-clause-stopped
+returns-in_default-with_capacity-clause-stopped g c = search rules
+
+pub returns-in_default-with_capacity-clause-device : goal.returns-in_default-with_capacity-clause-device
+returns-in_default-with_capacity-clause-device g c = search rules
+
+pub returns-in_default-with_capacity-clause-memory : goal.returns-in_default-with_capacity-clause-memory
+returns-in_default-with_capacity-clause-memory g c = search rules
+
+pub new-all-requires-clause-empty : goal.new-all-requires-clause-empty
+new-all-requires-clause-empty g c = search rules
+
+pub new-all-requires-clause-room : goal.new-all-requires-clause-room
+new-all-requires-clause-room g c = search rules
+
+pub same-reader : goal.same-reader
+same-reader g c = search rules
+
+pub settle_and_drive-driven-requires-clause-source : goal.settle_and_drive-driven-requires-clause-source
+settle_and_drive-driven-requires-clause-source g c = search rules
+
+pub settle_and_drive-driven-requires-clause-sink : goal.settle_and_drive-driven-requires-clause-sink
+settle_and_drive-driven-requires-clause-sink g c = search rules
+
+pub settle_and_drive-driven-requires-clause-pending : goal.settle_and_drive-driven-requires-clause-pending
+settle_and_drive-driven-requires-clause-pending g c = search rules
+
+pub settle_and_drive-driven-requires-clause-reader : goal.settle_and_drive-driven-requires-clause-reader
+settle_and_drive-driven-requires-clause-reader g c = search rules
+
+pub settle_and_drive-driven-requires-clause-whole : goal.settle_and_drive-driven-requires-clause-whole
+settle_and_drive-driven-requires-clause-whole g c = search rules
+
+pub settle_and_drive-driven-requires-clause-free : goal.settle_and_drive-driven-requires-clause-free
+settle_and_drive-driven-requires-clause-free g c = search rules
+
+pub returns-in-Ok-driven-clause-whole : goal.returns-in-Ok-driven-clause-whole
+returns-in-Ok-driven-clause-whole g c = search rules
+
+pub returns-in-Ok-driven-clause-ok : goal.returns-in-Ok-driven-clause-ok
+returns-in-Ok-driven-clause-ok g c = search rules
+
+pub returns-in-Ok-driven-clause-ended : goal.returns-in-Ok-driven-clause-ended
+returns-in-Ok-driven-clause-ended g c = search rules
+
+pub returns-in-Ok-driven-clause-steady_source : goal.returns-in-Ok-driven-clause-steady_source
+returns-in-Ok-driven-clause-steady_source g c = search rules
+
+pub returns-in-Ok-driven-clause-steady_sink : goal.returns-in-Ok-driven-clause-steady_sink
+returns-in-Ok-driven-clause-steady_sink g c = search rules
+
+pub returns-in-Ok-driven-clause-stopped : goal.returns-in-Ok-driven-clause-stopped
+returns-in-Ok-driven-clause-stopped g c = search rules
+
+pub returns-in-Ok-driven-clause-device : goal.returns-in-Ok-driven-clause-device
+returns-in-Ok-driven-clause-device g c = search rules
+
+pub returns-in-Ok-driven-clause-memory : goal.returns-in-Ok-driven-clause-memory
+returns-in-Ok-driven-clause-memory g c = search rules
+
+pub returns-clause-whole : goal.returns-clause-whole
+returns-clause-whole g c = search rules
+
+pub returns-clause-ok : goal.returns-clause-ok
+returns-clause-ok g c = search rules
+
+pub returns-clause-ended : goal.returns-clause-ended
+returns-clause-ended g c = search rules
+
+pub returns-clause-steady_source : goal.returns-clause-steady_source
+returns-clause-steady_source g c = search rules
+
+pub returns-clause-steady_sink : goal.returns-clause-steady_sink
+returns-clause-steady_sink g c = search rules
+
+pub returns-clause-stopped : goal.returns-clause-stopped
+returns-clause-stopped g c = search rules
+
+pub returns-clause-device : goal.returns-clause-device
+returns-clause-device g c = search rules
+
+pub returns-clause-memory : goal.returns-clause-memory
+returns-clause-memory g c = search rules

@@ -1,3 +1,4 @@
+use Rattle.std.proofs.Common.{rules}
 use Rattle.std.proofs.Common.{sym, refl, ◌∙◌, subst}
 use Rattle.std.specs.Prelude.{codes}
 use Rattle.mst_requests.specs.Answers.{text_of}
@@ -40,3 +41,24 @@ pub returns-else-is_unpin-clause-does : goal.returns-else-is_unpin-clause-does
 returns-else-is_unpin-clause-does g c = let f = subst (IsFound c.args.passes.now c.args.request.now.pass) c.in-Held.is c.find.ensures.found in
     does_recall c.args.store.now c.args.request.now.pass c.args.request.now.command c.args.passes.now c.recall.new.self c.in-Held.place (text_of c.recall.result)
     f (sym c.is_unpin.ensures ∙ c.if-is_unpin.false) c.recall.ensures.asked
+
+pub find-requires : goal.find-requires
+find-requires g c = search rules
+
+pub pin-requires : goal.pin-requires
+pin-requires g c = search rules
+
+pub ask-requires-clause-place : goal.ask-requires-clause-place
+ask-requires-clause-place g c = search rules
+
+pub ask-requires-clause-other : goal.ask-requires-clause-other
+ask-requires-clause-other g c = search rules
+
+pub unpin-requires : goal.unpin-requires
+unpin-requires g c = search rules
+
+pub recall-requires-clause-place : goal.recall-requires-clause-place
+recall-requires-clause-place g c = search rules
+
+pub recall-requires-clause-other : goal.recall-requires-clause-other
+recall-requires-clause-other g c = search rules

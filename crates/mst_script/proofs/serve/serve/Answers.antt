@@ -1,3 +1,4 @@
+use Rattle.std.proofs.Common.{rules}
 use Rattle.mst_requests.specs.Answers.{text_of}
 use Rattle.mst_script.proofs.AllOf.{all_passes, all_settled}
 use Rattle.mst_script.proofs.Serving.{line_served}
@@ -13,3 +14,15 @@ pub returns-clause-serves : goal.returns-clause-serves
 returns-clause-serves g c =
     line_served c.args.store.now c.passes.result c.args.passes.now c.answer-answer.new.passes c.settle.new.self c.args.line.now (text_of c.answer-answer.result) c.request_in.result c.in-Ok.request
     c.passes.ensures.passes c.request_in.ensures.asked c.in-Ok.is c.answer-answer.ensures.does c.settle.ensures.settled
+
+pub returns-in-Err-clause-whole : goal.returns-in-Err-clause-whole
+returns-in-Err-clause-whole g c = search rules
+
+pub returns-in-Err-clause-serves : goal.returns-in-Err-clause-serves
+returns-in-Err-clause-serves g c = search rules
+
+pub answer-answer-requires-clause-whole : goal.answer-answer-requires-clause-whole
+answer-answer-requires-clause-whole g c = search rules
+
+pub answer-answer-requires-clause-dealt : goal.answer-answer-requires-clause-dealt
+answer-answer-requires-clause-dealt g c = search rules

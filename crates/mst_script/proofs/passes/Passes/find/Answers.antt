@@ -1,3 +1,4 @@
+use Rattle.std.proofs.lemmas.Grind.{common_steps}
 use Rattle.std.proofs.Common.{◌≡◌, rules, arith, sym, ◌∙◌}
 use Rattle.mst_script.proofs.Finding.{not_there, not_yet, nowhere, found_at}
 use Rattle.mst_script.proofs.passes.Passes.find.Goals as goal
@@ -30,3 +31,18 @@ unreachable-requires g c =
     let free : c.as_slice-pass-items.result.now ≡ c.args.self.now.free = search rules in
     not_there c.args.self.now c.args.number c.requires.there (nowhere c.as_slice-pass-items.result.now c.args.self.now.free c.loop-place-2.place c.args.number c.loop-place-2.invariant c.loop-place-2-test.false free)
     (nowhere c.as_slice-pinned-items.result.now c.args.self.now.held c.loop-place.place c.args.number c.loop-place.invariant c.loop-place-test.false held)
+
+pub offset_bounds-pinned-items-place : goal.offset_bounds-pinned-items-place
+offset_bounds-pinned-items-place g c = search rules
+
+pub bounds-pinned-items-place : goal.bounds-pinned-items-place
+bounds-pinned-items-place g c = search rules
+
+pub returns-then-number : goal.returns-then-number
+returns-then-number g c = grind (arith, common_steps)
+
+pub offset_bounds-pass-items-place : goal.offset_bounds-pass-items-place
+offset_bounds-pass-items-place g c = search rules
+
+pub bounds-pass-items-place : goal.bounds-pass-items-place
+bounds-pass-items-place g c = search rules

@@ -17,3 +17,12 @@ returns g c =
         held = c.push_reserved.ensures.items ∙ ap (λ xs. xs ++ c.pin-pinned.result ∷ []) held;
       };
     }
+
+pub swap_remove-requires : goal.swap_remove-requires
+swap_remove-requires g c = search rules
+
+pub push_reserved-requires : goal.push_reserved-requires
+push_reserved-requires g c = search rules
+
+pub invariant_of-self : goal.invariant_of-self
+invariant_of-self g c = search rules

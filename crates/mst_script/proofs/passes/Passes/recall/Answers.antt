@@ -17,3 +17,12 @@ returns g c =
             ∙ ap (roster c.self.inside.free.items) (set_same c.self.inside.held.items c.args.place p within c.index_mut.ensures.value) ∙ sym inside;
       };
     }
+
+pub index_mut-requires : goal.index_mut-requires
+index_mut-requires g c = search rules
+
+pub recall-requires : goal.recall-requires
+recall-requires g c = search rules
+
+pub invariant_of-self : goal.invariant_of-self
+invariant_of-self g c = search rules

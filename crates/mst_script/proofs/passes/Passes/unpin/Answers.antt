@@ -14,3 +14,12 @@ returns g c =
         held = c.swap_remove.ensures.items ∙ ap (λ xs. swap_remove xs c.args.place p) held;
       };
     }
+
+pub swap_remove-requires : goal.swap_remove-requires
+swap_remove-requires g c = search rules
+
+pub push_reserved-requires : goal.push_reserved-requires
+push_reserved-requires g c = search rules
+
+pub invariant_of-self : goal.invariant_of-self
+invariant_of-self g c = search rules
