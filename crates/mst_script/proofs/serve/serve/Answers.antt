@@ -8,12 +8,10 @@ pub settle-requires : goal.settle-requires
 settle-requires g c = record { whole = all_passes c.args.store.now c.answer-answer.new.passes c.answer-answer.ensures.whole }
 
 pub returns-clause-whole : goal.returns-clause-whole
-returns-clause-whole g c = all_settled c.args.store.now c.answer-answer.new.passes c.settle.new.self c.settle.ensures.settled c.answer-answer.ensures.whole
+returns-clause-whole g c = search (rules, all_settled)
 
 pub returns-clause-serves : goal.returns-clause-serves
-returns-clause-serves g c =
-    line_served c.args.store.now c.passes.result c.args.passes.now c.answer-answer.new.passes c.settle.new.self c.args.line.now (text_of c.answer-answer.result) c.request_in.result c.in-Ok.request
-    c.passes.ensures.passes c.request_in.ensures.asked c.in-Ok.is c.answer-answer.ensures.does c.settle.ensures.settled
+returns-clause-serves g c = search (rules, line_served)
 
 pub returns-in-Err-clause-whole : goal.returns-in-Err-clause-whole
 returns-in-Err-clause-whole g c = search rules
