@@ -7,7 +7,7 @@ use crate::calls::left_by;
 use crate::gate::Gate;
 use crate::running::run_all;
 use crate::worker::Plan;
-use mst_node::{empty_digest, root_of};
+use mst_node::root_of;
 use mst_store::{Pass, Shape, Store, settle};
 use std::alloc::{AllocGlobal, Allocator, Global};
 use std::marker::Brand;
@@ -71,7 +71,7 @@ fn report_of<A: Allocator>(
     settle_all(passes.as_mut_slice());
     let (events, root) = match passes.pop() {
         Some(pass) => version_of(pass),
-        None => (0, empty_digest()),
+        None => (0, root_of(&[])),
     };
     Report {
         events,
