@@ -58,11 +58,7 @@ fn version_of(pass: Pass<'_, Global>) -> (u64, [u8; 32])
 }
 
 // What a pass finds when all have settled.
-fn report_of<A: Allocator>(
-    passes: Vec<Pass<'_, Global>, A>,
-    falls: u64,
-    built: [u8; 32],
-) -> Report
+fn report_of<A: Allocator>(passes: Vec<Pass<'_, Global>, A>, falls: u64, built: [u8; 32]) -> Report
     requires whole { AreAllPasses passes.items }
     ensures falls { result.falls ≡ falls }
     ensures version { IsOneVersion result.events result.root }

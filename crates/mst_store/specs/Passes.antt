@@ -36,13 +36,21 @@ store_of s = record { table = s.table; rows = s.me.0.rows; passes = s.me.0.passe
 -- what the seat of a pass shows to callers
 abbrev pub known : ℕ → access.Seated → Known
 known number s = record {
-  store = store_of s; number = number; seen = s.me.0.seen; mine = s.me.0.mine; asked = s.me.0.asked
+  store = store_of s;
+  number = number;
+  seen = s.me.0.seen;
+  mine = s.me.0.mine;
+  asked = s.me.0.asked;
 }
 
 -- What a pinned pass shows to callers: of what it has seen the history at its pin, which lasts until the pin ends
 abbrev pub known_at_pin : ℕ → access.Seated → Known
 known_at_pin number s = record {
-  store = store_of s; number = number; seen = s.me.0.place; mine = s.me.0.mine; asked = s.me.0.asked
+  store = store_of s;
+  number = number;
+  seen = s.me.0.place;
+  mine = s.me.0.mine;
+  asked = s.me.0.asked;
 }
 
 -- The pass has no pin and not the turn, and its events in what it has seen are its own

@@ -26,5 +26,13 @@ pub record Pins {S : Type 0} (m : Me S View) (at : PinnedRoot) (m' : Me S View) 
   pub later : Begins m.0.seen m'.0.place
   pub own : events_of m.0.number m'.0.place ≡ m.0.mine
   pub has : HasPinned at m'.0
-  pub rest : m' ≡ (record m.0 { pin = m'.0.pin; place = m'.0.place;
-      stood = m'.0.stood; held = m'.0.held; asked = m.0.asked + 1 }, m.1)
+  pub rest : m' ≡ (
+    record m.0 {
+      pin = m'.0.pin;
+      place = m'.0.place;
+      stood = m'.0.stood;
+      held = m'.0.held;
+      asked = m.0.asked + 1;
+    },
+    m.1,
+  )

@@ -95,8 +95,18 @@ pub record Begun {A : Type 0} (m : Seat) (t : Turn A) (m' : Seat) : Type 0 where
   pub later : Begins m.0.seen m'.0.seen
   pub own : events_of m.0.number m'.0.seen ≡ m.0.mine
   pub has : HasTurn t m'
-  pub rest : m'.0 ≡ record m.0 { seen = m'.0.seen; held = m'.0.held; turn = true; desk = m'.0.desk; due = None;
-      mask = 0; drained = m'.0.drained; blocked = m'.0.blocked; noted = None; asked = m'.0.asked }
+  pub rest : m'.0 ≡ record m.0 {
+    seen = m'.0.seen;
+    held = m'.0.held;
+    turn = true;
+    desk = m'.0.desk;
+    due = None;
+    mask = 0;
+    drained = m'.0.drained;
+    blocked = m'.0.blocked;
+    noted = None;
+    asked = m'.0.asked;
+  }
   pub asked : m'.0.asked ≡ m.0.asked + m.0.passes + 2
 
 -- The turn was taken, by one try, and given back, since the last version number is spent; no record was asked. The pass has seen the whole history
@@ -104,8 +114,21 @@ pub record Spent (m m' : Seat) : Type 0 where
   pub later : Begins m.0.seen m'.0.seen
   pub own : events_of m.0.number m'.0.seen ≡ m.0.mine
   pub spent : length m'.0.seen ≡ last_version
-  pub rest : m' ≡ (record m.0 { seen = m'.0.seen; held = m'.0.held; turn = false; desk = m'.0.desk; due = None;
-      mask = 0; drained = []; blocked = []; noted = None; asked = m.0.asked + 1 }, [])
+  pub rest : m' ≡ (
+    record m.0 {
+      seen = m'.0.seen;
+      held = m'.0.held;
+      turn = false;
+      desk = m'.0.desk;
+      due = None;
+      mask = 0;
+      drained = [];
+      blocked = [];
+      noted = None;
+      asked = m.0.asked + 1;
+    },
+    [],
+  )
 
 -- what is so where no write is begun
 abbrev pub IsNotBegun : NotBegun → Seat → Seat → Type 0
