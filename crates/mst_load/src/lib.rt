@@ -8,7 +8,7 @@
 //! report.lines()                  // the same in four lines
 //! ```
 //!
-//! That `falls` is 0 is proved, from what each read says of its own pass. The rest is tested. A [`Gate`] is asked before each call and told after it, so that a test can hold a worker until another has come.
+//! That `falls` is 0 is proved, from what each read says of its own pass, and that `events` and `root` are those of one version. The rest is tested. A [`Gate`] is asked before each call and told after it, so that a test can hold a worker until another has come.
 //!
 //! Nothing is proved of threads that run at once. What is said of a worker follows from the contracts of its pass, and what is said of the end from those of all passes together.
 #![tactic(auto)]
