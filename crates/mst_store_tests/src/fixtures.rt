@@ -50,6 +50,23 @@ pub(crate) fn heap_of(rt: &(impl Abort + AllocGlobal), bytes: usize) -> LocalHea
     heap
 }
 
+/// Takes what is left of the heap, in blocks of the least size.
+pub(crate) fn fill<'h>(
+    rt: &(impl Abort + AllocGlobal),
+    heap: &'h LocalHeap,
+) -> Vec<Vec<u8, &'h LocalHeap>> {
+    let mut blocks = Vec::new(rt.alloc());
+    for _ in 0..1024u32 {
+        let Ok(block) = Vec::with_capacity(heap, 1) else {
+            return blocks;
+        };
+        if blocks.push(block).is_err() {
+            panic!(rt; "no memory")
+        }
+    }
+    blocks
+}
+
 /// A store of this size.
 pub(crate) fn opened(
     rt: &(impl Abort + AllocGlobal),

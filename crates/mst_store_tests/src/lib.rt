@@ -23,3 +23,5 @@ mod room;
 mod settling;
 #[cfg(test)]
 mod sharing;
+#[cfg(test)]
+mod waiting;

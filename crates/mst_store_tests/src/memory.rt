@@ -1,6 +1,6 @@
 //! Only `open`, `deal`, ranges and proofs take memory, and what a refused growth leaves.
 use crate::fixtures::{
-    PROOF_OF_BOTH, ROOT_OF_BOTH, SMALL, both_passes, count_pairs, counts, gets, has_root,
+    PROOF_OF_BOTH, ROOT_OF_BOTH, SMALL, both_passes, count_pairs, counts, fill, gets, has_root,
     has_version, heap_of, key, next_is, opened, proves, puts, removes,
 };
 use crate::settling::each_gets_what_all_put;
@@ -114,20 +114,6 @@ fn each_growth_of_a_proof_is_refused(rt: HostRuntime) {
     assert!(rt; puts_both(&mut pass));
     assert!(rt; is_right_or_refused(rt.alloc(), &mut pass, Some(&abc)));
     assert!(rt; counts(&mut pass, Some(3)));
-}
-
-// Takes what is left of the heap, in blocks of the least size.
-fn fill<'h>(rt: &(impl Abort + AllocGlobal), heap: &'h LocalHeap) -> Vec<Vec<u8, &'h LocalHeap>> {
-    let mut blocks = Vec::new(rt.alloc());
-    for _ in 0..1024u32 {
-        let Ok(block) = Vec::with_capacity(heap, 1) else {
-            return blocks;
-        };
-        if blocks.push(block).is_err() {
-            panic!(rt; "no memory")
-        }
-    }
-    blocks
 }
 
 // Whether each write and each read that takes no memory goes on.

@@ -142,7 +142,7 @@ fn a_pinned_pass_reads_its_version(rt: HostRuntime) {
 // Whether a thousand puts of one key go through.
 fn puts_many(pass: &mut Pass<Global>) -> bool {
     let mut old = b'1';
-    for number in 0..1_000u32 {
+    for number in 1..=1_000u32 {
         let new = (number % 256) as u8;
         if !puts(pass, b"a", &[new], Some(&[old])) {
             return false;
@@ -152,40 +152,45 @@ fn puts_many(pass: &mut Pass<Global>) -> bool {
     true
 }
 
-// Whether many puts go through beside a pin, and the pinned version stays through all of them.
-fn puts_beside(first: &mut Pass<Global>, pinned: &mut Pinned<Global>) -> bool {
+// Whether a thousand puts go through beside a pin, and the pinned version stays through all of them.
+fn puts_beside(pass: &mut Pass<Global>, pinned: &mut Pinned<Global>, root: &[u8; 32]) -> bool {
     let mut old = b'1';
-    for number in 0..1_000u32 {
+    for number in 1..=1_000u32 {
         let new = (number % 256) as u8;
-        if !puts(first, b"a", &[new], Some(&[old])) || !still_gets(pinned, b"a", Some(b"1")) {
+        if !puts(pass, b"a", &[new], Some(&[old])) || !still_stands(pinned, root) {
             return false;
         }
         old = new;
     }
-    pinned.version() == 1
+    true
+}
+
+// Whether the pinned version is that of a with 1 alone, of this root.
+fn still_stands(pinned: &mut Pinned<Global>, root: &[u8; 32]) -> bool {
+    still_has(pinned, 1, root) && still_gets(pinned, b"a", Some(b"1"))
 }
 
 #[test]
 fn a_long_pin_keeps_its_version_and_no_more(rt: HostRuntime) {
     let (store, seats) = opened(&rt, Shape { rows: 6, passes: 2 });
-    let (mut first, second) = both_passes(&rt, &store, seats);
+    let (mut first, mut second) = both_passes(&rt, &store, seats);
     assert!(rt; puts(&mut first, b"a", b"1", None));
-    let mut pinned = second.pin();
+    let mut pinned = first.pin();
     let root = pinned.root();
-    assert!(rt; puts_beside(&mut first, &mut pinned));
-    assert!(rt; pinned.root() == root && counts(&mut first, None));
-    let mut second = pinned.unpin();
-    assert!(rt; has_version(&mut second, 1_001) && counts(&mut second, Some(2)));
+    assert!(rt; puts_beside(&mut second, &mut pinned, &root));
+    assert!(rt; counts(&mut second, None));
+    let mut first = pinned.unpin();
+    assert!(rt; has_version(&mut first, 1_001) && counts(&mut first, Some(2)));
 }
 
 #[test]
 fn a_pinned_pass_that_is_dropped_holds_its_rows(rt: HostRuntime) {
     let (store, seats) = opened(&rt, Shape { rows: 6, passes: 2 });
-    let (mut first, second) = both_passes(&rt, &store, seats);
+    let (mut first, mut second) = both_passes(&rt, &store, seats);
     assert!(rt; puts(&mut first, b"a", b"1", None));
-    drop(second.pin());
-    assert!(rt; puts_many(&mut first));
-    assert!(rt; counts(&mut first, None) && has_version(&mut first, 1_001));
+    drop(first.pin());
+    assert!(rt; puts_many(&mut second));
+    assert!(rt; counts(&mut second, None) && has_version(&mut second, 1_001));
 }
 
 #[test]
