@@ -18,7 +18,7 @@ use mst_store::{Shape, Store};
 use std::{env, io};
 use walk::{PASSES, Walk};
 
-/// Rows for the map, and for some of the versions that are pinned: at times a write finds no room.
+/// Rows for twice the map, and for some of the versions that are pinned: at times a write finds no room beside them.
 const SHAPE: Shape = Shape {
     rows: 3_000,
     passes: PASSES as u32,

@@ -6,6 +6,8 @@ use std::io;
 pub enum Call {
     Put,
     Remove,
+    /// A put or a remove that found no room.
+    Refused,
     Get,
     Next,
     Range,
@@ -60,6 +62,7 @@ impl Tally {
         match call {
             Call::Put => &mut self.puts,
             Call::Remove => &mut self.removes,
+            Call::Refused => &mut self.refused,
             Call::Get => &mut self.gets,
             Call::Next => &mut self.nexts,
             Call::Range => &mut self.ranges,
@@ -79,11 +82,6 @@ impl Tally {
         if !is_same {
             self.differences = self.differences.saturating_add(1);
         }
-    }
-
-    /// Counts that a write found no room.
-    pub fn add_refused(&mut self) {
-        self.refused = self.refused.saturating_add(1);
     }
 
     /// How many answers were not the list's.

@@ -34,13 +34,14 @@ pub struct Walk<'a> {
     tally: Tally,
 }
 
-// Writes by a free pass, and compares the old value with the list's. Where there is no room, both stay.
+// Writes by a free pass, and compares the old value with the list's. Where there is no room, which comes only beside a pinned version, both stay.
 fn write(
     pass: &mut Pass<'_, Global>,
     list: &mut List,
     chance: &mut Chance,
     tally: &mut Tally,
     call: Call,
+    is_pinned: bool,
 ) -> io::Result<()> {
     let key = some_key(chance);
     let new = match call {
@@ -56,13 +57,13 @@ fn write(
             tally.add(call, old == list.get(&key));
             list.change(&key, new.as_ref())?;
         }
-        Err(WriteFault::NoRoom) => tally.add_refused(),
+        Err(WriteFault::NoRoom) => tally.add(Call::Refused, is_pinned),
         Err(_) => tally.add(call, false),
     }
     Ok(())
 }
 
-// Whether the rows are counted exactly where no version is pinned, and are then more than the pairs.
+// Whether the rows are counted exactly where no version is pinned, and are then no fewer than the pairs.
 fn counts_rows(pass: &mut Pass<'_, Global>, list: &List, is_pinned: bool) -> bool {
     match pass.rows() {
         Ok(Some(rows)) => !is_pinned && rows as usize >= list.len(),
@@ -119,8 +120,8 @@ impl<'a> Walk<'a> {
         let (list, chance, tally) = (&mut self.list, &mut self.chance, &mut self.tally);
         match choice {
             1 => tally.add(Call::Rows, counts_rows(pass, list, is_pinned)),
-            2..=26 => write(pass, list, chance, tally, Call::Put)?,
-            27..=39 => write(pass, list, chance, tally, Call::Remove)?,
+            2..=26 => write(pass, list, chance, tally, Call::Put, is_pinned)?,
+            27..=39 => write(pass, list, chance, tally, Call::Remove, is_pinned)?,
             _ => read(self.alloc, pass, list, chance, tally)?,
         }
         Ok(())
