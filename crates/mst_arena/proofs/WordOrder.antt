@@ -120,11 +120,11 @@ four_words : (x y : List ℕ) (r : Ordering) → IsBytes x → IsBytes y
 four_words x y r bx by =
     word_step x y 0 (bytes_order 24 8 x y r) bx by
     ∙ ap (ordering_then (nat_cmp (word_from x 0) (word_from y 0)))
-        (word_step x y 8 (bytes_order 16 16 x y r) bx by
-        ∙ ap (ordering_then (nat_cmp (word_from x 8) (word_from y 8)))
-            (word_step x y 16 (bytes_order 8 24 x y r) bx by
-            ∙ ap (ordering_then (nat_cmp (word_from x 16) (word_from y 16)))
-                (word_step x y 24 r bx by)))
+    (word_step x y 8 (bytes_order 16 16 x y r) bx by
+    ∙ ap (ordering_then (nat_cmp (word_from x 8) (word_from y 8)))
+    (word_step x y 16 (bytes_order 8 24 x y r) bx by
+    ∙ ap (ordering_then (nat_cmp (word_from x 16) (word_from y 16)))
+    (word_step x y 24 r bx by)))
 
 -- the words of a key beside those of another decide as the keys do
 pub by_words : (x y : List ℕ) (word : ℕ → ℕ) → IsBytes x → IsBytes y → length x ≤ 32 → length y ≤ 32 → word 4 ≡ word_from y 0 → word 5 ≡ word_from y 8 → word 6 ≡ word_from y 16 → word 7 ≡ word_from y 24 → word 3 % 256 ≡ length y → words_order x word ≡ key_cmp x y

@@ -23,8 +23,8 @@ entry_way k (Head layer count first tail digest) = None
 abbrev pub words_order : List ℕ → (ℕ → ℕ) → Ordering
 words_order k word =
     ordering_then (ordering_then (ordering_then (ordering_then
-        (nat_cmp (word_from k 0) (word 4))
-        (nat_cmp (word_from k 8) (word 5)))
-        (nat_cmp (word_from k 16) (word 6)))
-        (nat_cmp (word_from k 24) (word 7)))
-        (nat_cmp (length k) (word 3 % 256))
+    (nat_cmp (word_from k 0) (word 4))
+    (nat_cmp (word_from k 8) (word 5)))
+    (nat_cmp (word_from k 16) (word 6)))
+    (nat_cmp (word_from k 24) (word 7)))
+    (nat_cmp (length k) (word 3 % 256))

@@ -1,6 +1,6 @@
 //! What no clause says: worked rows, printed text, and each growth refused in turn.
 use linked_list_allocator::LocalHeap;
-use mst_arena::{Desk, HeadLinks, PlainRows, Row, Rows, VersionsSpent};
+use mst_arena::{Desk, HeadLinks, PlainRows, Row, Rows, Sought, VersionsSpent, Way};
 use mst_key::{Key, Memory, Value};
 use std::alloc::Global;
 use std::process::Abort;
@@ -100,6 +100,34 @@ fn parts_by_default_are_those_of_the_row(rt: HostRuntime) -> Result<(), Fail> {
     assert!(rt; (links.child, links.next) == (7, 9));
     assert!(rt; links.key.bytes() == b"ab".as_slice());
     assert!(rt; rows.value(0).bytes() == b"xyz".as_slice());
+    Ok(())
+}
+
+// A key that is a front of the entry's is below it, also where the bytes behind it are 0.
+#[test]
+fn the_way_from_an_entry_is_by_the_order_of_keys(rt: HostRuntime) -> Result<(), Fail> {
+    let (Ok(held), Ok(value)) = (Key::new(b"ab\0"), Value::new(b"xyz")) else {
+        panic!(rt; "sizes")
+    };
+    let (Ok(front), Ok(longer)) = (Key::new(b"ab"), Key::new(b"ab\0\0")) else {
+        panic!(rt; "sizes")
+    };
+    let Ok(rows) = PlainRows::new(rt.alloc(), 1) else {
+        panic!(rt; "no memory")
+    };
+    let mut rows = WholeRows { rows };
+    let same = Sought::new(&held);
+    let row = Row::Entry {
+        child: 7,
+        next: 9,
+        key: held,
+        value,
+    };
+    rows.write(0, &row);
+    assert!(rt; rows.way(0, &Sought::new(&front)) == Way::Child(7));
+    assert!(rt; rows.way(0, &same) == Way::Here);
+    assert!(rt; rows.way(0, &Sought::new(&longer)) == Way::Next(9));
+    assert!(rt; rows.rows.way(0, &Sought::new(&longer)) == Way::Next(9));
     Ok(())
 }
 
