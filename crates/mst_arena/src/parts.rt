@@ -10,19 +10,17 @@ use std::array;
 
 /// The 32 bytes of four words, the highest byte of each word first.
 ///
-/// They are written out: there is no loop, and no index to find for each byte.
+/// There is no loop. Each word's bytes are copied as a piece, so that the compiled code stores them at once.
 pub(crate) fn bytes_of_four(words: &[u64; 4]) -> [u8; 32]
     ensures bytes { result ≡ map (byte_of_words words.now) (range_with_len 0 32) }
 {
     let [a, b, c, d] = *words;
-    let [a0, a1, a2, a3, a4, a5, a6, a7] = a.to_be_bytes();
-    let [b0, b1, b2, b3, b4, b5, b6, b7] = b.to_be_bytes();
-    let [c0, c1, c2, c3, c4, c5, c6, c7] = c.to_be_bytes();
-    let [d0, d1, d2, d3, d4, d5, d6, d7] = d.to_be_bytes();
-    [
-        a0, a1, a2, a3, a4, a5, a6, a7, b0, b1, b2, b3, b4, b5, b6, b7, c0, c1, c2, c3, c4, c5, c6,
-        c7, d0, d1, d2, d3, d4, d5, d6, d7,
-    ]
+    let mut bytes = [0; 32];
+    bytes[..8].copy_from_slice(&a.to_be_bytes());
+    bytes[8..16].copy_from_slice(&b.to_be_bytes());
+    bytes[16..24].copy_from_slice(&c.to_be_bytes());
+    bytes[24..].copy_from_slice(&d.to_be_bytes());
+    bytes
 }
 
 /// The 64 bytes of eight words, as [`bytes_of_four`] has those of four.
@@ -30,19 +28,10 @@ fn bytes_of_eight(words: &[u64; 8]) -> [u8; 64]
     ensures bytes { result ≡ map (byte_of_words words.now) (range_with_len 0 64) }
 {
     let [a, b, c, d, e, f, g, h] = *words;
-    let [a0, a1, a2, a3, a4, a5, a6, a7] = a.to_be_bytes();
-    let [b0, b1, b2, b3, b4, b5, b6, b7] = b.to_be_bytes();
-    let [c0, c1, c2, c3, c4, c5, c6, c7] = c.to_be_bytes();
-    let [d0, d1, d2, d3, d4, d5, d6, d7] = d.to_be_bytes();
-    let [e0, e1, e2, e3, e4, e5, e6, e7] = e.to_be_bytes();
-    let [f0, f1, f2, f3, f4, f5, f6, f7] = f.to_be_bytes();
-    let [g0, g1, g2, g3, g4, g5, g6, g7] = g.to_be_bytes();
-    let [h0, h1, h2, h3, h4, h5, h6, h7] = h.to_be_bytes();
-    [
-        a0, a1, a2, a3, a4, a5, a6, a7, b0, b1, b2, b3, b4, b5, b6, b7, c0, c1, c2, c3, c4, c5, c6,
-        c7, d0, d1, d2, d3, d4, d5, d6, d7, e0, e1, e2, e3, e4, e5, e6, e7, f0, f1, f2, f3, f4, f5,
-        f6, f7, g0, g1, g2, g3, g4, g5, g6, g7, h0, h1, h2, h3, h4, h5, h6, h7,
-    ]
+    let mut bytes = [0; 64];
+    bytes[..32].copy_from_slice(&bytes_of_four(&[a, b, c, d]));
+    bytes[32..].copy_from_slice(&bytes_of_four(&[e, f, g, h]));
+    bytes
 }
 
 impl HeadLinks {
