@@ -71,7 +71,7 @@ impl<'a, A: Allocator + Copy> Pass<'a, A> {
 
     /// The first pairs, at most `limit`, of the keys that are at least `from` and below `to`, in the order of their keys. A bound that is not given does not bind.
     ///
-    /// `Memory` comes where the growth of the list was refused; the pass is then as it was.
+    /// `Memory` comes where the growth of the list was refused; the pass has then seen what it had seen before.
     pub fn range<B: Allocator>(
         &mut self,
         alloc: B,
@@ -111,7 +111,7 @@ impl<'a, A: Allocator + Copy> Pass<'a, A> {
 
     /// The proof of the map's answer for the key, value or absence, against the root digest: the texts of the nodes that a search for the key meets, from the top down, each behind its length in four bytes, and in front of them the version 1 and their number.
     ///
-    /// `Memory` comes where a growth was refused; the pass is then as it was.
+    /// `Memory` comes where a growth was refused; the pass has then seen what it had seen before.
     pub fn prove<B: Allocator + Copy>(&mut self, alloc: B, key: &Key) -> Result<Vec<u8, B>, Memory>
         ensures ok { IfOk result (λ found. Answers (λ m. proof_text One m key.now) self.old found.items self.new) }
         ensures short { IfOk result (λ found. length found.items < 2 ^ 32) }
