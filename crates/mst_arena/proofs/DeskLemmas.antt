@@ -9,7 +9,7 @@ use Rattle.std.proofs.lemmas.List.{append-nil, map-set}
 use Rattle.std.proofs.lemmas.Option.{slice_get-map, slice_get-get_or, get_or_from_slice_get}
 use Rattle.mst_arena.specs.declared.life.Life.{Life}
 use Rattle.mst_arena.specs.declared.life.Life.TheVariants.{Free, Born, Dead}
-use Rattle.mst_arena.specs.Lives.{is_free, reaches_life, swept}
+use Rattle.mst_arena.specs.Lives.{is_free, reaches_life, swept_life}
 use Rattle.mst_arena.specs.Lists.{bit, is_at, is_dead, times, Lists, AllReached, AllOlder, is_older, StayBut, IsDesk}
 use Rattle.mst_arena.proofs.SetLemmas.{get_set_other}
 use Rattle.mst_arena.proofs.ListLemmas.{times-append, lists_come, lists_stay, lists_room, swept_twice}
@@ -122,10 +122,10 @@ any_weaker P Q (v ∷ vs) some = go (P v) (Q v) refl refl (any_weaker P Q vs)
     go true t e f more = grind (arith, nat_tests)
     go false t e f more = grind (arith, nat_tests)
 
-swept_dead : (live : List ℕ) (b d : ℕ) → list_any (reaches_life (Dead b d)) live ≡ true → swept live (Dead b d) ≡ Dead b d
+swept_dead : (live : List ℕ) (b d : ℕ) → list_any (reaches_life (Dead b d)) live ≡ true → swept_life live (Dead b d) ≡ Dead b d
 swept_dead live b d e = ap (λ (t : Bool). cond t (Dead b d) Free) e
 
-dead_swept : (live : List ℕ) (x : Life) → swept live x ≡ x → is_dead x ≡ true → list_any (reaches_life x) live ≡ true
+dead_swept : (live : List ℕ) (x : Life) → swept_life live x ≡ x → is_dead x ≡ true → list_any (reaches_life x) live ≡ true
 dead_swept live Free is was = cc
 dead_swept live (Born b) is was = cc
 dead_swept live (Dead b d) is was = go (list_any (reaches_life (Dead b d)) live) refl is
@@ -153,10 +153,10 @@ from_map f (l ∷ ls) zero x at = (l, cc)
 from_map f (l ∷ ls) (suc r) x at = from_map f ls r x at
 
 -- a dead row that a sweep leaves is reached by a live version
-pub kept_reached : (live : List ℕ) (lives new : List Life) (held : List ℕ) → new ≡ map (swept live) lives → Lists is_dead new held → AllReached live new held
+pub kept_reached : (live : List ℕ) (lives new : List Life) (held : List ℕ) → new ≡ map (swept_life live) lives → Lists is_dead new held → AllReached live new held
 kept_reached live lives new held is lists r x at some =
-    let y = from_map (swept live) lives r x (ap (λ (ls : List Life). slice_get ls r) (sym is) ∙ at) in
-    let stays : swept live x ≡ x = ap (swept live) y.1 ∙ swept_twice live y.0 ∙ sym y.1 in
+    let y = from_map (swept_life live) lives r x (ap (λ (ls : List Life). slice_get ls r) (sym is) ∙ at) in
+    let stays : swept_life live x ≡ x = ap (swept_life live) y.1 ∙ swept_twice live y.0 ∙ sym y.1 in
     dead_swept live x stays (kind_of new held r x lists at some)
 
 module _ (current : ℕ) (versions : List ℕ) (lives : List Life) (free : List Bool) (dead held last : List ℕ) (dc hc : ℕ) (desk : IsDesk current versions lives free dead held last dc hc) where
@@ -171,7 +171,7 @@ module _ (current : ℕ) (versions : List ℕ) (lives : List Life) (free : List 
           let one : bit (is_at is_dead (slice_get lives r)) ≡ 1 = ap (λ o. bit (is_at is_dead o)) at in
           omega (arith, same r, desk.dead_rows r, times-append r dead' held')
 
-      go : ((held' ≡ []) ⊎ ((held' ≡ held) × (list_all (λ v. list_any (λ w. w == v) live && is_older live v) last ≡ true))) → swept live (Dead b d) ≡ Dead b d
+      go : ((held' ≡ []) ⊎ ((held' ≡ held) × (list_all (λ v. list_any (λ w. w == v) live && is_older live v) last ≡ true))) → swept_life live (Dead b d) ≡ Dead b d
       go (inl e) = let zero_times : times r held' ≡ 0 = ap (times r) e in absurd (omega (arith, once))
       go (inr e) =
           let in_held : times r held ≡ 1 = ap (times r) (sym e.0) ∙ once in
@@ -185,9 +185,9 @@ module _ (current : ℕ) (versions : List ℕ) (lives : List Life) (free : List 
       any_older (reaches_life x) live last e.1 (desk.reached r x at (omega (arith, some)))
 
   -- after a sweep, with live versions remembered that reach what is held
-  pub desk_swept : (live : List ℕ) (new : List Life) (free' : List Bool) (dead' held' last' : List ℕ) (dc' hc' : ℕ) → new ≡ map (swept live) lives → free' ≡ map is_free new → Lists is_dead new held' → dead' ≡ [] → AllReached last' new held' → dc' ≡ dc → hc' ≡ hc → IsDesk current versions new free' dead' held' last' dc' hc'
+  pub desk_swept : (live : List ℕ) (new : List Life) (free' : List Bool) (dead' held' last' : List ℕ) (dc' hc' : ℕ) → new ≡ map (swept_life live) lives → free' ≡ map is_free new → Lists is_dead new held' → dead' ≡ [] → AllReached last' new held' → dc' ≡ dc → hc' ≡ hc → IsDesk current versions new free' dead' held' last' dc' hc'
   desk_swept live new free' dead' held' last' dc' hc' is f lists e l d h =
-      let len : length new ≡ length lives = ap (λ (ls : List Life). length ls) is ∙ length_mapped (swept live) lives in
+      let len : length new ≡ length lives = ap (λ (ls : List Life). length ls) is ∙ length_mapped (swept_life live) lives in
       record {
         there = desk.there;
         small = desk.small;
@@ -200,9 +200,9 @@ module _ (current : ℕ) (versions : List ℕ) (lives : List Life) (free : List 
       }
 
   -- after a sweep, with all rows to be looked at again
-  pub desk_forgot : (live : List ℕ) (new : List Life) (free' : List Bool) (dead' held' last' : List ℕ) (dc' hc' : ℕ) → new ≡ map (swept live) lives → free' ≡ map is_free new → Lists is_dead new dead' → held' ≡ [] → dc' ≡ hc → hc' ≡ dc → IsDesk current versions new free' dead' held' last' dc' hc'
+  pub desk_forgot : (live : List ℕ) (new : List Life) (free' : List Bool) (dead' held' last' : List ℕ) (dc' hc' : ℕ) → new ≡ map (swept_life live) lives → free' ≡ map is_free new → Lists is_dead new dead' → held' ≡ [] → dc' ≡ hc → hc' ≡ dc → IsDesk current versions new free' dead' held' last' dc' hc'
   desk_forgot live new free' dead' held' last' dc' hc' is f lists e d h =
-      let len : length new ≡ length lives = ap (λ (ls : List Life). length ls) is ∙ length_mapped (swept live) lives in
+      let len : length new ≡ length lives = ap (λ (ls : List Life). length ls) is ∙ length_mapped (swept_life live) lives in
       record {
         there = desk.there;
         small = desk.small;

@@ -6,7 +6,7 @@ use Rattle.std.proofs.lemmas.Bool.Decides.{nat_tests}
 use Rattle.std.proofs.lemmas.Map.Steps.{length-le_from_distinct_below}
 use Rattle.mst_arena.specs.declared.life.Life.{Life}
 use Rattle.mst_arena.specs.declared.life.Life.TheVariants.{Free, Born, Dead}
-use Rattle.mst_arena.specs.Lives.{swept, reaches_life}
+use Rattle.mst_arena.specs.Lives.{swept_life, reaches_life}
 use Rattle.mst_arena.specs.Lists.{bit, is_at, times, Lists}
 
 pub suc_test : (k r : ℕ) → eqb (suc k) (suc r) ≡ eqb k r
@@ -126,20 +126,20 @@ lists_room is lives xs lists = length-le_from_distinct_below xs (length lives)
 
 -- ---- a sweep
 
-pub swept_twice : (live : List ℕ) (x : Life) → swept live (swept live x) ≡ swept live x
+pub swept_twice : (live : List ℕ) (x : Life) → swept_life live (swept_life live x) ≡ swept_life live x
 swept_twice live Free = refl
 swept_twice live (Born b) = refl
 swept_twice live (Dead b d) = go (list_any (reaches_life (Dead b d)) live) refl
   where
-    go : (t : Bool) → list_any (reaches_life (Dead b d)) live ≡ t → swept live (cond t (Dead b d) Free) ≡ cond t (Dead b d) Free
+    go : (t : Bool) → list_any (reaches_life (Dead b d)) live ≡ t → swept_life live (cond t (Dead b d) Free) ≡ cond t (Dead b d) Free
     go true e = rw e
     go false e = refl
 
 -- a row that a sweep frees can be freed first
-pub swept_after : (live : List ℕ) (lives : List Life) (r : ℕ) (x y : Life) → slice_get lives r ≡ Some x → swept live x ≡ y → map (swept live) (slice_set lives r y) ≡ map (swept live) lives
+pub swept_after : (live : List ℕ) (lives : List Life) (r : ℕ) (x y : Life) → slice_get lives r ≡ Some x → swept_life live x ≡ y → map (swept_life live) (slice_set lives r y) ≡ map (swept_life live) lives
 swept_after live [] r x y at is = cc
 swept_after live (l ∷ ls) zero x y at is =
     let e : l ≡ x = cc in
-    let s : swept live y ≡ swept live l = ap (swept live) (sym is) ∙ swept_twice live x ∙ ap (swept live) (sym e) in
-    ap (λ z. z ∷ map (swept live) ls) s
-swept_after live (l ∷ ls) (suc r) x y at is = ap (λ zs. swept live l ∷ zs) (swept_after live ls r x y at is)
+    let s : swept_life live y ≡ swept_life live l = ap (swept_life live) (sym is) ∙ swept_twice live x ∙ ap (swept_life live) (sym e) in
+    ap (λ z. z ∷ map (swept_life live) ls) s
+swept_after live (l ∷ ls) (suc r) x y at is = ap (λ zs. swept_life live l ∷ zs) (swept_after live ls r x y at is)

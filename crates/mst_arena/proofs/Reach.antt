@@ -5,7 +5,7 @@ use Rattle.std.specs.List.{list_any}
 use Rattle.std.proofs.lemmas.Bool.Decides.{nat_tests}
 use Rattle.mst_arena.specs.declared.life.Life.{Life}
 use Rattle.mst_arena.specs.declared.life.Life.TheVariants.{Free, Born, Dead}
-use Rattle.mst_arena.specs.Lives.{reaches, reaches_life, swept}
+use Rattle.mst_arena.specs.Lives.{reaches, reaches_life, swept_life}
 
 -- a row whose new life is reached like its old one
 pub same_set : (lives : List Life) (row k : ℕ) (x y : Life) (v : ℕ) → slice_get lives row ≡ Some x → reaches_life y v ≡ reaches_life x v → reaches (slice_set lives row y) v k ≡ reaches lives v k
@@ -23,7 +23,7 @@ none_at P (w ∷ ws) v has none = go (w == v) (P w) refl refl (none_at P ws v)
     go true t e f more = grind (arith, nat_tests)
     go false t e f more = grind (arith, nat_tests)
 
-pub swept_reach : (live : List ℕ) (x : Life) (v : ℕ) → list_any (λ w. w == v) live ≡ true → reaches_life (swept live x) v ≡ reaches_life x v
+pub swept_reach : (live : List ℕ) (x : Life) (v : ℕ) → list_any (λ w. w == v) live ≡ true → reaches_life (swept_life live x) v ≡ reaches_life x v
 swept_reach live Free v has = refl
 swept_reach live (Born b) v has = refl
 swept_reach live (Dead b d) v has = go (list_any (reaches_life (Dead b d)) live) refl
@@ -32,7 +32,7 @@ swept_reach live (Dead b d) v has = go (list_any (reaches_life (Dead b d)) live)
     go true e = refl
     go false e = sym (none_at (reaches_life (Dead b d)) live v has e)
 
-pub same_sweep : (live : List ℕ) (lives : List Life) (v k : ℕ) → list_any (λ w. w == v) live ≡ true → reaches (map (swept live) lives) v k ≡ reaches lives v k
+pub same_sweep : (live : List ℕ) (lives : List Life) (v k : ℕ) → list_any (λ w. w == v) live ≡ true → reaches (map (swept_life live) lives) v k ≡ reaches lives v k
 same_sweep live [] v k has = refl
 same_sweep live (l ∷ ls) v zero has = swept_reach live l v has
 same_sweep live (l ∷ ls) v (suc k) has = same_sweep live ls v k has
@@ -77,7 +77,7 @@ reach_else (l ∷ ls) zero (suc row) life v not = refl
 reach_else (l ∷ ls) (suc other) zero life v not = refl
 reach_else (l ∷ ls) (suc other) (suc row) life v not = reach_else ls other row life v (λ e. not (ap suc e))
 
-pub reach_swept : (live : List ℕ) (lives : List Life) (row b v : ℕ) → slice_get lives row ≡ Some (Born b) → reaches (map (swept live) lives) v row ≡ reaches_life (Born b) v
+pub reach_swept : (live : List ℕ) (lives : List Life) (row b v : ℕ) → slice_get lives row ≡ Some (Born b) → reaches (map (swept_life live) lives) v row ≡ reaches_life (Born b) v
 reach_swept live [] row b v at = absurd (cc)
-reach_swept live (l ∷ ls) zero b v at = let e : l ≡ Born b = cc in ap (λ (z : Life). reaches_life (swept live z) v) e
+reach_swept live (l ∷ ls) zero b v at = let e : l ≡ Born b = cc in ap (λ (z : Life). reaches_life (swept_life live z) v) e
 reach_swept live (l ∷ ls) (suc row) b v at = reach_swept live ls row b v at

@@ -8,7 +8,7 @@ use Rattle.std.proofs.lemmas.Bool.Decides.{nat_tests}
 use Rattle.std.proofs.lemmas.List.Sorted.{list_any-IsPermutation}
 use Rattle.mst_arena.specs.declared.life.Life.{Life}
 use Rattle.mst_arena.specs.declared.life.Life.TheVariants.{Free, Born, Dead}
-use Rattle.mst_arena.specs.Lives.{swept, reaches_life}
+use Rattle.mst_arena.specs.Lives.{swept_life, reaches_life}
 
 -- a version from the birth to before the death
 abbrev within : ℕ → ℕ → ℕ → Bool
@@ -50,12 +50,12 @@ first_decides b d xs i rising le point =
     (λ j le lt. rising i j 0 le lt)
 
 -- the order of the live versions does not matter
-pub swept_ranked : (live ranked : List ℕ) → IsPermutation live ranked → (x : Life) → swept ranked x ≡ swept live x
+pub swept_ranked : (live ranked : List ℕ) → IsPermutation live ranked → (x : Life) → swept_life ranked x ≡ swept_life live x
 swept_ranked live ranked same Free = refl
 swept_ranked live ranked same (Born b) = refl
 swept_ranked live ranked same (Dead b d) = rw (list_any-IsPermutation (reaches_life (Dead b d)) live ranked same)
 
-pub all_swept_ranked : (live ranked : List ℕ) → IsPermutation live ranked → (xs : List Life) → map (swept ranked) xs ≡ map (swept live) xs
+pub all_swept_ranked : (live ranked : List ℕ) → IsPermutation live ranked → (xs : List Life) → map (swept_life ranked) xs ≡ map (swept_life live) xs
 all_swept_ranked live ranked same [] = refl
 all_swept_ranked live ranked same (x ∷ xs) =
     let here = swept_ranked live ranked same x in

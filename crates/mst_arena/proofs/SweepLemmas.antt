@@ -7,24 +7,24 @@ use Rattle.std.proofs.lemmas.List.{map-set}
 use Rattle.std.proofs.lemmas.Option.{slice_get-map}
 use Rattle.mst_arena.specs.declared.life.Life.{Life}
 use Rattle.mst_arena.specs.declared.life.Life.TheVariants.{Free, Born, Dead}
-use Rattle.mst_arena.specs.Lives.{swept, is_free, reaches_life}
+use Rattle.mst_arena.specs.Lives.{swept_life, is_free, reaches_life}
 use Rattle.mst_arena.specs.Lists.{bit, is_at, is_dead, times, Lists, StayBut, AllReached}
 use Rattle.mst_arena.proofs.ListLemmas.{get-set, times-append, lists_leave, lists_turn, lists_room, swept_twice, swept_after, there, count_one}
 
 pub record Sweeping (live : List ℕ) (start lives : List Life) (free : List Bool) (dead held : List ℕ) : Type 0 where
-  pub same : map (swept live) lives ≡ map (swept live) start
+  pub same : map (swept_life live) lives ≡ map (swept_life live) start
   pub free_is : free ≡ map is_free lives
   pub dead_is : Lists is_dead lives (dead ++ held)
   pub done : StayBut live lives dead
 
-all_stay : (live : List ℕ) (lives : List Life) → ((r : ℕ) (x : Life) → slice_get lives r ≡ Some x → swept live x ≡ x) → map (swept live) lives ≡ lives
+all_stay : (live : List ℕ) (lives : List Life) → ((r : ℕ) (x : Life) → slice_get lives r ≡ Some x → swept_life live x ≡ x) → map (swept_life live) lives ≡ lives
 all_stay live [] stays = refl
 all_stay live (l ∷ ls) stays =
-    let here : swept live l ≡ l = stays 0 l refl in
-    let rest : map (swept live) ls ≡ ls = all_stay live ls (λ r x at. stays (suc r) x at) in
+    let here : swept_life live l ≡ l = stays 0 l refl in
+    let rest : map (swept_life live) ls ≡ ls = all_stay live ls (λ r x at. stays (suc r) x at) in
     cc
 
-pub sweep_end : (live : List ℕ) (start lives : List Life) (free : List Bool) (held : List ℕ) → Sweeping live start lives free [] held → lives ≡ map (swept live) start
+pub sweep_end : (live : List ℕ) (start lives : List Life) (free : List Bool) (held : List ℕ) → Sweeping live start lives free [] held → lives ≡ map (swept_life live) start
 sweep_end live start lives free held s = sym (all_stay live lives (λ r x at. s.done r x at refl)) ∙ s.same
 
 once_at : (r : ℕ) (xs ys : List ℕ) → 0 < times r ((xs ++ r ∷ []) ++ ys)
@@ -45,13 +45,13 @@ is_dead_there live start lives free dead held r x s at = go (is_dead x) refl
         let b : bit (is_at is_dead (slice_get lives r)) ≡ 0 = ap (λ o. bit (is_at is_dead o)) at ∙ ap bit e in
         absurd (omega (arith, b, s.dead_is r, once_at r dead held))
 
-done_after : (live : List ℕ) (start lives : List Life) (free : List Bool) (dead held : List ℕ) (r : ℕ) (x y : Life) → Sweeping live start lives free (dead ++ r ∷ []) held → slice_get lives r ≡ Some x → swept live x ≡ y → StayBut live (slice_set lives r y) dead
+done_after : (live : List ℕ) (start lives : List Life) (free : List Bool) (dead held : List ℕ) (r : ℕ) (x y : Life) → Sweeping live start lives free (dead ++ r ∷ []) held → slice_get lives r ≡ Some x → swept_life live x ≡ y → StayBut live (slice_set lives r y) dead
 done_after live start lives free dead held r x y s at is k z got none = go (eqb k r) refl (get-set lives r k x y at)
   where
-    go : (t : Bool) → eqb k r ≡ t → slice_get (slice_set lives r y) k ≡ cond t (Some y) (slice_get lives k) → swept live z ≡ z
+    go : (t : Bool) → eqb k r ≡ t → slice_get (slice_set lives r y) k ≡ cond t (Some y) (slice_get lives k) → swept_life live z ≡ z
     go true e set =
         let z_is : y ≡ z = cc in
-        subst (λ (w : Life). swept live w ≡ w) z_is (subst (λ (w : Life). swept live w ≡ w) is (swept_twice live x))
+        subst (λ (w : Life). swept_life live w ≡ w) z_is (subst (λ (w : Life). swept_life live w ≡ w) is (swept_twice live x))
     go false e set =
         let one : times k (r ∷ []) ≡ 0 = count_one k r ∙ ap (λ t. cond {A = ℕ} t 1 0) e in
         s.done k z (sym set ∙ got) (omega (arith, times-append k dead (r ∷ []), one))
@@ -67,7 +67,7 @@ not_free live start lives free dead held r x s at =
     ap (λ (f : List Bool). slice_get f r) s.free_is ∙ slice_get-map is_free lives r ∙ ap (option_map is_free) at
     ∙ ap Some (free_not_dead x (is_dead_there live start lives free dead held r x s at))
 
-pub sweep_free : (live : List ℕ) (start lives : List Life) (free : List Bool) (dead held : List ℕ) (r : ℕ) (x : Life) → Sweeping live start lives free (dead ++ r ∷ []) held → slice_get lives r ≡ Some x → swept live x ≡ Free → Sweeping live start (slice_set lives r Free) (slice_set free r true) dead held
+pub sweep_free : (live : List ℕ) (start lives : List Life) (free : List Bool) (dead held : List ℕ) (r : ℕ) (x : Life) → Sweeping live start lives free (dead ++ r ∷ []) held → slice_get lives r ≡ Some x → swept_life live x ≡ Free → Sweeping live start (slice_set lives r Free) (slice_set free r true) dead held
 sweep_free live start lives free dead held r x s at is =
     let was = is_dead_there live start lives free dead held r x s at in
     record {
@@ -77,7 +77,7 @@ sweep_free live start lives free dead held r x s at is =
       done = done_after live start lives free dead held r x Free s at is;
     }
 
-swept_cases : (live : List ℕ) (x y : Life) → is_dead x ≡ true → swept live x ≡ y → y ≢ Free → y ≡ x
+swept_cases : (live : List ℕ) (x y : Life) → is_dead x ≡ true → swept_life live x ≡ y → y ≢ Free → y ≡ x
 swept_cases live Free y was is other = cc
 swept_cases live (Born b) y was is other = cc
 swept_cases live (Dead b d) y was is other = go _ is
@@ -91,7 +91,7 @@ same_write [] r x at = cc
 same_write (l ∷ ls) zero x at = let e : l ≡ x = cc in ap (λ (z : Life). z ∷ ls) (sym e)
 same_write (l ∷ ls) (suc r) x at = ap (λ (zs : List Life). l ∷ zs) (same_write ls r x at)
 
-pub sweep_keep : (live : List ℕ) (start lives : List Life) (free : List Bool) (dead held : List ℕ) (r : ℕ) (x y : Life) → Sweeping live start lives free (dead ++ r ∷ []) held → slice_get lives r ≡ Some x → swept live x ≡ y → y ≢ Free → Sweeping live start (slice_set lives r y) free dead (held ++ r ∷ [])
+pub sweep_keep : (live : List ℕ) (start lives : List Life) (free : List Bool) (dead held : List ℕ) (r : ℕ) (x y : Life) → Sweeping live start lives free (dead ++ r ∷ []) held → slice_get lives r ≡ Some x → swept_life live x ≡ y → y ≢ Free → Sweeping live start (slice_set lives r y) free dead (held ++ r ∷ [])
 sweep_keep live start lives free dead held r x y s at is other =
     let was = is_dead_there live start lives free dead held r x s at in
     let stays : y ≡ x = swept_cases live x y was is other in
@@ -151,7 +151,7 @@ older_keep live front start lives free dead held r x y s at has reached k z got 
         reached k z (sym set ∙ got) (omega (arith, some, times-append k held (r ∷ []), one))
 
 -- what stays dead is what it was
-pub stays_dead : (live : List ℕ) (start lives : List Life) (free : List Bool) (dead held : List ℕ) (r : ℕ) (x y : Life) → Sweeping live start lives free (dead ++ r ∷ []) held → slice_get lives r ≡ Some x → swept live x ≡ y → y ≢ Free → is_dead y ≡ true
+pub stays_dead : (live : List ℕ) (start lives : List Life) (free : List Bool) (dead held : List ℕ) (r : ℕ) (x y : Life) → Sweeping live start lives free (dead ++ r ∷ []) held → slice_get lives r ≡ Some x → swept_life live x ≡ y → y ≢ Free → is_dead y ≡ true
 stays_dead live start lives free dead held r x y s at is other =
     let was = is_dead_there live start lives free dead held r x s at in
     ap is_dead (swept_cases live x y was is other) ∙ was

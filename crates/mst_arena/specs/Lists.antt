@@ -3,7 +3,7 @@ use Rattle.std.specs.Prelude.{◌≡◌, ◌≤◌, ◌<◌, ◌+◌, ◌^◌, �
 use Rattle.std.specs.List.{list_any}
 use Rattle.mst_arena.specs.declared.life.Life.{Life}
 use Rattle.mst_arena.specs.declared.life.Life.TheVariants.{Free, Born, Dead}
-use Rattle.mst_arena.specs.Lives.{is_free, reaches_life, swept}
+use Rattle.mst_arena.specs.Lives.{is_free, reaches_life, swept_life}
 
 abbrev pub is_dead : Life → Bool
 is_dead Free = false
@@ -29,7 +29,7 @@ Lists is lives rows = (r : ℕ) → times r rows ≡ bit (is_at is (slice_get li
 
 -- a sweep leaves each row alone that is not in the list
 abbrev pub StayBut : List ℕ → List Life → List ℕ → Type 0
-StayBut live lives rows = (r : ℕ) (x : Life) → slice_get lives r ≡ Some x → times r rows ≡ 0 → swept live x ≡ x
+StayBut live lives rows = (r : ℕ) (x : Life) → slice_get lives r ≡ Some x → times r rows ≡ 0 → swept_life live x ≡ x
 
 -- each row of the list is reached by one of these versions
 abbrev pub AllReached : List ℕ → List Life → List ℕ → Type 0

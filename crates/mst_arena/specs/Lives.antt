@@ -28,17 +28,17 @@ abbrev pub free_count : List Life → ℕ
 free_count lives = count_by is_free lives
 
 -- what a sweep leaves of a life: a dead row that no live version reaches is free
-abbrev pub swept : List ℕ → Life → Life
-swept live Free = Free
-swept live (Born b) = Born b
-swept live (Dead b d) = if list_any (reaches_life (Dead b d)) live then Dead b d else Free
+abbrev pub swept_life : List ℕ → Life → Life
+swept_life live Free = Free
+swept_life live (Born b) = Born b
+swept_life live (Dead b d) = if list_any (reaches_life (Dead b d)) live then Dead b d else Free
 
 -- the life of a row that was born, once it dies with a version
-abbrev pub ended : ℕ → Option Life → Life
-ended d None = Free
-ended d (Some Free) = Free
-ended d (Some (Born b)) = Dead b d
-ended d (Some (Dead b e)) = Dead b e
+abbrev pub ended_life : ℕ → Option Life → Life
+ended_life d None = Free
+ended_life d (Some Free) = Free
+ended_life d (Some (Born b)) = Dead b d
+ended_life d (Some (Dead b e)) = Dead b e
 
 -- the versions that are asked about reach the same rows
 abbrev pub SameReach : (ℕ → Type 0) → List Life → List Life → Type 0

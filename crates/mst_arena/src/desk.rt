@@ -1,6 +1,6 @@
 //! The desk: births and deaths of rows, and the version of each record.
 ghost use Rattle.std.specs.Prelude.{◌≡◌, ◌≢◌, ◌≤◌, ◌<◌, ◌+◌, ℕ, [], length, map, replicate, vec_capacity, IfOk, IfSome, IfNone, MatchResult, Some, slice_get, slice_set, slice_index};
-ghost use Rattle.mst_arena.specs.Lives.{State, version, next, last_version, free_count, swept, ended, with_life};
+ghost use Rattle.mst_arena.specs.Lives.{State, version, next, last_version, free_count, swept_life, ended_life, with_life};
 ghost use Rattle.mst_arena.specs.declared.life.Life.TheVariants.{Free, Born, Dead};
 
 use crate::free_rows::FreeRows;
@@ -155,7 +155,7 @@ impl<A: Allocator> Desk<A> {
     pub fn kill(&mut self, row: u32)
         requires born { (b : ℕ) × (slice_get self.old.lives row ≡ Some (Born b))
             × (b ≤ version self.old) }
-        ensures dead { self.new ≡ with_life self.old row (ended (next self.old) (slice_get self.old.lives row)) }
+        ensures dead { self.new ≡ with_life self.old row (ended_life (next self.old) (slice_get self.old.lives row)) }
     {
         let death = self.versions[self.current as usize] + 1;
         match self.lives[row as usize] {
@@ -183,7 +183,7 @@ impl<A: Allocator> Desk<A> {
     ///
     /// It looks at the rows killed since the last sweep, with one search among the live versions for each. At the other dead rows it looks only where a version that held one of them then is no longer live, or is the newest. It never looks at rows that are not dead.
     pub fn sweep(&mut self, live: &[u64])
-        ensures swept { self.new ≡ record self.old { lives = map (swept live.now) self.old.lives } }
+        ensures swept { self.new ≡ record self.old { lives = map (swept_life live.now) self.old.lives } }
     {
         look_again(&mut self.dead, &mut self.held, &self.live, live);
         sweep_dead(

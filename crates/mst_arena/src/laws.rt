@@ -7,7 +7,7 @@ ghost use Rattle.mst_key.specs.declared.format.Format.{Format};
 ghost use Rattle.mst_key.specs.Map.{Pair};
 ghost use Rattle.mst_node.specs.Tree.{Tree};
 ghost use Rattle.mst_arena.specs.Content.{Content, Writes};
-ghost use Rattle.mst_arena.specs.Lives.{reaches, SameReach, swept};
+ghost use Rattle.mst_arena.specs.Lives.{reaches, SameReach, swept_life};
 ghost use Rattle.mst_arena.specs.Standing.{Stands, StandsAt, Placed, head, cell, end, HasRows, rows_of, head_row, link_of, numbers};
 ghost use Rattle.mst_arena.specs.Row.{IsRow, HasBytes};
 ghost use Rattle.mst_arena.specs.Words.{words_of, row_in};
@@ -37,7 +37,7 @@ pub fn life_laws()
         → SameReach (λ v. v < next) lives (slice_set lives row Free) }
     // the live versions reach the same rows after a sweep
     ensures sweep { (lives : List Life) (live : List ℕ)
-        → SameReach (λ v. list_any (λ w. w == v) live ≡ true) lives (map (swept live) lives) }
+        → SameReach (λ v. list_any (λ w. w == v) live ≡ true) lives (map (swept_life live) lives) }
     // no version reaches a free row
     ensures free { (lives : List Life) (row v : ℕ) → slice_get lives row ≡ Some Free
         → reaches lives v row ≡ false }
@@ -54,7 +54,7 @@ pub fn life_laws()
     ensures others { (lives : List Life) (row other v : ℕ) (life : Life) → other ≢ row
         → reaches (slice_set lives other life) v row ≡ reaches lives v row }
     ensures lasts { (lives : List Life) (live : List ℕ) (row b v : ℕ) → slice_get lives row ≡ Some (Born b) → b ≤ v
-        → reaches (map (swept live) lives) v row ≡ true }
+        → reaches (map (swept_life live) lives) v row ≡ true }
 {}
 
 /// What stands at a root is one map, in one placing; it stays as long as its rows do, and it is put together from its parts.

@@ -4,7 +4,7 @@ ghost use Rattle.std.specs.Bool.{MatchBool};
 ghost use Rattle.std.specs.List.{list_any, list_all};
 ghost use Rattle.std.specs.List.Sorted.{IsPermutation, IsNonDecreasing};
 ghost use Rattle.mst_arena.specs.declared.life.Life.TheVariants.{Dead};
-ghost use Rattle.mst_arena.specs.Lives.{swept, is_free, reaches_life};
+ghost use Rattle.mst_arena.specs.Lives.{swept_life, is_free, reaches_life};
 ghost use Rattle.mst_arena.specs.Lists.{Lists, StayBut, AllReached, AllOlder, is_older, is_dead, times};
 
 use crate::free_rows::FreeRows;
@@ -27,7 +27,7 @@ fn is_reached(birth: u64, death: u64, live: &[u64], rising: bool) -> bool
 /// What a sweep leaves of a life.
 fn after_sweep(life: Life, live: &[u64], rising: bool) -> Life
     requires rising { rising ≡ true → IsNonDecreasing live.now }
-    ensures swept { result ≡ swept live.now life }
+    ensures swept { result ≡ swept_life live.now life }
 {
     match life {
         Life::Dead { birth, death } => {
@@ -134,7 +134,7 @@ fn free_unreached<A: Allocator>(
     requires others { StayBut live.now lives.old dead.old.items }
     requires room { length lives.old ≤ vec_capacity held.old }
     requires rising { rising ≡ true → IsNonDecreasing live.now }
-    ensures swept { lives.new ≡ map (swept live.now) lives.old }
+    ensures swept { lives.new ≡ map (swept_life live.now) lives.old }
     ensures free { free.new ≡ map is_free lives.new }
     ensures dead { Lists is_dead lives.new held.new.items }
     ensures empty { dead.new.items ≡ [] }
@@ -174,7 +174,7 @@ pub fn sweep_dead<A: Allocator>(
     requires others { StayBut live.now lives.old dead.old.items }
     requires held { AllOlder live.now lives.old held.old.items }
     requires room { length lives.old ≤ vec_capacity held.old }
-    ensures swept { lives.new ≡ map (swept live.now) lives.old }
+    ensures swept { lives.new ≡ map (swept_life live.now) lives.old }
     ensures free { free.new ≡ map is_free lives.new }
     ensures lists { (AllReached last.new.items lives.new held.new.items × Lists is_dead lives.new held.new.items × (dead.new.items ≡ [])
         × (vec_capacity dead.new ≡ vec_capacity dead.old) × (vec_capacity held.new ≡ vec_capacity held.old))

@@ -3,7 +3,7 @@ use Rattle.std.specs.Prelude.{ℕ, ◌+◌, ◌==◌, ◌||◌, nat_lt, if◌the
 use Rattle.std.specs.Option.{option_map_or}
 use Rattle.mst_key.specs.declared.format.Format.{Format}
 use Rattle.mst_key.specs.Layer.{layer_in}
-use Rattle.mst_key.specs.Map.{key_cmp, look}
+use Rattle.mst_key.specs.Map.{key_cmp, map_get}
 use Rattle.mst_node.specs.Tree.{Tree, empty, node, Entries, last, entry, entry_count, pairs}
 use Rattle.mst_node.specs.Trail.{by_order}
 use Rattle.mst_node.specs.Cost.{same_bytes}
@@ -50,7 +50,7 @@ abbrev mutual
 
 -- a put that changes nothing makes nothing new
 abbrev pub put_cost : Format → Tree → List ℕ → List ℕ → ℕ
-put_cost format t k v = if option_map_or (same_bytes v) (look (pairs t) k) false then 0 else put_rows (layer_in format k) k v t
+put_cost format t k v = if option_map_or (same_bytes v) (map_get (pairs t) k) false then 0 else put_rows (layer_in format k) k v t
 
 -- ---- join
 
@@ -90,4 +90,4 @@ abbrev mutual
 
 -- a remove of a key that is not there makes nothing new
 abbrev pub remove_cost : Tree → List ℕ → ℕ
-remove_cost t k = option_map_or (λ v. remove_rows t k) (look (pairs t) k) 0
+remove_cost t k = option_map_or (λ v. remove_rows t k) (map_get (pairs t) k) 0

@@ -1,7 +1,7 @@
 //! Laws of the definitions, each proved as the contract of a function that does nothing.
 ghost use Rattle.std.specs.Prelude.{◌≡◌, ◌<◌, ◌≤◌, ◌+◌, ◌++◌, ℕ, List, true, None, filter};
 ghost use Rattle.std.specs.Ordering.{is_lt, is_gt};
-ghost use Rattle.mst_key.specs.Map.{Pair, IsMap, IsAscending, key_cmp, look};
+ghost use Rattle.mst_key.specs.Map.{Pair, IsMap, IsAscending, key_cmp, map_get};
 ghost use Rattle.mst_key.specs.Map as map;
 ghost use Rattle.mst_key.specs.declared.format.Format.{Format};
 ghost use Rattle.mst_node.specs.Cost.{same_tree, cost, weight};
@@ -25,9 +25,9 @@ pub fn split_laws()
     ensures layers { (format : Format) (t : Tree) (k : List ℕ) (l : ℕ) → IsMst format t → IsUnder l t
         → IsUnder l (below k t) × IsUnder l (above k t) }
     ensures all_below { (format : Format) (t : Tree) (k : List ℕ) → IsMst format t → IsAscending (pairs t)
-        → look (pairs t) k ≡ None → above k t ≡ empty → below k t ≡ t }
+        → map_get (pairs t) k ≡ None → above k t ≡ empty → below k t ≡ t }
     ensures all_above { (format : Format) (t : Tree) (k : List ℕ) → IsMst format t → IsAscending (pairs t)
-        → look (pairs t) k ≡ None → below k t ≡ empty → above k t ≡ t }
+        → map_get (pairs t) k ≡ None → below k t ≡ empty → above k t ≡ t }
 {}
 
 /// Two trees joined: a search tree of no higher layer, with the pairs of the one and then those of the other. Of two nodes the one of the greater layer stays on top; two of one layer become one node.

@@ -5,10 +5,10 @@ use Rattle.std.proofs.lemmas.List.Elements.{filter-append}
 use Rattle.mst_key.specs.declared.history.Change.{Change}
 use Rattle.mst_key.specs.declared.history.Change.TheVariants.{Put, Remove}
 use Rattle.mst_key.specs.declared.history.Event.{Event}
-use Rattle.mst_key.specs.History.{History, changed, key_of, value_of, LeavesAlone, after_from, after, events_of, Begins, IsWithinLimits, IsPossible}
-use Rattle.mst_key.specs.Map.{Pair, IsMap, look}
+use Rattle.mst_key.specs.History.{History, changed, key_of, value_of, LeavesAlone, after_from, after, events_of, IsPrefix, IsWithinLimits, IsPossible}
+use Rattle.mst_key.specs.Map.{Pair, IsMap, map_get}
 use Rattle.mst_key.proofs.Alls.{alls-append, alls-front}
-use Rattle.mst_key.proofs.MapLaws.{IsMap-nil, IsMap-put, IsMap-remove, look-put_same, look-remove_same, look-put_other, look-remove_other}
+use Rattle.mst_key.proofs.MapLaws.{IsMap-nil, IsMap-put, IsMap-remove, map_get-put_same, map_get-remove_same, map_get-put_other, map_get-remove_other}
 
 -- ---- the map after a history
 
@@ -35,26 +35,26 @@ pub after-push : (h : History) (e : Event) → after (h ++ e ∷ []) ≡ changed
 after-push h e = after-append h (e ∷ [])
 
 -- a change leaves every key but its own as it was
-pub look-changed_other : (m : List Pair) (c : Change) (q : List ℕ) → ¬ (q ≡ key_of c) → look (changed m c) q ≡ look m q
-look-changed_other m (Put k v) q other = look-put_other m k v q other
-look-changed_other m (Remove k) q other = look-remove_other m k q other
+pub map_get-changed_other : (m : List Pair) (c : Change) (q : List ℕ) → ¬ (q ≡ key_of c) → map_get (changed m c) q ≡ map_get m q
+map_get-changed_other m (Put k v) q other = map_get-put_other m k v q other
+map_get-changed_other m (Remove k) q other = map_get-remove_other m k q other
 
 -- and its own key has the value that the change leaves
-pub look-changed_own : (m : List Pair) (c : Change) → look (changed m c) (key_of c) ≡ value_of c
-look-changed_own m (Put k v) = look-put_same m k v
-look-changed_own m (Remove k) = look-remove_same m k
+pub map_get-changed_own : (m : List Pair) (c : Change) → map_get (changed m c) (key_of c) ≡ value_of c
+map_get-changed_own m (Put k v) = map_get-put_same m k v
+map_get-changed_own m (Remove k) = map_get-remove_same m k
 
-pub look-after_from_alone : (m : List Pair) (h : History) (k : List ℕ) → LeavesAlone h k → look (after_from m h) k ≡ look m k
-look-after_from_alone m [] k alone = refl
-look-after_from_alone m (e ∷ h) k alone = look-after_from_alone (changed m e.change) h k alone.1 ∙ look-changed_other m e.change k (λ same. alone.0 (sym same))
+pub map_get-after_from_alone : (m : List Pair) (h : History) (k : List ℕ) → LeavesAlone h k → map_get (after_from m h) k ≡ map_get m k
+map_get-after_from_alone m [] k alone = refl
+map_get-after_from_alone m (e ∷ h) k alone = map_get-after_from_alone (changed m e.change) h k alone.1 ∙ map_get-changed_other m e.change k (λ same. alone.0 (sym same))
 
-pub look-after_alone : (h : History) (k : List ℕ) → LeavesAlone h k → look (after h) k ≡ None
-look-after_alone = look-after_from_alone []
+pub map_get-after_alone : (h : History) (k : List ℕ) → LeavesAlone h k → map_get (after h) k ≡ None
+map_get-after_alone = map_get-after_from_alone []
 
 -- the last change of a key leaves its value
-pub look-after_last : (g h : History) (e : Event) → LeavesAlone h (key_of e.change) → look (after (g ++ e ∷ h)) (key_of e.change) ≡ value_of e.change
-look-after_last g h e alone =
-    ap (λ (m : List Pair). look m (key_of e.change)) (after-append g (e ∷ h)) ∙ look-after_from_alone (changed (after g) e.change) h (key_of e.change) alone ∙ look-changed_own (after g) e.change
+pub map_get-after_last : (g h : History) (e : Event) → LeavesAlone h (key_of e.change) → map_get (after (g ++ e ∷ h)) (key_of e.change) ≡ value_of e.change
+map_get-after_last g h e alone =
+    ap (λ (m : List Pair). map_get m (key_of e.change)) (after-append g (e ∷ h)) ∙ map_get-after_from_alone (changed (after g) e.change) h (key_of e.change) alone ∙ map_get-changed_own (after g) e.change
 
 -- ---- histories of possible changes
 
@@ -64,63 +64,63 @@ IsPossible-append = alls-append (λ e. IsWithinLimits e.change)
 pub IsPossible-push : (h : History) (e : Event) → IsPossible h → IsWithinLimits e.change → IsPossible (h ++ e ∷ [])
 IsPossible-push h e possible within = IsPossible-append h (e ∷ []) possible (within, tt)
 
-pub IsPossible-begins : (g h : History) → Begins g h → IsPossible h → IsPossible g
+pub IsPossible-begins : (g h : History) → IsPrefix g h → IsPossible h → IsPossible g
 IsPossible-begins g h begins possible = alls-front (λ e. IsWithinLimits e.change) g begins.0 (subst IsPossible begins.1 possible)
 
 -- ---- one history begins another
 
-pub Begins-nil : (h : History) → Begins [] h
-Begins-nil h = (h, refl)
+pub IsPrefix-nil : (h : History) → IsPrefix [] h
+IsPrefix-nil h = (h, refl)
 
-pub Begins-itself : (h : History) → Begins h h
-Begins-itself h = ([], sym (append-nil h))
+pub IsPrefix-itself : (h : History) → IsPrefix h h
+IsPrefix-itself h = ([], sym (append-nil h))
 
-pub Begins-append : (g h : History) → Begins g (g ++ h)
-Begins-append g h = (h, refl)
+pub IsPrefix-append : (g h : History) → IsPrefix g (g ++ h)
+IsPrefix-append g h = (h, refl)
 
-pub Begins-chain : (f g h : History) → Begins f g → Begins g h → Begins f h
-Begins-chain f g h a b = (a.0 ++ b.0, b.1 ∙ ap (λ (l : History). l ++ b.0) a.1 ∙ append_assoc f a.0 b.0)
+pub IsPrefix-chain : (f g h : History) → IsPrefix f g → IsPrefix g h → IsPrefix f h
+IsPrefix-chain f g h a b = (a.0 ++ b.0, b.1 ∙ ap (λ (l : History). l ++ b.0) a.1 ∙ append_assoc f a.0 b.0)
 
 no_events : (h : History) → length h ≡ 0 → h ≡ []
 no_events [] e = refl
 no_events (x ∷ h) e = absurd (omega arith)
 
-pub Begins-length : (g h : History) → Begins g h → length h ≡ length g → h ≡ g
-Begins-length g h a same =
+pub IsPrefix-length : (g h : History) → IsPrefix g h → length h ≡ length g → h ≡ g
+IsPrefix-length g h a same =
     let long : length h ≡ length g + length a.0 = ap length a.1 ∙ length-append g a.0 in
     let none : length a.0 ≡ 0 = omega arith in
     a.1 ∙ ap (λ (l : History). g ++ l) (no_events a.0 none) ∙ append-nil g
 
-pub Begins-both_ways : (g h : History) → Begins g h → Begins h g → g ≡ h
-Begins-both_ways g h a b =
+pub IsPrefix-both_ways : (g h : History) → IsPrefix g h → IsPrefix h g → g ≡ h
+IsPrefix-both_ways g h a b =
     let long : length h ≡ length g + length a.0 = ap length a.1 ∙ length-append g a.0 in
     let short : length g ≡ length h + length b.0 = ap length b.1 ∙ length-append h b.0 in
     let same : length h ≡ length g = omega arith in
-    sym (Begins-length g h a same)
+    sym (IsPrefix-length g h a same)
 
-one_begins : (f g s t : History) → f ++ s ≡ g ++ t → Begins f g ⊎ Begins g f
-one_begins [] g s t e = inl (Begins-nil g)
-one_begins (x ∷ f) [] s t e = inr (Begins-nil (x ∷ f))
+one_begins : (f g s t : History) → f ++ s ≡ g ++ t → IsPrefix f g ⊎ IsPrefix g f
+one_begins [] g s t e = inl (IsPrefix-nil g)
+one_begins (x ∷ f) [] s t e = inr (IsPrefix-nil (x ∷ f))
 one_begins (x ∷ f) (y ∷ g) s t e =
     let first : x ≡ y = cc in
     let rest : f ++ s ≡ g ++ t = cc in
     elim (one_begins f g s t rest) [ inl a ↦ inl (a.0, λ i. sym first i ∷ a.1 i) | inr b ↦ inr (b.0, λ i. first i ∷ b.1 i) ]
 
 -- of two histories that begin one history, one begins the other
-pub Begins-compare : (f g h : History) → Begins f h → Begins g h → Begins f g ⊎ Begins g f
-Begins-compare f g h a b = one_begins f g a.0 b.0 (sym a.1 ∙ b.1)
+pub IsPrefix-compare : (f g h : History) → IsPrefix f h → IsPrefix g h → IsPrefix f g ⊎ IsPrefix g f
+IsPrefix-compare f g h a b = one_begins f g a.0 b.0 (sym a.1 ∙ b.1)
 
 -- ---- the events of a pass
 
 pub events_of-append : (pass : ℕ) (g h : History) → events_of pass (g ++ h) ≡ events_of pass g ++ events_of pass h
 events_of-append pass g h = filter-append (λ (e : Event). e.pass == pass) g h
 
-pub events_of-begins : (pass : ℕ) (g h : History) → Begins g h → Begins (events_of pass g) (events_of pass h)
+pub events_of-begins : (pass : ℕ) (g h : History) → IsPrefix g h → IsPrefix (events_of pass g) (events_of pass h)
 events_of-begins pass g h a = (events_of pass a.0, ap (events_of pass) a.1 ∙ events_of-append pass g a.0)
 
 -- a history between two that have the same events of a pass has them too
-pub events_of-between : (pass : ℕ) (mine x y z : History) → Begins x y → Begins y z → events_of pass x ≡ mine → events_of pass z ≡ mine → events_of pass y ≡ mine
+pub events_of-between : (pass : ℕ) (mine x y z : History) → IsPrefix x y → IsPrefix y z → events_of pass x ≡ mine → events_of pass z ≡ mine → events_of pass y ≡ mine
 events_of-between pass mine x y z a b low high =
-    let more : Begins mine (events_of pass y) = subst (λ (l : History). Begins l (events_of pass y)) low (events_of-begins pass x y a) in
-    let less : Begins (events_of pass y) mine = subst (λ (l : History). Begins (events_of pass y) l) high (events_of-begins pass y z b) in
-    Begins-both_ways (events_of pass y) mine less more
+    let more : IsPrefix mine (events_of pass y) = subst (λ (l : History). IsPrefix l (events_of pass y)) low (events_of-begins pass x y a) in
+    let less : IsPrefix (events_of pass y) mine = subst (λ (l : History). IsPrefix (events_of pass y) l) high (events_of-begins pass y z b) in
+    IsPrefix-both_ways (events_of pass y) mine less more

@@ -1,4 +1,4 @@
--- The laws of `successor` and `span`.
+-- The laws of `map_next` and `map_range`.
 use Rattle.std.proofs.Common.{◌≡◌, ◌≢◌, ◌⊎◌, ℕ, zero, suc, Bool, true, false, not, cond, ◌&&◌, List, [], ◌∷◌, Option, Some, None, Contains, filter, find, take, length, IfSome, inl, inr, ⊎_elim, refl, sym, ap, ◌∙◌, subst, Ordering, Less, Equal, Greater, is_lt, is_gt, ◌≤◌, ◌<◌, arith}
 use Rattle.std.proofs.lemmas.List.{length-take}
 use Rattle.std.proofs.lemmas.List.Elements.{All-from_recursion, All-contains, Contains-append_right}
@@ -6,7 +6,7 @@ use Rattle.std.proofs.lemmas.Bool.Decides.{Decides-and}
 use Rattle.std.specs.Bool.{Decides}
 use Rattle.std.specs.List.{AllByRecursion}
 use Rattle.mst_key.specs.Bytes.{IsKey, IsValue}
-use Rattle.mst_key.specs.Map.{Pair, key_cmp, AllBelow, IsAscending, IsMap, above, from_on, below, successor, span}
+use Rattle.mst_key.specs.Map.{Pair, key_cmp, AllBelow, IsAscending, IsMap, above, from_on, below, map_next, map_range}
 use Rattle.mst_key.proofs.Alls.{alls-filter}
 use Rattle.mst_key.proofs.KeyOrder.{less_from_greater, greater_from_test, greater_from_less, less_from_test}
 use Rattle.mst_key.proofs.MapLaws.{IsAscending-filter}
@@ -115,7 +115,7 @@ from-Decides (Some b) k = not_less (key_cmp k b)
 
 -- ---- the least pair above a bound
 
-pub next_above : (m : List Pair) (bound : Option (List ℕ)) (p : Pair) → successor m bound ≡ Some p → Contains m p × IfSome bound (λ b. key_cmp b p.0 ≡ Less)
+pub next_above : (m : List Pair) (bound : Option (List ℕ)) (p : Pair) → map_next m bound ≡ Some p → Contains m p × IfSome bound (λ b. key_cmp b p.0 ≡ Less)
 next_above m bound p e = let is = find-in (λ q. above bound q.0) m p e in (is.0, (above-Decides bound p.0).0 is.1)
 
 least : (test : Pair → Bool) (m : List Pair) (p q : Pair) → IsAscending m → find test m ≡ Some p → Contains m q → test q ≡ true → (q ≡ p) ⊎ (key_cmp p.0 q.0 ≡ Less)
@@ -130,10 +130,10 @@ least test (r ∷ m) p q rise e has passes = go (test r) refl e (contains-cases 
     go false is e (inl same) more = absurd (not_both (test q) passes (ap test (sym same) ∙ is))
     go false is e (inr rest) more = more e rest
 
-pub next_least : (m : List Pair) (bound : Option (List ℕ)) (p q : Pair) → IsMap m → successor m bound ≡ Some p → Contains m q → IfSome bound (λ b. key_cmp b q.0 ≡ Less) → (q ≡ p) ⊎ (key_cmp p.0 q.0 ≡ Less)
+pub next_least : (m : List Pair) (bound : Option (List ℕ)) (p q : Pair) → IsMap m → map_next m bound ≡ Some p → Contains m q → IfSome bound (λ b. key_cmp b q.0 ≡ Less) → (q ≡ p) ⊎ (key_cmp p.0 q.0 ≡ Less)
 next_least m bound p q map e has is = least (λ r. above bound r.0) m p q map.ascending e has ((above-Decides bound q.0).1 is)
 
-pub next_none : (m : List Pair) (bound : Option (List ℕ)) (q : Pair) → successor m bound ≡ None → Contains m q → IfSome bound (λ b. key_cmp b q.0 ≡ Less) → ⊥
+pub next_none : (m : List Pair) (bound : Option (List ℕ)) (q : Pair) → map_next m bound ≡ None → Contains m q → IfSome bound (λ b. key_cmp b q.0 ≡ Less) → ⊥
 next_none m bound q e has is = find-none (λ r. above bound r.0) m q e has ((above-Decides bound q.0).1 is)
 
 -- ---- the first pairs between two bounds
@@ -148,15 +148,15 @@ module _ (m : List Pair) (from to : Option (List ℕ)) (limit : ℕ) where
   abbrev kept : List Pair
   kept = filter (λ (p : Pair). from_on from p.0 && below to p.0) m
 
-  pub span_within : (p : Pair) → Contains (span m from to limit) p → Contains m p × IfSome from (λ b. key_cmp p.0 b ≢ Less) × IfSome to (λ b. key_cmp p.0 b ≡ Less)
+  pub span_within : (p : Pair) → Contains (map_range m from to limit) p → Contains m p × IfSome from (λ b. key_cmp p.0 b ≢ Less) × IfSome to (λ b. key_cmp p.0 b ≡ Less)
   span_within p has =
       let is = filter-in (λ (q : Pair). from_on from q.0 && below to q.0) m p (take-in limit kept p has) in
       let w = (within-Decides p.0).0 is.1 in (is.0, w.0, w.1)
 
-  pub span_limit : length (span m from to limit) ≤ limit
+  pub span_limit : length (map_range m from to limit) ≤ limit
   span_limit = omega (arith, length-take limit kept)
 
-  pub span_is_map : IsMap m → IsMap (span m from to limit)
+  pub span_is_map : IsMap m → IsMap (map_range m from to limit)
   span_is_map map = record {
     ascending = ascending-take limit kept (IsAscending-filter (λ (p : Pair). from_on from p.0 && below to p.0) m map.ascending);
     limits = alls-take (λ (p : Pair). IsKey p.0 × IsValue p.1) limit kept (alls-filter (λ (p : Pair). IsKey p.0 × IsValue p.1) (λ (p : Pair). from_on from p.0 && below to p.0) m map.limits);
@@ -178,7 +178,7 @@ module _ (m : List Pair) (from to : Option (List ℕ)) (limit : ℕ) where
       (first n xs q rise.1 rest))
       (contains-cases p xs q has)
 
-  pub span_first : (q : Pair) → IsMap m → Contains m q → IfSome from (λ b. key_cmp q.0 b ≢ Less) → IfSome to (λ b. key_cmp q.0 b ≡ Less) → Contains (span m from to limit) q ⊎ ((length (span m from to limit) ≡ limit) × AllBelow (span m from to limit) q.0)
+  pub span_first : (q : Pair) → IsMap m → Contains m q → IfSome from (λ b. key_cmp q.0 b ≢ Less) → IfSome to (λ b. key_cmp q.0 b ≡ Less) → Contains (map_range m from to limit) q ⊎ ((length (map_range m from to limit) ≡ limit) × AllBelow (map_range m from to limit) q.0)
   span_first q map has low high =
       first limit kept q (IsAscending-filter (λ (p : Pair). from_on from p.0 && below to p.0) m map.ascending)
       (in-filter (λ (p : Pair). from_on from p.0 && below to p.0) m q has ((within-Decides q.0).1 (low, high)))

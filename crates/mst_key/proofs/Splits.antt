@@ -1,12 +1,12 @@
--- What `look`, `put` and `remove` give at a place of the list: between the pairs below a key and the pairs above it.
+-- What `map_get`, `put` and `remove` give at a place of the list: between the pairs below a key and the pairs above it.
 use Rattle.std.proofs.Common.{◌≡◌, ℕ, Bool, refl, subst, true, false, not, List, [], ◌∷◌, ◌++◌, Some, None, ◌+◌, length, length-append, arith, filter, sym, ap, ◌∙◌, append_assoc, Ordering, Less, Equal, is_eq, is_lt, is_gt}
 use Rattle.std.proofs.lemmas.List.{append-nil}
 use Rattle.std.proofs.lemmas.List.Elements.{filter-append}
 use Rattle.std.proofs.lemmas.Bool.{cond-true, cond-false}
-use Rattle.mst_key.specs.Map.{Pair, key_cmp, AllBelow, AllAbove, IsAscending, look, put, remove}
+use Rattle.mst_key.specs.Map.{Pair, key_cmp, AllBelow, AllAbove, IsAscending, map_get, put, remove}
 use Rattle.mst_key.proofs.Alls.{alls-front, alls-back, alls-weaker, filter-whole, filter-nothing}
 use Rattle.mst_key.proofs.KeyOrder.{by_order, equal_from_same, same_from_equal, greater_from_less}
-use Rattle.mst_key.proofs.MapLaws.{put-unchanged, remove-unchanged, AllAbove-less, look-here, look-below, look-above, look-append_absent, look-append_nothing}
+use Rattle.mst_key.proofs.MapLaws.{put-unchanged, remove-unchanged, AllAbove-less, map_get-here, map_get-below, map_get-above, map_get-append_absent, map_get-append_nothing}
 
 -- ---- the filters of `put` and `remove` on the pairs below a key, on those above it, and on the pair of the key itself
 
@@ -34,11 +34,11 @@ above-stays m k above = filter-whole (λ p. not (is_eq (key_cmp p.0 k))) m
 
 -- ---- a list in two parts, of which one is all below or all above the key: the other decides
 
-pub look-right : (front back : List Pair) (k : List ℕ) → AllBelow front k → look (front ++ back) k ≡ look back k
-look-right front back k below = look-append_absent front back k (look-below front k below)
+pub map_get-right : (front back : List Pair) (k : List ℕ) → AllBelow front k → map_get (front ++ back) k ≡ map_get back k
+map_get-right front back k below = map_get-append_absent front back k (map_get-below front k below)
 
-pub look-left : (front back : List Pair) (k : List ℕ) → AllAbove back k → look (front ++ back) k ≡ look front k
-look-left front back k above = look-append_nothing front back k (look-above back k above)
+pub map_get-left : (front back : List Pair) (k : List ℕ) → AllAbove back k → map_get (front ++ back) k ≡ map_get front k
+map_get-left front back k above = map_get-append_nothing front back k (map_get-above back k above)
 
 pub put-right : (front back : List Pair) (k v : List ℕ) → AllBelow front k → put (front ++ back) k v ≡ front ++ put back k v
 put-right front back k v below =
@@ -81,8 +81,8 @@ remove-first back k k' w equal above = cond-false (not (is_eq (key_cmp k' k))) (
 -- ---- a list that does not have the key, split where it would stand
 
 module _ (m front back : List Pair) (k : List ℕ) (split : m ≡ front ++ back) (below : AllBelow front k) (above : AllAbove back k) where
-  pub look-between : look m k ≡ None
-  look-between = ap (λ (l : List Pair). look l k) split ∙ look-right front back k below ∙ look-above back k above
+  pub map_get-between : map_get m k ≡ None
+  map_get-between = ap (λ (l : List Pair). map_get l k) split ∙ map_get-right front back k below ∙ map_get-above back k above
 
   pub put-between : (v : List ℕ) → put m k v ≡ front ++ (k, v) ∷ back
   put-between v = ap (λ (l : List Pair). put l k v) split ∙ put-right front back k v below ∙ ap (λ (l : List Pair). front ++ l) (put-before back k v above)
@@ -93,8 +93,8 @@ module _ (m front back : List Pair) (k : List ℕ) (split : m ≡ front ++ back)
 -- ---- a list that has the key, split at its pair
 
 module _ (m front back : List Pair) (k k' w : List ℕ) (split : m ≡ front ++ (k', w) ∷ back) (equal : key_cmp k' k ≡ Equal) (below : AllBelow front k) (above : AllAbove back k) where
-  pub look-at : look m k ≡ Some w
-  look-at = ap (λ (l : List Pair). look l k) split ∙ look-right front ((k', w) ∷ back) k below ∙ look-here (k', w) back k (same_from_equal k' k equal)
+  pub map_get-at : map_get m k ≡ Some w
+  map_get-at = ap (λ (l : List Pair). map_get l k) split ∙ map_get-right front ((k', w) ∷ back) k below ∙ map_get-here (k', w) back k (same_from_equal k' k equal)
 
   pub put-at : (v : List ℕ) → put m k v ≡ front ++ (k, v) ∷ back
   put-at v = ap (λ (l : List Pair). put l k v) split ∙ put-right front ((k', w) ∷ back) k v below ∙ ap (λ (l : List Pair). front ++ l) (put-first back k k' v w equal above)
@@ -144,15 +144,15 @@ remove-parts (p ∷ m) k rise =
     above-stays (p ∷ m) k above ∙ (λ i. sym (above-dropped (p ∷ m) k above) i ++ sym (above-kept (p ∷ m) k above) i))
 
 -- an ascending list is the pairs below a key, the key's own pair where it has one, and the pairs above it
-pub parts_absent : (m : List Pair) (k : List ℕ) → IsAscending m → look m k ≡ None → m ≡ filter (λ p. is_lt (key_cmp p.0 k)) m ++ filter (λ p. is_gt (key_cmp p.0 k)) m
+pub parts_absent : (m : List Pair) (k : List ℕ) → IsAscending m → map_get m k ≡ None → m ≡ filter (λ p. is_lt (key_cmp p.0 k)) m ++ filter (λ p. is_gt (key_cmp p.0 k)) m
 parts_absent m k rise none = sym (remove-unchanged m k rise none) ∙ remove-parts m k rise
 
-pub parts_found : (m : List Pair) (k v : List ℕ) → IsAscending m → look m k ≡ Some v → m ≡ filter (λ p. is_lt (key_cmp p.0 k)) m ++ (k, v) ∷ filter (λ p. is_gt (key_cmp p.0 k)) m
+pub parts_found : (m : List Pair) (k v : List ℕ) → IsAscending m → map_get m k ≡ Some v → m ≡ filter (λ p. is_lt (key_cmp p.0 k)) m ++ (k, v) ∷ filter (λ p. is_gt (key_cmp p.0 k)) m
 parts_found m k v rise found = sym (put-unchanged m k v rise found)
 
 -- ---- how many pairs there are
 
-pub length-put_new : (m : List Pair) (k v : List ℕ) → IsAscending m → look m k ≡ None → length (put m k v) ≡ length m + 1
+pub length-put_new : (m : List Pair) (k v : List ℕ) → IsAscending m → map_get m k ≡ None → length (put m k v) ≡ length m + 1
 length-put_new m k v rise none =
     let low : List Pair = filter (λ (p : Pair). is_lt (key_cmp p.0 k)) m in
     let high : List Pair = filter (λ (p : Pair). is_gt (key_cmp p.0 k)) m in
@@ -160,7 +160,7 @@ length-put_new m k v rise none =
     let new : length (put m k v) ≡ length low + length ((k, v) ∷ high) = length-append low ((k, v) ∷ high) in
     omega arith
 
-pub length-put_again : (m : List Pair) (k v w : List ℕ) → IsAscending m → look m k ≡ Some w → length (put m k v) ≡ length m
+pub length-put_again : (m : List Pair) (k v w : List ℕ) → IsAscending m → map_get m k ≡ Some w → length (put m k v) ≡ length m
 length-put_again m k v w rise found =
     let low : List Pair = filter (λ (p : Pair). is_lt (key_cmp p.0 k)) m in
     let high : List Pair = filter (λ (p : Pair). is_gt (key_cmp p.0 k)) m in
@@ -168,7 +168,7 @@ length-put_again m k v w rise found =
     let new : length (put m k v) ≡ length low + length ((k, v) ∷ high) = length-append low ((k, v) ∷ high) in
     omega arith
 
-pub length-remove : (m : List Pair) (k w : List ℕ) → IsAscending m → look m k ≡ Some w → length (remove m k) + 1 ≡ length m
+pub length-remove : (m : List Pair) (k w : List ℕ) → IsAscending m → map_get m k ≡ Some w → length (remove m k) + 1 ≡ length m
 length-remove m k w rise found =
     let low : List Pair = filter (λ (p : Pair). is_lt (key_cmp p.0 k)) m in
     let high : List Pair = filter (λ (p : Pair). is_gt (key_cmp p.0 k)) m in

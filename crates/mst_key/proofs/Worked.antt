@@ -1,8 +1,8 @@
 -- Worked cases of the definitions, computed. The keys are `a`, `ab`, `b` and `c` in ASCII, the values `x`, `y` and `z`.
 use Rattle.std.proofs.Common.{◌≡◌, ℕ, ◌++◌, List, [], ◌∷◌, Some, None, refl, Less, Equal, Greater, arith}
 use Rattle.mst_key.specs.declared.history.Change.TheVariants.{Put, Remove}
-use Rattle.mst_key.specs.History.{History, after, reply, events_of, Begins}
-use Rattle.mst_key.specs.Map.{Pair, key_cmp, IsMap, look, put, remove}
+use Rattle.mst_key.specs.History.{History, after, reply, events_of, IsPrefix}
+use Rattle.mst_key.specs.Map.{Pair, key_cmp, IsMap, map_get, put, remove}
 
 abbrev a : List ℕ
 a = 97 ∷ []
@@ -85,10 +85,10 @@ remove_last_one : remove ((b, y) ∷ []) b ≡ []
 remove_last_one = refl
 
 -- an empty value is a value
-look_empty : look three ab ≡ Some []
+look_empty : map_get three ab ≡ Some []
 look_empty = refl
 
-look_absent : look three b ≡ None
+look_absent : map_get three b ≡ None
 look_absent = refl
 
 -- ---- histories
@@ -121,5 +121,5 @@ events_of_one = refl
 events_of_none : events_of 3 whole ≡ []
 events_of_none = refl
 
-first_begins : Begins first whole
+first_begins : IsPrefix first whole
 first_begins = (record { pass = 1; change = Put b z } ∷ record { pass = 2; change = Remove a } ∷ record { pass = 1; change = Remove c } ∷ [], refl)

@@ -5,7 +5,7 @@ use Rattle.mst_key.specs.declared.history.Change.{Change}
 use Rattle.mst_key.specs.declared.history.Change.TheVariants.{Put, Remove}
 use Rattle.mst_key.specs.declared.history.Event.{Event}
 use Rattle.mst_key.specs.Bytes.{IsKey, IsValue}
-use Rattle.mst_key.specs.Map.{Pair, look, put, remove}
+use Rattle.mst_key.specs.Map.{Pair, map_get, put, remove}
 
 abbrev pub History : Type 0
 History = List Event
@@ -36,15 +36,15 @@ after h = after_from [] h
 
 -- what the write answers that adds this event to the history: the value that its key had before it, and `None` where it had none
 abbrev pub reply : History → Event → Option (List ℕ)
-reply h e = look (after h) (key_of e.change)
+reply h e = map_get (after h) (key_of e.change)
 
 -- the events of one pass, in their order
 abbrev pub events_of : ℕ → History → History
 events_of pass h = filter (λ e. e.pass == pass) h
 
 -- the second history begins with the first
-abbrev pub Begins : History → History → Type 0
-Begins g h = (rest : History) × (h ≡ g ++ rest)
+abbrev pub IsPrefix : History → History → Type 0
+IsPrefix g h = (rest : History) × (h ≡ g ++ rest)
 
 -- no event of the history is about the key
 abbrev pub LeavesAlone : History → List ℕ → Type 0

@@ -35,9 +35,9 @@ pub record IsMap (m : List Pair) : Type 0 where
   pub limits : AllByRecursion (λ p. IsKey p.0 × IsValue p.1) m
 
 -- the value of the key, and `None` where no pair has the key
-abbrev pub look : List Pair → List ℕ → Option (List ℕ)
-look [] k = None
-look (p ∷ m) k = if is_eq (key_cmp p.0 k) then Some p.1 else look m k
+abbrev pub map_get : List Pair → List ℕ → Option (List ℕ)
+map_get [] k = None
+map_get (p ∷ m) k = if is_eq (key_cmp p.0 k) then Some p.1 else map_get m k
 
 -- the map in which the key has the value: the pairs below the key, the new pair, the pairs above
 abbrev pub put : List Pair → List ℕ → List ℕ → List Pair
@@ -58,9 +58,9 @@ abbrev pub below : Option (List ℕ) → List ℕ → Bool
 below bound k = option_map_or (λ b. is_lt (key_cmp k b)) bound true
 
 -- the pair of the least key above the bound
-abbrev pub successor : List Pair → Option (List ℕ) → Option Pair
-successor m bound = find (λ p. above bound p.0) m
+abbrev pub map_next : List Pair → Option (List ℕ) → Option Pair
+map_next m bound = find (λ p. above bound p.0) m
 
 -- the first pairs, as many as the limit, of the keys at least `from` and below `to`
-abbrev pub span : List Pair → Option (List ℕ) → Option (List ℕ) → ℕ → List Pair
-span m from to limit = take limit (filter (λ p. from_on from p.0 && below to p.0) m)
+abbrev pub map_range : List Pair → Option (List ℕ) → Option (List ℕ) → ℕ → List Pair
+map_range m from to limit = take limit (filter (λ p. from_on from p.0 && below to p.0) m)

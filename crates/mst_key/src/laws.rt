@@ -5,11 +5,11 @@ ghost use Rattle.std.specs.Prelude.{◌≡◌, ◌≢◌, ◌↔◌, ◌⊎◌, 
 ghost use Rattle.std.specs.Cmp.{IsTotalOrder};
 ghost use Rattle.std.specs.declared.cmp.Ordering.TheVariants.{Less, Equal};
 ghost use Rattle.mst_key.specs.Bytes.{IsKey, IsValue};
-ghost use Rattle.mst_key.specs.Map.{Pair, key_cmp, AllBelow, AllAbove, IsMap, look, put, remove, successor, span};
+ghost use Rattle.mst_key.specs.Map.{Pair, key_cmp, AllBelow, AllAbove, IsMap, map_get, put, remove, map_next, map_range};
 ghost use Rattle.mst_key.specs.Layer.{layer_in};
 ghost use Rattle.mst_key.specs.declared.format.Format.TheVariants.{One, Two};
 ghost use Rattle.mst_key.specs.declared.history.Event.{Event};
-ghost use Rattle.mst_key.specs.History.{History, changed, key_of, value_of, after, events_of, Begins, LeavesAlone, IsPossible};
+ghost use Rattle.mst_key.specs.History.{History, changed, key_of, value_of, after, events_of, IsPrefix, LeavesAlone, IsPossible};
 
 /// The order of keys is total and bytewise, with the shorter key first on a common front.
 pub fn order_laws()
@@ -24,23 +24,23 @@ pub fn order_laws()
 
 /// What a look-up finds after a put and after a remove, that both give maps, that a map is determined by its look-ups, and where its pairs stand.
 pub fn map_laws()
-    ensures put_same { (m : List Pair) (k v : List ℕ) → look (put m k v) k ≡ Some v }
-    ensures put_other { (m : List Pair) (k v q : List ℕ) → q ≢ k → look (put m k v) q ≡ look m q }
-    ensures remove_same { (m : List Pair) (k : List ℕ) → look (remove m k) k ≡ None }
-    ensures remove_other { (m : List Pair) (k q : List ℕ) → q ≢ k → look (remove m k) q ≡ look m q }
+    ensures put_same { (m : List Pair) (k v : List ℕ) → map_get (put m k v) k ≡ Some v }
+    ensures put_other { (m : List Pair) (k v q : List ℕ) → q ≢ k → map_get (put m k v) q ≡ map_get m q }
+    ensures remove_same { (m : List Pair) (k : List ℕ) → map_get (remove m k) k ≡ None }
+    ensures remove_other { (m : List Pair) (k q : List ℕ) → q ≢ k → map_get (remove m k) q ≡ map_get m q }
     ensures empty_is_map { IsMap [] }
     ensures put_is_map { (m : List Pair) (k v : List ℕ) → IsMap m → IsKey k → IsValue v
         → IsMap (put m k v) }
     ensures remove_is_map { (m : List Pair) (k : List ℕ) → IsMap m → IsMap (remove m k) }
     // a look-up finds exactly the pairs of the list
     ensures found { (m : List Pair) (k v : List ℕ) → IsMap m
-        → (look m k ≡ Some v) ↔ Contains m (k, v) }
+        → (map_get m k ≡ Some v) ↔ Contains m (k, v) }
     ensures determined { (m n : List Pair) → IsMap m → IsMap n
-        → ((k : List ℕ) → look m k ≡ look n k) → m ≡ n }
+        → ((k : List ℕ) → map_get m k ≡ map_get n k) → m ≡ n }
     // a put of the value that the key has, and a remove of an absent key, leave the map as it is
-    ensures put_again { (m : List Pair) (k v : List ℕ) → IsMap m → look m k ≡ Some v
+    ensures put_again { (m : List Pair) (k v : List ℕ) → IsMap m → map_get m k ≡ Some v
         → put m k v ≡ m }
-    ensures remove_absent { (m : List Pair) (k : List ℕ) → IsMap m → look m k ≡ None
+    ensures remove_absent { (m : List Pair) (k : List ℕ) → IsMap m → map_get m k ≡ None
         → remove m k ≡ m }
     // the pair of a key stands between the lesser keys and the greater ones
     ensures put_adds { (front back : List Pair) (k v : List ℕ) → AllBelow front k → AllAbove back k
@@ -59,39 +59,39 @@ pub fn history_laws()
     ensures step { (h : History) (e : Event) → after (h ++ e ∷ []) ≡ changed (after h) e.change }
     // a key has the value that the last change of it left, and none where it was never changed
     ensures last_change { (g h : History) (e : Event) → LeavesAlone h (key_of e.change)
-        → look (after (g ++ e ∷ h)) (key_of e.change) ≡ value_of e.change }
-    ensures no_change { (h : History) (k : List ℕ) → LeavesAlone h k → look (after h) k ≡ None }
-    ensures begins_itself { (h : History) → Begins h h }
-    ensures begins_chain { (f g h : History) → Begins f g → Begins g h → Begins f h }
-    ensures begins_both_ways { (g h : History) → Begins g h → Begins h g → g ≡ h }
+        → map_get (after (g ++ e ∷ h)) (key_of e.change) ≡ value_of e.change }
+    ensures no_change { (h : History) (k : List ℕ) → LeavesAlone h k → map_get (after h) k ≡ None }
+    ensures begins_itself { (h : History) → IsPrefix h h }
+    ensures begins_chain { (f g h : History) → IsPrefix f g → IsPrefix g h → IsPrefix f h }
+    ensures begins_both_ways { (g h : History) → IsPrefix g h → IsPrefix h g → g ≡ h }
     // of two beginnings of one history, one begins the other
-    ensures begins_one { (f g h : History) → Begins f h → Begins g h → Begins f g ⊎ Begins g f }
+    ensures begins_one { (f g h : History) → IsPrefix f h → IsPrefix g h → IsPrefix f g ⊎ IsPrefix g f }
     ensures events_append { (pass : ℕ) (g h : History)
         → events_of pass (g ++ h) ≡ events_of pass g ++ events_of pass h }
     // a history between two that have the same events of a pass has them too
-    ensures events_between { (pass : ℕ) (mine f g h : History) → Begins f g → Begins g h
+    ensures events_between { (pass : ℕ) (mine f g h : History) → IsPrefix f g → IsPrefix g h
         → events_of pass f ≡ mine → events_of pass h ≡ mine → events_of pass g ≡ mine }
 {}
 
 /// The pair of the least key above a bound, and the first pairs between two bounds. A bound that is not there does not bind.
 pub fn range_laws()
     // the next pair stands in the map, above the bound, and before each other pair above it
-    ensures next_above { (m : List Pair) (bound : Option (List ℕ)) (p : Pair) → successor m bound ≡ Some p
+    ensures next_above { (m : List Pair) (bound : Option (List ℕ)) (p : Pair) → map_next m bound ≡ Some p
         → Contains m p × IfSome bound (λ b. key_cmp b p.0 ≡ Less) }
-    ensures next_least { (m : List Pair) (bound : Option (List ℕ)) (p q : Pair) → IsMap m → successor m bound ≡ Some p
+    ensures next_least { (m : List Pair) (bound : Option (List ℕ)) (p q : Pair) → IsMap m → map_next m bound ≡ Some p
         → Contains m q → IfSome bound (λ b. key_cmp b q.0 ≡ Less) → (q ≡ p) ⊎ (key_cmp p.0 q.0 ≡ Less) }
     // where there is none, no pair stands above the bound
-    ensures next_none { (m : List Pair) (bound : Option (List ℕ)) (q : Pair) → successor m bound ≡ None
+    ensures next_none { (m : List Pair) (bound : Option (List ℕ)) (q : Pair) → map_next m bound ≡ None
         → Contains m q → IfSome bound (λ b. key_cmp b q.0 ≡ Less) → ⊥ }
     // a span has pairs of the map in their order, at least `from`, below `to`, and no more than the limit
-    ensures span_within { (m : List Pair) (from to : Option (List ℕ)) (limit : ℕ) (p : Pair) → Contains (span m from to limit) p
+    ensures span_within { (m : List Pair) (from to : Option (List ℕ)) (limit : ℕ) (p : Pair) → Contains (map_range m from to limit) p
         → Contains m p × IfSome from (λ b. key_cmp p.0 b ≢ Less) × IfSome to (λ b. key_cmp p.0 b ≡ Less) }
-    ensures span_is_map { (m : List Pair) (from to : Option (List ℕ)) (limit : ℕ) → IsMap m → IsMap (span m from to limit) }
-    ensures span_limit { (m : List Pair) (from to : Option (List ℕ)) (limit : ℕ) → length (span m from to limit) ≤ limit }
+    ensures span_is_map { (m : List Pair) (from to : Option (List ℕ)) (limit : ℕ) → IsMap m → IsMap (map_range m from to limit) }
+    ensures span_limit { (m : List Pair) (from to : Option (List ℕ)) (limit : ℕ) → length (map_range m from to limit) ≤ limit }
     // each such pair is in it, or it is full of lesser ones
     ensures span_first { (m : List Pair) (from to : Option (List ℕ)) (limit : ℕ) (q : Pair) → IsMap m → Contains m q
         → IfSome from (λ b. key_cmp q.0 b ≢ Less) → IfSome to (λ b. key_cmp q.0 b ≡ Less)
-        → Contains (span m from to limit) q ⊎ ((length (span m from to limit) ≡ limit) × AllBelow (span m from to limit) q.0) }
+        → Contains (map_range m from to limit) q ⊎ ((length (map_range m from to limit) ≡ limit) × AllBelow (map_range m from to limit) q.0) }
 {}
 
 /// The layers of three keys in both formats: of `8`, whose SHA-256 begins with the bytes 2c 62, of `4l`, with 02 7c, and of `05f`, with 00 04 0c.

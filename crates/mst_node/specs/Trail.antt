@@ -6,7 +6,7 @@ use Rattle.std.specs.declared.cmp.Ordering.{Ordering}
 use Rattle.std.specs.declared.cmp.Ordering.TheVariants.{Less, Equal, Greater}
 use Rattle.mst_key.specs.declared.format.Format.{Format}
 use Rattle.mst_key.specs.declared.format.Format.TheVariants.{One, Two}
-use Rattle.mst_key.specs.Map.{Pair, key_cmp, look}
+use Rattle.mst_key.specs.Map.{Pair, key_cmp, map_get}
 use Rattle.mst_node.specs.Tree.{Tree, empty, node, Entries, last, entry, tree}
 use Rattle.mst_node.specs.Text.{text, version, counted}
 
@@ -46,4 +46,4 @@ framing format texts answer = version format ∷ length texts ∷ framed texts +
 
 -- the proof of a map's answer for a key: the texts of the trail
 abbrev pub proof_text : Format → List Pair → List ℕ → List ℕ
-proof_text format m k = framing format (map text (trail format m k)) (look m k)
+proof_text format m k = framing format (map text (trail format m k)) (map_get m k)

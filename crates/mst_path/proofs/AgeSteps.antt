@@ -16,7 +16,7 @@ use Rattle.mst_node.specs.Stays.{tree_at, lasts}
 use Rattle.mst_node.specs.Tree.{Tree, tree}
 use Rattle.mst_node.proofs.HeldLaws.{lasts_here, lasts_on, lasts_stands}
 use Rattle.mst_node.proofs.InTrees.{is_old}
-use Rattle.mst_arena.specs.Lives.{State, version, next, reaches, reached_at, swept}
+use Rattle.mst_arena.specs.Lives.{State, version, next, reaches, reached_at, swept_life}
 use Rattle.mst_arena.specs.Lists.{times, bit}
 use Rattle.mst_arena.specs.declared.life.Life.{Life}
 use Rattle.mst_arena.specs.declared.life.Life.TheVariants.{Free, Born, Dead}
@@ -173,7 +173,7 @@ module _ (old new : State) (o w : Placed) (h : History) (e : Event) (change : Ch
 -- ---- a sweep
 
 -- what a live version reaches keeps its life
-kept_life : (live : List ℕ) (o : Option Life) (v : ℕ) → list_any (λ w. w == v) live ≡ true → In v live → reached_at o v ≡ true → Rattle.std.specs.Prelude.option_map (swept live) o ≡ o
+kept_life : (live : List ℕ) (o : Option Life) (v : ℕ) → list_any (λ w. w == v) live ≡ true → In v live → reached_at o v ≡ true → Rattle.std.specs.Prelude.option_map (swept_life live) o ≡ o
 kept_life live None v has i is = refl
 kept_life live (Some Free) v has i is = refl
 kept_life live (Some (Born b)) v has i is = refl
@@ -181,5 +181,5 @@ kept_life live (Some (Dead b d)) v has i is = ap (λ (t : Bool). Some (cond t (D
 
 pub ages_swept : (s : State) (live : List ℕ) (h : History) (p : Placed) → In (length h) live → ReachesExactly s.lives (length h) (used p) → HasAges s.lives h p → HasAges (swept_by live s).lives h p
 ages_swept s live h p kept exact ages = all_contained (HasAge (swept_by live s).lives h) (placed_nodes p) (λ q has r v i le.
-    let same = slice_get-map (swept live) s.lives r ∙ kept_life live (slice_get s.lives r) (length h) (has_in (length h) live kept) kept ((exact r).1 (top_inside p q has r i)) in
+    let same = slice_get-map (swept_life live) s.lives r ∙ kept_life live (slice_get s.lives r) (length h) (has_in (length h) live kept) kept ((exact r).1 (top_inside p q has r i)) in
     ap (λ (l : Option Life). reached_at l v) same ∙ contains-all (HasAge s.lives h) (placed_nodes p) q ages has r v i le)

@@ -4,7 +4,7 @@ use Rattle.std.specs.Prelude.{slice_get}
 use Rattle.std.specs.List.{AllByRecursion}
 use Rattle.std.proofs.lemmas.Bool.Decides.{nat_tests}
 use Rattle.mst_key.specs.declared.format.Format.TheVariants.{One}
-use Rattle.mst_key.specs.Map.{Pair, IsMap, IsAscending, look}
+use Rattle.mst_key.specs.Map.{Pair, IsMap, IsAscending, map_get}
 use Rattle.mst_node.specs.Tree.{Tree, IsMst, pairs, tree}
 use Rattle.mst_node.specs.Text.{digest}
 use Rattle.mst_node.specs.Cost.{cost}
@@ -239,11 +239,11 @@ few_rows c s root m stands old =
 pub rises : (c : Content) (root : Root) (m : List Pair) (stands : Stands One c root m) → IsAscending (pairs (tree_of One stands.tree.placed))
 rises c root m stands = subst IsAscending (sym (ap pairs stands.tree.is ∙ pairs_tree One m)) stands.map.ascending
 
-looks : (c : Content) (root : Root) (m : List Pair) (stands : Stands One c root m) (k : List ℕ) → look (pairs (tree_of One stands.tree.placed)) k ≡ look m k
-looks c root m stands k = ap (λ (l : List Pair). look l k) (ap pairs stands.tree.is ∙ pairs_tree One m)
+looks : (c : Content) (root : Root) (m : List Pair) (stands : Stands One c root m) (k : List ℕ) → map_get (pairs (tree_of One stands.tree.placed)) k ≡ map_get m k
+looks c root m stands k = ap (λ (l : List Pair). map_get l k) (ap pairs stands.tree.is ∙ pairs_tree One m)
 
 -- of each map
-pub says : (c : Content) (s : State) (root : Root) (k : List ℕ) (one : MapStands c s root) (o : Option (List ℕ)) → ((q : State) (t : SearchTree c q root.link) → IsAscending (pairs (tree_of One t.placed)) → o ≡ look (pairs (tree_of One t.placed)) k) → (m : List Pair) → Stands One c root m → look m k ≡ o
+pub says : (c : Content) (s : State) (root : Root) (k : List ℕ) (one : MapStands c s root) (o : Option (List ℕ)) → ((q : State) (t : SearchTree c q root.link) → IsAscending (pairs (tree_of One t.placed)) → o ≡ map_get (pairs (tree_of One t.placed)) k) → (m : List Pair) → Stands One c root m → map_get m k ≡ o
 says c s root k one o found m st =
     let old = any_old c s root one m st in
     sym (found s (search_at c s root m st old) (rises c root m st) ∙ looks c root m st k)

@@ -7,7 +7,7 @@ use Rattle.mst_key.specs.declared.format.Format.TheVariants.{One}
 use Rattle.mst_node.specs.Tree.{Tree, node, Entries, last, entry, entry_count}
 use Rattle.mst_node.specs.Shape.{TreeEntry, with_entries}
 use Rattle.mst_arena.specs.Content.{Content}
-use Rattle.mst_arena.specs.Lives.{State, next, with_life, ended}
+use Rattle.mst_arena.specs.Lives.{State, next, with_life, ended_life}
 use Rattle.mst_arena.specs.Lists.{times, bit}
 use Rattle.mst_arena.specs.declared.row.Root.{Root}
 use Rattle.mst_arena.specs.Standing.{Placed, none as no_tree, tree_of, used}
@@ -28,10 +28,10 @@ use Rattle.mst_change.proofs.Parts.{with_first_count, with_entries_count}
 
 -- ---- two rows die
 
-pub kill_moves : (s s' : State) (r : ℕ) → IsOld s r → s' ≡ with_life s r (ended (next s) (slice_get s.lives r)) → Moves s s' [] (r ∷ [])
+pub kill_moves : (s s' : State) (r : ℕ) → IsOld s r → s' ≡ with_life s r (ended_life (next s) (slice_get s.lives r)) → Moves s s' [] (r ∷ [])
 kill_moves s s' r old is = subst (λ (z : State). Moves s z [] (r ∷ [])) (sym is) (moves_kill s r old.0 old.1 old.2)
 
-module _ (s s1 : State) (r q : ℕ) (other : Option ℕ) (is : other ≡ Some q) (old : (x : ℕ) → In x (r ∷ ahead other) → IsOld s x) (once : (x : ℕ) → times x (r ∷ ahead other) ≤ 1) (dead : s1 ≡ with_life s r (ended (next s) (slice_get s.lives r))) where
+module _ (s s1 : State) (r q : ℕ) (other : Option ℕ) (is : other ≡ Some q) (old : (x : ℕ) → In x (r ∷ ahead other) → IsOld s x) (once : (x : ℕ) → times x (r ∷ ahead other) ≤ 1) (dead : s1 ≡ with_life s r (ended_life (next s) (slice_get s.lives r))) where
   ahead_q : (x : ℕ) → times x (ahead other) ≡ bit (eqb x q) + 0
   ahead_q x = ap (λ (o : Option ℕ). times x (ahead o)) is
 
@@ -41,10 +41,10 @@ module _ (s s1 : State) (r q : ℕ) (other : Option ℕ) (is : other ≡ Some q)
   pub second_old : IsOld s1 q
   second_old = old_stays s s1 [] (r ∷ []) first_dies q (old q (omega (arith, ahead_q q, at_self q))) (omega (arith, once q, ahead_q q, at_self q))
 
-  pub both_die : (s2 : State) → s2 ≡ with_life s1 q (ended (next s1) (slice_get s1.lives q)) → Moves s s2 [] (r ∷ ahead other)
+  pub both_die : (s2 : State) → s2 ≡ with_life s1 q (ended_life (next s1) (slice_get s1.lives q)) → Moves s s2 [] (r ∷ ahead other)
   both_die s2 more = subst (λ (o : Option ℕ). Moves s s2 [] (r ∷ ahead o)) (sym is) (moves_then s s1 s2 [] (r ∷ []) [] (q ∷ []) first_dies (kill_moves s1 s2 q second_old more))
 
-pub one_dies : (s s1 : State) (r : ℕ) (other : Option ℕ) → other ≡ None → ((x : ℕ) → In x (r ∷ ahead other) → IsOld s x) → s1 ≡ with_life s r (ended (next s) (slice_get s.lives r)) → Moves s s1 [] (r ∷ ahead other)
+pub one_dies : (s s1 : State) (r : ℕ) (other : Option ℕ) → other ≡ None → ((x : ℕ) → In x (r ∷ ahead other) → IsOld s x) → s1 ≡ with_life s r (ended_life (next s) (slice_get s.lives r)) → Moves s s1 [] (r ∷ ahead other)
 one_dies s s1 r other is old dead = subst (λ (o : Option ℕ). Moves s s1 [] (r ∷ ahead o)) (sym is) (kill_moves s s1 r (old r (omega (arith, at_self r))) dead)
 
 -- ---- what stands in a frame

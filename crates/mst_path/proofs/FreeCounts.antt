@@ -4,7 +4,7 @@ use Rattle.std.specs.Prelude.{◌↔◌, slice_get, option_map}
 use Rattle.std.specs.List.{list_any}
 use Rattle.std.proofs.lemmas.Bool.Decides.{nat_tests}
 use Rattle.std.proofs.lemmas.Option.{slice_get-map}
-use Rattle.mst_arena.specs.Lives.{State, version, reached_at, reaches, reaches_life, free_count, swept}
+use Rattle.mst_arena.specs.Lives.{State, version, reached_at, reaches, reaches_life, free_count, swept_life}
 use Rattle.mst_arena.specs.Lists.{times, bit, is_at, Lists}
 use Rattle.mst_arena.specs.Standing.{IsDistinct}
 use Rattle.mst_arena.specs.declared.life.Life.{Life}
@@ -93,7 +93,7 @@ none_of zero not = refl
 none_of (suc n) not = absurd (not (omega arith))
 
 -- a row has one place in the list if its life after the sweep is in use, and else none
-used_swept : (live : List ℕ) (now : ℕ) (o : Option Life) (n : ℕ) → In now live → IsPast now o → n ≤ 1 → ((v : ℕ) × In v live × (reached_at o v ≡ true)) ↔ 0 < n → n ≡ bit (is_at is_used (option_map (swept live) o))
+used_swept : (live : List ℕ) (now : ℕ) (o : Option Life) (n : ℕ) → In now live → IsPast now o → n ≤ 1 → ((v : ℕ) × In v live × (reached_at o v ≡ true)) ↔ 0 < n → n ≡ bit (is_at is_used (option_map (swept_life live) o))
 used_swept live now None n i past once both = none_of n (λ lt. let is = (both.1 lt).2 in cc)
 used_swept live now (Some Free) n i past once both = none_of n (λ lt. let is = (both.1 lt).2 in cc)
 used_swept live now (Some (Born b)) n i past once both =
@@ -107,10 +107,10 @@ used_swept live now (Some (Dead b d)) n i past once both = go (list_any (reaches
 
 pub count_swept : (s : State) (live rows : List ℕ) → IsSettled s → In (version s) live → IsDistinct rows → TogetherReach s.lives live rows → free_count (swept_by live s).lives + length rows ≡ length s.lives
 count_swept s live rows settled i once together =
-    let lists : Lists is_used (map (swept live) s.lives) rows = λ r.
+    let lists : Lists is_used (map (swept_life live) s.lives) rows = λ r.
     used_swept live (version s) (slice_get s.lives r) (times r rows) i (settled r) (distinct_times rows once r) (together r)
-    ∙ ap (λ o. bit (is_at is_used o)) (sym (slice_get-map (swept live) s.lives r)) in
-    omega (arith, count_used (map (swept live) s.lives) rows lists, length_mapped (swept live) s.lives)
+    ∙ ap (λ o. bit (is_at is_used o)) (sym (slice_get-map (swept_life live) s.lives r)) in
+    omega (arith, count_used (map (swept_life live) s.lives) rows lists, length_mapped (swept_life live) s.lives)
 
 -- one version alone
 pub alone : (lives : List Life) (v : ℕ) (rows : List ℕ) → ReachesExactly lives v rows → TogetherReach lives (v ∷ []) rows

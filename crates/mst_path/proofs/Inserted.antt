@@ -4,7 +4,7 @@ use Rattle.std.specs.Option.{option_map_or}
 use Rattle.mst_key.specs.Bytes.{IsKey, IsValue}
 use Rattle.mst_key.specs.Layer.{layer_in}
 use Rattle.mst_key.specs.declared.format.Format.TheVariants.{One}
-use Rattle.mst_key.specs.Map.{Pair, look, put}
+use Rattle.mst_key.specs.Map.{Pair, map_get, put}
 use Rattle.mst_key.proofs.KeyOrder.{same_from_test, test_of_same}
 use Rattle.mst_key.proofs.MapLaws.{put-unchanged, IsMap-put}
 use Rattle.mst_node.specs.Tree.{Tree, tree}
@@ -41,17 +41,17 @@ module _ (c : Content) (s : State) (root : Root) (m : List Pair) (stands : Stand
   new_tree : tree_put One (tree_of One stands.tree.placed) k v ≡ tree One (put m k v)
   new_tree = ap (λ (t : Tree). tree_put One t k v) stands.tree.is ∙ put_tree One m k v stands.map.ascending
 
-  cost_at : (o : Option (List ℕ)) → look m k ≡ o → cost One m (put m k v) ≡ cond (is_same o v) 0 (put_rows (layer_in One k) k v (tree One m))
+  cost_at : (o : Option (List ℕ)) → map_get m k ≡ o → cost One m (put m k v) ≡ cond (is_same o v) 0 (put_rows (layer_in One k) k v (tree One m))
   cost_at o is =
       cost_put One m k v stands.map.ascending
-      ∙ ap (λ (x : Option (List ℕ)). cond (is_same x v) 0 (put_rows (layer_in One k) k v (tree One m))) (ap (λ (l : List Pair). look l k) (pairs_tree One m) ∙ is)
+      ∙ ap (λ (x : Option (List ℕ)). cond (is_same x v) 0 (put_rows (layer_in One k) k v (tree One m))) (ap (λ (l : List Pair). map_get l k) (pairs_tree One m) ∙ is)
 
-  pub cost_other : (o : Option (List ℕ)) → look m k ≡ o → is_same o v ≡ false → put_rows (layer_in One k) k v (tree_of One stands.tree.placed) ≡ cost One m (put m k v)
+  pub cost_other : (o : Option (List ℕ)) → map_get m k ≡ o → is_same o v ≡ false → put_rows (layer_in One k) k v (tree_of One stands.tree.placed) ≡ cost One m (put m k v)
   cost_other o is other =
       ap (put_rows (layer_in One k) k v) stands.tree.is
       ∙ sym (cost_at o is ∙ ap (λ (b : Bool). cond b 0 (put_rows (layer_in One k) k v (tree One m))) other)
 
-  cost_same : (o : Option (List ℕ)) → look m k ≡ o → is_same o v ≡ true → cost One m (put m k v) ≡ 0
+  cost_same : (o : Option (List ℕ)) → map_get m k ≡ o → is_same o v ≡ true → cost One m (put m k v) ≡ 0
   cost_same o is same = cost_at o is ∙ ap (λ (b : Bool). cond b 0 (put_rows (layer_in One k) k v (tree One m))) same
 
   module _ (old : AreOld s (numbers stands)) where
@@ -62,7 +62,7 @@ module _ (c : Content) (s : State) (root : Root) (m : List Pair) (stands : Stand
     few_new l few = omega (arith, few, few_rows c s root m stands old, put_le (tree_of One stands.tree.placed) l k v)
 
     -- the key has another value, or none
-    pub grown_other : (c1 : Content) (s1 : State) (at : Root) (l : ℕ) → l ≡ layer_in One k → (o : Option (List ℕ)) → look m k ≡ o → is_same o v ≡ false → Grown c c1 s s1 (with_pair rising_at l k v) at (in_rising rising_at) (pair_rows rising_at l k v) → Changed c c1 s s1 root at (λ n. put n k v) m stands
+    pub grown_other : (c1 : Content) (s1 : State) (at : Root) (l : ℕ) → l ≡ layer_in One k → (o : Option (List ℕ)) → map_get m k ≡ o → is_same o v ≡ false → Grown c c1 s s1 (with_pair rising_at l k v) at (in_rising rising_at) (pair_rows rising_at l k v) → Changed c c1 s s1 root at (λ n. put n k v) m stands
     grown_other c1 s1 at l l_is o is other g =
         let t = tree_of One stands.tree.placed in
         regrown c c1 s s1 (with_pair rising_at l k v) (tree One (put m k v)) at (in_rising rising_at) (λ x. times x (used stands.tree.placed)) (pair_rows rising_at l k v) (cost One m (put m k v)) g
@@ -70,7 +70,7 @@ module _ (c : Content) (s : State) (root : Root) (m : List Pair) (stands : Stand
         (sym (ap (λ (n : ℕ). put_rows n k v t) l_is ∙ cost_other o is other))
 
     -- it has this value
-    pub grown_same : (o : Option (List ℕ)) → look m k ≡ o → is_same o v ≡ true → Changed c c s s root root (λ n. put n k v) m stands
+    pub grown_same : (o : Option (List ℕ)) → map_get m k ≡ o → is_same o v ≡ true → Changed c c s s root root (λ n. put n k v) m stands
     grown_same o is same = unchanged_map c s root (λ n. put n k v) m stands old (put-unchanged m k v stands.map.ascending (is ∙ found_same o v same)) (cost_same o is same)
 
 -- ---- what the caller learns
@@ -78,7 +78,7 @@ module _ (c : Content) (s : State) (root : Root) (m : List Pair) (stands : Stand
 abbrev pub AfterPut : (c c1 : Content) (s s1 : State) (root at : Root) → (k v : List ℕ) → Type 0
 AfterPut c c1 s s1 root at k v = AfterChange c c1 s s1 root at (λ m. put m k v)
 
-module _ (c : Content) (s : State) (root : Root) (k v : List ℕ) (key : IsKey k) (value : IsValue v) (one : MapStands c s root) (o : Option (List ℕ)) (found : (m : List Pair) → Stands One c root m → look m k ≡ o) where
+module _ (c : Content) (s : State) (root : Root) (k v : List ℕ) (key : IsKey k) (value : IsValue v) (one : MapStands c s root) (o : Option (List ℕ)) (found : (m : List Pair) → Stands One c root m → map_get m k ≡ o) where
   -- the pair was put
   pub after_other : (c1 : Content) (s1 : State) (at : Root) (l : ℕ) → l ≡ layer_in One k → is_same o v ≡ false → ((t : RisingTree c s root.link) → Grown c c1 s s1 (with_pair t l k v) at (in_rising t) (pair_rows t l k v)) → AfterPut c c1 s s1 root at k v
   after_other c1 s1 at l l_is other grows =

@@ -1,9 +1,9 @@
 -- The value of a key in a tree that stands, by where the key stands among the entries of the top node.
 use Rattle.std.proofs.Common.{◌≡◌, ℕ, ◌-◌, ◌<◌, List, [], ◌∷◌, Option, Some, IsSome, option_and_then, refl, sym, ◌∙◌, ap, subst, arith}
 use Rattle.mst_key.specs.declared.format.Format.TheVariants.{One}
-use Rattle.mst_key.specs.Map.{look, IsAscending}
-use Rattle.mst_key.proofs.MapLaws.{look-here}
-use Rattle.mst_key.proofs.Splits.{look-left, look-right}
+use Rattle.mst_key.specs.Map.{map_get, IsAscending}
+use Rattle.mst_key.proofs.MapLaws.{map_get-here}
+use Rattle.mst_key.proofs.Splits.{map_get-left, map_get-right}
 use Rattle.mst_node.specs.Tree.{Tree, Entries, last, entry, pairs, entries_pairs}
 use Rattle.mst_node.specs.Shape.{TreeEntry, with_entries}
 use Rattle.mst_arena.specs.Content.{Content, part_at}
@@ -31,36 +31,36 @@ use Rattle.mst_path.proofs.Removals.{top, gap_behind, gap_used}
 -- ---- in a tree
 
 module _ (k : List ℕ) where
-  cut_look : (front : List TreeEntry) (back : Entries) → CellsBelow k front → IsAscending (entries_pairs (with_entries front back)) → look (entries_pairs (with_entries front back)) k ≡ look (entries_pairs back) k
+  cut_look : (front : List TreeEntry) (back : Entries) → CellsBelow k front → IsAscending (entries_pairs (with_entries front back)) → map_get (entries_pairs (with_entries front back)) k ≡ map_get (entries_pairs back) k
   cut_look [] back low rise = refl
   cut_look (f ∷ front) back low rise =
       let rest = with_entries front back in
-      look-right (pairs f.child) ((f.key, f.value) ∷ entries_pairs rest) k (before_below (pairs f.child) (f.key, f.value) (entries_pairs rest) k rise low.0)
-      ∙ look-right ((f.key, f.value) ∷ []) (entries_pairs rest) k (low.0, tt)
+      map_get-right (pairs f.child) ((f.key, f.value) ∷ entries_pairs rest) k (before_below (pairs f.child) (f.key, f.value) (entries_pairs rest) k rise low.0)
+      ∙ map_get-right ((f.key, f.value) ∷ []) (entries_pairs rest) k (low.0, tt)
       ∙ cut_look front back low.1 (rest_rises f.child f.key f.value rest rise)
 
   back_rises : (front : List TreeEntry) (back : Entries) → IsAscending (entries_pairs (with_entries front back)) → IsAscending (entries_pairs back)
   back_rises [] back rise = rise
   back_rises (f ∷ front) back rise = back_rises front back (rest_rises f.child f.key f.value (with_entries front back) rise)
 
-  first_look : (back : Entries) → FallsFirst k back → IsAscending (entries_pairs back) → look (entries_pairs back) k ≡ look (pairs (first_child back)) k
+  first_look : (back : Entries) → FallsFirst k back → IsAscending (entries_pairs back) → map_get (entries_pairs back) k ≡ map_get (pairs (first_child back)) k
   first_look (last child) high rise = refl
   first_look (entry child key value rest) high rise =
-      look-left (pairs child) ((key, value) ∷ entries_pairs rest) k (behind_above (pairs child) (key, value) (entries_pairs rest) k rise high)
+      map_get-left (pairs child) ((key, value) ∷ entries_pairs rest) k (behind_above (pairs child) (key, value) (entries_pairs rest) k rise high)
 
-  pub gap_look : (es : Entries) (front : List TreeEntry) (back : Entries) → IsGap k es front back → IsAscending (entries_pairs es) → look (entries_pairs es) k ≡ look (pairs (first_child back)) k
+  pub gap_look : (es : Entries) (front : List TreeEntry) (back : Entries) → IsGap k es front back → IsAscending (entries_pairs es) → map_get (entries_pairs es) k ≡ map_get (pairs (first_child back)) k
   gap_look es front back gap rise =
       let all = subst (λ (fs : Entries). IsAscending (entries_pairs fs)) gap.whole rise in
-      ap (λ (fs : Entries). look (entries_pairs fs) k) gap.whole ∙ cut_look front back gap.low all ∙ first_look back gap.high (back_rises front back all)
+      ap (λ (fs : Entries). map_get (entries_pairs fs) k) gap.whole ∙ cut_look front back gap.low all ∙ first_look back gap.high (back_rises front back all)
 
-  pub held_look : (es : Entries) (front : List TreeEntry) (child : Tree) (value : List ℕ) (back : Entries) → IsAt k es front child value back → IsAscending (entries_pairs es) → look (entries_pairs es) k ≡ Some value
+  pub held_look : (es : Entries) (front : List TreeEntry) (child : Tree) (value : List ℕ) (back : Entries) → IsAt k es front child value back → IsAscending (entries_pairs es) → map_get (entries_pairs es) k ≡ Some value
   held_look es front child value back at rise =
       let all = subst (λ (fs : Entries). IsAscending (entries_pairs fs)) at.whole rise in
       let behind = back_rises front (entry child k value back) all in
-      ap (λ (fs : Entries). look (entries_pairs fs) k) at.whole
+      ap (λ (fs : Entries). map_get (entries_pairs fs) k) at.whole
       ∙ cut_look front (entry child k value back) at.low all
-      ∙ look-right (pairs child) ((k, value) ∷ entries_pairs back) k (before_same (pairs child) (k, value) (entries_pairs back) k behind refl)
-      ∙ look-here (k, value) (entries_pairs back) k refl
+      ∙ map_get-right (pairs child) ((k, value) ∷ entries_pairs back) k (before_same (pairs child) (k, value) (entries_pairs back) k behind refl)
+      ∙ map_get-here (k, value) (entries_pairs back) k refl
 
 -- the tree before these entries
 first_before : (es : List PlacedEntry) (tail : Placed) → first_child (entries_to es tail) ≡ tree_of One (gap_before es tail)
@@ -73,14 +73,14 @@ first_before (e ∷ es) tail = refl
 pub record FindsBelow (c : Content) (s : State) (link : ℕ) (t : SearchTree c s link) (k : List ℕ) (child : ℕ) : Type 0 where
   pub inner : SearchTree c s child
   pub rise : IsAscending (pairs (tree_of One inner.placed))
-  pub same : look (pairs (tree_of One t.placed)) k ≡ look (pairs (tree_of One inner.placed)) k
+  pub same : map_get (pairs (tree_of One t.placed)) k ≡ map_get (pairs (tree_of One inner.placed)) k
   pub falls : height_at c child < height_at c link
 
 -- the key's value is in a row
 pub record FindsHere (c : Content) (s : State) (link : ℕ) (t : SearchTree c s link) (k : List ℕ) (row : ℕ) : Type 0 where
   pub value : List ℕ
   pub there : part_at entry_value c row ≡ Some value
-  pub same : look (pairs (tree_of One t.placed)) k ≡ Some value
+  pub same : map_get (pairs (tree_of One t.placed)) k ≡ Some value
 
 pub some_value : (c : Content) (row : ℕ) (v : List ℕ) → part_at entry_value c row ≡ Some v → IsSome (part_at entry_value c row)
 some_value c row v is = let There : Option (List ℕ) → Type 0 = λ o. IsSome o in subst There (sym is) refl
@@ -110,9 +110,9 @@ module _ (c : Content) (s : State) (link : ℕ) (t : SearchTree c s link) (k : L
           };
           rise = subst (λ (u : Tree). IsAscending (pairs u)) first inside;
           same =
-              ap (λ (u : Tree). look (pairs u) k) o.tree
+              ap (λ (u : Tree). map_get (pairs u) k) o.tree
               ∙ gap_look k (entries_to o.entries o.tail) (cells_of cut.before) (entries_to cut.behind o.tail) cut.gap all_rise
-              ∙ ap (λ (u : Tree). look (pairs u) k) first;
+              ∙ ap (λ (u : Tree). map_get (pairs u) k) first;
           falls = omega (arith, b.gap_low, tall c s t.placed (link - 1) h o t.search, height_there c (gap_before cut.behind o.tail) child cut.child_at b.gap_piece.rows, height_there c t.placed link t.at t.piece.rows);
         }
 
@@ -126,6 +126,6 @@ module _ (c : Content) (s : State) (link : ℕ) (t : SearchTree c s link) (k : L
           value = cut.here.value;
           there = ap (λ (r : Option Row). option_and_then entry_value r) there;
           same =
-              ap (λ (u : Tree). look (pairs u) k) o.tree
+              ap (λ (u : Tree). map_get (pairs u) k) o.tree
               ∙ held_look k (entries_to o.entries o.tail) (cells_of cut.before) (tree_of One cut.here.child) cut.here.value (entries_to cut.behind o.tail) cut.at all_rise;
         }

@@ -2,7 +2,7 @@
 use Rattle.std.proofs.Common.{◌≡◌, ℕ, zero, suc, ◌+◌, ◌<◌, ◌≤◌, Bool, true, false, cond, eqb, List, [], ◌∷◌, ◌++◌, length, Some, refl, sym, ◌∙◌, ap, subst, arith, inl, inr, ◌⊎◌, length-append}
 use Rattle.std.specs.Prelude.{slice_get, slice_set}
 use Rattle.std.proofs.lemmas.Bool.Decides.{nat_tests}
-use Rattle.mst_arena.specs.Lives.{State, version, next, is_free, free_count, with_life, ended}
+use Rattle.mst_arena.specs.Lives.{State, version, next, is_free, free_count, with_life, ended_life}
 use Rattle.mst_arena.specs.Lists.{times, bit}
 use Rattle.mst_arena.specs.declared.life.Life.{Life}
 use Rattle.mst_arena.specs.declared.life.Life.TheVariants.{Free, Born, Dead}
@@ -104,9 +104,9 @@ moves_take s r at = record {
   room = omega (arith, less_free s.lives r (next s) at);
 }
 
-pub moves_kill : (s : State) (r b : ℕ) → slice_get s.lives r ≡ Some (Born b) → b ≤ version s → Moves s (with_life s r (ended (next s) (slice_get s.lives r))) [] (r ∷ [])
+pub moves_kill : (s : State) (r b : ℕ) → slice_get s.lives r ≡ Some (Born b) → b ≤ version s → Moves s (with_life s r (ended_life (next s) (slice_get s.lives r))) [] (r ∷ [])
 moves_kill s r b at le =
-    let dead : ended (next s) (slice_get s.lives r) ≡ Dead b (next s) = ap (ended (next s)) at in
+    let dead : ended_life (next s) (slice_get s.lives r) ≡ Dead b (next s) = ap (ended_life (next s)) at in
     subst (λ (l : Life). Moves s (with_life s r l) [] (r ∷ [])) (sym dead) record {
       current = refl;
       versions = refl;

@@ -5,7 +5,7 @@ use Rattle.std.specs.List.{list_any}
 use Rattle.std.proofs.lemmas.Bool.Decides.{nat_tests}
 use Rattle.std.proofs.lemmas.List.{get_or-set_same}
 use Rattle.std.proofs.lemmas.Option.{slice_get-map, slice_get-get_or}
-use Rattle.mst_arena.specs.Lives.{State, version, next, reaches, reached_at, reaches_life, SameReach, swept}
+use Rattle.mst_arena.specs.Lives.{State, version, next, reaches, reached_at, reaches_life, SameReach, swept_life}
 use Rattle.mst_arena.specs.Content.{Content}
 use Rattle.mst_arena.specs.Lists.{times, bit}
 use Rattle.mst_arena.specs.declared.life.Life.{Life}
@@ -133,7 +133,7 @@ has_in v (w ∷ ws) i = go (eqb v w) refl i (has_in v ws)
 pub same_swept : (s : State) (live : List ℕ) → SameReach (λ v. In v live) s.lives (swept_by live s).lives
 same_swept s live v r i = same_sweep live s.lives v r (has_in v live i)
 
-past_swept : (live : List ℕ) (v : ℕ) (o : Option Life) → IsPast v o → IsPast v (option_map (swept live) o)
+past_swept : (live : List ℕ) (v : ℕ) (o : Option Life) → IsPast v o → IsPast v (option_map (swept_life live) o)
 past_swept live v None past = tt
 past_swept live v (Some Free) past = tt
 past_swept live v (Some (Born b)) past = past
@@ -144,7 +144,7 @@ past_swept live v (Some (Dead b d)) past = go (list_any (reaches_life (Dead b d)
     go false = tt
 
 pub settled_swept : (s : State) (live : List ℕ) → IsSettled s → IsSettled (swept_by live s)
-settled_swept s live settled r = subst (IsPast (version s)) (sym (slice_get-map (swept live) s.lives r)) (past_swept live (version s) (slice_get s.lives r) (settled r))
+settled_swept s live settled r = subst (IsPast (version s)) (sym (slice_get-map (swept_life live) s.lives r)) (past_swept live (version s) (slice_get s.lives r) (settled r))
 
 none_reach : (x : Life) (live : List ℕ) → ((v : ℕ) → In v live → reaches_life x v ≡ false) → list_any (reaches_life x) live ≡ false
 none_reach x [] none = refl
@@ -162,7 +162,7 @@ some_reach x (w ∷ ws) v i is = go (eqb v w) refl i (some_reach x ws v)
     go false e i more = let rest : list_any (reaches_life x) ws ≡ true = more (omega (arith, i)) is in grind (arith, nat_tests)
 
 -- a life after a sweep by versions of which the current one is one
-free_life : (live : List ℕ) (now : ℕ) (x : Life) → In now live → IsPast now (Some x) → swept live x ≡ Free ↔ ((v : ℕ) → In v live → reaches_life x v ≡ false)
+free_life : (live : List ℕ) (now : ℕ) (x : Life) → In now live → IsPast now (Some x) → swept_life live x ≡ Free ↔ ((v : ℕ) → In v live → reaches_life x v ≡ false)
 free_life live now Free i past = (λ is v j. refl, λ none. refl)
 free_life live now (Born b) i past = (λ is. cc, λ none. let not = none now i in let is : reaches_life (Born b) now ≡ true = grind (arith, nat_tests) in cc)
 free_life live now (Dead b d) i past = go (list_any (reaches_life (Dead b d)) live) refl
@@ -178,11 +178,11 @@ free_life live now (Dead b d) i past = go (list_any (reaches_life (Dead b d)) li
 pub free_swept : (s : State) (live : List ℕ) (r : ℕ) → IsSettled s → In (version s) live → r < length s.lives → slice_get (swept_by live s).lives r ≡ Some Free ↔ ((v : ℕ) → In v live → reaches s.lives v r ≡ false)
 free_swept s live r settled i lt = go (slice_get s.lives r) refl (settled r)
   where
-    go : (o : Option Life) → slice_get s.lives r ≡ o → IsPast (version s) o → slice_get (map (swept live) s.lives) r ≡ Some Free ↔ ((v : ℕ) → In v live → reached_at (slice_get s.lives r) v ≡ false)
+    go : (o : Option Life) → slice_get s.lives r ≡ o → IsPast (version s) o → slice_get (map (swept_life live) s.lives) r ≡ Some Free ↔ ((v : ℕ) → In v live → reached_at (slice_get s.lives r) v ≡ false)
     go None e past = absurd (let some = slice_get-get_or s.lives r Free lt in cc)
     go (Some x) e past =
-        let is = slice_get-map (swept live) s.lives r ∙ ap (option_map (swept live)) e in
+        let is = slice_get-map (swept_life live) s.lives r ∙ ap (option_map (swept_life live)) e in
         let f = free_life live (version s) x i past in (
-          λ free v j. ap (λ o. reached_at o v) e ∙ f.0 (let same : Some (swept live x) ≡ Some Free = sym is ∙ free in cc) v j,
+          λ free v j. ap (λ o. reached_at o v) e ∙ f.0 (let same : Some (swept_life live x) ≡ Some Free = sym is ∙ free in cc) v j,
           λ none. is ∙ ap Some (f.1 (λ v j. sym (ap (λ o. reached_at o v) e) ∙ none v j)),
         )

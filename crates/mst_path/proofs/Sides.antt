@@ -4,7 +4,7 @@ use Rattle.std.specs.Prelude.{slice_get}
 use Rattle.mst_key.specs.declared.format.Format.TheVariants.{One}
 use Rattle.mst_node.specs.Shape.{with_entries}
 use Rattle.mst_arena.specs.Content.{Content}
-use Rattle.mst_arena.specs.Lives.{State, next, with_life, ended}
+use Rattle.mst_arena.specs.Lives.{State, next, with_life, ended_life}
 use Rattle.mst_arena.specs.Lists.{times}
 use Rattle.mst_arena.specs.declared.row.Root.{Root}
 use Rattle.mst_arena.specs.Standing.{Placed, tree_of, used}
@@ -89,7 +89,7 @@ module _ (c0 c1 : Content) (s0 s1 : State) (row : ℕ) (left right : Parts) (b :
     apart_both : (x : ℕ) → (times x (row ∷ []) + times x (used one.placed)) + times x (used two.placed) ≤ 1
     apart_both = apart_after c1 c2 s1 s2 (in_parts b.upper) (λ x. times x (used two.placed)) m second (λ x. times x (row ∷ []) + times x (used one.placed)) (λ x. omega (arith, apart x)) now_alive
 
-    module _ (s3 : State) (killed : s3 ≡ with_life s2 row (ended (next s2) (slice_get s2.lives row))) where
+    module _ (s3 : State) (killed : s3 ≡ with_life s2 row (ended_life (next s2) (slice_get s2.lives row))) where
       third : Step c2 c2 s2 s3 (λ x. times x (row ∷ [])) (λ x. 0) 0
       third = step_kill c2 s2 s3 row row_still_old killed
 

@@ -4,7 +4,7 @@ use Rattle.std.proofs.lemmas.Bool.Decides.{nat_tests}
 use Rattle.std.proofs.lemmas.List.{length-map}
 use Rattle.mst_key.specs.declared.format.Format.TheVariants.{One}
 use Rattle.mst_key.specs.Layer.{layer_in}
-use Rattle.mst_key.specs.Map.{IsAscending, look}
+use Rattle.mst_key.specs.Map.{IsAscending, map_get}
 use Rattle.std.specs.Prelude.{None, if◌then◌else◌}
 use Rattle.mst_node.specs.Tree.{Tree, empty, node, Entries, last, entry, entry_count, pairs, entries_pairs, IsMst, IsMstEntries, IsUnder}
 use Rattle.mst_node.specs.Shape.{TreeEntry, with_entries}
@@ -319,7 +319,7 @@ module _ (c : Content) (s : State) (link : ℕ) (k : List ℕ) (j : ℕ) (j_le :
         no_piece : Piece c s none
         no_piece = record { rows = tt; made = tt }
 
-        lacks : look (pairs (tree_of One t.tree.placed)) k ≡ None
+        lacks : map_get (pairs (tree_of One t.tree.placed)) k ≡ None
         lacks = absent_under (tree_of One t.tree.placed) One k j t.mst t.under (sym j_is)
 
         -- the tree is all below the key

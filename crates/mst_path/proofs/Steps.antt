@@ -4,7 +4,7 @@ use Rattle.std.specs.Prelude.{slice_get}
 use Rattle.mst_key.specs.declared.format.Format.TheVariants.{One}
 use Rattle.mst_node.specs.Tree.{Tree}
 use Rattle.mst_arena.specs.Content.{Content}
-use Rattle.mst_arena.specs.Lives.{State, next, with_life, ended}
+use Rattle.mst_arena.specs.Lives.{State, next, with_life, ended_life}
 use Rattle.mst_arena.specs.Lists.{times}
 use Rattle.mst_arena.specs.declared.row.Root.{Root}
 use Rattle.mst_arena.specs.Standing.{Placed, used}
@@ -38,7 +38,7 @@ step_split c c' s s' t u left right given count g = record { taken = g.taken; ki
 pub step_none : (c : Content) (s : State) (given : ℕ → ℕ) → Step c c s s given given 0
 step_none c s given = record { taken = []; killed = []; moves = moves_none s; keeps = λ x out. refl; rows = λ x. refl; counted = refl }
 
-pub step_kill : (c : Content) (s s' : State) (r : ℕ) → IsOld s r → s' ≡ with_life s r (ended (next s) (slice_get s.lives r)) → Step c c s s' (λ x. times x (r ∷ [])) (λ x. 0) 0
+pub step_kill : (c : Content) (s s' : State) (r : ℕ) → IsOld s r → s' ≡ with_life s r (ended_life (next s) (slice_get s.lives r)) → Step c c s s' (λ x. times x (r ∷ [])) (λ x. 0) 0
 step_kill c s s' r old is = record {
   taken = [];
   killed = r ∷ [];

@@ -1,7 +1,7 @@
 -- Which rows a version reaches, beside the rows that stand for its tree.
 use Rattle.std.specs.Prelude.{◌≡◌, ◌↔◌, ℕ, true, List, map, slice_set}
 pub use Rattle.mst_arena.specs.Lives.{IsPast, IsSettled}
-use Rattle.mst_arena.specs.Lives.{State, next, reaches, swept}
+use Rattle.mst_arena.specs.Lives.{State, next, reaches, swept_life}
 use Rattle.mst_arena.specs.declared.life.Life.{Life}
 use Rattle.mst_path.specs.Moves.{In}
 use Rattle.mst_path.specs.Changing.{AreTaken, AreKilled, OthersLive, SameVersions}
@@ -33,4 +33,4 @@ advanced into s = record s { current = into; versions = slice_set s.versions int
 
 -- the dead rows that none of these versions reaches become free
 abbrev pub swept_by : List ℕ → State → State
-swept_by live s = record s { lives = map (swept live) s.lives }
+swept_by live s = record s { lives = map (swept_life live) s.lives }

@@ -1,6 +1,6 @@
 //! The value of a key in a tree that stands.
 ghost use Rattle.std.specs.Prelude.{◌≡◌, ◌<◌};
-ghost use Rattle.mst_key.specs.Map.{IsAscending, look};
+ghost use Rattle.mst_key.specs.Map.{IsAscending, map_get};
 ghost use Rattle.mst_key.specs.declared.format.Format.TheVariants.{One};
 ghost use Rattle.mst_node.specs.Tree.{pairs};
 ghost use Rattle.mst_arena.specs.Lives.{State};
@@ -15,7 +15,7 @@ use mst_key::{Key, Value};
 pub(crate) fn find<R: Rows>(rows: &mut R, link: u32, key: &Key) -> Option<Value>
     requires tree { (s : State) × (t : SearchTree (R.content rows.old) s link) × IsAscending (pairs (tree_of One t.placed)) }
     ensures found { (s : State) (t : SearchTree (R.content rows.old) s link)
-        → IsAscending (pairs (tree_of One t.placed)) → result ≡ look (pairs (tree_of One t.placed)) key.now }
+        → IsAscending (pairs (tree_of One t.placed)) → result ≡ map_get (pairs (tree_of One t.placed)) key.now }
     ensures same { rows.new ≡ rows.old }
 {
     if link == 0 {

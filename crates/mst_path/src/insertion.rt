@@ -2,7 +2,7 @@
 ghost use Rattle.std.specs.Prelude.{◌≡◌, ◌<◌, ◌+◌, List, Some, IfOk, IfErr, false};
 ghost use Rattle.std.specs.Option.{option_map_or};
 ghost use Rattle.mst_key.specs.Bytes.{IsKey, IsValue};
-ghost use Rattle.mst_key.specs.Map.{Pair, look};
+ghost use Rattle.mst_key.specs.Map.{Pair, map_get};
 ghost use Rattle.mst_key.specs.Map as map;
 ghost use Rattle.mst_key.specs.declared.format.Format.TheVariants.{One};
 ghost use Rattle.mst_node.specs.Cost.{same_bytes, cost};
@@ -58,7 +58,7 @@ pub fn put<R: Rows, A: Allocator>(
     requires free { FreeIsBlank desk.old.lives (R.blank rows.old) }
     ensures stands { IfOk result (λ done. (m : List Pair) → Stands One (R.content rows.old) root.now m
         → Stands One (R.content rows.new) done.0 (map.put m key.now value.now)) }
-    ensures value { IfOk result (λ done. (m : List Pair) → Stands One (R.content rows.old) root.now m → done.1 ≡ look m key.now) }
+    ensures value { IfOk result (λ done. (m : List Pair) → Stands One (R.content rows.old) root.now m → done.1 ≡ map_get m key.now) }
     ensures written { OnlyFreeWritten desk.old (R.content rows.old) (R.content rows.new) }
     // as many rows as the nodes that are new have entries and heads
     ensures cost { IfOk result (λ _. (m : List Pair) → Stands One (R.content rows.old) root.now m
@@ -68,7 +68,7 @@ pub fn put<R: Rows, A: Allocator>(
     ensures versions { SameVersions desk.old desk.new }
     // the rows of a node are of one age: with all below it they were there before, or they are all new
     ensures made { IfOk result (λ done. (n : List Pair) (new : Stands One (R.content rows.new) done.0 n) → IsMade desk.new new.tree.placed) }
-    ensures same_value { IfOk result (λ done. (m : List Pair) → Stands One (R.content rows.old) root.now m → look m key.now ≡ Some value.now
+    ensures same_value { IfOk result (λ done. (m : List Pair) → Stands One (R.content rows.old) root.now m → map_get m key.now ≡ Some value.now
         → (done.0 ≡ root.now) × (desk.new ≡ desk.old) × (rows.new ≡ rows.old)) }
     ensures blank { R.blank rows.new ≡ R.blank rows.old }
     ensures kept { R.kept rows.new ≡ R.kept rows.old }

@@ -1,6 +1,6 @@
 //! A key removed from the map that stands at a root.
 ghost use Rattle.std.specs.Prelude.{◌≡◌, ◌<◌, ◌+◌, List, None, IfOk, IfErr};
-ghost use Rattle.mst_key.specs.Map.{Pair, look};
+ghost use Rattle.mst_key.specs.Map.{Pair, map_get};
 ghost use Rattle.mst_key.specs.Map as map;
 ghost use Rattle.mst_key.specs.declared.format.Format.TheVariants.{One};
 ghost use Rattle.mst_node.specs.Cost.{cost};
@@ -35,7 +35,7 @@ pub fn remove<R: Rows, A: Allocator>(
     requires free { FreeIsBlank desk.old.lives (R.blank rows.old) }
     ensures stands { IfOk result (λ done. (m : List Pair) → Stands One (R.content rows.old) root.now m
         → Stands One (R.content rows.new) done.0 (map.remove m key.now)) }
-    ensures value { IfOk result (λ done. (m : List Pair) → Stands One (R.content rows.old) root.now m → done.1 ≡ look m key.now) }
+    ensures value { IfOk result (λ done. (m : List Pair) → Stands One (R.content rows.old) root.now m → done.1 ≡ map_get m key.now) }
     ensures written { OnlyFreeWritten desk.old (R.content rows.old) (R.content rows.new) }
     // as many rows as the nodes that are new have entries and heads
     ensures cost { IfOk result (λ _. (m : List Pair) → Stands One (R.content rows.old) root.now m
@@ -45,7 +45,7 @@ pub fn remove<R: Rows, A: Allocator>(
     ensures versions { SameVersions desk.old desk.new }
     // the rows of a node are of one age: with all below it they were there before, or they are all new
     ensures made { IfOk result (λ done. (n : List Pair) (new : Stands One (R.content rows.new) done.0 n) → IsMade desk.new new.tree.placed) }
-    ensures absent { IfOk result (λ done. (m : List Pair) → Stands One (R.content rows.old) root.now m → look m key.now ≡ None
+    ensures absent { IfOk result (λ done. (m : List Pair) → Stands One (R.content rows.old) root.now m → map_get m key.now ≡ None
         → (done.0 ≡ root.now) × (desk.new ≡ desk.old) × (rows.new ≡ rows.old)) }
     ensures blank { R.blank rows.new ≡ R.blank rows.old }
     ensures kept { R.kept rows.new ≡ R.kept rows.old }

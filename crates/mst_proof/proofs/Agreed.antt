@@ -18,7 +18,7 @@ use Rattle.mst_proof.specs.declared.expected.Expected.{Expected}
 use Rattle.mst_proof.specs.declared.expected.Step.{Step}
 use Rattle.mst_proof.specs.declared.expected.Step.TheVariants.{Decided, Onward}
 use Rattle.mst_proof.specs.Frame.{◌>>◌, frame_at}
-use Rattle.mst_proof.specs.Verdict.{unless, node_in, is_under, is_inside, step_of, tested, step_at, first_expected, ended, by_step, followed, judged, verdict}
+use Rattle.mst_proof.specs.Verdict.{unless, node_in, is_under, is_inside, step_of, step_in_node, step_at, first_expected, answer_at_end, by_step, followed, judgement, verdict}
 use Rattle.mst_proof.proofs.Stepwise.{IsExpected, Says, Leads, LeadsFrom, Accepted}
 use Rattle.mst_proof.proofs.Decisions.{node_in-spelt, node_in-read, under-Decides, within-Decides}
 use Rattle.mst_proof.proofs.Steps.{step-passed}
@@ -47,7 +47,7 @@ pub passes : (k : List ℕ) (x : Expected) (text : List ℕ) (s : Step) → IsBy
 unfolding step_at
 passes k x text s b e = go (node_in text) refl e
   where
-    go : (r : Option FlatNode) → node_in text ≡ r → tested k x text r ≡ Ok s → Passes k x text s
+    go : (r : Option FlatNode) → node_in text ≡ r → step_in_node k x text r ≡ Ok s → Passes k x text s
     go None is e = absurd (cc)
     go (Some n) is e =
         let digests = bytes_eq (digest_of text) x.digest in
@@ -88,17 +88,17 @@ leads_from k x (t ∷ ts) a b e =
       leads = (p.expected, subst (λ (s : Step). Says s says.nodes a (λ y. Leads k y says.nodes a)) (sym p.says) says.leads);
     }
   where
-    go : ((y : Expected) → followed k y ts ≡ Ok a → Spells ts (λ ns. Leads k y ns a)) → (s : Step) → by_step s (ended ts) (λ y. followed k y ts) ≡ Ok a → Spells ts (λ ns. Says s ns a (λ y. Leads k y ns a))
+    go : ((y : Expected) → followed k y ts ≡ Ok a → Spells ts (λ ns. Leads k y ns a)) → (s : Step) → by_step s (answer_at_end ts) (λ y. followed k y ts) ≡ Ok a → Spells ts (λ ns. Says s ns a (λ y. Leads k y ns a))
     go next (Decided answer) e = end ts e
       where
-        end : (us : List (List ℕ)) → ended us answer ≡ Ok a → Spells us (λ ns. (ns ≡ []) × (a ≡ answer))
+        end : (us : List (List ℕ)) → answer_at_end us answer ≡ Ok a → Spells us (λ ns. (ns ≡ []) × (a ≡ answer))
         end [] e = record { nodes = []; flat = tt; texts = refl; leads = (refl, sym (ok_same answer a e)) }
         end (u ∷ us) e = absurd (cc)
     go next (Onward y) e = next y e
 
 pub accepted : (root k bytes : List ℕ) (a : Option (List ℕ)) → IsBytes bytes → verdict root k bytes ≡ Ok a → Accepted root k bytes a
 accepted root k bytes a b e =
-    let r = bind_done (frame_at bytes) (judged root k) a e in
+    let r = bind_done (frame_at bytes) (judgement root k) a e in
     let frame = frame_takes bytes r.0 r.1 b in
     let leads = from r.0 frame.texts r.2 in
     record {
@@ -117,7 +117,7 @@ accepted root k bytes a b e =
     some [] l = absurd l
     some (n ∷ ns) l = l
 
-    from : (ts : List (List ℕ)) → AllBytes ts → judged root k ts ≡ Ok a → Spells ts (λ ns. LeadsFrom root k ns a)
+    from : (ts : List (List ℕ)) → AllBytes ts → judgement root k ts ≡ Ok a → Spells ts (λ ns. LeadsFrom root k ns a)
     from [] b e =
         let d = unless_done (bytes_eq root (digest_of [])) OtherDigest (Ok None) a e in
         record { nodes = []; flat = tt; texts = refl; leads = ((bytes_eq-Decides root (digest_of [])).0 d.0, sym (ok_same None a d.1)) }
@@ -136,11 +136,11 @@ pub follows : (k : List ℕ) (x : Expected) (ns : List FlatNode) (a : Option (Li
 follows k x [] a flat l = absurd l
 follows k x (n ∷ ns) a flat l =
     let s = step_of n.layer (place_of k x.span n) in
-    ap (λ (r : Result Step ProofFault). r >> λ s. by_step s (ended (map spelling ns)) (λ y. followed k y (map spelling ns))) (step_expected k x n flat.0.0 flat.0.1 l.0)
+    ap (λ (r : Result Step ProofFault). r >> λ s. by_step s (answer_at_end (map spelling ns)) (λ y. followed k y (map spelling ns))) (step_expected k x n flat.0.0 flat.0.1 l.0)
     ∙ go s l.1 (λ y. follows k y ns a flat.1)
   where
-    go : (s : Step) → Says s ns a (λ y. Leads k y ns a) → ((y : Expected) → Leads k y ns a → followed k y (map spelling ns) ≡ Ok a) → by_step s (ended (map spelling ns)) (λ y. followed k y (map spelling ns)) ≡ Ok a
-    go (Decided answer) says next = ap (λ (us : List FlatNode). ended (map spelling us) answer) says.0 ∙ ap Ok (sym says.1)
+    go : (s : Step) → Says s ns a (λ y. Leads k y ns a) → ((y : Expected) → Leads k y ns a → followed k y (map spelling ns) ≡ Ok a) → by_step s (answer_at_end (map spelling ns)) (λ y. followed k y (map spelling ns)) ≡ Ok a
+    go (Decided answer) says next = ap (λ (us : List FlatNode). answer_at_end (map spelling us) answer) says.0 ∙ ap Ok (sym says.1)
     go (Onward y) says next = next y says
 
 -- the texts of an accepted proof
@@ -152,8 +152,8 @@ frame_accepted root k bytes a is =
 
 pub accepts : (root k bytes : List ℕ) (a : Option (List ℕ)) → Accepted root k bytes a → verdict root k bytes ≡ Ok a
 accepts root k bytes a is =
-    ap (λ (r : Result (List (List ℕ)) ProofFault). r >> judged root k) (frame_accepted root k bytes a is) ∙ go is.nodes is.flat is.leads
+    ap (λ (r : Result (List (List ℕ)) ProofFault). r >> judgement root k) (frame_accepted root k bytes a is) ∙ go is.nodes is.flat is.leads
   where
-    go : (ns : List FlatNode) → AllFlat ns → LeadsFrom root k ns a → judged root k (map spelling ns) ≡ Ok a
+    go : (ns : List FlatNode) → AllFlat ns → LeadsFrom root k ns a → judgement root k (map spelling ns) ≡ Ok a
     go [] flat l = ap (λ (t : Bool). unless t OtherDigest (Ok None)) ((bytes_eq-Decides root (digest_of [])).1 l.0) ∙ ap Ok (sym l.1)
     go (n ∷ ns) flat l = follows k (first_expected root) (n ∷ ns) a flat l

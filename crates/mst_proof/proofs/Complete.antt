@@ -4,7 +4,7 @@ use Rattle.std.specs.Prelude.{IfSome}
 use Rattle.std.specs.List.{AllByRecursion}
 use Rattle.mst_key.specs.declared.format.Format.{Format}
 use Rattle.mst_key.specs.declared.format.Format.TheVariants.{One}
-use Rattle.mst_key.specs.Map.{look}
+use Rattle.mst_key.specs.Map.{map_get}
 use Rattle.mst_key.proofs.KeyOrder.{less_chain}
 use Rattle.mst_node.specs.Tree.{Tree, empty, node, Entries, last, entry, pairs, entries_pairs, IsUnder}
 use Rattle.mst_node.specs.Text.{FlatEntry, child_digest, flat_entries, flat, text, digest}
@@ -53,28 +53,28 @@ abbrev Continues : List ℕ → Step → List Tree → Option (List ℕ) → Typ
 Continues k s us a = Spells (map text us) (λ ns. Says s ns a (λ y. Leads k y ns a))
 
 abbrev Answer : List ℕ → Expected → Tree → Type 0
-Answer k x t = Spells (map text (nodes_met k t)) (λ ns. Leads k x ns (look (pairs t) k))
+Answer k x t = Spells (map text (nodes_met k t)) (λ ns. Leads k x ns (map_get (pairs t) k))
 
 -- what holds of each tree below a layer
 abbrev Below : ℕ → List ℕ → Type 0
 Below n k = (y : Expected) (c : Tree) → IsUnder n c → IsSmall c → Expects y c → AllBytes (map text (nodes_met k c)) → Answer k y c
 
-child_leads : (n l : ℕ) (k : List ℕ) (c : Tree) (span : Span) → Below n k → l ≤ n → IsUnder l c → IsSmall c → LiesBetween span.low span.high c → AllBytes (map text (nodes_met k c)) → Continues k (step_of l (Gap (child_digest c) span)) (nodes_met k c) (look (pairs c) k)
+child_leads : (n l : ℕ) (k : List ℕ) (c : Tree) (span : Span) → Below n k → l ≤ n → IsUnder l c → IsSmall c → LiesBetween span.low span.high c → AllBytes (map text (nodes_met k c)) → Continues k (step_of l (Gap (child_digest c) span)) (nodes_met k c) (map_get (pairs c) k)
 child_leads n l k empty span next few under small lies b = record { nodes = []; flat = tt; texts = refl; leads = (refl, refl) }
 child_leads n l k (node g m fs) span next few under small lies b =
     let low : m < n = omega (arith, under, few) in
     next _ (node g m fs) low small (record { digest = refl; under = under; lies = lies }) b
 
-gap_leads : (n l : ℕ) (k : List ℕ) (low high : Option (List ℕ)) (es : Entries) → Below n k → l ≤ n → IsSmall (node One l es) → EntriesLieBetween low high es → AllBytes (map text (met_in_gap k es)) → Continues k (step_of l (place k low high es)) (met_in_gap k es) (look (entries_pairs es) k)
+gap_leads : (n l : ℕ) (k : List ℕ) (low high : Option (List ℕ)) (es : Entries) → Below n k → l ≤ n → IsSmall (node One l es) → EntriesLieBetween low high es → AllBytes (map text (met_in_gap k es)) → Continues k (step_of l (place k low high es)) (met_in_gap k es) (map_get (entries_pairs es) k)
 gap_leads n l k low high es next few small lies b = elim (falls k low high l es small.mst.2 small.map) [
   | inl h ↦
-      let P : Place → Type 0 = λ p. Says (step_of l p) [] (look (entries_pairs es) k) (λ y. Leads k y [] (look (entries_pairs es) k)) in
+      let P : Place → Type 0 = λ p. Says (step_of l p) [] (map_get (entries_pairs es) k) (λ y. Leads k y [] (map_get (entries_pairs es) k)) in
       record { nodes = []; flat = tt; texts = ap (map text) h.meets; leads = subst P (sym h.placed) (refl, h.looks) }
   | inr g ↦
       let bytes : AllBytes (map text (nodes_met k g.child)) = subst (λ (us : List Tree). AllBytes (map text us)) g.meets b in
       let child = child_leads n l k g.child g.span next few g.under (small_child k low high l es small g) (g.lies lies) bytes in
-      let Q : Place → Type 0 = λ p. Continues k (step_of l p) (nodes_met k g.child) (look (pairs g.child) k) in
-      let R : List Tree → Type 0 = λ us. Continues k (step_of l (place k low high es)) us (look (pairs g.child) k) in
+      let Q : Place → Type 0 = λ p. Continues k (step_of l p) (nodes_met k g.child) (map_get (pairs g.child) k) in
+      let R : List Tree → Type 0 = λ us. Continues k (step_of l (place k low high es)) us (map_get (pairs g.child) k) in
       let S : Option (List ℕ) → Type 0 = λ a. Continues k (step_of l (place k low high es)) (met_in_gap k es) a in
       subst S (sym g.looks) (subst R (sym g.meets) (subst Q (sym g.placed) child))
 ]

@@ -6,10 +6,10 @@ use Rattle.std.specs.declared.cmp.Ordering.TheVariants.{Less, Equal, Greater}
 use Rattle.std.proofs.lemmas.List.Elements.{Contains-append_left, Contains-append_right}
 use Rattle.mst_key.specs.declared.format.Format.TheVariants.{One}
 use Rattle.mst_key.specs.Bytes.{IsKey, IsValue}
-use Rattle.mst_key.specs.Map.{Pair, key_cmp, AllBelow, AllAbove, IsMap, look}
+use Rattle.mst_key.specs.Map.{Pair, key_cmp, AllBelow, AllAbove, IsMap, map_get}
 use Rattle.mst_key.proofs.KeyOrder.{same_from_equal, less_from_greater, other_from_less}
-use Rattle.mst_key.proofs.MapLaws.{AllBelow-less, AllAbove-less, look-here, look-past}
-use Rattle.mst_key.proofs.Splits.{look-left, look-right}
+use Rattle.mst_key.proofs.MapLaws.{AllBelow-less, AllAbove-less, map_get-here, map_get-past}
+use Rattle.mst_key.proofs.Splits.{map_get-left, map_get-right}
 use Rattle.mst_proof.specs.Beside.{gap_in}
 use Rattle.mst_node.specs.Tree.{Tree, empty, Entries, last, entry, pairs, entries_pairs, nodes, nodes_below, IsUnder, IsMst, IsMstEntries}
 use Rattle.mst_node.specs.Text.{child_digest, flat_entries, tail_digest}
@@ -29,7 +29,7 @@ place k low high es = place_among k low high (flat_entries One es) (tail_digest 
 pub record Holding (k : List ℕ) (low high : Option (List ℕ)) (es : Entries) : Type 0 where
   pub value : List ℕ
   pub placed : place k low high es ≡ Held value
-  pub looks : look (entries_pairs es) k ≡ Some value
+  pub looks : map_get (entries_pairs es) k ≡ Some value
   pub meets : met_in_gap k es ≡ []
   pub gap : gap_in k es ≡ empty
 
@@ -38,7 +38,7 @@ pub record Gapped (k : List ℕ) (low high : Option (List ℕ)) (l : ℕ) (es : 
   pub child : Tree
   pub span : Span
   pub placed : place k low high es ≡ Gap (child_digest child) span
-  pub looks : look (entries_pairs es) k ≡ look (pairs child) k
+  pub looks : map_get (entries_pairs es) k ≡ map_get (pairs child) k
   pub meets : met_in_gap k es ≡ nodes_met k child
   pub gap : gap_in k es ≡ child
   pub under : IsUnder l child
@@ -73,7 +73,7 @@ falls_before k low high l child key value rest mst r e =
       child = child;
       span = record { low = low; high = Some key };
       placed = ap (chosen k low high child key value rest) e;
-      looks = look-left (pairs child) ((key, value) ∷ entries_pairs rest) k above;
+      looks = map_get-left (pairs child) ((key, value) ∷ entries_pairs rest) k above;
       meets = ap (λ (o : Ordering). by_order o (nodes_met k child) [] (met_in_gap k rest)) e;
       gap = ap (λ (o : Ordering). by_order o child empty (gap_in k rest)) e;
       under = mst.0;
@@ -91,16 +91,16 @@ falls_at k low high child key value rest r e =
     record {
       value = value;
       placed = ap (chosen k low high child key value rest) e;
-      looks = look-right (pairs child) ((key, value) ∷ entries_pairs rest) k below ∙ look-here (key, value) (entries_pairs rest) k (sym same);
+      looks = map_get-right (pairs child) ((key, value) ∷ entries_pairs rest) k below ∙ map_get-here (key, value) (entries_pairs rest) k (sym same);
       meets = ap (λ (o : Ordering). by_order o (nodes_met k child) [] (met_in_gap k rest)) e;
       gap = ap (λ (o : Ordering). by_order o child empty (gap_in k rest)) e;
     }
 
 -- behind the entry the map says of the key what the rest says
-looks_behind : (k : List ℕ) (child : Tree) (key value : List ℕ) (rest : Entries) → Round (pairs child) (key, value) (entries_pairs rest) → key_cmp k key ≡ Greater → look (entries_pairs (entry child key value rest)) k ≡ look (entries_pairs rest) k
+looks_behind : (k : List ℕ) (child : Tree) (key value : List ℕ) (rest : Entries) → Round (pairs child) (key, value) (entries_pairs rest) → key_cmp k key ≡ Greater → map_get (entries_pairs (entry child key value rest)) k ≡ map_get (entries_pairs rest) k
 looks_behind k child key value rest r e =
     let less = less_from_greater k key e in
-    look-right (pairs child) ((key, value) ∷ entries_pairs rest) k (AllBelow-less (pairs child) key k r.below less) ∙ look-past (key, value) (entries_pairs rest) k (other_from_less key k less)
+    map_get-right (pairs child) ((key, value) ∷ entries_pairs rest) k (AllBelow-less (pairs child) key k r.below less) ∙ map_get-past (key, value) (entries_pairs rest) k (other_from_less key k less)
 
 falls_behind : (k : List ℕ) (low high : Option (List ℕ)) (l : ℕ) (child : Tree) (key value : List ℕ) (rest : Entries) → Round (pairs child) (key, value) (entries_pairs rest) → key_cmp k key ≡ Greater → Holding k (Some key) high rest ⊎ Gapped k (Some key) high l rest → Holding k low high (entry child key value rest) ⊎ Gapped k low high l (entry child key value rest)
 falls_behind k low high l child key value rest r e (inl h) =

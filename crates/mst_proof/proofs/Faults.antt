@@ -20,7 +20,7 @@ use Rattle.mst_proof.specs.declared.fault.ProofFault.TheVariants.{Version, CutSh
 use Rattle.mst_proof.specs.declared.expected.Expected.{Expected}
 use Rattle.mst_proof.specs.declared.expected.Step.{Step}
 use Rattle.mst_proof.specs.Frame.{◌>>◌, texts_at, alone, count_at, frame_at}
-use Rattle.mst_proof.specs.Verdict.{unless, node_in, is_under, is_inside, step_of, tested, step_at, first_expected, ended, by_step, followed, judged, verdict}
+use Rattle.mst_proof.specs.Verdict.{unless, node_in, is_under, is_inside, step_of, step_in_node, step_at, first_expected, answer_at_end, by_step, followed, judgement, verdict}
 use Rattle.mst_proof.specs.Accepted.{IsInGap, gap_child, gap_low, gap_high, LeadsOn}
 use Rattle.mst_proof.specs.Faults.{FrameFails, FailsBy, Decides, FailAt, TextsFail, ProofFails}
 use Rattle.mst_proof.proofs.Agreed.{passes}
@@ -50,7 +50,7 @@ module _ (k : List ℕ) (x : Expected) (text : List ℕ) (fault : ProofFault) (b
   unfolding step_at
   fails_by e = go (node_in text) refl e
     where
-      go : (r : Option FlatNode) → node_in text ≡ r → tested k x text r ≡ Err fault → Fails fault
+      go : (r : Option FlatNode) → node_in text ≡ r → step_in_node k x text r ≡ Err fault → Fails fault
       go None is e = subst Fails (err_same {A = Step} NoNode fault e) (λ g. none-some (node_in text) g.0 is (node_in-read text g))
       go (Some n) is e =
           let digests = bytes_eq (digest_of text) x.digest in
@@ -88,7 +88,7 @@ fault_by k x text b TextBehind is = absurd is
 
 -- ---- the texts
 
-ended_fault : (ts : List (List ℕ)) (a : Option (List ℕ)) (fault : ProofFault) → ended ts a ≡ Err fault → (ts ≢ []) × (fault ≡ TextBehind)
+ended_fault : (ts : List (List ℕ)) (a : Option (List ℕ)) (fault : ProofFault) → answer_at_end ts a ≡ Err fault → (ts ≢ []) × (fault ≡ TextBehind)
 ended_fault [] a fault e = absurd (cc)
 ended_fault (t ∷ ts) a fault e = ((λ n. let f : t ∷ ts ≡ [] = n in absurd (cc)), sym (err_same {A = Option (List ℕ)} TextBehind fault e))
 
@@ -100,7 +100,7 @@ fail_at k x [] fault b e = sym (err_same {A = Option (List ℕ)} Unfinished faul
 fail_at k x (t ∷ ts) fault b e = at (step_at k x t) refl e (λ y. fail_at k y ts fault b.1)
   where
     Left : Step → Type 0
-    Left s = by_step s (ended ts) (λ y. followed k y ts) ≡ Err fault
+    Left s = by_step s (answer_at_end ts) (λ y. followed k y ts) ≡ Err fault
 
     Next : FlatNode → Type 0
     Next n = (Decides k n × (ts ≢ []) × (fault ≡ TextBehind)) ⊎ LeadsOn k x.span.low x.span.high n (λ d u l h. FailAt k d u l h ts fault)
@@ -120,7 +120,7 @@ fail_at k x (t ∷ ts) fault b e = at (step_at k x t) refl e (λ y. fail_at k y 
         let is : IsInGap n k g.before g.behind = record { entries = g.entries; lesser = g.lesser; greater = g.greater } in
         in_gap n g.before g.behind is (gap_child g.behind n.tail) refl (subst (λ (q : Place). Left (step_of n.layer q)) (gap_place k x.span n g.before g.behind is) left) next
 
-    at : (r : Result Step ProofFault) → step_at k x t ≡ r → (r >> λ s. by_step s (ended ts) (λ y. followed k y ts)) ≡ Err fault →
+    at : (r : Result Step ProofFault) → step_at k x t ≡ r → (r >> λ s. by_step s (answer_at_end ts) (λ y. followed k y ts)) ≡ Err fault →
         ((y : Expected) → followed k y ts ≡ Err fault → Follows k y ts fault) → Follows k x (t ∷ ts) fault
     at (Err g) is f next = inl (subst (FailsBy x.digest x.upper x.span.low x.span.high t) (err_same {A = Option (List ℕ)} g fault f) (fails_by k x t g b.0 is))
     at (Ok s) is f next =
@@ -173,14 +173,14 @@ frame_fault (v ∷ bytes) fault b e = go (v == 1) refl bytes b e
 pub proof_fails : (root k proof : List ℕ) (fault : ProofFault) → IsBytes proof → verdict root k proof ≡ Err fault → ProofFails root k proof fault
 proof_fails root k proof fault b e = go (frame_at proof) refl e
   where
-    texts : (ts : List (List ℕ)) → AllBytes ts → judged root k ts ≡ Err fault → TextsFail root k ts fault
+    texts : (ts : List (List ℕ)) → AllBytes ts → judgement root k ts ≡ Err fault → TextsFail root k ts fault
     texts [] b e = elim (unless_fault (bytes_eq root (digest_of [])) OtherDigest (Ok None) fault e) [
       | inl d ↦ (not_from_Decides (bytes_eq root (digest_of [])) (bytes_eq-Decides root (digest_of [])) d.0, sym d.1)
       | inr d ↦ absurd (cc (d.1))
     ]
     texts (t ∷ ts) b e = fail_at k (first_expected root) (t ∷ ts) fault b e
 
-    go : (r : Result (List (List ℕ)) ProofFault) → frame_at proof ≡ r → (r >> judged root k) ≡ Err fault → ProofFails root k proof fault
+    go : (r : Result (List (List ℕ)) ProofFault) → frame_at proof ≡ r → (r >> judgement root k) ≡ Err fault → ProofFails root k proof fault
     go (Err g) is e = inl (subst (FrameFails proof) (err_same {A = Option (List ℕ)} g fault e) (frame_fault proof g b is))
     go (Ok ts) is e =
         let frame = frame_takes proof ts is b in

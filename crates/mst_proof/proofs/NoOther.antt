@@ -4,7 +4,7 @@ use Rattle.std.specs.declared.result.Result.TheVariants.{Ok}
 use Rattle.mst_key.specs.declared.format.Format.{Format}
 use Rattle.mst_key.specs.declared.format.Format.TheVariants.{One}
 use Rattle.mst_key.specs.Bytes.{IsBytes}
-use Rattle.mst_key.specs.Map.{look}
+use Rattle.mst_key.specs.Map.{map_get}
 use Rattle.mst_node.specs.Tree.{Tree, empty, node, pairs}
 use Rattle.mst_node.specs.Text.{FlatNode, digest_of, child_digest, text, digest}
 use Rattle.mst_node.specs.Place.{place_of}
@@ -13,7 +13,7 @@ use Rattle.mst_node.specs.declared.place.Place.TheVariants.{Gap}
 use Rattle.mst_node.specs.declared.place.Span.{Span}
 use Rattle.mst_proof.specs.declared.expected.Expected.{Expected}
 use Rattle.mst_proof.specs.declared.expected.Step.{Step}
-use Rattle.mst_proof.specs.Verdict.{step_of, step_at, ended, by_step, followed}
+use Rattle.mst_proof.specs.Verdict.{step_of, step_at, answer_at_end, by_step, followed}
 use Rattle.mst_proof.specs.Beside.{gap_tree, IsSmall, NoOther}
 use Rattle.mst_proof.proofs.Framed.{ok_same, bind_done}
 use Rattle.mst_proof.proofs.Agreed.{passes}
@@ -39,7 +39,7 @@ no_other_empty k ts t x a e h =
     absurd (cc (p.text_is))
 
 -- what a step of an answer ends with
-ended_done : (ts : List (List ℕ)) (answer a : Option (List ℕ)) → ended ts answer ≡ Ok a → a ≡ answer
+ended_done : (ts : List (List ℕ)) (answer a : Option (List ℕ)) → answer_at_end ts answer ≡ Ok a → a ≡ answer
 ended_done [] answer a e = sym (ok_same answer a e)
 ended_done (t ∷ ts) answer a e = absurd (cc)
 
@@ -50,7 +50,7 @@ no_other_same k u ts (node f l es) b small is rest =
     let P : Format → Type 0 = λ g. IsSmall (node g l es) → u ≡ text (node g l es) → NoOther (node g l es) k (u ∷ ts) in
     subst P (sym small.mst.0) at small is
   where
-    on : (x : Expected) (a : Option (List ℕ)) (c : Tree) (span : Span) → (c ≡ empty) ⊎ NoOther c k ts → by_step (step_of l (Gap (child_digest c) span)) (ended ts) (λ y. followed k y ts) ≡ Ok a → a ≡ look (pairs c) k
+    on : (x : Expected) (a : Option (List ℕ)) (c : Tree) (span : Span) → (c ≡ empty) ⊎ NoOther c k ts → by_step (step_of l (Gap (child_digest c) span)) (answer_at_end ts) (λ y. followed k y ts) ≡ Ok a → a ≡ map_get (pairs c) k
     on x a empty span rest e = ended_done ts None a e
     on x a (node g m fs) span (inl none) e = absurd (cc (none))
     on x a (node g m fs) span (inr next) e = next _ a refl e
@@ -61,8 +61,8 @@ no_other_same k u ts (node f l es) b small is rest =
         let p = passes k x u r.0 b r.1 in
         let same = same_node l es p.node small (subst IsBytes p.text_is b) p.flat (sym p.text_is ∙ is) in
         let says : step_of l (place k x.span.low x.span.high es) ≡ r.0 = ap (λ (m : FlatNode). step_of m.layer (place_of k x.span m)) (sym same) ∙ p.says in
-        let Q : Step → Type 0 = λ s. by_step s (ended ts) (λ y. followed k y ts) ≡ Ok a in
-        let R : Place → Type 0 = λ q. by_step (step_of l q) (ended ts) (λ y. followed k y ts) ≡ Ok a in
+        let Q : Step → Type 0 = λ s. by_step s (answer_at_end ts) (λ y. followed k y ts) ≡ Ok a in
+        let R : Place → Type 0 = λ q. by_step (step_of l q) (answer_at_end ts) (λ y. followed k y ts) ≡ Ok a in
         let given = subst Q (sym says) r.2 in
         elim (falls k x.span.low x.span.high l es small.mst.2 small.map) [
           | inl q ↦ ended_done ts (Some q.value) a (subst R q.placed given) ∙ sym q.looks

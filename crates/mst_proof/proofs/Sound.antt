@@ -9,7 +9,7 @@ use Rattle.std.proofs.lemmas.Slice.Eq.{bytes_eq-Decides}
 use Rattle.mst_key.specs.declared.format.Format.{Format}
 use Rattle.mst_key.specs.declared.format.Format.TheVariants.{One}
 use Rattle.mst_key.specs.Bytes.{IsBytes}
-use Rattle.mst_key.specs.Map.{look}
+use Rattle.mst_key.specs.Map.{map_get}
 use Rattle.mst_node.specs.Tree.{Tree, empty, node, Entries, pairs, nodes, nodes_below}
 use Rattle.mst_node.specs.Text.{FlatNode, spelling, digest_of, child_digest, flat, text, digest}
 use Rattle.mst_node.specs.Grammar.{IsFlatNode}
@@ -52,7 +52,7 @@ pub record Collides (ts : List (List ℕ)) (t : Tree) : Type 0 where
 
 -- the answer is the map's, or there is a collision
 abbrev pub Answers : List ℕ → Option (List ℕ) → List (List ℕ) → Tree → Type 0
-Answers k a ts t = (a ≡ look (pairs t) k) ⊎ Collides ts t
+Answers k a ts t = (a ≡ map_get (pairs t) k) ⊎ Collides ts t
 
 pub small_child : (k : List ℕ) (low high : Option (List ℕ)) (l : ℕ) (es : Entries) → IsSmall (node One l es) → (g : Gapped k low high l es) → IsSmall g.child
 small_child k low high l es small g = record { mst = g.mst; map = g.map; few = omega (arith, g.few, small.few) }

@@ -10,12 +10,12 @@ use Rattle.mst_proof.specs.declared.fault.ProofFault.{ProofFault}
 use Rattle.mst_proof.specs.declared.fault.ProofFault.TheVariants.{NoNode, OtherDigest, LayerNotBelow, KeyOutside}
 use Rattle.mst_proof.specs.declared.expected.Expected.{Expected}
 use Rattle.mst_proof.specs.declared.expected.Step.{Step}
-use Rattle.mst_proof.specs.Verdict.{node_in, is_under, is_inside, step_of, tested, step_at, unless}
+use Rattle.mst_proof.specs.Verdict.{node_in, is_under, is_inside, step_of, step_in_node, step_at, unless}
 
 module _ (k text : List ℕ) (x : Expected) where
   pub step-no_node : node_in text ≡ None → step_at k x text ≡ Err NoNode
   unfolding step_at
-  step-no_node none = ap (tested k x text) none
+  step-no_node none = ap (step_in_node k x text) none
 
   module _ (n : FlatNode) (is : node_in text ≡ Some n) where
     abbrev digests : Bool
@@ -32,19 +32,19 @@ module _ (k text : List ℕ) (x : Expected) where
 
     pub step-other_digest : digests ≡ false → step_at k x text ≡ Err OtherDigest
     unfolding step_at
-    step-other_digest d = ap (tested k x text) is ∙ ap (λ (t : Bool). unless t OtherDigest (unless layers LayerNotBelow (unless keys KeyOutside place))) d
+    step-other_digest d = ap (step_in_node k x text) is ∙ ap (λ (t : Bool). unless t OtherDigest (unless layers LayerNotBelow (unless keys KeyOutside place))) d
 
     pub step-not_below : digests ≡ true → layers ≡ false → step_at k x text ≡ Err LayerNotBelow
     unfolding step_at
     step-not_below d l =
-        ap (tested k x text) is
+        ap (step_in_node k x text) is
         ∙ ap (λ (t : Bool). unless t OtherDigest (unless layers LayerNotBelow (unless keys KeyOutside place))) d
         ∙ ap (λ (t : Bool). unless t LayerNotBelow (unless keys KeyOutside place)) l
 
     pub step-outside : digests ≡ true → layers ≡ true → keys ≡ false → step_at k x text ≡ Err KeyOutside
     unfolding step_at
     step-outside d l s =
-        ap (tested k x text) is
+        ap (step_in_node k x text) is
         ∙ ap (λ (t : Bool). unless t OtherDigest (unless layers LayerNotBelow (unless keys KeyOutside place))) d
         ∙ ap (λ (t : Bool). unless t LayerNotBelow (unless keys KeyOutside place)) l
         ∙ ap (λ (t : Bool). unless t KeyOutside place) s
@@ -52,7 +52,7 @@ module _ (k text : List ℕ) (x : Expected) where
     pub step-passed : digests ≡ true → layers ≡ true → keys ≡ true → step_at k x text ≡ Ok (step_of n.layer (place_of k x.span n))
     unfolding step_at
     step-passed d l s =
-        ap (tested k x text) is
+        ap (step_in_node k x text) is
         ∙ ap (λ (t : Bool). unless t OtherDigest (unless layers LayerNotBelow (unless keys KeyOutside place))) d
         ∙ ap (λ (t : Bool). unless t LayerNotBelow (unless keys KeyOutside place)) l
         ∙ ap (λ (t : Bool). unless t KeyOutside place) s

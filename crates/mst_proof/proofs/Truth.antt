@@ -5,7 +5,7 @@ use Rattle.std.proofs.lemmas.List.{length-map}
 use Rattle.std.proofs.lemmas.List.Elements.{Contains-append_left, Contains-append_right}
 use Rattle.mst_key.specs.declared.format.Format.TheVariants.{One}
 use Rattle.mst_key.specs.Bytes.{IsBytes}
-use Rattle.mst_key.specs.Map.{Pair, IsMap, IsAscending, look}
+use Rattle.mst_key.specs.Map.{Pair, IsMap, IsAscending, map_get}
 use Rattle.mst_node.specs.Tree.{Tree, empty, node, tree, pairs, entries_pairs, nodes, nodes_below}
 use Rattle.mst_node.specs.Text.{FlatNode, spelling, text, digest}
 use Rattle.mst_node.specs.Gaps.{LiesBetween}
@@ -40,17 +40,17 @@ texts_bytes [] b = tt
 texts_bytes (t ∷ ts) b = let parts = bytes-split t (framed ts) b.1.1.1.1 in (parts.0, texts_bytes ts parts.1)
 
 -- texts that lead from a map's root to its answer
-map_leads : (d k : List ℕ) (t : Tree) → d ≡ digest t → IsSmall t → LiesBetween None None t → AllBytes (map text (nodes_met k t)) → Spells (map text (nodes_met k t)) (λ ns. LeadsFrom d k ns (look (pairs t) k))
+map_leads : (d k : List ℕ) (t : Tree) → d ≡ digest t → IsSmall t → LiesBetween None None t → AllBytes (map text (nodes_met k t)) → Spells (map text (nodes_met k t)) (λ ns. LeadsFrom d k ns (map_get (pairs t) k))
 map_leads d k empty root small lies b = record { nodes = []; flat = tt; texts = refl; leads = (root, refl) }
 map_leads d k (node f l es) root small lies b =
     let s = complete (suc l) k (first_expected d) (node f l es) (omega arith) small (record { digest = ap Some root; under = tt; lies = lies }) b in
     record { nodes = s.nodes; flat = s.flat; texts = s.texts; leads = some s.nodes s.leads }
   where
-    some : (ns : List FlatNode) → Leads k (first_expected d) ns (look (entries_pairs es) k) → LeadsFrom d k ns (look (entries_pairs es) k)
+    some : (ns : List FlatNode) → Leads k (first_expected d) ns (map_get (entries_pairs es) k) → LeadsFrom d k ns (map_get (entries_pairs es) k)
     some [] l = absurd l
     some (n ∷ ns) l = l
 
-pub proof_accepted : (m : List Pair) (d k proof : List ℕ) → IsBytes proof → HasRoot m d → proof ≡ proof_text One m k → Accepted d k proof (look m k)
+pub proof_accepted : (m : List Pair) (d k proof : List ℕ) → IsBytes proof → HasRoot m d → proof ≡ proof_text One m k → Accepted d k proof (map_get m k)
 proof_accepted m d k proof b has is =
     let t = tree One m in
     let ts = map text (nodes_met k t) in
@@ -63,8 +63,8 @@ proof_accepted m d k proof b has is =
       nodes = s.nodes;
       flat = s.flat;
       few = subst (λ (n : ℕ). n < 256) (ap length s.texts ∙ length-map s.nodes spelling) few;
-      frames = is ∙ ap (λ (us : List (List ℕ)). framing One us (look m k)) s.texts;
-      leads = subst (λ (p : List Pair). LeadsFrom d k s.nodes (look p k)) (pairs_tree One m) s.leads;
+      frames = is ∙ ap (λ (us : List (List ℕ)). framing One us (map_get m k)) s.texts;
+      leads = subst (λ (p : List Pair). LeadsFrom d k s.nodes (map_get p k)) (pairs_tree One m) s.leads;
     }
 
 -- ---- another answer
@@ -83,7 +83,7 @@ named_empty : (ts : List (List ℕ)) (t : Tree) → Contains (named ts t) []
 named_empty ts t = Contains-append_right ts (map text (nodes t) ++ [] ∷ []) [] (Contains-append_right (map text (nodes t)) ([] ∷ []) [] (has_first [] []))
 
 -- the answer is that of the tree, or the texts have a collision
-tree_answer : (t : Tree) (d k : List ℕ) (ns : List FlatNode) (a : Option (List ℕ)) → AllFlat ns → AllBytes (map spelling ns) → LeadsFrom d k ns a → IsSmall t → d ≡ digest t → (a ≡ look (pairs t) k) ⊎ HasCollision (named (map spelling ns) t)
+tree_answer : (t : Tree) (d k : List ℕ) (ns : List FlatNode) (a : Option (List ℕ)) → AllFlat ns → AllBytes (map spelling ns) → LeadsFrom d k ns a → IsSmall t → d ≡ digest t → (a ≡ map_get (pairs t) k) ⊎ HasCollision (named (map spelling ns) t)
 tree_answer empty d k [] a flats b l small root = inl l.1
 tree_answer (node f m es) d k [] a flats b l small root =
     let t = node f m es in
@@ -98,7 +98,7 @@ tree_answer (node f m es) d k (n ∷ ns) a flats b l small root =
       | inr c ↦ inr (c.one, text c.other, named_text (map spelling (n ∷ ns)) (node f m es) c.one c.one_in, named_node (map spelling (n ∷ ns)) (node f m es) c.other c.other_in, c.collision)
     ]
 
-pub other_answer : (m : List Pair) (d k proof : List ℕ) (a : Option (List ℕ)) → IsBytes proof → HasRoot m d → Accepted d k proof a → a ≢ look m k → HasCollision (texts_named proof (tree One m))
+pub other_answer : (m : List Pair) (d k proof : List ℕ) (a : Option (List ℕ)) → IsBytes proof → HasRoot m d → Accepted d k proof a → a ≢ map_get m k → HasCollision (texts_named proof (tree One m))
 other_answer m d k proof a b has acc other =
     let t = tree One m in
     let ts = map spelling acc.nodes in
@@ -106,6 +106,6 @@ other_answer m d k proof a b has acc other =
     let all : AllBytes ts = texts_bytes ts (bytes-split (framed ts) [] bytes.1.1).0 in
     let frame : texts_of proof ≡ ts = ap or_none (frame_accepted d k proof a acc) in
     elim (tree_answer t d k acc.nodes a acc.flat all acc.leads (small_tree m d has) has.root) [
-      | inl e ↦ absurd (other (e ∙ ap (λ (p : List Pair). look p k) (pairs_tree One m)))
+      | inl e ↦ absurd (other (e ∙ ap (λ (p : List Pair). map_get p k) (pairs_tree One m)))
       | inr c ↦ subst (λ (us : List (List ℕ)). HasCollision (named us t)) (sym frame) c
     ]

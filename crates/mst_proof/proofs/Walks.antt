@@ -11,7 +11,7 @@ use Rattle.std.proofs.lemmas.Slice.Eq.{bytes_eq-Decides}
 use Rattle.mst_key.specs.declared.format.Format.{Format}
 use Rattle.mst_key.specs.declared.format.Format.TheVariants.{One}
 use Rattle.mst_key.specs.Bytes.{IsBytes}
-use Rattle.mst_key.specs.Map.{Pair as KeyValue, IsMap, look}
+use Rattle.mst_key.specs.Map.{Pair as KeyValue, IsMap, map_get}
 use Rattle.mst_key.proofs.MapLaws.{IsMap-nil}
 use Rattle.mst_node.specs.declared.node.Node.{Node}
 use Rattle.mst_node.specs.Tree.{Tree, empty, node, pairs, nodes, nodes_below, tree, IsMst}
@@ -24,7 +24,7 @@ use Rattle.mst_proof.specs.declared.collision.Pair.{Pair}
 use Rattle.mst_proof.specs.declared.fault.ProofFault.{ProofFault}
 use Rattle.mst_proof.specs.declared.fault.ProofFault.TheVariants.{OtherDigest}
 use Rattle.mst_proof.specs.Frame.{◌>>◌, frame_at}
-use Rattle.mst_proof.specs.Verdict.{first_expected, judged, unless}
+use Rattle.mst_proof.specs.Verdict.{first_expected, judgement, unless}
 use Rattle.mst_proof.specs.Theorem.{or_none, texts_of, texts_named}
 use Rattle.mst_proof.specs.Beside.{gap_in, gap_tree, IsSmall, NoOther, ShowsNoOther, CollidesWith, CollidesAmong}
 use Rattle.mst_proof.proofs.Framed.{ok_same}
@@ -155,8 +155,8 @@ abbrev ok_texts : List (List ℕ) → Result (List (List ℕ)) ProofFault
 ok_texts ts = Ok ts
 
 -- a proof of these texts shows what they show
-shows_judged : (t : Tree) (k proof : List ℕ) (all : List (List ℕ)) → ok_texts all ≡ frame_at proof → ((a : Option (List ℕ)) → judged (digest t) k all ≡ Ok a → a ≡ look (pairs t) k) → ShowsNoOther t k proof
-shows_judged t k proof all frame h a e = h a (ap (λ (r : Result (List (List ℕ)) ProofFault). r >> judged (digest t) k) frame ∙ e)
+shows_judged : (t : Tree) (k proof : List ℕ) (all : List (List ℕ)) → ok_texts all ≡ frame_at proof → ((a : Option (List ℕ)) → judgement (digest t) k all ≡ Ok a → a ≡ map_get (pairs t) k) → ShowsNoOther t k proof
+shows_judged t k proof all frame h a e = h a (ap (λ (r : Result (List (List ℕ)) ProofFault). r >> judgement (digest t) k) frame ∙ e)
 
 shows_some : (t : Tree) (k proof : List ℕ) (all : List (List ℕ)) → ok_texts all ≡ frame_at proof → (length all ≡ 0 → ⊥) → NoOther t k all → ShowsNoOther t k proof
 shows_some t k proof [] frame some next = absurd (some refl)

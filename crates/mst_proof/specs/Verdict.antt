@@ -56,9 +56,9 @@ step_of l (Gap None span) = Decided None
 step_of l (Gap (Some d) span) = Onward (record { digest = d; upper = Some l; span = span })
 
 -- the tests of a text that spells this node, if it spells one
-abbrev pub tested : List ℕ → Expected → List ℕ → Option FlatNode → Result Step ProofFault
-tested k x text None = Err NoNode
-tested k x text (Some n) =
+abbrev pub step_in_node : List ℕ → Expected → List ℕ → Option FlatNode → Result Step ProofFault
+step_in_node k x text None = Err NoNode
+step_in_node k x text (Some n) =
     unless (bytes_eq (digest_of text) x.digest) OtherDigest (
     unless (is_under x.upper n.layer) LayerNotBelow (
     unless (list_all (λ e. is_inside x.span e.key) n.entries) KeyOutside (
@@ -66,7 +66,7 @@ tested k x text (Some n) =
 
 -- what a text says of the key, or the first test that it fails
 unfoldable pub step_at : List ℕ → Expected → List ℕ → Result Step ProofFault
-step_at k x text = tested k x text (node_in text)
+step_at k x text = step_in_node k x text (node_in text)
 
 -- ---- the texts of a proof
 
@@ -75,9 +75,9 @@ abbrev pub first_expected : List ℕ → Expected
 first_expected root = record { digest = root; upper = None; span = record { low = None; high = None } }
 
 -- an answer that ends the proof
-abbrev pub ended : List (List ℕ) → Option (List ℕ) → Result (Option (List ℕ)) ProofFault
-ended [] answer = Ok answer
-ended (t ∷ ts) answer = Err TextBehind
+abbrev pub answer_at_end : List (List ℕ) → Option (List ℕ) → Result (Option (List ℕ)) ProofFault
+answer_at_end [] answer = Ok answer
+answer_at_end (t ∷ ts) answer = Err TextBehind
 
 abbrev pub by_step : {A : Type 0} → Step → (Option (List ℕ) → A) → (Expected → A) → A
 by_step (Decided answer) decided onward = decided answer
@@ -86,13 +86,13 @@ by_step (Onward x) decided onward = onward x
 -- the texts, followed from one to the next
 abbrev pub followed : List ℕ → Expected → List (List ℕ) → Result (Option (List ℕ)) ProofFault
 followed k x [] = Err Unfinished
-followed k x (t ∷ ts) = step_at k x t >> λ s. by_step s (ended ts) (λ next. followed k next ts)
+followed k x (t ∷ ts) = step_at k x t >> λ s. by_step s (answer_at_end ts) (λ next. followed k next ts)
 
 -- no texts are the proof of the empty map
-abbrev pub judged : List ℕ → List ℕ → List (List ℕ) → Result (Option (List ℕ)) ProofFault
-judged root k [] = unless (bytes_eq root (digest_of [])) OtherDigest (Ok None)
-judged root k (t ∷ ts) = followed k (first_expected root) (t ∷ ts)
+abbrev pub judgement : List ℕ → List ℕ → List (List ℕ) → Result (Option (List ℕ)) ProofFault
+judgement root k [] = unless (bytes_eq root (digest_of [])) OtherDigest (Ok None)
+judgement root k (t ∷ ts) = followed k (first_expected root) (t ∷ ts)
 
 -- the answer of a proof for a root digest and a key, or the first test that it fails
 abbrev pub verdict : List ℕ → List ℕ → List ℕ → Result (Option (List ℕ)) ProofFault
-verdict root k proof = frame_at proof >> judged root k
+verdict root k proof = frame_at proof >> judgement root k

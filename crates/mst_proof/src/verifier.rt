@@ -1,7 +1,7 @@
 //! The verifier.
 ghost use Rattle.std.specs.Prelude.{◌≡◌, ◌≢◌, ◌↔◌, List, ℕ, Option};
 ghost use Rattle.mst_key.specs.declared.format.Format.TheVariants.{One};
-ghost use Rattle.mst_key.specs.Map.{Pair, look};
+ghost use Rattle.mst_key.specs.Map.{Pair, map_get};
 ghost use Rattle.mst_node.specs.Collision.{HasCollision};
 ghost use Rattle.mst_node.specs.Trail.{proof_text};
 ghost use Rattle.mst_node.specs.Tree.{tree};
@@ -52,9 +52,9 @@ pub fn verify(root: &[u8; 32], key: &Key, proof: &[u8]) -> Result<Option<Value>,
     // An answer comes exactly where the proof is accepted with it.
     ensures accepted { (answer : Option (List ℕ)) → (result ≡ Ok answer) ↔ Accepted root.now key.now proof.now answer }
     // The proof that a map gives shows the map's answer.
-    ensures complete { (m : List Pair) → HasRoot m root.now → proof.now ≡ proof_text One m key.now → result ≡ Ok (look m key.now) }
+    ensures complete { (m : List Pair) → HasRoot m root.now → proof.now ≡ proof_text One m key.now → result ≡ Ok (map_get m key.now) }
     // Where a proof shows another answer for a map's root, two different texts have one SHA-256: two of those of the proof, those of the nodes of the map's tree, and the empty text.
-    ensures sound { (m : List Pair) (answer : Option (List ℕ)) → HasRoot m root.now → result ≡ Ok answer → answer ≢ look m key.now → HasCollision (texts_named proof.now (tree One m)) }
+    ensures sound { (m : List Pair) (answer : Option (List ℕ)) → HasRoot m root.now → result ≡ Ok answer → answer ≢ map_get m key.now → HasCollision (texts_named proof.now (tree One m)) }
 {
     judge(root, key, proof)
 }

@@ -7,7 +7,7 @@ use Rattle.std.proofs.lemmas.List.Elements.{filter-append}
 use Rattle.std.specs.List.{AllByRecursion}
 use Rattle.std.specs.declared.cmp.Ordering.{Ordering}
 use Rattle.std.specs.declared.cmp.Ordering.TheVariants.{Less}
-use Rattle.mst_key.specs.Map.{Pair, key_cmp, AllBelow, AllAbove, above, below, from_on, span}
+use Rattle.mst_key.specs.Map.{Pair, key_cmp, AllBelow, AllAbove, above, below, from_on, map_range}
 use Rattle.mst_key.proofs.Alls.{alls-weaker, filter-nothing}
 use Rattle.mst_key.proofs.KeyOrder.{by_order, less_chain, greater_from_less}
 use Rattle.mst_read.specs.Span.{within, filled}
@@ -82,7 +82,7 @@ module _ (from to : Option (List ℕ)) (limit : ℕ) where
       go (suc n) some = ap (λ (l : List Pair). found ++ p ∷ l) (take-nothing n)
 
   -- a range is what is gathered from nothing
-  pub filled-span : (m : List Pair) → filled from to limit [] m ≡ span m from to limit
+  pub filled-span : (m : List Pair) → filled from to limit [] m ≡ map_range m from to limit
   unfolding filled
   filled-span m = let all : limit - 0 ≡ limit = omega arith in ap (λ (n : ℕ). take n (filter (within from to) m)) all
 

@@ -3,10 +3,10 @@ use Rattle.std.proofs.Common.{◌≡◌, ℕ, List, ◌∷◌, ◌++◌, Option,
 use Rattle.std.specs.declared.cmp.Ordering.{Ordering}
 use Rattle.std.specs.declared.cmp.Ordering.TheVariants.{Less, Equal, Greater}
 use Rattle.mst_key.specs.declared.format.Format.{Format}
-use Rattle.mst_key.specs.Map.{Pair, key_cmp, IsAscending, AllBelow, look}
+use Rattle.mst_key.specs.Map.{Pair, key_cmp, IsAscending, AllBelow, map_get}
 use Rattle.mst_key.proofs.KeyOrder.{same_from_equal, less_from_greater, other_from_less}
-use Rattle.mst_key.proofs.MapLaws.{look-here, look-past, AllAbove-less, AllBelow-less}
-use Rattle.mst_key.proofs.Splits.{look-left, look-right, IsAscending-front, IsAscending-back, IsAscending-below, IsAscending-above}
+use Rattle.mst_key.proofs.MapLaws.{map_get-here, map_get-past, AllAbove-less, AllBelow-less}
+use Rattle.mst_key.proofs.Splits.{map_get-left, map_get-right, IsAscending-front, IsAscending-back, IsAscending-below, IsAscending-above}
 use Rattle.mst_node.specs.Tree.{pairs, entries_pairs, IsMstEntries, IsUnder}
 use Rattle.mst_arena.specs.Content.{Content, part_at}
 use Rattle.mst_arena.specs.Row.{entry_value}
@@ -21,26 +21,26 @@ use Rattle.mst_read.proofs.Descend.{Ahead}
 
 -- a list round a pair of its own, looked at for a key below the pair's, for that key, and for one above it
 
-look-before : (front back : List Pair) (k key v : List ℕ) → IsAscending (front ++ (key, v) ∷ back) → key_cmp k key ≡ Less → look front k ≡ look (front ++ (key, v) ∷ back) k
-look-before front back k key v rise less =
-    sym (look-left front ((key, v) ∷ back) k (less, AllAbove-less back k key less (IsAscending-above front back (key, v) rise)))
+map_get-before : (front back : List Pair) (k key v : List ℕ) → IsAscending (front ++ (key, v) ∷ back) → key_cmp k key ≡ Less → map_get front k ≡ map_get (front ++ (key, v) ∷ back) k
+map_get-before front back k key v rise less =
+    sym (map_get-left front ((key, v) ∷ back) k (less, AllAbove-less back k key less (IsAscending-above front back (key, v) rise)))
 
-look-there : (front back : List Pair) (k key v : List ℕ) → IsAscending (front ++ (key, v) ∷ back) → key_cmp k key ≡ Equal → Some v ≡ look (front ++ (key, v) ∷ back) k
-look-there front back k key v rise equal =
+map_get-there : (front back : List Pair) (k key v : List ℕ) → IsAscending (front ++ (key, v) ∷ back) → key_cmp k key ≡ Equal → Some v ≡ map_get (front ++ (key, v) ∷ back) k
+map_get-there front back k key v rise equal =
     let same : k ≡ key = same_from_equal k key equal in
     let below : AllBelow front k = subst (AllBelow front) (sym same) (IsAscending-below front back (key, v) rise) in
-    sym (look-right front ((key, v) ∷ back) k below ∙ look-here (key, v) back k (sym same))
+    sym (map_get-right front ((key, v) ∷ back) k below ∙ map_get-here (key, v) back k (sym same))
 
-look-behind : (front back : List Pair) (k key v : List ℕ) → IsAscending (front ++ (key, v) ∷ back) → key_cmp k key ≡ Greater → look back k ≡ look (front ++ (key, v) ∷ back) k
-look-behind front back k key v rise greater =
+map_get-behind : (front back : List Pair) (k key v : List ℕ) → IsAscending (front ++ (key, v) ∷ back) → key_cmp k key ≡ Greater → map_get back k ≡ map_get (front ++ (key, v) ∷ back) k
+map_get-behind front back k key v rise greater =
     let less : key_cmp key k ≡ Less = less_from_greater k key greater in
     let below : AllBelow front k = AllBelow-less front key k (IsAscending-below front back (key, v) rise) less in
-    sym (look-right front ((key, v) ∷ back) k below ∙ look-past (key, v) back k (other_from_less key k less))
+    sym (map_get-right front ((key, v) ∷ back) k below ∙ map_get-past (key, v) back k (other_from_less key k less))
 
 module _ (format : Format) (content : Content) (k : List ℕ) where
   -- the tree in a gap, under the layer, in which the search goes on
   pub record InGap (l link : ℕ) (m : List Pair) : Type 0 where
-    pub ahead : Ahead format content link (λ ps. look ps k ≡ look m k)
+    pub ahead : Ahead format content link (λ ps. map_get ps k ≡ map_get m k)
     pub under : IsUnder l (tree_of format ahead.placed)
 
   pub gap : (l link : ℕ) (c : Chain) → HasRows content (chain_rows format c) → IsMstEntries format l (entries_of format c) → IsAscending (entries_pairs (entries_of format c)) → place k c ≡ Gap link → InGap l link (entries_pairs (entries_of format c))
@@ -62,7 +62,7 @@ module _ (format : Format) (content : Content) (k : List ℕ) where
           let here : link_of p ≡ link = cc in
           let lies : Lies format content link p = record { at = here; rows = all-front _ (rows_of format p) (chain_rows format c) rows.1 } in
           record {
-            ahead = record { placed = p; lies = lies; mst = mst.1; rise = IsAscending-front front ((key, v) ∷ back) rise; holds = look-before front back k key v rise e };
+            ahead = record { placed = p; lies = lies; mst = mst.1; rise = IsAscending-front front ((key, v) ∷ back) rise; holds = map_get-before front back k key v rise e };
             under = mst.0;
           }
       go Equal e is further = let no : Held at ≡ Gap link = is in cc
@@ -70,12 +70,12 @@ module _ (format : Format) (content : Content) (k : List ℕ) where
           let r = further is in
           let a = r.ahead in
           record {
-            ahead = record { placed = a.placed; lies = a.lies; mst = a.mst; rise = a.rise; holds = a.holds ∙ look-behind front back k key v rise e };
+            ahead = record { placed = a.placed; lies = a.lies; mst = a.mst; rise = a.rise; holds = a.holds ∙ map_get-behind front back k key v rise e };
             under = r.under;
           }
 
   -- the row that has the key has its value
-  pub held : (row : ℕ) (c : Chain) → HasRows content (chain_rows format c) → IsAscending (entries_pairs (entries_of format c)) → place k c ≡ Held row → part_at entry_value content row ≡ look (entries_pairs (entries_of format c)) k
+  pub held : (row : ℕ) (c : Chain) → HasRows content (chain_rows format c) → IsAscending (entries_pairs (entries_of format c)) → place k c ≡ Held row → part_at entry_value content row ≡ map_get (entries_pairs (entries_of format c)) k
   held row (end p) rows rise is = let no : Gap (link_of p) ≡ Held row = is in cc
   held row (cell at p key v c) rows rise is =
       go (key_cmp k key) refl is (held row c (all-back _ (rows_of format p) (chain_rows format c) rows.1) (IsAscending-back front ((key, v) ∷ back) rise).1)
@@ -86,14 +86,14 @@ module _ (format : Format) (content : Content) (k : List ℕ) where
       back : List Pair
       back = entries_pairs (entries_of format c)
 
-      go : (o : Ordering) → key_cmp k key ≡ o → by_order o (Gap (link_of p)) (Held at) (place k c) ≡ Held row → (place k c ≡ Held row → part_at entry_value content row ≡ look back k) → part_at entry_value content row ≡ look (front ++ (key, v) ∷ back) k
+      go : (o : Ordering) → key_cmp k key ≡ o → by_order o (Gap (link_of p)) (Held at) (place k c) ≡ Held row → (place k c ≡ Held row → part_at entry_value content row ≡ map_get back k) → part_at entry_value content row ≡ map_get (front ++ (key, v) ∷ back) k
       go Less e is further = let no : Gap (link_of p) ≡ Held row = is in cc
       go Equal e is further =
           let same : at ≡ row = cc in
           let there : content row ≡ Some (Entry (link_of p) (first_of c) key v) = ap content (sym same) ∙ rows.0 in
           let value : part_at entry_value content row ≡ Some v = rw there in
-          value ∙ look-there front back k key v rise e
-      go Greater e is further = further is ∙ look-behind front back k key v rise e
+          value ∙ map_get-there front back k key v rise e
+      go Greater e is further = further is ∙ map_get-behind front back k key v rise e
 
   pub held_there : (row : ℕ) (c : Chain) → HasRows content (chain_rows format c) → place k c ≡ Held row → IsSome (part_at entry_value content row)
   held_there row (end p) rows is = let no : Gap (link_of p) ≡ Held row = is in cc

@@ -5,7 +5,7 @@ use Rattle.std.specs.declared.cmp.Ordering.TheVariants.{Less}
 use Rattle.std.proofs.lemmas.Bool.{cond-true, cond-false}
 use Rattle.std.proofs.lemmas.List.Folds.{find-append}
 use Rattle.mst_key.specs.declared.format.Format.{Format}
-use Rattle.mst_key.specs.Map.{Pair, key_cmp, IsAscending, AllBelow, above, successor}
+use Rattle.mst_key.specs.Map.{Pair, key_cmp, IsAscending, AllBelow, above, map_next}
 use Rattle.mst_key.proofs.KeyOrder.{by_order, less_chain, greater_from_less}
 use Rattle.mst_key.proofs.Splits.{IsAscending-front, IsAscending-back, IsAscending-below}
 use Rattle.mst_node.specs.Tree.{pairs, entries_pairs, IsMstEntries, IsUnder}
@@ -27,23 +27,23 @@ below_not_above (Some b) k key less not = by_order {G = is_gt (key_cmp k b) ≡ 
     (λ same. ap is_gt (subst (λ (x : List ℕ). key_cmp k x ≡ Less) same less))
     (λ more. absurd (true≢false (sym (ap is_gt (greater_from_less b key more)) ∙ not)))
 
-none_above : (bound : Option (List ℕ)) (m : List Pair) (key : List ℕ) → AllBelow m key → above bound key ≡ false → successor m bound ≡ None
+none_above : (bound : Option (List ℕ)) (m : List Pair) (key : List ℕ) → AllBelow m key → above bound key ≡ false → map_next m bound ≡ None
 none_above bound [] key below not = refl
 none_above bound (p ∷ m) key below not =
-    cond-false (above bound p.0) (Some p) (successor m bound) (below_not_above bound p.0 key below.0 not) ∙ none_above bound m key below.1 not
+    cond-false (above bound p.0) (Some p) (map_next m bound) (below_not_above bound p.0 key below.0 not) ∙ none_above bound m key below.1 not
 
 -- a list round a pair whose key is not above the bound, and round one whose key is
 
-skipped : (bound : Option (List ℕ)) (front back : List Pair) (key v : List ℕ) → IsAscending (front ++ (key, v) ∷ back) → above bound key ≡ false → successor back bound ≡ successor (front ++ (key, v) ∷ back) bound
+skipped : (bound : Option (List ℕ)) (front back : List Pair) (key v : List ℕ) → IsAscending (front ++ (key, v) ∷ back) → above bound key ≡ false → map_next back bound ≡ map_next (front ++ (key, v) ∷ back) bound
 skipped bound front back key v rise not =
     sym (find-append (λ p. above bound p.0) front ((key, v) ∷ back)
-    ∙ ap (λ (o : Option Pair). option_or o (successor ((key, v) ∷ back) bound)) (none_above bound front key (IsAscending-below front back (key, v) rise) not)
-    ∙ cond-false (above bound key) (Some (key, v)) (successor back bound) not)
+    ∙ ap (λ (o : Option Pair). option_or o (map_next ((key, v) ∷ back) bound)) (none_above bound front key (IsAscending-below front back (key, v) rise) not)
+    ∙ cond-false (above bound key) (Some (key, v)) (map_next back bound) not)
 
-met : (bound : Option (List ℕ)) (front back : List Pair) (key v : List ℕ) → above bound key ≡ true → option_or (successor front bound) (Some (key, v)) ≡ successor (front ++ (key, v) ∷ back) bound
+met : (bound : Option (List ℕ)) (front back : List Pair) (key v : List ℕ) → above bound key ≡ true → option_or (map_next front bound) (Some (key, v)) ≡ map_next (front ++ (key, v) ∷ back) bound
 met bound front back key v is =
     sym (find-append (λ p. above bound p.0) front ((key, v) ∷ back)
-    ∙ ap (λ (o : Option Pair). option_or (successor front bound) o) (cond-true (above bound key) (Some (key, v)) (successor back bound) is))
+    ∙ ap (λ (o : Option Pair). option_or (map_next front bound) o) (cond-true (above bound key) (Some (key, v)) (map_next back bound) is))
 
 -- the pair of an entry, by its row and its key
 abbrev pub pair_at : Content → Option (ℕ × List ℕ) → Option Pair
@@ -57,14 +57,14 @@ HasValue content (Some e) = IsSome (part_at entry_value content e.0)
 module _ (format : Format) (content : Content) (bound : Option (List ℕ)) where
   -- the tree in the last gap, where no key of the node is above the bound
   pub record InTail (l link : ℕ) (m : List Pair) : Type 0 where
-    pub ahead : Ahead format content link (λ ps. successor ps bound ≡ successor m bound)
+    pub ahead : Ahead format content link (λ ps. map_next ps bound ≡ map_next m bound)
     pub under : IsUnder l (tree_of format ahead.placed)
 
   -- the tree in the gap before the first entry whose key is
   pub record BeforeEntry (l row : ℕ) (e : EntryLinks) (m : List Pair) : Type 0 where
     pub value : List ℕ
     pub there : part_at entry_value content row ≡ Some value
-    pub ahead : Ahead format content e.child (λ ps. option_or (successor ps bound) (Some (e.key, value)) ≡ successor m bound)
+    pub ahead : Ahead format content e.child (λ ps. option_or (map_next ps bound) (Some (e.key, value)) ≡ map_next m bound)
     pub under : IsUnder l (tree_of format ahead.placed)
 
   in_tail_of : (l : ℕ) (c : Chain) → HasRows content (chain_rows format c) → IsMstEntries format l (entries_of format c) → IsAscending (entries_pairs (entries_of format c)) → entry_above bound c ≡ None → InTail l (tail_of c) (entries_pairs (entries_of format c))
@@ -114,7 +114,7 @@ module _ (format : Format) (content : Content) (bound : Option (List ℕ)) where
           let same : at ≡ row = ap (λ (x : ℕ × EntryLinks). x.0) both in
           let fields : links ≡ e = ap (λ (x : ℕ × EntryLinks). x.1) both in
           let there : content row ≡ Some (Entry (link_of p) (first_of c) key v) = ap content (sym same) ∙ rows.0 in
-          let holds : option_or (successor front bound) (Some (key, v)) ≡ successor (front ++ (key, v) ∷ back) bound = met bound front back key v t in
+          let holds : option_or (map_next front bound) (Some (key, v)) ≡ map_next (front ++ (key, v) ∷ back) bound = met bound front back key v t in
           record {
             value = v;
             there = rw there;
@@ -123,7 +123,7 @@ module _ (format : Format) (content : Content) (bound : Option (List ℕ)) where
               lies = record { at = ap (λ (x : EntryLinks). x.child) fields; rows = all-front _ (rows_of format p) (chain_rows format c) rows.1 };
               mst = mst.1;
               rise = IsAscending-front front ((key, v) ∷ back) rise;
-              holds = subst (λ (x : EntryLinks). option_or (successor front bound) (Some (x.key, v)) ≡ successor (front ++ (key, v) ∷ back) bound) fields holds;
+              holds = subst (λ (x : EntryLinks). option_or (map_next front bound) (Some (x.key, v)) ≡ map_next (front ++ (key, v) ∷ back) bound) fields holds;
             };
             under = mst.0;
           }
@@ -139,27 +139,27 @@ module _ (format : Format) (content : Content) (bound : Option (List ℕ)) where
 
   -- the least key above the bound is in the tree under the search, or else it is that of the entry to the right
   abbrev pub Answers : Option (ℕ × List ℕ) → List Pair → List Pair → Type 0
-  Answers right m ps = option_or (successor ps bound) (pair_at content right) ≡ successor m bound
+  Answers right m ps = option_or (map_next ps bound) (pair_at content right) ≡ map_next m bound
 
   or_none : (x : Option Pair) → option_or x None ≡ x
   or_none None = refl
   or_none (Some x) = refl
 
   pub at_start : (m ps : List Pair) → ps ≡ m → Answers None m ps
-  at_start m ps e = or_none (successor ps bound) ∙ ap (λ (l : List Pair). successor l bound) e
+  at_start m ps e = or_none (map_next ps bound) ∙ ap (λ (l : List Pair). map_next l bound) e
 
   -- the pairs of a tree have the answer that those of the node have
-  pub on_tail : (right : Option (ℕ × List ℕ)) (m node ps : List Pair) → Answers right m node → successor ps bound ≡ successor node bound → Answers right m ps
+  pub on_tail : (right : Option (ℕ × List ℕ)) (m node ps : List Pair) → Answers right m node → map_next ps bound ≡ map_next node bound → Answers right m ps
   on_tail right m node ps holds e = ap (λ (o : Option Pair). option_or o (pair_at content right)) e ∙ holds
 
   or_some : (x : Option Pair) (y : Pair) (w : Option Pair) → option_or (option_or x (Some y)) w ≡ option_or x (Some y)
   or_some None y w = refl
   or_some (Some x) y w = refl
 
-  pub on_entry : (right : Option (ℕ × List ℕ)) (m node : List Pair) (row : ℕ) (key v : List ℕ) → part_at entry_value content row ≡ Some v → (ps : List Pair) → Answers right m node → option_or (successor ps bound) (Some (key, v)) ≡ successor node bound → Answers (Some (row, key)) m ps
+  pub on_entry : (right : Option (ℕ × List ℕ)) (m node : List Pair) (row : ℕ) (key v : List ℕ) → part_at entry_value content row ≡ Some v → (ps : List Pair) → Answers right m node → option_or (map_next ps bound) (Some (key, v)) ≡ map_next node bound → Answers (Some (row, key)) m ps
   on_entry right m node row key v there ps holds e =
       let pair : pair_at content (Some (row, key)) ≡ Some (key, v) = ap (option_and_then (λ (x : List ℕ). Some (key, x))) there in
-      ap (option_or (successor ps bound)) pair
-      ∙ sym (or_some (successor ps bound) (key, v) (pair_at content right))
+      ap (option_or (map_next ps bound)) pair
+      ∙ sym (or_some (map_next ps bound) (key, v) (pair_at content right))
       ∙ ap (λ (o : Option Pair). option_or o (pair_at content right)) e
       ∙ holds

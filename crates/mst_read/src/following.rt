@@ -2,7 +2,7 @@
 ghost use Rattle.std.specs.Prelude.{◌≡◌, List};
 ghost use Rattle.std.specs.Option.{option_copied};
 ghost use Rattle.mst_key.specs.declared.format.Format.{Format};
-ghost use Rattle.mst_key.specs.Map.{Pair, above, successor};
+ghost use Rattle.mst_key.specs.Map.{Pair, above, map_next};
 ghost use Rattle.mst_arena.specs.Standing.{Chain, Stands};
 ghost use Rattle.mst_read.specs.Search.{ChainLies, LiesBehind, LinkStands, MapStands, StandsBelow, entry_above};
 
@@ -49,7 +49,7 @@ fn first_above<R: Rows>(
 pub fn next_below<R: Rows>(rows: &mut R, link: u32, after: Option<&Key>) -> Option<(Key, Value)>
     requires stands { LinkStands (R.content rows.old) link }
     ensures found { (f : Format) (m : List Pair) → StandsBelow f (R.content rows.old) link m
-        → result ≡ successor m (option_copied after.entry) }
+        → result ≡ map_next m (option_copied after.entry) }
     ensures same { rows.new ≡ rows.old }
 {
     // the pair of the answer, if the tree at hand has none: that of the entry right of its gap
@@ -72,7 +72,7 @@ pub fn next_below<R: Rows>(rows: &mut R, link: u32, after: Option<&Key>) -> Opti
 pub fn next<R: Rows>(rows: &mut R, root: &Root, after: Option<&Key>) -> Option<(Key, Value)>
     requires stands { MapStands (R.content rows.old) root.now }
     ensures found { (f : Format) (m : List Pair) → Stands f (R.content rows.old) root.now m
-        → result ≡ successor m (option_copied after.entry) }
+        → result ≡ map_next m (option_copied after.entry) }
     ensures same { rows.new ≡ rows.old }
 {
     next_below(rows, root.link, after)

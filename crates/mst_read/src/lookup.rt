@@ -1,7 +1,7 @@
 //! The value of a key.
 ghost use Rattle.std.specs.Prelude.{◌≡◌, List};
 ghost use Rattle.mst_key.specs.declared.format.Format.{Format};
-ghost use Rattle.mst_key.specs.Map.{Pair, look};
+ghost use Rattle.mst_key.specs.Map.{Pair, map_get};
 ghost use Rattle.mst_arena.specs.Standing.{Chain, Stands};
 ghost use Rattle.mst_read.specs.Search.{ChainLies, LiesBehind, LinkStands, MapStands, StandsBelow, place};
 
@@ -43,7 +43,7 @@ pub fn seek<R: Rows>(rows: &mut R, head: &HeadLinks, key: &Sought) -> Place
 pub fn get_below<R: Rows>(rows: &mut R, link: u32, key: &Key) -> Option<Value>
     requires stands { LinkStands (R.content rows.old) link }
     ensures found { (f : Format) (m : List Pair) → StandsBelow f (R.content rows.old) link m
-        → result ≡ look m key.now }
+        → result ≡ map_get m key.now }
     ensures same { rows.new ≡ rows.old }
 {
     let sought = Sought::new(key);
@@ -61,7 +61,7 @@ pub fn get_below<R: Rows>(rows: &mut R, link: u32, key: &Key) -> Option<Value>
 pub fn get<R: Rows>(rows: &mut R, root: &Root, key: &Key) -> Option<Value>
     requires stands { MapStands (R.content rows.old) root.now }
     ensures found { (f : Format) (m : List Pair) → Stands f (R.content rows.old) root.now m
-        → result ≡ look m key.now }
+        → result ≡ map_get m key.now }
     ensures same { rows.new ≡ rows.old }
 {
     get_below(rows, root.link, key)

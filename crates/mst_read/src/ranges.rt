@@ -2,7 +2,7 @@
 ghost use Rattle.std.specs.Prelude.{◌≡◌, ◌≤◌, ◌⊎◌, if◌then◌else◌, false, List, ℕ, None, Some, [], ◌∷◌, length, OnOk, IfOk, IsSome};
 ghost use Rattle.std.specs.Option.{option_copied};
 ghost use Rattle.mst_key.specs.declared.format.Format.{Format};
-ghost use Rattle.mst_key.specs.Map.{Pair, above, below, from_on, span};
+ghost use Rattle.mst_key.specs.Map.{Pair, above, below, from_on, map_range};
 ghost use Rattle.mst_node.specs.Tree.{pairs};
 ghost use Rattle.mst_arena.specs.Content.{part_at};
 ghost use Rattle.mst_arena.specs.Row.{entry_value};
@@ -121,7 +121,7 @@ pub fn range_below<R: Rows, A: Allocator>(
 ) -> Result<Vec<(Key, Value), A>, Memory>
     requires stands { LinkStands (R.content rows.old) link }
     ensures found { (f : Format) (m : List Pair) → StandsBelow f (R.content rows.old) link m
-        → IfOk result (λ found. found.items ≡ span m (option_copied from.entry) (option_copied to.entry) limit) }
+        → IfOk result (λ found. found.items ≡ map_range m (option_copied from.entry) (option_copied to.entry) limit) }
     ensures same { rows.new ≡ rows.old }
 {
     let mut found = Vec::new(alloc);
@@ -146,7 +146,7 @@ pub fn range<R: Rows, A: Allocator>(
 ) -> Result<Vec<(Key, Value), A>, Memory>
     requires stands { MapStands (R.content rows.old) root.now }
     ensures found { (f : Format) (m : List Pair) → Stands f (R.content rows.old) root.now m
-        → IfOk result (λ found. found.items ≡ span m (option_copied from.entry) (option_copied to.entry) limit) }
+        → IfOk result (λ found. found.items ≡ map_range m (option_copied from.entry) (option_copied to.entry) limit) }
     ensures same { rows.new ≡ rows.old }
 {
     range_below(alloc, rows, root.link, from, to, limit)

@@ -34,8 +34,8 @@ pub not_both : (b : Bool) → b ≡ true → b ≡ false → ⊥
 not_both b t f = let e : true ≡ false = sym t ∙ f in cc
 
 -- it is nothing, or begins with a row of the set
-abbrev pub Begins : ℕ → ℕ → ℕ → List ℕ → Type 0
-Begins a n s xs = (xs ≡ []) ⊎ ((j : ℕ) × (a ≤ j) × (j < a + n) × ((more : List ℕ) × IsRest more × (xs ≡ 44 ∷ (decimal j ++ more))))
+abbrev pub IsPrefix : ℕ → ℕ → ℕ → List ℕ → Type 0
+IsPrefix a n s xs = (xs ≡ []) ⊎ ((j : ℕ) × (a ≤ j) × (j < a + n) × ((more : List ℕ) × IsRest more × (xs ≡ 44 ∷ (decimal j ++ more))))
 
 is_rest : (a n s : ℕ) → IsRest (part a n s)
 is_rest a zero s = tt
@@ -45,7 +45,7 @@ is_rest a (suc n) s = ⊎_elim (λ (has : row_set s a ≡ true). subst IsRest (s
 pub part_is_rest : (a n s : ℕ) → IsRest (part a n s)
 part_is_rest = is_rest
 
-pub begins : (a n s : ℕ) → Begins a n s (part a n s)
+pub begins : (a n s : ℕ) → IsPrefix a n s (part a n s)
 begins a zero s = inl refl
 begins a (suc n) s = ⊎_elim (λ (has : row_set s a ≡ true). inr (a, omega arith, omega arith, (part (a + 1) n s, is_rest (a + 1) n s, part_has a n s has)))
     (λ (not : row_set s a ≡ false). ⊎_elim (λ (none : part (a + 1) n s ≡ []). inl (part_skips a n s not ∙ none))

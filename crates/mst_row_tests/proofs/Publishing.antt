@@ -8,7 +8,7 @@ use Rattle.std.proofs.lemmas.Option.{slice_get-map, slice_get_within}
 use Rattle.mst_key.specs.Map.{Pair}
 use Rattle.mst_key.specs.declared.format.Format.TheVariants.{One}
 use Rattle.mst_arena.specs.Content.{listed}
-use Rattle.mst_arena.specs.Lives.{State, version, next, last_version, swept}
+use Rattle.mst_arena.specs.Lives.{State, version, next, last_version, swept_life}
 use Rattle.mst_arena.specs.Lists.{times}
 use Rattle.mst_arena.specs.Standing.{Stands, numbers}
 use Rattle.mst_arena.specs.declared.life.Life.{Life}
@@ -79,20 +79,20 @@ changes_taken s s1 rows moves = record {
 -- ---- and is published
 
 module _ (s s1 s2 : State) (after : List ℕ) (change : Changes s s1 after) (is : IsPublished s1 s2) where
-  life_after : (r : ℕ) → slice_get s2.lives r ≡ option_map (swept is.live) (slice_get s1.lives r)
-  life_after r = ap (λ (l : List Life). slice_get l r) is.lives ∙ slice_get-map (swept is.live) s1.lives r
+  life_after : (r : ℕ) → slice_get s2.lives r ≡ option_map (swept_life is.live) (slice_get s1.lives r)
+  life_after r = ap (λ (l : List Life). slice_get l r) is.lives ∙ slice_get-map (swept_life is.live) s1.lives r
 
   pub old_after : AreOld s2 after
   old_after r i =
       let young = change.young r i in
       let v : next s1 ≡ next s = omega (arith, ap (λ (l : List ℕ). slice_index l s1.current) change.versions.1, ap (λ (c : ℕ). slice_index s.versions c) change.versions.0) in
-      (young.0, life_after r ∙ ap (option_map (swept is.live)) young.1, omega (arith, young.2, is.version, v))
+      (young.0, life_after r ∙ ap (option_map (swept_life is.live)) young.1, omega (arith, young.2, is.version, v))
 
   pub within_after : (rows : ℕ) → AreWithin s rows → AreWithin s2 rows
   within_after rows within r life has =
       by_get (slice_get s1.lives r) _
       (λ x e. let was = change.there r x e in within r was.0 was.1)
-      (λ none. absurd (let no = life_after r ∙ ap (option_map (swept is.live)) none in cc))
+      (λ none. absurd (let no = life_after r ∙ ap (option_map (swept_life is.live)) none in cc))
 
 pub ready_after : (places places1 : List (Option Row)) (s s1 s2 : State) (at : Root) (m : List Pair) (stands : Stands One (listed places1) at m) → Changes s s1 (numbers stands) → IsPublished s1 s2 → AreWithin s (length places) → ◌≡◌ {A = ℕ → Bool} (λ r. nat_lt r (length places1)) (λ r. nat_lt r (length places)) → IsReady places1 s2 at
 ready_after places places1 s s1 s2 at m stands change is within blank = record {
@@ -102,13 +102,13 @@ ready_after places places1 s s1 s2 at m stands change is within blank = record {
   current = is.current;
 }
 
-pub published : (s s1 s2 : State) (other : ℕ) (live : List ℕ) → s1 ≡ record s { current = other; versions = slice_set s.versions other (next s) } → s2 ≡ record s1 { lives = map (swept live) s1.lives } → length s.versions ≡ 2 → other < 2 → IsPublished s s2
+pub published : (s s1 s2 : State) (other : ℕ) (live : List ℕ) → s1 ≡ record s { current = other; versions = slice_set s.versions other (next s) } → s2 ≡ record s1 { lives = map (swept_life live) s1.lives } → length s.versions ≡ 2 → other < 2 → IsPublished s s2
 published s s1 s2 other live s1_is s2_is two low = record {
   version = ap (λ (q : State). version q) s2_is ∙ ap (λ (q : State). version q) s1_is ∙ get_or-set_same s.versions other (next s) 0 (omega (arith, two, low));
   records = ap (λ (q : State). length q.versions) s2_is ∙ ap (λ (q : State). length q.versions) s1_is ∙ length-set s.versions other (next s) ∙ two;
   current = subst (λ (n : ℕ). n < 2) (sym (ap (λ (q : State). q.current) s2_is ∙ ap (λ (q : State). q.current) s1_is)) low;
   live = live;
-  lives = ap (λ (q : State). q.lives) s2_is ∙ ap (λ (q : State). map (swept live) q.lives) s1_is;
+  lives = ap (λ (q : State). q.lives) s2_is ∙ ap (λ (q : State). map (swept_life live) q.lives) s1_is;
 }
 
 -- all rows of a new desk may be written
@@ -120,12 +120,12 @@ within_new s places rows lives is r life has =
     grind (arith, nat_tests)
 
 -- rows were taken from a new desk
-pub record Begins (s : State) : Type 0 where
+pub record IsPrefix (s : State) : Type 0 where
   pub records : length s.versions ≡ 2
   pub current : s.current < 2
   pub more : next s ≤ last_version
 
-pub begins : (s s1 : State) (size : ℕ) (rows : List ℕ) → s ≡ record { current = 0; versions = replicate 2 0; lives = replicate size Free } → Takes s s1 rows → Begins s1
+pub begins : (s s1 : State) (size : ℕ) (rows : List ℕ) → s ≡ record { current = 0; versions = replicate 2 0; lives = replicate size Free } → Takes s s1 rows → IsPrefix s1
 begins s s1 size rows is takes =
     let now = ap (λ (q : State). q.current) takes.born ∙ ap (λ (q : State). q.current) is in
     let versions = ap (λ (q : State). q.versions) takes.born ∙ ap (λ (q : State). q.versions) is in

@@ -1,7 +1,7 @@
 -- Rows that stand for a map and may be changed: each change is published at once.
 use Rattle.std.specs.Prelude.{◌≡◌, ◌<◌, nat_lt, ℕ, IsTrue, List, length, map, Option, Some, slice_get}
 use Rattle.mst_arena.specs.Content.{listed}
-use Rattle.mst_arena.specs.Lives.{State, version, next, swept}
+use Rattle.mst_arena.specs.Lives.{State, version, next, swept_life}
 use Rattle.mst_arena.specs.declared.life.Life.{Life}
 use Rattle.mst_arena.specs.declared.row.Root.{Root}
 use Rattle.mst_arena.specs.declared.row.Row.{Row}
@@ -24,4 +24,4 @@ pub record IsPublished (old new : State) : Type 0 where
   pub records : length new.versions ≡ 2
   pub current : new.current < 2
   pub live : List ℕ
-  pub lives : new.lives ≡ map (swept live) old.lives
+  pub lives : new.lives ≡ map (swept_life live) old.lives

@@ -5,7 +5,7 @@ use Rattle.std.proofs.lemmas.Bool.{false≢true}
 use Rattle.mst_key.specs.declared.history.Change.{Change}
 use Rattle.mst_key.specs.Map.{Pair}
 use Rattle.mst_key.specs.History.{History, after}
-use Rattle.mst_key.proofs.HistoryLaws.{Begins-itself}
+use Rattle.mst_key.proofs.HistoryLaws.{IsPrefix-itself}
 use Rattle.mst_store.specs.declared.faults.WriteFault.{WriteFault}
 use Rattle.mst_store.specs.declared.faults.WriteFault.TheVariants as write
 use Rattle.mst_store.specs.Writes.{rows_of}
@@ -21,10 +21,10 @@ use Rattle.mst_script.proofs.Gathering.{looked}
 
 -- the pass asked, and neither saw nor did anything
 idle : (n : ℕ) (p : Known) → Turn p.seen [] p (having_asked n p)
-idle n p = record { same = (refl, refl); later = Begins-itself p.seen; seen = sym (append-nil p.seen); mine = sym (append-nil p.mine); own = tt }
+idle n p = record { same = (refl, refl); later = IsPrefix-itself p.seen; seen = sym (append-nil p.seen); mine = sym (append-nil p.mine); own = tt }
 
 pub unmoved : (p : Known) → Turn p.seen [] p p
-unmoved p = record { same = (refl, refl); later = Begins-itself p.seen; seen = sym (append-nil p.seen); mine = sym (append-nil p.mine); own = tt }
+unmoved p = record { same = (refl, refl); later = IsPrefix-itself p.seen; seen = sym (append-nil p.seen); mine = sym (append-nil p.mine); own = tt }
 
 pub idle_of : (n : ℕ) (p q : Known) → q ≡ having_asked n p → Turn p.seen [] p q
 idle_of n p q is = subst (λ (x : Known). Turn p.seen [] p x) (sym is) (idle n p)

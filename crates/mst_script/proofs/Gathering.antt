@@ -5,8 +5,8 @@ use Rattle.std.specs.List.Sorted.{IsPermutation}
 use Rattle.std.proofs.lemmas.List.Elements.{All-nil, All-cons, All-head, All-tail, All-weaker, All-map, All-contains}
 use Rattle.std.proofs.lemmas.List.Sorted.{IsPermutation-map, All-permutation, Contains-permutation}
 use Rattle.mst_key.specs.declared.history.Event.{Event}
-use Rattle.mst_key.specs.History.{History, events_of, Begins}
-use Rattle.mst_key.proofs.HistoryLaws.{events_of-append, Begins-nil, Begins-itself, Begins-chain, Begins-compare}
+use Rattle.mst_key.specs.History.{History, events_of, IsPrefix}
+use Rattle.mst_key.proofs.HistoryLaws.{events_of-append, IsPrefix-nil, IsPrefix-itself, IsPrefix-chain, IsPrefix-compare}
 use Rattle.mst_store.specs.Passes.{Known, Looks}
 use Rattle.mst_store.specs.Settling.{numbers, IsOfOne}
 use Rattle.mst_script.specs.Serving.{Gathers, SawItself, Turn}
@@ -14,7 +14,7 @@ use Rattle.mst_script.proofs.Lines.{front_of, back_of}
 
 pub gathers_moved : (h : History) (ps qs : List Known) → IsPermutation ps qs → Gathers h ps → Gathers h qs
 gathers_moved h ps qs moved g = record {
-  later = All-permutation (λ (p : Known). Begins p.seen h) ps qs moved g.later;
+  later = All-permutation (λ (p : Known). IsPrefix p.seen h) ps qs moved g.later;
   own = All-permutation (λ (p : Known). events_of p.number h ≡ p.mine) ps qs moved g.own;
   alone = λ k d l. Contains-permutation (numbers ps) (numbers qs) (get_or h k d).pass (IsPermutation-map (λ (p : Known). p.number) ps qs moved) (g.alone k d l);
 }
@@ -54,31 +54,31 @@ counted g t r s h n mine is own count =
 
 -- a history that begins both, and with all that each pass has seen
 abbrev pub Reaches : List Known → History → History → Type 0
-Reaches ps g h = (s : History) × Begins s g × Begins s h × All (λ p. Begins p.seen s) ps
+Reaches ps g h = (s : History) × IsPrefix s g × IsPrefix s h × All (λ p. IsPrefix p.seen s) ps
 
-more_seen : (p : Known) (ps : List Known) (g h : History) (r : Reaches ps g h) → Begins p.seen g → Begins p.seen h → Begins p.seen r.0 ⊎ Begins r.0 p.seen → Reaches (p ∷ ps) g h
-more_seen p ps g h r a b (inl short) = (r.0, r.1, r.2, All-cons (λ (x : Known). Begins x.seen r.0) p ps short r.3)
+more_seen : (p : Known) (ps : List Known) (g h : History) (r : Reaches ps g h) → IsPrefix p.seen g → IsPrefix p.seen h → IsPrefix p.seen r.0 ⊎ IsPrefix r.0 p.seen → Reaches (p ∷ ps) g h
+more_seen p ps g h r a b (inl short) = (r.0, r.1, r.2, All-cons (λ (x : Known). IsPrefix x.seen r.0) p ps short r.3)
 more_seen p ps g h r a b (inr long) = (
   p.seen,
   a,
   b,
-  All-cons (λ (x : Known). Begins x.seen p.seen) p ps (Begins-itself p.seen) (All-weaker (λ (x : Known). Begins x.seen r.0) (λ (x : Known). Begins x.seen p.seen) (λ x c. Begins-chain x.seen r.0 p.seen c long) ps r.3),
+  All-cons (λ (x : Known). IsPrefix x.seen p.seen) p ps (IsPrefix-itself p.seen) (All-weaker (λ (x : Known). IsPrefix x.seen r.0) (λ (x : Known). IsPrefix x.seen p.seen) (λ x c. IsPrefix-chain x.seen r.0 p.seen c long) ps r.3),
 )
 
-most_seen : (ps : List Known) (g h : History) → All (λ p. Begins p.seen g) ps → All (λ p. Begins p.seen h) ps → Reaches ps g h
-most_seen [] g h a b = ([], Begins-nil g, Begins-nil h, All-nil (λ (p : Known). Begins p.seen []))
+most_seen : (ps : List Known) (g h : History) → All (λ p. IsPrefix p.seen g) ps → All (λ p. IsPrefix p.seen h) ps → Reaches ps g h
+most_seen [] g h a b = ([], IsPrefix-nil g, IsPrefix-nil h, All-nil (λ (p : Known). IsPrefix p.seen []))
 most_seen (p ∷ ps) g h a b =
-    let r = most_seen ps g h (All-tail (λ (x : Known). Begins x.seen g) p ps a) (All-tail (λ (x : Known). Begins x.seen h) p ps b) in
-    let x = All-head (λ (x : Known). Begins x.seen g) p ps a in
-    more_seen p ps g h r x (All-head (λ (x : Known). Begins x.seen h) p ps b) (Begins-compare p.seen r.0 g x r.1)
+    let r = most_seen ps g h (All-tail (λ (x : Known). IsPrefix x.seen g) p ps a) (All-tail (λ (x : Known). IsPrefix x.seen h) p ps b) in
+    let x = All-head (λ (x : Known). IsPrefix x.seen g) p ps a in
+    more_seen p ps g h r x (All-head (λ (x : Known). IsPrefix x.seen h) p ps b) (IsPrefix-compare p.seen r.0 g x r.1)
 
 -- a pass that has seen all its events has none behind what it has seen
-none_behind : (p : Known) (s h : History) → (b : Begins s h) → Begins p.seen s → SawItself p → events_of p.number h ≡ p.mine → HasNone b.0 p.number
+none_behind : (p : Known) (s h : History) → (b : IsPrefix s h) → IsPrefix p.seen s → SawItself p → events_of p.number h ≡ p.mine → HasNone b.0 p.number
 none_behind p s h b c itself own =
     let x = ap (λ (l : History). length (events_of p.number l)) b.1 in let y = ap (λ (l : History). length (events_of p.number l)) c.1 in
     omega (arith, x, y, count_append p.number s b.0, count_append p.number p.seen c.0, ap length itself, ap length own)
 
-ends_there : (ps : List Known) (s h : History) → Begins s h → All (λ p. Begins p.seen s) ps → All SawItself ps → Gathers h ps → h ≡ s
+ends_there : (ps : List Known) (s h : History) → IsPrefix s h → All (λ p. IsPrefix p.seen s) ps → All SawItself ps → Gathers h ps → h ≡ s
 ends_there ps s h b seen itself g =
     let none : All (λ p. HasNone b.0 p.number) ps = λ k d l. none_behind (get_or ps k d) s h b (seen k d l) (itself k d l) (g.own k d l) in
     b.1 ∙ ap (λ (l : History). s ++ l) (nobody ps b.0 (back_of (IsOfOne ps) s b.0 (subst (All (IsOfOne ps)) b.1 g.alone)) none) ∙ append-nil s
@@ -101,7 +101,7 @@ turned os p q g h log t saw seen turn met =
     let own : events_of p.number g ≡ p.mine = All-head (λ (x : Known). events_of x.number g ≡ x.mine) p os saw.own in
     let r : History = turn.later.0 in
     let log_is : log ≡ g ++ r = turn.later.1 ∙ ap (λ (x : History). x ++ r) seen in
-    let b : Begins q.seen h = All-head (λ (x : Known). Begins x.seen h) q os met.later in
+    let b : IsPrefix q.seen h = All-head (λ (x : Known). IsPrefix x.seen h) q os met.later in
     let s : History = b.0 in
     let h_is : h ≡ ((g ++ r) ++ t) ++ s = b.1 ∙ ap (λ (x : History). x ++ s) (turn.seen ∙ ap (λ (x : History). x ++ t) log_is) in
     let number : q.number ≡ p.number = turn.same.1 in

@@ -7,8 +7,8 @@ use Rattle.std.proofs.lemmas.Bool.{false≢true}
 use Rattle.std.proofs.Math.Seq.{take-append_seam}
 use Rattle.std.proofs.lemmas.List.Elements.{All-append, All-map}
 use Rattle.std.proofs.lemmas.List.Sorted.{IsPermutation-refl, IsPermutation-sym, IsPermutation-trans, IsPermutation-append_left, IsPermutation-swap_remove}
-use Rattle.mst_key.specs.History.{History, after, events_of, Begins}
-use Rattle.mst_key.proofs.HistoryLaws.{Begins-itself}
+use Rattle.mst_key.specs.History.{History, after, events_of, IsPrefix}
+use Rattle.mst_key.proofs.HistoryLaws.{IsPrefix-itself}
 use Rattle.mst_store.specs.Passes.{StoreId, Known, having_asked}
 use Rattle.mst_store.specs.Settling.{having_seen, AreAllPasses, Settled}
 use Rattle.mst_requests.specs.declared.request.Fault.{Fault}
@@ -32,9 +32,9 @@ settled_gathers s t st = record { later = st.later; own = st.own; alone = st.alo
 -- each pass that settled has seen it, and keeps its number and its events
 gathers_settled : (s t : Roster) → (st : Settled s.free s.held t.free t.held) → Gathers st.log (everyone t)
 gathers_settled s t st = record {
-  later = All-append (λ (p : Known). Begins p.seen st.log) t.free t.held
-      (subst (All (λ p. Begins p.seen st.log)) (sym st.now) (All-map (λ (p : Known). Begins p.seen st.log) (having_seen st.log) s.free (λ k d l. Begins-itself st.log)))
-      (subst (All (λ p. Begins p.seen st.log)) (sym st.still) (All-map (λ (p : Known). Begins p.seen st.log) (having_asked 3) s.held (back_of (λ (p : Known). Begins p.seen st.log) s.free s.held st.later)));
+  later = All-append (λ (p : Known). IsPrefix p.seen st.log) t.free t.held
+      (subst (All (λ p. IsPrefix p.seen st.log)) (sym st.now) (All-map (λ (p : Known). IsPrefix p.seen st.log) (having_seen st.log) s.free (λ k d l. IsPrefix-itself st.log)))
+      (subst (All (λ p. IsPrefix p.seen st.log)) (sym st.still) (All-map (λ (p : Known). IsPrefix p.seen st.log) (having_asked 3) s.held (back_of (λ (p : Known). IsPrefix p.seen st.log) s.free s.held st.later)));
   own = All-append (λ (p : Known). events_of p.number st.log ≡ p.mine) t.free t.held
       (subst (All (λ p. events_of p.number st.log ≡ p.mine)) (sym st.now) (All-map (λ (p : Known). events_of p.number st.log ≡ p.mine) (having_seen st.log) s.free (front_of (λ (p : Known). events_of p.number st.log ≡ p.mine) s.free s.held st.own)))
       (subst (All (λ p. events_of p.number st.log ≡ p.mine)) (sym st.still) (All-map (λ (p : Known). events_of p.number st.log ≡ p.mine) (having_asked 3) s.held (back_of (λ (p : Known). events_of p.number st.log ≡ p.mine) s.free s.held st.own)));
@@ -137,16 +137,16 @@ pinned_step p n Unpin m text other recalls = absurd (false≢true (sym other))
 pinned_step p n Rows m text other recalls = (recalls, refl)
 
 -- the version that the pass pins is of so many events
-version_seen : (g h : History) → Begins g h → take (length g) h ≡ g
+version_seen : (g h : History) → IsPrefix g h → take (length g) h ≡ g
 version_seen g h b = ap (take (length g)) b.1 ∙ take-append_seam g b.0
 
 -- what the machine knows of the pass at this place
-pinned_at : (m : Machine) (r : Roster) (n place : ℕ) (p : Known) → Shows m r → IsPlace r.held n place → get_or r.held place p ≡ p → (m.pinned n ≡ Some (length p.seen)) × (p.number ≡ n) × Begins p.seen m.history
+pinned_at : (m : Machine) (r : Roster) (n place : ℕ) (p : Known) → Shows m r → IsPlace r.held n place → get_or r.held place p ≡ p → (m.pinned n ≡ Some (length p.seen)) × (p.number ≡ n) × IsPrefix p.seen m.history
 pinned_at m r n place p shows at here =
     let number : p.number ≡ n = ap (λ (x : Known). x.number) (sym here) ∙ at.1 p in (
       ap m.pinned (sym (at.1 p)) ∙ shows.pins.pins place p at.0 ∙ ap (λ (x : Known). Some (length x.seen)) here,
       number,
-      subst (λ (x : Known). Begins x.seen m.history) here (back_of (λ (x : Known). Begins x.seen m.history) r.free r.held shows.gathered.later place p at.0),
+      subst (λ (x : Known). IsPrefix x.seen m.history) here (back_of (λ (x : Known). IsPrefix x.seen m.history) r.free r.held shows.gathered.later place p at.0),
     )
 
 pub all_recalled : (store : StoreId) (command : Command) (r s : Roster) (place : ℕ) (text : List ℕ) → AsksPinned command r place text s → AreAllOf store (everyone r) → AreAllOf store (everyone s)

@@ -5,7 +5,7 @@ use Rattle.mst_key.specs.declared.format.Format.TheVariants.{One}
 use Rattle.mst_key.specs.declared.history.Change.{Change}
 use Rattle.mst_key.specs.declared.history.Change.TheVariants as change
 use Rattle.mst_key.specs.declared.history.Event.{Event}
-use Rattle.mst_key.specs.Map.{Pair, look, successor, span}
+use Rattle.mst_key.specs.Map.{Pair, map_get, map_next, map_range}
 use Rattle.mst_key.specs.History.{History, after, reply}
 use Rattle.mst_node.specs.Text.{root, text as text_of_node}
 use Rattle.mst_node.specs.Tree.{Tree, empty, node, tree}
@@ -88,9 +88,9 @@ Counts store h text new = ((text ≡ line_of (rows_words (Some (rows_of (after h
 
 -- what a read finds in a map; for some of it memory is taken
 abbrev pub Finds : Command → List Pair → List ℕ → Type 0
-Finds (Get k) m text = text ≡ line_of (value_words (look m k))
-Finds (Next bound) m text = text ≡ line_of (found_words (successor m bound))
-Finds (Range from to n) m text = (text ≡ line_of (count_words (span m from to n)) ++ pair_lines (span m from to n))
+Finds (Get k) m text = text ≡ line_of (value_words (map_get m k))
+Finds (Next bound) m text = text ≡ line_of (found_words (map_next m bound))
+Finds (Range from to n) m text = (text ≡ line_of (count_words (map_range m from to n)) ++ pair_lines (map_range m from to n))
     ⊎ LacksMemory text
 Finds Root m text = text ≡ line_of (digits_of (root One m))
 Finds Node m text = (text ≡ line_of (top_words (tree One m))) ⊎ LacksMemory text

@@ -4,7 +4,7 @@ use Rattle.std.specs.List.{AllByRecursion, count_by, slice_set, swap_remove}
 use Rattle.std.specs.List.Sorted.{IsPermutation}
 use Rattle.mst_key.specs.declared.format.Format.TheVariants.{One}
 use Rattle.mst_key.specs.Map.{Pair}
-use Rattle.mst_key.specs.History.{History, after, events_of, Begins}
+use Rattle.mst_key.specs.History.{History, after, events_of, IsPrefix}
 use Rattle.mst_store.specs.Passes.{StoreId, Known, IsSamePass, Looks}
 use Rattle.mst_store.specs.Settling.{numbers, IsOfOne, Settled}
 use Rattle.mst_requests.specs.declared.request.Command.{Command}
@@ -23,7 +23,7 @@ pub record AreAllOf (store : StoreId) (ps : List Known) : Type 0 where
 
 -- the history begins with all that each pass has seen, each pass's events in it are its own, and it has no events but theirs
 pub record Gathers (h : History) (ps : List Known) : Type 0 where
-  pub later : All (λ p. Begins p.seen h) ps
+  pub later : All (λ p. IsPrefix p.seen h) ps
   pub own : All (λ p. events_of p.number h ≡ p.mine) ps
   pub alone : All (IsOfOne ps) h
 
@@ -68,7 +68,7 @@ pub record Shows (m : Machine) (r : Roster) : Type 0 where
 -- the pass saw a history that begins with all that it had seen, and added these events to it
 pub record Turn (log t : History) (p q : Known) : Type 0 where
   pub same : IsSamePass p q
-  pub later : Begins p.seen log
+  pub later : IsPrefix p.seen log
   pub seen : q.seen ≡ log ++ t
   pub mine : q.mine ≡ p.mine ++ t
   pub own : AllByRecursion (λ e. e.pass ≡ p.number) t

@@ -9,7 +9,7 @@ use Rattle.std.proofs.lemmas.Bool.Decides.{nat_tests}
 use Rattle.std.proofs.lemmas.Option.{slice_get_within, slice_get-map}
 use Rattle.std.proofs.lemmas.List.{length-map}
 use Rattle.mst_key.specs.History.{after}
-use Rattle.mst_arena.specs.Lives.{State, version, reaches, reached_at, free_count, swept, IsSettled}
+use Rattle.mst_arena.specs.Lives.{State, version, reaches, reached_at, free_count, swept_life, IsSettled}
 use Rattle.mst_arena.specs.declared.life.Life.{Life}
 use Rattle.mst_arena.specs.declared.life.Life.TheVariants.{Free, Born, Dead}
 use Rattle.mst_arena.specs.Standing.{IsDistinct, numbers}
@@ -49,14 +49,14 @@ all_below_true zero p all = refl
 all_below_true (suc n) p all = ap (λ (b : Bool). b && all_below n p) (all n (omega arith)) ∙ all_below_true n p (λ r l. all r (omega (arith, l)))
 
 -- a row that a live version reaches keeps its life in a sweep
-kept_life : (live : List ℕ) (o : Option Life) (v : ℕ) → moves.In v live → reached_at o v ≡ true → option_map (swept live) o ≡ o
+kept_life : (live : List ℕ) (o : Option Life) (v : ℕ) → moves.In v live → reached_at o v ≡ true → option_map (swept_life live) o ≡ o
 kept_life live None v i is = refl
 kept_life live (Some Free) v i is = refl
 kept_life live (Some (Born b)) v i is = refl
 kept_life live (Some (Dead b d)) v i is = ap (λ (t : Bool). Some (if t then Dead b d else Free)) (some_reach (Dead b d) live v i is)
 
-same_ages : (live : List ℕ) (lives : List Life) (v x w : ℕ) → moves.In v live → reaches lives v x ≡ true → reaches (map (swept live) lives) w x ≡ reaches lives w x
-same_ages live lives v x w i is = ap (λ (o : Option Life). reached_at o w) (slice_get-map (swept live) lives x ∙ kept_life live (slice_get lives x) v i is)
+same_ages : (live : List ℕ) (lives : List Life) (v x w : ℕ) → moves.In v live → reaches lives v x ≡ true → reaches (map (swept_life live) lives) w x ≡ reaches lives w x
+same_ages live lives v x w i is = ap (λ (o : Option Life). reached_at o w) (slice_get-map (swept_life live) lives x ∙ kept_life live (slice_get lives x) v i is)
 
 is_not : (t : Bool) → (t ≡ true → ⊥) → t ≡ false
 is_not true other = absurd (other refl)
@@ -72,11 +72,11 @@ module _ (n : ℕ) (desk : State) (a : Asked) (m : Seat) (h : HasAsked n desk a 
       go false e = let other : (r ≡ desk.current → ⊥) = grind (arith, nat_tests) in h.others r l other out
 
   -- such a version reaches the same rows after the sweep
-  same_rows : (r x : ℕ) → r < n → (In r m.0.drained → ⊥) → reaches (map (swept a.live.items) desk.lives) (slice_index desk.versions r) x ≡ reaches desk.lives (slice_index desk.versions r) x
+  same_rows : (r x : ℕ) → r < n → (In r m.0.drained → ⊥) → reaches (map (swept_life a.live.items) desk.lives) (slice_index desk.versions r) x ≡ reaches desk.lives (slice_index desk.versions r) x
   same_rows r x l out = same_swept desk a.live.items (slice_index desk.versions r) x (live_of r l out)
 
   -- none of them reaches a row that is free then
-  unreached : IsSettled desk → (x : ℕ) → slice_get (map (swept a.live.items) desk.lives) x ≡ Some Free → x < length desk.lives
+  unreached : IsSettled desk → (x : ℕ) → slice_get (map (swept_life a.live.items) desk.lives) x ≡ Some Free → x < length desk.lives
       → all_below n (λ r. list_any (eqb r) m.0.drained || not (reaches desk.lives (slice_index desk.versions r) x)) ≡ true
   unreached settled x free lt = all_below_true n (λ r. list_any (eqb r) m.0.drained || not (reaches desk.lives (slice_index desk.versions r) x)) (λ r l. go r l (list_any (eqb r) m.0.drained) refl)
     where
@@ -84,8 +84,8 @@ module _ (n : ℕ) (desk : State) (a : Asked) (m : Seat) (h : HasAsked n desk a 
       go r l true e = refl
       go r l false e = ap not ((free_swept desk a.live.items x settled h.now lt).0 free (slice_index desk.versions r) (live_of r l (λ within. let yes = in_list r m.0.drained within in cc)))
 
-free_inside : (live : List ℕ) (lives : List Life) (x : ℕ) → slice_get (map (swept live) lives) x ≡ Some Free → x < length lives
-free_inside live lives x free = omega (arith, slice_get_within (map (swept live) lives) x Free free, length-map lives (swept live))
+free_inside : (live : List ℕ) (lives : List Life) (x : ℕ) → slice_get (map (swept_life live) lives) x ≡ Some Free → x < length lives
+free_inside live lives x free = omega (arith, slice_get_within (map (swept_life live) lives) x Free free, length-map lives (swept_life live))
 
 -- the desk in the slot
 abbrev or_else : State → Option State → State
@@ -120,7 +120,7 @@ module _ (before taken : Seat) (p : Takes stored before taken) where
   turn_of {A} desk a root = record { desk = swept_by a.live.items desk; root = root; into = a.into; kept = length a.live.items }
 
   blank_free : (drained blocked : List ℕ) (asked : ℕ) (a : Asked) → HasAsked (before.0.passes + 2) (state_of p.desk) a (asked_seat drained blocked asked) → (x : ℕ)
-      → slice_get (map (swept a.live.items) p.desk.lives) x ≡ Some Free → IsTrue (is_blank (asked_view drained blocked asked) x)
+      → slice_get (map (swept_life a.live.items) p.desk.lives) x ≡ Some Free → IsTrue (is_blank (asked_view drained blocked asked) x)
   blank_free drained blocked asked a h x free =
       let inside : x < length p.desk.lives = free_inside a.live.items p.desk.lives x free in
       let lt : x < before.0.rows = (let r = p.is_desk.rows_is in omega (arith, inside, r)) in
@@ -142,7 +142,7 @@ module _ (before taken : Seat) (p : Takes stored before taken) where
   live_kept drained blocked asked a h v (r, l, out, is) = subst (λ (n : ℕ). moves.In n a.live.items) (sym is) (live_of (before.0.passes + 2) (state_of p.desk) a (asked_seat drained blocked asked) h r l out)
 
   free_blank : (drained blocked : List ℕ) (asked : ℕ) (a : Asked) → HasAsked (before.0.passes + 2) (state_of p.desk) a (asked_seat drained blocked asked) → (x : ℕ)
-      → is_blank (asked_view drained blocked asked) x ≡ true → slice_get (map (swept a.live.items) p.desk.lives) x ≡ Some Free
+      → is_blank (asked_view drained blocked asked) x ≡ true → slice_get (map (swept_life a.live.items) p.desk.lives) x ≡ Some Free
   free_blank drained blocked asked a h x blank =
       let b : IsBlank stored (asked_view drained blocked asked) x = blank_row (asked_view drained blocked asked) x blank in
       let inside : x < length p.desk.lives = (let r = p.is_desk.rows_is in let l = b.0 in omega (arith, l, r)) in
@@ -150,9 +150,9 @@ module _ (before taken : Seat) (p : Takes stored before taken) where
       (λ v i. let k = kept_of drained blocked asked a h v i in is_not (reaches p.desk.lives v x) (λ (reached : reaches p.desk.lives v x ≡ true). b.1 k.0 k.1 k.2 (subst (λ (n : ℕ). reaches p.desk.lives n x ≡ true) k.3 reached)))
 
   counted_rows : (drained blocked : List ℕ) (asked : ℕ) (a : Asked) → HasAsked (before.0.passes + 2) (state_of p.desk) a (asked_seat drained blocked asked) → (live rows : List ℕ) → AreKept (swept_by a.live.items (state_of p.desk)) (asked_view drained blocked asked) live
-      → IsDistinct rows → TogetherReach (map (swept a.live.items) p.desk.lives) live rows → free_count (map (swept a.live.items) p.desk.lives) + length rows ≡ before.0.rows
+      → IsDistinct rows → TogetherReach (map (swept_life a.live.items) p.desk.lives) live rows → free_count (map (swept_life a.live.items) p.desk.lives) + length rows ≡ before.0.rows
   counted_rows drained blocked asked a h live rows kept once together =
-      let same : (v : ℕ) → moves.In v a.live.items → (x : ℕ) → reaches (map (swept a.live.items) p.desk.lives) v x ≡ reaches p.desk.lives v x = λ v i x. same_swept (state_of p.desk) a.live.items v x i in
+      let same : (v : ℕ) → moves.In v a.live.items → (x : ℕ) → reaches (map (swept_life a.live.items) p.desk.lives) v x ≡ reaches p.desk.lives v x = λ v i x. same_swept (state_of p.desk) a.live.items v x i in
       count_swept (state_of p.desk) a.live.items rows p.is_desk.settled h.now once
       (λ x. (
         (λ (v, i, is). (together x).0 (v, (kept v).1 (kept_of drained blocked asked a h v i), same v i x ∙ is)),
@@ -170,7 +170,7 @@ module _ (before taken : Seat) (p : Takes stored before taken) where
         few = h.knows.few;
         short = let s = p.short in omega (arith, s);
         current = refl;
-        rows_is = length-map p.desk.lives (swept a.live.items) ∙ p.is_desk.rows_is;
+        rows_is = length-map p.desk.lives (swept_life a.live.items) ∙ p.is_desk.rows_is;
         records = p.is_desk.records;
         version_is = p.stands.filed;
         earlier = p.is_desk.earlier;
@@ -186,9 +186,9 @@ module _ (before taken : Seat) (p : Takes stored before taken) where
       }
 
   -- after the sweep the current version reaches exactly the rows that stand for the map
-  reached_now : (a : Asked) → moves.In (version (state_of p.desk)) a.live.items → (x : ℕ) → reaches (map (swept a.live.items) p.desk.lives) (version (state_of p.desk)) x ≡ true ↔ moves.In x p.used
+  reached_now : (a : Asked) → moves.In (version (state_of p.desk)) a.live.items → (x : ℕ) → reaches (map (swept_life a.live.items) p.desk.lives) (version (state_of p.desk)) x ≡ true ↔ moves.In x p.used
   reached_now a now x =
-      let same : reaches (map (swept a.live.items) p.desk.lives) (version (state_of p.desk)) x ≡ reaches p.desk.lives (version (state_of p.desk)) x = same_swept (state_of p.desk) a.live.items (version (state_of p.desk)) x now in
+      let same : reaches (map (swept_life a.live.items) p.desk.lives) (version (state_of p.desk)) x ≡ reaches p.desk.lives (version (state_of p.desk)) x = same_swept (state_of p.desk) a.live.items (version (state_of p.desk)) x now in
       let number : version (state_of p.desk) ≡ length p.log = p.stands.filed in (
         λ is. let old : reaches p.desk.lives (length p.log) x ≡ true = subst (λ (v : ℕ). reaches p.desk.lives v x ≡ true) number (sym same ∙ is) in
             counted x p.used (p.stands.exactly x (let inside = reached_inside p.desk.lives (length p.log) x old in let r = p.is_desk.rows_is in omega (arith, inside, r)) old),
@@ -206,7 +206,7 @@ module _ (before taken : Seat) (p : Takes stored before taken) where
       current : (v : ℕ) → v ≡ version (state_of p.desk) → (v ≤ length p.log) × HasPlace p.desk.lives p.log v
       current v e = place_of before.0.rows before.0.passes p.words p.log p.desk p.desk.current p.log p.used p.is_desk.rows_is p.stands v e
 
-  leaves : (drained blocked : List ℕ) (asked : ℕ) (a : Asked) → HasAsked (before.0.passes + 2) (state_of p.desk) a (asked_seat drained blocked asked) → LeavesFree (map (swept a.live.items) p.desk.lives) p.log (length a.live.items) before.0.rows
+  leaves : (drained blocked : List ℕ) (asked : ℕ) (a : Asked) → HasAsked (before.0.passes + 2) (state_of p.desk) a (asked_seat drained blocked asked) → LeavesFree (map (swept_life a.live.items) p.desk.lives) p.log (length a.live.items) before.0.rows
   leaves drained blocked asked a h = record {
     live = a.live.items;
     now = subst (λ (v : ℕ). moves.In v a.live.items) p.stands.filed h.now;
@@ -216,7 +216,7 @@ module _ (before taken : Seat) (p : Takes stored before taken) where
   }
 
   -- the rows of the map keep their ages in the sweep
-  swept_ages : (a : Asked) → moves.In (version (state_of p.desk)) a.live.items → SameAges p.desk.lives (map (swept a.live.items) p.desk.lives) p.log (numbers p.stands.aged.0.0)
+  swept_ages : (a : Asked) → moves.In (version (state_of p.desk)) a.live.items → SameAges p.desk.lives (map (swept_life a.live.items) p.desk.lives) p.log (numbers p.stands.aged.0.0)
   swept_ages a now x v i le =
       let within : In x p.used = subst (In x) p.stands.aged.0.1 (found x (numbers p.stands.aged.0.0) i) in
       same_ages a.live.items p.desk.lives (version (state_of p.desk)) x v now (subst (λ (n : ℕ). reaches p.desk.lives n x ≡ true) (sym p.stands.filed) (p.stands.reached x within))
@@ -228,12 +228,12 @@ module _ (before taken : Seat) (p : Takes stored before taken) where
       let s = p.stands.aged.0 in
       let content : AllByRecursion (λ x. content_of v x ≡ rows_in (row p.words) x) (numbers s.0) = subst (AllByRecursion (λ x. content_of v x ≡ rows_in (row p.words) x)) (sym s.1)
       (each (λ x. content_of v x ≡ rows_in (row p.words) x) p.used (λ x within. reads_held v x refl (p.stands.inside x within))) in
-      let t = aged_frame (rows_in (row p.words)) (content_of v) (root_in (field p.words p.desk.current)) root p.log p.desk.lives (map (swept a.live.items) p.desk.lives) s.0 content here (swept_ages a h.now) p.stands.aged.1 in
+      let t = aged_frame (rows_in (row p.words)) (content_of v) (root_in (field p.words p.desk.current)) root p.log p.desk.lives (map (swept_life a.live.items) p.desk.lives) s.0 content here (swept_ages a h.now) p.stands.aged.1 in
       record {
         holds = holds {A = A} drained blocked asked a root h;
         settled = settled_swept (state_of p.desk) a.live.items p.is_desk.settled;
         stands = t.0;
-        reached = λ x. subst (λ (used : List ℕ). reaches (map (swept a.live.items) p.desk.lives) (version (state_of p.desk)) x ≡ true ↔ moves.In x used) (sym (t.1 ∙ s.1)) (reached_now a h.now x);
+        reached = λ x. subst (λ (used : List ℕ). reaches (map (swept_life a.live.items) p.desk.lives) (version (state_of p.desk)) x ≡ true ↔ moves.In x used) (sym (t.1 ∙ s.1)) (reached_now a h.now x);
         aged = t.2;
         blank = λ x free. blank_free drained blocked asked a h x free;
         free = λ x blank. free_blank drained blocked asked a h x blank;
@@ -267,16 +267,16 @@ module _ (before taken : Seat) (p : Takes stored before taken) where
       let same : field m.0.held which 1 ≡ field p.words p.desk.current 1 = ap (λ (z : Seat). field z.0.held which 1) (whole m is) ∙ ap (λ (r : ℕ). field p.words r 1) at in
       omega (arith, few_rows, link, same)
 
-  pub ready : {A : Type 0} (desk swept : State) (a : Asked) (live : List ℕ) (root : Root) (m : Seat) (which passes kept : ℕ) → kept ≡ length a.live.items → taken.1 ≡ (0, Some desk) ∷ [] → IsAskedOf m → passes ≡ taken.0.passes
-      → HasAsked (passes + 2) desk a m → which ≡ desk.current → root ≡ root_in (field m.0.held which) → live ≡ a.live.items → swept ≡ swept_by live desk → HasTurn (of_turn {A = A} swept root a.into kept) m
-  ready {A} desk swept a live root m which passes kept number slot is few h current here all by =
+  pub ready : {A : Type 0} (desk swept_life : State) (a : Asked) (live : List ℕ) (root : Root) (m : Seat) (which passes kept : ℕ) → kept ≡ length a.live.items → taken.1 ≡ (0, Some desk) ∷ [] → IsAskedOf m → passes ≡ taken.0.passes
+      → HasAsked (passes + 2) desk a m → which ≡ desk.current → root ≡ root_in (field m.0.held which) → live ≡ a.live.items → swept_life ≡ swept_by live desk → HasTurn (of_turn {A = A} swept_life root a.into kept) m
+  ready {A} desk swept_life a live root m which passes kept number slot is few h current here all by =
       let d : desk ≡ state_of p.desk = desk_there desk slot in
       let w : m ≡ asked_seat m.0.drained m.0.blocked m.0.asked = whole m is in
       let n : passes ≡ before.0.passes = few ∙ ap (λ (z : Seat). z.0.passes) p.is in
       let known_asked : HasAsked (before.0.passes + 2) (state_of p.desk) a (asked_seat m.0.drained m.0.blocked m.0.asked) = subst (λ (z : Seat). HasAsked (before.0.passes + 2) (state_of p.desk) a z) w
       (subst (λ (s : State). HasAsked (before.0.passes + 2) s a m) d (subst (λ (k : ℕ). HasAsked (k + 2) desk a m) n h)) in
       let root_is : root ≡ root_in (field p.words p.desk.current) = here ∙ ap (λ (z : Seat). root_in (field z.0.held which)) w ∙ ap (λ (r : ℕ). root_in (field p.words r)) (current ∙ ap (λ (s : State). s.current) d) in
-      let swept_is : swept ≡ swept_by a.live.items (state_of p.desk) = by ∙ ap (λ (l : List ℕ). swept_by l desk) all ∙ ap (λ (s : State). swept_by a.live.items s) d in
+      let swept_is : swept_life ≡ swept_by a.live.items (state_of p.desk) = by ∙ ap (λ (l : List ℕ). swept_by l desk) all ∙ ap (λ (s : State). swept_by a.live.items s) d in
       subst (λ (s : State). HasTurn (of_turn {A = A} s root a.into kept) m) (sym swept_is)
       (subst (λ (k : ℕ). HasTurn (of_turn {A = A} (swept_by a.live.items (state_of p.desk)) root a.into k) m) (sym number)
       (subst (λ (z : Seat). HasTurn (of_turn {A = A} (swept_by a.live.items (state_of p.desk)) root a.into (length a.live.items)) z) (sym w) (known {A = A} m.0.drained m.0.blocked m.0.asked a root known_asked root_is)))

@@ -1,7 +1,7 @@
 -- From the turn that was begun to how many rows the map takes.
 use Rattle.std.proofs.Common.{◌≡◌, ℕ, ◌+◌, ◌-◌, ◌*◌, ◌%◌, [], is_some, IfSome, Option, Some, false, sym, ap, ◌∙◌, subst, arith}
 use Rattle.std.proofs.lemmas.Nat.{mod-mul-add}
-use Rattle.mst_key.specs.History.{after, events_of, Begins}
+use Rattle.mst_key.specs.History.{after, events_of, IsPrefix}
 use Rattle.mst_arena.specs.Lives.{free_count}
 use Rattle.mst_words.specs.declared.view.View.{View}
 use Rattle.mst_words.specs.Steps.{NotesCurrent, AsksCurrent}
@@ -50,7 +50,7 @@ module _ {A : Type 0} (t : Turn A) (m1 m2 m3 : Seat) (noted done : ℕ) (n : Not
   counted m m' b gave found used all alone only =
       let back : m' ≡ (record m1.0 { noted = Some noted; asked = m1.0.asked + 1 + 1; turn = false }, []) = gave ∙ ap (λ (z : Seat). (record z.0 { turn = false }, [])) asked_both in
       let seen : m'.0.seen ≡ m1.0.seen = ap (λ (z : Seat). z.0.seen) back in record {
-        later = subst (λ (z : Seat). Begins m.0.seen z.0.seen) (sym back) b.later;
+        later = subst (λ (z : Seat). IsPrefix m.0.seen z.0.seen) (sym back) b.later;
         own = subst (λ (z : Seat). events_of m.0.number z.0.seen ≡ m.0.mine) (sym back) b.own;
         mine = ap (λ (z : Seat). z.0.mine) back ∙ ap (λ (v : View). v.mine) b.rest;
         number = λ k is. (let o = subst (λ (z : Option ℕ). IfSome z (λ i. (i ≡ used) × (t.kept ≡ 1))) is only in let f = b.has.number in let r = ap (λ (v : View). v.rows) b.rest in

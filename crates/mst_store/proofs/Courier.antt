@@ -11,13 +11,13 @@ use Rattle.mst_store.specs.Pinned.{HasPinned}
 use mathlib.Core.Logic.{dite}
 use native.Mathlib.Decide.{ℕ_discrete}
 use Rattle.mst_key.specs.declared.history.Event.{Event}
-use Rattle.mst_key.specs.History.{History, events_of, Begins}
+use Rattle.mst_key.specs.History.{History, events_of, IsPrefix}
 use Rattle.mst_words.specs.declared.view.View.{View}
 use Rattle.mst_words.specs.Notes.{having_heard, IsOfPasses, SeesTold}
 use Rattle.mst_store.specs.Passes.{Known, IsPinning, having_asked}
 use Rattle.mst_store.specs.Turns.{Seat}
 use Rattle.mst_store.specs.Settling.{AreAllPasses, IsOfOne, IsBeside, GoesOn}
-use Rattle.mst_key.proofs.HistoryLaws.{Begins-chain, events_of-between}
+use Rattle.mst_key.proofs.HistoryLaws.{IsPrefix-chain, events_of-between}
 
 -- what holds below a place and at it holds below the next
 pub one_more : {X : Type 0} (P : X → Type 0) (xs : List X) (i : ℕ) (x : X) → i < length xs → ((k : ℕ) (d : X) → k < i → P (get_or xs k d)) → P (get_or xs i x) → (k : ℕ) (d : X) → k < i + 1 → P (get_or xs k d)
@@ -28,15 +28,15 @@ one_more P xs i x l below here k d m = dite (ℕ_discrete k i)
 -- ---- the way there
 
 pub goes_on : (m n o : Seat) → GoesOn m n → GoesOn n o → GoesOn m o
-goes_on m n o g h = record { courier = h.courier; passes_is = h.passes_is ∙ g.passes_is; later = Begins-chain m.0.seen n.0.seen o.0.seen g.later h.later }
+goes_on m n o g h = record { courier = h.courier; passes_is = h.passes_is ∙ g.passes_is; later = IsPrefix-chain m.0.seen n.0.seen o.0.seen g.later h.later }
 
 -- what stands beside a courier stands beside it when it has gone on
 pub beside_on : (t u : TableId) (m n : Seat) (ps : List Known) → u ≡ t → n.0.passes ≡ m.0.passes → All (IsBeside t m.0.passes) ps → All (IsBeside u n.0.passes) ps
 beside_on t u m n ps table passes = All-weaker (IsBeside t m.0.passes) (IsBeside u n.0.passes) (λ p b. record { table_is = b.table_is ∙ sym table; passes_is = b.passes_is ∙ sym passes }) ps
 
 -- what it had heard it has heard when it has gone on
-pub later_on : (m n : Seat) (ps : List Known) → GoesOn m n → All (λ p. Begins p.seen m.0.seen) ps → All (λ p. Begins p.seen n.0.seen) ps
-later_on m n ps on = All-weaker (λ (p : Known). Begins p.seen m.0.seen) (λ (p : Known). Begins p.seen n.0.seen) (λ p b. Begins-chain p.seen m.0.seen n.0.seen b on.later) ps
+pub later_on : (m n : Seat) (ps : List Known) → GoesOn m n → All (λ p. IsPrefix p.seen m.0.seen) ps → All (λ p. IsPrefix p.seen n.0.seen) ps
+later_on m n ps on = All-weaker (λ (p : Known). IsPrefix p.seen m.0.seen) (λ (p : Known). IsPrefix p.seen n.0.seen) (λ p b. IsPrefix-chain p.seen m.0.seen n.0.seen b on.later) ps
 
 -- what was done to each leaves what its number, its store and its history say
 pub asked_beside : (t : TableId) (n k : ℕ) (ps : List Known) → All (IsBeside t n) ps → All (IsBeside t n) (map (having_asked k) ps)
@@ -78,10 +78,10 @@ pinned_still number passes rows at s t h told n is p = record {
 -- ---- the way back
 
 -- A pass was told of a history that begins with what it had seen, and sees it now. The whole history, which was found then, has no event of the pass that was not there before; so the one between has none either
-pub told_own : (m : Seat) {n o : Seat} (note : View) → n ≡ (having_heard m.0 note, m.1) → SeesTold n o → Begins m.0.seen note.seen → events_of m.0.number m.0.seen ≡ m.0.mine
+pub told_own : (m : Seat) {n o : Seat} (note : View) → n ≡ (having_heard m.0 note, m.1) → SeesTold n o → IsPrefix m.0.seen note.seen → events_of m.0.number m.0.seen ≡ m.0.mine
     → events_of m.0.number note.seen ≡ m.0.mine
 told_own m {n} {o} note heard sees later own =
-    let whole : Begins note.seen sees.log = subst (λ (z : Seat). Begins z.0.told sees.log) heard sees.finds.told in
+    let whole : IsPrefix note.seen sees.log = subst (λ (z : Seat). IsPrefix z.0.told sees.log) heard sees.finds.told in
     let high : events_of m.0.number sees.log ≡ m.0.mine = subst (λ (z : Seat). events_of z.0.number sees.log ≡ z.0.mine) heard sees.finds.own in
     events_of-between m.0.number m.0.mine m.0.seen note.seen sees.log later whole own high
 

@@ -6,7 +6,7 @@ use native.Mathlib.Decide.{ℕ_discrete}
 use Rattle.std.proofs.lemmas.Option.{slice_get_within}
 use Rattle.mst_key.specs.declared.history.Event.{Event}
 use Rattle.mst_key.specs.History.{History}
-use Rattle.mst_key.proofs.HistoryLaws.{Begins-itself}
+use Rattle.mst_key.proofs.HistoryLaws.{IsPrefix-itself}
 use Rattle.mst_arena.specs.Lives.{State, version, next, reaches, reached_at}
 use Rattle.mst_arena.specs.Standing.{numbers}
 use Rattle.mst_arena.specs.declared.life.Life.{Life}
@@ -62,7 +62,7 @@ module _ {A : Type 0} (t : Turn A) (root : Root) (e : Event) (m : Seat) (made : 
   standing : Standing stored m.0.rows m.0.passes held (m.0.seen ++ e ∷ []) state t.into (m.0.seen ++ e ∷ []) (numbers made.stands)
   standing = record {
     numbered = holds.into_in;
-    begins = Begins-itself (m.0.seen ++ e ∷ []);
+    begins = IsPrefix-itself (m.0.seen ++ e ∷ []);
     version = filed ∙ sym numbered;
     filed = get_or-set_same t.desk.versions t.into (next t.desk) 0 (let l = holds.records in let i = holds.into_in in omega arith) ∙ sym numbered;
     stands = aged.0;

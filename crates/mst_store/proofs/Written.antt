@@ -5,7 +5,7 @@ use native.Mathlib.Decide.{ℕ_discrete}
 use Rattle.mst_key.specs.declared.history.Change.{Change}
 use Rattle.mst_key.specs.declared.history.Event.{Event}
 use Rattle.mst_key.specs.History.{History, after}
-use Rattle.mst_arena.specs.Lives.{version, reaches, free_count, swept, last_version}
+use Rattle.mst_arena.specs.Lives.{version, reaches, free_count, swept_life, last_version}
 use Rattle.mst_arena.specs.Standing.{numbers}
 use Rattle.mst_arena.specs.declared.life.Life.{Life}
 use Rattle.mst_arena.specs.declared.life.Life.TheVariants.{Free, Born, Dead}
@@ -32,12 +32,12 @@ dead_more b d (Born c) old new more = omega (arith, more)
 dead_more b d (Dead c e) old new more = omega (arith, more)
 
 -- a sweep leaves at least the rows free that were so
-free_more : (live : List ℕ) (lives : List Life) → frees lives ≤ frees (map (swept live) lives)
+free_more : (live : List ℕ) (lives : List Life) → frees lives ≤ frees (map (swept_life live) lives)
 unfolding frees
 free_more live [] = omega arith
 free_more live (Free ∷ lives) = omega (arith, free_more live lives)
 free_more live (Born b ∷ lives) = omega (arith, free_more live lives)
-free_more live (Dead b d ∷ lives) = dead_more b d (swept live (Dead b d)) lives (map (swept live) lives) (free_more live lives)
+free_more live (Dead b d ∷ lives) = dead_more b d (swept_life live (Dead b d)) lives (map (swept_life live) lives) (free_more live lives)
 
 -- the free rows and those of the map are at most all rows
 pub room_left : {A : Type 0} (t : Turn A) (m : Seat) → HasTurn t m → free_count t.desk.lives + rows_of (after m.0.seen) ≤ m.0.rows
@@ -45,7 +45,7 @@ room_left t m h =
     let has : HasMap (content_of m.0) t.desk.lives (version t.desk) t.root (after m.0.seen) = record { stands = h.stands; rows = h.reached } in
     let all = room_alone (content_of m.0) t.desk t.root (after m.0.seen) h.settled has in
     let live = version t.desk ∷ [] in
-    omega (arith, all, free_more live t.desk.lives, frees_is t.desk.lives, frees_is (map (swept live) t.desk.lives), h.holds.rows_is)
+    omega (arith, all, free_more live t.desk.lives, frees_is t.desk.lives, frees_is (map (swept_life live) t.desk.lives), h.holds.rows_is)
 
 none_of : (r : ℕ) (xs : List ℕ) → length xs < 1 → In r xs → ⊥
 none_of r [] few within = within

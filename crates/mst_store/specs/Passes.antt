@@ -3,7 +3,7 @@ use Rattle.std.specs.Prelude.{◌≡◌, ℕ, zero, suc, ◌+◌, ◌<◌, ◌�
 use Rattle.atomic_table.specs.Seated.{TableId}
 use Rattle.mst_key.specs.declared.history.Change.{Change}
 use Rattle.mst_key.specs.declared.history.Event.{Event}
-use Rattle.mst_key.specs.History.{History, after, reply, events_of, Begins}
+use Rattle.mst_key.specs.History.{History, after, reply, events_of, IsPrefix}
 use Rattle.mst_key.specs.Map.{Pair}
 use Rattle.mst_arena.specs.Lives.{last_version}
 use Rattle.mst_words.specs.Access as access
@@ -108,7 +108,7 @@ IsSamePass p q = (q.store ≡ p.store) × (q.number ≡ p.number)
 -- The pass has now seen a history that begins with all that it had seen. Its events in it are its own, and none was added to them
 pub record Looks (p q : Known) : Type 0 where
   pub same : IsSamePass p q
-  pub later : Begins p.seen q.seen
+  pub later : IsPrefix p.seen q.seen
   pub mine : q.mine ≡ p.mine
   pub own : events_of q.number q.seen ≡ q.mine
 
@@ -132,7 +132,7 @@ LacksRoom rows m change = rows < rows_of m + rows_taken m change
 pub record Wrote (e : Event) (p : Known) (old : Option (List ℕ)) (q : Known) : Type 0 where
   pub log : History
   pub same : IsSamePass p q
-  pub later : Begins p.seen log
+  pub later : IsPrefix p.seen log
   pub seen : q.seen ≡ log ++ e ∷ []
   pub answer : old ≡ reply log e
   pub mine : q.mine ≡ p.mine ++ e ∷ []

@@ -2,7 +2,7 @@
 use Rattle.std.specs.Prelude.{◌≡◌, ◌+◌, ◌<◌, length, Some}
 use Rattle.atomic_table.specs.Table.{Me}
 use Rattle.mst_key.specs.declared.format.Format.TheVariants.{One}
-use Rattle.mst_key.specs.History.{after, events_of, Begins}
+use Rattle.mst_key.specs.History.{after, events_of, IsPrefix}
 use Rattle.mst_node.specs.Text.{root}
 use Rattle.mst_read.specs.Search.{StandsBelow}
 use Rattle.mst_words.specs.declared.view.View.{View}
@@ -23,7 +23,7 @@ pub record HasPinned (at : PinnedRoot) (v : View) : Type 0 where
 
 -- The current version was pinned. The history at the pin begins with all that the pass had seen, and its events there are its own. One step was counted, the pin. Nothing else changed
 pub record Pins {S : Type 0} (m : Me S View) (at : PinnedRoot) (m' : Me S View) : Type 0 where
-  pub later : Begins m.0.seen m'.0.place
+  pub later : IsPrefix m.0.seen m'.0.place
   pub own : events_of m.0.number m'.0.place ≡ m.0.mine
   pub has : HasPinned at m'.0
   pub rest : m' ≡ (

@@ -2,7 +2,7 @@
 use Rattle.std.specs.Prelude.{◌≡◌, ℕ, ◌+◌, ◌<◌, ◌≤◌, ◌++◌, false, List, map, All, Contains}
 use Rattle.atomic_table.specs.Seated.{TableId}
 use Rattle.mst_key.specs.declared.history.Event.{Event}
-use Rattle.mst_key.specs.History.{History, events_of, Begins}
+use Rattle.mst_key.specs.History.{History, events_of, IsPrefix}
 use Rattle.mst_words.specs.Notes.{IsOfPasses}
 use Rattle.mst_store.specs.Passes.{StoreId, Known, having_asked}
 use Rattle.mst_store.specs.Turns.{Seat}
@@ -15,7 +15,7 @@ having_seen log p = record p { seen = log; asked = p.asked + 1 + 1 }
 pub record Met (p q p' q' : Known) : Type 0 where
   pub log : History
   pub now : (p' ≡ having_seen log p) × (q' ≡ having_seen log q)
-  pub later : Begins p.seen log × Begins q.seen log
+  pub later : IsPrefix p.seen log × IsPrefix q.seen log
   pub own : (events_of p.number log ≡ p.mine) × (events_of q.number log ≡ q.mine)
 
 -- the numbers of the passes
@@ -37,7 +37,7 @@ pub record Settled (free held free' held' : List Known) : Type 0 where
   pub log : History
   pub now : free' ≡ map (having_seen log) free
   pub still : held' ≡ map (having_asked 3) held
-  pub later : All (λ p. Begins p.seen log) (free ++ held)
+  pub later : All (λ p. IsPrefix p.seen log) (free ++ held)
   pub own : All (λ p. events_of p.number log ≡ p.mine) (free ++ held)
   pub alone : All (IsOfOne (free ++ held)) log
 
@@ -55,4 +55,4 @@ pub record IsBeside (table : TableId) (passes : ℕ) (p : Known) : Type 0 where
 pub record GoesOn (m m' : Seat) : Type 0 where
   pub courier : IsCourier m'
   pub passes_is : m'.0.passes ≡ m.0.passes
-  pub later : Begins m.0.seen m'.0.seen
+  pub later : IsPrefix m.0.seen m'.0.seen

@@ -3,7 +3,7 @@ use Rattle.std.specs.Prelude.{◌≡◌, ◌≢◌, ◌↔◌, ℕ, ◌+◌, ◌
 use Rattle.atomic_table.specs.Table.{Me}
 use Rattle.mst_key.specs.declared.format.Format.TheVariants.{One}
 use Rattle.mst_key.specs.declared.history.Event.{Event}
-use Rattle.mst_key.specs.History.{History, after, events_of, Begins}
+use Rattle.mst_key.specs.History.{History, after, events_of, IsPrefix}
 use Rattle.mst_node.specs.Stays.{held}
 use Rattle.mst_arena.specs.Lives.{State, version, next, last_version, free_count, IsSettled}
 use Rattle.mst_arena.specs.Standing.{IsDistinct, Stands, numbers}
@@ -92,7 +92,7 @@ TakesDesk before desk m = (taken : Seat) × Takes stored before taken × (taken.
 
 -- The turn was taken, by one try, and each record but the current one was asked once. The whole history begins with all that the pass had seen, and its events there are its own. Nothing else changed
 pub record Begun {A : Type 0} (m : Seat) (t : Turn A) (m' : Seat) : Type 0 where
-  pub later : Begins m.0.seen m'.0.seen
+  pub later : IsPrefix m.0.seen m'.0.seen
   pub own : events_of m.0.number m'.0.seen ≡ m.0.mine
   pub has : HasTurn t m'
   pub rest : m'.0 ≡ record m.0 {
@@ -111,7 +111,7 @@ pub record Begun {A : Type 0} (m : Seat) (t : Turn A) (m' : Seat) : Type 0 where
 
 -- The turn was taken, by one try, and given back, since the last version number is spent; no record was asked. The pass has seen the whole history
 pub record Spent (m m' : Seat) : Type 0 where
-  pub later : Begins m.0.seen m'.0.seen
+  pub later : IsPrefix m.0.seen m'.0.seen
   pub own : events_of m.0.number m'.0.seen ≡ m.0.mine
   pub spent : length m'.0.seen ≡ last_version
   pub rest : m' ≡ (

@@ -4,7 +4,7 @@ use Rattle.mst_key.specs.Map.{Pair}
 use Rattle.mst_key.specs.declared.format.Format.TheVariants.{One}
 use Rattle.mst_key.specs.declared.history.Change.{Change}
 use Rattle.mst_key.specs.declared.history.Event.{Event}
-use Rattle.mst_key.specs.History.{History, after, changed, reply, events_of, Begins}
+use Rattle.mst_key.specs.History.{History, after, changed, reply, events_of, IsPrefix}
 use Rattle.mst_node.specs.Tree.{tree}
 use Rattle.mst_node.specs.Cost.{cost}
 use Rattle.mst_node.specs.Stays.{held}
@@ -57,7 +57,7 @@ KeepsPass m m' = (m'.0.number ≡ m.0.number) × (m'.0.rows ≡ m.0.rows)
 -- The event stands right behind a history that begins with all that the pass had seen, and the answer is what that history replies. The pass has now seen both. It tried the turn once, asked each record but the current one once, and published once
 pub record WroteAtSeat (e : Event) (m : Seat) (old : Option (List ℕ)) (m' : Seat) : Type 0 where
   pub log : History
-  pub later : Begins m.0.seen log
+  pub later : IsPrefix m.0.seen log
   pub own : events_of m.0.number log ≡ m.0.mine
   pub numbered : length log < last_version
   pub room : rows_of (after log) + rows_taken (after log) e.change ≤ m.0.rows
@@ -68,7 +68,7 @@ pub record WroteAtSeat (e : Event) (m : Seat) (old : Option (List ℕ)) (m' : Se
 
 -- The pass has now seen a history that begins with all that it had seen. Its events in it are its own, and none was added. It tried the turn once, and asked each record but the current one once
 pub record LookedAtSeat (m m' : Seat) : Type 0 where
-  pub later : Begins m.0.seen m'.0.seen
+  pub later : IsPrefix m.0.seen m'.0.seen
   pub own : events_of m.0.number m'.0.seen ≡ m.0.mine
   pub mine : m'.0.mine ≡ m.0.mine
   pub asked : m'.0.asked ≡ m.0.asked + m.0.passes + 2

@@ -1,7 +1,7 @@
 //! A pass: the calls that one thread makes.
 ghost use Rattle.std.specs.Prelude.{◌≡◌, ◌+◌, ◌<◌, ◌^◌, length, IfOk, IfErr, IfSome, IsSome, OnOk, OnErr};
 ghost use Rattle.mst_key.specs.declared.history.Change.TheVariants.{Put, Remove};
-ghost use Rattle.mst_key.specs.Map.{look, successor, span};
+ghost use Rattle.mst_key.specs.Map.{map_get, map_next, map_range};
 ghost use Rattle.mst_key.specs.declared.format.Format.TheVariants.{One};
 ghost use Rattle.mst_node.specs.Text.{root};
 ghost use Rattle.mst_node.specs.Trail.{proof_text};
@@ -49,7 +49,7 @@ impl<'a, A: Allocator + Copy> Pass<'a, A> {
 
     /// The value of the key. It takes no memory.
     pub fn get(&mut self, key: &Key) -> Option<Value>
-        ensures answers { Answers (λ m. look m key.now) self.old result self.new }
+        ensures answers { Answers (λ m. map_get m key.now) self.old result self.new }
         ensures once { self.new.asked ≡ self.old.asked + 1 }
     {
         let at = reading::pin(&mut self.seat, self.number);
@@ -60,7 +60,7 @@ impl<'a, A: Allocator + Copy> Pass<'a, A> {
 
     /// The pair of the least key above the bound; with no bound, of the least key. It takes no memory.
     pub fn next(&mut self, after: Option<&Key>) -> Option<(Key, Value)>
-        ensures answers { Answers (λ m. successor m (option_copied after.entry)) self.old result self.new }
+        ensures answers { Answers (λ m. map_next m (option_copied after.entry)) self.old result self.new }
         ensures once { self.new.asked ≡ self.old.asked + 1 }
     {
         let at = reading::pin(&mut self.seat, self.number);
@@ -80,7 +80,7 @@ impl<'a, A: Allocator + Copy> Pass<'a, A> {
         limit: usize,
     ) -> Result<Vec<(Key, Value), B>, Memory>
         ensures ok { IfOk result (λ found. Answers
-            (λ m. span m (option_copied from.entry) (option_copied to.entry) limit) self.old found.items self.new) }
+            (λ m. map_range m (option_copied from.entry) (option_copied to.entry) limit) self.old found.items self.new) }
         ensures memory { OnErr result (self.new ≡ having_asked 1 self.old) }
         ensures once { self.new.asked ≡ self.old.asked + 1 }
     {

@@ -1,6 +1,6 @@
 //! A pass that pins a version: it reads that version as long as it likes, whatever other passes write.
 ghost use Rattle.std.specs.Prelude.{◌≡◌, ◌+◌, ◌<◌, ◌^◌, length, IfOk};
-ghost use Rattle.mst_key.specs.Map.{look, successor, span};
+ghost use Rattle.mst_key.specs.Map.{map_get, map_next, map_range};
 ghost use Rattle.mst_key.specs.declared.format.Format.TheVariants.{One};
 ghost use Rattle.mst_node.specs.Text as text;
 ghost use Rattle.mst_node.specs.Trail.{proof_text};
@@ -78,7 +78,7 @@ impl<'a, A: Allocator + Copy> Pinned<'a, A> {
 
     /// The value of the key in the pinned version. It takes no memory.
     pub fn get(&mut self, key: &Key) -> Option<Value>
-        ensures found { result ≡ look (after_events self.old.seen) key.now }
+        ensures found { result ≡ map_get (after_events self.old.seen) key.now }
         ensures same { self.new ≡ self.old }
     {
         reading::get(&mut self.seat, &self.at, key)
@@ -86,7 +86,7 @@ impl<'a, A: Allocator + Copy> Pinned<'a, A> {
 
     /// The pair of the least key above the bound in the pinned version; with no bound, of the least key. It takes no memory.
     pub fn next(&mut self, after: Option<&Key>) -> Option<(Key, Value)>
-        ensures found { result ≡ successor (after_events self.old.seen) (option_copied after.entry) }
+        ensures found { result ≡ map_next (after_events self.old.seen) (option_copied after.entry) }
         ensures same { self.new ≡ self.old }
     {
         reading::next(&mut self.seat, &self.at, after)
@@ -102,7 +102,7 @@ impl<'a, A: Allocator + Copy> Pinned<'a, A> {
         to: Option<&Key>,
         limit: usize,
     ) -> Result<Vec<(Key, Value), B>, Memory>
-        ensures found { IfOk result (λ found. found.items ≡ span
+        ensures found { IfOk result (λ found. found.items ≡ map_range
             (after_events self.old.seen) (option_copied from.entry) (option_copied to.entry) limit) }
         ensures same { self.new ≡ self.old }
     {

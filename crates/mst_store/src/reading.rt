@@ -1,7 +1,7 @@
 //! The version that a pass pins.
 ghost use Rattle.std.specs.Prelude.{◌≡◌, ◌<◌, ◌≤◌, ◌^◌, length, IfOk};
 ghost use Rattle.std.specs.Option.{option_copied};
-ghost use Rattle.mst_key.specs.Map.{look, successor, span};
+ghost use Rattle.mst_key.specs.Map.{map_get, map_next, map_range};
 ghost use Rattle.mst_key.specs.History.{after};
 ghost use Rattle.mst_key.specs.declared.format.Format.TheVariants.{One};
 ghost use Rattle.mst_node.specs.Text as text;
@@ -52,7 +52,7 @@ pub(crate) fn get<A: Allocator + Copy>(
     key: &Key,
 ) -> Option<Value>
     requires pinned { HasPinned at.now seat.old.me.0 }
-    ensures found { result ≡ look (after seat.old.me.0.place) key.now }
+    ensures found { result ≡ map_get (after seat.old.me.0.place) key.now }
     ensures same { seat.new ≡ seat.old }
 {
     mst_read::get_below(seat, at.link, key)
@@ -65,7 +65,7 @@ pub(crate) fn next<A: Allocator + Copy>(
     bound: Option<&Key>,
 ) -> Option<(Key, Value)>
     requires pinned { HasPinned at.now seat.old.me.0 }
-    ensures found { result ≡ successor (after seat.old.me.0.place) (option_copied bound.entry) }
+    ensures found { result ≡ map_next (after seat.old.me.0.place) (option_copied bound.entry) }
     ensures same { seat.new ≡ seat.old }
 {
     mst_read::next_below(seat, at.link, bound)
@@ -92,7 +92,7 @@ pub(crate) fn range<A: Allocator + Copy, B: Allocator>(
     limit: usize,
 ) -> Result<Vec<(Key, Value), B>, Memory>
     requires pinned { HasPinned at.now seat.old.me.0 }
-    ensures found { IfOk result (λ found. found.items ≡ span
+    ensures found { IfOk result (λ found. found.items ≡ map_range
         (after seat.old.me.0.place) (option_copied from.entry) (option_copied to.entry) limit) }
     ensures same { seat.new ≡ seat.old }
 {

@@ -2,7 +2,7 @@
 //!
 //! A courier, which is a seat that is no pass, goes along the line of the passes and back. On its way there it hears what each pass has seen and looks, so that what it has seen in the end begins with what each of them had seen. On its way back each pass hears of that very history and sees it, and not what was added since.
 ghost use Rattle.std.specs.Prelude.{◌≡◌, ◌++◌, ◌<◌, [], length, map, All, IfSome, IfNone};
-ghost use Rattle.mst_key.specs.History.{events_of, Begins};
+ghost use Rattle.mst_key.specs.History.{events_of, IsPrefix};
 ghost use Rattle.mst_store.specs.Passes.{having_asked};
 ghost use Rattle.mst_store.specs.Settling.{having_seen, Met, AreAllPasses, Settled, IsCourier, IsBeside, GoesOn};
 
@@ -67,7 +67,7 @@ fn send_courier<'a, A: Allocator + Copy>(pass: &mut Pass<'a, A>) -> PassSeat<'a,
     ensures same { pass.new ≡ pass.old }
     ensures courier { IsCourier result.me }
     ensures own { IsBeside result.table result.me.0.passes pass.old }
-    ensures later { Begins pass.old.seen result.me.0.seen }
+    ensures later { IsPrefix pass.old.seen result.me.0.seen }
 {
     let mut courier = pass.seat.write_note();
     courier.see_all();
@@ -92,7 +92,7 @@ fn collect_all<'a, A: Allocator + Copy>(line: &mut [Pass<'a, A>], courier: &mut 
     ensures same { line.new ≡ line.old }
     ensures table { courier.new.table ≡ courier.old.table }
     ensures courier { GoesOn courier.old.me courier.new.me }
-    ensures later { All (λ p. Begins p.seen courier.new.me.0.seen) line.old }
+    ensures later { All (λ p. IsPrefix p.seen courier.new.me.0.seen) line.old }
 {
     for pass in line.iter_mut() {
         collect(pass, courier);
@@ -106,7 +106,7 @@ fn collect_held<'a, A: Allocator + Copy>(line: &mut [Pinned<'a, A>], courier: &m
     ensures asked { line.new ≡ map (having_asked 1) line.old }
     ensures table { courier.new.table ≡ courier.old.table }
     ensures courier { GoesOn courier.old.me courier.new.me }
-    ensures later { All (λ p. Begins p.seen courier.new.me.0.seen) line.old }
+    ensures later { All (λ p. IsPrefix p.seen courier.new.me.0.seen) line.old }
 {
     for pinned in line.iter_mut() {
         collect_pinned(pinned, courier);
@@ -116,7 +116,7 @@ fn collect_held<'a, A: Allocator + Copy>(line: &mut [Pinned<'a, A>], courier: &m
 /// The way back: each pass hears what the courier has seen, and has then seen it too.
 fn deliver_all<'a, A: Allocator + Copy>(line: &mut [Pass<'a, A>], courier: &mut PassSeat<'a, A>)
     requires own { All (IsBeside courier.old.table courier.old.me.0.passes) line.old }
-    requires later { All (λ p. Begins p.seen courier.old.me.0.seen) line.old }
+    requires later { All (λ p. IsPrefix p.seen courier.old.me.0.seen) line.old }
     ensures table { courier.new.table ≡ courier.old.table }
     ensures same { courier.new.me ≡ courier.old.me }
     ensures now { line.new ≡ map (having_seen courier.old.me.0.seen) line.old }
@@ -130,7 +130,7 @@ fn deliver_all<'a, A: Allocator + Copy>(line: &mut [Pass<'a, A>], courier: &mut 
 /// The way back along the pinned passes: each hears what the courier has seen, and looks.
 fn deliver_held<'a, A: Allocator + Copy>(line: &mut [Pinned<'a, A>], courier: &mut PassSeat<'a, A>)
     requires own { All (IsBeside courier.old.table courier.old.me.0.passes) line.old }
-    requires later { All (λ p. Begins p.seen courier.old.me.0.seen) line.old }
+    requires later { All (λ p. IsPrefix p.seen courier.old.me.0.seen) line.old }
     ensures asked { line.new ≡ map (having_asked 2) line.old }
     ensures own { All (λ p. events_of p.number courier.old.me.0.seen ≡ p.mine) line.old }
 {
@@ -146,7 +146,7 @@ fn collect<'a, A: Allocator + Copy>(pass: &mut Pass<'a, A>, courier: &mut PassSe
     ensures same { pass.new ≡ pass.old }
     ensures table { courier.new.table ≡ courier.old.table }
     ensures courier { GoesOn courier.old.me courier.new.me }
-    ensures later { Begins pass.old.seen courier.new.me.0.seen }
+    ensures later { IsPrefix pass.old.seen courier.new.me.0.seen }
 {
     let note = pass.seat.write_note();
     courier.hear_note::<Brand>(note);
@@ -156,7 +156,7 @@ fn collect<'a, A: Allocator + Copy>(pass: &mut Pass<'a, A>, courier: &mut PassSe
 /// The pass hears what the courier has seen, and has then seen it too.
 fn deliver<'a, A: Allocator + Copy>(pass: &mut Pass<'a, A>, courier: &mut PassSeat<'a, A>)
     requires own { IsBeside courier.old.table courier.old.me.0.passes pass.old }
-    requires later { Begins pass.old.seen courier.old.me.0.seen }
+    requires later { IsPrefix pass.old.seen courier.old.me.0.seen }
     ensures table { courier.new.table ≡ courier.old.table }
     ensures same { courier.new.me ≡ courier.old.me }
     ensures now { pass.new ≡ having_seen courier.old.me.0.seen pass.old }
@@ -177,7 +177,7 @@ fn collect_pinned<'a, A: Allocator + Copy>(
     ensures asked { pinned.new ≡ having_asked 1 pinned.old }
     ensures table { courier.new.table ≡ courier.old.table }
     ensures courier { GoesOn courier.old.me courier.new.me }
-    ensures later { Begins pinned.old.seen courier.new.me.0.seen }
+    ensures later { IsPrefix pinned.old.seen courier.new.me.0.seen }
 {
     pinned.seat.see_all();
     let note = pinned.seat.write_note();
@@ -191,7 +191,7 @@ fn deliver_pinned<'a, A: Allocator + Copy>(
     courier: &mut PassSeat<'a, A>,
 )
     requires own { IsBeside courier.old.table courier.old.me.0.passes pinned.old }
-    requires later { Begins pinned.old.seen courier.old.me.0.seen }
+    requires later { IsPrefix pinned.old.seen courier.old.me.0.seen }
     ensures table { courier.new.table ≡ courier.old.table }
     ensures same { courier.new.me ≡ courier.old.me }
     ensures asked { pinned.new ≡ having_asked 2 pinned.old }

@@ -9,7 +9,7 @@ use Rattle.mst_proof.specs.declared.fault.ProofFault.TheVariants.{Version, CutSh
 use Rattle.mst_proof.specs.Verdict.{verdict}
 use Rattle.mst_verifier.specs.declared.question.Refusal.{Refusal}
 use Rattle.mst_verifier.specs.declared.question.Refusal.TheVariants.{Format, Root, Key, Proof}
-use Rattle.mst_verifier.specs.Question.{judged, answer_of}
+use Rattle.mst_verifier.specs.Question.{with_refusal, answer_of}
 use Rattle.mst_verifier.specs.Codes.{refusal_code, code_of, room_after}
 use Rattle.mst_verifier.specs.Told.{Tells}
 
@@ -69,7 +69,7 @@ told room (Err r) (Some w) t = absurd (refused r (pos (length w)) refl t.0)
 
 -- ---- from the question to the verdict
 
-of_tests : (b c d : Bool) (v : Result (Option (List ℕ)) ProofFault) (a : Option (List ℕ)) → (if b then (if c then (if d then judged v else Err Key) else Err Root) else Err Format) ≡ Ok a → v ≡ Ok a
+of_tests : (b c d : Bool) (v : Result (Option (List ℕ)) ProofFault) (a : Option (List ℕ)) → (if b then (if c then (if d then with_refusal v else Err Key) else Err Root) else Err Format) ≡ Ok a → v ≡ Ok a
 of_tests true true true (Ok x) a e = let same : x ≡ a = cc in ap (λ (y : Option (List ℕ)). Ok y) same
 of_tests true true true (Err f) a e = absurd (cc)
 of_tests true true false v a e = absurd (cc)
@@ -86,7 +86,7 @@ verdict_told format root key proof room after code a is left t =
 
 -- ---- and back
 
-answered : (format : ℕ) (root key proof : List ℕ) → format ≡ 1 → length root ≡ 32 → IsKey key → answer_of format root key proof ≡ judged (verdict root key proof)
+answered : (format : ℕ) (root key proof : List ℕ) → format ≡ 1 → length root ≡ 32 → IsKey key → answer_of format root key proof ≡ with_refusal (verdict root key proof)
 answered format root key proof one digest fits = search (tests, rules)
 
 value_told : (b : Bool) (room v : List ℕ) → b ≡ false → Tells (if b then negsuc 1 else pos (length v)) (if b then room else v ++ drop (length v) room) (Some v)
@@ -100,6 +100,6 @@ tells room (Some v) fits = value_told (nat_lt (length room) (length v)) room v (
 -- the verdict's answer is told, where it fits
 pub tells_verdict : (format : ℕ) (root key proof room after : List ℕ) (code : ℤ) (a : Option (List ℕ)) → format ≡ 1 → length root ≡ 32 → IsKey key → IfSome a (λ v. length v ≤ length room) → code ≡ code_of (length room) (answer_of format root key proof) → after ≡ room_after room (answer_of format root key proof) → verdict root key proof ≡ Ok a → Tells code after a
 tells_verdict format root key proof room after code a one digest key_fits fits is left v =
-    let x : answer_of format root key proof ≡ Ok a = answered format root key proof one digest key_fits ∙ ap judged v in
+    let x : answer_of format root key proof ≡ Ok a = answered format root key proof one digest key_fits ∙ ap with_refusal v in
     let at_code = subst (λ (z : ℤ). Tells z (room_after room (Ok a)) a) (sym (is ∙ ap (code_of (length room)) x)) (tells room a fits) in
     subst (λ (r : List ℕ). Tells code r a) (sym (left ∙ ap (room_after room) x)) at_code

@@ -5,9 +5,9 @@ use Rattle.mst_proof.specs.Verdict.{verdict}
 use Rattle.mst_verifier.specs.declared.question.Refusal.{Refusal}
 use Rattle.mst_verifier.specs.declared.question.Refusal.TheVariants.{Format, Root, Key, Proof}
 
-abbrev pub judged : Result (Option (List ℕ)) ProofFault → Result (Option (List ℕ)) Refusal
-judged (Ok answer) = Ok answer
-judged (Err fault) = Err (Proof fault)
+abbrev pub with_refusal : Result (Option (List ℕ)) ProofFault → Result (Option (List ℕ)) Refusal
+with_refusal (Ok answer) = Ok answer
+with_refusal (Err fault) = Err (Proof fault)
 
 -- the format is 1, a root digest has 32 bytes, a key has 1 to 32; the first that is not so is told, else what the proof comes to
 abbrev pub answer_of : ℕ → List ℕ → List ℕ → List ℕ → Result (Option (List ℕ)) Refusal
@@ -15,7 +15,7 @@ answer_of format root key proof =
     if format == 1
     then (if length root == 32
     then (if nat_le 1 (length key) && nat_le (length key) 32
-    then judged (verdict root key proof)
+    then with_refusal (verdict root key proof)
     else Err Key)
     else Err Root)
     else Err Format

@@ -6,7 +6,7 @@
 ghost use Rattle.std.specs.Prelude.{◌≡◌, ◌≢◌, ◌≤◌, List, ℕ, Option, length, IfSome};
 ghost use Rattle.mst_key.specs.declared.format.Format.TheVariants.{One};
 ghost use Rattle.mst_key.specs.Bytes.{IsKey};
-ghost use Rattle.mst_key.specs.Map.{Pair, look};
+ghost use Rattle.mst_key.specs.Map.{Pair, map_get};
 ghost use Rattle.mst_node.specs.Collision.{HasCollision};
 ghost use Rattle.mst_node.specs.Trail.{proof_text};
 ghost use Rattle.mst_node.specs.Tree.{tree};
@@ -41,9 +41,9 @@ pub extern "C" fn mst_verify(
     // What is told is what the proof is accepted with.
     ensures accepted { (a : Option (List ℕ)) → Tells result room.new a → Accepted root.now key.now proof.now a }
     // The map's answer is told where the proof is the map's and the room takes the value.
-    ensures complete { (m : List Pair) → format ≡ 1 → length root.now ≡ 32 → IsKey key.now → HasRoot m root.now → proof.now ≡ proof_text One m key.now → IfSome (look m key.now) (λ v. length v ≤ length room.old) → Tells result room.new (look m key.now) }
+    ensures complete { (m : List Pair) → format ≡ 1 → length root.now ≡ 32 → IsKey key.now → HasRoot m root.now → proof.now ≡ proof_text One m key.now → IfSome (map_get m key.now) (λ v. length v ≤ length room.old) → Tells result room.new (map_get m key.now) }
     // Where another answer is told for a map's root, two different texts have one SHA-256: two of those of the proof, those of the nodes of the map's tree, and the empty text.
-    ensures sound { (m : List Pair) (a : Option (List ℕ)) → HasRoot m root.now → Tells result room.new a → a ≢ look m key.now → HasCollision (texts_named proof.now (tree One m)) }
+    ensures sound { (m : List Pair) (a : Option (List ℕ)) → HasRoot m root.now → Tells result room.new a → a ≢ map_get m key.now → HasCollision (texts_named proof.now (tree One m)) }
 {
     tell(format, root, key, proof, room)
 }

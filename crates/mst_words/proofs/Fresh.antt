@@ -6,7 +6,7 @@ use Rattle.std.proofs.lemmas.List.{length-replicate, get_or-replicate}
 use Rattle.std.proofs.lemmas.Option.{slice_get-get_or, slice_get_past}
 use native.Mathlib.Decide.{dec_le}
 use Rattle.mst_key.specs.Bytes.{IsBytes}
-use Rattle.mst_key.proofs.HistoryLaws.{Begins-nil}
+use Rattle.mst_key.proofs.HistoryLaws.{IsPrefix-nil}
 use Rattle.mst_node.specs.Text.{digest_of}
 use Rattle.mst_node.specs.Tree.{tree, tree_within}
 use Rattle.mst_arena.specs.declared.life.Life.{Life}
@@ -82,7 +82,7 @@ pub fresh_standing : (R N : ℕ) (ws : List ℕ) → ((i : ℕ) → i < 38 → s
     → Standing stored R N ws [] (desk_state (fresh_desk R N)) 0 [] []
 fresh_standing R N ws front digest = record {
   numbered = omega arith;
-  begins = Begins-nil [];
+  begins = IsPrefix-nil [];
   version = front 36 (omega arith);
   filed = get_or-replicate (N + 2) 0 0 0 (omega arith);
   stands = (empty_stands (row ws) (field ws 0) (desk_state (fresh_desk R N)) (front 37 (omega arith)) digest).0;

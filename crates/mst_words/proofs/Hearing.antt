@@ -4,8 +4,8 @@ use Rattle.std.proofs.lemmas.Option.{none-some}
 use mathlib.Core.Option.{none}
 use Rattle.atomic_table.specs.Table.{State, Me, step, keeps, stepped, Allows, Splits, Joins}
 use Rattle.atomic_table.proofs.Lists.{at_snoc, at_longer, set_again, set_else}
-use Rattle.mst_key.specs.History.{History, events_of, Begins}
-use Rattle.mst_key.proofs.HistoryLaws.{Begins-itself, Begins-nil, events_of-between}
+use Rattle.mst_key.specs.History.{History, events_of, IsPrefix}
+use Rattle.mst_key.proofs.HistoryLaws.{IsPrefix-itself, IsPrefix-nil, events_of-between}
 use Rattle.mst_words.specs.declared.view.View.{View}
 use Rattle.mst_words.specs.World.{SeatAt, Fits, IsPlaced, World}
 use Rattle.mst_words.specs.Records.{Meaning, IsFramed}
@@ -24,7 +24,7 @@ world_note : (rows passes next : ℕ) (log : History) (views : List View) (id : 
 world_note rows passes next log views id v h at = let n : View = note_of v in record {
   fits = λ i u e. ⊎_elim (λ (t : SeatAt views i u). h.fits i u t) (λ (t : n ≡ u). subst (Fits log) t (record {
     seen = (h.fits id v at).seen;
-    told = Begins-nil log;
+    told = IsPrefix-nil log;
     own = events_none 0 log (λ k d l same. let b = (h.named k d l).0 in omega arith);
     mine = λ l. absurd (omega arith);
     pinned = λ r is. absurd (none-some r is);
@@ -50,7 +50,7 @@ world_note rows passes next log views id v h at = let n : View = note_of v in re
 
 module _ {S : Type 0} (T : Meaning S) (framed : IsFramed T) (R N : ℕ) where
   -- a seat without the turn sees another beginning of the history
-  seen_set : (s : State S View) (q : Parts T R N s) (id i : ℕ) (cs : List (ℕ × S)) (v : View) (seen : History) → SeatAt s.views id v → v.turn ≡ false → Begins seen q.log → (0 < v.number → events_of v.number seen ≡ v.mine)
+  seen_set : (s : State S View) (q : Parts T R N s) (id i : ℕ) (cs : List (ℕ × S)) (v : View) (seen : History) → SeatAt s.views id v → v.turn ≡ false → IsPrefix seen q.log → (0 < v.number → events_of v.number seen ≡ v.mine)
       → Parts T R N (stepped s i (get_or s.words i 0) id cs (record v { seen = seen; asked = v.asked + 1 }) keeps)
   seen_set s q id i cs v seen at off begins own = let w : View = record v { seen = seen; asked = v.asked + 1 } in
       looked T framed R N s q id i cs v w at refl refl refl refl refl refl refl refl refl (λ on. off_true v off on) (let f = q.world.fits id v at in record { seen = begins; told = f.told; own = f.own; mine = own; pinned = f.pinned }) (off_true w off)
@@ -72,11 +72,11 @@ module _ {S : Type 0} (T : Meaning S) (framed : IsFramed T) (R N : ℕ) where
     record me.0 { seen = q.log; asked = me.0.asked + 1 },
     keeps,
     tt,
-    ruled T framed R N _ (seen_set s q id i me.1 me.0 q.log at off (Begins-itself q.log) (λ _. (q.world.fits id me.0 at).own)),
+    ruled T framed R N _ (seen_set s q id i me.1 me.0 q.log at off (IsPrefix-itself q.log) (λ _. (q.world.fits id me.0 at).own)),
     record { log = q.log; finds = found s q id me at; is = refl },
   )
 
-  pub told_allows : (slots id i : ℕ) (me : Me S View) → me.0.turn ≡ false → Begins me.0.seen me.0.told → Allows (Ruled T R N) slots id me i (λ n. n) (λ r. sees_told (step slots i 0 0 none) me r)
+  pub told_allows : (slots id i : ℕ) (me : Me S View) → me.0.turn ≡ false → IsPrefix me.0.seen me.0.told → Allows (Ruled T R N) slots id me i (λ n. n) (λ r. sees_told (step slots i 0 0 none) me r)
   told_allows slots id i me off forward s whole _ at _ = let q = whole.parts in (
     record me.0 { seen = me.0.told; asked = me.0.asked + 1 },
     keeps,

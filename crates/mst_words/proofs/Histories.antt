@@ -4,11 +4,11 @@ use Rattle.std.specs.List.{All, slice_index_or}
 use mathlib.Core.Logic.{dite}
 use native.Mathlib.Decide.{ℕ_discrete}
 use Rattle.mst_key.specs.declared.history.Event.{Event}
-use Rattle.mst_key.specs.History.{History, events_of, Begins}
-use Rattle.mst_key.proofs.HistoryLaws.{Begins-itself, Begins-append, Begins-chain, Begins-length, Begins-compare, events_of-append, events_of-begins}
+use Rattle.mst_key.specs.History.{History, events_of, IsPrefix}
+use Rattle.mst_key.proofs.HistoryLaws.{IsPrefix-itself, IsPrefix-append, IsPrefix-chain, IsPrefix-length, IsPrefix-compare, events_of-append, events_of-begins}
 
-pub begins_longer : (seen log more : History) → Begins seen log → Begins seen (log ++ more)
-begins_longer seen log more b = Begins-chain seen log (log ++ more) b (Begins-append log more)
+pub begins_longer : (seen log more : History) → IsPrefix seen log → IsPrefix seen (log ++ more)
+begins_longer seen log more b = IsPrefix-chain seen log (log ++ more) b (IsPrefix-append log more)
 
 -- a pass that no event names has none
 pub events_none : (p : ℕ) (log : History) → ((k : ℕ) (d : Event) → k < length log → (slice_index_or log k d).pass ≢ p) → events_of p log ≡ []
@@ -31,9 +31,9 @@ last_named P [] e all = all 0 e (omega arith)
 last_named P (x ∷ xs) e all = last_named P xs e (λ k d l. all (suc k) d (omega arith))
 
 -- a pass that has seen its own events, of which the last of the history is one, has seen the history
-pub all_seen : (p : ℕ) (mine seen front : History) (e : Event) → e.pass ≡ p → Begins seen (front ++ e ∷ []) → events_of p seen ≡ mine → events_of p (front ++ e ∷ []) ≡ mine → seen ≡ front ++ e ∷ []
+pub all_seen : (p : ℕ) (mine seen front : History) (e : Event) → e.pass ≡ p → IsPrefix seen (front ++ e ∷ []) → events_of p seen ≡ mine → events_of p (front ++ e ∷ []) ≡ mine → seen ≡ front ++ e ∷ []
 all_seen p mine seen front e is b here all = dite (ℕ_discrete (length seen) (length (front ++ e ∷ [])))
-    (λ same. sym (Begins-length seen (front ++ e ∷ []) b (sym same)))
+    (λ same. sym (IsPrefix-length seen (front ++ e ∷ []) b (sym same)))
     (λ other. absurd (too_few other))
   where
     whole : length (front ++ e ∷ []) ≡ length front + 1
@@ -42,12 +42,12 @@ all_seen p mine seen front e is b here all = dite (ℕ_discrete (length seen) (l
     long : length (front ++ e ∷ []) ≡ length seen + length b.0
     long = ap length b.1 ∙ length-append seen b.0
 
-    early : length seen ≢ length (front ++ e ∷ []) → Begins seen front
-    early other = ⊎_elim (λ (c : Begins seen front). c)
-        (λ (c : Begins front seen). let more : length seen ≡ length front + length c.0 = ap length c.1 ∙ length-append front c.0 in
+    early : length seen ≢ length (front ++ e ∷ []) → IsPrefix seen front
+    early other = ⊎_elim (λ (c : IsPrefix seen front). c)
+        (λ (c : IsPrefix front seen). let more : length seen ≡ length front + length c.0 = ap length c.1 ∙ length-append front c.0 in
         let same : length seen ≡ length front = omega (arith, whole, long, more, other) in
-        subst (λ (l : History). Begins l front) (sym (Begins-length front seen c same)) (Begins-itself front))
-        (Begins-compare seen front (front ++ e ∷ []) b (Begins-append front (e ∷ [])))
+        subst (λ (l : History). IsPrefix l front) (sym (IsPrefix-length front seen c same)) (IsPrefix-itself front))
+        (IsPrefix-compare seen front (front ++ e ∷ []) b (IsPrefix-append front (e ∷ [])))
 
     too_few : length seen ≢ length (front ++ e ∷ []) → ⊥
     too_few other = let c = events_of-begins p seen front (early other) in

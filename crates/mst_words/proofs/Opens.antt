@@ -6,7 +6,7 @@ use Rattle.std.proofs.lemmas.Nat.Bits.{bit_at-zero}
 use mathlib.Core.Option.{some-injective, some-ne-none}
 use Rattle.atomic_table.specs.Table.{State, opening, Splits}
 use Rattle.mst_pin.specs.State as core
-use Rattle.mst_key.proofs.HistoryLaws.{Begins-nil}
+use Rattle.mst_key.proofs.HistoryLaws.{IsPrefix-nil}
 use Rattle.mst_words.specs.declared.view.View.{View}
 use Rattle.mst_words.specs.declared.view.DeskState.{DeskState}
 use Rattle.mst_words.specs.World.{SeatAt, Fits, IsPlaced, dealer, having_dealt, newcomer}
@@ -132,7 +132,7 @@ module _ {S : Type 0} (T : Meaning S) (framed : IsFramed T) (R N : ℕ) where
       held = λ i u e on. off i u e on;
     };
     world = record {
-      fits = λ i u e. subst (Fits []) (one i u e) (record { seen = Begins-nil []; told = Begins-nil []; own = refl; mine = λ _. refl; pinned = λ r is. absurd (none-some r is) });
+      fits = λ i u e. subst (Fits []) (one i u e) (record { seen = IsPrefix-nil []; told = IsPrefix-nil []; own = refl; mine = λ _. refl; pinned = λ r is. absurd (none-some r is) });
       placed = λ i u e. subst (IsPlaced R N 1) (one i u e) (record { rows_is = refl; passes_is = refl; number = omega arith; deals = λ _. (refl, refl) });
       apart = λ i j a b p q _ _. here i a p ∙ sym (here j b q);
       seated = λ p pos below. absurd (omega arith);

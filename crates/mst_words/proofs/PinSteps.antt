@@ -4,7 +4,7 @@ use mathlib.Core.Option.{none}
 use Rattle.std.proofs.lemmas.Option.{same_Some, none-some}
 use Rattle.atomic_table.specs.Table.{Me, step, keeps, stepped, Allows}
 use Rattle.mst_key.specs.History.{History}
-use Rattle.mst_key.proofs.HistoryLaws.{Begins-itself}
+use Rattle.mst_key.proofs.HistoryLaws.{IsPrefix-itself}
 use Rattle.mst_words.specs.declared.view.View.{View}
 use Rattle.mst_words.specs.World.{SeatAt, Fits}
 use Rattle.mst_words.specs.Pins.{done, pin_bit}
@@ -68,7 +68,7 @@ module _ {S : Type 0} (T : Meaning S) (framed : IsFramed T) (R N : ℕ) where
         rows = rows_upper T framed R N q.cur s.words q.log q.desk q.place q.used s.views id v q.rows at ws w (λ j l. stays s.words 1 n j (λ f. omega arith)) (length-set s.words 1 n)
             (λ r e. let same : q.cur ≡ r = same_Some q.cur r e in (inl (sym same), subst (λ (z : ℕ). Reads T R N ws z (q.place z) (q.used z) w) same (read_now s q w n refl refl refl)))
             (λ on. absurd (let c : true ≡ false = sym on ∙ off in cc));
-        world = world_set R N q.next q.log s.views id v w q.world at (record { number = refl; deals = refl; rows = refl; passes = refl }) (let f = q.world.fits id v at in record { seen = f.seen; told = f.told; own = f.own; mine = f.mine; pinned = λ r _. (Begins-itself q.log, f.own) });
+        world = world_set R N q.next q.log s.views id v w q.world at (record { number = refl; deals = refl; rows = refl; passes = refl }) (let f = q.world.fits id v at in record { seen = f.seen; told = f.told; own = f.own; mine = f.mine; pinned = λ r _. (IsPrefix-itself q.log, f.own) });
         clear = clear_set N q.beside (turned q.cur q.beside k) s.words ws s.views id v w q.clear at q.cur k (λ r b l other. pin_others q.cur q.beside s.words ws k r b (done_same r) other)
             (λ r b l other. pin_elsewhere q.cur q.beside s.words ws k r b (done_same r) other) number refl (λ r e. absurd (none-some r (sym free ∙ e))) (inl refl);
         counts = counts_set N q.cur s.views id v w q.counts at refl (inr (inr refl)) (λ on. absurd (let c : true ≡ false = sym on ∙ off in cc));

@@ -13,7 +13,7 @@ use Rattle.mst_words.specs.Records.{Meaning, IsFramed, Agrees, Standing}
 use Rattle.mst_words.specs.Rule.{Turn, Parts, Ruled}
 use Rattle.mst_words.specs.Steps.{IsFree, takes_turn, IsGiving, gives_turn}
 use Rattle.mst_words.proofs.Worlds.{world_set}
-use Rattle.mst_key.proofs.HistoryLaws.{Begins-itself}
+use Rattle.mst_key.proofs.HistoryLaws.{IsPrefix-itself}
 use Rattle.mst_words.proofs.Seats.{same_view}
 use Rattle.mst_words.proofs.Turns.{turn_taken, turn_given, only_one}
 use Rattle.mst_words.proofs.PinParts.{bits_stay, pins_same}
@@ -55,7 +55,7 @@ module _ {S : Type 0} (T : Meaning S) (framed : IsFramed T) (R N : ℕ) where
         rows = rows_upper T framed R N q.cur s.words q.log q.desk q.place q.used s.views id v q.rows at ws w upper (length-set s.words 0 p)
             (λ r e. absurd (let f : None ≡ Some r = sym unpinned ∙ e in cc))
             (λ _. (sym (length-set s.words 0 p), upper));
-        world = world_set R N q.next q.log s.views id v w q.world at (record { number = refl; deals = refl; rows = refl; passes = refl }) (let f = q.world.fits id v at in record { seen = Begins-itself q.log; told = f.told; own = f.own; mine = λ _. f.own; pinned = f.pinned });
+        world = world_set R N q.next q.log s.views id v w q.world at (record { number = refl; deals = refl; rows = refl; passes = refl }) (let f = q.world.fits id v at in record { seen = IsPrefix-itself q.log; told = f.told; own = f.own; mine = λ _. f.own; pinned = f.pinned });
         clear = clear_same N q.beside q.beside s.words ws s.views id v w q.clear at (λ r k l. bits_stay q.beside s.words ws r k (stays s.words 0 p (r + 2) (λ f. omega arith))) refl refl;
         counts = counts_set N q.cur s.views id v w q.counts at refl (inl refl) (λ _. ([], tt));
         path = path_same N q.cur q.due s.views id v w q.path at refl refl;

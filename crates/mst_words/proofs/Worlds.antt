@@ -9,10 +9,10 @@ use native.Mathlib.Decide.{ℕ_discrete}
 use lib.ListN.{get_elem?}
 use Rattle.atomic_table.proofs.Lists.{at_set, at_last, at_snoc, at_longer, set_here, set_else}
 use Rattle.mst_key.specs.declared.history.Event.{Event}
-use Rattle.mst_key.specs.History.{History, events_of, Begins}
+use Rattle.mst_key.specs.History.{History, events_of, IsPrefix}
 use Rattle.mst_words.specs.declared.view.View.{View}
 use Rattle.mst_words.specs.World.{SeatAt, Fits, IsPlaced, World, having_dealt, newcomer}
-use Rattle.mst_key.proofs.HistoryLaws.{Begins-itself}
+use Rattle.mst_key.proofs.HistoryLaws.{IsPrefix-itself}
 use Rattle.mst_words.proofs.Histories.{begins_longer, events_none, events_own, events_other}
 
 -- a view that stands where another stood
@@ -91,8 +91,8 @@ module _ (rows passes : ℕ) where
 
       own : Fits (log ++ e ∷ []) w
       own = let f = h.fits id v at in record {
-        seen = subst (λ (z : History). Begins z (log ++ e ∷ [])) (sym seen) (Begins-itself (log ++ e ∷ []));
-        told = subst (λ (z : History). Begins z (log ++ e ∷ [])) (sym told) (begins_longer v.told log (e ∷ []) f.told);
+        seen = subst (λ (z : History). IsPrefix z (log ++ e ∷ [])) (sym seen) (IsPrefix-itself (log ++ e ∷ []));
+        told = subst (λ (z : History). IsPrefix z (log ++ e ∷ [])) (sym told) (begins_longer v.told log (e ∷ []) f.told);
         own = all_own;
         mine = λ _. ap (events_of w.number) seen ∙ all_own;
         pinned = λ r is. absurd (none-some r (sym free ∙ is));

@@ -2,7 +2,7 @@
 use Rattle.std.specs.Prelude.{◌≡◌, ℕ, ◌+◌, ◌<◌, ◌≤◌, Some}
 use Rattle.std.specs.List.{All}
 use Rattle.atomic_table.specs.Table.{Me, Step}
-use Rattle.mst_key.specs.History.{History, events_of, Begins}
+use Rattle.mst_key.specs.History.{History, events_of, IsPrefix}
 use Rattle.mst_words.specs.declared.view.View.{View}
 use Rattle.mst_words.specs.World.{idle}
 
@@ -25,9 +25,9 @@ IsOfPasses n log = All (λ e. (0 < e.pass) × (e.pass ≤ n)) log
 module _ {S : Type 0} where
   -- The whole history was found. It begins with what the seat had seen and with what it was told, and, while the seat is pinned, with the history at its pin. The events of its number there are its own, and each event is of a pass of the store
   pub record Finds (m : Me S View) (log : History) : Type 0 where
-    pub later : Begins m.0.seen log
-    pub told : Begins m.0.told log
-    pub pinned : (r : ℕ) → m.0.pin ≡ Some r → Begins m.0.place log
+    pub later : IsPrefix m.0.seen log
+    pub told : IsPrefix m.0.told log
+    pub pinned : (r : ℕ) → m.0.pin ≡ Some r → IsPrefix m.0.place log
     pub own : events_of m.0.number log ≡ m.0.mine
     pub alone : IsOfPasses m.0.passes log
 
@@ -40,7 +40,7 @@ module _ {S : Type 0} where
   -- The whole history was found, and the seat has now seen the beginning of it that it was told of, which is no less than it had seen
   pub record SeesTold (m m' : Me S View) : Type 0 where
     pub log : History
-    pub forward : Begins m.0.seen m.0.told
+    pub forward : IsPrefix m.0.seen m.0.told
     pub finds : Finds m log
     pub is : m' ≡ (record m.0 { seen = m.0.told; asked = m.0.asked + 1 }, m.1)
 

@@ -1,6 +1,6 @@
 -- What the records and the rows of the table stand for: the current record and each pinned one for the map at its place in the history, on exactly the rows that the desk says its version reaches.
 use Rattle.std.specs.Prelude.{◌≡◌, ◌⊎◌, ◌↔◌, ℕ, ◌+◌, ◌<◌, ◌≤◌, true, List, length, slice_index, Some}
-use Rattle.mst_key.specs.History.{History, Begins}
+use Rattle.mst_key.specs.History.{History, IsPrefix}
 use Rattle.mst_words.specs.declared.view.View.{View}
 use Rattle.mst_words.specs.declared.view.DeskState.{DeskState}
 use Rattle.mst_words.specs.Layout.{record_words, row_words, first_record, record_word, row_word}
@@ -55,7 +55,7 @@ module _ {S : Type 0} (T : Meaning S) where
     -- a record stands for the map at a place of the history, by these rows, which are those that its version reaches; and the desk knows how old they are
     pub record Standing (ws : List ℕ) (log : History) (desk : DeskState) (r : ℕ) (place : History) (used : List ℕ) : Type 0 where
       pub numbered : r < n + 2
-      pub begins : Begins place log
+      pub begins : IsPrefix place log
       pub version : field ws r 0 ≡ length place
       pub filed : T.version desk r ≡ length place
       pub stands : T.Stands (row ws) (field ws r) (T.after place) used

@@ -3,7 +3,7 @@ use Rattle.std.specs.Prelude.{◌≡◌, ◌≢◌, ◌⊎◌, ℕ, ◌+◌, ◌
 use Rattle.atomic_table.specs.Table.{Me, Step}
 use Rattle.mst_key.specs.declared.history.Change.TheVariants.{Remove}
 use Rattle.mst_key.specs.declared.history.Event.{Event}
-use Rattle.mst_key.specs.History.{History, events_of, Begins}
+use Rattle.mst_key.specs.History.{History, events_of, IsPrefix}
 use Rattle.mst_words.specs.declared.view.View.{View}
 use Rattle.mst_words.specs.declared.view.DeskState.{DeskState}
 use Rattle.mst_words.specs.Layout.{record_words, row_words, first_record, done_word, record_word, row_word, table_words}
@@ -133,7 +133,7 @@ module _ {S : Type 0} (T : Meaning S) where
     pub used : List ℕ
     pub dealt : (0 < m.0.number) × (m.0.number ≤ m.0.passes)
     pub is_desk : T.IsDesk value m.0.rows m.0.passes desk
-    pub later : Begins m.0.seen log
+    pub later : IsPrefix m.0.seen log
     pub own : events_of m.0.number log ≡ m.0.mine
     pub short : length log < 9223372036854775808
     pub wide : length words ≡ table_words m.0.rows
@@ -175,7 +175,7 @@ module _ {S : Type 0} (T : Meaning S) where
     pub small : mask < 4294967296
     pub in_table : cur < m.0.passes + 2
     pub wide : length words ≡ table_words m.0.rows
-    pub later : Begins m.0.seen log
+    pub later : IsPrefix m.0.seen log
     pub own : events_of m.0.number log ≡ m.0.mine
     pub version : field words cur 0 ≡ length log
     pub stands : T.Stands (row words) (field words cur) (T.after log) used

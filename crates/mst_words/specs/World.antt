@@ -3,7 +3,7 @@ use Rattle.std.specs.Prelude.{◌≡◌, ℕ, ◌+◌, ◌<◌, ◌≤◌, false
 use Rattle.std.specs.List.{All}
 use mathlib.Core.Option.{some}
 use lib.ListN.{get_elem?}
-use Rattle.mst_key.specs.History.{History, events_of, Begins}
+use Rattle.mst_key.specs.History.{History, events_of, IsPrefix}
 use Rattle.mst_words.specs.declared.view.View.{View}
 use Rattle.mst_words.specs.declared.view.DeskState.{DeskState}
 
@@ -13,11 +13,11 @@ SeatAt views i v = get_elem? views i ≡ some v
 
 -- What the seat has seen, and what it was told, begins the history, in which the events of its number are its own. A pass has seen its own events; and so had a pinned one at its pin, when it saw the history at its place
 pub record Fits (log : History) (v : View) : Type 0 where
-  pub seen : Begins v.seen log
-  pub told : Begins v.told log
+  pub seen : IsPrefix v.seen log
+  pub told : IsPrefix v.told log
   pub own : events_of v.number log ≡ v.mine
   pub mine : 0 < v.number → events_of v.number v.seen ≡ v.mine
-  pub pinned : (r : ℕ) → v.pin ≡ Some r → Begins v.place log × (events_of v.number v.place ≡ v.mine)
+  pub pinned : (r : ℕ) → v.pin ≡ Some r → IsPrefix v.place log × (events_of v.number v.place ≡ v.mine)
 
 -- the seat knows the size of the store. Its number is below the next one to be dealt, and only the dealer's seat, which is no pass, deals
 pub record IsPlaced (rows passes next : ℕ) (v : View) : Type 0 where

@@ -1,6 +1,6 @@
 //! How passes learn what others have seen: a look at the whole history, and notes that go from seat to seat. Each call is one load of a word, at any time: the turn may be free or taken.
 ghost use Rattle.std.specs.Prelude.{◌≡◌, [], false};
-ghost use Rattle.mst_key.specs.History.{Begins};
+ghost use Rattle.mst_key.specs.History.{IsPrefix};
 ghost use Rattle.mst_words.specs.Layout.{table_words};
 ghost use Rattle.mst_words.specs.Notes.{note_of, having_heard, SeesAll, SeesTold};
 
@@ -84,7 +84,7 @@ impl<A: Allocator + Copy> Board<A> {
         requires own { seat.old.table_id ≡ self.now }
         requires wide { self.now.words ≡ table_words seat.old.me.0.rows }
         requires off { seat.old.me.0.turn ≡ false }
-        requires forward { Begins seat.old.me.0.seen seat.old.me.0.told }
+        requires forward { IsPrefix seat.old.me.0.seen seat.old.me.0.told }
         ensures same { (seat.new.table_id ≡ seat.old.table_id) × (seat.new.id ≡ seat.old.id) }
         ensures seen { SeesTold seat.old.me seat.new.me }
     {

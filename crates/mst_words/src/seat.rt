@@ -1,7 +1,7 @@
 //! A pass's seat at the table, with one call for each of its steps.
 ghost use Rattle.std.specs.Prelude.{◌≡◌, ◌≢◌, ◌∷◌, ◌+◌, ◌<◌, ◌≤◌, [], ℕ, List, true, false, slice_index, slice_set, Option, Some, None};
 ghost use Rattle.mst_arena.specs.Lives.{State};
-ghost use Rattle.mst_key.specs.History.{Begins};
+ghost use Rattle.mst_key.specs.History.{IsPrefix};
 ghost use Rattle.mst_words.specs.Access.{IsSameSeat};
 ghost use Rattle.mst_words.specs.Layout.{most_passes, most_records, table_words};
 ghost use Rattle.mst_words.specs.Notes.{SeesAll, SeesTold, note_of, having_heard};
@@ -224,7 +224,7 @@ impl<'a, A: Allocator + Copy> PassSeat<'a, A> {
     /// Sees the history that a note told of, and no more: one load of the word of the current record. That history has to begin with what the seat has seen.
     pub fn see_told(&mut self)
         requires off { self.old.me.0.turn ≡ false }
-        requires forward { Begins self.old.me.0.seen self.old.me.0.told }
+        requires forward { IsPrefix self.old.me.0.seen self.old.me.0.told }
         ensures same { IsSameSeat self.old self.new }
         ensures seen { SeesTold self.old.me self.new.me }
     {

@@ -6,7 +6,7 @@ use Rattle.std.proofs.lemmas.Bool.{cond_both}
 use Rattle.std.proofs.lemmas.List.Sums.{sum_by-cons}
 use Rattle.mst_key.specs.declared.format.Format.{Format}
 use Rattle.mst_key.specs.Layer.{layer_in}
-use Rattle.mst_key.specs.Map.{Pair, key_cmp, look, AllBelow, AllAbove, IsAscending}
+use Rattle.mst_key.specs.Map.{Pair, key_cmp, map_get, AllBelow, AllAbove, IsAscending}
 use Rattle.mst_key.specs.Map as map
 use Rattle.mst_key.proofs.Alls.{alls-front, alls-back}
 use Rattle.mst_key.proofs.KeyOrder.{greater_from_less}
@@ -195,7 +195,7 @@ module _ (k : List ℕ) where
 pub put_cost_bound : (format : Format) (m : List Pair) (k v : List ℕ) → IsAscending m → cost format m (map.put m k v) ≤ weight format m k + 2
 put_cost_bound format m k v rise =
     let t = tree format m in
-    let bound : put_cost format t k v ≤ weight format m k + 2 = cond_both (option_map_or (same_bytes v) (look (pairs t) k) false) 0 (put_rows (layer_in format k) k v t) (λ n. n ≤ weight format m k + 2) (λ same. omega arith) (λ other. put_bound t (layer_in format k) k v) in
+    let bound : put_cost format t k v ≤ weight format m k + 2 = cond_both (option_map_or (same_bytes v) (map_get (pairs t) k) false) 0 (put_rows (layer_in format k) k v t) (λ n. n ≤ weight format m k + 2) (λ same. omega arith) (λ other. put_bound t (layer_in format k) k v) in
     omega (arith, bound, cost_put format m k v rise)
 
 remove_cost_le : (t : Tree) (k : List ℕ) (o : Option (List ℕ)) (n : ℕ) → remove_rows t k ≤ n → option_map_or (λ v. remove_rows t k) o 0 ≤ n
@@ -206,6 +206,6 @@ pub remove_cost_bound : (format : Format) (m : List Pair) (k : List ℕ) → IsA
 remove_cost_bound format m k rise =
     let t = tree format m in
     let rises : IsAscending (pairs t) = subst IsAscending (sym (pairs_tree format m)) rise in
-    let bound : remove_cost t k ≤ heavy (nodes_met k (tree_remove t k)) = remove_cost_le t k (look (pairs t) k) (heavy (nodes_met k (tree_remove t k))) (remove_bound k t rises) in
+    let bound : remove_cost t k ≤ heavy (nodes_met k (tree_remove t k)) = remove_cost_le t k (map_get (pairs t) k) (heavy (nodes_met k (tree_remove t k))) (remove_bound k t rises) in
     let path = ap (λ (u : Tree). heavy (nodes_met k u)) (removed_tree format m k rise) in
     omega (arith, bound, path, cost_remove format m k rise)

@@ -5,11 +5,11 @@ use Rattle.std.specs.Option.{option_map_or}
 use Rattle.std.proofs.lemmas.Bool.{cond_both}
 use Rattle.mst_key.specs.declared.format.Format.{Format}
 use Rattle.mst_key.specs.Layer.{layer_in}
-use Rattle.mst_key.specs.Map.{Pair, key_cmp, look, IsAscending}
+use Rattle.mst_key.specs.Map.{Pair, key_cmp, map_get, IsAscending}
 use Rattle.mst_key.specs.Map as map
 use Rattle.mst_key.proofs.Alls.{alls-back, alls-weaker}
 use Rattle.mst_key.proofs.KeyOrder.{same_from_test, test_of_same}
-use Rattle.mst_key.proofs.MapLaws.{look-each, put-unchanged}
+use Rattle.mst_key.proofs.MapLaws.{map_get-each, put-unchanged}
 use Rattle.mst_node.specs.Tree.{Tree, empty, node, Entries, last, entry, entry_count, pairs, entries_pairs, tree, IsMst, IsMstEntries}
 use Rattle.mst_node.specs.Shape.{with_entries}
 use Rattle.mst_node.specs.Trail.{by_order}
@@ -31,9 +31,9 @@ use Rattle.mst_change.proofs.Cost.Split.{same_from_pairs, gap_fresh}
 abbrev Lacks : List ℕ → List ℕ → List Pair → Type 0
 Lacks k v m = AllByRecursion (λ p. p ≡ (k, v) → ⊥) m
 
-lacks : (m : List Pair) (k v : List ℕ) → IsAscending m → (look m k ≡ Some v → ⊥) → Lacks k v m
+lacks : (m : List Pair) (k v : List ℕ) → IsAscending m → (map_get m k ≡ Some v → ⊥) → Lacks k v m
 lacks m k v rise other =
-    alls-weaker (λ p. look m p.0 ≡ Some p.1) (λ p. p ≡ (k, v) → ⊥) (λ p found same. other (sym (ap (λ (q : Pair). look m q.0) same) ∙ found ∙ ap (λ (q : Pair). Some q.1) same)) m (look-each m rise)
+    alls-weaker (λ p. map_get m p.0 ≡ Some p.1) (λ p. p ≡ (k, v) → ⊥) (λ p found same. other (sym (ap (λ (q : Pair). map_get m q.0) same) ∙ found ∙ ap (λ (q : Pair). Some q.1) same)) m (map_get-each m rise)
 
 put_gap_count : (es : Entries) (format : Format) (l : ℕ) (k v : List ℕ) → entry_count (put_in_gap format l k v es) ≡ entry_count es
 put_gap_count (last child) format l k v = refl
@@ -91,13 +91,13 @@ module _ (old : Tree) (old_rises : IsAscending (pairs old)) (format : Format) (k
 abbrev put_cost_of : Format → Tree → List ℕ → List ℕ → Option (List ℕ) → ℕ
 put_cost_of format t k v o = cond (option_map_or (same_bytes v) o false) 0 (put_rows (layer_in format k) k v t)
 
-new_rows_put : (t : Tree) (format : Format) (k v : List ℕ) (o : Option (List ℕ)) → look (pairs t) k ≡ o → IsAscending (pairs t) → IsMst format t → fresh t (tree_put format t k v) ≡ put_cost_of format t k v o
+new_rows_put : (t : Tree) (format : Format) (k v : List ℕ) (o : Option (List ℕ)) → map_get (pairs t) k ≡ o → IsAscending (pairs t) → IsMst format t → fresh t (tree_put format t k v) ≡ put_cost_of format t k v o
 new_rows_put t format k v None found rise mst =
     put_fresh t rise format k v (layer_in format k) refl (lacks (pairs t) k v rise (λ e. let none = sym found ∙ e in cc)) t rise mst (stands_itself t)
 new_rows_put t format k v (Some w) found rise mst =
     cond_both (same_bytes v w) 0 (put_rows (layer_in format k) k v t) (λ n. fresh t (tree_put format t k v) ≡ n)
     (λ is.
-    let value : look (pairs t) k ≡ Some v = found ∙ ap Some (sym (same_from_test v w is)) in
+    let value : map_get (pairs t) k ≡ Some v = found ∙ ap Some (sym (same_from_test v w is)) in
     let same : tree_put format t k v ≡ t = same_from_pairs (tree_put format t k v) t format (put_at_mst t format (layer_in format k) k v refl mst) mst (put_at_pairs t format (layer_in format k) k v rise ∙ put-unchanged (pairs t) k v rise value) in
     ap (fresh t) same ∙ fresh_none t t (stands_itself t))
     (λ other. put_fresh t rise format k v (layer_in format k) refl (lacks (pairs t) k v rise (λ e.
@@ -110,4 +110,4 @@ cost_put format m k v rise =
     let t = tree format m in
     let rises : IsAscending (pairs t) = subst IsAscending (sym (pairs_tree format m)) rise in
     ap (new_rows t) (sym (put_tree format m k v rise)) ∙ new_rows_fresh (tree_put format t k v) t
-    ∙ new_rows_put t format k v (look (pairs t) k) refl rises (tree_mst format m)
+    ∙ new_rows_put t format k v (map_get (pairs t) k) refl rises (tree_mst format m)

@@ -3,9 +3,9 @@ use Rattle.std.proofs.Common.{◌≡◌, ◌≢◌, ℕ, ◌+◌, ◌<◌, ◌�
 use Rattle.std.proofs.lemmas.List.{append-nil}
 use Rattle.mst_key.specs.declared.format.Format.{Format}
 use Rattle.mst_key.specs.Layer.{layer_in}
-use Rattle.mst_key.specs.Map.{Pair, look, IsAscending}
+use Rattle.mst_key.specs.Map.{Pair, map_get, IsAscending}
 use Rattle.mst_key.proofs.Alls.{alls-weaker}
-use Rattle.mst_key.proofs.MapLaws.{look-absent}
+use Rattle.mst_key.proofs.MapLaws.{map_get-absent}
 use Rattle.mst_key.proofs.Splits.{parts_absent}
 use Rattle.mst_node.specs.Tree.{Tree, empty, node, Entries, last, entry, entry_count, pairs, entries_pairs, tree, IsUnder, IsMst, IsMstEntries}
 use Rattle.mst_node.specs.Trail.{by_order}
@@ -34,11 +34,11 @@ empty_from_pairs t format is e = sym (tree_unique t format is) ∙ tree-no_pairs
 -- ---- a side is the whole tree exactly where the other side is empty
 
 -- no pair of a tree of lower layers has the key
-pub absent_under : (t : Tree) (format : Format) (k : List ℕ) (l : ℕ) → IsMst format t → IsUnder l t → layer_in format k ≡ l → look (pairs t) k ≡ None
+pub absent_under : (t : Tree) (format : Format) (k : List ℕ) (l : ℕ) → IsMst format t → IsUnder l t → layer_in format k ≡ l → map_get (pairs t) k ≡ None
 absent_under t format k l mst under is =
-    look-absent (pairs t) k (alls-weaker (λ p. layer_in format p.0 < l) (λ p. p.0 ≢ k) (λ p less same. let e : layer_in format p.0 ≡ layer_in format k = ap (layer_in format) same in omega (arith, e, is, less)) (pairs t) (keys_under t format l mst under))
+    map_get-absent (pairs t) k (alls-weaker (λ p. layer_in format p.0 < l) (λ p. p.0 ≢ k) (λ p less same. let e : layer_in format p.0 ≡ layer_in format k = ap (layer_in format) same in omega (arith, e, is, less)) (pairs t) (keys_under t format l mst under))
 
-module _ (t : Tree) (format : Format) (k : List ℕ) (rise : IsAscending (pairs t)) (mst : IsMst format t) (none : look (pairs t) k ≡ None) where
+module _ (t : Tree) (format : Format) (k : List ℕ) (rise : IsAscending (pairs t)) (mst : IsMst format t) (none : map_get (pairs t) k ≡ None) where
   parts : length (pairs (below k t)) + length (pairs (above k t)) ≡ length (pairs t)
   parts =
       let low = ap length (below_pairs t k rise) in
@@ -69,7 +69,7 @@ module _ (t : Tree) (format : Format) (k : List ℕ) (rise : IsAscending (pairs 
 
 -- ---- so it is known of each side of an old node whether it is old
 
-module _ (old : Tree) (old_rises : IsAscending (pairs old)) (g : Format) (j : ℕ) (es : Entries) (format : Format) (k : List ℕ) (rise : IsAscending (entries_pairs es)) (mst : IsMst format (node g j es)) (none : look (entries_pairs es) k ≡ None) (stands : InTree (node g j es) old) where
+module _ (old : Tree) (old_rises : IsAscending (pairs old)) (g : Format) (j : ℕ) (es : Entries) (format : Format) (k : List ℕ) (rise : IsAscending (entries_pairs es)) (mst : IsMst format (node g j es)) (none : map_get (entries_pairs es) k ≡ None) (stands : InTree (node g j es) old) where
   below_side : 0 < entry_count (entries_below k es) → is_subtree (node_of g j (entries_below k es)) old ≡ is_empty (above k (node g j es))
   below_side some = go (above k (node g j es)) refl
     where

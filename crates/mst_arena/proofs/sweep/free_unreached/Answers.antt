@@ -5,7 +5,7 @@ use Rattle.std.proofs.lemmas.Bool.{and_parts}
 use Rattle.std.proofs.lemmas.List.{append-nil}
 use Rattle.std.specs.Prelude.{slice_get}
 use Rattle.mst_arena.specs.declared.life.Life.TheVariants.{Free}
-use Rattle.mst_arena.specs.Lives.{swept}
+use Rattle.mst_arena.specs.Lives.{swept_life}
 use Rattle.mst_arena.proofs.SweepLemmas.{Sweeping, sweep_end, dead_there, not_free, sweep_free, sweep_keep, older_free, older_keep, stays_dead, held_room, length_nil}
 use Rattle.mst_arena.proofs.sweep.free_unreached.Goals as goal
 
@@ -29,7 +29,7 @@ loop-row-preserved-in-Free g c =
     let s = subst (λ (d : List ℕ). Sweeping c.args.live.now c.args.lives.now c.loop-row.lives c.loop-row.free d c.loop-row.held.items) c.in-Some.ensures.items c.loop-row.invariant.sweeping in
     let x = get_or c.loop-row.lives c.in-Some.row Free in
     let at : slice_get c.loop-row.lives c.in-Some.row ≡ Some x = slice_get-get_or c.loop-row.lives c.in-Some.row Free (dead_there _ _ _ _ _ _ _ s) in
-    let is : swept c.args.live.now x ≡ Free = sym c.after_sweep-life.ensures.swept ∙ c.in-Free.is in
+    let is : swept_life c.args.live.now x ≡ Free = sym c.after_sweep-life.ensures.swept ∙ c.in-Free.is in
     let len : length (set c.loop-row.lives c.in-Some.row c.after_sweep-life.result) ≡ length c.loop-row.lives = length-set c.loop-row.lives c.in-Some.row c.after_sweep-life.result in
     record {
       sweeping = rw (c.in-Free.is, c.put.ensures.put) (sweep_free _ _ _ _ _ _ c.in-Some.row x s at is);
@@ -49,7 +49,7 @@ loop-row-preserved g c =
     let s = subst (λ (d : List ℕ). Sweeping c.args.live.now c.args.lives.now c.loop-row.lives c.loop-row.free d c.loop-row.held.items) c.in-Some.ensures.items c.loop-row.invariant.sweeping in
     let x = get_or c.loop-row.lives c.in-Some.row Free in
     let at : slice_get c.loop-row.lives c.in-Some.row ≡ Some x = slice_get-get_or c.loop-row.lives c.in-Some.row Free (dead_there _ _ _ _ _ _ _ s) in
-    let is : swept c.args.live.now x ≡ c.after_sweep-life.result = sym c.after_sweep-life.ensures.swept in
+    let is : swept_life c.args.live.now x ≡ c.after_sweep-life.result = sym c.after_sweep-life.ensures.swept in
     let len : length (set c.loop-row.lives c.in-Some.row c.after_sweep-life.result) ≡ length c.loop-row.lives = length-set c.loop-row.lives c.in-Some.row c.after_sweep-life.result in
     record {
       sweeping = rw c.push_reserved.ensures.items (sweep_keep _ _ _ _ _ _ c.in-Some.row x c.after_sweep-life.result s at is c.in_default-life.not-Free);

@@ -1,4 +1,4 @@
-use Rattle.mst_key.proofs.HistoryLaws.{IsMap-after, after-push, look-after_last, look-after_alone, Begins-itself, Begins-chain, Begins-both_ways, Begins-compare, events_of-append, events_of-between}
+use Rattle.mst_key.proofs.HistoryLaws.{IsMap-after, after-push, map_get-after_last, map_get-after_alone, IsPrefix-itself, IsPrefix-chain, IsPrefix-both_ways, IsPrefix-compare, events_of-append, events_of-between}
 use Rattle.mst_key.proofs.laws.history_laws.Goals as goal
 
 pub returns-clause-map : goal.returns-clause-map
@@ -8,22 +8,22 @@ pub returns-clause-step : goal.returns-clause-step
 returns-clause-step c = after-push
 
 pub returns-clause-last_change : goal.returns-clause-last_change
-returns-clause-last_change c = look-after_last
+returns-clause-last_change c = map_get-after_last
 
 pub returns-clause-no_change : goal.returns-clause-no_change
-returns-clause-no_change c = look-after_alone
+returns-clause-no_change c = map_get-after_alone
 
 pub returns-clause-begins_itself : goal.returns-clause-begins_itself
-returns-clause-begins_itself c = Begins-itself
+returns-clause-begins_itself c = IsPrefix-itself
 
 pub returns-clause-begins_chain : goal.returns-clause-begins_chain
-returns-clause-begins_chain c = Begins-chain
+returns-clause-begins_chain c = IsPrefix-chain
 
 pub returns-clause-begins_both_ways : goal.returns-clause-begins_both_ways
-returns-clause-begins_both_ways c = Begins-both_ways
+returns-clause-begins_both_ways c = IsPrefix-both_ways
 
 pub returns-clause-begins_one : goal.returns-clause-begins_one
-returns-clause-begins_one c = Begins-compare
+returns-clause-begins_one c = IsPrefix-compare
 
 pub returns-clause-events_append : goal.returns-clause-events_append
 returns-clause-events_append c = events_of-append

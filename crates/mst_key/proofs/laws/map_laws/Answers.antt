@@ -1,20 +1,20 @@
 use Rattle.std.proofs.Common.{refl}
 use Rattle.mst_key.proofs.KeyOrder.{key_cmp-itself}
-use Rattle.mst_key.proofs.MapLaws.{look-put_same, look-put_other, look-remove_same, look-remove_other, IsMap-nil, IsMap-put, IsMap-remove, Contains-look, look-contains, map_determined, put-unchanged, remove-unchanged}
+use Rattle.mst_key.proofs.MapLaws.{map_get-put_same, map_get-put_other, map_get-remove_same, map_get-remove_other, IsMap-nil, IsMap-put, IsMap-remove, Contains-look, map_get-contains, map_determined, put-unchanged, remove-unchanged}
 use Rattle.mst_key.proofs.Splits.{put-between, put-at, remove-at}
 use Rattle.mst_key.proofs.laws.map_laws.Goals as goal
 
 pub returns-clause-put_same : goal.returns-clause-put_same
-returns-clause-put_same c = look-put_same
+returns-clause-put_same c = map_get-put_same
 
 pub returns-clause-put_other : goal.returns-clause-put_other
-returns-clause-put_other c = look-put_other
+returns-clause-put_other c = map_get-put_other
 
 pub returns-clause-remove_same : goal.returns-clause-remove_same
-returns-clause-remove_same c = look-remove_same
+returns-clause-remove_same c = map_get-remove_same
 
 pub returns-clause-remove_other : goal.returns-clause-remove_other
-returns-clause-remove_other c = look-remove_other
+returns-clause-remove_other c = map_get-remove_other
 
 pub returns-clause-empty_is_map : goal.returns-clause-empty_is_map
 returns-clause-empty_is_map c = IsMap-nil
@@ -26,7 +26,7 @@ pub returns-clause-remove_is_map : goal.returns-clause-remove_is_map
 returns-clause-remove_is_map c = IsMap-remove
 
 pub returns-clause-found : goal.returns-clause-found
-returns-clause-found c m k v map = (Contains-look m k v, look-contains m k v map.ascending)
+returns-clause-found c m k v map = (Contains-look m k v, map_get-contains m k v map.ascending)
 
 pub returns-clause-determined : goal.returns-clause-determined
 returns-clause-determined c m n one other = map_determined m n one.ascending other.ascending

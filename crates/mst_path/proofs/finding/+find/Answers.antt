@@ -1,5 +1,5 @@
 use Rattle.std.proofs.Common.{◌≡◌, ◌∙◌, ◌<◌, List, Some, IsSome, sym, ap, subst, arith, rules}
-use Rattle.mst_key.specs.Map.{IsAscending, look}
+use Rattle.mst_key.specs.Map.{IsAscending, map_get}
 use Rattle.mst_key.specs.declared.format.Format.TheVariants.{One}
 use Rattle.mst_node.specs.Tree.{pairs}
 use Rattle.mst_arena.specs.Content.{Content, part_at}
@@ -70,7 +70,7 @@ returns-in-Gap-clause-found g t c = λ s z rise.
     let gap : CutGap k o.entries o.tail c.in-Gap.front c.in-Gap.child c.in-Gap.back = subst (IsCut k o.entries o.tail) c.in-Gap.is cut in
     let below = finds_below content s c.args.link z k h some c.head-head.ensures.value rise c.in-Gap.front c.in-Gap.back c.in-Gap.child gap in
     let same = ap g.R.Rows.content (c.cut_at.ensures.same ∙ c.head-head.ensures.same) in
-    let found = subst (λ (x : Content). (q : State) (y : SearchTree x q c.in-Gap.child) → IsAscending (pairs (tree_of One y.placed)) → c.find.result ≡ look (pairs (tree_of One y.placed)) k) same c.find.ensures.found s below.inner below.rise in
+    let found = subst (λ (x : Content). (q : State) (y : SearchTree x q c.in-Gap.child) → IsAscending (pairs (tree_of One y.placed)) → c.find.result ≡ map_get (pairs (tree_of One y.placed)) k) same c.find.ensures.found s below.inner below.rise in
     found ∙ sym below.same
 
 pub returns-in-Held-clause-found : goal.returns-in-Held-clause-found

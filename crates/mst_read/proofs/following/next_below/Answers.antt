@@ -1,6 +1,6 @@
 use Rattle.std.proofs.Common.{◌≡◌, ◌+◌, ◌<◌, ℕ, List, Option, Some, None, IsSome, option_and_then, refl, ◌∙◌, sym, ap, subst, arith}
 use Rattle.std.specs.Option.{option_copied}
-use Rattle.mst_key.specs.Map.{Pair, successor}
+use Rattle.mst_key.specs.Map.{Pair, map_next}
 use Rattle.mst_arena.specs.Content.{Content, part_at}
 use Rattle.mst_arena.specs.Row.{entry_value}
 use Rattle.mst_read.specs.Search.{entry_above, TreeLies, ChainLies, LiesBehind, Lies}
@@ -135,7 +135,7 @@ loop-top-preserved g c = record {
 pub returns-in_err-row-clause-found : goal.returns-in_err-row-clause-found
 returns-in_err-row-clause-found g c f m s =
     let content = g.R.Rows.content c.args.rows.now in
-    let holds : pair_at content c.loop-top.right ≡ successor m (option_copied c.args.after) = at_nothing f content c.loop-top.top _ c.in_default.is (c.loop-top.invariant.reached f m s) in
+    let holds : pair_at content c.loop-top.right ≡ map_next m (option_copied c.args.after) = at_nothing f content c.loop-top.top _ c.in_default.is (c.loop-top.invariant.reached f m s) in
     c.from_residual.ensures ∙ sym (ap (pair_at content) c.in_err-row.was) ∙ holds
 
 pub value-requires : goal.value-requires
@@ -148,6 +148,6 @@ returns-clause-found g c f m s =
     let content = g.R.Rows.content c.args.rows.now in
     let key = c.in_ok-row.key in
     let row = c.in_ok-row.row in
-    let holds : pair_at content c.loop-top.right ≡ successor m (option_copied c.args.after) = at_nothing f content c.loop-top.top _ c.in_default.is (c.loop-top.invariant.reached f m s) in
+    let holds : pair_at content c.loop-top.right ≡ map_next m (option_copied c.args.after) = at_nothing f content c.loop-top.top _ c.in_default.is (c.loop-top.invariant.reached f m s) in
     let value : part_at entry_value content row ≡ Some c.value.result = sym (ap (λ (x : Content). part_at entry_value x row) (ap g.R.Rows.content c.loop-top.invariant.same)) ∙ c.value.ensures.value in
     sym (ap (option_and_then (λ (v : List ℕ). Some (key, v))) value) ∙ sym (ap (pair_at content) c.in_ok-row.was) ∙ holds

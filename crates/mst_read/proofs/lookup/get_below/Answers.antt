@@ -1,5 +1,5 @@
 use Rattle.std.proofs.Common.{◌≡◌, ℕ, ◌<◌, ◌+◌, List, Some, IsSome, refl, ◌∙◌, sym, ap, subst, arith}
-use Rattle.mst_key.specs.Map.{Pair, look}
+use Rattle.mst_key.specs.Map.{Pair, map_get}
 use Rattle.mst_arena.specs.Content.{Content, part_at}
 use Rattle.mst_arena.specs.Row.{entry_value}
 use Rattle.mst_read.specs.Search.{place, TreeLies, ChainLies, LiesBehind, Lies}
@@ -19,7 +19,7 @@ loop-top-init g c = record {
   same = c.head_at-top.ensures.same;
   reached = λ f m s.
       let k = c.args.key.now in
-      let P = λ (ps : List Pair). look ps k ≡ look m k in
+      let P = λ (ps : List Pair). map_get ps k ≡ map_get m k in
       let a = from_root f (g.R.Rows.content c.args.rows.now) _ m P s refl in
       reach f _ _ P P (λ ps e. e) a c.head_at-top.result (c.head_at-top.ensures.head f a.placed a.lies);
 }
@@ -30,7 +30,7 @@ seek-requires g c =
     let k = c.args.key.now in
     let links = c.in-Some.head in
     let content = g.R.Rows.content c.args.rows.now in
-    let P = λ (ps : List Pair). look ps k ≡ look s.1 k in
+    let P = λ (ps : List Pair). map_get ps k ≡ map_get s.1 k in
     let d = inside s.0 content links c.loop-top.top P c.in-Some.is (c.loop-top.invariant.reached s.0 s.1 s.2) in
     record { lies = subst (λ (x : Content). ChainLies x links) (sym (ap g.R.Rows.content c.loop-top.invariant.same)) (s.0, d.chain, d.lies) }
 
@@ -41,7 +41,7 @@ value-requires g c =
     let links = c.in-Some.head in
     let content = g.R.Rows.content c.args.rows.now in
     let now : content ≡ g.R.Rows.content c.loop-top.rows = sym (ap g.R.Rows.content c.loop-top.invariant.same) in
-    let P = λ (ps : List Pair). look ps k ≡ look s.1 k in
+    let P = λ (ps : List Pair). map_get ps k ≡ map_get s.1 k in
     let d = inside s.0 content links c.loop-top.top P c.in-Some.is (c.loop-top.invariant.reached s.0 s.1 s.2) in
     let at : place k d.chain ≡ Held c.in-Held.row = ap (λ (x : List ℕ). place x d.chain) (sym c.new-sought.ensures.key) ∙ sym (c.seek.ensures.place s.0 d.chain (subst (λ (x : Content). LiesBehind s.0 x links d.chain) now d.lies)) ∙ c.in-Held.is in
     record { there = subst (λ (x : Content). IsSome (part_at entry_value x c.in-Held.row)) (now ∙ sym (ap g.R.Rows.content c.seek.ensures.same)) (held_there s.0 content k c.in-Held.row d.chain d.lies.rows at) }
@@ -52,7 +52,7 @@ returns-in-Held-clause-found g c f m s =
     let links = c.in-Some.head in
     let content = g.R.Rows.content c.args.rows.now in
     let now : content ≡ g.R.Rows.content c.loop-top.rows = sym (ap g.R.Rows.content c.loop-top.invariant.same) in
-    let P = λ (ps : List Pair). look ps k ≡ look m k in
+    let P = λ (ps : List Pair). map_get ps k ≡ map_get m k in
     let d = inside f content links c.loop-top.top P c.in-Some.is (c.loop-top.invariant.reached f m s) in
     let at : place k d.chain ≡ Held c.in-Held.row = ap (λ (x : List ℕ). place x d.chain) (sym c.new-sought.ensures.key) ∙ sym (c.seek.ensures.place f d.chain (subst (λ (x : Content). LiesBehind f x links d.chain) now d.lies)) ∙ c.in-Held.is in
     let value : part_at entry_value content c.in-Held.row ≡ Some c.value.result = ap (λ (x : Content). part_at entry_value x c.in-Held.row) (now ∙ sym (ap g.R.Rows.content c.seek.ensures.same)) ∙ c.value.ensures.value in
@@ -65,7 +65,7 @@ head_at-top-requires-in-Gap g c =
     let links = c.in-Some.head in
     let content = g.R.Rows.content c.args.rows.now in
     let now : content ≡ g.R.Rows.content c.loop-top.rows = sym (ap g.R.Rows.content c.loop-top.invariant.same) in
-    let P = λ (ps : List Pair). look ps k ≡ look s.1 k in
+    let P = λ (ps : List Pair). map_get ps k ≡ map_get s.1 k in
     let d = inside s.0 content links c.loop-top.top P c.in-Some.is (c.loop-top.invariant.reached s.0 s.1 s.2) in
     let at : place k d.chain ≡ Gap c.in-Gap.link = ap (λ (x : List ℕ). place x d.chain) (sym c.new-sought.ensures.key) ∙ sym (c.seek.ensures.place s.0 d.chain (subst (λ (x : Content). LiesBehind s.0 x links d.chain) now d.lies)) ∙ c.in-Gap.is in
     let b = gap s.0 content k links.layer c.in-Gap.link d.chain d.lies.rows d.mst d.rise at in
@@ -78,7 +78,7 @@ loop-top-smaller g c =
     let links = c.in-Some.head in
     let content = g.R.Rows.content c.args.rows.now in
     let now : content ≡ g.R.Rows.content c.loop-top.rows = sym (ap g.R.Rows.content c.loop-top.invariant.same) in
-    let P = λ (ps : List Pair). look ps k ≡ look s.1 k in
+    let P = λ (ps : List Pair). map_get ps k ≡ map_get s.1 k in
     let d = inside s.0 content links c.loop-top.top P c.in-Some.is (c.loop-top.invariant.reached s.0 s.1 s.2) in
     let at : place k d.chain ≡ Gap c.in-Gap.link = ap (λ (x : List ℕ). place x d.chain) (sym c.new-sought.ensures.key) ∙ sym (c.seek.ensures.place s.0 d.chain (subst (λ (x : Content). LiesBehind s.0 x links d.chain) now d.lies)) ∙ c.in-Gap.is in
     let b = gap s.0 content k links.layer c.in-Gap.link d.chain d.lies.rows d.mst d.rise at in
@@ -95,7 +95,7 @@ loop-top-preserved g c = record {
       let links = c.in-Some.head in
       let content = g.R.Rows.content c.args.rows.now in
       let now : content ≡ g.R.Rows.content c.loop-top.rows = sym (ap g.R.Rows.content c.loop-top.invariant.same) in
-      let P = λ (ps : List Pair). look ps k ≡ look m k in
+      let P = λ (ps : List Pair). map_get ps k ≡ map_get m k in
       let d = inside f content links c.loop-top.top P c.in-Some.is (c.loop-top.invariant.reached f m s) in
       let at : place k d.chain ≡ Gap c.in-Gap.link = ap (λ (x : List ℕ). place x d.chain) (sym c.new-sought.ensures.key) ∙ sym (c.seek.ensures.place f d.chain (subst (λ (x : Content). LiesBehind f x links d.chain) now d.lies)) ∙ c.in-Gap.is in
       let b = gap f content k links.layer c.in-Gap.link d.chain d.lies.rows d.mst d.rise at in
@@ -106,5 +106,5 @@ loop-top-preserved g c = record {
 pub returns-clause-found : goal.returns-clause-found
 returns-clause-found g c f m s =
     let k = c.args.key.now in
-    let P = λ (ps : List Pair). look ps k ≡ look m k in
+    let P = λ (ps : List Pair). map_get ps k ≡ map_get m k in
     at_nothing f (g.R.Rows.content c.args.rows.now) c.loop-top.top P c.in_default.is (c.loop-top.invariant.reached f m s)

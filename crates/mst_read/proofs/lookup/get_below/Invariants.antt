@@ -1,6 +1,6 @@
 use Rattle.std.proofs.Common.{◌≡◌, List}
 use Rattle.mst_key.specs.declared.format.Format.{Format}
-use Rattle.mst_key.specs.Map.{Pair, look}
+use Rattle.mst_key.specs.Map.{Pair, map_get}
 use Rattle.mst_read.specs.Search.{StandsBelow}
 use Rattle.mst_read.proofs.Descend.{Reached, depth}
 use Rattle.mst_read.proofs.lookup.get_below.Given as goal
@@ -10,7 +10,7 @@ abbrev pub invariant-loop-top : goal.invariant-loop-top
 invariant-loop-top g l = record {
   same : l.rows ≡ l.fn.rows;
   reached : (f : Format) (m : List Pair) → StandsBelow f (g.R.Rows.content l.fn.rows) l.link m
-      → Reached f (g.R.Rows.content l.fn.rows) l.top (λ ps. look ps l.key ≡ look m l.key);
+      → Reached f (g.R.Rows.content l.fn.rows) l.top (λ ps. map_get ps l.key ≡ map_get m l.key);
 }
 
 -- layers fall

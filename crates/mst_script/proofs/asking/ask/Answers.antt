@@ -3,7 +3,7 @@ use Rattle.std.specs.Option.{option_copied}
 use Rattle.mst_key.specs.declared.history.Change.TheVariants as change
 use Rattle.mst_requests.specs.declared.request.Command.TheVariants.{Put, Remove, Get, Next, Root, Unpin, Rows}
 use Rattle.mst_requests.specs.declared.request.Fault.TheVariants.{Pinning}
-use Rattle.mst_key.specs.Map.{look, successor}
+use Rattle.mst_key.specs.Map.{map_get, map_next}
 use Rattle.mst_key.specs.declared.format.Format.TheVariants.{One}
 use Rattle.mst_node.specs.Text.{root}
 use Rattle.mst_requests.specs.Texts.{line_of, fault_words, digits_of, value_words, found_words}
@@ -26,13 +26,13 @@ returns-in-Remove g c = let k = c.in-Remove.key in let p = c.args.pass.now in le
 pub returns-in-Get : goal.returns-in-Get
 returns-in-Get g c = let k = c.in-Get.key in let p = c.args.pass.now in let q = c.get.new.self in
     asked c.args.command.now (Get k) p q (line_of (value_words c.get.result)) c.in-Get.is
-    (read_found (λ m. look m k) (λ x. line_of (value_words x)) (line_of (value_words c.get.result)) p q c.get.result c.get.ensures.answers refl)
+    (read_found (λ m. map_get m k) (λ x. line_of (value_words x)) (line_of (value_words c.get.result)) p q c.get.result c.get.ensures.answers refl)
 
 pub returns-in-Next : goal.returns-in-Next
 returns-in-Next g c = let p = c.args.pass.now in let q = c.next.new.self in
     let same : option_copied c.as_ref.result ≡ c.in-Next.bound = search rules in
     asked c.args.command.now (Next (option_copied c.as_ref.result)) p q (line_of (found_words c.next.result)) (c.in-Next.is ∙ ap Next (sym same))
-    (read_found (λ m. successor m (option_copied c.as_ref.result)) (λ x. line_of (found_words x)) (line_of (found_words c.next.result)) p q c.next.result c.next.ensures.answers refl)
+    (read_found (λ m. map_next m (option_copied c.as_ref.result)) (λ x. line_of (found_words x)) (line_of (found_words c.next.result)) p q c.next.result c.next.ensures.answers refl)
 
 pub returns-in-Root : goal.returns-in-Root
 returns-in-Root g c = let p = c.args.pass.now in let q = c.root.new.self in

@@ -1,7 +1,7 @@
 use Rattle.std.proofs.Common.{ℕ, List, get_or, set, ap, ◌∙◌, subst}
 use Rattle.std.proofs.lemmas.List.{set-get_or}
-use Rattle.mst_key.specs.History.{Begins}
-use Rattle.mst_key.proofs.HistoryLaws.{Begins-chain}
+use Rattle.mst_key.specs.History.{IsPrefix}
+use Rattle.mst_key.proofs.HistoryLaws.{IsPrefix-chain}
 use Rattle.mst_store.specs.Passes.{Known}
 use Rattle.mst_store.specs.Turns.{Seat}
 use Rattle.mst_store.proofs.Courier.{one_more, goes_on}
@@ -13,7 +13,7 @@ loop-pass-preserved g c = let m : Seat = c.loop-pass.courier.me in let n : Seat 
       same = ap (λ (q : Known). set c.loop-pass.line at q) e.same ∙ set-get_or c.loop-pass.line at p ∙ i.same;
       table = e.table ∙ i.table;
       courier = goes_on c.args.courier.now.me m n i.courier e.courier;
-      later = one_more (λ (q : Known). Begins q.seen n.0.seen) c.args.line.now at p c.loop-pass-test.true
-          (λ k d l. Begins-chain (get_or c.args.line.now k d).seen m.0.seen n.0.seen (i.later k d l) e.courier.later)
-          (subst (λ (l : List Known). Begins (get_or l at p).seen n.0.seen) i.same e.later);
+      later = one_more (λ (q : Known). IsPrefix q.seen n.0.seen) c.args.line.now at p c.loop-pass-test.true
+          (λ k d l. IsPrefix-chain (get_or c.args.line.now k d).seen m.0.seen n.0.seen (i.later k d l) e.courier.later)
+          (subst (λ (l : List Known). IsPrefix (get_or l at p).seen n.0.seen) i.same e.later);
     }

@@ -1,5 +1,5 @@
 use Rattle.std.proofs.Common.{◌≡◌, ℕ, ◌<◌, get_or}
-use Rattle.mst_key.specs.History.{Begins}
+use Rattle.mst_key.specs.History.{IsPrefix}
 use Rattle.mst_store.specs.Passes.{Known}
 use Rattle.mst_store.specs.Settling.{GoesOn}
 use Rattle.mst_store.proofs.settling.collect_all.Given as goal
@@ -9,5 +9,5 @@ invariant-loop-pass g l = record {
   same : l.line ≡ l.fn.line;
   table : l.courier.table ≡ l.fn.courier.table;
   courier : GoesOn l.fn.courier.me l.courier.me;
-  later : (k : ℕ) (d : Known) → k < l.pass-index → Begins (get_or l.fn.line k d).seen l.courier.me.0.seen;
+  later : (k : ℕ) (d : Known) → k < l.pass-index → IsPrefix (get_or l.fn.line k d).seen l.courier.me.0.seen;
 }

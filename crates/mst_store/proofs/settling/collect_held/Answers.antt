@@ -1,6 +1,6 @@
 use Rattle.std.proofs.Common.{◌≡◌, ℕ, List, get_or, set, ap, ◌∙◌, subst}
-use Rattle.mst_key.specs.History.{Begins}
-use Rattle.mst_key.proofs.HistoryLaws.{Begins-chain}
+use Rattle.mst_key.specs.History.{IsPrefix}
+use Rattle.mst_key.proofs.HistoryLaws.{IsPrefix-chain}
 use Rattle.mst_store.specs.Passes.{Known, having_asked}
 use Rattle.mst_store.specs.Turns.{Seat}
 use Rattle.mst_store.proofs.Courier.{one_more, goes_on, changed_at, changed_next}
@@ -15,7 +15,7 @@ loop-pinned-preserved g c = let m : Seat = c.loop-pinned.courier.me in let n : S
           ∙ changed_next (having_asked 1) c.args.line.now at p c.loop-pinned-test.true;
       table = e.table ∙ i.table;
       courier = goes_on c.args.courier.now.me m n i.courier e.courier;
-      later = one_more (λ (q : Known). Begins q.seen n.0.seen) c.args.line.now at p c.loop-pinned-test.true
-          (λ k d l. Begins-chain (get_or c.args.line.now k d).seen m.0.seen n.0.seen (i.later k d l) e.courier.later)
-          (subst (λ (q : Known). Begins q.seen n.0.seen) here e.later);
+      later = one_more (λ (q : Known). IsPrefix q.seen n.0.seen) c.args.line.now at p c.loop-pinned-test.true
+          (λ k d l. IsPrefix-chain (get_or c.args.line.now k d).seen m.0.seen n.0.seen (i.later k d l) e.courier.later)
+          (subst (λ (q : Known). IsPrefix q.seen n.0.seen) here e.later);
     }

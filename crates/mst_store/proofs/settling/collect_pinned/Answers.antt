@@ -1,6 +1,6 @@
 use Rattle.std.proofs.Common.{◌≡◌, ◌+◌, ap, ◌∙◌, sym, subst}
-use Rattle.mst_key.specs.History.{History, Begins}
-use Rattle.mst_key.proofs.HistoryLaws.{Begins-chain}
+use Rattle.mst_key.specs.History.{History, IsPrefix}
+use Rattle.mst_key.proofs.HistoryLaws.{IsPrefix-chain}
 use Rattle.mst_store.specs.Passes.{Known}
 use Rattle.mst_store.specs.Turns.{Seat}
 use Rattle.mst_store.proofs.Courier.{pinned_still}
@@ -15,6 +15,6 @@ returns-clause-later g c = let m : Seat = c.pinned.inside.seat.me in let one = c
     let note : c.write_note-note.result.me.0.seen ≡ one.log = ap (λ (z : Seat). z.0.seen) c.write_note-note.ensures.note ∙ ap (λ (z : Seat). z.0.seen) one.is in
     let told : c.hear_note.new.self.me.0.told ≡ one.log = ap (λ (z : Seat). z.0.told) c.hear_note.ensures.told ∙ note in
     let there : c.see_all-2.new.self.me.0.seen ≡ two.log = ap (λ (z : Seat). z.0.seen) two.is in
-    let next : Begins one.log two.log = subst (λ (h : History). Begins h two.log) told two.finds.told in
-    let first : Begins m.0.place one.log = one.finds.pinned c.pinned.inside.at.pinned c.pinned.invariant.pin.0 in
-    subst (λ (k : Known). Begins k.seen c.see_all-2.new.self.me.0.seen) c.pinned.view_is (subst (λ (h : History). Begins m.0.place h) (sym there) (Begins-chain m.0.place one.log two.log first next))
+    let next : IsPrefix one.log two.log = subst (λ (h : History). IsPrefix h two.log) told two.finds.told in
+    let first : IsPrefix m.0.place one.log = one.finds.pinned c.pinned.inside.at.pinned c.pinned.invariant.pin.0 in
+    subst (λ (k : Known). IsPrefix k.seen c.see_all-2.new.self.me.0.seen) c.pinned.view_is (subst (λ (h : History). IsPrefix m.0.place h) (sym there) (IsPrefix-chain m.0.place one.log two.log first next))

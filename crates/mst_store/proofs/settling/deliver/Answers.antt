@@ -1,5 +1,5 @@
 use Rattle.std.proofs.Common.{◌≡◌, ℕ, ◌+◌, sym, ap, ◌∙◌, subst}
-use Rattle.mst_key.specs.History.{History, events_of, Begins}
+use Rattle.mst_key.specs.History.{History, events_of, IsPrefix}
 use Rattle.mst_words.specs.declared.view.View.{View}
 use Rattle.mst_store.specs.Passes.{Known}
 use Rattle.mst_store.specs.Turns.{Seat}
@@ -11,7 +11,7 @@ pub invariant_of-pass : goal.invariant_of-pass
 invariant_of-pass g c = let m : Seat = c.pass.inside.seat.me in let i = c.pass.invariant in let log : History = c.args.courier.now.me.0.seen in
     let note : View = c.write_note-note.result.me.0 in
     let same : note.seen ≡ log = ap (λ (z : Seat). z.0.seen) c.write_note-note.ensures.note in
-    let later : Begins m.0.seen note.seen = rw same (subst (λ (k : Known). Begins k.seen log) (sym c.pass.view_is) c.requires.later) in
+    let later : IsPrefix m.0.seen note.seen = rw same (subst (λ (k : Known). IsPrefix k.seen log) (sym c.pass.view_is) c.requires.later) in
     let own : events_of m.0.number m.0.seen ≡ m.0.mine = subst (λ (n : ℕ). events_of n m.0.seen ≡ m.0.mine) (sym i.free.3) i.own in
     let told : events_of m.0.number note.seen ≡ m.0.mine = told_own m note c.hear_note.ensures.told c.see_told.ensures.seen later own in
     let is = c.see_told.ensures.seen.is ∙ ap (λ (z : Seat). (record z.0 { seen = z.0.told; asked = z.0.asked + 1 }, z.1)) c.hear_note.ensures.told in record {
@@ -29,7 +29,7 @@ returns-clause-own g c = let m : Seat = c.pass.inside.seat.me in let i = c.pass.
     let log : History = c.args.courier.now.me.0.seen in
     let note : View = c.write_note-note.result.me.0 in
     let same : note.seen ≡ log = ap (λ (z : Seat). z.0.seen) c.write_note-note.ensures.note in
-    let later : Begins m.0.seen note.seen = rw same (subst (λ (k : Known). Begins k.seen log) (sym c.pass.view_is) c.requires.later) in
+    let later : IsPrefix m.0.seen note.seen = rw same (subst (λ (k : Known). IsPrefix k.seen log) (sym c.pass.view_is) c.requires.later) in
     let own : events_of m.0.number m.0.seen ≡ m.0.mine = subst (λ (n : ℕ). events_of n m.0.seen ≡ m.0.mine) (sym i.free.3) i.own in
     let told : events_of m.0.number note.seen ≡ m.0.mine = told_own m note c.hear_note.ensures.told c.see_told.ensures.seen later own in
     rw (sym c.pass.view_is) (subst (λ (n : ℕ). events_of n log ≡ m.0.mine) i.free.3 (subst (λ (h : History). events_of m.0.number h ≡ m.0.mine) same told))

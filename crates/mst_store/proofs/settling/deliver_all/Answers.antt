@@ -1,5 +1,5 @@
 use Rattle.std.proofs.Common.{◌≡◌, ℕ, List, get_or, set, ap, ◌∙◌, sym, subst}
-use Rattle.mst_key.specs.History.{History, events_of, Begins}
+use Rattle.mst_key.specs.History.{History, events_of, IsPrefix}
 use Rattle.mst_store.specs.Passes.{Known}
 use Rattle.mst_store.specs.Turns.{Seat}
 use Rattle.mst_store.specs.Settling.{having_seen}
@@ -9,8 +9,8 @@ use Rattle.mst_store.proofs.settling.deliver_all.Goals as goal
 pub deliver-requires-clause-later : goal.deliver-requires-clause-later
 deliver-requires-clause-later g c = let log : History = c.args.courier.now.me.0.seen in let at : ℕ = c.loop-pass.pass-index in let p : Known = c.pass-item.result in let i = c.loop-pass.invariant in
     let here : get_or c.loop-pass.line at p ≡ get_or c.args.line.now at p = ap (λ (l : List Known). get_or l at p) i.now ∙ changed_at (having_seen log) c.args.line.now at p in
-    subst (λ (m : Seat). Begins (get_or c.loop-pass.line at p).seen m.0.seen) (sym i.courier)
-    (subst (λ (q : Known). Begins q.seen log) (sym here) (c.requires.later at p c.loop-pass-test.true))
+    subst (λ (m : Seat). IsPrefix (get_or c.loop-pass.line at p).seen m.0.seen) (sym i.courier)
+    (subst (λ (q : Known). IsPrefix q.seen log) (sym here) (c.requires.later at p c.loop-pass-test.true))
 
 pub loop-pass-preserved : goal.loop-pass-preserved
 loop-pass-preserved g c = let log : History = c.args.courier.now.me.0.seen in let at : ℕ = c.loop-pass.pass-index in let p : Known = c.pass-item.result in

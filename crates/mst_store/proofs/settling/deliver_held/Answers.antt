@@ -1,5 +1,5 @@
 use Rattle.std.proofs.Common.{◌≡◌, ℕ, List, get_or, set, ap, ◌∙◌, sym, subst}
-use Rattle.mst_key.specs.History.{History, events_of, Begins}
+use Rattle.mst_key.specs.History.{History, events_of, IsPrefix}
 use Rattle.mst_store.specs.Passes.{Known, having_asked}
 use Rattle.mst_store.specs.Turns.{Seat}
 use Rattle.mst_store.proofs.Courier.{one_more, changed_at, changed_next}
@@ -8,8 +8,8 @@ use Rattle.mst_store.proofs.settling.deliver_held.Goals as goal
 pub deliver_pinned-requires-clause-later : goal.deliver_pinned-requires-clause-later
 deliver_pinned-requires-clause-later g c = let log : History = c.args.courier.now.me.0.seen in let at : ℕ = c.loop-pinned.pinned-index in let p : Known = c.pinned-item.result in let i = c.loop-pinned.invariant in
     let here : get_or c.loop-pinned.line at p ≡ get_or c.args.line.now at p = ap (λ (l : List Known). get_or l at p) i.asked ∙ changed_at (having_asked 2) c.args.line.now at p in
-    subst (λ (m : Seat). Begins (get_or c.loop-pinned.line at p).seen m.0.seen) (sym i.courier)
-    (subst (λ (q : Known). Begins q.seen log) (sym here) (c.requires.later at p c.loop-pinned-test.true))
+    subst (λ (m : Seat). IsPrefix (get_or c.loop-pinned.line at p).seen m.0.seen) (sym i.courier)
+    (subst (λ (q : Known). IsPrefix q.seen log) (sym here) (c.requires.later at p c.loop-pinned-test.true))
 
 pub loop-pinned-preserved : goal.loop-pinned-preserved
 loop-pinned-preserved g c = let log : History = c.args.courier.now.me.0.seen in let at : ℕ = c.loop-pinned.pinned-index in let p : Known = c.pinned-item.result in

@@ -3,7 +3,7 @@ use Rattle.std.proofs.lemmas.Grind.{elements}
 use Rattle.std.proofs.Common.{◌≡◌, ◌++◌, List, map, sym, ap, ◌∙◌, subst}
 use Rattle.std.specs.List.{All}
 use Rattle.std.proofs.lemmas.List.Elements.{All-append, All-map}
-use Rattle.mst_key.specs.History.{History, events_of, Begins}
+use Rattle.mst_key.specs.History.{History, events_of, IsPrefix}
 use Rattle.mst_store.specs.Passes.{StoreId, Known, new_pass, having_asked}
 use Rattle.mst_store.specs.Turns.{Seat}
 use Rattle.mst_store.specs.Settling.{having_seen, IsBeside}
@@ -23,7 +23,7 @@ deliver_all-requires-clause-own g c = let first = c.in-Some.courier in let last 
 
 pub deliver_all-requires-clause-later : goal.deliver_all-requires-clause-later
 deliver_all-requires-clause-later g c = let after = c.collect_all.new.courier in let last = c.collect_held.new.courier in let there = c.collect_all.ensures in
-    later_on after.me last.me c.collect_all.new.line c.collect_held.ensures.courier (subst (All (λ p. Begins p.seen after.me.0.seen)) (sym there.same) there.later)
+    later_on after.me last.me c.collect_all.new.line c.collect_held.ensures.courier (subst (All (λ p. IsPrefix p.seen after.me.0.seen)) (sym there.same) there.later)
 
 pub deliver_held-requires-clause-own : goal.deliver_held-requires-clause-own
 deliver_held-requires-clause-own g c = let first = c.in-Some.courier in let end = c.deliver_all.new.courier in let there = c.collect_all.ensures in let held = c.collect_held.ensures in let back = c.deliver_all.ensures in
@@ -33,8 +33,8 @@ deliver_held-requires-clause-own g c = let first = c.in-Some.courier in let end 
 
 pub deliver_held-requires-clause-later : goal.deliver_held-requires-clause-later
 deliver_held-requires-clause-later g c = let held = c.collect_held.ensures in let h : History = c.deliver_all.new.courier.me.0.seen in
-    subst (All (λ p. Begins p.seen h)) (sym held.asked) (All-map (λ (p : Known). Begins p.seen h) (having_asked 1) c.first_courier.new.held
-    (subst (λ (m : Seat). All (λ p. Begins p.seen m.0.seen) c.first_courier.new.held) (sym c.deliver_all.ensures.same) held.later))
+    subst (All (λ p. IsPrefix p.seen h)) (sym held.asked) (All-map (λ (p : Known). IsPrefix p.seen h) (having_asked 1) c.first_courier.new.held
+    (subst (λ (m : Seat). All (λ p. IsPrefix p.seen m.0.seen) c.first_courier.new.held) (sym c.deliver_all.ensures.same) held.later))
 
 pub returns : goal.returns
 returns g c = let w = c.requires.whole in let free : List Known = c.args.free.now in let held : List Known = c.args.held.now in let same = c.first_courier.ensures.same in
@@ -47,9 +47,9 @@ returns g c = let w = c.requires.whole in let free : List Known = c.args.free.no
         log = log;
         now = back.now ∙ ap (map (having_seen log)) (there.same ∙ same.0);
         still = home.asked ∙ ap (map (having_asked 2)) pinned.asked ∙ asked_thrice c.first_courier.new.held ∙ ap (map (having_asked 3)) same.1;
-        later = All-append (λ (p : Known). Begins p.seen log) free held
-            (subst (All (λ p. Begins p.seen log)) same.0 (later_on c.collect_all.new.courier.me last.me c.first_courier.new.free pinned.courier there.later))
-            (subst (All (λ p. Begins p.seen log)) same.1 pinned.later);
+        later = All-append (λ (p : Known). IsPrefix p.seen log) free held
+            (subst (All (λ p. IsPrefix p.seen log)) same.0 (later_on c.collect_all.new.courier.me last.me c.first_courier.new.free pinned.courier there.later))
+            (subst (All (λ p. IsPrefix p.seen log)) same.1 pinned.later);
         own = All-append (λ (p : Known). events_of p.number log ≡ p.mine) free held
             (subst (All (λ p. events_of p.number log ≡ p.mine)) (there.same ∙ same.0) back.own)
             (subst (All (λ p. events_of p.number log ≡ p.mine)) same.1 (all_before (λ (p : Known). events_of p.number log ≡ p.mine) (having_asked 1) c.first_courier.new.held

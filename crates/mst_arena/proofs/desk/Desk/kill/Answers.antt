@@ -3,7 +3,7 @@ use Rattle.std.proofs.lemmas.Grind.{common_steps, elements}
 use Rattle.std.specs.Prelude.{slice_get}
 use Rattle.mst_arena.specs.declared.life.Life.{Life}
 use Rattle.mst_arena.specs.declared.life.Life.TheVariants.{Born, Dead}
-use Rattle.mst_arena.specs.Lives.{State, next, version, ended, with_life}
+use Rattle.mst_arena.specs.Lives.{State, next, version, ended_life, with_life}
 use Rattle.mst_arena.proofs.DeskLemmas.{desk_kill, kill_room, read_is, read_index}
 use Rattle.mst_arena.proofs.desk.Desk.kill.Goals as goal
 
@@ -40,7 +40,7 @@ returns g c =
           ap (λ (s : State). with_life s c.args.row (Dead c.in-Born.birth (c.index.result.now + 1))) c.self.view_is
           ∙ ap (λ (n : ℕ). with_life c.args.self.now c.args.row (Dead n (c.index.result.now + 1))) birth
           ∙ ap (λ (n : ℕ). with_life c.args.self.now c.args.row (Dead b (n + 1))) dies
-          ∙ ap (λ (o : Option Life). with_life c.args.self.now c.args.row (ended (next c.args.self.now) o)) (sym c.requires.born.1);
+          ∙ ap (λ (o : Option Life). with_life c.args.self.now c.args.row (ended_life (next c.args.self.now) o)) (sym c.requires.born.1);
     }
 
 pub index-requires : goal.index-requires

@@ -1,7 +1,7 @@
 use Rattle.std.proofs.Common.{◌≡◌, ◌∙◌, ap, sym, subst, arith, List, length, inl, inr}
 use Rattle.std.specs.Prelude.{map, vec_capacity}
 use Rattle.mst_arena.specs.declared.life.Life.{Life}
-use Rattle.mst_arena.specs.Lives.{swept}
+use Rattle.mst_arena.specs.Lives.{swept_life}
 use Rattle.mst_arena.specs.Lists.{StayBut, AllOlder}
 use Rattle.mst_arena.proofs.SetLemmas.{written}
 use Rattle.mst_arena.proofs.DeskLemmas.{move_room, stay_but, held_older, desk_swept, desk_forgot, length_mapped}
@@ -28,8 +28,8 @@ invariant_of-self g c =
     let i = c.self.inside in
     let live = c.args.live.now in
     let new = c.sweep_dead.new in
-    let is : new.lives ≡ map (swept live) i.lives.items = c.sweep_dead.ensures.swept ∙ ap (map (swept live)) c.deref_mut.ensures.value in
-    let len : length new.lives ≡ length i.lives.items = ap (λ (ls : List Life). length ls) is ∙ length_mapped (swept live) i.lives.items in
+    let is : new.lives ≡ map (swept_life live) i.lives.items = c.sweep_dead.ensures.swept ∙ ap (map (swept_life live)) c.deref_mut.ensures.value in
+    let len : length new.lives ≡ length i.lives.items = ap (λ (ls : List Life). length ls) is ∙ length_mapped (swept_life live) i.lives.items in
     let lives = written i.lives.len new.lives i.lives.items (omega (arith, len)) in
     rw lives (elim c.sweep_dead.ensures.lists [
       | inl e ↦ desk_swept _ _ _ _ _ _ _ _ _ c.self.invariant live new.lives new.free new.dead.items new.held.items new.last.items (vec_capacity new.dead) (vec_capacity new.held)

@@ -2,11 +2,11 @@ use Rattle.std.proofs.Common.{rules}
 use Rattle.mst_key.specs.Map.{IsMap}
 use Rattle.mst_arena.specs.Standing.{numbers}
 use Rattle.mst_path.proofs.Moving.{moves_takes}
-use Rattle.mst_row_tests.proofs.Publishing.{Begins, begins, changes_taken, ready_after, within_new, lives_of}
+use Rattle.mst_row_tests.proofs.Publishing.{IsPrefix, begins, changes_taken, ready_after, within_new, lives_of}
 use Rattle.mst_row_tests.proofs.standing.StandingMap.new_beside.Goals as goal
 use Rattle.mst_row_tests.proofs.standing.StandingMap.new_beside.Given.{Over}
 
-ready : (g : Over) (c : goal.After-desk-3-1 g) → Begins c.plant.new.desk
+ready : (g : Over) (c : goal.After-desk-3-1 g) → IsPrefix c.plant.new.desk
 ready g c =
     let m = c.args.pairs.now in
     let map : IsMap m = c.is_map.ensures.map.0 (search rules) in
