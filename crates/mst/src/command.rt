@@ -24,17 +24,35 @@ fn perform<R: Threads + Wait + AllocGlobal + Sync, S: Source, W: Sink>(
 ) -> Result<Ending, Refusal>
     requires source { S.failures source.old < 2 ^ 64 - 1 }
     requires out { W.failures out.old < 2 ^ 64 - 1 }
-    ensures ran { asks_replay words.now ≡ false → asks_verify words.now ≡ None → asks_load words.now ≡ false → OnOk result (((shape : _) × NamesShape words.now shape × RanScript S.gives W.takes shape source.old out.old source.new out.new × (S.left source.new ≡ 0)) ⊎ Helped W.takes words.now source.old out.old source.new out.new) }
-    ensures replayed { asks_replay words.now ≡ true → OnOk result ((RanReplay S.gives W.takes source.old out.old source.new out.new × (S.left source.new ≡ 0)) ⊎ Helped W.takes words.now source.old out.old source.new out.new) }
-    ensures loaded { asks_load words.now ≡ true → OnOk result (((size : _) × NamesLoad words.now size × RanLoad W.takes size out.old out.new × (source.new ≡ source.old)) ⊎ Helped W.takes words.now source.old out.old source.new out.new) }
-    ensures verified { IfOk result (λ ending. (named : _) → asks_verify words.now ≡ Some named → RanVerify S.gives S.left W.takes named source.old out.old ending source.new out.new ⊎ (Helped W.takes words.now source.old out.old source.new out.new × (ending ≡ Done))) }
+    ensures ran { asks_replay words.now ≡ false → asks_verify words.now ≡ None
+        → asks_load words.now ≡ false
+        → OnOk result (((shape : _) × NamesShape words.now shape
+        × RanScript S.gives W.takes shape source.old out.old source.new out.new
+        × (S.left source.new ≡ 0))
+        ⊎ Helped W.takes words.now source.old out.old source.new out.new) }
+    ensures replayed { asks_replay words.now ≡ true
+        → OnOk result ((RanReplay S.gives W.takes source.old out.old source.new out.new
+        × (S.left source.new ≡ 0))
+        ⊎ Helped W.takes words.now source.old out.old source.new out.new) }
+    ensures loaded { asks_load words.now ≡ true
+        → OnOk result (((size : _) × NamesLoad words.now size × RanLoad W.takes size out.old out.new
+        × (source.new ≡ source.old))
+        ⊎ Helped W.takes words.now source.old out.old source.new out.new) }
+    ensures verified { IfOk result (λ ending. (named : _) → asks_verify words.now ≡ Some named
+        → RanVerify S.gives S.left W.takes named source.old out.old ending source.new out.new
+        ⊎ (Helped W.takes words.now source.old out.old source.new out.new × (ending ≡ Done))) }
     ensures others { IfOk result (λ ending. asks_verify words.now ≡ None → ending ≡ Done) }
-    ensures steady { OnOk result (S.failures source.new + W.failures out.new ≡ S.failures source.old + W.failures out.old) }
-    ensures device { IfErr result (λ why. IsDevice why (S.failures source.old + W.failures out.old) (S.failures source.new + W.failures out.new)) }
+    ensures steady { OnOk result
+        (S.failures source.new + W.failures out.new ≡ S.failures source.old + W.failures out.old) }
+    ensures device { IfErr result
+        (λ why. IsDevice why (S.failures source.old + W.failures out.old)
+        (S.failures source.new + W.failures out.new)) }
     ensures unread { IfErr result (λ why. Unread why source.old source.new) }
-    ensures untouched { asks_verify words.now ≡ None → IfErr result (λ why. Untouched why source.old source.new) }
+    ensures untouched { asks_verify words.now ≡ None
+        → IfErr result (λ why. Untouched why source.old source.new) }
     ensures comes { IfErr result (λ why. Comes words.now why) }
-    ensures stopped { IsErrOf result Refusal.Device → (task : _) × AsksFor words.now task × Broke S.gives S.left W.takes W.failures task source.old out.old source.new out.new }
+    ensures stopped { IsErrOf result Refusal.Device → (task : _) × AsksFor words.now task
+        × Broke S.gives S.left W.takes W.failures task source.old out.old source.new out.new }
     ensures unwritten { IfErr result (λ why. Untouched why out.old out.new) }
 {
     match task_of(alloc, words) {
@@ -45,8 +63,8 @@ fn perform<R: Threads + Wait + AllocGlobal + Sync, S: Source, W: Sink>(
 
 /// Does what the words ask for, the first of which is the program's name, and answers the exit
 /// status: 0 done, 1 a proof refused, 2 words refused, 3 a read or a write failed, 4 a growth was
-/// refused or a thread could not be started. With 2, 3 and 4 it says so on standard error, with 2 by
-/// clap's own text, `shape`, `bad root` or `bad key`.
+/// refused or a thread could not be started. With 2, 3 and 4 it says so on standard error, with 2
+/// by clap's own text, `shape`, `bad root` or `bad key`.
 pub fn command<R, S: Source, O: Sink, E: Sink>(
     rt: &R,
     alloc: Global,
@@ -61,15 +79,38 @@ where
     requires out { O.failures out.old < 2 ^ 64 - 1 }
     requires err { E.failures err.old < 2 ^ 64 - 1 }
     ensures range { (result ≡ 0) ⊎ (result ≡ 1) ⊎ (result ≡ 2) ⊎ (result ≡ 3) ⊎ (result ≡ 4) }
-    ensures device { (result ≡ 3) ↔ (S.failures source.old + O.failures out.old + E.failures err.old < S.failures source.new + O.failures out.new + E.failures err.new) }
-    ensures done { result ≡ 0 → asks_replay words.now ≡ false → asks_verify words.now ≡ None → asks_load words.now ≡ false → ((shape : _) × NamesShape words.now shape × RanScript S.gives O.takes shape source.old out.old source.new out.new × (S.left source.new ≡ 0)) ⊎ Helped O.takes words.now source.old out.old source.new out.new }
-    ensures replayed { result ≡ 0 → asks_replay words.now ≡ true → (RanReplay S.gives O.takes source.old out.old source.new out.new × (S.left source.new ≡ 0)) ⊎ Helped O.takes words.now source.old out.old source.new out.new }
-    ensures loaded { result ≡ 0 → asks_load words.now ≡ true → ((size : _) × NamesLoad words.now size × RanLoad O.takes size out.old out.new × (source.new ≡ source.old)) ⊎ Helped O.takes words.now source.old out.old source.new out.new }
-    ensures verified { result ≡ 0 → (named : _) → asks_verify words.now ≡ Some named → RanVerify S.gives S.left O.takes named source.old out.old Done source.new out.new ⊎ Helped O.takes words.now source.old out.old source.new out.new }
-    ensures proof_refused { result ≡ 1 → (named : _) × (asks_verify words.now ≡ Some named) × RanVerify S.gives S.left O.takes named source.old out.old ProofRefused source.new out.new }
+    ensures device { (result ≡ 3)
+        ↔ (S.failures source.old + O.failures out.old + E.failures err.old < S.failures source.new
+        + O.failures out.new + E.failures err.new) }
+    ensures done { result ≡ 0 → asks_replay words.now ≡ false → asks_verify words.now ≡ None
+        → asks_load words.now ≡ false
+        → ((shape : _) × NamesShape words.now shape
+        × RanScript S.gives O.takes shape source.old out.old source.new out.new
+        × (S.left source.new ≡ 0))
+        ⊎ Helped O.takes words.now source.old out.old source.new out.new }
+    ensures replayed { result ≡ 0 → asks_replay words.now ≡ true
+        → (RanReplay S.gives O.takes source.old out.old source.new out.new
+        × (S.left source.new ≡ 0))
+        ⊎ Helped O.takes words.now source.old out.old source.new out.new }
+    ensures loaded { result ≡ 0 → asks_load words.now ≡ true
+        → ((size : _) × NamesLoad words.now size × RanLoad O.takes size out.old out.new
+        × (source.new ≡ source.old))
+        ⊎ Helped O.takes words.now source.old out.old source.new out.new }
+    ensures verified { result ≡ 0 → (named : _) → asks_verify words.now ≡ Some named
+        → RanVerify S.gives S.left O.takes named source.old out.old Done source.new out.new
+        ⊎ Helped O.takes words.now source.old out.old source.new out.new }
+    ensures proof_refused { result ≡ 1 → (named : _) × (asks_verify words.now ≡ Some named)
+        × RanVerify S.gives S.left O.takes named source.old out.old ProofRefused source.new
+        out.new }
     ensures silent { (result ≡ 0) ⊎ (result ≡ 1) → err.new ≡ err.old }
-    ensures told { (result ≡ 2) ⊎ (result ≡ 4) → (why : _) × (result ≡ status_of why) × Comes words.now why × E.takes err.old (told why) err.new }
-    ensures stopped { result ≡ 3 → ((E.failures err.old < E.failures err.new) × ((why : _) × Breaks E.takes err.old [] (told why) err.new)) ⊎ (((task : _) × AsksFor words.now task × Broke S.gives S.left O.takes O.failures task source.old out.old source.new out.new) × E.takes err.old (told Device) err.new) }
+    ensures told { (result ≡ 2) ⊎ (result ≡ 4) → (why : _) × (result ≡ status_of why)
+        × Comes words.now why × E.takes err.old (told why) err.new }
+    ensures stopped { result ≡ 3
+        → ((E.failures err.old < E.failures err.new)
+        × ((why : _) × Breaks E.takes err.old [] (told why) err.new))
+        ⊎ (((task : _) × AsksFor words.now task
+        × Broke S.gives S.left O.takes O.failures task source.old out.old source.new out.new)
+        × E.takes err.old (told Device) err.new) }
     ensures refused { result ≡ 2 → (source.new ≡ source.old) × (out.new ≡ out.old) }
     ensures memory { result ≡ 4 → out.new ≡ out.old }
     ensures memory_unread { result ≡ 4 → asks_verify words.now ≡ None → source.new ≡ source.old }

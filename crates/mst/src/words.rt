@@ -99,13 +99,15 @@ fn program<'a>(alloc: Global) -> Result<Command<'a>, AllocError> {
         .subcommand(load_command(alloc)?)
 }
 
-// The number that an option gives. Each option has a default or has to be given, so there is one where its command is.
+// The number that an option gives. Each option has a default or has to be given, so there is one
+// where its command is.
 fn number(matches: &ArgMatches<'_>, option: &str) -> u32 {
     matches.get_one::<u32>(option).unwrap_or_default()
 }
 
-// The task that clap finds in words of no plain form, with the program's name. The program has no option of its own that takes a word, so that clap takes the first
-// word behind its name for the command.
+// The task that clap finds in words of no plain form, with the program's name. The program has no
+// option of its own that takes a word, so that clap takes the first word behind its name for the
+// command.
 fn task_in<'a>(alloc: Global, words: &[&'a str]) -> Result<Task<'a>, Error>
     requires { ¬ (IsPlain words.now) }
     ensures { IfOk result (λ task. AsksFor words.now task) }
@@ -125,7 +127,8 @@ fn task_in<'a>(alloc: Global, words: &[&'a str]) -> Result<Task<'a>, Error>
     Ok(named_task(words, shape, size))
 }
 
-// What clap answers words that name no task: help and the version that were asked for are one, and all else is a refusal.
+// What clap answers words that name no task: help and the version that were asked for are one, and
+// all else is a refusal.
 fn answer_words<'a>(alloc: Global, words: &[&'a str], error: &Error) -> Result<Task<'a>, Refusal>
     requires { ¬ (IsPlain words.now) }
     ensures help { IfOk result (λ task. AsksFor words.now task) }
@@ -155,7 +158,8 @@ fn other_task<'a>(alloc: Global, words: &[&'a str]) -> Result<Task<'a>, Refusal>
     }
 }
 
-/// What all words ask for, with the program's name, or clap's own text where they are refused. Words of a plain form are never refused here, and take no memory.
+/// What all words ask for, with the program's name, or clap's own text where they are refused.
+/// Words of a plain form are never refused here, and take no memory.
 pub fn task_of<'a>(alloc: Global, words: &[&'a str]) -> Result<Task<'a>, Refusal>
     ensures asked { IfOk result (λ task. AsksFor words.now task) }
     ensures refused { IfErr result (λ why. EndsWords why) }

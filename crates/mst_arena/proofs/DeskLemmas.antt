@@ -102,7 +102,8 @@ any_member P (w ∷ ws) v has is = go (w == v) (P w) refl refl (any_member P ws 
     go true false e f more = grind (arith, nat_tests)
     go false false e f more = grind (arith, nat_tests)
 
--- what a version reached that is still live, and not the newest, is reached by a live version that is not
+-- what a version reached that is still live, and not the newest, is reached by a live version that
+-- is not
 any_older : (P : ℕ → Bool) (live last : List ℕ) → list_all (λ v. list_any (λ w. w == v) live && is_older live v) last ≡ true → list_any P last ≡ true → list_any (λ v. P v && is_older live v) live ≡ true
 any_older P live [] all some = cc
 any_older P live (v ∷ vs) all some = go (P v) refl (any_older P live vs)

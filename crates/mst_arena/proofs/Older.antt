@@ -1,4 +1,5 @@
--- The versions that are older than the newest live one: in rising order all but the last. What they reach stays held until one of them is no longer live.
+-- The versions that are older than the newest live one: in rising order all but the last. What they
+-- reach stays held until one of them is no longer live.
 use Rattle.std.proofs.Common.{◌≡◌, ℕ, ◌-◌, ◌<◌, ◌≤◌, Bool, true, false, List, [], ◌∷◌, length, take, get_or, refl, sym, ◌∙◌, ap, arith}
 use Rattle.std.specs.Prelude.{nat_lt, ◌&&◌}
 use Rattle.std.specs.List.{list_any, Any}

@@ -29,11 +29,13 @@ Lists is lives rows = (r : ℕ) → times r rows ≡ bit (is_at is (slice_get li
 
 -- a sweep leaves each row alone that is not in the list
 abbrev pub StayBut : List ℕ → List Life → List ℕ → Type 0
-StayBut live lives rows = (r : ℕ) (x : Life) → slice_get lives r ≡ Some x → times r rows ≡ 0 → swept_life live x ≡ x
+StayBut live lives rows =
+    (r : ℕ) (x : Life) → slice_get lives r ≡ Some x → times r rows ≡ 0 → swept_life live x ≡ x
 
 -- each row of the list is reached by one of these versions
 abbrev pub AllReached : List ℕ → List Life → List ℕ → Type 0
-AllReached live lives rows = (r : ℕ) (x : Life) → slice_get lives r ≡ Some x → 0 < times r rows → list_any (reaches_life x) live ≡ true
+AllReached live lives rows = (r : ℕ) (x : Life) → slice_get lives r ≡ Some x → 0 < times r rows
+    → list_any (reaches_life x) live ≡ true
 
 -- a newer version than this is among them
 abbrev pub is_older : List ℕ → ℕ → Bool
@@ -41,9 +43,11 @@ is_older live v = list_any (λ w. nat_lt v w) live
 
 -- each row of the list is reached by one of these versions that is not the newest of them
 abbrev pub AllOlder : List ℕ → List Life → List ℕ → Type 0
-AllOlder live lives rows = (r : ℕ) (x : Life) → slice_get lives r ≡ Some x → 0 < times r rows → list_any (λ v. reaches_life x v && is_older live v) live ≡ true
+AllOlder live lives rows = (r : ℕ) (x : Life) → slice_get lives r ≡ Some x → 0 < times r rows
+    → list_any (λ v. reaches_life x v && is_older live v) live ≡ true
 
--- what a desk keeps: the free rows; each dead row in one of two lists; and in the second of these only rows that a version reaches which the last sweep remembered
+-- what a desk keeps: the free rows; each dead row in one of two lists; and in the second of these
+-- only rows that a version reaches which the last sweep remembered
 pub record IsDesk (current : ℕ) (versions : List ℕ) (lives : List Life) (free : List Bool) (dead held last : List ℕ) (dead_cap held_cap : ℕ) : Type 0 where
   pub there : current < length versions
   pub small : slice_index versions current < 2 ^ 63

@@ -46,7 +46,8 @@ SameReach IsAsked old new = (v row : ℕ) → IsAsked v → reaches new v row �
 
 -- ---- the desk
 
--- what a desk knows: the record of the current version, the version number of each record, and the life of each row
+-- what a desk knows: the record of the current version, the version number of each record, and the
+-- life of each row
 pub record State : Type 0 where
   pub current : ℕ
   pub versions : List ℕ
@@ -67,7 +68,8 @@ last_version = 2 ^ 63 - 1
 abbrev pub with_life : State → ℕ → Life → State
 with_life s row life = record s { lives = slice_set s.lives row life }
 
--- a row was born with a version or an earlier one; if it is dead, it died with that version or an earlier one
+-- a row was born with a version or an earlier one; if it is dead, it died with that version or an
+-- earlier one
 abbrev pub IsPast : ℕ → Option Life → Type 0
 IsPast v None = Unit {0}
 IsPast v (Some Free) = Unit {0}

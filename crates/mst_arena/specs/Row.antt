@@ -9,11 +9,13 @@ use Rattle.mst_arena.specs.declared.row.EntryLinks.{EntryLinks}
 -- links, layer and count are within their limits, and a head has a first entry
 abbrev pub IsRow : Row → Type 0
 IsRow (Entry child next key value) = (child ≤ 65535) × (next ≤ 65535)
-IsRow (Head layer count first tail digest) = (layer ≤ 64) × (0 < count) × (count ≤ 65534) × (0 < first) × (first ≤ 65535) × (tail ≤ 65535)
+IsRow (Head layer count first tail digest) =
+    (layer ≤ 64) × (0 < count) × (count ≤ 65534) × (0 < first) × (first ≤ 65535) × (tail ≤ 65535)
 
 -- layer, count and links of a head are within their limits, and it has a first entry
 abbrev pub IsHead : HeadLinks → Type 0
-IsHead head = (head.layer ≤ 64) × (0 < head.count) × (head.count ≤ 65534) × (0 < head.first) × (head.first ≤ 65535) × (head.tail ≤ 65535)
+IsHead head = (head.layer ≤ 64) × (0 < head.count) × (head.count ≤ 65534) × (0 < head.first)
+    × (head.first ≤ 65535) × (head.tail ≤ 65535)
 
 -- the bytes are those of a key and a value, or of a digest, as they are in each row of the program
 abbrev pub HasBytes : Row → Type 0
@@ -23,7 +25,8 @@ HasBytes (Head layer count first tail digest) = (length digest ≡ 32) × IsByte
 -- layer, count and links of a head
 abbrev pub head_links : Row → Option HeadLinks
 head_links (Entry child next key value) = None
-head_links (Head layer count first tail digest) = Some (record { layer = layer; count = count; first = first; tail = tail })
+head_links (Head layer count first tail digest) =
+    Some (record { layer = layer; count = count; first = first; tail = tail })
 
 abbrev pub head_digest : Row → Option (List ℕ)
 head_digest (Entry child next key value) = None

@@ -1,4 +1,7 @@
--- Rows stand for a tree: a head row for each node, with its layer, the number of its entries, the link of the first and of the tree in the last gap, and its digest; and a row for each entry, with the link of the tree in the gap before it and of the next entry. A link is a row number plus 1, and 0 is none.
+-- Rows stand for a tree: a head row for each node, with its layer, the number of its entries, the
+-- link of the first and of the tree in the last gap, and its digest; and a row for each entry, with
+-- the link of the tree in the gap before it and of the next entry. A link is a row number plus 1,
+-- and 0 is none.
 use Rattle.std.specs.Prelude.{◌≡◌, ◌≢◌, ℕ, ◌+◌, List, [], ◌∷◌, ◌++◌, Some}
 use Rattle.std.specs.List.{AllByRecursion}
 use Rattle.mst_key.specs.declared.format.Format.{Format}
@@ -49,7 +52,8 @@ count_of (cell at child key value rest) = count_of rest + 1
 
 -- the head row of a node
 abbrev pub head_row : Format → ℕ → Chain → Row
-head_row format layer chain = Head layer (count_of chain) (first_of chain) (tail_of chain) (digest (tree.node format layer (entries_of format chain)))
+head_row format layer chain = Head layer (count_of chain) (first_of chain) (tail_of chain)
+    (digest (tree.node format layer (entries_of format chain)))
 
 -- the rows that stand for a placed tree, each with its number
 abbrev mutual
@@ -81,7 +85,8 @@ abbrev pub IsDistinct : List ℕ → Type 0
 IsDistinct [] = Unit {0}
 IsDistinct (x ∷ xs) = AllByRecursion (λ y. x ≢ y) xs × IsDistinct xs
 
--- rows of the content stand for the tree at the link: some placing of it has this link and these rows, and no row is used twice
+-- rows of the content stand for the tree at the link: some placing of it has this link and these
+-- rows, and no row is used twice
 pub record StandsAt (format : Format) (content : Content) (link : ℕ) (t : tree.Tree) : Type 0 where
   pub placed : Placed
   pub at : link_of placed ≡ link

@@ -19,7 +19,8 @@ abbrev pub entry_way : List ℕ → Row → Option Way
 entry_way k (Entry child next key value) = Some (way_at k child next key)
 entry_way k (Head layer count first tail digest) = None
 
--- the order of a key and of that whose length and bytes stand in words 3 to 7: the first words that differ decide, and else the lengths
+-- the order of a key and of that whose length and bytes stand in words 3 to 7: the first words that
+-- differ decide, and else the lengths
 abbrev pub words_order : List ℕ → (ℕ → ℕ) → Ordering
 words_order k word =
     ordering_then (ordering_then (ordering_then (ordering_then

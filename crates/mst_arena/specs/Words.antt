@@ -59,16 +59,19 @@ head_in words = Head
 abbrev pub candidate : List ℕ → Row
 candidate words = if slice_index words 0 == 1 then entry_in words else head_in words
 
--- whether a row is within its limits, and its bytes are as many as those of a key and a value, or of a digest
+-- whether a row is within its limits, and its bytes are as many as those of a key and a value, or
+-- of a digest
 abbrev pub has_limits : Row → Bool
 has_limits (Entry child next key value) =
     nat_le child 65535 && nat_le next 65535 && nat_lt 0 (length key) && nat_le (length key) 32 && nat_le (length value) 64
 has_limits (Head layer count first tail digest) =
     nat_le layer 64 && nat_lt 0 count && nat_le count 65534 && nat_lt 0 first && nat_le first 65535 && nat_le tail 65535 && length digest == 32
 
--- the row that sixteen words spell: the only one that they may be of, where it is within its limits and has exactly these words
+-- the row that sixteen words spell: the only one that they may be of, where it is within its limits
+-- and has exactly these words
 unfoldable pub row_in : List ℕ → Option Row
-row_in words = if has_limits (candidate words) && same_words (words_of (candidate words)) words then Some (candidate words) else None
+row_in words = if has_limits (candidate words) && same_words (words_of (candidate words)) words
+    then Some (candidate words) else None
 
 -- a part of the row that words spell, where they spell one that has this part
 abbrev pub part_in : {A : Type 0} → (Row → Option A) → List ℕ → Option A

@@ -1,4 +1,5 @@
-//! Bits of words, 64 a word, the lowest of each word first, and a summary of them with a bit for each word that is not 0.
+//! Bits of words, 64 a word, the lowest of each word first, and a summary of them with a bit for
+//! each word that is not 0.
 ghost use Rattle.std.specs.Prelude.{◌≡◌, ◌≢◌, ◌↔◌, ◌≤◌, ◌<◌, ◌+◌, ◌*◌, ◌/◌, ◌^◌, ℕ, true, length, slice_index, IfSome, IfNone};
 ghost use Rattle.mst_arena.specs.Bits.{bit, BitWritten, Sums};
 

@@ -19,9 +19,13 @@ const LAST_VERSION: u64 = 9_223_372_036_854_775_807;
 #[error("version numbers are spent")]
 pub struct VersionsSpent;
 
-/// Which rows are free, and from which version to which the others are reached; which record is the current one, and which version each record holds.
+/// Which rows are free, and from which version to which the others are reached; which record is the
+/// current one, and which version each record holds.
 ///
-/// Version v reaches a row that was born with version b, and did not die, exactly where b <= v, and one that died with version d exactly where b <= v < d. A write takes rows for the version to come, [`Desk::next_version`], and kills rows of the current one; then it advances. `life_laws` says what that does to the rows that a version reaches.
+/// Version v reaches a row that was born with version b, and did not die, exactly where b <= v, and
+/// one that died with version d exactly where b <= v < d. A write takes rows for the version to
+/// come, [`Desk::next_version`], and kills rows of the current one; then it advances. `life_laws`
+/// says what that does to the rows that a version reaches.
 #[derive(Drop)]
 pub struct Desk<A: Allocator> {
     current: u32,
@@ -32,11 +36,13 @@ pub struct Desk<A: Allocator> {
     dead: Vec<u32, A>,
     /// The other dead rows. Each is reached by a version that the last sweep remembered.
     held: Vec<u32, A>,
-    /// The versions that the last sweep remembered: of those live then, in rising order, the ones that hold a row.
+    /// The versions that the last sweep remembered: of those live then, in rising order, the ones
+    /// that hold a row.
     live: Vec<u64, A>,
 }
 
-/// Contracts see the record of the current version, the version of each record, and the life of each row.
+/// Contracts see the record of the current version, the version of each record, and the life of
+/// each row.
 impl<A: Allocator> Model for Desk<A> {
     ghost use Rattle.std.specs.Prelude.{vec_capacity};
     ghost use Rattle.mst_arena.specs.Lives.{State};
@@ -70,7 +76,8 @@ fn room<T, A: Allocator>(alloc: A, count: usize) -> Result<Vec<T, A>, Memory>
 }
 
 impl<A: Allocator + Copy> Desk<A> {
-    /// A desk with so many rows, 1 to 65,535, all of them free, and so many records, 2 to 34. Record 0 is the current one, with version `first`, at most 2^63 - 1.
+    /// A desk with so many rows, 1 to 65,535, all of them free, and so many records, 2 to 34.
+    /// Record 0 is the current one, with version `first`, at most 2^63 - 1.
     ///
     /// `Memory` comes where a growth was refused. No later call takes memory.
     pub fn new(alloc: A, rows: u32, records: u32, first: u64) -> Result<Desk<A>, Memory>
@@ -79,7 +86,13 @@ impl<A: Allocator + Copy> Desk<A> {
         requires some_records { 2 ≤ records }
         requires few_records { records ≤ 34 }
         requires first { first ≤ last_version }
-        ensures ok { IfOk result (λ d. d ≡ record { current = 0; versions = replicate records first; lives = replicate rows Free }) }
+        ensures ok { IfOk result
+            (λ d. d
+            ≡ record {
+              current = 0;
+              versions = replicate records first;
+              lives = replicate rows Free;
+            }) }
     {
         let (count, records) = (rows as usize, records as usize);
         Ok(Desk {
@@ -110,9 +123,11 @@ impl<A: Allocator> Desk<A> {
         self.versions[of as usize]
     }
 
-    /// The number of the version to come. `VersionsSpent` comes exactly where the current version has the last number.
+    /// The number of the version to come. `VersionsSpent` comes exactly where the current version
+    /// has the last number.
     pub fn next_version(&self) -> Result<u64, VersionsSpent>
-        ensures answer { MatchResult result (λ v. (v ≡ next self.now) × (v ≤ last_version)) (λ _. version self.now ≡ last_version) }
+        ensures answer { MatchResult result (λ v. (v ≡ next self.now)
+            × (v ≤ last_version)) (λ _. version self.now ≡ last_version) }
     {
         let version = self.versions[self.current as usize];
         if version == LAST_VERSION {
@@ -155,7 +170,8 @@ impl<A: Allocator> Desk<A> {
     pub fn kill(&mut self, row: u32)
         requires born { (b : ℕ) × (slice_get self.old.lives row ≡ Some (Born b))
             × (b ≤ version self.old) }
-        ensures dead { self.new ≡ with_life self.old row (ended_life (next self.old) (slice_get self.old.lives row)) }
+        ensures dead { self.new ≡ with_life self.old row
+            (ended_life (next self.old) (slice_get self.old.lives row)) }
     {
         let death = self.versions[self.current as usize] + 1;
         match self.lives[row as usize] {
@@ -172,7 +188,10 @@ impl<A: Allocator> Desk<A> {
         requires there { into < length self.old.versions }
         requires other { into ≢ self.old.current }
         requires more { next self.old ≤ last_version }
-        ensures current { self.new ≡ record self.old { current = into; versions = slice_set self.old.versions into (next self.old) } }
+        ensures current { self.new ≡ record self.old {
+          current = into;
+          versions = slice_set self.old.versions into (next self.old);
+        } }
     {
         let next = self.versions[self.current as usize] + 1;
         self.versions[into as usize] = next;
@@ -181,9 +200,14 @@ impl<A: Allocator> Desk<A> {
 
     /// Frees the dead rows that no live version reaches.
     ///
-    /// It looks at the rows killed since the last sweep, with one search among the live versions for each. At the other dead rows it looks only where a version that held one of them then is no longer live, or is the newest. It never looks at rows that are not dead.
+    /// It looks at the rows killed since the last sweep, with one search among the live versions
+    /// for each. At the other dead rows it looks only where a version that held one of them then is
+    /// no longer live, or is the newest. It never looks at rows that are not dead.
     pub fn sweep(&mut self, live: &[u64])
-        ensures swept { self.new ≡ record self.old { lives = map (swept_life live.now) self.old.lives } }
+        ensures swept { self.new ≡ record self.old {
+          lives = map
+              (swept_life live.now) self.old.lives;
+        } }
     {
         look_again(&mut self.dead, &mut self.held, &self.live, live);
         sweep_dead(

@@ -1,6 +1,8 @@
-//! Laws of the definitions that the contracts cite: which row words spell, which version reaches which row, and what rows stand for.
+//! Laws of the definitions that the contracts cite: which row words spell, which version reaches
+//! which row, and what rows stand for.
 //!
-//! The functions here do nothing. Each clause is a proved law, by which a reader can judge the definitions of `specs/`.
+//! The functions here do nothing. Each clause is a proved law, by which a reader can judge the
+//! definitions of `specs/`.
 ghost use Rattle.std.specs.Prelude.{◌≡◌, ◌≢◌, ◌≤◌, ◌<◌, ◌==◌, ℕ, List, Some, false, true, map, slice_get, slice_set};
 ghost use Rattle.std.specs.List.{list_any, AllByRecursion};
 ghost use Rattle.mst_key.specs.declared.format.Format.{Format};
@@ -17,14 +19,16 @@ ghost use Rattle.mst_arena.specs.declared.row.Root.{Root};
 ghost use Rattle.mst_arena.specs.declared.row.Row.{Row};
 ghost use Rattle.mst_arena.specs.declared.row.Row.TheVariants.{Entry};
 
-/// Each row has words that spell it and no other row, and words that spell a row are the words of that row.
+/// Each row has words that spell it and no other row, and words that spell a row are the words of
+/// that row.
 pub fn words_laws()
     ensures row { (row : Row) → IsRow row → HasBytes row → row_in (words_of row) ≡ Some row }
     ensures words { (words : List ℕ) (row : Row) → row_in words ≡ Some row
         → IsRow row × HasBytes row × (words_of row ≡ words) }
 {}
 
-/// What the calls of a desk do to the rows that a version reaches, for any set of live versions. `next` is the version to come.
+/// What the calls of a desk do to the rows that a version reaches, for any set of live versions.
+/// `next` is the version to come.
 pub fn life_laws()
     // a row that is taken is reached by no earlier version, before and after
     ensures take { (lives : List Life) (row next : ℕ) → slice_get lives row ≡ Some Free
@@ -45,30 +49,33 @@ pub fn life_laws()
     ensures dead { (lives : List Life) (row b next v : ℕ) → slice_get lives row ≡ Some (Dead b next)
         → next ≤ v → reaches lives v row ≡ false }
     // a row that is taken is reached by the version to come, and by each after it
-    ensures taken { (lives : List Life) (row next v : ℕ) → slice_get lives row ≡ Some Free → next ≤ v
-        → reaches (slice_set lives row (Born next)) v row ≡ true }
+    ensures taken { (lives : List Life) (row next v : ℕ) → slice_get lives row ≡ Some Free
+        → next ≤ v → reaches (slice_set lives row (Born next)) v row ≡ true }
     // until it is killed: then still by each version from its own up to the one that is to come
-    ensures killed { (lives : List Life) (row b next v : ℕ) → slice_get lives row ≡ Some (Born b) → b ≤ v → v < next
-        → reaches (slice_set lives row (Dead b next)) v row ≡ true }
+    ensures killed { (lives : List Life) (row b next v : ℕ) → slice_get lives row ≡ Some (Born b)
+        → b ≤ v → v < next → reaches (slice_set lives row (Dead b next)) v row ≡ true }
     // what is done to other rows, and a sweep, leave a row as it was
     ensures others { (lives : List Life) (row other v : ℕ) (life : Life) → other ≢ row
         → reaches (slice_set lives other life) v row ≡ reaches lives v row }
-    ensures lasts { (lives : List Life) (live : List ℕ) (row b v : ℕ) → slice_get lives row ≡ Some (Born b) → b ≤ v
+    ensures lasts { (lives : List Life) (live : List ℕ) (row b v : ℕ)
+        → slice_get lives row ≡ Some (Born b) → b ≤ v
         → reaches (map (swept_life live) lives) v row ≡ true }
 {}
 
-/// What stands at a root is one map, in one placing; it stays as long as its rows do, and it is put together from its parts.
+/// What stands at a root is one map, in one placing; it stays as long as its rows do, and it is put
+/// together from its parts.
 pub fn standing_laws()
     ensures one { (f : Format) (c : Content) (at : Root) (m n : List Pair)
         → Stands f c at m → Stands f c at n → m ≡ n }
-    ensures one_placing { (f : Format) (c : Content) (link : ℕ) (t u : Tree) (s : StandsAt f c link t)
-        (r : StandsAt f c link u) → s.placed ≡ r.placed }
+    ensures one_placing { (f : Format) (c : Content) (link : ℕ) (t u : Tree)
+        (s : StandsAt f c link t) (r : StandsAt f c link u) → s.placed ≡ r.placed }
     // what stands, stands in each content that has its rows as before
     ensures frame { (f : Format) (old new : Content) (at : Root) (m : List Pair)
-        (s : Stands f old at m) → AllByRecursion (λ k. new k ≡ old k) (numbers s) → Stands f new at m }
+        (s : Stands f old at m) → AllByRecursion (λ k. new k ≡ old k) (numbers s)
+        → Stands f new at m }
     // and so it stands after a write of a row that is none of its own
-    ensures write { (f : Format) (old new : Content) (row : ℕ) (value : Row) (at : Root) (m : List Pair)
-        (s : Stands f old at m) → Writes old new row value
+    ensures write { (f : Format) (old new : Content) (row : ℕ) (value : Row) (at : Root)
+        (m : List Pair) (s : Stands f old at m) → Writes old new row value
         → AllByRecursion (λ k. k ≢ row) (numbers s) → Stands f new at m }
     // a node of one entry between two trees that stand
     ensures join { (f : Format) (c : Content) (p q : Placed) (h e l : ℕ) (k v : List ℕ)

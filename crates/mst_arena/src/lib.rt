@@ -1,6 +1,9 @@
-//! The rows of the shared arena, what they stand for, and the desk that keeps their births and deaths.
+//! The rows of the shared arena, what they stand for, and the desk that keeps their births and
+//! deaths.
 //!
-//! A tree stands in rows of sixteen words: one for the head of each node and one for each entry. [`Rows`] is the contract between the calls that read and write trees and the memory that holds the rows. [`Desk`] knows which rows are free, and which versions reach the others.
+//! A tree stands in rows of sixteen words: one for the head of each node and one for each entry.
+//! [`Rows`] is the contract between the calls that read and write trees and the memory that holds
+//! the rows. [`Desk`] knows which rows are free, and which versions reach the others.
 //!
 //! ```
 //! let mut desk = Desk::new(alloc, 16, 3, 0)?;     // 16 rows, 3 records, of which record 0 holds version 0
@@ -13,9 +16,12 @@
 //! desk.free()                                     // 16
 //! ```
 //!
-//! `specs/` defines what the contracts speak of; `words_laws`, `life_laws` and `standing_laws` prove what these definitions should satisfy.
+//! `specs/` defines what the contracts speak of; `words_laws`, `life_laws` and `standing_laws`
+//! prove what these definitions should satisfy.
 //!
-//! The desk does not know which versions are live: its caller tells it. It takes memory when it is made, and never again. [`PlainRows`] are rows of one thread; those that threads share are in `mst_words`.
+//! The desk does not know which versions are live: its caller tells it. It takes memory when it is
+//! made, and never again. [`PlainRows`] are rows of one thread; those that threads share are in
+//! `mst_words`.
 #![tactic(auto)]
 
 mod bits;

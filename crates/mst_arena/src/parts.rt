@@ -10,7 +10,8 @@ use std::array;
 
 /// The 32 bytes of four words, the highest byte of each word first.
 ///
-/// There is no loop. Each word's bytes are copied as a piece, so that the compiled code stores them at once.
+/// There is no loop. Each word's bytes are copied as a piece, so that the compiled code stores them
+/// at once.
 pub(crate) fn bytes_of_four(words: &[u64; 4]) -> [u8; 32]
     ensures bytes { result ≡ map (byte_of_words words.now) (range_with_len 0 32) }
 {

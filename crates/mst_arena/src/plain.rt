@@ -14,7 +14,8 @@ pub struct PlainRows<A: Allocator> {
     places: Vec<Option<Row>, A>,
 }
 
-/// Contracts see the list of the places, each with its row, which is within its limits, or with none.
+/// Contracts see the list of the places, each with its row, which is within its limits, or with
+/// none.
 impl<A: Allocator> Model for PlainRows<A> {
     ghost use Rattle.std.specs.Prelude.{List, Option, All, IfSome};
     ghost use Rattle.mst_arena.specs.declared.row.Row.{Row};

@@ -10,7 +10,10 @@ use mst_key::Value;
 
 /// Rows that the holder may read, and blank rows that it may write.
 ///
-/// The content has a row at each number that the holder may read. Reading changes nothing; a write changes the content at the row that is written and nowhere else, and what the holder is beside its rows stays. Beside whole rows the parts of them can be read, so that an implementation loads no more words than a search needs: the default bodies read the whole row.
+/// The content has a row at each number that the holder may read. Reading changes nothing; a write
+/// changes the content at the row that is written and nowhere else, and what the holder is beside
+/// its rows stays. Beside whole rows the parts of them can be read, so that an implementation loads
+/// no more words than a search needs: the default bodies read the whole row.
 pub trait Rows {
     ghost use Rattle.std.specs.Prelude.{ℕ, Bool};
     ghost use Rattle.mst_arena.specs.Content.{Content};

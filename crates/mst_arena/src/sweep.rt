@@ -12,7 +12,8 @@ use crate::life::Life;
 use std::alloc::Allocator;
 use std::mem;
 
-/// Whether a live version reaches a row that was born and died with these versions. Where the live versions rise, one search finds the first that is not below the birth.
+/// Whether a live version reaches a row that was born and died with these versions. Where the live
+/// versions rise, one search finds the first that is not below the birth.
 fn is_reached(birth: u64, death: u64, live: &[u64], rising: bool) -> bool
     requires rising { rising ≡ true → IsNonDecreasing live.now }
     ensures reached { result ≡ list_any (reaches_life (Dead birth death)) live.now }
@@ -44,7 +45,8 @@ fn after_sweep(life: Life, live: &[u64], rising: bool) -> Life
 /// Whether a version that is not the newest of the live ones reaches a dead row, where these rise.
 fn is_older_kept(life: Life, live: &[u64], rising: bool) -> bool
     requires rising { rising ≡ true → IsNonDecreasing live.now }
-    ensures kept { is_dead life ≡ true → result ≡ list_any (reaches_life life) (take (length live.now - 1) live.now) }
+    ensures kept { is_dead life ≡ true
+        → result ≡ list_any (reaches_life life) (take (length live.now - 1) live.now) }
 {
     let older = live.len().saturating_sub(1);
     match life {
@@ -62,7 +64,8 @@ fn is_overtaken(version: u64, live: &[u64]) -> bool
 
 /// Whether each of the versions is still live, and none is the newest of the live ones.
 fn are_older(versions: &[u64], live: &[u64]) -> bool
-    ensures all { result ≡ list_all (λ v. list_any (λ w. w == v) live.now && is_older live.now v) versions.now }
+    ensures all { result ≡ list_all (λ v. list_any (λ w. w == v) live.now
+        && is_older live.now v) versions.now }
 {
     versions
         .iter()
@@ -82,7 +85,8 @@ fn move_all<A: Allocator>(from: &mut Vec<u32, A>, to: &mut Vec<u32, A>)
     }
 }
 
-/// Moves the held rows to the other dead rows, unless each version that the last sweep remembered is live and not the newest.
+/// Moves the held rows to the other dead rows, unless each version that the last sweep remembered
+/// is live and not the newest.
 pub fn look_again<A: Allocator>(
     dead: &mut Vec<u32, A>,
     held: &mut Vec<u32, A>,
@@ -92,8 +96,10 @@ pub fn look_again<A: Allocator>(
     requires room { vec_len held.old + vec_len dead.old ≤ vec_capacity dead.old }
     ensures times { (r : ℕ) → times r (dead.new.items ++ held.new.items)
         ≡ times r (dead.old.items ++ held.old.items) }
-    ensures held { (held.new.items ≡ []) ⊎ ((held.new.items ≡ held.old.items)
-        × (list_all (λ v. list_any (λ w. w == v) live.now && is_older live.now v) last.now ≡ true)) }
+    ensures held { (held.new.items ≡ [])
+        ⊎ ((held.new.items ≡ held.old.items)
+        × (list_all (λ v. list_any (λ w. w == v) live.now
+        && is_older live.now v) last.now ≡ true)) }
     ensures dead_room { vec_capacity dead.new ≡ vec_capacity dead.old }
     ensures held_room { vec_capacity held.new ≡ vec_capacity held.old }
 {
@@ -102,9 +108,11 @@ pub fn look_again<A: Allocator>(
     }
 }
 
-/// Remembers the live versions of this sweep, in rising order. Where there is no room for them it remembers none, and answers that.
+/// Remembers the live versions of this sweep, in rising order. Where there is no room for them it
+/// remembers none, and answers that.
 fn remember<A: Allocator>(last: &mut Vec<u64, A>, live: &[u64]) -> bool
-    ensures remembered { MatchBool result (IsPermutation live.now last.new.items × IsNonDecreasing last.new.items) (last.new.items ≡ []) }
+    ensures remembered { MatchBool result (IsPermutation live.now last.new.items
+        × IsNonDecreasing last.new.items) (last.new.items ≡ []) }
     ensures room { vec_capacity last.new ≡ vec_capacity last.old }
 {
     last.clear();
@@ -118,9 +126,11 @@ fn remember<A: Allocator>(last: &mut Vec<u64, A>, live: &[u64]) -> bool
     true
 }
 
-/// Frees the rows of `dead` that no live version reaches, and moves the others to `held`. No other row is looked at.
+/// Frees the rows of `dead` that no live version reaches, and moves the others to `held`. No other
+/// row is looked at.
 ///
-/// It answers whether each of those is reached by a version that is not the newest of the live ones.
+/// It answers whether each of those is reached by a version that is not the newest of the live
+/// ones.
 fn free_unreached<A: Allocator>(
     lives: &mut [Life],
     free: &mut FreeRows<A>,
@@ -138,7 +148,8 @@ fn free_unreached<A: Allocator>(
     ensures free { free.new ≡ map is_free lives.new }
     ensures dead { Lists is_dead lives.new held.new.items }
     ensures empty { dead.new.items ≡ [] }
-    ensures older { result ≡ true → AllReached (take (length live.now - 1) live.now) lives.old held.old.items
+    ensures older { result ≡ true
+        → AllReached (take (length live.now - 1) live.now) lives.old held.old.items
         → AllReached (take (length live.now - 1) live.now) lives.new held.new.items }
     ensures room { vec_capacity held.new ≡ vec_capacity held.old }
     ensures dead_room { vec_capacity dead.new ≡ vec_capacity dead.old }
@@ -158,9 +169,14 @@ fn free_unreached<A: Allocator>(
     older
 }
 
-/// Frees the rows of `dead` that no live version reaches, and remembers the live versions that hold the others: all of them, or all but the newest where it holds none alone. In a store that is the current version, which reaches no dead row; so held rows are not looked at again with each write, but only once a pin ends. Where there was no room to remember the live versions, the next sweep looks at each dead row.
+/// Frees the rows of `dead` that no live version reaches, and remembers the live versions that hold
+/// the others: all of them, or all but the newest where it holds none alone. In a store that is the
+/// current version, which reaches no dead row; so held rows are not looked at again with each
+/// write, but only once a pin ends. Where there was no room to remember the live versions, the next
+/// sweep looks at each dead row.
 ///
-/// A row that is looked at costs one search among the live versions, or two where it stays. Only with more live versions than there is room for they are asked one by one.
+/// A row that is looked at costs one search among the live versions, or two where it stays. Only
+/// with more live versions than there is room for they are asked one by one.
 pub fn sweep_dead<A: Allocator>(
     lives: &mut [Life],
     free: &mut FreeRows<A>,
@@ -176,10 +192,13 @@ pub fn sweep_dead<A: Allocator>(
     requires room { length lives.old ≤ vec_capacity held.old }
     ensures swept { lives.new ≡ map (swept_life live.now) lives.old }
     ensures free { free.new ≡ map is_free lives.new }
-    ensures lists { (AllReached last.new.items lives.new held.new.items × Lists is_dead lives.new held.new.items × (dead.new.items ≡ [])
-        × (vec_capacity dead.new ≡ vec_capacity dead.old) × (vec_capacity held.new ≡ vec_capacity held.old))
+    ensures lists { (AllReached last.new.items lives.new held.new.items
+        × Lists is_dead lives.new held.new.items × (dead.new.items ≡ [])
+        × (vec_capacity dead.new ≡ vec_capacity dead.old)
+        × (vec_capacity held.new ≡ vec_capacity held.old))
         ⊎ (Lists is_dead lives.new dead.new.items × (held.new.items ≡ [])
-        × (vec_capacity dead.new ≡ vec_capacity held.old) × (vec_capacity held.new ≡ vec_capacity dead.old)) }
+        × (vec_capacity dead.new ≡ vec_capacity held.old)
+        × (vec_capacity held.new ≡ vec_capacity dead.old)) }
     ensures last_room { vec_capacity last.new ≡ vec_capacity last.old }
 {
     if remember(last, live) {

@@ -16,7 +16,8 @@ fn byte_or_zero(bytes: &[u8], index: usize) -> u8
     if index < bytes.len() { bytes[index] } else { 0 }
 }
 
-/// The word of the eight bytes from an index on, the first of them highest, where the bytes end before those eight do. Bytes past the end are 0.
+/// The word of the eight bytes from an index on, the first of them highest, where the bytes end
+/// before those eight do. Bytes past the end are 0.
 fn last_word(bytes: &[u8], index: usize) -> u64
     requires small { index < 64 }
     ensures word { result ≡ word_from bytes.now index }
@@ -50,7 +51,8 @@ fn word_of(bytes: &[u8], index: usize) -> u64
     ])
 }
 
-/// The word of the eight bytes from an index on, the first of them highest. Bytes past the end are 0.
+/// The word of the eight bytes from an index on, the first of them highest. Bytes past the end are
+/// 0.
 #[tactic(auto, using(crate::proofs::Packing::past_word))]
 pub(crate) fn word_from(bytes: &[u8], index: usize) -> u64
     requires small { index < 64 }
@@ -128,7 +130,10 @@ fn candidate(words: &[u64; 16]) -> Option<Row>
 impl Row {
     /// The sixteen words of a row.
     ///
-    /// The first is 1 for an entry and 2 for a head. An entry goes on with child, next, key length + 256 * value length, the key in four words and the value in eight; a head with layer, count, first, tail, and the digest in four words. Bytes are packed big-endian, eight a word, and what is left over is 0.
+    /// The first is 1 for an entry and 2 for a head. An entry goes on with child, next, key length
+    /// + 256 * value length, the key in four words and the value in eight; a head with layer,
+    /// count, first, tail, and the digest in four words. Bytes are packed big-endian, eight a word,
+    /// and what is left over is 0.
     pub fn words(&self) -> [u64; 16]
         requires limits { IsRow self.now }
         ensures words { result ≡ words_of self.now }
@@ -195,7 +200,8 @@ fn entry_words(child: u32, next: u32, key: &Key, value: &Value) -> [u64; 16]
 
 /// The four words of a digest.
 fn digest_words(digest: &[u8; 32]) -> [u64; 4]
-    ensures words { result ≡ word_from digest.now 0 ∷ word_from digest.now 8 ∷ word_from digest.now 16 ∷ word_from digest.now 24 ∷ [] }
+    ensures words { result ≡ word_from digest.now 0 ∷ word_from digest.now 8
+        ∷ word_from digest.now 16 ∷ word_from digest.now 24 ∷ [] }
     ensures bytes { bytes_in result ≡ digest.now }
 {
     [

@@ -11,7 +11,8 @@ pub fn shortened(alloc: Global, digest: &[u8; 32]) -> Result<String> {
     Ok(hex::encode(alloc, [first, second, third, fourth])?)
 }
 
-/// Prints what the proof shows of the price of a fruit in the map with this root digest. A proof that is refused shows nothing.
+/// Prints what the proof shows of the price of a fruit in the map with this root digest. A proof
+/// that is refused shows nothing.
 pub fn audit(rt: &HostRuntime, root: &[u8; 32], fruit: &str, proof: &[u8]) -> Result<()> {
     let key = Key::new(fruit.as_bytes())?;
     let digits = shortened(rt.alloc(), root)?;

@@ -1,6 +1,8 @@
 //! One writer and one auditor: how the library is used, in an example.
 //!
-//! A writer keeps the prices of fruits in a store, and hands out root digests. A reader, who may be anybody, brings the auditor answers with their proofs. The auditor trusts neither: he has a root digest, and checks each proof against it by [`mst_proof::verify`]. The program shows
+//! A writer keeps the prices of fruits in a store, and hands out root digests. A reader, who may be
+//! anybody, brings the auditor answers with their proofs. The auditor trusts neither: he has a root
+//! digest, and checks each proof against it by [`mst_proof::verify`]. The program shows
 //!
 //! - a price that is there, and one that is not;
 //! - a proof in which one byte was changed, which is refused;
@@ -18,7 +20,8 @@ use mst_key::{Key, Value};
 use mst_store::{Pass, Pinned, Shape, Store};
 use std::alloc::Global;
 
-/// Room for a few fruits, and for the older versions that are pinned. One pass writes, the other reads.
+/// Room for a few fruits, and for the older versions that are pinned. One pass writes, the other
+/// reads.
 const SHAPE: Shape = Shape {
     rows: 16,
     passes: 2,

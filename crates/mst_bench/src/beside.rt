@@ -67,7 +67,8 @@ fn time_gets(
     )
 }
 
-// Times puts with nothing pinned, then puts beside a pin of the other pass, and gets of what it pins.
+// Times puts with nothing pinned, then puts beside a pin of the other pass, and gets of what it
+// pins.
 fn time_both(
     rt: &HostRuntime,
     reader: Pass<'_, Global>,
@@ -86,7 +87,9 @@ fn time_both(
     Ok(())
 }
 
-/// Times ten puts a key, first with nothing pinned and then while one version stays pinned, and gets of the pinned version. The store has rows for twice the map and one path, and each put has to find room: so never more rows are in use, which the last line tells.
+/// Times ten puts a key, first with nothing pinned and then while one version stays pinned, and
+/// gets of the pinned version. The store has rows for twice the map and one path, and each put has
+/// to find room: so never more rows are in use, which the last line tells.
 pub fn run(rt: &HostRuntime, keys: &[Key], calls: u32, map_rows: u32) -> io::Result<()>
     requires some { 0 < length keys.now }
     requires few { length keys.now ≤ 65535 }

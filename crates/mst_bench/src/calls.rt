@@ -6,10 +6,12 @@ use mst_key::Key;
 use mst_store::{Pass, Pinned};
 use std::alloc::Global;
 
-/// From one call's key to the next one's in the list, so that the calls are spread over the map. It shares no factor with the numbers of keys.
+/// From one call's key to the next one's in the list, so that the calls are spread over the map. It
+/// shares no factor with the numbers of keys.
 const STRIDE: usize = 7_919;
 
-/// The number of the first value that is put into a full map. All values of a map that is filled have smaller numbers.
+/// The number of the first value that is put into a full map. All values of a map that is filled
+/// have smaller numbers.
 pub const FIRST_NEW_VALUE: u64 = 1 << 40;
 
 /// Puts each key with its first value. True where each call went through.
@@ -29,7 +31,8 @@ fn picked(keys: &[Key], call: u32) -> &Key
     &keys[call as usize * STRIDE % keys.len()]
 }
 
-/// Puts so many values, numbered from `first` on and other than those that stand, at keys that the map has. True where each call went through.
+/// Puts so many values, numbered from `first` on and other than those that stand, at keys that the
+/// map has. True where each call went through.
 pub fn put(pass: &mut Pass<'_, Global>, keys: &[Key], calls: u32, first: u64) -> bool
     requires some { 0 < length keys.now }
     requires few { first ≤ 2 ^ 63 }
@@ -79,7 +82,8 @@ pub fn prove(alloc: Global, pass: &mut Pass<'_, Global>, keys: &[Key], calls: u3
     true
 }
 
-/// Removes so many keys, and puts each back before the next is removed. True where each call went through.
+/// Removes so many keys, and puts each back before the next is removed. True where each call went
+/// through.
 pub fn remove_and_put_back(pass: &mut Pass<'_, Global>, keys: &[Key], calls: u32) -> bool
     requires some { 0 < length keys.now }
 {

@@ -1,8 +1,15 @@
 //! Times the calls of a store.
 //!
-//! `mst_bench CALLS` fills stores of 1,000, 10,000 and 30,000 keys of 16 bytes with values of 32, makes so many calls of each kind, and prints a line for each kind and size: the call, the number of keys, the number of calls, and the nanoseconds that each took. Then, at each size, ten puts a key with nothing pinned and ten beside a version that stays pinned, gets of that version, and the rows that the map takes. Keys, values and their order are the same in each run. With no number it says how it is called.
+//! `mst_bench CALLS` fills stores of 1,000, 10,000 and 30,000 keys of 16 bytes with values of 32,
+//! makes so many calls of each kind, and prints a line for each kind and size: the call, the number
+//! of keys, the number of calls, and the nanoseconds that each took. Then, at each size, ten puts a
+//! key with nothing pinned and ten beside a version that stays pinned, gets of that version, and
+//! the rows that the map takes. Keys, values and their order are the same in each run. With no
+//! number it says how it is called.
 //!
-//! `rt run -- 10000` in this folder proves and builds it by LLVM, optimised, and runs it; the executable is then `out/mst_bench`. Its figures are those of one machine in one run, and no proof speaks of them.
+//! `rt run -- 10000` in this folder proves and builds it by LLVM, optimised, and runs it; the
+//! executable is then `out/mst_bench`. Its figures are those of one machine in one run, and no
+//! proof speaks of them.
 #![tactic(auto)]
 
 ghost use Rattle.std.specs.Prelude.{◌<◌, ◌≤◌, length};

@@ -2,7 +2,8 @@
 use std::io;
 use std::time::Instant;
 
-/// Prints the line of calls that began at `start` and have ended; an error where one of them was refused.
+/// Prints the line of calls that began at `start` and have ended; an error where one of them was
+/// refused.
 pub fn tell(
     rt: &HostRuntime,
     call: &str,

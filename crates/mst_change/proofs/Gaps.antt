@@ -1,4 +1,5 @@
--- Entries cut at a key: the cells below it, and what follows them. What is made of them keeps these cells, and is made of what follows.
+-- Entries cut at a key: the cells below it, and what follows them. What is made of them keeps these
+-- cells, and is made of what follows.
 use Rattle.std.proofs.Common.{◌≡◌, ℕ, List, [], ◌∷◌, refl, ap, ◌∙◌, Less, Equal, Greater}
 use Rattle.mst_key.specs.declared.format.Format.{Format}
 use Rattle.mst_key.specs.Map.{key_cmp}

@@ -1,4 +1,5 @@
--- Worked puts and removes on trees, and what they cost. The first trees are given with their layers; those of the maps are computed, through SHA-256.
+-- Worked puts and removes on trees, and what they cost. The first trees are given with their
+-- layers; those of the maps are computed, through SHA-256.
 use Rattle.std.proofs.Common.{◌≡◌, ℕ, List, [], ◌∷◌, true, false, refl}
 use Rattle.sha2.specs.Sha256.{sha256, first_words, schedule, rounds, compress, hash_after, digest_bytes}
 use Rattle.mst_key.specs.declared.format.Format.TheVariants.{One, Two}
@@ -59,7 +60,8 @@ above_b = refl
 put_above : put_at One 2 b y whole ≡ taller
 put_above = refl
 
--- two rows for each node: the new top, the two halves of the low node, and the node of `d`; the node of `f` is shared
+-- two rows for each node: the new top, the two halves of the low node, and the node of `d`; the
+-- node of `f` is shared
 put_above_rows : put_rows 2 b y whole ≡ 8
 put_above_rows = refl
 

@@ -1,4 +1,5 @@
--- The rows of the nodes that a put or a remove makes new, counted along its path: one row for each entry of a new node, and one for the node.
+-- The rows of the nodes that a put or a remove makes new, counted along its path: one row for each
+-- entry of a new node, and one for the node.
 use Rattle.std.specs.Prelude.{ℕ, ◌+◌, ◌==◌, ◌||◌, nat_lt, if◌then◌else◌, Bool, false, List}
 use Rattle.std.specs.Option.{option_map_or}
 use Rattle.mst_key.specs.declared.format.Format.{Format}
@@ -14,7 +15,8 @@ use Rattle.mst_change.specs.Remove.{entries_remove}
 
 -- ---- split
 
--- One side of a node that is split, with so many entries: it is no node where it has none, and no new one where it is the whole node, since nothing goes to the other side.
+-- One side of a node that is split, with so many entries: it is no node where it has none, and no
+-- new one where it is the whole node, since nothing goes to the other side.
 abbrev pub side_rows : ℕ → Bool → ℕ
 side_rows n whole = if n == 0 || whole then 0 else n + 1
 
@@ -50,7 +52,8 @@ abbrev mutual
 
 -- a put that changes nothing makes nothing new
 abbrev pub put_cost : Format → Tree → List ℕ → List ℕ → ℕ
-put_cost format t k v = if option_map_or (same_bytes v) (map_get (pairs t) k) false then 0 else put_rows (layer_in format k) k v t
+put_cost format t k v = if option_map_or (same_bytes v) (map_get (pairs t) k) false then 0
+    else put_rows (layer_in format k) k v t
 
 -- ---- join
 

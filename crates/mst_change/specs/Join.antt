@@ -18,7 +18,8 @@ abbrev mutual
   join_first format l es inner (last child) = last (join_node format l es inner child)
   join_first format l es inner (entry child key value rest) = entry (join_node format l es inner child) key value rest
 
--- The node of the greater layer stays on top, and the other tree is joined with its child at that end. Two nodes of one layer become one, and the children that meet are joined.
+-- The node of the greater layer stays on top, and the other tree is joined with its child at that
+-- end. Two nodes of one layer become one, and the children that meet are joined.
 abbrev mutual
   pub join : Tree → Tree → Tree
   join empty b = b

@@ -11,9 +11,12 @@ use Rattle.mst_change.specs.Split.{entries_below, entries_above}
 
 -- the entries below the key, its own with the value, and the entries above it
 abbrev pub put_among : List ℕ → List ℕ → Entries → Entries
-put_among k v es = with_entries (cells (entries_below k es)) (entry (last_child (entries_below k es)) k v (entries_above k es))
+put_among k v es = with_entries (cells (entries_below k es))
+    (entry (last_child (entries_below k es)) k v (entries_above k es))
 
--- The tree in which the key, whose layer is l, has the value: in a node of its layer it stands among the entries, a tree of lower layers it splits, and in a node of a higher layer it goes into the child of its gap.
+-- The tree in which the key, whose layer is l, has the value: in a node of its layer it stands
+-- among the entries, a tree of lower layers it splits, and in a node of a higher layer it goes into
+-- the child of its gap.
 abbrev mutual
   pub put_at : Format → ℕ → List ℕ → List ℕ → Tree → Tree
   put_at format l k v empty = node format l (entry empty k v (last empty))

@@ -14,7 +14,8 @@ ghost use Rattle.mst_change.specs.Put.{tree_put};
 ghost use Rattle.mst_change.specs.Remove.{tree_remove};
 ghost use Rattle.mst_change.specs.Cost.{put_cost, remove_cost};
 
-/// A tree split at a key: two search trees of no higher layers, with the pairs below the key and the pairs above it. Where all goes to one side, that side is the tree itself.
+/// A tree split at a key: two search trees of no higher layers, with the pairs below the key and
+/// the pairs above it. Where all goes to one side, that side is the tree itself.
 pub fn split_laws()
     ensures below { (t : Tree) (k : List ℕ) → IsAscending (pairs t)
         → pairs (below k t) ≡ filter (λ p. is_lt (key_cmp p.0 k)) (pairs t) }
@@ -22,15 +23,17 @@ pub fn split_laws()
         → pairs (above k t) ≡ filter (λ p. is_gt (key_cmp p.0 k)) (pairs t) }
     ensures search_trees { (format : Format) (t : Tree) (k : List ℕ) → IsMst format t
         → IsMst format (below k t) × IsMst format (above k t) }
-    ensures layers { (format : Format) (t : Tree) (k : List ℕ) (l : ℕ) → IsMst format t → IsUnder l t
-        → IsUnder l (below k t) × IsUnder l (above k t) }
-    ensures all_below { (format : Format) (t : Tree) (k : List ℕ) → IsMst format t → IsAscending (pairs t)
-        → map_get (pairs t) k ≡ None → above k t ≡ empty → below k t ≡ t }
-    ensures all_above { (format : Format) (t : Tree) (k : List ℕ) → IsMst format t → IsAscending (pairs t)
-        → map_get (pairs t) k ≡ None → below k t ≡ empty → above k t ≡ t }
+    ensures layers { (format : Format) (t : Tree) (k : List ℕ) (l : ℕ) → IsMst format t
+        → IsUnder l t → IsUnder l (below k t) × IsUnder l (above k t) }
+    ensures all_below { (format : Format) (t : Tree) (k : List ℕ) → IsMst format t
+        → IsAscending (pairs t) → map_get (pairs t) k ≡ None → above k t ≡ empty → below k t ≡ t }
+    ensures all_above { (format : Format) (t : Tree) (k : List ℕ) → IsMst format t
+        → IsAscending (pairs t) → map_get (pairs t) k ≡ None → below k t ≡ empty → above k t ≡ t }
 {}
 
-/// Two trees joined: a search tree of no higher layer, with the pairs of the one and then those of the other. Of two nodes the one of the greater layer stays on top; two of one layer become one node.
+/// Two trees joined: a search tree of no higher layer, with the pairs of the one and then those of
+/// the other. Of two nodes the one of the greater layer stays on top; two of one layer become one
+/// node.
 pub fn join_laws()
     ensures pairs { (a b : Tree) → pairs (join a b) ≡ pairs a ++ pairs b }
     ensures search_tree { (format : Format) (a b : Tree) → IsMst format a → IsMst format b
@@ -45,8 +48,8 @@ pub fn join_laws()
         → let a = node g l es in let b = node h j fs in
         join a b ≡ node h j (with_first (join a (first_child fs)) fs) }
     ensures level { (g h : Format) (l : ℕ) (es fs : Entries)
-        → join (node g l es) (node h l fs)
-        ≡ node g l (with_entries (cells es) (with_first (join (last_child es) (first_child fs)) fs)) }
+        → join (node g l es) (node h l fs) ≡ node g l
+        (with_entries (cells es) (with_first (join (last_child es) (first_child fs)) fs)) }
 {}
 
 /// The tree of the map after a put or a remove is the old one, split or joined along one path.
@@ -57,7 +60,8 @@ pub fn path_laws()
         → tree_remove (tree format m) k ≡ tree format (map.remove m k) }
 {}
 
-/// What is counted along the path is what the change costs, and it is bounded by what a search for the key meets.
+/// What is counted along the path is what the change costs, and it is bounded by what a search for
+/// the key meets.
 pub fn cost_laws()
     ensures different { (t u : Tree) → same_tree t u ≡ true → t ≡ u }
     ensures same { (t u : Tree) → t ≡ u → same_tree t u ≡ true }

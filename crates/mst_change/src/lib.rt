@@ -1,10 +1,16 @@
 //! What a put and a remove do to the Merkle search tree of a map, and what they cost.
 //!
-//! The tree of the map after a put or a remove is made from the old one along one path, which is split or joined from the top down; all beside the path stays (Auvolat and Taïani 2019). Nothing here is run: the crate has the definitions of these trees, and laws that say what the definitions come to. `mst_path` keeps such trees in the rows of the arena.
+//! The tree of the map after a put or a remove is made from the old one along one path, which is
+//! split or joined from the top down; all beside the path stays (Auvolat and Taïani 2019). Nothing
+//! here is run: the crate has the definitions of these trees, and laws that say what the
+//! definitions come to. `mst_path` keeps such trees in the rows of the arena.
 //!
-//! In `specs/`: `Parts`, the parts of a node; `Split`, what a tree has below and above a key; `Join`, two trees made one; `Put` and `Remove`, the tree after the change; `Cost`, the rows of the nodes that are made new; `Gap`, where a key stands among the entries of a node.
+//! In `specs/`: `Parts`, the parts of a node; `Split`, what a tree has below and above a key;
+//! `Join`, two trees made one; `Put` and `Remove`, the tree after the change; `Cost`, the rows of
+//! the nodes that are made new; `Gap`, where a key stands among the entries of a node.
 //!
-//! [`split_laws`] and [`join_laws`] say what the parts hold, [`path_laws`] that the changed tree is the tree of the new map, and [`cost_laws`] what a change costs and how that is bounded.
+//! [`split_laws`] and [`join_laws`] say what the parts hold, [`path_laws`] that the changed tree is
+//! the tree of the new map, and [`cost_laws`] what a change costs and how that is bounded.
 #![tactic(auto)]
 
 mod laws;

@@ -28,7 +28,8 @@ root_and_key (program ∷ name ∷ a ∷ b ∷ c ∷ []) =
 root_and_key (program ∷ name ∷ a ∷ b ∷ c ∷ d ∷ words) = (a.now, b.now)
 root_and_key _ = ([], [])
 
--- the words for the root digest and the key, where the first word behind the program's name is `verify`
+-- the words for the root digest and the key, where the first word behind the program's name is
+-- `verify`
 abbrev pub asks_verify : List (Bor (List ℕ)) → Option (List ℕ × List ℕ)
 asks_verify (program ∷ name ∷ words) = if bytes_eq name.now (codes "verify") then Some (root_and_key (program ∷ name ∷ words)) else None
 asks_verify _ = None
@@ -54,7 +55,8 @@ options_of (option ∷ number ∷ []) = one_option option.now number.now
 options_of (first ∷ a ∷ second ∷ b ∷ []) = two_options first.now a.now second.now b.now
 options_of _ = None
 
--- the words for the rows and the passes, where the words are of the plain form `run`, `--rows N`, `--passes N`, each option at most once
+-- the words for the rows and the passes, where the words are of the plain form `run`, `--rows N`,
+-- `--passes N`, each option at most once
 abbrev pub asks_run : List (Bor (List ℕ)) → Option (List ℕ × List ℕ)
 asks_run (program ∷ name ∷ words) = if bytes_eq name.now (codes "run") then options_of words else None
 asks_run _ = None
@@ -68,7 +70,8 @@ pub record IsShapeIn (words : List ℕ × List ℕ) (shape : Size) : Type 0 wher
 
 -- the words are of the plain form of a script over a store of this size
 abbrev pub IsRunOf : List (Bor (List ℕ)) → Size → Type 0
-IsRunOf words shape = (named : List ℕ × List ℕ) × (asks_run words ≡ Some named) × IsShapeIn named shape
+IsRunOf words shape =
+    (named : List ℕ × List ℕ) × (asks_run words ≡ Some named) × IsShapeIn named shape
 
 -- no other size than this is named in the plain form
 abbrev pub NamesShape : List (Bor (List ℕ)) → Size → Type 0
@@ -91,7 +94,8 @@ is_plain_verify _ = false
 
 -- the words are of a plain form, and so are never refused by their form
 abbrev pub IsPlain : List (Bor (List ℕ)) → Type 0
-IsPlain words = ((shape : Size) × IsRunOf words shape) ⊎ (is_plain_replay words ≡ true) ⊎ (is_plain_verify words ≡ true) ⊎ ((size : LoadSize) × IsLoadOf words size)
+IsPlain words = ((shape : Size) × IsRunOf words shape) ⊎ (is_plain_replay words ≡ true)
+    ⊎ (is_plain_verify words ≡ true) ⊎ ((size : LoadSize) × IsLoadOf words size)
 
 -- a word that asks for help: `help`, `--help`, or one that begins with `-h`
 abbrev pub IsHelp : List ℕ → Type 0
@@ -141,10 +145,13 @@ IsSized words (Run shape) = NamesShape words shape
 IsSized words (Load size) = NamesLoad words size
 IsSized words task = Unit {0}
 
--- The words ask for this task: some word for help, or the first for the version, in no plain form, and else the first word behind the program's name for the rest.
+-- The words ask for this task: some word for help, or the first for the version, in no plain form,
+-- and else the first word behind the program's name for the rest.
 abbrev pub AsksFor : List (Bor (List ℕ)) → Task → Type 0
 AsksFor words (Help text) = AskText words × ¬ (IsPlain words)
-AsksFor words task = (is_replay task ≡ asks_replay words) × (verified_words task ≡ asks_verify words) × IsSized words task × (is_load task ≡ asks_load words)
+AsksFor words task = (is_replay task ≡ asks_replay words)
+    × (verified_words task ≡ asks_verify words) × IsSized words task
+    × (is_load task ≡ asks_load words)
 
 -- how a script may end early
 abbrev pub EndsScript : Refusal → Type 0
@@ -193,7 +200,8 @@ EndsWords (Words text) = Unit {0}
 EndsWords Memory = Unit {0}
 EndsWords _ = ⊥
 
--- how many reads and writes had failed before and after: more where this is the reason, and else as many
+-- how many reads and writes had failed before and after: more where this is the reason, and else as
+-- many
 abbrev pub IsDevice : Refusal → ℕ → ℕ → Type 0
 IsDevice Device before after = before < after
 IsDevice _ before after = after ≡ before

@@ -18,14 +18,17 @@ are_load_options first second third = bytes_eq first (codes "--readers") && (byt
 
 -- the words for the readers, the writers and the calls, behind these options
 abbrev pub three_options : List ℕ → List ℕ → List ℕ → List ℕ → List ℕ → List ℕ → Option (List ℕ × List ℕ × List ℕ)
-three_options first readers second writers third calls = if are_load_options first second third then Some (readers, writers, calls) else None
+three_options first readers second writers third calls =
+    if are_load_options first second third then Some (readers, writers, calls) else None
 
 -- the same, for all words behind the command
 abbrev pub load_options_of : List (Bor (List ℕ)) → Option (List ℕ × List ℕ × List ℕ)
-load_options_of (first ∷ readers ∷ second ∷ writers ∷ third ∷ calls ∷ []) = three_options first.now readers.now second.now writers.now third.now calls.now
+load_options_of (first ∷ readers ∷ second ∷ writers ∷ third ∷ calls ∷ []) =
+    three_options first.now readers.now second.now writers.now third.now calls.now
 load_options_of _ = None
 
--- the words for the readers, the writers and the calls, where the words are of the plain form `load --readers N --writers N --calls N`
+-- the words for the readers, the writers and the calls, where the words are of the plain form `load
+-- --readers N --writers N --calls N`
 abbrev pub load_words : List (Bor (List ℕ)) → Option (List ℕ × List ℕ × List ℕ)
 load_words (program ∷ name ∷ words) = if bytes_eq name.now (codes "load") then load_options_of words else None
 load_words _ = None
@@ -41,7 +44,8 @@ pub record IsLoadIn (words : List ℕ × List ℕ × List ℕ) (size : Load) : T
 
 -- the words are of the plain form of a load with these numbers
 abbrev pub IsLoadOf : List (Bor (List ℕ)) → Load → Type 0
-IsLoadOf words size = (named : List ℕ × List ℕ × List ℕ) × (load_words words ≡ Some named) × IsLoadIn named size
+IsLoadOf words size =
+    (named : List ℕ × List ℕ × List ℕ) × (load_words words ≡ Some named) × IsLoadIn named size
 
 -- no other numbers than these are named in the plain form
 abbrev pub NamesLoad : List (Bor (List ℕ)) → Load → Type 0
@@ -49,9 +53,11 @@ NamesLoad words size = (other : Load) → IsLoadOf words other → other ≡ siz
 
 -- a load may have these numbers
 abbrev pub IsLoadSize : Load → Type 0
-IsLoadSize size = (1 ≤ size.readers) × (size.readers ≤ 24) × (1 ≤ size.writers) × (size.writers ≤ 8) × (1 ≤ size.calls) × (size.calls ≤ 100000)
+IsLoadSize size = (1 ≤ size.readers) × (size.readers ≤ 24) × (1 ≤ size.writers) × (size.writers ≤ 8)
+    × (1 ≤ size.calls) × (size.calls ≤ 100000)
 
--- A load of a size that it may have came to a report in which no version fell, and the sink took its four lines.
+-- A load of a size that it may have came to a report in which no version fell, and the sink took
+-- its four lines.
 pub record RanLoad {W : Type 0} (takes : W → List ℕ → W → Type 0) (size : Load) (w x : W) : Type 0 where
   pub fits : IsLoadSize size
   pub report : Report

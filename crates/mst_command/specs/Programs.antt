@@ -25,7 +25,8 @@ use Rattle.mst_command.specs.Recalling.{Recalls}
 abbrev pub ending_of : Report → Ending
 ending_of report = if is_refusal report then ProofRefused else Done
 
--- The source gave a script, and the sink took what the script machine answers its lines, from the empty history on and with nothing pinned, over a store of this size.
+-- The source gave a script, and the sink took what the script machine answers its lines, from the
+-- empty history on and with nothing pinned, over a store of this size.
 pub record RanScript {S W : Type 0} (gives : S → List ℕ → S → Type 0) (takes : W → List ℕ → W → Type 0) (shape : Shape) (s : S) (w : W) (t : S) (x : W) : Type 0 where
   pub store : StoreId
   pub size : HasShape shape store
@@ -39,7 +40,8 @@ pub record BrokeScript {S W : Type 0} (gives : S → List ℕ → S → Type 0) 
   pub last : Machine
   pub stopped : Stopped gives takes failures (Line store) s w (with_no_pins []) t x last
 
--- The source gave events of a core, and the sink took what the core answers each of them, from no core on.
+-- The source gave events of a core, and the sink took what the core answers each of them, from no
+-- core on.
 pub record RanReplay {S W : Type 0} (gives : S → List ℕ → S → Type 0) (takes : W → List ℕ → W → Type 0) (s : S) (w : W) (t : S) (x : W) : Type 0 where
   pub before : Replay
   pub after : Replay
@@ -60,7 +62,8 @@ pub record IsSaid {S : Type 0} (gives : S → List ℕ → S → Type 0) (left :
   pub whole : (left t ≡ 0) ⊎ (limit < length text)
   pub said : report ≡ report_of root key text
 
--- The sink took what is said of the text that the source gave, for the root digest and the key that two words spell.
+-- The sink took what is said of the text that the source gave, for the root digest and the key that
+-- two words spell.
 pub record RanVerify {S W : Type 0} (gives : S → List ℕ → S → Type 0) (left : S → ℕ) (takes : W → List ℕ → W → Type 0) (words : List ℕ × List ℕ) (s : S) (w : W) (ending : Ending) (t : S) (x : W) : Type 0 where
   pub root : List ℕ
   pub key : List ℕ
@@ -83,21 +86,28 @@ pub record BrokeVerify {S W : Type 0} (gives : S → List ℕ → S → Type 0) 
 
 -- From the one state of the source and the sink to the other the task was done, and ended so.
 abbrev pub Did : {S W : Type 0} → (S → List ℕ → S → Type 0) → (S → ℕ) → (W → List ℕ → W → Type 0) → Task → S → W → Ending → S → W → Type 0
-Did gives left takes (Run shape) s w ending t x = RanScript gives takes shape s w t x × (left t ≡ 0) × (ending ≡ Done)
-Did gives left takes (Verify root key) s w ending t x = RanVerify gives left takes (root.now, key.now) s w ending t x
-Did gives left takes TaskReplay s w ending t x = RanReplay gives takes s w t x × (left t ≡ 0) × (ending ≡ Done)
+Did gives left takes (Run shape) s w ending t x =
+    RanScript gives takes shape s w t x × (left t ≡ 0) × (ending ≡ Done)
+Did gives left takes (Verify root key) s w ending t x =
+    RanVerify gives left takes (root.now, key.now) s w ending t x
+Did gives left takes TaskReplay s w ending t x =
+    RanReplay gives takes s w t x × (left t ≡ 0) × (ending ≡ Done)
 Did gives left takes (Load size) s w ending t x = RanLoad takes size w x × (t ≡ s) × (ending ≡ Done)
-Did gives left takes (Help text) s w ending t x = takes w (string_bytes text) x × (t ≡ s) × (ending ≡ Done)
+Did gives left takes (Help text) s w ending t x =
+    takes w (string_bytes text) x × (t ≡ s) × (ending ≡ Done)
 
 -- A device failed while the task was done: what was read, and what the sink took.
 abbrev pub Broke : {S W : Type 0} → (S → List ℕ → S → Type 0) → (S → ℕ) → (W → List ℕ → W → Type 0) → (W → ℕ) → Task → S → W → S → W → Type 0
 Broke gives left takes failures (Run shape) s w t x = BrokeScript gives takes failures shape s w t x
-Broke gives left takes failures (Verify root key) s w t x = (x ≡ w) ⊎ BrokeVerify gives left takes (root.now, key.now) s w t x
+Broke gives left takes failures (Verify root key) s w t x =
+    (x ≡ w) ⊎ BrokeVerify gives left takes (root.now, key.now) s w t x
 Broke gives left takes failures TaskReplay s w t x = BrokeReplay gives takes failures s w t x
 Broke gives left takes failures (Load size) s w t x = BrokeLoad takes size w x × (t ≡ s)
-Broke gives left takes failures (Help text) s w t x = Breaks takes w [] (string_bytes text) x × (t ≡ s)
+Broke gives left takes failures (Help text) s w t x =
+    Breaks takes w [] (string_bytes text) x × (t ≡ s)
 
--- A text of the words was written, for which some word of no plain form asked, and nothing was read.
+-- A text of the words was written, for which some word of no plain form asked, and nothing was
+-- read.
 pub record Helped {S W : Type 0} (takes : W → List ℕ → W → Type 0) (words : List (Bor (List ℕ))) (s : S) (w : W) (t : S) (x : W) : Type 0 where
   pub asked : AskText words
   pub other : ¬ (IsPlain words)
@@ -125,8 +135,9 @@ HasBadKey _ = ⊥
 abbrev pub IsBad : Task → Type 0
 IsBad task = HasBadShape task ⊎ HasBadRoot task ⊎ HasBadKey task
 
--- When a program ends early for this reason: words of no plain form alone are refused by their form, each other refusal is
--- that of the task that the words ask for, and where plain words name a task that is refused, memory is not the reason.
+-- When a program ends early for this reason: words of no plain form alone are refused by their
+-- form, each other refusal is that of the task that the words ask for, and where plain words name a
+-- task that is refused, memory is not the reason.
 abbrev pub Comes : List (Bor (List ℕ)) → Refusal → Type 0
 Comes words (Words text) = ¬ (IsPlain words)
 Comes words NotText = ⊥

@@ -18,7 +18,9 @@ reply_words FaultLine = codes "fault line"
 unfoldable pub reply_text : Reply → List ℕ
 reply_text reply = reply_words reply ++ 10 ∷ []
 
--- From the one replay to the other the line was answered with the text. A line that is too long changes nothing.
+-- From the one replay to the other the line was answered with the text. A line that is too long
+-- changes nothing.
 abbrev pub Recalls : Replay → Option (List ℕ) → List ℕ → Replay → Type 0
 Recalls a None text b = (text ≡ reply_text FaultLine) × (core_state b ≡ core_state a)
-Recalls a (Some line) text b = (reply : Reply) × Replays (core_state a) line reply (core_state b) × (text ≡ reply_text reply)
+Recalls a (Some line) text b =
+    (reply : Reply) × Replays (core_state a) line reply (core_state b) × (text ≡ reply_text reply)

@@ -18,13 +18,17 @@ const DEVICE: u8 = 3;
 
 const MEMORY: u8 = 4;
 
-/// Says why a program ended early, and answers the exit status. Where the write of it fails, that is the status.
+/// Says why a program ended early, and answers the exit status. Where the write of it fails, that
+/// is the status.
 pub fn complain<W: Sink>(err: &mut W, why: &Refusal) -> u8
     requires { W.failures err.old < 2 ^ 64 - 1 }
     ensures status { (W.failures err.new ≡ W.failures err.old) → result ≡ status_of why.now }
-    ensures told { (W.failures err.new ≡ W.failures err.old) → W.takes err.old (told why.now) err.new }
-    ensures failed { (W.failures err.new ≡ W.failures err.old) ⊎ ((W.failures err.old < W.failures err.new) × (result ≡ 3)) }
-    ensures broke { W.failures err.old < W.failures err.new → Breaks W.takes err.old [] (told why.now) err.new }
+    ensures told { (W.failures err.new ≡ W.failures err.old)
+        → W.takes err.old (told why.now) err.new }
+    ensures failed { (W.failures err.new ≡ W.failures err.old)
+        ⊎ ((W.failures err.old < W.failures err.new) × (result ≡ 3)) }
+    ensures broke { W.failures err.old < W.failures err.new
+        → Breaks W.takes err.old [] (told why.now) err.new }
 {
     let text = match why {
         Refusal::Words(text) => text.as_str(),

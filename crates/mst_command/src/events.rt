@@ -19,9 +19,12 @@ fn answer_line<W: Sink, A: Allocator>(
     replay: &mut Replay,
 ) -> Result<(), Device>
     requires few { W.failures sink.old < 2 ^ 64 - 1 }
-    ensures ok { OnOk result (Answered W.takes Recalls line.now sink.old pending.old replay.old sink.new pending.new replay.new) }
+    ensures ok { OnOk result
+        (Answered W.takes Recalls line.now sink.old pending.old replay.old sink.new pending.new
+        replay.new) }
     ensures steady { OnOk result (W.failures sink.new ≡ W.failures sink.old) }
-    ensures err { OnErr result (Lost W.takes Recalls line.now sink.old pending.old replay.old sink.new replay.new) }
+    ensures err { OnErr result
+        (Lost W.takes Recalls line.now sink.old pending.old replay.old sink.new replay.new) }
     ensures failed { OnErr result (W.failures sink.old < W.failures sink.new) }
 {
     let text = answer_event(replay, line);
@@ -36,9 +39,11 @@ fn finish<W: Sink, A: Allocator>(
     replay: &mut Replay,
 ) -> Result<(), Device>
     requires few { W.failures sink.old < 2 ^ 64 - 1 }
-    ensures ok { OnOk result (Closed W.takes Recalls line.now sink.old pending.old replay.old sink.new replay.new) }
+    ensures ok { OnOk result
+        (Closed W.takes Recalls line.now sink.old pending.old replay.old sink.new replay.new) }
     ensures steady { OnOk result (W.failures sink.new ≡ W.failures sink.old) }
-    ensures err { OnErr result (NotClosed W.takes Recalls line.now sink.old pending.old replay.old sink.new replay.new) }
+    ensures err { OnErr result
+        (NotClosed W.takes Recalls line.now sink.old pending.old replay.old sink.new replay.new) }
     ensures failed { OnErr result (W.failures sink.old < W.failures sink.new) }
 {
     if line.is_empty() {
@@ -60,12 +65,18 @@ fn drive<S: Source, W: Sink, A: Allocator>(
     requires sink { W.failures sink.old < 2 ^ 64 - 1 }
     requires pending { pending.old ≡ [] }
     requires reader { reader.old ≡ [] }
-    ensures ok { OnOk result (Ran S.gives W.takes Recalls source.old sink.old replay.old source.new sink.new replay.new) }
+    ensures ok { OnOk result
+        (Ran S.gives W.takes Recalls source.old sink.old replay.old source.new sink.new
+        replay.new) }
     ensures ended { OnOk result (S.left source.new ≡ 0) }
     ensures steady_source { OnOk result (S.failures source.new ≡ S.failures source.old) }
     ensures steady_sink { OnOk result (W.failures sink.new ≡ W.failures sink.old) }
-    ensures err { OnErr result (Stopped S.gives W.takes W.failures Recalls source.old sink.old replay.old source.new sink.new replay.new) }
-    ensures failed { OnErr result (S.failures source.old + W.failures sink.old < S.failures source.new + W.failures sink.new) }
+    ensures err { OnErr result
+        (Stopped S.gives W.takes W.failures Recalls source.old sink.old replay.old source.new
+        sink.new replay.new) }
+    ensures failed { OnErr result
+        (S.failures source.old + W.failures sink.old < S.failures source.new
+        + W.failures sink.new) }
 {
     let mut line = LineBuffer::new();
     while reader.next(source, sink, pending, &mut line)? {
@@ -74,9 +85,11 @@ fn drive<S: Source, W: Sink, A: Allocator>(
     finish(sink, pending, &line, replay)
 }
 
-/// Answers the events of the source into the sink, up to the end of the source or to the first failure of a device.
+/// Answers the events of the source into the sink, up to the end of the source or to the first
+/// failure of a device.
 ///
-/// `Memory` comes where a growth at the start was refused, before anything was read or written; `Device` where a read or a write failed.
+/// `Memory` comes where a growth at the start was refused, before anything was read or written;
+/// `Device` where a read or a write failed.
 pub fn replay_events<S: Source, W: Sink, A: Allocator + Copy>(
     alloc: A,
     source: &mut S,
@@ -86,14 +99,21 @@ pub fn replay_events<S: Source, W: Sink, A: Allocator + Copy>(
     requires source { S.failures source.old < 2 ^ 64 - 1 }
     requires sink { W.failures sink.old < 2 ^ 64 - 1 }
 
-    ensures ok { OnOk result (Ran S.gives W.takes Recalls source.old sink.old replay.old source.new sink.new replay.new) }
+    ensures ok { OnOk result
+        (Ran S.gives W.takes Recalls source.old sink.old replay.old source.new sink.new
+        replay.new) }
     ensures ended { OnOk result (S.left source.new ≡ 0) }
     ensures steady_source { OnOk result (S.failures source.new ≡ S.failures source.old) }
     ensures steady_sink { OnOk result (W.failures sink.new ≡ W.failures sink.old) }
 
-    ensures stopped { result ≡ Err RunFault.Device → Stopped S.gives W.takes W.failures Recalls source.old sink.old replay.old source.new sink.new replay.new }
-    ensures device { result ≡ Err RunFault.Device → S.failures source.old + W.failures sink.old < S.failures source.new + W.failures sink.new }
-    ensures memory { result ≡ Err RunFault.Memory → (source.new ≡ source.old) × (sink.new ≡ sink.old) × (replay.new ≡ replay.old) }
+    ensures stopped { result ≡ Err RunFault.Device
+        → Stopped S.gives W.takes W.failures Recalls source.old sink.old replay.old source.new
+        sink.new replay.new }
+    ensures device { result ≡ Err RunFault.Device
+        → S.failures source.old + W.failures sink.old < S.failures source.new
+        + W.failures sink.new }
+    ensures memory { result ≡ Err RunFault.Memory → (source.new ≡ source.old)
+        × (sink.new ≡ sink.old) × (replay.new ≡ replay.old) }
 {
     let Ok(mut pending) = Pending::new(alloc) else {
         return Err(RunFault::Memory);

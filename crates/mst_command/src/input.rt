@@ -22,7 +22,8 @@ fn append<A: Allocator>(bytes: &mut Vec<u8, A>, more: &[u8], most: usize) -> Res
     bytes.extend_from_slice(more)
 }
 
-/// All bytes that the source gives, or `None` where they are more than `most`; then it is not read to its end. The memory grows with what is read, up to `most` bytes.
+/// All bytes that the source gives, or `None` where they are more than `most`; then it is not read
+/// to its end. The memory grows with what is read, up to `most` bytes.
 ///
 /// `Device` comes where a read failed, and `Memory` where a growth was refused.
 pub fn read_up_to<S: Source, A: Allocator>(
@@ -31,7 +32,9 @@ pub fn read_up_to<S: Source, A: Allocator>(
     most: usize,
 ) -> Result<Option<Vec<u8, A>>, RunFault>
     requires source { S.failures source.old < 2 ^ 64 - 1 }
-    ensures all { IfOk result (λ read. MatchOption read (GaveMore S.gives most source.old source.new) (λ bytes. GaveAll S.gives S.left most source.old bytes.items source.new)) }
+    ensures all { IfOk result
+        (λ read. MatchOption read (GaveMore S.gives most source.old source.new)
+        (λ bytes. GaveAll S.gives S.left most source.old bytes.items source.new)) }
     ensures steady { OnOk result (S.failures source.new ≡ S.failures source.old) }
     ensures device { result ≡ Err RunFault.Device → S.failures source.old < S.failures source.new }
     ensures memory { result ≡ Err RunFault.Memory → S.failures source.new ≡ S.failures source.old }

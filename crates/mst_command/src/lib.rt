@@ -1,6 +1,8 @@
-//! What the program does once its words are read: over a source and sinks, so that its contracts say what was read and written.
+//! What the program does once its words are read: over a source and sinks, so that its contracts
+//! say what was read and written.
 //!
-//! `specs/Programs.antt` says what each task reads and writes, `specs/Commanding.antt` what words ask for and how a program ends early.
+//! `specs/Programs.antt` says what each task reads and writes, `specs/Commanding.antt` what words
+//! ask for and how a program ends early.
 #![tactic(auto)]
 
 mod ending;

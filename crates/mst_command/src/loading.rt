@@ -11,7 +11,8 @@ use std::alloc::{AllocGlobal, Allocator};
 use std::sync::Wait;
 use std::thread::Threads;
 
-/// Whether a load may have these numbers: 1 to 24 readers, 1 to 8 writers and 1 to 100,000 calls of each.
+/// Whether a load may have these numbers: 1 to 24 readers, 1 to 8 writers and 1 to 100,000 calls of
+/// each.
 fn is_load_size(size: Load) -> bool
     ensures { (result ≡ true) ↔ IsLoadSize size }
 {
@@ -20,10 +21,12 @@ fn is_load_size(size: Load) -> bool
         && (1..=100_000).contains(&size.calls)
 }
 
-/// Lets readers and writers work at one store at once, each in a thread of its own, and writes the four lines of the report.
+/// Lets readers and writers work at one store at once, each in a thread of its own, and writes the
+/// four lines of the report.
 ///
-/// `Shape` comes before any thread is started, where a load may not have these numbers. `Memory` comes where a growth was refused or a thread
-/// could not be started: all threads that were started have then returned.
+/// `Shape` comes before any thread is started, where a load may not have these numbers. `Memory`
+/// comes where a growth was refused or a thread could not be started: all threads that were started
+/// have then returned.
 pub fn run_load<R: Threads + Wait + AllocGlobal + Sync, A: Allocator + Copy, W: Sink>(
     rt: &R,
     alloc: A,

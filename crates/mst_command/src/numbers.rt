@@ -22,7 +22,9 @@ fn three_options<'a>(
     third: &str,
     calls: &'a str,
 ) -> Option<(&'a str, &'a str, &'a str)>
-    ensures { option_map (λ w. (w.0.now, w.1.now, w.2.now)) result ≡ three_named first.now readers.entry.now second.now writers.entry.now third.now calls.entry.now }
+    ensures { option_map (λ w. (w.0.now, w.1.now, w.2.now)) result
+        ≡ three_named first.now readers.entry.now second.now writers.entry.now third.now
+        calls.entry.now }
 {
     if are_load_options(first, second, third) {
         Some((readers, writers, calls))
@@ -56,7 +58,8 @@ fn load_words<'a>(words: &[&'a str]) -> Option<(&'a str, &'a str, &'a str)>
 // The numbers that three words name.
 fn load_in(readers: &str, writers: &str, calls: &str) -> Option<Load>
     ensures some { IfSome result (λ size. IsLoadIn (readers.now, writers.now, calls.now) size) }
-    ensures only { (size : _) → IsLoadIn (readers.now, writers.now, calls.now) size → result ≡ Some size }
+    ensures only { (size : _) → IsLoadIn (readers.now, writers.now, calls.now) size
+        → result ≡ Some size }
 {
     let readers = number(readers)?;
     let writers = number(writers)?;

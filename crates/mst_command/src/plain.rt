@@ -25,7 +25,8 @@ fn one_option<'a>(option: &str, number: &'a str) -> Option<(&'a str, &'a str)>
 
 // The same, of two options in any order.
 fn two_options<'a>(first: &str, a: &'a str, second: &str, b: &'a str) -> Option<(&'a str, &'a str)>
-    ensures { option_map (λ w. (w.0.now, w.1.now)) result ≡ two_named first.now a.entry.now second.now b.entry.now }
+    ensures { option_map (λ w. (w.0.now, w.1.now)) result
+        ≡ two_named first.now a.entry.now second.now b.entry.now }
 {
     if first == "--rows" {
         return if second == "--passes" {
@@ -135,7 +136,8 @@ fn plain_verify<'a>(words: &[&'a str]) -> Option<(&'a str, &'a str)>
 // The task of plain words that read standard input and are no script.
 fn plain_reader<'a>(words: &[&'a str]) -> Option<Task<'a>>
     ensures asked { IfSome result (λ task. AsksFor words.now task) }
-    ensures plain { IfNone result ((asks_replay_alone words.now ≡ false) × (is_plain_verify words.now ≡ false)) }
+    ensures plain { IfNone result ((asks_replay_alone words.now ≡ false)
+        × (is_plain_verify words.now ≡ false)) }
 {
     if is_plain_replay(words) {
         return Some(Task::Replay);
@@ -147,7 +149,8 @@ fn plain_reader<'a>(words: &[&'a str]) -> Option<Task<'a>>
 // The task of plain words that are no script.
 fn plain_other<'a>(words: &[&'a str]) -> Option<Task<'a>>
     ensures asked { IfSome result (λ task. AsksFor words.now task) }
-    ensures plain { IfNone result ((asks_replay_alone words.now ≡ false) × (is_plain_verify words.now ≡ false) × ((size : _) → ¬ (IsLoadOf words.now size))) }
+    ensures plain { IfNone result ((asks_replay_alone words.now ≡ false)
+        × (is_plain_verify words.now ≡ false) × ((size : _) → ¬ (IsLoadOf words.now size))) }
 {
     match plain_load(words) {
         Some(size) => Some(Task::Load(size)),
@@ -155,8 +158,9 @@ fn plain_other<'a>(words: &[&'a str]) -> Option<Task<'a>>
     }
 }
 
-/// The task that plain words ask for: `run` with `--rows N` and `--passes N` at most once each, `replay` alone, `verify` and two words that begin with no dash, or
-/// `load` with `--readers N`, `--writers N` and `--calls N` in this order.
+/// The task that plain words ask for: `run` with `--rows N` and `--passes N` at most once each,
+/// `replay` alone, `verify` and two words that begin with no dash, or `load` with `--readers N`,
+/// `--writers N` and `--calls N` in this order.
 pub fn plain_task<'a>(words: &[&'a str]) -> Option<Task<'a>>
     ensures asked { IfSome result (λ task. AsksFor words.now task) }
     ensures plain { IfNone result (¬ (IsPlain words.now)) }

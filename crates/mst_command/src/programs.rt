@@ -29,15 +29,20 @@ pub fn run_script<A: Allocator + Copy, S: Source, W: Sink>(
 ) -> Result<Ending, Refusal>
     requires source { S.failures source.old < 2 ^ 64 - 1 }
     requires out { W.failures out.old < 2 ^ 64 - 1 }
-    ensures ran { OnOk result (RanScript S.gives W.takes shape source.old out.old source.new out.new) }
+    ensures ran { OnOk result
+        (RanScript S.gives W.takes shape source.old out.old source.new out.new) }
     ensures ended { OnOk result (S.left source.new ≡ 0) }
     ensures done { IfOk result (λ ending. ending ≡ Done) }
-    ensures steady { OnOk result (S.failures source.new + W.failures out.new ≡ S.failures source.old + W.failures out.old) }
-    ensures device { IfErr result (λ why. IsDevice why (S.failures source.old + W.failures out.old) (S.failures source.new + W.failures out.new)) }
+    ensures steady { OnOk result
+        (S.failures source.new + W.failures out.new ≡ S.failures source.old + W.failures out.old) }
+    ensures device { IfErr result
+        (λ why. IsDevice why (S.failures source.old + W.failures out.old)
+        (S.failures source.new + W.failures out.new)) }
     ensures unread { IfErr result (λ why. Untouched why source.old source.new) }
     ensures unwritten { IfErr result (λ why. Untouched why out.old out.new) }
     ensures ends { IfErr result (λ why. EndsScript why) }
-    ensures stopped { IsErrOf result Refusal.Device → BrokeScript S.gives W.takes W.failures shape source.old out.old source.new out.new }
+    ensures stopped { IsErrOf result Refusal.Device
+        → BrokeScript S.gives W.takes W.failures shape source.old out.old source.new out.new }
     ensures shape { IsErrOf result Refusal.Shape ↔ ¬ (IsShape shape) }
 {
     let (store, seats) = match Store::open(alloc, shape) {
@@ -68,12 +73,16 @@ pub fn run_replay<A: Allocator + Copy, S: Source, W: Sink>(
     ensures ran { OnOk result (RanReplay S.gives W.takes source.old out.old source.new out.new) }
     ensures ended { OnOk result (S.left source.new ≡ 0) }
     ensures done { IfOk result (λ ending. ending ≡ Done) }
-    ensures steady { OnOk result (S.failures source.new + W.failures out.new ≡ S.failures source.old + W.failures out.old) }
-    ensures device { IfErr result (λ why. IsDevice why (S.failures source.old + W.failures out.old) (S.failures source.new + W.failures out.new)) }
+    ensures steady { OnOk result
+        (S.failures source.new + W.failures out.new ≡ S.failures source.old + W.failures out.old) }
+    ensures device { IfErr result
+        (λ why. IsDevice why (S.failures source.old + W.failures out.old)
+        (S.failures source.new + W.failures out.new)) }
     ensures unread { IfErr result (λ why. Untouched why source.old source.new) }
     ensures unwritten { IfErr result (λ why. Untouched why out.old out.new) }
     ensures ends { IfErr result (λ why. EndsReplay why) }
-    ensures stopped { IsErrOf result Refusal.Device → BrokeReplay S.gives W.takes W.failures source.old out.old source.new out.new }
+    ensures stopped { IsErrOf result Refusal.Device
+        → BrokeReplay S.gives W.takes W.failures source.old out.old source.new out.new }
 {
     let mut replay = Replay::new();
     match replay_events(alloc, source, out, &mut replay) {
@@ -102,9 +111,11 @@ fn show<W: Sink>(out: &mut W, text: &str) -> Result<Ending, Refusal>
 
 /// Does the task, and says how the program ends, or why it ends early.
 ///
-/// `Shape` comes for a size out of the store's limits and for numbers that a load may not have, `BadRoot` and then `BadKey` for words that spell no
-/// root digest and no key, all before anything is read or run. `Memory` comes where a growth was refused or a thread could not be started: nothing was
-/// written then, and nothing read but a proof. `Device` comes where a read or a write failed.
+/// `Shape` comes for a size out of the store's limits and for numbers that a load may not have,
+/// `BadRoot` and then `BadKey` for words that spell no root digest and no key, all before anything
+/// is read or run. `Memory` comes where a growth was refused or a thread could not be started:
+/// nothing was written then, and nothing read but a proof. `Device` comes where a read or a write
+/// failed.
 pub fn execute<R: Threads + Wait + AllocGlobal + Sync, A: Allocator + Copy, S: Source, W: Sink>(
     rt: &R,
     alloc: A,
@@ -114,17 +125,24 @@ pub fn execute<R: Threads + Wait + AllocGlobal + Sync, A: Allocator + Copy, S: S
 ) -> Result<Ending, Refusal>
     requires source { S.failures source.old < 2 ^ 64 - 1 }
     requires out { W.failures out.old < 2 ^ 64 - 1 }
-    ensures did { IfOk result (λ ending. Did S.gives S.left W.takes task.entry source.old out.old ending source.new out.new) }
-    ensures steady { OnOk result (S.failures source.new + W.failures out.new ≡ S.failures source.old + W.failures out.old) }
-    ensures device { IfErr result (λ why. IsDevice why (S.failures source.old + W.failures out.old) (S.failures source.new + W.failures out.new)) }
+    ensures did { IfOk result
+        (λ ending. Did S.gives S.left W.takes task.entry source.old out.old ending source.new
+        out.new) }
+    ensures steady { OnOk result
+        (S.failures source.new + W.failures out.new ≡ S.failures source.old + W.failures out.old) }
+    ensures device { IfErr result
+        (λ why. IsDevice why (S.failures source.old + W.failures out.old)
+        (S.failures source.new + W.failures out.new)) }
     ensures unread { IfErr result (λ why. Unread why source.old source.new) }
-    ensures untouched { verified_words task.entry ≡ None → IfErr result (λ why. Untouched why source.old source.new) }
+    ensures untouched { verified_words task.entry ≡ None
+        → IfErr result (λ why. Untouched why source.old source.new) }
     ensures unwritten { IfErr result (λ why. Untouched why out.old out.new) }
     ensures shape { IsErrOf result Refusal.Shape ↔ HasBadShape task.entry }
     ensures root { IsErrOf result Refusal.BadRoot ↔ HasBadRoot task.entry }
     ensures key { IsErrOf result Refusal.BadKey ↔ HasBadKey task.entry }
     ensures ends { IfErr result (λ why. Ends task.entry why) }
-    ensures stopped { IsErrOf result Refusal.Device → Broke S.gives S.left W.takes W.failures task.entry source.old out.old source.new out.new }
+    ensures stopped { IsErrOf result Refusal.Device
+        → Broke S.gives S.left W.takes W.failures task.entry source.old out.old source.new out.new }
 {
     match task {
         Task::Run(shape) => run_script(alloc, shape, source, out),

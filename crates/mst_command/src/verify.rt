@@ -31,7 +31,8 @@ fn read_report<A: Allocator + Copy, S: Source>(
     source: &mut S,
 ) -> Result<Report, RunFault>
     requires source { S.failures source.old < 2 ^ 64 - 1 }
-    ensures report { IfOk result (λ report. IsSaid S.gives S.left root.now key.now source.old report source.new) }
+    ensures report { IfOk result
+        (λ report. IsSaid S.gives S.left root.now key.now source.old report source.new) }
     ensures steady { OnOk result (S.failures source.new ≡ S.failures source.old) }
     ensures device { result ≡ Err RunFault.Device → S.failures source.old < S.failures source.new }
     ensures memory { result ≡ Err RunFault.Memory → S.failures source.new ≡ S.failures source.old }
@@ -45,7 +46,8 @@ fn read_report<A: Allocator + Copy, S: Source>(
     }
 }
 
-/// Says what the proof that the source gives shows of a key, for the words of a root digest and of the key.
+/// Says what the proof that the source gives shows of a key, for the words of a root digest and of
+/// the key.
 ///
 /// `BadRoot` and then `BadKey` come before anything is read.
 pub fn run_verify<A: Allocator + Copy, S: Source, W: Sink>(
@@ -57,15 +59,23 @@ pub fn run_verify<A: Allocator + Copy, S: Source, W: Sink>(
 ) -> Result<Ending, Refusal>
     requires source { S.failures source.old < 2 ^ 64 - 1 }
     requires out { W.failures out.old < 2 ^ 64 - 1 }
-    ensures ran { IfOk result (λ ending. RanVerify S.gives S.left W.takes (root.now, key.now) source.old out.old ending source.new out.new) }
-    ensures steady { OnOk result (S.failures source.new + W.failures out.new ≡ S.failures source.old + W.failures out.old) }
-    ensures device { IfErr result (λ why. IsDevice why (S.failures source.old + W.failures out.old) (S.failures source.new + W.failures out.new)) }
-    ensures stopped { IsErrOf result Refusal.Device → (out.new ≡ out.old) ⊎ BrokeVerify S.gives S.left W.takes (root.now, key.now) source.old out.old source.new out.new }
+    ensures ran { IfOk result
+        (λ ending. RanVerify S.gives S.left W.takes
+        (root.now, key.now) source.old out.old ending source.new out.new) }
+    ensures steady { OnOk result
+        (S.failures source.new + W.failures out.new ≡ S.failures source.old + W.failures out.old) }
+    ensures device { IfErr result
+        (λ why. IsDevice why (S.failures source.old + W.failures out.old)
+        (S.failures source.new + W.failures out.new)) }
+    ensures stopped { IsErrOf result Refusal.Device → (out.new ≡ out.old)
+        ⊎ BrokeVerify S.gives S.left W.takes
+        (root.now, key.now) source.old out.old source.new out.new }
     ensures unread { IfErr result (λ why. Unread why source.old source.new) }
     ensures unwritten { IfErr result (λ why. Untouched why out.old out.new) }
     ensures ends { IfErr result (λ why. EndsVerify why) }
     ensures root { IsErrOf result Refusal.BadRoot ↔ (root_of root.now ≡ None) }
-    ensures key { IsErrOf result Refusal.BadKey ↔ (IsSome (root_of root.now) × (key_of key.now ≡ None)) }
+    ensures key { IsErrOf result Refusal.BadKey
+        ↔ (IsSome (root_of root.now) × (key_of key.now ≡ None)) }
 {
     let Some(root) = root_in(root) else {
         return Err(Refusal::BadRoot);

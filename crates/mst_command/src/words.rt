@@ -88,7 +88,8 @@ fn root_and_key<'a>(words: &[&'a str]) -> (&'a str, &'a str)
     }
 }
 
-/// The words for the root digest and the key, where the first word behind the program's name is `verify`.
+/// The words for the root digest and the key, where the first word behind the program's name is
+/// `verify`.
 pub fn verify_words<'a>(words: &[&'a str]) -> Option<(&'a str, &'a str)>
     ensures { option_map (λ w. (w.0.now, w.1.now)) result ≡ asks_verify words.now }
 {
@@ -112,8 +113,8 @@ fn named_store(words: &[&str], shape: Shape, size: Load) -> Task<'static>
     }
 }
 
-/// The task of words of no plain form, which were found to name one, by the first word behind the program's name. A script has this size, and a load these
-/// numbers.
+/// The task of words of no plain form, which were found to name one, by the first word behind the
+/// program's name. A script has this size, and a load these numbers.
 pub fn named_task<'a>(words: &[&'a str], shape: Shape, size: Load) -> Task<'a>
     requires { ¬ (IsPlain words.now) }
     ensures { AsksFor words.now result }

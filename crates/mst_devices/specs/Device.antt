@@ -15,13 +15,15 @@ pub record Took {S : Type 0} (takes : S → List ℕ → S → Type 0) (s : S) (
   pub within : n ≤ length bytes
   pub taken : takes s (take n bytes) t
 
--- Where p waited before the sink, the text was put behind it: the sink took a front of both, and q waits now.
+-- Where p waited before the sink, the text was put behind it: the sink took a front of both, and q
+-- waits now.
 pub record Puts {S : Type 0} (takes : S → List ℕ → S → Type 0) (s : S) (p text : List ℕ) (t : S) (q : List ℕ) : Type 0 where
   pub taken : List ℕ
   pub takes_them : takes s taken t
   pub rest : p ++ text ≡ taken ++ q
 
--- Where p waited before the sink, the sink failed: it took a beginning of what waited and of the text.
+-- Where p waited before the sink, the sink failed: it took a beginning of what waited and of the
+-- text.
 pub record Breaks {S : Type 0} (takes : S → List ℕ → S → Type 0) (s : S) (p text : List ℕ) (t : S) : Type 0 where
   pub taken : List ℕ
   pub takes_them : takes s taken t
@@ -34,8 +36,8 @@ pub record Held : Type 0 where
   pub room : ℕ
   pub failures : ℕ
 
--- A source over a reader of std: how many bytes it gives at most, whether it came to its end, how many reads have
--- failed, and the bytes that the reader has left, where std knows them.
+-- A source over a reader of std: how many bytes it gives at most, whether it came to its end, how
+-- many reads have failed, and the bytes that the reader has left, where std knows them.
 pub record Counted : Type 0 where
   pub left : ℕ
   pub has_ended : Bool
@@ -46,14 +48,16 @@ pub record Counted : Type 0 where
 abbrev pub left_of : Counted → ℕ
 left_of s = if s.has_ended then 0 else s.left
 
--- These bytes were given: the first of those that the reader had left. It comes to its end only where none of them is left, and gives nothing after it.
+-- These bytes were given: the first of those that the reader had left. It comes to its end only
+-- where none of them is left, and gives nothing after it.
 pub record GaveKnown (s : Counted) (xs : List ℕ) (t : Counted) : Type 0 where
   pub counted : t.left + length xs ≡ s.left
   pub known : Consumes s.known t.known xs
   pub ends : s.has_ended ≡ false → t.has_ended ≡ true → IsAtEnd t.known
   pub stays : s.has_ended ≡ true → (xs ≡ []) × (t.has_ended ≡ true) × (t.known ≡ s.known)
 
--- a sink over a writer of std: how many writes have failed, and the bytes that the writer holds, where std knows them
+-- a sink over a writer of std: how many writes have failed, and the bytes that the writer holds,
+-- where std knows them
 pub record Written : Type 0 where
   pub failures : ℕ
   pub known : Option (List ℕ)

@@ -103,12 +103,14 @@ impl<A: Allocator> Sink for BytesSink<A> {
     fn write(&mut self, bytes: &[u8]) -> Result<usize, Device>
         requires room { 0 < length bytes.now }
         requires few { self.old.failures < 2 ^ 64 - 1 }
-        ensures ok { IfOk result (λ n. Took (λ s xs t. t.bytes ≡ s.bytes ++ xs) self.old bytes.now n self.new) }
+        ensures ok { IfOk result
+            (λ n. Took (λ s xs t. t.bytes ≡ s.bytes ++ xs) self.old bytes.now n self.new) }
         ensures steady { OnOk result (self.new.failures ≡ self.old.failures) }
         ensures err { OnErr result (self.new.bytes ≡ self.old.bytes ++ []) }
         ensures failed { OnErr result (self.old.failures < self.new.failures) }
 
-        ensures whole { IfOk result (λ n. n ≡ min (self.old.room - length self.old.bytes) (length bytes.now)) }
+        ensures whole { IfOk result
+            (λ n. n ≡ min (self.old.room - length self.old.bytes) (length bytes.now)) }
         ensures full { OnErr result (self.old.room ≤ length self.old.bytes) }
         ensures room { self.new.room ≡ self.old.room }
     {

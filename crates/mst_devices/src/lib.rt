@@ -11,7 +11,9 @@
 //! sink.bytes()                                   // "xyz"
 //! ```
 //!
-//! A failure is told, and raises a count that contracts see; a device that failed may be asked again. What a terminal gives or takes no contract can say: of [`StdSource`] and [`StdSink`] it is known which reads and writes failed, and the bytes where std knows them.
+//! A failure is told, and raises a count that contracts see; a device that failed may be asked
+//! again. What a terminal gives or takes no contract can say: of [`StdSource`] and [`StdSink`] it
+//! is known which reads and writes failed, and the bytes where std knows them.
 #![tactic(auto)]
 
 ghost use Rattle.std.specs.Prelude.{◌≡◌, ℕ, ◌+◌, ◌-◌, ◌^◌, ◌<◌, ◌≤◌, List, [], ◌++◌, length, IfOk, OnOk, OnErr};
@@ -67,7 +69,8 @@ pub trait Sink {
     // How many writes have failed.
     ghost failures: { Self → ℕ };
 
-    /// Writes some bytes of the front, at least one, and says how many. A write of none is a failure.
+    /// Writes some bytes of the front, at least one, and says how many. A write of none is a
+    /// failure.
     fn write(&mut self, bytes: &[u8]) -> Result<usize, Device>
         requires room { 0 < length bytes.now }
         requires few { failures self.old < 2 ^ 64 - 1 }

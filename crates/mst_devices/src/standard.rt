@@ -17,7 +17,8 @@ pub struct StdSource<R: Read> {
     failures: u64,
 }
 
-/// Contracts see how many bytes are left at most, whether the end was reached, how many reads have failed, and what std knows of the bytes that are left.
+/// Contracts see how many bytes are left at most, whether the end was reached, how many reads have
+/// failed, and what std knows of the bytes that are left.
 impl<R: Read> Model for StdSource<R> {
     ghost use Rattle.mst_devices.specs.Device.{Counted};
 
@@ -27,10 +28,17 @@ impl<R: Read> Model for StdSource<R> {
 }
 
 impl<R: Read> StdSource<R> {
-    /// A source over standard input. Where std knows its bytes, and they are fewer than 2^64 - 1, all of them are given up to the end.
+    /// A source over standard input. Where std knows its bytes, and they are fewer than 2^64 - 1,
+    /// all of them are given up to the end.
     pub fn new(input: R) -> StdSource<R>
-        ensures fresh { result ≡ record { left = u64.MAX; has_ended = false; failures = 0; known = R.remaining input } }
-        ensures whole { (xs given : _) (last : _) → R.remaining input ≡ Some xs → length xs < u64.MAX → GaveKnown result given last → left_of last ≡ 0 → given ≡ xs }
+        ensures fresh { result ≡ record {
+          left = u64.MAX;
+          has_ended = false;
+          failures = 0;
+          known = R.remaining input;
+        } }
+        ensures whole { (xs given : _) (last : _) → R.remaining input ≡ Some xs
+            → length xs < u64.MAX → GaveKnown result given last → left_of last ≡ 0 → given ≡ xs }
     {
         StdSource {
             input,
@@ -106,7 +114,8 @@ impl<W: Write> StdSink<W> {
     }
 }
 
-/// Contracts see how many writes have failed, and what std knows of the bytes that the writer holds.
+/// Contracts see how many writes have failed, and what std knows of the bytes that the writer
+/// holds.
 impl<W: Write> Model for StdSink<W> {
     ghost use Rattle.mst_devices.specs.Device.{Written};
 

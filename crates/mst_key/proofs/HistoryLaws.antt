@@ -1,4 +1,5 @@
--- The laws of histories: the map after them, one history that begins another, and the events of a pass.
+-- The laws of histories: the map after them, one history that begins another, and the events of a
+-- pass.
 use Rattle.std.proofs.Common.{◌≡◌, ℕ, None, ◌+◌, ◌==◌, ◌⊎◌, inl, inr, List, [], ◌∷◌, ◌++◌, length, refl, sym, ap, ◌∙◌, subst, append_assoc, length-append, arith}
 use Rattle.std.proofs.lemmas.List.{append-nil}
 use Rattle.std.proofs.lemmas.List.Elements.{filter-append}

@@ -1,4 +1,5 @@
--- What `map_get`, `put` and `remove` give at a place of the list: between the pairs below a key and the pairs above it.
+-- What `map_get`, `put` and `remove` give at a place of the list: between the pairs below a key and
+-- the pairs above it.
 use Rattle.std.proofs.Common.{◌≡◌, ℕ, Bool, refl, subst, true, false, not, List, [], ◌∷◌, ◌++◌, Some, None, ◌+◌, length, length-append, arith, filter, sym, ap, ◌∙◌, append_assoc, Ordering, Less, Equal, is_eq, is_lt, is_gt}
 use Rattle.std.proofs.lemmas.List.{append-nil}
 use Rattle.std.proofs.lemmas.List.Elements.{filter-append}
@@ -143,7 +144,8 @@ remove-parts (p ∷ m) k rise =
     let above : AllAbove (p ∷ m) k = (more, AllAbove-less m k p.0 more rise.0) in
     above-stays (p ∷ m) k above ∙ (λ i. sym (above-dropped (p ∷ m) k above) i ++ sym (above-kept (p ∷ m) k above) i))
 
--- an ascending list is the pairs below a key, the key's own pair where it has one, and the pairs above it
+-- an ascending list is the pairs below a key, the key's own pair where it has one, and the pairs
+-- above it
 pub parts_absent : (m : List Pair) (k : List ℕ) → IsAscending m → map_get m k ≡ None → m ≡ filter (λ p. is_lt (key_cmp p.0 k)) m ++ filter (λ p. is_gt (key_cmp p.0 k)) m
 parts_absent m k rise none = sym (remove-unchanged m k rise none) ∙ remove-parts m k rise
 

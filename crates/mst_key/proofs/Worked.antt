@@ -1,4 +1,5 @@
--- Worked cases of the definitions, computed. The keys are `a`, `ab`, `b` and `c` in ASCII, the values `x`, `y` and `z`.
+-- Worked cases of the definitions, computed. The keys are `a`, `ab`, `b` and `c` in ASCII, the
+-- values `x`, `y` and `z`.
 use Rattle.std.proofs.Common.{◌≡◌, ℕ, ◌++◌, List, [], ◌∷◌, Some, None, refl, Less, Equal, Greater, arith}
 use Rattle.mst_key.specs.declared.history.Change.TheVariants.{Put, Remove}
 use Rattle.mst_key.specs.History.{History, after, reply, events_of, IsPrefix}

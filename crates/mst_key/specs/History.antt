@@ -1,4 +1,6 @@
--- A history: the list of the events so far, the oldest first, and the map that they leave. Each event is a change by a pass (Herlihy and Wing 1990: a sequential history of one object, the ordered map). `history_laws` states what follows from these definitions.
+-- A history: the list of the events so far, the oldest first, and the map that they leave. Each
+-- event is a change by a pass (Herlihy and Wing 1990: a sequential history of one object, the
+-- ordered map). `history_laws` states what follows from these definitions.
 use Rattle.std.specs.Prelude.{◌≡◌, ◌≢◌, ℕ, ◌==◌, List, [], ◌∷◌, ◌++◌, Option, Some, None, filter}
 use Rattle.std.specs.List.{AllByRecursion}
 use Rattle.mst_key.specs.declared.history.Change.{Change}
@@ -34,7 +36,8 @@ after_from m (e ∷ es) = after_from (changed m e.change) es
 abbrev pub after : History → List Pair
 after h = after_from [] h
 
--- what the write answers that adds this event to the history: the value that its key had before it, and `None` where it had none
+-- what the write answers that adds this event to the history: the value that its key had before it,
+-- and `None` where it had none
 abbrev pub reply : History → Event → Option (List ℕ)
 reply h e = map_get (after h) (key_of e.change)
 

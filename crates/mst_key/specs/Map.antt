@@ -1,4 +1,5 @@
--- An ordered map: the list of its pairs, whose keys rise strictly. `order_laws` and `map_laws` state what follows from these definitions.
+-- An ordered map: the list of its pairs, whose keys rise strictly. `order_laws` and `map_laws`
+-- state what follows from these definitions.
 use Rattle.std.specs.Prelude.{◌≡◌, ℕ, Bool, true, not, ◌&&◌, if◌then◌else◌, List, [], ◌∷◌, ◌++◌, Option, Some, None, filter, find, take}
 use Rattle.std.specs.Option.{option_map_or}
 use Rattle.std.specs.List.{AllByRecursion}
@@ -47,7 +48,8 @@ put m k v = filter (λ p. is_lt (key_cmp p.0 k)) m ++ (k, v) ∷ filter (λ p. i
 abbrev pub remove : List Pair → List ℕ → List Pair
 remove m k = filter (λ p. not (is_eq (key_cmp p.0 k))) m
 
--- whether the key is above the bound; at least the bound; below it. A bound that is not there does not bind
+-- whether the key is above the bound; at least the bound; below it. A bound that is not there does
+-- not bind
 abbrev pub above : Option (List ℕ) → List ℕ → Bool
 above bound k = option_map_or (λ b. is_gt (key_cmp k b)) bound true
 

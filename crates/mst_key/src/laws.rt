@@ -1,6 +1,7 @@
 //! Laws of the definitions that the contracts cite: the order of keys, maps, histories and layers.
 //!
-//! The functions here do nothing. Each clause is a proved law, by which a reader can judge the definitions of `specs/`.
+//! The functions here do nothing. Each clause is a proved law, by which a reader can judge the
+//! definitions of `specs/`.
 ghost use Rattle.std.specs.Prelude.{◌≡◌, ◌≢◌, ◌↔◌, ◌⊎◌, ◌<◌, ◌≤◌, ℕ, List, [], ◌∷◌, ◌++◌, Option, Some, None, IfSome, Contains, length};
 ghost use Rattle.std.specs.Cmp.{IsTotalOrder};
 ghost use Rattle.std.specs.declared.cmp.Ordering.TheVariants.{Less, Equal};
@@ -22,12 +23,15 @@ pub fn order_laws()
         → key_cmp front (front ++ b ∷ ys) ≡ Less }
 {}
 
-/// What a look-up finds after a put and after a remove, that both give maps, that a map is determined by its look-ups, and where its pairs stand.
+/// What a look-up finds after a put and after a remove, that both give maps, that a map is
+/// determined by its look-ups, and where its pairs stand.
 pub fn map_laws()
     ensures put_same { (m : List Pair) (k v : List ℕ) → map_get (put m k v) k ≡ Some v }
-    ensures put_other { (m : List Pair) (k v q : List ℕ) → q ≢ k → map_get (put m k v) q ≡ map_get m q }
+    ensures put_other { (m : List Pair) (k v q : List ℕ) → q ≢ k
+        → map_get (put m k v) q ≡ map_get m q }
     ensures remove_same { (m : List Pair) (k : List ℕ) → map_get (remove m k) k ≡ None }
-    ensures remove_other { (m : List Pair) (k q : List ℕ) → q ≢ k → map_get (remove m k) q ≡ map_get m q }
+    ensures remove_other { (m : List Pair) (k q : List ℕ) → q ≢ k
+        → map_get (remove m k) q ≡ map_get m q }
     ensures empty_is_map { IsMap [] }
     ensures put_is_map { (m : List Pair) (k v : List ℕ) → IsMap m → IsKey k → IsValue v
         → IsMap (put m k v) }
@@ -53,7 +57,8 @@ pub fn map_laws()
         → remove (front ++ (k, w) ∷ back) k ≡ front ++ back }
 {}
 
-/// The map that a history leaves, the order by which one history begins another, and the events of a pass.
+/// The map that a history leaves, the order by which one history begins another, and the events of
+/// a pass.
 pub fn history_laws()
     ensures map { (h : History) → IsPossible h → IsMap (after h) }
     ensures step { (h : History) (e : Event) → after (h ++ e ∷ []) ≡ changed (after h) e.change }
@@ -65,7 +70,8 @@ pub fn history_laws()
     ensures begins_chain { (f g h : History) → IsPrefix f g → IsPrefix g h → IsPrefix f h }
     ensures begins_both_ways { (g h : History) → IsPrefix g h → IsPrefix h g → g ≡ h }
     // of two beginnings of one history, one begins the other
-    ensures begins_one { (f g h : History) → IsPrefix f h → IsPrefix g h → IsPrefix f g ⊎ IsPrefix g f }
+    ensures begins_one { (f g h : History) → IsPrefix f h → IsPrefix g h → IsPrefix f g
+        ⊎ IsPrefix g f }
     ensures events_append { (pass : ℕ) (g h : History)
         → events_of pass (g ++ h) ≡ events_of pass g ++ events_of pass h }
     // a history between two that have the same events of a pass has them too
@@ -73,28 +79,37 @@ pub fn history_laws()
         → events_of pass f ≡ mine → events_of pass h ≡ mine → events_of pass g ≡ mine }
 {}
 
-/// The pair of the least key above a bound, and the first pairs between two bounds. A bound that is not there does not bind.
+/// The pair of the least key above a bound, and the first pairs between two bounds. A bound that is
+/// not there does not bind.
 pub fn range_laws()
     // the next pair stands in the map, above the bound, and before each other pair above it
-    ensures next_above { (m : List Pair) (bound : Option (List ℕ)) (p : Pair) → map_next m bound ≡ Some p
-        → Contains m p × IfSome bound (λ b. key_cmp b p.0 ≡ Less) }
-    ensures next_least { (m : List Pair) (bound : Option (List ℕ)) (p q : Pair) → IsMap m → map_next m bound ≡ Some p
-        → Contains m q → IfSome bound (λ b. key_cmp b q.0 ≡ Less) → (q ≡ p) ⊎ (key_cmp p.0 q.0 ≡ Less) }
+    ensures next_above { (m : List Pair) (bound : Option (List ℕ)) (p : Pair)
+        → map_next m bound ≡ Some p → Contains m p × IfSome bound (λ b. key_cmp b p.0 ≡ Less) }
+    ensures next_least { (m : List Pair) (bound : Option (List ℕ)) (p q : Pair) → IsMap m
+        → map_next m bound ≡ Some p → Contains m q → IfSome bound (λ b. key_cmp b q.0 ≡ Less)
+        → (q ≡ p) ⊎ (key_cmp p.0 q.0 ≡ Less) }
     // where there is none, no pair stands above the bound
-    ensures next_none { (m : List Pair) (bound : Option (List ℕ)) (q : Pair) → map_next m bound ≡ None
-        → Contains m q → IfSome bound (λ b. key_cmp b q.0 ≡ Less) → ⊥ }
-    // a span has pairs of the map in their order, at least `from`, below `to`, and no more than the limit
-    ensures span_within { (m : List Pair) (from to : Option (List ℕ)) (limit : ℕ) (p : Pair) → Contains (map_range m from to limit) p
-        → Contains m p × IfSome from (λ b. key_cmp p.0 b ≢ Less) × IfSome to (λ b. key_cmp p.0 b ≡ Less) }
-    ensures span_is_map { (m : List Pair) (from to : Option (List ℕ)) (limit : ℕ) → IsMap m → IsMap (map_range m from to limit) }
-    ensures span_limit { (m : List Pair) (from to : Option (List ℕ)) (limit : ℕ) → length (map_range m from to limit) ≤ limit }
+    ensures next_none { (m : List Pair) (bound : Option (List ℕ)) (q : Pair)
+        → map_next m bound ≡ None → Contains m q → IfSome bound (λ b. key_cmp b q.0 ≡ Less) → ⊥ }
+    // a span has pairs of the map in their order, at least `from`, below `to`, and no more than the
+    // limit
+    ensures span_within { (m : List Pair) (from to : Option (List ℕ)) (limit : ℕ) (p : Pair)
+        → Contains (map_range m from to limit) p → Contains m p
+        × IfSome from (λ b. key_cmp p.0 b ≢ Less) × IfSome to (λ b. key_cmp p.0 b ≡ Less) }
+    ensures span_is_map { (m : List Pair) (from to : Option (List ℕ)) (limit : ℕ) → IsMap m
+        → IsMap (map_range m from to limit) }
+    ensures span_limit { (m : List Pair) (from to : Option (List ℕ)) (limit : ℕ)
+        → length (map_range m from to limit) ≤ limit }
     // each such pair is in it, or it is full of lesser ones
-    ensures span_first { (m : List Pair) (from to : Option (List ℕ)) (limit : ℕ) (q : Pair) → IsMap m → Contains m q
-        → IfSome from (λ b. key_cmp q.0 b ≢ Less) → IfSome to (λ b. key_cmp q.0 b ≡ Less)
-        → Contains (map_range m from to limit) q ⊎ ((length (map_range m from to limit) ≡ limit) × AllBelow (map_range m from to limit) q.0) }
+    ensures span_first { (m : List Pair) (from to : Option (List ℕ)) (limit : ℕ) (q : Pair)
+        → IsMap m → Contains m q → IfSome from (λ b. key_cmp q.0 b ≢ Less)
+        → IfSome to (λ b. key_cmp q.0 b ≡ Less) → Contains (map_range m from to limit) q
+        ⊎ ((length (map_range m from to limit) ≡ limit)
+        × AllBelow (map_range m from to limit) q.0) }
 {}
 
-/// The layers of three keys in both formats: of `8`, whose SHA-256 begins with the bytes 2c 62, of `4l`, with 02 7c, and of `05f`, with 00 04 0c.
+/// The layers of three keys in both formats: of `8`, whose SHA-256 begins with the bytes 2c 62, of
+/// `4l`, with 02 7c, and of `05f`, with 00 04 0c.
 pub fn layer_examples()
     ensures one_of_8 { layer_in One (56 ∷ []) ≡ 0 }
     ensures two_of_8 { layer_in Two (56 ∷ []) ≡ 1 }

@@ -7,7 +7,9 @@ use crate::key::Key;
 use sha2::{Digest, Sha256};
 
 impl Key {
-    /// The layer of the key: how many hexadecimal digits 0 begin the SHA-256 of its bytes (FIPS 180-4), 0 to 64. In each byte the high digit comes first (Auvolat and Taïani 2019, with base 16).
+    /// The layer of the key: how many hexadecimal digits 0 begin the SHA-256 of its bytes (FIPS
+    /// 180-4), 0 to 64. In each byte the high digit comes first (Auvolat and Taïani 2019, with base
+    /// 16).
     #[tactic(auto, unfolding(crate::specs::Layer::layer_in))]
     pub fn layer(&self) -> u8
         ensures layer { result ≡ layer self.now }

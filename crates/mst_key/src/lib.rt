@@ -1,4 +1,5 @@
-//! Keys and values of the ordered map, the layers of keys, and the history of the changes to the map.
+//! Keys and values of the ordered map, the layers of keys, and the history of the changes to the
+//! map.
 //!
 //! ```
 //! let (apple, plum) = (Key::new(b"apple")?, Key::new(b"plum")?);
@@ -9,7 +10,9 @@
 //! let event = Event { pass: 1, change };
 //! ```
 //!
-//! `specs/` defines what the contracts of all crates speak of: the order of keys, a map with its look-ups and changes, and a history with the map that it leaves. `order_laws`, `map_laws`, `range_laws`, `history_laws` and `layer_examples` prove what these definitions should satisfy.
+//! `specs/` defines what the contracts of all crates speak of: the order of keys, a map with its
+//! look-ups and changes, and a history with the map that it leaves. `order_laws`, `map_laws`,
+//! `range_laws`, `history_laws` and `layer_examples` prove what these definitions should satisfy.
 //!
 //! No map runs here: to contracts a map is the rising list of its pairs. `mst_store` keeps one.
 #![tactic(auto)]

@@ -16,7 +16,8 @@ pub record Lost {W L : Type 0} (takes : W → List ℕ → W → Type 0) (answer
   pub reply : answers a line text b
   pub breaks : Breaks takes s p text t
 
--- From s, w and a on the source gave bytes, of which some are left; the lines before these are answered.
+-- From s, w and a on the source gave bytes, of which some are left; the lines before these are
+-- answered.
 pub record Reached {S W L : Type 0} (gives : S → List ℕ → S → Type 0) (takes : W → List ℕ → W → Type 0) (answers : L → Option (List ℕ) → List ℕ → L → Type 0) (s : S) (w : W) (a : L) (left : List ℕ) (t : S) (x : W) (p : List ℕ) (b : L) : Type 0 where
   pub input : List ℕ
   pub given : gives s input t

@@ -32,7 +32,8 @@ remainder bytes = last_of (parts_of bytes)
 
 -- all lines: the complete ones, and a rest that is not empty
 abbrev pub lines_of : List ℕ → List (List ℕ)
-lines_of bytes = complete bytes ++ (if length (remainder bytes) == 0 then [] else remainder bytes ∷ [])
+lines_of bytes =
+    complete bytes ++ (if length (remainder bytes) == 0 then [] else remainder bytes ∷ [])
 
 -- what is kept of a line: its bytes, unless they are more than 4,096
 abbrev pub kept : List ℕ → Option (List ℕ)

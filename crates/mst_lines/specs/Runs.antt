@@ -3,11 +3,12 @@ use Rattle.std.specs.Prelude.{◌≡◌, ℕ, List, [], ◌∷◌, ◌++◌, Opt
 use Rattle.mst_devices.specs.Device.{Breaks}
 use Rattle.mst_lines.specs.Lines.{complete, lines_of, kept}
 
--- From the one state to the other what answers gave one answer for each line, in their order, and the text is
--- the answers one behind another.
+-- From the one state to the other what answers gave one answer for each line, in their order, and
+-- the text is the answers one behind another.
 abbrev pub Replies : {L : Type 0} → (L → Option (List ℕ) → List ℕ → L → Type 0) → L → List (List ℕ) → List ℕ → L → Type 0
 Replies answers a [] text b = (b ≡ a) × (text ≡ [])
-Replies answers a (line ∷ lines) text b = (first : List ℕ) × (rest : List ℕ) × (c : _) × answers a (kept line) first c × Replies answers c lines rest b × (text ≡ first ++ rest)
+Replies answers a (line ∷ lines) text b = (first : List ℕ) × (rest : List ℕ) × (c : _)
+    × answers a (kept line) first c × Replies answers c lines rest b × (text ≡ first ++ rest)
 
 -- The source gave the input, and the sink took an answer for each of its lines.
 pub record Ran {S W L : Type 0} (gives : S → List ℕ → S → Type 0) (takes : W → List ℕ → W → Type 0) (answers : L → Option (List ℕ) → List ℕ → L → Type 0) (s : S) (w : W) (a : L) (t : S) (x : W) (b : L) : Type 0 where
@@ -17,8 +18,8 @@ pub record Ran {S W L : Type 0} (gives : S → List ℕ → S → Type 0) (takes
   pub replies : Replies answers a (lines_of input) text b
   pub taken : takes w text x
 
--- A device failed: the sink took a beginning of the answers to some first lines of what was read, and
--- where it did not fail itself, all the answers to all complete lines.
+-- A device failed: the sink took a beginning of the answers to some first lines of what was read,
+-- and where it did not fail itself, all the answers to all complete lines.
 pub record Stopped {S W L : Type 0} (gives : S → List ℕ → S → Type 0) (takes : W → List ℕ → W → Type 0) (failures : W → ℕ) (answers : L → Option (List ℕ) → List ℕ → L → Type 0) (s : S) (w : W) (a : L) (t : S) (x : W) (b : L) : Type 0 where
   pub input : List ℕ
   pub given : gives s input t

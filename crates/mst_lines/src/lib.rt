@@ -9,7 +9,9 @@
 //! // then line has the rest behind the last newline
 //! ```
 //!
-//! What waits in `pending` is written before each read, so that whoever waits for an answer has it. Of a line of more than 4,096 bytes it is kept that it was long, and no more. `specs/Runs.antt` says what a run of answered lines is, whatever answers them.
+//! What waits in `pending` is written before each read, so that whoever waits for an answer has it.
+//! Of a line of more than 4,096 bytes it is kept that it was long, and no more. `specs/Runs.antt`
+//! says what a run of answered lines is, whatever answers them.
 #![tactic(auto)]
 
 mod line;

@@ -12,7 +12,8 @@ use std::marker::Model;
 /// How many bytes are read at most at a time.
 const PIECE: usize = 65_536;
 
-/// What was read of a source and is in no line yet. It is the caller's to name the same source each time.
+/// What was read of a source and is in no line yet. It is the caller's to name the same source each
+/// time.
 #[derive(Drop)]
 pub struct Reader<A: Allocator> {
     piece: Vec<u8, A>,
@@ -51,10 +52,13 @@ impl<A: Allocator> Reader<A> {
         })
     }
 
-    // Whether a newline was left: what stands before it goes on with the line, and else all that is left.
+    // Whether a newline was left: what stands before it goes on with the line, and else all that is
+    // left.
     fn cut_line(&mut self, line: &mut LineBuffer) -> bool
-        ensures cut { result ≡ true → (front : List ℕ) × IsWithout 10 front × (self.old ≡ front ++ 10 ∷ self.new) × (line.new ≡ kept_with line.old front) }
-        ensures none { result ≡ false → IsWithout 10 self.old × (self.new ≡ []) × (line.new ≡ kept_with line.old self.old) }
+        ensures cut { result ≡ true → (front : List ℕ) × IsWithout 10 front
+            × (self.old ≡ front ++ 10 ∷ self.new) × (line.new ≡ kept_with line.old front) }
+        ensures none { result ≡ false → IsWithout 10 self.old × (self.new ≡ [])
+            × (line.new ≡ kept_with line.old self.old) }
     {
         let left = &self.piece[self.at..self.end];
         match cut(left, b'\n') {
@@ -77,7 +81,8 @@ impl<A: Allocator> Reader<A> {
         ensures given { OnOk result (S.gives source.old self.new source.new) }
         ensures fewer { OnOk result (length self.new + S.left source.new ≤ S.left source.old) }
         ensures some { IfOk result (λ more. more ≡ true → 0 < length self.new) }
-        ensures end { IfOk result (λ more. more ≡ false → (self.new ≡ []) × (S.left source.new ≡ 0)) }
+        ensures end { IfOk result (λ more. more ≡ false → (self.new ≡ [])
+            × (S.left source.new ≡ 0)) }
         ensures steady { OnOk result (S.failures source.new ≡ S.failures source.old) }
         ensures err { OnErr result (S.gives source.old [] source.new) }
         ensures none { OnErr result (self.new ≡ []) }
@@ -90,9 +95,13 @@ impl<A: Allocator> Reader<A> {
         Ok(count > 0)
     }
 
-    /// Whether there is one more line that ends in a newline; then the buffer keeps it, and else the rest that the source ends in.
+    /// Whether there is one more line that ends in a newline; then the buffer keeps it, and else
+    /// the rest that the source ends in.
     ///
-    /// What waits before the sink is written before each read, so that nobody who reads the answers before the next line has to wait for them: where a write failed, nothing was read, and where something was read or a read failed, all was written. `Device` comes where a read or a write failed.
+    /// What waits before the sink is written before each read, so that nobody who reads the answers
+    /// before the next line has to wait for them: where a write failed, nothing was read, and where
+    /// something was read or a read failed, all was written. `Device` comes where a read or a write
+    /// failed.
     pub fn next<S: Source, W: Sink, B: Allocator>(
         &mut self,
         source: &mut S,
@@ -102,17 +111,30 @@ impl<A: Allocator> Reader<A> {
     ) -> Result<bool, Device>
         requires source { S.failures source.old < 2 ^ 64 - 1 }
         requires sink { W.failures sink.old < 2 ^ 64 - 1 }
-        ensures line { IfOk result (λ more. more ≡ true → Cuts S.gives W.takes self.old source.old sink.old pending.old line.new self.new source.new sink.new pending.new) }
-        ensures fewer { IfOk result (λ more. more ≡ true → length self.new + S.left source.new < length self.old + S.left source.old) }
-        ensures end { IfOk result (λ more. more ≡ false → Ends S.gives W.takes self.old source.old sink.old pending.old line.new source.new sink.new) }
-        ensures empty { IfOk result (λ more. more ≡ false → (pending.new ≡ []) × (S.left source.new ≡ 0)) }
+        ensures line { IfOk result (λ more. more ≡ true
+            → Cuts S.gives W.takes self.old source.old sink.old pending.old line.new self.new
+            source.new sink.new pending.new) }
+        ensures fewer { IfOk result (λ more. more ≡ true
+            → length self.new + S.left source.new < length self.old + S.left source.old) }
+        ensures end { IfOk result (λ more. more ≡ false
+            → Ends S.gives W.takes self.old source.old sink.old pending.old line.new source.new
+            sink.new) }
+        ensures empty { IfOk result (λ more. more ≡ false → (pending.new ≡ [])
+            × (S.left source.new ≡ 0)) }
         ensures steady_source { OnOk result (S.failures source.new ≡ S.failures source.old) }
         ensures steady_sink { OnOk result (W.failures sink.new ≡ W.failures sink.old) }
-        ensures err { OnErr result (Fails S.gives W.takes W.failures self.old source.old sink.old pending.old source.new sink.new) }
-        ensures failed { OnErr result (S.failures source.old + W.failures sink.old < S.failures source.new + W.failures sink.new) }
-        ensures order { OnOk result ((source.new ≡ source.old) ⊎ (W.takes sink.old pending.old sink.new × (pending.new ≡ []))) }
-        ensures writes_first { OnErr result (W.failures sink.old < W.failures sink.new → source.new ≡ source.old) }
-        ensures reads_last { OnErr result (S.failures source.old < S.failures source.new → W.takes sink.old pending.old sink.new × (pending.new ≡ [])) }
+        ensures err { OnErr result
+            (Fails S.gives W.takes W.failures self.old source.old sink.old pending.old source.new
+            sink.new) }
+        ensures failed { OnErr result
+            (S.failures source.old + W.failures sink.old < S.failures source.new
+            + W.failures sink.new) }
+        ensures order { OnOk result ((source.new ≡ source.old)
+            ⊎ (W.takes sink.old pending.old sink.new × (pending.new ≡ []))) }
+        ensures writes_first { OnErr result (W.failures sink.old < W.failures sink.new
+            → source.new ≡ source.old) }
+        ensures reads_last { OnErr result (S.failures source.old < S.failures source.new
+            → W.takes sink.old pending.old sink.new × (pending.new ≡ [])) }
     {
         line.clear();
         loop {

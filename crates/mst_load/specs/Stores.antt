@@ -4,4 +4,16 @@ use Rattle.mst_store.specs.Passes.{StoreId}
 
 -- the store that is named where none is picked
 abbrev pub no_store : StoreId
-no_store = record { table = record { words = 0; slots = 0; views_name = 0; atom = 0; block = 0; offset = 0; slot_names = [] }; rows = 0; passes = 0 }
+no_store = record {
+  table = record {
+    words = 0;
+    slots = 0;
+    views_name = 0;
+    atom = 0;
+    block = 0;
+    offset = 0;
+    slot_names = [];
+  };
+  rows = 0;
+  passes = 0;
+}

@@ -1,14 +1,18 @@
--- What a worker gives back. Each clause follows from the contracts of the pass alone, whatever other threads do.
+-- What a worker gives back. Each clause follows from the contracts of the pass alone, whatever
+-- other threads do.
 use Rattle.std.specs.Prelude.{◌≡◌, ◌⊎◌, ℕ, zero, suc, ◌<◌, ◌≤◌, [], ◌∷◌, ◌++◌, length}
 use Rattle.mst_key.specs.History.{History}
 use Rattle.mst_store.specs.Passes.{Known, IsSamePass}
 use Rattle.mst_load.specs.Calls.{event_of}
 use Rattle.mst_load.specs.declared.worker.Plan.{Plan}
 
--- These events are of the first so many calls of the writer, in their order, behind those before: each call was made or refused
+-- These events are of the first so many calls of the writer, in their order, behind those before:
+-- each call was made or refused
 abbrev pub AreOfCalls : ℕ → ℕ → History → History → Type 0
 AreOfCalls writer zero before log = log ≡ before
-AreOfCalls writer (suc n) before log = AreOfCalls writer n before log ⊎ ((rest : History) × AreOfCalls writer n before rest × (log ≡ rest ++ event_of writer (suc n) ∷ []))
+AreOfCalls writer (suc n) before log = AreOfCalls writer n before log
+    ⊎ ((rest : History) × AreOfCalls writer n before rest
+    × (log ≡ rest ++ event_of writer (suc n) ∷ []))
 
 -- a writer has made so many calls
 pub record HasWritten (calls : ℕ) (p q : Known) : Type 0 where

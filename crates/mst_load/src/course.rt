@@ -1,4 +1,5 @@
-//! What a worker's thread takes and gives back, in a type that says which store it is of: of what a thread returns, its type alone is known.
+//! What a worker's thread takes and gives back, in a type that says which store it is of: of what a
+//! thread returns, its type alone is known.
 ghost use Rattle.std.specs.Prelude.{◌≡◌};
 ghost use Rattle.mst_store.specs.Passes.{StoreId};
 
@@ -17,7 +18,8 @@ impl Course for Brand {
     ghost store = { no_store };
 }
 
-/// What goes to a worker's thread and comes back from it: its pass, and how often a version that it read was below an earlier one.
+/// What goes to a worker's thread and comes back from it: its pass, and how often a version that it
+/// read was below an earlier one.
 #[derive(Drop)]
 pub(crate) struct Worker<'a, C: Course> {
     pub(crate) pass: Pass<'a, Global>,

@@ -77,11 +77,17 @@ fn report_of<A: Allocator>(passes: Vec<Pass<'_, Global>, A>, falls: u64, built: 
     }
 }
 
-/// Lets readers and writers work at one store at once, each in a thread of its own, and reports what they left. The writers are the first passes, the readers follow.
+/// Lets readers and writers work at one store at once, each in a thread of its own, and reports
+/// what they left. The writers are the first passes, the readers follow.
 ///
-/// Call `c` of writer `w` puts the value `c` at the key of `w` and `c` by 32, and waits for its turn. A put that is refused is no event, and the writer goes on. A reader asks for the version and for a value in turns. Each worker asks the gate before each call and tells it after.
+/// Call `c` of writer `w` puts the value `c` at the key of `w` and `c` by 32, and waits for its
+/// turn. A put that is refused is no event, and the writer goes on. A reader asks for the version
+/// and for a value in turns. Each worker asks the gate before each call and tells it after.
 ///
-/// There are at most 24 readers, 1 to 8 writers, and 1 to 100,000 calls of each worker. The store, which the threads share, lies in the runtime's memory, the lists of passes and threads in `alloc`. It returns when all threads have returned, also with a fault: `Memory` where a growth was refused, `Thread` where a thread could not be started.
+/// There are at most 24 readers, 1 to 8 writers, and 1 to 100,000 calls of each worker. The store,
+/// which the threads share, lies in the runtime's memory, the lists of passes and threads in
+/// `alloc`. It returns when all threads have returned, also with a fault: `Memory` where a growth
+/// was refused, `Thread` where a thread could not be started.
 #[tactic(auto, using(crate::proofs::Returning::dealt_own, crate::proofs::Returning::all_back))]
 pub fn load<R: Threads + Wait + AllocGlobal + Sync, A: Allocator + Copy, G: Gate + Sync>(
     rt: &R,

@@ -1,6 +1,7 @@
 //! Who is asked before each call of a worker, and told after it.
 
-/// Is asked before each call of a worker, and told after it. The worker's number is that of its pass; its calls are counted from 1.
+/// Is asked before each call of a worker, and told after it. The worker's number is that of its
+/// pass; its calls are counted from 1.
 ///
 /// Workers call it at once, each in its own thread, so a gate can hold one until another has come.
 pub trait Gate {

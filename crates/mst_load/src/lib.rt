@@ -1,4 +1,5 @@
-//! Many threads at one store: readers and writers, each with a pass of its own, and what they leave.
+//! Many threads at one store: readers and writers, each with a pass of its own, and what they
+//! leave.
 //!
 //! ```
 //! let report = load(&rt, rt.alloc(), 4, 2, 1000, &Open)?;    // 4 readers and 2 writers, of 1,000 calls each
@@ -8,9 +9,12 @@
 //! report.lines()                  // the same in four lines
 //! ```
 //!
-//! That `falls` is 0 is proved, from what each read says of its own pass, and that `events` and `root` are those of one version. The rest is tested. A [`Gate`] is asked before each call and told after it, so that a test can hold a worker until another has come.
+//! That `falls` is 0 is proved, from what each read says of its own pass, and that `events` and
+//! `root` are those of one version. The rest is tested. A [`Gate`] is asked before each call and
+//! told after it, so that a test can hold a worker until another has come.
 //!
-//! Nothing is proved of threads that run at once. What is said of a worker follows from the contracts of its pass, and what is said of the end from those of all passes together.
+//! Nothing is proved of threads that run at once. What is said of a worker follows from the
+//! contracts of its pass, and what is said of the end from those of all passes together.
 #![tactic(auto)]
 
 mod calls;

@@ -35,7 +35,8 @@ fn start<'s, 'a: 's, E, R: Wait + Sync, G: Gate + Sync, C: Course + Send + 's>(
     }
 }
 
-// Starts the threads of all workers. Those that were started before a fault run on, and the scope joins them.
+// Starts the threads of all workers. Those that were started before a fault run on, and the scope
+// joins them.
 fn start_all<'s, 'a: 's, E, R: Wait + Sync, A: Allocator, G: Gate + Sync, C: Course + Send + 's>(
     scope: &Scope<'s, E>,
     rt: &'s R,
@@ -45,7 +46,8 @@ fn start_all<'s, 'a: 's, E, R: Wait + Sync, A: Allocator, G: Gate + Sync, C: Cou
     plan: Plan,
 ) -> Result<Vec<JoinHandle<Worker<'a, C>>, A>, LoadFault>
     requires few { plan.writers ≤ 8 }
-    requires own { (k : ℕ) (d : Known) → k < vec_len passes → (get_or passes.items k d).store ≡ C.store }
+    requires own { (k : ℕ) (d : Known) → k < vec_len passes
+        → (get_or passes.items k d).store ≡ C.store }
     ensures count { IfOk result (λ handles. vec_len handles ≡ vec_len passes.entry) }
 {
     let mut handles = Vec::new(alloc);
@@ -58,7 +60,8 @@ fn start_all<'s, 'a: 's, E, R: Wait + Sync, A: Allocator, G: Gate + Sync, C: Cou
     Ok(handles)
 }
 
-// Joins the threads of all workers: their passes, and how often a version was below an earlier one. The passes come back in the order of their numbers, since the threads were started so.
+// Joins the threads of all workers: their passes, and how often a version was below an earlier one.
+// The passes come back in the order of their numbers, since the threads were started so.
 fn join_all<'a, R: Threads, A: Allocator, C: Course>(
     rt: &R,
     alloc: A,
@@ -67,8 +70,10 @@ fn join_all<'a, R: Threads, A: Allocator, C: Course>(
     requires few { vec_len handles ≤ 32 }
     ensures count { IfOk result (λ r. vec_len r.0 ≡ vec_len handles.entry) }
     ensures never { IfOk result (λ r. r.1 ≡ 0) }
-    ensures own { IfOk result (λ r. (k : ℕ) (d : Known) → k < vec_len r.0 → (get_or r.0.items k d).store ≡ C.store) }
-    ensures numbered { IfOk result (λ r. (k : ℕ) (d : Known) → k < vec_len r.0 → (get_or r.0.items k d).number ≡ k + 1) }
+    ensures own { IfOk result (λ r. (k : ℕ) (d : Known) → k < vec_len r.0
+        → (get_or r.0.items k d).store ≡ C.store) }
+    ensures numbered { IfOk result (λ r. (k : ℕ) (d : Known) → k < vec_len r.0
+        → (get_or r.0.items k d).number ≡ k + 1) }
 {
     let mut passes = Vec::new(alloc);
     let mut falls = 0;
@@ -90,7 +95,8 @@ fn join_all<'a, R: Threads, A: Allocator, C: Course>(
     Ok((passes, falls))
 }
 
-/// Runs a thread for each pass of the store, and returns when all have returned, also where one could not be started or a growth was refused.
+/// Runs a thread for each pass of the store, and returns when all have returned, also where one
+/// could not be started or a growth was refused.
 pub(crate) fn run_all<'a, R, A, G, C>(
     rt: &R,
     alloc: A,
@@ -106,11 +112,14 @@ where
     C: Course + Send + 'static,
     requires few { plan.writers ≤ 8 }
     requires count { vec_len passes ≤ 32 }
-    requires own { (k : ℕ) (d : Known) → k < vec_len passes → (get_or passes.items k d).store ≡ C.store }
+    requires own { (k : ℕ) (d : Known) → k < vec_len passes
+        → (get_or passes.items k d).store ≡ C.store }
     ensures count { IfOk result (λ r. vec_len r.0 ≡ vec_len passes.entry) }
     ensures never { IfOk result (λ r. r.1 ≡ 0) }
-    ensures own { IfOk result (λ r. (k : ℕ) (d : Known) → k < vec_len r.0 → (get_or r.0.items k d).store ≡ C.store) }
-    ensures numbered { IfOk result (λ r. (k : ℕ) (d : Known) → k < vec_len r.0 → (get_or r.0.items k d).number ≡ k + 1) }
+    ensures own { IfOk result (λ r. (k : ℕ) (d : Known) → k < vec_len r.0
+        → (get_or r.0.items k d).store ≡ C.store) }
+    ensures numbered { IfOk result (λ r. (k : ℕ) (d : Known) → k < vec_len r.0
+        → (get_or r.0.items k d).number ≡ k + 1) }
 {
     thread::scope(
         thread::scope_env(),
@@ -118,11 +127,14 @@ where
         move |scope| -> Result<(Vec<Pass<Global>, A>, u64), LoadFault>
             requires few { plan.writers ≤ 8 }
             requires count { vec_len passes ≤ 32 }
-            requires own { (k : ℕ) (d : Known) → k < vec_len passes → (get_or passes.items k d).store ≡ C.store }
+            requires own { (k : ℕ) (d : Known) → k < vec_len passes
+                → (get_or passes.items k d).store ≡ C.store }
             ensures count { IfOk result (λ r. vec_len r.0 ≡ vec_len passes.entry) }
             ensures never { IfOk result (λ r. r.1 ≡ 0) }
-            ensures own { IfOk result (λ r. (k : ℕ) (d : Known) → k < vec_len r.0 → (get_or r.0.items k d).store ≡ C.store) }
-            ensures numbered { IfOk result (λ r. (k : ℕ) (d : Known) → k < vec_len r.0 → (get_or r.0.items k d).number ≡ k + 1) }
+            ensures own { IfOk result (λ r. (k : ℕ) (d : Known) → k < vec_len r.0
+                → (get_or r.0.items k d).store ≡ C.store) }
+            ensures numbered { IfOk result (λ r. (k : ℕ) (d : Known) → k < vec_len r.0
+                → (get_or r.0.items k d).number ≡ k + 1) }
         {
             let handles: Vec<JoinHandle<Worker<C>>, A> = start_all(
                 scope, rt, alloc, gate, passes, plan,

@@ -1,4 +1,5 @@
-//! What no clause says: that the workers run at once, that the map is the one that their calls leave, and what a refused growth leaves.
+//! What no clause says: that the workers run at once, that the map is the one that their calls
+//! leave, and what a refused growth leaves.
 mod memory;
 mod overlap;
 

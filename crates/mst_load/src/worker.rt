@@ -49,7 +49,8 @@ fn fetch(pass: &mut Pass<'_, Global>)
     let _ = pass.get(&key(1, 1));
 }
 
-// Makes a call of a reader: `version` and `get` in turns. It answers the newest version that was read.
+// Makes a call of a reader: `version` and `get` in turns. It answers the newest version that was
+// read.
 fn ask(pass: &mut Pass<'_, Global>, call: u32, newest: u64) -> u64
     requires newest { newest ≤ length pass.old.seen }
     ensures read { HasRead pass.old pass.new }
@@ -85,7 +86,8 @@ fn read<G: Gate>(gate: &G, pass: &mut Pass<'_, Global>, calls: u32) -> u64
     falls
 }
 
-// Makes all calls of the worker that has this pass. It answers how often a version was below an earlier one.
+// Makes all calls of the worker that has this pass. It answers how often a version was below an
+// earlier one.
 fn make_calls<R: Wait, G: Gate>(rt: &R, gate: &G, pass: &mut Pass<'_, Global>, plan: Plan) -> u64
     requires few { plan.writers ≤ 8 }
     ensures worked { HasWorked plan pass.old pass.new result }

@@ -1,4 +1,5 @@
--- What is spelled so is read: each reading gives back what a text was spelled from, whatever follows it.
+-- What is spelled so is read: each reading gives back what a text was spelled from, whatever
+-- follows it.
 use Rattle.std.proofs.Common.{◌≡◌, ℕ, ◌≤◌, true, false, ◌==◌, List, [], ◌∷◌, ◌++◌, length, take, drop, Option, Some, None, refl, sym, ◌∙◌, ap, arith, append_assoc, length-append}
 use Rattle.std.specs.Prelude.{nat_lt, IfSome}
 use Rattle.std.specs.Int.{w16, to_be_bytes, from_be_bytes}

@@ -212,7 +212,8 @@ module _ (q : Tree → Bool) where
           omega (arith, same, no_copy u ts (omega (arith, l)))
       go false e l rest = omega (arith, rest (omega (arith, l)))
 
-  -- of trees of which none stands twice, those that stand in another list weigh no more than they do there
+  -- of trees of which none stands twice, those that stand in another list weigh no more than they
+  -- do there
   weigh_common : (xs ys : List Tree) → ((u : Tree) → copies u xs ≤ 1) → weigh (λ t. list_any (same_tree t) ys && q t) xs ≤ weigh q ys
   weigh_common xs [] few = omega (arith, weigh_none xs)
   weigh_common xs (y ∷ ys) few =
@@ -255,7 +256,8 @@ module _ (format : Format) (h : History) where
   lasts_stands u zero t is = is
   lasts_stands u (suc w) t is = (and_true (stands (suc w) t) (nat_lt w u || lasts format h u w t) is).0
 
-  -- what has stayed up to a version stood in the version before, which is kept, or it had stayed up to that one
+  -- what has stayed up to a version stood in the version before, which is kept, or it had stayed up
+  -- to that one
   module _ (live : List ℕ) (w : ℕ) (t : Tree) where
     stayed_from : stayed live (suc w) t ≡ true → (stands w t ≡ true) × ((is_kept live w || stayed live w t) ≡ true) × (stands (suc w) t ≡ true)
     stayed_from is =

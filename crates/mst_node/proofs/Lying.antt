@@ -1,4 +1,5 @@
--- How the layers and the keys of a tree lie: what holds of each Merkle search tree, and of each tree whose pairs ascend.
+-- How the layers and the keys of a tree lie: what holds of each Merkle search tree, and of each
+-- tree whose pairs ascend.
 use Rattle.std.proofs.Common.{◌≡◌, ℕ, List, [], ◌∷◌, ◌++◌, Option, Some, None}
 use Rattle.std.specs.List.{AllByRecursion}
 use Rattle.std.specs.declared.cmp.Ordering.TheVariants.{Less}

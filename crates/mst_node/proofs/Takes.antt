@@ -1,4 +1,5 @@
--- What is read is spelled so: each reading takes the text of what it gives off the front, and no other bytes.
+-- What is read is spelled so: each reading takes the text of what it gives off the front, and no
+-- other bytes.
 use Rattle.std.proofs.Common.{◌≡◌, ℕ, zero, suc, ◌<◌, ◌≤◌, Bool, true, false, cond, ◌==◌, List, [], ◌∷◌, ◌++◌, length, take, drop, get_or, Option, Some, None, refl, sym, ◌∙◌, ap, subst, arith, append_assoc}
 use Rattle.std.specs.Prelude.{nat_lt, IfSome}
 use Rattle.std.specs.Int.{w16, to_be_bytes, from_be_bytes}

@@ -1,4 +1,5 @@
--- Worked examples of what kept versions hold, computed here through SHA-256. The keys are `1` and `a`, of layer 0, and `39`, of layer 1.
+-- Worked examples of what kept versions hold, computed here through SHA-256. The keys are `1` and
+-- `a`, of layer 0, and `39`, of layer 1.
 use Rattle.std.proofs.Common.{◌≡◌, ℕ, List, [], ◌∷◌, refl}
 use Rattle.sha2.specs.Sha256.{sha256, first_words, schedule, rounds, compress, hash_after, digest_bytes}
 use Rattle.mst_key.specs.declared.format.Format.TheVariants.{One}

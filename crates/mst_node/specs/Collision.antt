@@ -9,4 +9,5 @@ pub record Collision (one other : List ℕ) : Type 0 where
 
 -- two of the texts are a collision
 abbrev pub HasCollision : List (List ℕ) → Type 0
-HasCollision texts = (one : List ℕ) × (other : List ℕ) × Contains texts one × Contains texts other × Collision one other
+HasCollision texts = (one : List ℕ) × (other : List ℕ) × Contains texts one × Contains texts other
+    × Collision one other

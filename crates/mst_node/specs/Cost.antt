@@ -53,9 +53,11 @@ abbrev pub top_entries : Tree → ℕ
 top_entries empty = 0
 top_entries (node format l es) = entry_count es
 
--- The rows of the new tree's nodes that head no subtree of the old: one for each entry, and one for the node.
+-- The rows of the new tree's nodes that head no subtree of the old: one for each entry, and one for
+-- the node.
 abbrev pub new_rows : Tree → Tree → ℕ
-new_rows old new = sum_by (λ t. top_entries t + 1) (filter (λ t. not (is_subtree t old)) (subtrees new))
+new_rows old new =
+    sum_by (λ t. top_entries t + 1) (filter (λ t. not (is_subtree t old)) (subtrees new))
 
 -- what a change from one map to another costs
 abbrev pub cost : Format → List Pair → List Pair → ℕ

@@ -2,7 +2,8 @@
 use Rattle.std.specs.Prelude.{◌≡◌, ℕ, ◌<◌, ◌^◌, List, ◌∷◌, ◌++◌, length}
 use Rattle.std.specs.Int.{w32, to_be_bytes}
 
--- the bytes begin with a version of any number, a number of texts that is not 0, and this text behind its length in four bytes, the high one first
+-- the bytes begin with a version of any number, a number of texts that is not 0, and this text
+-- behind its length in four bytes, the high one first
 pub record FramesFirst (bytes text : List ℕ) : Type 0 where
   pub version : ℕ
   pub count : ℕ

@@ -9,7 +9,8 @@ use Rattle.mst_node.specs.declared.place.Place.{Place}
 use Rattle.mst_node.specs.declared.place.Place.TheVariants.{Held, Gap}
 use Rattle.mst_node.specs.declared.place.Span.{Span}
 
--- the place of a key among entries with rising keys, between two bounds: at the entry that has the key, or in the gap between the nearest keys on each side, with the child there
+-- the place of a key among entries with rising keys, between two bounds: at the entry that has the
+-- key, or in the gap between the nearest keys on each side, with the child there
 abbrev pub place_among : List ℕ → Option (List ℕ) → Option (List ℕ) → List FlatEntry → Option (List ℕ) → Place
 place_among k low high [] tail = Gap tail (record { low = low; high = high })
 place_among k low high (e ∷ es) tail =

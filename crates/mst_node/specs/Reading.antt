@@ -1,4 +1,5 @@
--- How a flat node is read off its text, from left to right. A reading gives what was read and the bytes behind it, or none.
+-- How a flat node is read off its text, from left to right. A reading gives what was read and the
+-- bytes behind it, or none.
 use Rattle.std.specs.Prelude.{◌≡◌, ℕ, zero, suc, ◌==◌, nat_lt, if◌then◌else◌, List, [], ◌∷◌, length, take, drop, Option, Some, None, unwrap_or}
 use Rattle.std.specs.Int.{w16, w32, from_be_bytes}
 use Rattle.mst_key.specs.declared.format.Format.{Format}
@@ -30,7 +31,8 @@ child_at (b ∷ bytes) =
 -- bytes behind their number, which lies between two limits
 unfoldable pub counted_at : ℕ → ℕ → List ℕ → Option (List ℕ × List ℕ)
 counted_at low high [] = None
-counted_at low high (n ∷ bytes) = if nat_lt n low then None else if nat_lt high n then None else part_at n bytes
+counted_at low high (n ∷ bytes) =
+    if nat_lt n low then None else if nat_lt high n then None else part_at n bytes
 
 -- what stands for a value
 abbrev pub held_at : Format → List ℕ → Option (List ℕ × List ℕ)
@@ -71,9 +73,11 @@ body_at format n bytes =
 
 -- the flat node of this layer with this body
 abbrev pub node_of : Format → ℕ → List FlatEntry × Option (List ℕ) → FlatNode
-node_of format layer body = record { format = format; layer = layer; entries = body.0; tail = body.1 }
+node_of format layer body =
+    record { format = format; layer = layer; entries = body.0; tail = body.1 }
 
--- the flat node of a whole text: its version, its layer, the number of its entries, which is not 0, and its body
+-- the flat node of a whole text: its version, its layer, the number of its entries, which is not 0,
+-- and its body
 unfoldable pub node_at : Format → List ℕ → Option FlatNode
 node_at format [] = None
 node_at format (v ∷ []) = None
@@ -87,7 +91,8 @@ node_at format (v ∷ l ∷ h ∷ k ∷ bytes) =
 abbrev pub body_or_empty : Format → ℕ → List ℕ → List FlatEntry × Option (List ℕ)
 body_or_empty format n bytes = unwrap_or (body_at format n bytes) ([], None)
 
--- the first text of a proof: behind the version, the number of texts, which is not 0, and the length of the text in four bytes
+-- the first text of a proof: behind the version, the number of texts, which is not 0, and the
+-- length of the text in four bytes
 unfoldable pub first_text_at : List ℕ → Option (List ℕ × List ℕ)
 first_text_at [] = None
 first_text_at (v ∷ []) = None
@@ -95,4 +100,5 @@ first_text_at (v ∷ n ∷ []) = None
 first_text_at (v ∷ n ∷ a ∷ []) = None
 first_text_at (v ∷ n ∷ a ∷ b ∷ []) = None
 first_text_at (v ∷ n ∷ a ∷ b ∷ c ∷ []) = None
-first_text_at (v ∷ n ∷ a ∷ b ∷ c ∷ d ∷ bytes) = if n == 0 then None else part_at (from_be_bytes w32 (a ∷ b ∷ c ∷ d ∷ [])) bytes
+first_text_at (v ∷ n ∷ a ∷ b ∷ c ∷ d ∷ bytes) =
+    if n == 0 then None else part_at (from_be_bytes w32 (a ∷ b ∷ c ∷ d ∷ [])) bytes

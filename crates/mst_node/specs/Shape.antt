@@ -28,7 +28,8 @@ abbrev pub entry_step : (A : Type 0) → Entry-F A TreeEntry Tree → TreeEntry
 entry_step A e = record { child = boxed_tree A e.child; key = e.key; value = e.value }
 
 abbrev pub node_step : (A : Type 0) → Format → Node-F A TreeEntry Tree → Tree
-node_step A format n = node format n.layer (with_entries n.entries.items (last (boxed_tree A n.tail)))
+node_step A format n =
+    node format n.layer (with_entries n.entries.items (last (boxed_tree A n.tail)))
 
 -- the tree that a node is, in a format
 abbrev pub tree_of : {A : Type 0} → Format → Node A → Tree

@@ -1,4 +1,5 @@
--- What the kept versions of a history hold in rows. A subtree stays over a run of versions, each of which has it; the stay counts once, at the first kept version in it.
+-- What the kept versions of a history hold in rows. A subtree stays over a run of versions, each of
+-- which has it; the stay counts once, at the first kept version in it.
 use Rattle.std.specs.Prelude.{ℕ, zero, suc, Bool, not, ◌&&◌, ◌||◌, ◌==◌, nat_lt, if◌then◌else◌, ◌+◌, List, length, take, filter, sum_by}
 use Rattle.std.specs.List.{list_any}
 use Rattle.mst_key.specs.History.{History, after}
@@ -13,7 +14,8 @@ tree_at format h v = tree format (after (take v h))
 -- the tree t stands in the tree of version w and of each version before it down to v
 abbrev pub lasts : Format → History → ℕ → ℕ → Tree → Bool
 lasts format h v zero t = is_subtree t (tree_at format h zero)
-lasts format h v (suc w) t = is_subtree t (tree_at format h (suc w)) && (nat_lt w v || lasts format h v w t)
+lasts format h v (suc w) t =
+    is_subtree t (tree_at format h (suc w)) && (nat_lt w v || lasts format h v w t)
 
 -- whether the version is one of those that are kept
 abbrev pub is_kept : List ℕ → ℕ → Bool
@@ -23,7 +25,8 @@ is_kept live v = list_any (λ u. u == v) live
 abbrev pub has_stayed : Format → History → List ℕ → ℕ → Tree → Bool
 has_stayed format h live w t = list_any (λ u. nat_lt u w && lasts format h u w t) live
 
--- the rows of the subtrees of version w that have not: one for each entry of the top node, and one for the node
+-- the rows of the subtrees of version w that have not: one for each entry of the top node, and one
+-- for the node
 abbrev pub rows_first_at : Format → History → List ℕ → ℕ → ℕ
 rows_first_at format h live w =
     sum_by (λ t. top_entries t + 1) (filter (λ t. not (has_stayed format h live w t)) (subtrees (tree_at format h w)))
@@ -31,7 +34,8 @@ rows_first_at format h live w =
 -- what the kept versions below n hold
 abbrev pub held_below : Format → History → List ℕ → ℕ → ℕ
 held_below format h live zero = 0
-held_below format h live (suc w) = (if is_kept live w then rows_first_at format h live w else 0) + held_below format h live w
+held_below format h live (suc w) =
+    (if is_kept live w then rows_first_at format h live w else 0) + held_below format h live w
 
 -- what the kept versions of the history hold
 abbrev pub held : Format → History → List ℕ → ℕ

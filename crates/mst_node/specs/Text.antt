@@ -8,7 +8,8 @@ use Rattle.mst_key.specs.declared.format.Format.TheVariants.{One, Two}
 use Rattle.mst_key.specs.Map.{Pair}
 use Rattle.mst_node.specs.Tree.{Tree, empty, node, Entries, last, entry, tree}
 
--- An entry of a flat node: the digest of the child before it, its key, and what stands for its value.
+-- An entry of a flat node: the digest of the child before it, its key, and what stands for its
+-- value.
 pub record FlatEntry : Type 0 where
   pub child : Option (List ℕ)
   pub key : List ℕ
@@ -48,9 +49,11 @@ held_text Two held = held
 abbrev pub entry_text : Format → FlatEntry → List ℕ
 entry_text format e = child_text e.child ++ counted e.key ++ held_text format e.held
 
--- the version, the layer, the number of entries in two bytes, the high one first, the entries, and the last child
+-- the version, the layer, the number of entries in two bytes, the high one first, the entries, and
+-- the last child
 abbrev pub spelling : FlatNode → List ℕ
-spelling n = version n.format ∷ n.layer ∷ to_be_bytes w16 (length n.entries) ++ flat_map (entry_text n.format) n.entries ++ child_text n.tail
+spelling n = version n.format ∷ n.layer ∷ to_be_bytes w16 (length n.entries) ++ flat_map
+    (entry_text n.format) n.entries ++ child_text n.tail
 
 -- the digest of a text
 abbrev pub digest_of : List ℕ → List ℕ
@@ -58,7 +61,8 @@ digest_of text = sha256 text
 
 -- ---- the text of a node of a tree, and its digest
 
--- the digest of a child's text, or none for an empty gap; the flat entries of a node; the digest of its last child
+-- the digest of a child's text, or none for an empty gap; the flat entries of a node; the digest of
+-- its last child
 abbrev mutual
   pub child_digest : Tree → Option (List ℕ)
   child_digest empty = None
@@ -76,7 +80,8 @@ abbrev mutual
 
 -- the flat node at the top of a tree that is not empty
 abbrev pub flat : Format → ℕ → Entries → FlatNode
-flat format l es = record { format = format; layer = l; entries = flat_entries format es; tail = tail_digest es }
+flat format l es =
+    record { format = format; layer = l; entries = flat_entries format es; tail = tail_digest es }
 
 -- the text of a tree's top node; that of the empty tree is empty
 abbrev pub text : Tree → List ℕ

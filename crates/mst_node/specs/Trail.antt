@@ -10,13 +10,15 @@ use Rattle.mst_key.specs.Map.{Pair, key_cmp, map_get}
 use Rattle.mst_node.specs.Tree.{Tree, empty, node, Entries, last, entry, tree}
 use Rattle.mst_node.specs.Text.{text, version, counted}
 
--- what a key's order to an entry's key chooses: what stands before the entry, the entry, or what stands after it
+-- what a key's order to an entry's key chooses: what stands before the entry, the entry, or what
+-- stands after it
 abbrev pub by_order : {A : Type 0} → Ordering → A → A → A → A
 by_order Less before here after = before
 by_order Equal before here after = here
 by_order Greater before here after = after
 
--- the nodes of a tree that a search for the key meets, from the top down: to the one that holds the key, or whose gap for the key has no child
+-- the nodes of a tree that a search for the key meets, from the top down: to the one that holds the
+-- key, or whose gap for the key has no child
 abbrev mutual
   pub nodes_met : List ℕ → Tree → List Tree
   nodes_met k empty = []
@@ -34,7 +36,8 @@ trail format m k = nodes_met k (tree format m)
 abbrev pub framed : List (List ℕ) → List ℕ
 framed texts = flat_map (λ t. to_be_bytes w32 (length t) ++ t) texts
 
--- what follows the texts: nothing in format 1; in format 2 a byte 0 for absence, or a byte 1 and the value behind its length
+-- what follows the texts: nothing in format 1; in format 2 a byte 0 for absence, or a byte 1 and
+-- the value behind its length
 abbrev pub answer_text : Format → Option (List ℕ) → List ℕ
 answer_text One answer = []
 answer_text Two None = 0 ∷ []
@@ -42,7 +45,8 @@ answer_text Two (Some value) = 1 ∷ counted value
 
 -- the bytes that frame these texts for this answer: the version, the number of texts, and the texts
 abbrev pub framing : Format → List (List ℕ) → Option (List ℕ) → List ℕ
-framing format texts answer = version format ∷ length texts ∷ framed texts ++ answer_text format answer
+framing format texts answer =
+    version format ∷ length texts ∷ framed texts ++ answer_text format answer
 
 -- the proof of a map's answer for a key: the texts of the trail
 abbrev pub proof_text : Format → List Pair → List ℕ → List ℕ

@@ -4,7 +4,8 @@ use Rattle.mst_key.specs.declared.format.Format.{Format}
 use Rattle.mst_key.specs.Layer.{layer_in}
 use Rattle.mst_key.specs.Map.{Pair}
 
--- A tree is empty, or a node of a layer with its entries from left to right. Each entry stands behind the tree of the gap before it, and the tree of the last gap ends them.
+-- A tree is empty, or a node of a layer with its entries from left to right. Each entry stands
+-- behind the tree of the gap before it, and the tree of the last gap ends them.
 mutual
   pub data Tree : Type 0 where
     empty : Tree
@@ -25,14 +26,16 @@ abbrev pub greatest : List ℕ → ℕ
 greatest [] = 0
 greatest (l ∷ ls) = max l (greatest ls)
 
--- The entries are the pairs of layer l, and each gap between them is given to `below`. The gap so far comes first.
+-- The entries are the pairs of layer l, and each gap between them is given to `below`. The gap so
+-- far comes first.
 unfoldable pub entries_of : (List ℕ → ℕ) → (List Pair → Tree) → ℕ → List Pair → List Pair → Entries
 entries_of layer below l gap [] = last (below gap)
 entries_of layer below l gap (p ∷ m) =
     if layer p.0 == l then entry (below gap) p.0 p.1 (entries_of layer below l [] m)
     else entries_of layer below l (gap ++ p ∷ []) m
 
--- the tree of at most n pairs: its layer is the greatest of the keys, and in the gaps stand the trees of their pairs
+-- the tree of at most n pairs: its layer is the greatest of the keys, and in the gaps stand the
+-- trees of their pairs
 unfoldable pub tree_within : (List ℕ → ℕ) → Format → ℕ → List Pair → Tree
 tree_within layer format n [] = empty
 tree_within layer format zero (p ∷ m) = empty
@@ -78,7 +81,8 @@ abbrev pub IsUnder : ℕ → Tree → Type 0
 IsUnder l empty = Unit {0}
 IsUnder l (node format k es) = k < l
 
--- No node is empty, each key has the layer of its node, and layers fall from a node to its children.
+-- No node is empty, each key has the layer of its node, and layers fall from a node to its
+-- children.
 abbrev mutual
   pub IsMst : Format → Tree → Type 0
   IsMst format empty = Unit {0}

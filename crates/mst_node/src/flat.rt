@@ -18,7 +18,8 @@ use mst_key::{Key, Value};
 use std::cmp::Ordering;
 use std::marker::Model;
 
-/// A flat node: a node with the digests of its children in their place. It is borrowed from the bytes of its text.
+/// A flat node: a node with the digests of its children in their place. It is borrowed from the
+/// bytes of its text.
 #[derive(Debug, Drop)]
 pub struct Flat<'a> {
     layer: u8,
@@ -75,9 +76,11 @@ pub(crate) fn flat_of(text: &[u8]) -> Option<Flat<'_>>
     }
 }
 
-/// Whether the key of an entry has the layer of its node, and comes after the key of the entry before.
+/// Whether the key of an entry has the layer of its node, and comes after the key of the entry
+/// before.
 fn fits(layer: u8, last: &Option<Key>, key: &Key) -> bool
-    ensures fits { IsTrue result ↔ ((layer_of key.now ≡ layer) × IfSome last.now (λ low. key_cmp low key.now ≡ Less)) }
+    ensures fits { IsTrue result
+        ↔ ((layer_of key.now ≡ layer) × IfSome last.now (λ low. key_cmp low key.now ≡ Less)) }
 {
     if key.layer() != layer {
         return false;
@@ -176,7 +179,8 @@ impl<'a> Flat<'a> {
         }
     }
 
-    /// The digest of child i, if it is there: child i stands before entry i, and the last one behind all entries. It is found by going over the entries before it.
+    /// The digest of child i, if it is there: child i stands before entry i, and the last one
+    /// behind all entries. It is found by going over the entries before it.
     pub fn child(&self, i: usize) -> Option<[u8; 32]>
         requires inside { i ≤ length self.now.entries }
         ensures child { result ≡ child_before self.now.entries self.now.tail i }
@@ -189,7 +193,8 @@ impl<'a> Flat<'a> {
         child.copied()
     }
 
-    /// Whether all keys of the node lie in the span. The entries are gone over once, and no key is hashed.
+    /// Whether all keys of the node lie in the span. The entries are gone over once, and no key is
+    /// hashed.
     pub fn lies_within(&self, span: &Span) -> bool
         ensures within { IsTrue result ↔ LiesWithin span.now self.now }
     {
@@ -209,7 +214,8 @@ impl<'a> Flat<'a> {
         true
     }
 
-    /// Where the key lies in the node, whose span is given. The entries are gone over once, up to the place, and no key is hashed.
+    /// Where the key lies in the node, whose span is given. The entries are gone over once, up to
+    /// the place, and no key is hashed.
     pub fn locate(&self, key: &Key, span: Span) -> Place
         ensures place { result ≡ place_of key.now span self.now }
     {

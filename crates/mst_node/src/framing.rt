@@ -20,7 +20,10 @@ fn first_text(proof: &[u8]) -> Option<(&[u8], &[u8])>
     }
 }
 
-/// The first text that a proof frames: behind a byte for the version, whatever it is, and a byte for the number of texts, each text stands behind its length in four bytes, the high one first. `None` comes exactly where the number of texts is 0, or anything up to the end of the first text is cut short.
+/// The first text that a proof frames: behind a byte for the version, whatever it is, and a byte
+/// for the number of texts, each text stands behind its length in four bytes, the high one first.
+/// `None` comes exactly where the number of texts is 0, or anything up to the end of the first text
+/// is cut short.
 pub fn top_text(proof: &[u8]) -> Option<&[u8]>
     ensures text { IfSome result (λ text. FramesFirst proof.now text.now) }
     ensures none { IfNone result ((text : List ℕ) → FramesFirst proof.now text → ⊥) }

@@ -13,7 +13,8 @@ pub fn digest(text: &[u8]) -> [u8; 32]
     Sha256::digest(text)
 }
 
-/// The root digest of the empty map: the SHA-256 (FIPS 180-4) of the empty string. It is a constant, so that an absent child costs no hashing.
+/// The root digest of the empty map: the SHA-256 (FIPS 180-4) of the empty string. It is a
+/// constant, so that an absent child costs no hashing.
 pub fn empty_digest() -> [u8; 32]
     ensures digest { result ≡ sha256 [] }
 {
@@ -24,9 +25,11 @@ pub fn empty_digest() -> [u8; 32]
     ]
 }
 
-/// Feeds a hasher a byte 1 and the digest of a child, or a byte 0 where there is none, as a child stands in a node's text.
+/// Feeds a hasher a byte 1 and the digest of a child, or a byte 0 where there is none, as a child
+/// stands in a node's text.
 pub fn feed_child(hasher: &mut Sha256, child: Option<[u8; 32]>)
-    ensures fed { (m : List ℕ) → Holds256 hasher.old m → Holds256 hasher.new (m ++ child_text child) }
+    ensures fed { (m : List ℕ) → Holds256 hasher.old m
+        → Holds256 hasher.new (m ++ child_text child) }
 {
     match child {
         None => {
@@ -39,10 +42,12 @@ pub fn feed_child(hasher: &mut Sha256, child: Option<[u8; 32]>)
     }
 }
 
-/// Feeds a hasher bytes behind their number, at most 255, as a key and a value stand in a node's text.
+/// Feeds a hasher bytes behind their number, at most 255, as a key and a value stand in a node's
+/// text.
 pub fn feed_counted(hasher: &mut Sha256, bytes: &[u8])
     requires few { length bytes.now ≤ 255 }
-    ensures fed { (m : List ℕ) → Holds256 hasher.old m → Holds256 hasher.new (m ++ counted bytes.now) }
+    ensures fed { (m : List ℕ) → Holds256 hasher.old m
+        → Holds256 hasher.new (m ++ counted bytes.now) }
 {
     hasher.update([bytes.len() as u8].as_slice());
     hasher.update(bytes);

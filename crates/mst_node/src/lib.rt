@@ -1,6 +1,10 @@
 //! The Merkle search tree of a map (Auvolat and Taïani 2019): its nodes, their texts and digests.
 //!
-//! A node holds the pairs of one layer in the order of their keys; in each gap before, between and after them stands the tree of the pairs there, or none. The layer of a node is the greatest of its keys and of those below it, so the tree depends on the map alone. A text spells a node with the digests of its children in their place, a digest is the SHA-256 of a text, and the root digest of a map is that of its top node's text.
+//! A node holds the pairs of one layer in the order of their keys; in each gap before, between and
+//! after them stands the tree of the pairs there, or none. The layer of a node is the greatest of
+//! its keys and of those below it, so the tree depends on the map alone. A text spells a node with
+//! the digests of its children in their place, a digest is the SHA-256 of a text, and the root
+//! digest of a map is that of its top node's text.
 //!
 //! ```
 //! let apple = (Key::new(b"apple")?, Value::new(b"30")?);
@@ -14,9 +18,13 @@
 //! }
 //! ```
 //!
-//! `build` makes the tree, `text` a node's text, and `read_text` reads one. `root_of` gives the root digest with no tree and no memory. The definitions that the contracts cite stand in `specs/`: `Tree`, `Gaps`, `Text`, `Grammar`, `Frame`; `Cost` says what a change of the map makes anew, and `Stays` what kept versions of a history hold.
+//! `build` makes the tree, `text` a node's text, and `read_text` reads one. `root_of` gives the
+//! root digest with no tree and no memory. The definitions that the contracts cite stand in
+//! `specs/`: `Tree`, `Gaps`, `Text`, `Grammar`, `Frame`; `Cost` says what a change of the map makes
+//! anew, and `Stays` what kept versions of a history hold.
 //!
-//! Nothing here changes a tree: `mst_path` does, in rows. The pairs of a map come in rising order of their keys, which `is_map` tests and the calls do not.
+//! Nothing here changes a tree: `mst_path` does, in rows. The pairs of a map come in rising order
+//! of their keys, which `is_map` tests and the calls do not.
 #![tactic(auto)]
 
 mod flat;

@@ -30,7 +30,8 @@ fn greatest_of(layers: &[u8]) -> u8
 
 /// The entry of a pair, behind the tree of the gap before it.
 fn entry_of<A: Allocator>(child: Option<Box<Node<A>, A>>, pair: &(Key, Value)) -> Entry<A>
-    ensures entry { tree_entry One result ≡ record { child = tree_of_child One child; key = pair.now.0; value = pair.now.1 } }
+    ensures entry { tree_entry One result
+        ≡ record { child = tree_of_child One child; key = pair.now.0; value = pair.now.1 } }
 {
     let (key, value) = pair;
     Entry {
@@ -47,7 +48,9 @@ fn node_of<A: Allocator>(
     entries: Vec<Entry<A>, A>,
     tail: Option<Box<Node<A>, A>>,
 ) -> Result<Box<Node<A>, A>, Memory>
-    ensures tree { IfOk result (λ n. tree_of One n.value ≡ node One layer (with_entries (map (tree_entry One) entries.items) (last (tree_of_child One tail)))) }
+    ensures tree { IfOk result
+        (λ n. tree_of One n.value ≡ node One layer
+        (with_entries (map (tree_entry One) entries.items) (last (tree_of_child One tail)))) }
 {
     let node = Node {
         layer,
@@ -83,9 +86,11 @@ fn subtree<A: Allocator + Copy>(
     Ok(Some(node_of(alloc, top, entries, tail)?))
 }
 
-/// The tree of the pairs of a map: none for the empty map, else the top node. `Memory` comes only where a growth was refused, and then nothing is kept.
+/// The tree of the pairs of a map: none for the empty map, else the top node. `Memory` comes only
+/// where a growth was refused, and then nothing is kept.
 ///
-/// Each key is hashed once, and a pair is looked at once for each node in whose span it lies. Calls nest no deeper than the layers, 65 at the most.
+/// Each key is hashed once, and a pair is looked at once for each node in whose span it lies. Calls
+/// nest no deeper than the layers, 65 at the most.
 pub fn build<A: Allocator + Copy>(
     alloc: A,
     pairs: &[(Key, Value)],

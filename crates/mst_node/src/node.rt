@@ -2,7 +2,8 @@
 use mst_key::{Key, Value};
 use std::alloc::{Allocator, Global};
 
-/// A node of a Merkle search tree: the pairs of one layer in the order of their keys, with the trees of the gaps before, between and after them.
+/// A node of a Merkle search tree: the pairs of one layer in the order of their keys, with the
+/// trees of the gaps before, between and after them.
 #[cycle(node)]
 #[derive(Debug, Drop)]
 pub struct Node<A: Allocator = Global> {

@@ -5,7 +5,8 @@ ghost use Rattle.mst_node.specs.Gaps.{IsBetween};
 use crate::order::precedes;
 use mst_key::{Key, Value};
 
-/// The keys strictly between two keys, each of which need not be there: those of a node, or of a gap between its entries.
+/// The keys strictly between two keys, each of which need not be there: those of a node, or of a
+/// gap between its entries.
 #[derive(Debug, Drop)]
 pub struct Span {
     pub low: Option<Key>,
@@ -44,6 +45,7 @@ impl Span {
 pub enum Place {
     /// The node holds the key, with this value.
     Held(Value),
-    /// The node does not hold the key. The digest is that of the child in the key's gap, if there is one, and the span is that of the gap.
+    /// The node does not hold the key. The digest is that of the child in the key's gap, if there
+    /// is one, and the span is that of the gap.
     Gap { child: Option<[u8; 32]>, span: Span },
 }

@@ -1,4 +1,5 @@
-//! Reading the parts of a node text, from left to right. Each call answers what it read and the bytes behind it, or `None`.
+//! Reading the parts of a node text, from left to right. Each call answers what it read and the
+//! bytes behind it, or `None`.
 ghost use Rattle.std.specs.Prelude.{◌≡◌, ◌≤◌, length, IfSome, option_copied};
 ghost use Rattle.mst_key.specs.declared.format.Format.TheVariants.{One};
 ghost use Rattle.mst_key.specs.Bytes.{IsKey, IsValue};

@@ -29,7 +29,8 @@ impl Top {
     /// Of the same pairs and one more, whose key has this layer.
     fn with(self, layer: u8) -> Top
         requires few { self.count < 65535 }
-        ensures top { (m : List Pair) (p : Pair) → IsTop m self → layer_of p.0 ≡ layer → IsTop (m ++ p ∷ []) result }
+        ensures top { (m : List Pair) (p : Pair) → IsTop m self → layer_of p.0 ≡ layer
+            → IsTop (m ++ p ∷ []) result }
     {
         if layer > self.layer {
             Top { layer, count: 1 }
@@ -70,7 +71,8 @@ fn gap_digest(pairs: &[(Key, Value)], top: Top) -> Option<[u8; 32]>
     }
 }
 
-/// The digest of the tree of some pairs, whose top is known. One pass feeds the top node's text and finds the tops of the gaps.
+/// The digest of the tree of some pairs, whose top is known. One pass feeds the top node's text and
+/// finds the tops of the gaps.
 #[cycle(root)]
 fn digest_of(pairs: &[(Key, Value)], top: Top) -> [u8; 32]
     requires some { 0 < length pairs.now }
@@ -100,9 +102,12 @@ fn digest_of(pairs: &[(Key, Value)], top: Top) -> [u8; 32]
     hasher.finalize()
 }
 
-/// The root digest of the map of these pairs: the digest of its tree, or of the empty string for the empty map. The keys rise strictly, and there are at most 65,535 pairs.
+/// The root digest of the map of these pairs: the digest of its tree, or of the empty string for
+/// the empty map. The keys rise strictly, and there are at most 65,535 pairs.
 ///
-/// The texts are fed to the hash piece by piece, and no tree is built: the call takes no memory. A key is hashed once to find the top node, and once for each node in whose span it lies; nothing is fed twice. Calls nest no deeper than the layers, 65 at the most.
+/// The texts are fed to the hash piece by piece, and no tree is built: the call takes no memory. A
+/// key is hashed once to find the top node, and once for each node in whose span it lies; nothing
+/// is fed twice. Calls nest no deeper than the layers, 65 at the most.
 pub fn root_of(pairs: &[(Key, Value)]) -> [u8; 32]
     requires few { length pairs.now ≤ 65535 }
     ensures root { result ≡ root_digest One pairs.now }

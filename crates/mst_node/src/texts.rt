@@ -44,7 +44,8 @@ fn node_digest<A: Allocator>(node: &Node<A>) -> [u8; 32]
     hasher.finalize()
 }
 
-/// Appends a byte 1 and the digest of a child, or a byte 0 where there is none, as a child stands in a node's text. `Memory` comes only where a growth was refused.
+/// Appends a byte 1 and the digest of a child, or a byte 0 where there is none, as a child stands
+/// in a node's text. `Memory` comes only where a growth was refused.
 pub fn push_child<A: Allocator>(out: &mut Vec<u8, A>, child: Option<[u8; 32]>) -> Result<(), Memory>
     ensures ok { OnOk result (out.new.items ≡ out.old.items ++ child_text child) }
 {
@@ -61,7 +62,8 @@ pub fn push_child<A: Allocator>(out: &mut Vec<u8, A>, child: Option<[u8; 32]>) -
     }
 }
 
-/// Appends bytes behind their number, at most 255, as a key and a value stand in a node's text. `Memory` comes only where a growth was refused.
+/// Appends bytes behind their number, at most 255, as a key and a value stand in a node's text.
+/// `Memory` comes only where a growth was refused.
 pub fn push_counted<A: Allocator>(out: &mut Vec<u8, A>, bytes: &[u8]) -> Result<(), Memory>
     requires few { length bytes.now ≤ 255 }
     ensures ok { OnOk result (out.new.items ≡ out.old.items ++ counted bytes.now) }
@@ -71,9 +73,12 @@ pub fn push_counted<A: Allocator>(out: &mut Vec<u8, A>, bytes: &[u8]) -> Result<
     Ok(())
 }
 
-/// The text of a node in format 1: the version 1, the layer, the number of entries in two bytes, the high one first, then each child and each pair from left to right. A child is the byte 00 for none, or the byte 01 and its digest; a key and a value stand behind their length in one byte.
+/// The text of a node in format 1: the version 1, the layer, the number of entries in two bytes,
+/// the high one first, then each child and each pair from left to right. A child is the byte 00 for
+/// none, or the byte 01 and its digest; a key and a value stand behind their length in one byte.
 ///
-/// The node is one of a tree of at most 65,535 pairs. `Memory` comes only where a growth was refused. The work is linear in the pairs below the node.
+/// The node is one of a tree of at most 65,535 pairs. `Memory` comes only where a growth was
+/// refused. The work is linear in the pairs below the node.
 pub fn text<A: Allocator>(alloc: A, node: &Node<A>) -> Result<Vec<u8, A>, Memory>
     requires few { length (pairs (tree_of One node.now)) ≤ 65535 }
     ensures text { IfOk result (λ t. t.items ≡ spec.text (tree_of One node.now)) }

@@ -1,4 +1,5 @@
--- From the rows that a change of the tree took and killed to what its caller learns: by the rows that stood before it and those that stand after it.
+-- From the rows that a change of the tree took and killed to what its caller learns: by the rows
+-- that stood before it and those that stand after it.
 use Rattle.std.proofs.Common.{◌≡◌, ◌≢◌, ℕ, zero, suc, ◌+◌, ◌<◌, ◌≤◌, eqb, Bool, true, false, List, [], ◌∷◌, length, Option, Some, refl, sym, ◌∙◌, ap, subst, arith}
 use Rattle.std.specs.Prelude.{slice_get}
 use Rattle.std.specs.List.{AllByRecursion}

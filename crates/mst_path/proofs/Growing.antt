@@ -30,7 +30,8 @@ pub used_needed : (es : List PlacedEntry) → length (entries_used es) ≡ entri
 used_needed [] = refl
 used_needed (e ∷ es) = omega (arith, used_needed es, used_count e.child, length-append (used e.child) (entries_used es))
 
--- the rows of a node that is being written: its head's, those of its entries and of the trees before them, and that of the next entry
+-- the rows of a node that is being written: its head's, those of its entries and of the trees
+-- before them, and that of the next entry
 abbrev pub so_far : NodeWriter → List PlacedEntry → List ℕ
 so_far w es = w.head ∷ entries_used es ++ ahead w.next
 

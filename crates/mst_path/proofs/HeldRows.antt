@@ -1,4 +1,6 @@
--- The rows that kept versions reach together are as many as these versions hold: each stay of a node counts once, at the first kept version in its run. Nodes, their rows, the runs and what a version reaches are left open.
+-- The rows that kept versions reach together are as many as these versions hold: each stay of a
+-- node counts once, at the first kept version in its run. Nodes, their rows, the runs and what a
+-- version reaches are left open.
 use Rattle.std.proofs.Common.{◌≡◌, ℕ, zero, suc, ◌+◌, ◌<◌, ◌≤◌, ◌⊎◌, inl, inr, eqb, Bool, true, false, ◌&&◌, ◌||◌, List, [], ◌∷◌, ◌++◌, length, length-append, refl, sym, ◌∙◌, ap, subst, ⊎_elim, arith}
 use Rattle.std.specs.Prelude.{◌↔◌}
 use Rattle.std.proofs.lemmas.Bool.Decides.{nat_tests}
@@ -71,7 +73,8 @@ module _ (N : Type 0) (rows : N → List ℕ) (nodes : ℕ → List N) (lasts : 
   rows_below zero = []
   rows_below (suc n) = all_rows (pick (live n) (firsts n (nodes n))) ++ rows_below n
 
-  -- each row of each of these nodes is reached by an earlier version exactly where the node's run goes back so far
+  -- each row of each of these nodes is reached by an earlier version exactly where the node's run
+  -- goes back so far
   abbrev pub Aged : (ℕ → ℕ → Bool) → ℕ → ℕ → List N → Type 0
   Aged reach w v [] = Unit {0}
   Aged reach w v (t ∷ ts) = ((x : ℕ) → 0 < times x (rows t) → reach v x ≡ lasts v w t) × Aged reach w v ts

@@ -1,4 +1,5 @@
--- Two trees that are joined: where one of them is empty, and where the trees that meet are joined already.
+-- Two trees that are joined: where one of them is empty, and where the trees that meet are joined
+-- already.
 use Rattle.std.proofs.Common.{◌≡◌, ℕ, ◌+◌, ◌<◌, ◌≤◌, [], length, refl, sym, ◌∙◌, ap, arith}
 use Rattle.mst_key.specs.declared.format.Format.TheVariants.{One}
 use Rattle.mst_node.specs.Tree.{Tree, empty}

@@ -1,4 +1,5 @@
--- The value of a key in a tree that stands, by where the key stands among the entries of the top node.
+-- The value of a key in a tree that stands, by where the key stands among the entries of the top
+-- node.
 use Rattle.std.proofs.Common.{◌≡◌, ℕ, ◌-◌, ◌<◌, List, [], ◌∷◌, Option, Some, IsSome, option_and_then, refl, sym, ◌∙◌, ap, subst, arith}
 use Rattle.mst_key.specs.declared.format.Format.TheVariants.{One}
 use Rattle.mst_key.specs.Map.{map_get, IsAscending}

@@ -1,4 +1,5 @@
--- After a change of the tree each node has the rows that it had before, or new rows alone; and the latter only where its tree did not stand before.
+-- After a change of the tree each node has the rows that it had before, or new rows alone; and the
+-- latter only where its tree did not stand before.
 use Rattle.std.proofs.Common.{◌≡◌, ℕ, zero, suc, ◌+◌, ◌<◌, ◌≤◌, ◌⊎◌, inl, inr, eqb, Bool, true, false, cond, List, [], ◌∷◌, ◌++◌, length, filter, Some, refl, sym, ap, subst, arith}
 use Rattle.std.specs.Prelude.{Contains}
 use Rattle.std.specs.List.{AllByRecursion}

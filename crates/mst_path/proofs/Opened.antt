@@ -1,4 +1,5 @@
--- The node of a tree of the current version, opened: its head, its entries, and what stands in its gaps.
+-- The node of a tree of the current version, opened: its head, its entries, and what stands in its
+-- gaps.
 use Rattle.std.proofs.Common.{◌≡◌, ℕ, ◌+◌, ◌<◌, List, [], ◌∷◌, ◌++◌, length, Some, refl, sym, ◌∙◌, ap, subst, arith}
 use Rattle.mst_key.specs.declared.format.Format.TheVariants.{One}
 use Rattle.mst_node.specs.Tree.{Tree, node, entry}

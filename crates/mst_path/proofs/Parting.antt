@@ -1,4 +1,5 @@
--- The entries of a node that is opened, parted at a gap: those in front of it, the tree in it, and those behind it.
+-- The entries of a node that is opened, parted at a gap: those in front of it, the tree in it, and
+-- those behind it.
 use Rattle.std.proofs.Common.{◌≡◌, ℕ, zero, suc, ◌+◌, ◌<◌, ◌≤◌, List, [], ◌∷◌, ◌++◌, length, Some, refl, sym, ◌∙◌, ap, subst, arith}
 use Rattle.mst_key.specs.declared.format.Format.TheVariants.{One}
 use Rattle.mst_node.specs.Tree.{Tree, Entries, entry_count, IsMst, IsMstEntries}
@@ -61,7 +62,8 @@ module _ (c : Content) (s : State) (link count : ℕ) (xs ys : List PlacedEntry)
 
 -- ---- the tree in a gap, and what is behind it
 
--- The tree in the gap before these entries or in the last gap, and these entries with what they keep of the last tree.
+-- The tree in the gap before these entries or in the last gap, and these entries with what they
+-- keep of the last tree.
 pub record Behind (c : Content) (s : State) (layer link count tail_link : ℕ) (ys : List PlacedEntry) (tail : Placed) : Type 0 where
   pub kept : Placed
   pub back_run : BackRun c s link count (tail_behind count tail_link) ys kept

@@ -20,7 +20,8 @@ use Rattle.mst_path.proofs.Moving.{in_either, out_of_times, times_of_out, moves_
 use Rattle.mst_path.proofs.Made.{made_stays, piece_alive}
 use Rattle.mst_path.proofs.Copies.{all_in, kept_at, old_alive, own_frame, gaps_frame}
 
--- So many rows were taken, and only these were written; of what was given and taken some is used, and the other rows were killed.
+-- So many rows were taken, and only these were written; of what was given and taken some is used,
+-- and the other rows were killed.
 pub record Step (c c' : Content) (s s' : State) (given spent : ℕ → ℕ) (count : ℕ) : Type 0 where
   pub taken : List ℕ
   pub killed : List ℕ

@@ -31,19 +31,25 @@ abbrev pub top_rows : Placed → List ℕ
 top_rows none = []
 top_rows (head at layer chain) = at ∷ chain_own chain
 
--- After a change of the tree: the node stood in the old tree, on the same rows; or its tree did not stand there, and all its rows are new.
+-- After a change of the tree: the node stood in the old tree, on the same rows; or its tree did not
+-- stand there, and all its rows are new.
 abbrev pub IsAged : State → Placed → Placed → Type 0
-IsAged new old p = Contains (placed_nodes old) p ⊎ (((r : ℕ) → In r (top_rows p) → IsNew new r) × (is_subtree (tree_of One p) (tree_of One old) ≡ false))
+IsAged new old p = Contains (placed_nodes old) p
+    ⊎ (((r : ℕ) → In r (top_rows p) → IsNew new r)
+    × (is_subtree (tree_of One p) (tree_of One old) ≡ false))
 
--- The versions that reach the rows of a node of the last version's tree are those from which on the node's tree has stood, up to the last.
+-- The versions that reach the rows of a node of the last version's tree are those from which on the
+-- node's tree has stood, up to the last.
 abbrev pub HasAge : List Life → History → Placed → Type 0
-HasAge lives h p = (r v : ℕ) → In r (top_rows p) → v ≤ length h → reaches lives v r ≡ lasts One h v (length h) (tree_of One p)
+HasAge lives h p = (r v : ℕ) → In r (top_rows p) → v ≤ length h
+    → reaches lives v r ≡ lasts One h v (length h) (tree_of One p)
 
 -- the same of all nodes of the last version's tree
 abbrev pub HasAges : List Life → History → Placed → Type 0
 HasAges lives h whole = AllByRecursion (HasAge lives h) (placed_nodes whole)
 
--- A version of a history has its place in rows: they stand for its tree, the version reaches exactly them, and their ages are known.
+-- A version of a history has its place in rows: they stand for its tree, the version reaches
+-- exactly them, and their ages are known.
 pub record HasPlace (lives : List Life) (h : History) (v : ℕ) : Type 0 where
   pub placed : Placed
   pub is : tree_of One placed ≡ tree_at One h v

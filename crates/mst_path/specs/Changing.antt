@@ -1,4 +1,5 @@
--- What a put or a remove does to rows and to their lives, by the rows that stand before it and those that stand after it.
+-- What a put or a remove does to rows and to their lives, by the rows that stand before it and
+-- those that stand after it.
 use Rattle.std.specs.Prelude.{◌≡◌, ◌≢◌, ◌↔◌, ℕ, List, slice_get, Some}
 use Rattle.mst_key.specs.Map.{Pair}
 use Rattle.mst_key.specs.declared.format.Format.TheVariants.{One}
@@ -16,7 +17,8 @@ AreOld s rows = (r : ℕ) → In r rows → IsOld s r
 
 -- a map stands at the root, on rows of the current version and earlier ones
 abbrev pub MapStands : Content → State → Root → Type 0
-MapStands content s at = (m : List Pair) × (stands : Stands One content at m) × AreOld s (numbers stands)
+MapStands content s at =
+    (m : List Pair) × (stands : Stands One content at m) × AreOld s (numbers stands)
 
 -- the row is one of the first list alone
 abbrev pub IsOnlyIn : ℕ → List ℕ → List ℕ → Type 0
@@ -24,7 +26,8 @@ IsOnlyIn r rows others = In r rows × (times r others ≡ 0)
 
 -- the row was taken: it was free, and is born with the version to come
 abbrev pub IsTaken : State → State → ℕ → Type 0
-IsTaken old new r = (slice_get old.lives r ≡ Some Free) × (slice_get new.lives r ≡ Some (Born (next old)))
+IsTaken old new r =
+    (slice_get old.lives r ≡ Some Free) × (slice_get new.lives r ≡ Some (Born (next old)))
 
 -- the rows that were taken are those that stand after the change alone
 abbrev pub AreTaken : State → State → List ℕ → List ℕ → Type 0
@@ -36,7 +39,8 @@ AreKilled old new before after = (r : ℕ) → IsKilled old new r ↔ IsOnlyIn r
 
 -- each row that stands both before and after the change, or neither, has the life that it had
 abbrev pub OthersLive : State → State → List ℕ → List ℕ → Type 0
-OthersLive old new before after = (r : ℕ) → (In r before ↔ In r after) → slice_get new.lives r ≡ slice_get old.lives r
+OthersLive old new before after =
+    (r : ℕ) → (In r before ↔ In r after) → slice_get new.lives r ≡ slice_get old.lives r
 
 -- only rows that were free are written
 abbrev pub OnlyFreeWritten : State → Content → Content → Type 0

@@ -10,7 +10,8 @@ use Rattle.mst_path.specs.Runs.{Run, own, gaps_used, AreCopies}
 use Rattle.mst_path.specs.Writing.{PlacedEntry, entries_used, ahead, IsWritten}
 use Rattle.mst_path.specs.declared.node_writer.NodeWriter.{NodeWriter}
 
--- These entries are written, in new rows: their rows and those of the trees before them are alive, no row twice, and the row for the next entry is a new one and none of them.
+-- These entries are written, in new rows: their rows and those of the trees before them are alive,
+-- no row twice, and the row for the next entry is a new one and none of them.
 pub record Going (w : NodeWriter) (content : Content) (s : State) (ws : List PlacedEntry) : Type 0 where
   pub written : IsWritten w content ws
   pub once : (r : ℕ) → times r (ahead w.next) + times r (entries_used ws) ≤ 1
@@ -18,7 +19,8 @@ pub record Going (w : NodeWriter) (content : Content) (s : State) (ws : List Pla
   pub made : AreMade s ws
   pub new : (r : ℕ) → In r (ahead w.next) → IsNew s r
 
--- So many entries from a link on are to be copied behind those that are written, and no row stands twice in all of them.
+-- So many entries from a link on are to be copied behind those that are written, and no row stands
+-- twice in all of them.
 pub record Copying (w : NodeWriter) (content : Content) (s : State) (link count : ℕ) : Type 0 where
   pub behind : ℕ
   pub es : List PlacedEntry
@@ -27,7 +29,8 @@ pub record Copying (w : NodeWriter) (content : Content) (s : State) (link count 
   pub going : Going w content s ws
   pub once : (r : ℕ) → times r (entries_used ws) + times r (own es) + times r (gaps_used es) ≤ 1
 
--- The entries are copied: their rows were killed, and the copies were written into rows that were taken.
+-- The entries are copied: their rows were killed, and the copies were written into rows that were
+-- taken.
 pub record Copied (w w' : NodeWriter) (c c' : Content) (s s' : State) (ws es : List PlacedEntry) : Type 0 where
   pub copies : List PlacedEntry
   pub same : AreCopies copies es
@@ -35,5 +38,6 @@ pub record Copied (w w' : NodeWriter) (c c' : Content) (s s' : State) (ws es : L
   pub taken : List ℕ
   pub moves : Moves s s' taken (own es)
   pub keeps : KeepsBut (ahead w.next ++ taken) c c'
-  pub rows : (r : ℕ) → times r (own copies) + times r (ahead w'.next) ≡ times r (ahead w.next) + times r taken
+  pub rows : (r : ℕ)
+      → times r (own copies) + times r (ahead w'.next) ≡ times r (ahead w.next) + times r taken
   pub counted : length taken + length (ahead w.next) ≡ length es + length (ahead w'.next)

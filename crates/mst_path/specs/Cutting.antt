@@ -49,7 +49,8 @@ pub record CutHeld (k : List ℕ) (es : List PlacedEntry) (tail : Placed) (front
   pub row_is : here.at ≡ row
   pub key_is : here.key ≡ k
   pub child_at : link_of here.child ≡ child
-  pub at : IsAt k (entries_to es tail) (cells_of before) (tree_of One here.child) here.value (entries_to behind tail)
+  pub at : IsAt k (entries_to es tail) (cells_of before) (tree_of One here.child) here.value
+      (entries_to behind tail)
 
 -- a cut of the entries at the key
 abbrev pub IsCut : List ℕ → List PlacedEntry → Placed → Cut → Type 0

@@ -1,4 +1,5 @@
--- What is left of nodes round a gap, once the tree in the gap is made anew: entries in front of it and entries behind it, which are moved into a new node, and rows that go.
+-- What is left of nodes round a gap, once the tree in the gap is made anew: entries in front of it
+-- and entries behind it, which are moved into a new node, and rows that go.
 use Rattle.std.specs.Prelude.{◌≤◌, ◌<◌, ◌+◌, ℕ, false, List, ◌∷◌}
 use Rattle.mst_key.specs.declared.format.Format.TheVariants.{One}
 use Rattle.mst_node.specs.Tree.{Tree}
@@ -23,7 +24,9 @@ spare frame = frame.head ∷ ahead frame.other
 abbrev pub frame_rows : Frame → ℕ
 frame_rows frame = side_rows (frame.front.count + frame.back.count) false
 
--- The entries stand, and they and the rows that go are of the current version or older ones. No row is in two of them, nor in one of them and in the rows that are given for the gap, which are alive.
+-- The entries stand, and they and the rows that go are of the current version or older ones. No row
+-- is in two of them, nor in one of them and in the rows that are given for the gap, which are
+-- alive.
 pub record Framed (content : Content) (s : State) (frame : Frame) (given : ℕ → ℕ) : Type 0 where
   pub front : List PlacedEntry
   pub behind : ℕ
@@ -33,15 +36,19 @@ pub record Framed (content : Content) (s : State) (frame : Frame) (given : ℕ �
   pub back_run : BackRun content s frame.back.first frame.back.count frame.tail back tail
   pub goes : (r : ℕ) → In r (spare frame) → IsOld s r
   pub alive : (r : ℕ) → 0 < given r → IsAlive s r
-  pub once : (x : ℕ) → given x + times x (own front) + times x (gaps_used front) + times x (own back) + times x (gaps_used (others back)) + times x (used tail) + times x (spare frame) ≤ 1
+  pub once : (x : ℕ)
+      → given x + times x (own front) + times x (gaps_used front) + times x (own back) + times x
+      (gaps_used (others back)) + times x (used tail) + times x (spare frame) ≤ 1
 
 -- how often a row stands in the entries, with the trees in their gaps, and in all of the frame
 abbrev pub in_entries : {content : Content} {s : State} {frame : Frame} {given : ℕ → ℕ} → Framed content s frame given → ℕ → ℕ
-in_entries f x = times x (own f.front) + times x (gaps_used f.front) + times x (own f.back) + times x (gaps_used (others f.back)) + times x (used f.tail)
+in_entries f x = times x (own f.front) + times x (gaps_used f.front) + times x (own f.back)
+    + times x (gaps_used (others f.back)) + times x (used f.tail)
 
 abbrev pub in_frame : {content : Content} {s : State} {frame : Frame} {given : ℕ → ℕ} → Framed content s frame given → ℕ → ℕ
 in_frame {content} {s} {frame} f x = in_entries f x + times x (spare frame)
 
 -- the tree with this one in the gap
 abbrev pub tree_round : {content : Content} {s : State} {frame : Frame} {given : ℕ → ℕ} → Framed content s frame given → Tree → Tree
-tree_round {content} {s} {frame} f t = node_of One frame.layer (with_entries (cells_of f.front) (with_first t (entries_to f.back f.tail)))
+tree_round {content} {s} {frame} f t = node_of One frame.layer
+    (with_entries (cells_of f.front) (with_first t (entries_to f.back f.tail)))

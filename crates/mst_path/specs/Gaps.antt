@@ -1,4 +1,5 @@
--- The top node of a tree that stands, opened where a key falls: the frame round the gap of the key, or round the key's entry.
+-- The top node of a tree that stands, opened where a key falls: the frame round the gap of the key,
+-- or round the key's entry.
 use Rattle.std.specs.Prelude.{◌≡◌, ◌≤◌, ◌<◌, ◌+◌, ℕ, List}
 use Rattle.mst_key.specs.declared.format.Format.TheVariants.{One}
 use Rattle.mst_node.specs.Tree.{Tree, node, Entries, entry_count}

@@ -1,4 +1,5 @@
--- Two trees that stand and are to be joined, and what is left of them round the gap in which they meet.
+-- Two trees that stand and are to be joined, and what is left of them round the gap in which they
+-- meet.
 use Rattle.std.specs.Prelude.{◌≡◌, ◌≤◌, ◌<◌, ◌+◌, ◌-◌, ℕ, zero, suc, Some, None}
 use Rattle.std.specs.Option.{option_map_or}
 use Rattle.mst_key.specs.declared.format.Format.TheVariants.{One}
@@ -15,7 +16,8 @@ use Rattle.mst_change.specs.Cost.{join_rows}
 use Rattle.mst_path.specs.Runs.{OldPiece}
 use Rattle.mst_path.specs.Frames.{Framed, in_frame, tree_round, frame_rows}
 
--- Two search trees of the current version stand at the links, and no row is in both of them or twice in one.
+-- Two search trees of the current version stand at the links, and no row is in both of them or
+-- twice in one.
 pub record TwoTrees (content : Content) (s : State) (left right : ℕ) : Type 0 where
   pub a : Placed
   pub b : Placed
@@ -47,14 +49,16 @@ abbrev pub height_at : Content → ℕ → ℕ
 height_at content zero = 0
 height_at content (suc row) = option_map_or (λ h. h.layer + 1) (part_at head_links content row) 0
 
--- The trees that meet, and the frame round them: their join in the frame's gap makes the join of the two.
+-- The trees that meet, and the frame round them: their join in the frame's gap makes the join of
+-- the two.
 pub record Met (content : Content) (s : State) (left right : ℕ) (t : TwoTrees content s left right) (m : Meeting) : Type 0 where
   pub inner : TwoTrees content s m.left m.right
   pub framed : Framed content s m.frame (in_both inner)
   pub is : both_joined t ≡ tree_round framed (both_joined inner)
   pub rows : both_rows t ≡ both_rows inner + frame_rows m.frame
   pub given : (x : ℕ) → in_both t x ≡ in_both inner x + in_frame framed x
-  pub falls : height (tree_of One inner.a) + height (tree_of One inner.b) < height (tree_of One t.a) + height (tree_of One t.b)
+  pub falls : height (tree_of One inner.a) + height (tree_of One inner.b) < height (tree_of One t.a)
+      + height (tree_of One t.b)
   pub low : m.frame.layer ≤ 64
 
 -- ---- where they meet, by the layers of their nodes

@@ -1,11 +1,14 @@
--- Which rows a change of the tree makes anew: those of whole nodes. So the rows of a node are of one age.
+-- Which rows a change of the tree makes anew: those of whole nodes. So the rows of a node are of
+-- one age.
 use Rattle.std.specs.Prelude.{◌⊎◌, ℕ, List, [], ◌∷◌}
 use Rattle.mst_arena.specs.Lives.{State}
 use Rattle.mst_arena.specs.Standing.{Placed, none, head, Chain, end, cell, used}
 use Rattle.mst_path.specs.Moves.{In, IsOld, IsNew}
 use Rattle.mst_path.specs.Writing.{PlacedEntry}
 
--- A placed tree stands on rows of the current version and older ones; or its own rows, of its head and its entries, were born with the version to come, and the same is said of the tree in each of its gaps.
+-- A placed tree stands on rows of the current version and older ones; or its own rows, of its head
+-- and its entries, were born with the version to come, and the same is said of the tree in each of
+-- its gaps.
 abbrev mutual
   pub IsMade : State → Placed → Type 0
   IsMade s none = Unit {0}

@@ -1,4 +1,5 @@
--- A new node that is made of parts of nodes that stand: entries in front, a tree in the gap behind them, and the entries at the back with the tree in the last gap.
+-- A new node that is made of parts of nodes that stand: entries in front, a tree in the gap behind
+-- them, and the entries at the back with the tree in the last gap.
 use Rattle.std.specs.Prelude.{◌≡◌, ◌≤◌, ◌+◌, min, ℕ, zero, suc, List, [], ◌∷◌, ◌++◌, length, map}
 use Rattle.mst_key.specs.declared.format.Format.TheVariants.{One}
 use Rattle.mst_node.specs.Tree.{Tree, node, Entries, last}
@@ -43,7 +44,8 @@ abbrev pub HasTail : List PlacedEntry → Placed → Type 0
 HasTail [] tail = tail ≡ none
 HasTail (e ∷ es) tail = Unit {0}
 
--- The entries at the back of a node stand from a link on, with the tree in the last gap. The tree before the first of them does not matter.
+-- The entries at the back of a node stand from a link on, with the tree in the last gap. The tree
+-- before the first of them does not matter.
 pub record BackRun (content : Content) (s : State) (link count tail_link : ℕ) (es : List PlacedEntry) (tail : Placed) : Type 0 where
   pub counted : length es ≡ count
   pub begins : link_from 0 es ≡ link
@@ -65,13 +67,18 @@ pub record PartsStand (content : Content) (s : State) (parts : Parts) : Type 0 w
   pub back : List PlacedEntry
   pub tail : Placed
   pub back_run : BackRun content s parts.back.first parts.back.count parts.tail back tail
-  pub once : (x : ℕ) → times x (own front) + times x (gaps_used front) + times x (used seam) + times x (own back) + times x (gaps_used (others back)) + times x (used tail) ≤ 1
+  pub once : (x : ℕ)
+      → times x (own front) + times x (gaps_used front) + times x (used seam) + times x (own back)
+      + times x (gaps_used (others back)) + times x (used tail) ≤ 1
 
 -- how often a row stands in the parts
 abbrev pub in_parts : {content : Content} {s : State} {parts : Parts} → PartsStand content s parts → ℕ → ℕ
-in_parts p x = times x (own p.front) + times x (gaps_used p.front) + times x (used p.seam) + times x (own p.back) + times x (gaps_used (others p.back)) + times x (used p.tail)
+in_parts p x = times x (own p.front) + times x (gaps_used p.front) + times x (used p.seam) + times x
+    (own p.back) + times x (gaps_used (others p.back)) + times x (used p.tail)
 
--- The tree stands at the root, on rows of what was given and rows that were taken, so many of these; what was given and is not of the new tree was killed, and only rows that were taken were written.
+-- The tree stands at the root, on rows of what was given and rows that were taken, so many of
+-- these; what was given and is not of the new tree was killed, and only rows that were taken were
+-- written.
 pub record Grown (c c' : Content) (s s' : State) (t : Tree) (at : Root) (given : ℕ → ℕ) (count : ℕ) : Type 0 where
   pub placed : Placed
   pub is : tree_of One placed ≡ t
@@ -98,7 +105,8 @@ pub record Split (c c' : Content) (s s' : State) (t u : Tree) (left right : Root
   pub killed : List ℕ
   pub moves : Moves s s' taken killed
   pub keeps : KeepsBut taken c c'
-  pub rows : (x : ℕ) → times x (used lower) + times x (used upper) + times x killed ≡ given x + times x taken
+  pub rows : (x : ℕ)
+      → times x (used lower) + times x (used upper) + times x killed ≡ given x + times x taken
   pub counted : length taken ≡ count
 
 -- a tree of the current version stands at a link: no row stands twice in it
@@ -110,7 +118,8 @@ pub record OldTree (content : Content) (s : State) (link : ℕ) : Type 0 where
 
 -- ---- a node whose front is written
 
--- What is left of the parts, for a node whose entries in front are written: the rows that were taken for its head and its next entry are new ones, and no row stands twice.
+-- What is left of the parts, for a node whose entries in front are written: the rows that were
+-- taken for its head and its next entry are new ones, and no row stands twice.
 pub record Rest (w : NodeWriter) (content : Content) (s : State) (parts : Parts) : Type 0 where
   pub ws : List PlacedEntry
   pub going : Going w content s ws
@@ -121,16 +130,22 @@ pub record Rest (w : NodeWriter) (content : Content) (s : State) (parts : Parts)
   pub back : List PlacedEntry
   pub tail : Placed
   pub back_run : BackRun content s parts.back.first parts.back.count parts.tail back tail
-  pub once : (x : ℕ) → times x (w.head ∷ []) + times x (ahead w.next) + times x (entries_used ws) + times x (used seam) + times x (own back) + times x (gaps_used (others back)) + times x (used tail) ≤ 1
+  pub once : (x : ℕ)
+      → times x (w.head ∷ []) + times x (ahead w.next) + times x (entries_used ws) + times x
+      (used seam) + times x (own back) + times x (gaps_used (others back)) + times x (used tail) ≤ 1
 
 -- the node is written
 pub record Finished (w : NodeWriter) (c c' : Content) (s s' : State) (parts : Parts) (r : Rest w c s parts) (at : Root) : Type 0 where
   pub placed : Placed
-  pub is : tree_of One placed ≡ node One w.layer (with_entries (cells_of r.ws) (with_first (tree_of One r.seam) (entries_to r.back r.tail)))
+  pub is : tree_of One placed ≡ node One w.layer
+      (with_entries (cells_of r.ws) (with_first (tree_of One r.seam) (entries_to r.back r.tail)))
   pub root : IsRootOf placed at
   pub piece : Piece c' s' placed
   pub taken : List ℕ
   pub moves : Moves s s' taken (own r.back)
   pub keeps : KeepsBut (w.head ∷ ahead w.next ++ taken) c c'
-  pub rows : (x : ℕ) → times x (used placed) ≡ times x (w.head ∷ []) + times x (ahead w.next) + times x (entries_used r.ws) + times x (used r.seam) + times x (gaps_used (others r.back)) + times x (used r.tail) + times x taken
+  pub rows : (x : ℕ)
+      → times x (used placed) ≡ times x (w.head ∷ []) + times x (ahead w.next) + times x
+      (entries_used r.ws) + times x (used r.seam) + times x (gaps_used (others r.back)) + times x
+      (used r.tail) + times x taken
   pub counted : length taken + min 1 w.left ≡ w.left

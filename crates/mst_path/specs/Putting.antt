@@ -1,4 +1,5 @@
--- A tree that stands and into which a pair is put: what becomes of its top node, by the key's layer and where the key falls.
+-- A tree that stands and into which a pair is put: what becomes of its top node, by the key's layer
+-- and where the key falls.
 use Rattle.std.specs.Prelude.{◌≡◌, ◌≤◌, ◌<◌, ◌+◌, ℕ, List}
 use Rattle.mst_key.specs.declared.format.Format.TheVariants.{One}
 use Rattle.mst_key.specs.Map.{IsAscending}
@@ -41,7 +42,8 @@ in_two t x = times x (used t.lower) + times x (used t.upper)
 
 -- the tree with a new entry in the gap, between these two
 abbrev pub tree_with : {content : Content} {s : State} {frame : Frame} {given : ℕ → ℕ} → Framed content s frame given → List ℕ → List ℕ → Tree → Tree → Tree
-tree_with {content} {s} {frame} f k v t u = node One frame.layer (with_entries (cells_of f.front) (entry t k v (with_first u (entries_to f.back f.tail))))
+tree_with {content} {s} {frame} f k v t u = node One frame.layer
+    (with_entries (cells_of f.front) (entry t k v (with_first u (entries_to f.back f.tail))))
 
 -- and its rows
 abbrev pub with_rows : Frame → ℕ
@@ -74,20 +76,26 @@ pub record PutsDown (content : Content) (s : State) (link : ℕ) (t : RisingTree
   pub falls : height (tree_of One inner.tree.placed) < height (tree_of One t.tree.placed)
   pub low : frame.layer ≤ 64
 
--- The key falls into a gap of a node of its layer: the tree there is split, and the pair stands between its sides.
+-- The key falls into a gap of a node of its layer: the tree there is split, and the pair stands
+-- between its sides.
 pub record PutsBetween (content : Content) (s : State) (link : ℕ) (t : RisingTree content s link) (l : ℕ) (k : List ℕ) (child : ℕ) (frame : Frame) : Type 0 where
   pub inner : ToSplit content s child k
   pub framed : Framed content s frame (λ x. times x (used inner.tree.placed))
-  pub is : (v : List ℕ) → with_pair t l k v ≡ tree_with framed k v (below k (tree_of One inner.tree.placed)) (above k (tree_of One inner.tree.placed))
-  pub rows : (v : List ℕ) → pair_rows t l k v ≡ split_rows k (tree_of One inner.tree.placed) + with_rows frame
+  pub is : (v : List ℕ)
+      → with_pair t l k v ≡ tree_with framed k v (below k (tree_of One inner.tree.placed))
+      (above k (tree_of One inner.tree.placed))
+  pub rows : (v : List ℕ)
+      → pair_rows t l k v ≡ split_rows k (tree_of One inner.tree.placed) + with_rows frame
   pub given : (x : ℕ) → in_rising t x ≡ times x (used inner.tree.placed) + in_frame framed x
   pub low : frame.layer ≤ 64
 
--- The key has an entry in the node: it is written anew, with the value, between the trees beside it.
+-- The key has an entry in the node: it is written anew, with the value, between the trees beside
+-- it.
 pub record PutsAnew (content : Content) (s : State) (link : ℕ) (t : RisingTree content s link) (l : ℕ) (k : List ℕ) (m : Meeting) : Type 0 where
   pub inner : TwoTrees content s m.left m.right
   pub framed : Framed content s m.frame (in_both inner)
-  pub is : (v : List ℕ) → with_pair t l k v ≡ tree_with framed k v (tree_of One inner.a) (tree_of One inner.b)
+  pub is : (v : List ℕ)
+      → with_pair t l k v ≡ tree_with framed k v (tree_of One inner.a) (tree_of One inner.b)
   pub rows : (v : List ℕ) → pair_rows t l k v ≡ with_rows m.frame
   pub given : (x : ℕ) → in_rising t x ≡ in_both inner x + in_frame framed x
   pub low : m.frame.layer ≤ 64

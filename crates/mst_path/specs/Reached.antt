@@ -20,7 +20,8 @@ TogetherReach lives live rows = (r : ℕ) → IsReached lives live r ↔ In r ro
 
 -- ---- the steps of a desk
 
--- A put or a remove, by the rows that stand before it and those that stand after it: it took those that are new, killed those that are left, and did nothing else.
+-- A put or a remove, by the rows that stand before it and those that stand after it: it took those
+-- that are new, killed those that are left, and did nothing else.
 pub record Changes (old new : State) (before after : List ℕ) : Type 0 where
   pub taken : AreTaken old new before after
   pub killed : AreKilled old new before after

@@ -1,4 +1,5 @@
--- A tree that stands and is to lose a key, and what is left of its top node round the gap that changes.
+-- A tree that stands and is to lose a key, and what is left of its top node round the gap that
+-- changes.
 use Rattle.std.specs.Prelude.{◌≡◌, ◌≤◌, ◌<◌, ◌+◌, ℕ, List}
 use Rattle.mst_key.specs.declared.format.Format.TheVariants.{One}
 use Rattle.mst_node.specs.Tree.{Tree, IsMst}

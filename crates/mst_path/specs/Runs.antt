@@ -10,7 +10,8 @@ use Rattle.mst_path.specs.Moves.{In, IsOld}
 use Rattle.mst_path.specs.Made.{IsMade}
 use Rattle.mst_path.specs.Writing.{PlacedEntry, link_from}
 
--- a placed tree stands, on rows that are alive: those of a node are all old, with all below it, or all new
+-- a placed tree stands, on rows that are alive: those of a node are all old, with all below it, or
+-- all new
 pub record Piece (content : Content) (s : State) (p : Placed) : Type 0 where
   pub rows : HasRows content (rows_of One p)
   pub made : IsMade s p
@@ -23,7 +24,8 @@ pub record OldPiece (content : Content) (s : State) (p : Placed) : Type 0 where
 -- the rows of the entries alone, without the trees in their gaps
 abbrev pub own_rows : ℕ → List PlacedEntry → List (ℕ × Row)
 own_rows behind [] = []
-own_rows behind (e ∷ es) = (e.at, Entry (link_of e.child) (link_from behind es) e.key e.value) ∷ own_rows behind es
+own_rows behind (e ∷ es) =
+    (e.at, Entry (link_of e.child) (link_from behind es) e.key e.value) ∷ own_rows behind es
 
 -- their numbers
 abbrev pub own : List PlacedEntry → List ℕ
@@ -40,7 +42,8 @@ abbrev pub EachGap : (Placed → Type 0) → List PlacedEntry → Type 0
 EachGap P [] = Unit {0}
 EachGap P (e ∷ es) = P e.child × EachGap P es
 
--- So many entries stand from a link on, up to the link behind them: their rows are of the current version and older ones, and so are the trees before them.
+-- So many entries stand from a link on, up to the link behind them: their rows are of the current
+-- version and older ones, and so are the trees before them.
 pub record Run (content : Content) (s : State) (link count behind : ℕ) (es : List PlacedEntry) : Type 0 where
   pub counted : length es ≡ count
   pub begins : link_from behind es ≡ link
@@ -53,4 +56,5 @@ abbrev pub AreCopies : List PlacedEntry → List PlacedEntry → Type 0
 AreCopies [] [] = Unit {0}
 AreCopies [] (e ∷ es) = ⊥
 AreCopies (c ∷ cs) [] = ⊥
-AreCopies (c ∷ cs) (e ∷ es) = (c.child ≡ e.child) × (c.key ≡ e.key) × (c.value ≡ e.value) × AreCopies cs es
+AreCopies (c ∷ cs) (e ∷ es) =
+    (c.child ≡ e.child) × (c.key ≡ e.key) × (c.value ≡ e.value) × AreCopies cs es

@@ -27,7 +27,8 @@ ToSplit content s link k = SearchUnder content s link (layer_in One k)
 
 -- what a side is made of parts: a node, or the tree in the seam where there are no entries
 abbrev pub side_of : {content : Content} {s : State} {parts : Parts} → PartsStand content s parts → Tree
-side_of {parts = parts} p = node_of One parts.layer (with_entries (cells_of p.front) (with_first (tree_of One p.seam) (entries_to p.back p.tail)))
+side_of {parts = parts} p = node_of One parts.layer
+    (with_entries (cells_of p.front) (with_first (tree_of One p.seam) (entries_to p.back p.tail)))
 
 -- the parts of two sides stand, and the row of an old head: no row is in two of them
 pub record BothStand (content : Content) (s : State) (row : ℕ) (left right : Parts) : Type 0 where

@@ -12,7 +12,8 @@ abbrev pub born_with : ℕ → List ℕ → List Life → List Life
 born_with version [] lives = lives
 born_with version (r ∷ rows) lives = born_with version rows (slice_set lives r (Born version))
 
--- these rows were taken and nothing else was done: each was free, none was taken twice, and they were born with the version to come
+-- these rows were taken and nothing else was done: each was free, none was taken twice, and they
+-- were born with the version to come
 pub record Takes (old new : State) (rows : List ℕ) : Type 0 where
   pub free : AllByRecursion (λ r. slice_get old.lives r ≡ Some Free) rows
   pub once : IsDistinct rows

@@ -11,7 +11,8 @@ use Rattle.mst_arena.specs.Standing.{Stands, numbers}
 use Rattle.mst_path.specs.Moves.{In}
 use Rattle.mst_path.specs.Reached.{ReachesExactly, IsSettled}
 
--- A version has its map: it stands at a root, and the version reaches exactly the rows that stand for it.
+-- A version has its map: it stands at a root, and the version reaches exactly the rows that stand
+-- for it.
 pub record HasMap (content : Content) (lives : List Life) (v : ℕ) (at : Root) (m : List Pair) : Type 0 where
   pub stands : Stands One content at m
   pub rows : ReachesExactly lives v (numbers stands)
@@ -31,14 +32,16 @@ AreNumbers live kept = (v : ℕ) → In v live ↔ In v (numbers_kept kept)
 
 -- each of them has its map
 abbrev pub HaveMaps : Content → List Life → List Kept → Type 0
-HaveMaps content lives kept = AllByRecursion (λ k. HasMap content lives k.number k.root k.pairs) kept
+HaveMaps content lives kept =
+    AllByRecursion (λ k. HasMap content lives k.number k.root k.pairs) kept
 
 -- the numbers of the rows that stand for their maps
 abbrev pub rows_kept : (content : Content) (lives : List Life) (kept : List Kept) → HaveMaps content lives kept → List ℕ
 rows_kept content lives [] have = []
 rows_kept content lives (k ∷ ks) have = numbers have.0.stands ++ rows_kept content lives ks have.1
 
--- What holds between two writes: none is under way; the current version is kept; and each version that is kept is the current one or an earlier one, and has its map.
+-- What holds between two writes: none is under way; the current version is kept; and each version
+-- that is kept is the current one or an earlier one, and has its map.
 pub record Keeps (content : Content) (s : State) (kept : List Kept) : Type 0 where
   pub settled : IsSettled s
   pub current : In (version s) (numbers_kept kept)

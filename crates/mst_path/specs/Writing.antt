@@ -32,7 +32,8 @@ link_from behind (e ∷ es) = e.at + 1
 -- the rows of these entries and of the trees before them
 abbrev pub entry_rows : ℕ → List PlacedEntry → List (ℕ × Row)
 entry_rows behind [] = []
-entry_rows behind (e ∷ es) = (e.at, Entry (link_of e.child) (link_from behind es) e.key e.value) ∷ rows_of One e.child ++ entry_rows behind es
+entry_rows behind (e ∷ es) = (e.at, Entry (link_of e.child) (link_from behind es) e.key e.value)
+    ∷ rows_of One e.child ++ entry_rows behind es
 
 -- their numbers
 abbrev pub entries_used : List PlacedEntry → List ℕ
@@ -44,7 +45,8 @@ abbrev pub flat_of : PlacedEntry → FlatEntry
 flat_of e = record { child = child_digest (tree_of One e.child); key = e.key; held = e.value }
 
 abbrev pub text_up_to : ℕ → ℕ → List PlacedEntry → List ℕ
-text_up_to layer count es = 1 ∷ layer ∷ to_be_bytes w16 count ++ flat_map (entry_text One) (map flat_of es)
+text_up_to layer count es =
+    1 ∷ layer ∷ to_be_bytes w16 count ++ flat_map (entry_text One) (map flat_of es)
 
 -- link and digest are those of the placed tree
 pub record IsRootOf (p : Placed) (at : Root) : Type 0 where
@@ -75,7 +77,8 @@ pub record IsWriter (w : NodeWriter) : Type 0 where
   pub small : AllByRecursion (λ r. r < 65535) (w.head ∷ w.first ∷ ahead w.next)
   pub reserved : IsAhead w.next w.left
 
--- these entries are written: they are the first of the node's, their rows stand, and the hasher holds the text up to them
+-- these entries are written: they are the first of the node's, their rows stand, and the hasher
+-- holds the text up to them
 pub record IsWritten (w : NodeWriter) (content : Content) (es : List PlacedEntry) : Type 0 where
   pub counted : length es + w.left ≡ w.count
   pub begins : link_from (link_to w.next) es ≡ w.first + 1

@@ -18,8 +18,10 @@ use std::alloc::Allocator;
 
 /// Where the tree at a link stands, and its digest. It reads one row.
 pub(crate) fn root_at<R: Rows>(rows: &mut R, link: u32) -> Root
-    requires stands { (p : Placed) × (link_of p ≡ link) × HasRows (R.content rows.old) (rows_of One p) }
-    ensures root { (p : Placed) → link_of p ≡ link → HasRows (R.content rows.old) (rows_of One p) → IsRootOf p result }
+    requires stands { (p : Placed) × (link_of p ≡ link)
+        × HasRows (R.content rows.old) (rows_of One p) }
+    ensures root { (p : Placed) → link_of p ≡ link → HasRows (R.content rows.old) (rows_of One p)
+        → IsRootOf p result }
     ensures same { rows.new ≡ rows.old }
 {
     if link == 0 {
@@ -34,7 +36,8 @@ pub(crate) fn root_at<R: Rows>(rows: &mut R, link: u32) -> Root
     }
 }
 
-/// Moves the entry in a row into the node, with a tree in the gap before it: it is written anew, and the row dies.
+/// Moves the entry in a row into the node, with a tree in the gap before it: it is written anew,
+/// and the row dies.
 pub(crate) fn move_entry<R: Rows, A: Allocator>(
     rows: &mut R,
     desk: &mut Desk<A>,
@@ -52,13 +55,14 @@ pub(crate) fn move_entry<R: Rows, A: Allocator>(
     requires value { IsSome (part_at entry_value (R.content rows.old) row) }
     requires old { IsOld desk.old row }
     ensures writer { IsWriter writer.new }
-    ensures written { (es : List PlacedEntry) (p : Placed) (r : ℕ) (v : List ℕ) → writer.old.next ≡ Some r
-        → part_at entry_value (R.content rows.old) row ≡ Some v
-        → IsWritten writer.old (R.content rows.old) es
-        → IsRootOf p child.now → HasRows (R.content rows.old) (rows_of One p)
-        → IsOut r (entries_used es ++ used p)
-        → IsWritten writer.new (R.content rows.new) (es ++ record { at = r; child = p; key = key.now; value = v } ∷ []) }
-    ensures node { (writer.new.layer ≡ writer.old.layer) × (writer.new.count ≡ writer.old.count) × (writer.new.left + 1 ≡ writer.old.left) × (writer.new.head ≡ writer.old.head) }
+    ensures written { (es : List PlacedEntry) (p : Placed) (r : ℕ) (v : List ℕ)
+        → writer.old.next ≡ Some r → part_at entry_value (R.content rows.old) row ≡ Some v
+        → IsWritten writer.old (R.content rows.old) es → IsRootOf p child.now
+        → HasRows (R.content rows.old) (rows_of One p) → IsOut r (entries_used es ++ used p)
+        → IsWritten writer.new (R.content rows.new)
+        (es ++ record { at = r; child = p; key = key.now; value = v } ∷ []) }
+    ensures node { (writer.new.layer ≡ writer.old.layer) × (writer.new.count ≡ writer.old.count)
+        × (writer.new.left + 1 ≡ writer.old.left) × (writer.new.head ≡ writer.old.head) }
     ensures moves { Moves desk.old desk.new (ahead writer.new.next) (row ∷ []) }
     ensures keeps { KeepsBut (ahead writer.old.next) (R.content rows.old) (R.content rows.new) }
     ensures blank { R.blank rows.new ≡ R.blank rows.old }
@@ -69,7 +73,8 @@ pub(crate) fn move_entry<R: Rows, A: Allocator>(
     desk.kill(row);
 }
 
-/// Moves so many entries from a link on into the node, each with the tree in the gap before it. It answers the link behind them.
+/// Moves so many entries from a link on into the node, each with the tree in the gap before it. It
+/// answers the link behind them.
 pub(crate) fn move_run<R: Rows, A: Allocator>(
     rows: &mut R,
     desk: &mut Desk<A>,
@@ -86,8 +91,11 @@ pub(crate) fn move_run<R: Rows, A: Allocator>(
     requires free { FreeIsBlank desk.old.lives (R.blank rows.old) }
     ensures writer { IsWriter writer.new }
     ensures copied { (k : Copying writer.old (R.content rows.old) desk.old from count)
-        → (result ≡ k.behind) × Copied writer.old writer.new (R.content rows.old) (R.content rows.new) desk.old desk.new k.ws k.es }
-    ensures node { (writer.new.layer ≡ writer.old.layer) × (writer.new.count ≡ writer.old.count) × (writer.new.left + count ≡ writer.old.left) × (writer.new.head ≡ writer.old.head) }
+        → (result ≡ k.behind)
+        × Copied writer.old writer.new (R.content rows.old)
+        (R.content rows.new) desk.old desk.new k.ws k.es }
+    ensures node { (writer.new.layer ≡ writer.old.layer) × (writer.new.count ≡ writer.old.count)
+        × (writer.new.left + count ≡ writer.old.left) × (writer.new.head ≡ writer.old.head) }
     ensures blank { R.blank rows.new ≡ R.blank rows.old }
     ensures kept { R.kept rows.new ≡ R.kept rows.old }
     ensures next { IfSome writer.new.next (λ r. IsTrue (R.blank rows.new r)) }

@@ -63,10 +63,14 @@ fn rows_with_entry(frame: &Frame) -> u32
 
 /// How many rows a split takes. It reads along its path alone.
 pub(crate) fn split_cost<R: Rows>(rows: &mut R, link: u32, key: &Key) -> SplitCost
-    requires tree { (s : State) × (t : ToSplit (R.content rows.old) s link key.now) × (split_rows key.now (tree_of One t.tree.placed) ≤ 4294967295) }
-    ensures rows { (s : State) (t : ToSplit (R.content rows.old) s link key.now) → result.rows ≡ split_rows key.now (tree_of One t.tree.placed) }
-    ensures below { (s : State) (t : ToSplit (R.content rows.old) s link key.now) → result.none_below ≡ is_empty (below key.now (tree_of One t.tree.placed)) }
-    ensures above { (s : State) (t : ToSplit (R.content rows.old) s link key.now) → result.none_above ≡ is_empty (above key.now (tree_of One t.tree.placed)) }
+    requires tree { (s : State) × (t : ToSplit (R.content rows.old) s link key.now)
+        × (split_rows key.now (tree_of One t.tree.placed) ≤ 4294967295) }
+    ensures rows { (s : State) (t : ToSplit (R.content rows.old) s link key.now)
+        → result.rows ≡ split_rows key.now (tree_of One t.tree.placed) }
+    ensures below { (s : State) (t : ToSplit (R.content rows.old) s link key.now)
+        → result.none_below ≡ is_empty (below key.now (tree_of One t.tree.placed)) }
+    ensures above { (s : State) (t : ToSplit (R.content rows.old) s link key.now)
+        → result.none_above ≡ is_empty (above key.now (tree_of One t.tree.placed)) }
     ensures same { rows.new ≡ rows.old }
 {
     if link == 0 {
@@ -91,11 +95,14 @@ pub(crate) fn split_cost<R: Rows>(rows: &mut R, link: u32, key: &Key) -> SplitCo
     }
 }
 
-/// How many rows a put takes of a key that has this layer, where the value is not the one that the key has. It reads along its path alone.
+/// How many rows a put takes of a key that has this layer, where the value is not the one that the
+/// key has. It reads along its path alone.
 pub(crate) fn put_cost<R: Rows>(rows: &mut R, link: u32, layer: u8, key: &Key) -> u32
-    requires tree { (s : State) × (t : RisingTree (R.content rows.old) s link) × (v : List ℕ) × (pair_rows t layer key.now v ≤ 4294967295) }
+    requires tree { (s : State) × (t : RisingTree (R.content rows.old) s link) × (v : List ℕ)
+        × (pair_rows t layer key.now v ≤ 4294967295) }
     requires layer { layer ≡ layer_in One key.now }
-    ensures cost { (s : State) (t : RisingTree (R.content rows.old) s link) (v : List ℕ) → result ≡ pair_rows t layer key.now v }
+    ensures cost { (s : State) (t : RisingTree (R.content rows.old) s link) (v : List ℕ)
+        → result ≡ pair_rows t layer key.now v }
     ensures same { rows.new ≡ rows.old }
 {
     match put_step(rows, link, layer, key) {

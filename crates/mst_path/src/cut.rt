@@ -34,11 +34,13 @@ pub(crate) enum Cut {
     },
 }
 
-/// Cuts the entries of a node at a key. It reads the entries with keys up to the first that is not below the key.
+/// Cuts the entries of a node at a key. It reads the entries with keys up to the first that is not
+/// below the key.
 pub(crate) fn cut_at<R: Rows>(rows: &mut R, head: &HeadLinks, key: &Key) -> Cut
     requires lies { (es : List PlacedEntry) × EntriesLie (R.content rows.old) head.now es }
-    ensures cut { (es : List PlacedEntry) (tail : Placed) → EntriesLie (R.content rows.old) head.now es
-        → link_of tail ≡ head.now.tail → IsCut key.now es tail result }
+    ensures cut { (es : List PlacedEntry) (tail : Placed)
+        → EntriesLie (R.content rows.old) head.now es → link_of tail ≡ head.now.tail
+        → IsCut key.now es tail result }
     ensures same { rows.new ≡ rows.old }
 {
     let first = head.first;

@@ -13,9 +13,11 @@ use mst_key::{Key, Value};
 
 /// The value of a key in the tree at a link. It reads along the path to the key alone.
 pub(crate) fn find<R: Rows>(rows: &mut R, link: u32, key: &Key) -> Option<Value>
-    requires tree { (s : State) × (t : SearchTree (R.content rows.old) s link) × IsAscending (pairs (tree_of One t.placed)) }
+    requires tree { (s : State) × (t : SearchTree (R.content rows.old) s link)
+        × IsAscending (pairs (tree_of One t.placed)) }
     ensures found { (s : State) (t : SearchTree (R.content rows.old) s link)
-        → IsAscending (pairs (tree_of One t.placed)) → result ≡ map_get (pairs (tree_of One t.placed)) key.now }
+        → IsAscending (pairs (tree_of One t.placed))
+        → result ≡ map_get (pairs (tree_of One t.placed)) key.now }
     ensures same { rows.new ≡ rows.old }
 {
     if link == 0 {

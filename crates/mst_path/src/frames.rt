@@ -55,7 +55,8 @@ pub(crate) fn kill_both<A: Allocator>(desk: &mut Desk<A>, row: u32, other: Optio
     }
 }
 
-/// The node of the frame with the tree in its gap, and that tree alone where the frame has no entry.
+/// The node of the frame with the tree in its gap, and that tree alone where the frame has no
+/// entry.
 fn fill<R: Rows, A: Allocator>(rows: &mut R, desk: &mut Desk<A>, frame: &Frame, seam: &Root) -> Root
     requires frame { (p : Placed) × IsRootOf p seam.now × Piece (R.content rows.old) desk.old p
         × Framed (R.content rows.old) desk.old frame.now (λ x. times x (used p)) }
@@ -65,8 +66,9 @@ fn fill<R: Rows, A: Allocator>(rows: &mut R, desk: &mut Desk<A>, frame: &Frame, 
     requires free { FreeIsBlank desk.old.lives (R.blank rows.old) }
     ensures made { (p : Placed) → IsRootOf p seam.now → Piece (R.content rows.old) desk.old p
         → (f : Framed (R.content rows.old) desk.old frame.now (λ x. times x (used p)))
-        → Grown (R.content rows.old) (R.content rows.new) desk.old desk.new (tree_round f (tree_of One p)) result
-        (λ x. times x (used p) + in_entries f x) (frame_rows frame.now) }
+        → Grown (R.content rows.old) (R.content rows.new) desk.old desk.new
+        (tree_round f (tree_of One p)) result (λ x. times x (used p) + in_entries f x)
+        (frame_rows frame.now) }
     ensures blank { R.blank rows.new ≡ R.blank rows.old }
     ensures kept { R.kept rows.new ≡ R.kept rows.old }
 {
@@ -83,7 +85,8 @@ fn fill<R: Rows, A: Allocator>(rows: &mut R, desk: &mut Desk<A>, frame: &Frame, 
     make_node(rows, desk, &parts)
 }
 
-/// Makes the node of the frame with the tree in its gap, or leaves that tree alone where the frame has no entry. The rows that the frame names die.
+/// Makes the node of the frame with the tree in its gap, or leaves that tree alone where the frame
+/// has no entry. The rows that the frame names die.
 pub(crate) fn close<R: Rows, A: Allocator>(
     rows: &mut R,
     desk: &mut Desk<A>,
@@ -98,8 +101,9 @@ pub(crate) fn close<R: Rows, A: Allocator>(
     requires free { FreeIsBlank desk.old.lives (R.blank rows.old) }
     ensures made { (p : Placed) → IsRootOf p seam.now → Piece (R.content rows.old) desk.old p
         → (f : Framed (R.content rows.old) desk.old frame.now (λ x. times x (used p)))
-        → Grown (R.content rows.old) (R.content rows.new) desk.old desk.new (tree_round f (tree_of One p)) result
-        (λ x. times x (used p) + in_frame f x) (frame_rows frame.now) }
+        → Grown (R.content rows.old) (R.content rows.new) desk.old desk.new
+        (tree_round f (tree_of One p)) result (λ x. times x (used p) + in_frame f x)
+        (frame_rows frame.now) }
     ensures blank { R.blank rows.new ≡ R.blank rows.old }
     ensures kept { R.kept rows.new ≡ R.kept rows.old }
 {

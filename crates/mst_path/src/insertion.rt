@@ -40,13 +40,21 @@ fn is_same(found: &Option<Value>, value: &Value) -> bool
     }
 }
 
-/// Puts a pair into the map that stands at a root. It answers the root at which the map with the pair stands, and the value that the key had.
+/// Puts a pair into the map that stands at a root. It answers the root at which the map with the
+/// pair stands, and the value that the key had.
 ///
-/// The rows that stand at the root were born with the current version or an earlier one and are not dead, and the desk's free rows may be written. Nodes along the path to the key's place, and along the path on which the tree below that place is split, are made anew, in rows that are born with the version to come; the rows that only the old tree uses die with that version. All else is shared. Where the key has this value already nothing is changed, and the root stays.
+/// The rows that stand at the root were born with the current version or an earlier one and are not
+/// dead, and the desk's free rows may be written. Nodes along the path to the key's place, and
+/// along the path on which the tree below that place is split, are made anew, in rows that are born
+/// with the version to come; the rows that only the old tree uses die with that version. All else
+/// is shared. Where the key has this value already nothing is changed, and the root stays.
 ///
-/// It takes exactly one row for each entry and one for each node that is made anew. `NoRoom` comes exactly where fewer rows are free; then rows and desk are as before.
+/// It takes exactly one row for each entry and one for each node that is made anew. `NoRoom` comes
+/// exactly where fewer rows are free; then rows and desk are as before.
 ///
-/// No memory is taken, and calls nest no deeper than the layers, 65 at the most. The path is read three times: for the value, to count, and to make the new nodes; only the last time hashes nodes, each new one once. The key is hashed once, for its layer.
+/// No memory is taken, and calls nest no deeper than the layers, 65 at the most. The path is read
+/// three times: for the value, to count, and to make the new nodes; only the last time hashes
+/// nodes, each new one once. The key is hashed once, for its layer.
 pub fn put<R: Rows, A: Allocator>(
     rows: &mut R,
     desk: &mut Desk<A>,
@@ -56,23 +64,32 @@ pub fn put<R: Rows, A: Allocator>(
 ) -> Result<(Root, Option<Value>), NoRoom>
     requires stands { MapStands (R.content rows.old) desk.old root.now }
     requires free { FreeIsBlank desk.old.lives (R.blank rows.old) }
-    ensures stands { IfOk result (λ done. (m : List Pair) → Stands One (R.content rows.old) root.now m
+    ensures stands { IfOk result (λ done. (m : List Pair)
+        → Stands One (R.content rows.old) root.now m
         → Stands One (R.content rows.new) done.0 (map.put m key.now value.now)) }
-    ensures value { IfOk result (λ done. (m : List Pair) → Stands One (R.content rows.old) root.now m → done.1 ≡ map_get m key.now) }
+    ensures value { IfOk result (λ done. (m : List Pair)
+        → Stands One (R.content rows.old) root.now m → done.1 ≡ map_get m key.now) }
     ensures written { OnlyFreeWritten desk.old (R.content rows.old) (R.content rows.new) }
     // as many rows as the nodes that are new have entries and heads
     ensures cost { IfOk result (λ _. (m : List Pair) → Stands One (R.content rows.old) root.now m
-        → free_count desk.new.lives + cost One m (map.put m key.now value.now) ≡ free_count desk.old.lives) }
-    ensures changes { IfOk result (λ done. (m n : List Pair) (old : Stands One (R.content rows.old) root.now m)
-        (new : Stands One (R.content rows.new) done.0 n) → Changes desk.old desk.new (numbers old) (numbers new)) }
+        → free_count desk.new.lives + cost One m (map.put m key.now value.now)
+        ≡ free_count desk.old.lives) }
+    ensures changes { IfOk result (λ done. (m n : List Pair)
+        (old : Stands One (R.content rows.old) root.now m)
+        (new : Stands One (R.content rows.new) done.0 n)
+        → Changes desk.old desk.new (numbers old) (numbers new)) }
     ensures versions { SameVersions desk.old desk.new }
-    // the rows of a node are of one age: with all below it they were there before, or they are all new
-    ensures made { IfOk result (λ done. (n : List Pair) (new : Stands One (R.content rows.new) done.0 n) → IsMade desk.new new.tree.placed) }
-    ensures same_value { IfOk result (λ done. (m : List Pair) → Stands One (R.content rows.old) root.now m → map_get m key.now ≡ Some value.now
+    // the rows of a node are of one age: with all below it they were there before, or they are all
+    // new
+    ensures made { IfOk result (λ done. (n : List Pair)
+        (new : Stands One (R.content rows.new) done.0 n) → IsMade desk.new new.tree.placed) }
+    ensures same_value { IfOk result (λ done. (m : List Pair)
+        → Stands One (R.content rows.old) root.now m → map_get m key.now ≡ Some value.now
         → (done.0 ≡ root.now) × (desk.new ≡ desk.old) × (rows.new ≡ rows.old)) }
     ensures blank { R.blank rows.new ≡ R.blank rows.old }
     ensures kept { R.kept rows.new ≡ R.kept rows.old }
-    ensures no_room { IfErr result (λ _. (m : List Pair) → Stands One (R.content rows.old) root.now m
+    ensures no_room { IfErr result (λ _. (m : List Pair)
+        → Stands One (R.content rows.old) root.now m
         → free_count desk.old.lives < cost One m (map.put m key.now value.now)) }
     ensures untouched { IfErr result (λ _. (desk.new ≡ desk.old) × (rows.new ≡ rows.old)) }
 {

@@ -1,4 +1,5 @@
-//! Two trees that stand, joined: from the top down, the node of the greater layer is made anew round the gap in which it meets the other tree.
+//! Two trees that stand, joined: from the top down, the node of the greater layer is made anew
+//! round the gap in which it meets the other tree.
 ghost use Rattle.std.specs.Prelude.{◌≡◌, ◌≤◌, ◌<◌, ◌+◌, length};
 ghost use Rattle.mst_arena.specs.Lives.{State, free_count};
 ghost use Rattle.mst_path.specs.Takes.{FreeIsBlank};
@@ -21,18 +22,21 @@ pub(crate) struct Meeting {
     pub(crate) frame: Frame,
 }
 
-/// Joins two trees, all keys of the left one below those of the right one. The nodes along the path where they meet are made anew, their rows die, and all beside that path is shared.
+/// Joins two trees, all keys of the left one below those of the right one. The nodes along the path
+/// where they meet are made anew, their rows die, and all beside that path is shared.
 pub(crate) fn join<R: Rows, A: Allocator>(
     rows: &mut R,
     desk: &mut Desk<A>,
     left: u32,
     right: u32,
 ) -> Root
-    requires trees { (t : TwoTrees (R.content rows.old) desk.old left right) × (both_rows t ≤ free_count desk.old.lives) }
+    requires trees { (t : TwoTrees (R.content rows.old) desk.old left right)
+        × (both_rows t ≤ free_count desk.old.lives) }
     requires few { length desk.old.lives ≤ 65535 }
     requires free { FreeIsBlank desk.old.lives (R.blank rows.old) }
     ensures joined { (t : TwoTrees (R.content rows.old) desk.old left right)
-        → Grown (R.content rows.old) (R.content rows.new) desk.old desk.new (both_joined t) result (in_both t) (both_rows t) }
+        → Grown (R.content rows.old) (R.content rows.new) desk.old desk.new (both_joined t) result
+        (in_both t) (both_rows t) }
     ensures blank { R.blank rows.new ≡ R.blank rows.old }
     ensures kept { R.kept rows.new ≡ R.kept rows.old }
 {
@@ -47,10 +51,13 @@ pub(crate) fn join<R: Rows, A: Allocator>(
     close(rows, desk, &meeting.frame, &seam)
 }
 
-/// How many rows [`join`] takes. It reads the heads along the path where the trees meet, and the first entry of each right one whose node is made anew.
+/// How many rows [`join`] takes. It reads the heads along the path where the trees meet, and the
+/// first entry of each right one whose node is made anew.
 pub(crate) fn join_cost<R: Rows>(rows: &mut R, left: u32, right: u32) -> u32
-    requires trees { (s : State) × (t : TwoTrees (R.content rows.old) s left right) × (both_rows t ≤ 65535) }
-    ensures cost { (s : State) (t : TwoTrees (R.content rows.old) s left right) → result ≡ both_rows t }
+    requires trees { (s : State) × (t : TwoTrees (R.content rows.old) s left right)
+        × (both_rows t ≤ 65535) }
+    ensures cost { (s : State) (t : TwoTrees (R.content rows.old) s left right)
+        → result ≡ both_rows t }
     ensures same { rows.new ≡ rows.old }
 {
     if left == 0 || right == 0 {
@@ -61,12 +68,14 @@ pub(crate) fn join_cost<R: Rows>(rows: &mut R, left: u32, right: u32) -> u32
     inner + meeting.frame.rows()
 }
 
-/// Where two trees meet, neither of them empty. It reads their heads, and the first entry of the right one where its node is made anew.
+/// Where two trees meet, neither of them empty. It reads their heads, and the first entry of the
+/// right one where its node is made anew.
 fn meet<R: Rows>(rows: &mut R, left: u32, right: u32) -> Meeting
     requires trees { (s : State) × TwoTrees (R.content rows.old) s left right }
     requires left { 0 < left }
     requires right { 0 < right }
-    ensures met { (s : State) (t : TwoTrees (R.content rows.old) s left right) → Met (R.content rows.old) s left right t result }
+    ensures met { (s : State) (t : TwoTrees (R.content rows.old) s left right)
+        → Met (R.content rows.old) s left right t result }
     ensures same { rows.new ≡ rows.old }
 {
     let low = rows.head(left - 1);
@@ -125,7 +134,8 @@ fn lower(left: u32, right: u32, high: &HeadLinks, child: u32) -> Meeting
     }
 }
 
-/// The nodes are of one layer and become one: the last tree of the left one meets the first of the right one.
+/// The nodes are of one layer and become one: the last tree of the left one meets the first of the
+/// right one.
 fn level(left: u32, low: &HeadLinks, right: u32, high: &HeadLinks, child: u32) -> Meeting
     requires left { 0 < left }
     requires right { 0 < right }

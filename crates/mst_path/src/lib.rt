@@ -1,6 +1,9 @@
-//! Trees in the rows of the shared arena: how they are written, and how they change by path copying.
+//! Trees in the rows of the shared arena: how they are written, and how they change by path
+//! copying.
 //!
-//! [`plant`] writes a whole tree into free rows, [`put`] puts a pair into the map that stands at a root, and [`remove`] takes a key out of it. A node is written entry by entry, and its text is fed to the hash on the way, so that no call takes memory.
+//! [`plant`] writes a whole tree into free rows, [`put`] puts a pair into the map that stands at a
+//! root, and [`remove`] takes a key out of it. A node is written entry by entry, and its text is
+//! fed to the hash on the way, so that no call takes memory.
 //!
 //! ```
 //! let mut desk = Desk::new(alloc, 64, 2, 0)?;
@@ -12,16 +15,27 @@
 //! desk.sweep(&[2]);                                 // and what only version 1 reached is free again
 //! ```
 //!
-//! The calls write rows for the version to come and publish nothing: their caller advances the desk, and sweeps. A change of too few free rows is refused before a row is written, by [`NoRoom`].
+//! The calls write rows for the version to come and publish nothing: their caller advances the
+//! desk, and sweeps. A change of too few free rows is refused before a row is written, by
+//! [`NoRoom`].
 //!
-//! The tree of the map after a put or a remove is made from the old one along one path, which is split or joined from the top down; all beside the path is shared. `mst_change` defines these trees and counts the rows of the nodes that are made new. [`reach_laws`] says which rows a version reaches after such a change, [`version_laws`] that the map of each version that is kept stays as it is, [`age_laws`] how old the rows of a node are, and [`room_laws`] how many rows kept versions leave free.
+//! The tree of the map after a put or a remove is made from the old one along one path, which is
+//! split or joined from the top down; all beside the path is shared. `mst_change` defines these
+//! trees and counts the rows of the nodes that are made new. [`reach_laws`] says which rows a
+//! version reaches after such a change, [`version_laws`] that the map of each version that is kept
+//! stays as it is, [`age_laws`] how old the rows of a node are, and [`room_laws`] how many rows
+//! kept versions leave free.
 //!
 //! Below the calls, from the top down:
 //!
-//! - `insertion` and `removal` look for the key (`finding`), count the rows that are needed (`counting`, `removing`), and only then write.
-//! - `putting`, `split`, `removing` and `joining` go down the path, with where the key stands among the entries of a node (`cut`).
-//! - `frames` has what is left of a node round the gap whose tree changes; `making` makes a new node of such parts.
-//! - `node_writer` writes the rows of one node, for `copying`, which moves the entries of an old node, and for `whole_tree`, which plants.
+//! - `insertion` and `removal` look for the key (`finding`), count the rows that are needed
+//!   (`counting`, `removing`), and only then write.
+//! - `putting`, `split`, `removing` and `joining` go down the path, with where the key stands among
+//!   the entries of a node (`cut`).
+//! - `frames` has what is left of a node round the gap whose tree changes; `making` makes a new
+//!   node of such parts.
+//! - `node_writer` writes the rows of one node, for `copying`, which moves the entries of an old
+//!   node, and for `whole_tree`, which plants.
 #![tactic(auto)]
 
 mod copying;

@@ -68,8 +68,10 @@ pub(crate) fn make_node<R: Rows, A: Allocator>(
     requires free { FreeIsBlank desk.old.lives (R.blank rows.old) }
     ensures made { (p : PartsStand (R.content rows.old) desk.old parts.now)
         → Grown (R.content rows.old) (R.content rows.new) desk.old desk.new
-        (node One parts.now.layer (with_entries (cells_of p.front) (with_first (tree_of One p.seam) (entries_to p.back p.tail))))
-        result (in_parts p) (parts.now.front.count + parts.now.back.count + 1) }
+        (node One parts.now.layer
+        (with_entries (cells_of p.front)
+        (with_first (tree_of One p.seam) (entries_to p.back p.tail)))) result (in_parts p)
+        (parts.now.front.count + parts.now.back.count + 1) }
     ensures blank { R.blank rows.new ≡ R.blank rows.old }
     ensures kept { R.kept rows.new ≡ R.kept rows.old }
 {
@@ -85,7 +87,8 @@ pub(crate) fn make_node<R: Rows, A: Allocator>(
     finish_node(rows, desk, writer, parts)
 }
 
-/// Makes the node of the parts, with a new entry between the front and the seam, and a tree in the gap before it.
+/// Makes the node of the parts, with a new entry between the front and the seam, and a tree in the
+/// gap before it.
 pub(crate) fn make_node_with<R: Rows, A: Allocator>(
     rows: &mut R,
     desk: &mut Desk<A>,
@@ -94,17 +97,22 @@ pub(crate) fn make_node_with<R: Rows, A: Allocator>(
     key: &Key,
     value: &Value,
 ) -> Root
-    requires parts { (p : PartsStand (R.content rows.old) desk.old parts.now) × (c : Placed) × IsRootOf c child.now
-        × Piece (R.content rows.old) desk.old c × ((x : ℕ) → in_parts p x + times x (used c) ≤ 1) }
+    requires parts { (p : PartsStand (R.content rows.old) desk.old parts.now) × (c : Placed)
+        × IsRootOf c child.now × Piece (R.content rows.old) desk.old c
+        × ((x : ℕ) → in_parts p x + times x (used c) ≤ 1) }
     requires low { parts.now.layer ≤ 64 }
     requires room { parts.now.front.count + parts.now.back.count + 2 ≤ free_count desk.old.lives }
     requires few { length desk.old.lives ≤ 65535 }
     requires free { FreeIsBlank desk.old.lives (R.blank rows.old) }
-    ensures made { (p : PartsStand (R.content rows.old) desk.old parts.now) (c : Placed) → IsRootOf c child.now
-        → Piece (R.content rows.old) desk.old c → ((x : ℕ) → in_parts p x + times x (used c) ≤ 1)
+    ensures made { (p : PartsStand (R.content rows.old) desk.old parts.now) (c : Placed)
+        → IsRootOf c child.now → Piece (R.content rows.old) desk.old c
+        → ((x : ℕ) → in_parts p x + times x (used c) ≤ 1)
         → Grown (R.content rows.old) (R.content rows.new) desk.old desk.new
-        (node One parts.now.layer (with_entries (cells_of p.front) (entry (tree_of One c) key.now value.now (with_first (tree_of One p.seam) (entries_to p.back p.tail)))))
-        result (λ x. in_parts p x + times x (used c)) (parts.now.front.count + parts.now.back.count + 2) }
+        (node One parts.now.layer
+        (with_entries (cells_of p.front)
+        (entry (tree_of One c) key.now value.now
+        (with_first (tree_of One p.seam) (entries_to p.back p.tail))))) result
+        (λ x. in_parts p x + times x (used c)) (parts.now.front.count + parts.now.back.count + 2) }
     ensures blank { R.blank rows.new ≡ R.blank rows.old }
     ensures kept { R.kept rows.new ≡ R.kept rows.old }
 {
@@ -137,7 +145,8 @@ fn finish_node<R: Rows, A: Allocator>(
     requires head { IsTrue (R.blank rows.old writer.head) }
     requires free { FreeIsBlank desk.old.lives (R.blank rows.old) }
     ensures finished { (r : Rest writer (R.content rows.old) desk.old parts.now)
-        → Finished writer (R.content rows.old) (R.content rows.new) desk.old desk.new parts.now r result }
+        → Finished writer (R.content rows.old)
+        (R.content rows.new) desk.old desk.new parts.now r result }
     ensures blank { R.blank rows.new ≡ R.blank rows.old }
     ensures kept { R.kept rows.new ≡ R.kept rows.old }
 {
@@ -147,7 +156,8 @@ fn finish_node<R: Rows, A: Allocator>(
     finish_with_back(rows, desk, writer, parts)
 }
 
-/// Moves the entries at the back into the node, the first with the seam before it, and writes the head.
+/// Moves the entries at the back into the node, the first with the seam before it, and writes the
+/// head.
 fn finish_with_back<R: Rows, A: Allocator>(
     rows: &mut R,
     desk: &mut Desk<A>,
@@ -164,7 +174,8 @@ fn finish_with_back<R: Rows, A: Allocator>(
     requires head { IsTrue (R.blank rows.old writer.head) }
     requires free { FreeIsBlank desk.old.lives (R.blank rows.old) }
     ensures finished { (r : Rest writer (R.content rows.old) desk.old parts.now)
-        → Finished writer (R.content rows.old) (R.content rows.new) desk.old desk.new parts.now r result }
+        → Finished writer (R.content rows.old)
+        (R.content rows.new) desk.old desk.new parts.now r result }
     ensures blank { R.blank rows.new ≡ R.blank rows.old }
     ensures kept { R.kept rows.new ≡ R.kept rows.old }
 {

@@ -51,7 +51,9 @@ fn feed_root(hasher: &mut Sha256, child: &Root)
     }
 }
 
-/// A node that is being written. Its rows are taken on the way: that of the head and that of the first entry at the beginning, and that of each further entry before the one in front of it is written, since that one links to it.
+/// A node that is being written. Its rows are taken on the way: that of the head and that of the
+/// first entry at the beginning, and that of each further entry before the one in front of it is
+/// written, since that one links to it.
 #[derive(Drop)]
 pub(crate) struct NodeWriter {
     /// The text up to the entries that are written.
@@ -99,7 +101,8 @@ impl NodeWriter {
         }
     }
 
-    /// Writes the next entry, behind the tree at `child`. It takes a row where a further entry is left.
+    /// Writes the next entry, behind the tree at `child`. It takes a row where a further entry is
+    /// left.
     pub(crate) fn entry<R: Rows, A: Allocator>(
         &mut self,
         rows: &mut R,
@@ -115,13 +118,15 @@ impl NodeWriter {
         requires blank { IfSome self.old.next (λ r. IsTrue (R.blank rows.old r)) }
         requires child { child.now.link ≤ 65535 }
         ensures writer { IsWriter self.new }
-        // behind the entries that are written stands the new one, if the row that was taken for it is none of theirs and none of its child's
+        // behind the entries that are written stands the new one, if the row that was taken for it
+        // is none of theirs and none of its child's
         ensures written { (es : List PlacedEntry) (p : Placed) (r : ℕ) → self.old.next ≡ Some r
-            → IsWritten self.old (R.content rows.old) es
-            → IsRootOf p child.now → HasRows (R.content rows.old) (rows_of One p)
-            → IsOut r (entries_used es ++ used p)
-            → IsWritten self.new (R.content rows.new) (es ++ record { at = r; child = p; key = key.now; value = value.now } ∷ []) }
-        ensures node { (self.new.layer ≡ self.old.layer) × (self.new.count ≡ self.old.count) × (self.new.left + 1 ≡ self.old.left) × (self.new.head ≡ self.old.head) }
+            → IsWritten self.old (R.content rows.old) es → IsRootOf p child.now
+            → HasRows (R.content rows.old) (rows_of One p) → IsOut r (entries_used es ++ used p)
+            → IsWritten self.new (R.content rows.new)
+            (es ++ record { at = r; child = p; key = key.now; value = value.now } ∷ []) }
+        ensures node { (self.new.layer ≡ self.old.layer) × (self.new.count ≡ self.old.count)
+            × (self.new.left + 1 ≡ self.old.left) × (self.new.head ≡ self.old.head) }
         ensures takes { Takes desk.old desk.new (ahead self.new.next) }
         ensures keeps { KeepsBut (ahead self.old.next) (R.content rows.old) (R.content rows.new) }
         ensures blank { R.blank rows.new ≡ R.blank rows.old }
@@ -146,7 +151,8 @@ impl NodeWriter {
         feed_counted(&mut self.hasher, value.bytes());
     }
 
-    /// Writes the head, once all entries are written, with the tree at `tail` in the last gap. It answers where the node stands.
+    /// Writes the head, once all entries are written, with the tree at `tail` in the last gap. It
+    /// answers where the node stands.
     pub(crate) fn finish<R: Rows>(mut self, rows: &mut R, tail: &Root) -> Root
         requires writer { IsWriter self }
         requires all { self.left ≡ 0 }
@@ -154,11 +160,14 @@ impl NodeWriter {
         requires tail { tail.now.link ≤ 65535 }
         ensures root { (es : List PlacedEntry) (p : Placed) → IsWritten self (R.content rows.old) es
             → IsRootOf p tail.now → IsRootOf (head self.head self.layer (chain_of es p)) result }
-        // the node stands, if the row of its head is none of its entries' and none of the last tree's
-        ensures stands { (es : List PlacedEntry) (p : Placed) → IsWritten self (R.content rows.old) es
-            → IsRootOf p tail.now → HasRows (R.content rows.old) (rows_of One p)
+        // the node stands, if the row of its head is none of its entries' and none of the last
+        // tree's
+        ensures stands { (es : List PlacedEntry) (p : Placed)
+            → IsWritten self (R.content rows.old) es → IsRootOf p tail.now
+            → HasRows (R.content rows.old) (rows_of One p)
             → IsOut self.head (entries_used es ++ used p)
-            → HasRows (R.content rows.new) (rows_of One (head self.head self.layer (chain_of es p))) }
+            → HasRows (R.content rows.new)
+            (rows_of One (head self.head self.layer (chain_of es p))) }
         ensures keeps { KeepsBut (self.head ∷ []) (R.content rows.old) (R.content rows.new) }
         ensures blank { R.blank rows.new ≡ R.blank rows.old }
         ensures kept { R.kept rows.new ≡ R.kept rows.old }

@@ -1,4 +1,5 @@
-//! The tree after a put: along the path to the key's place each node is made anew, and where the pair comes to stand the tree below it is split.
+//! The tree after a put: along the path to the key's place each node is made anew, and where the
+//! pair comes to stand the tree below it is split.
 ghost use Rattle.std.specs.Prelude.{◌≡◌, ◌≤◌, ◌<◌, ◌+◌, ℕ, List, length, true, false};
 ghost use Rattle.mst_key.specs.declared.format.Format.TheVariants.{One};
 ghost use Rattle.mst_key.specs.Layer.{layer_in};
@@ -42,8 +43,10 @@ pub(crate) enum PutStep {
 /// Whether all keys of a tree are of lower layers than this one.
 fn is_lower<R: Rows>(rows: &mut R, link: u32, layer: u8) -> bool
     requires tree { (s : State) × SearchTree (R.content rows.old) s link }
-    ensures lower { result ≡ true → (s : State) (t : SearchTree (R.content rows.old) s link) → height (tree_of One t.placed) ≤ layer }
-    ensures higher { result ≡ false → (s : State) (t : SearchTree (R.content rows.old) s link) → layer < height (tree_of One t.placed) }
+    ensures lower { result ≡ true → (s : State) (t : SearchTree (R.content rows.old) s link)
+        → height (tree_of One t.placed) ≤ layer }
+    ensures higher { result ≡ false → (s : State) (t : SearchTree (R.content rows.old) s link)
+        → layer < height (tree_of One t.placed) }
     ensures same { rows.new ≡ rows.old }
 {
     if link == 0 {
@@ -56,7 +59,8 @@ fn is_lower<R: Rows>(rows: &mut R, link: u32, layer: u8) -> bool
 pub(crate) fn put_step<R: Rows>(rows: &mut R, link: u32, layer: u8, key: &Key) -> PutStep
     requires tree { (s : State) × RisingTree (R.content rows.old) s link }
     requires layer { layer ≡ layer_in One key.now }
-    ensures step { (s : State) (t : RisingTree (R.content rows.old) s link) → IsPutStep (R.content rows.old) s link t layer key.now result }
+    ensures step { (s : State) (t : RisingTree (R.content rows.old) s link)
+        → IsPutStep (R.content rows.old) s link t layer key.now result }
     ensures same { rows.new ≡ rows.old }
 {
     if is_lower(rows, link, layer) {
@@ -91,7 +95,9 @@ fn put_between<R: Rows, A: Allocator>(
     requires free { FreeIsBlank desk.old.lives (R.blank rows.old) }
     ensures made { (t : TwoStand (R.content rows.old) desk.old lower.now upper.now)
         → Grown (R.content rows.old) (R.content rows.new) desk.old desk.new
-        (node One layer (entry (tree_of One t.lower) key.now value.now (last (tree_of One t.upper)))) result (in_two t) 2 }
+        (node One layer
+        (entry (tree_of One t.lower) key.now value.now (last (tree_of One t.upper)))) result
+        (in_two t) 2 }
     ensures blank { R.blank rows.new ≡ R.blank rows.old }
     ensures kept { R.kept rows.new ≡ R.kept rows.old }
 {
@@ -105,7 +111,8 @@ fn put_between<R: Rows, A: Allocator>(
     make_node_with(rows, desk, &parts, lower, key, value)
 }
 
-/// Puts a new pair on top of a tree whose keys are all of lower layers: the tree is split, and the pair stands between its sides.
+/// Puts a new pair on top of a tree whose keys are all of lower layers: the tree is split, and the
+/// pair stands between its sides.
 fn put_on_top<R: Rows, A: Allocator>(
     rows: &mut R,
     desk: &mut Desk<A>,
@@ -114,14 +121,17 @@ fn put_on_top<R: Rows, A: Allocator>(
     key: &Key,
     value: &Value,
 ) -> Root
-    requires tree { (t : ToSplit (R.content rows.old) desk.old link key.now) × (2 + split_rows key.now (tree_of One t.tree.placed) ≤ free_count desk.old.lives) }
+    requires tree { (t : ToSplit (R.content rows.old) desk.old link key.now)
+        × (2 + split_rows key.now (tree_of One t.tree.placed) ≤ free_count desk.old.lives) }
     requires low { layer ≤ 64 }
     requires few { length desk.old.lives ≤ 65535 }
     requires free { FreeIsBlank desk.old.lives (R.blank rows.old) }
     ensures made { (t : ToSplit (R.content rows.old) desk.old link key.now)
         → Grown (R.content rows.old) (R.content rows.new) desk.old desk.new
-        (node One layer (entry (below key.now (tree_of One t.tree.placed)) key.now value.now (last (above key.now (tree_of One t.tree.placed)))))
-        result (λ x. times x (used t.tree.placed)) (2 + split_rows key.now (tree_of One t.tree.placed)) }
+        (node One layer
+        (entry (below key.now (tree_of One t.tree.placed)) key.now value.now
+        (last (above key.now (tree_of One t.tree.placed))))) result
+        (λ x. times x (used t.tree.placed)) (2 + split_rows key.now (tree_of One t.tree.placed)) }
     ensures blank { R.blank rows.new ≡ R.blank rows.old }
     ensures kept { R.kept rows.new ≡ R.kept rows.old }
 {
@@ -129,7 +139,8 @@ fn put_on_top<R: Rows, A: Allocator>(
     put_between(rows, desk, layer, &lower, &upper, key, value)
 }
 
-/// Makes the node of the frame with a new entry in its gap, between two trees. The rows that the frame names die.
+/// Makes the node of the frame with a new entry in its gap, between two trees. The rows that the
+/// frame names die.
 fn close_with<R: Rows, A: Allocator>(
     rows: &mut R,
     desk: &mut Desk<A>,
@@ -139,14 +150,17 @@ fn close_with<R: Rows, A: Allocator>(
     key: &Key,
     value: &Value,
 ) -> Root
-    requires frame { (t : TwoStand (R.content rows.old) desk.old lower.now upper.now) × Framed (R.content rows.old) desk.old frame.now (in_two t) }
+    requires frame { (t : TwoStand (R.content rows.old) desk.old lower.now upper.now)
+        × Framed (R.content rows.old) desk.old frame.now (in_two t) }
     requires low { frame.now.layer ≤ 64 }
     requires room { with_rows frame.now ≤ free_count desk.old.lives }
     requires few { length desk.old.lives ≤ 65535 }
     requires free { FreeIsBlank desk.old.lives (R.blank rows.old) }
-    ensures made { (t : TwoStand (R.content rows.old) desk.old lower.now upper.now) (f : Framed (R.content rows.old) desk.old frame.now (in_two t))
+    ensures made { (t : TwoStand (R.content rows.old) desk.old lower.now upper.now)
+        (f : Framed (R.content rows.old) desk.old frame.now (in_two t))
         → Grown (R.content rows.old) (R.content rows.new) desk.old desk.new
-        (tree_with f key.now value.now (tree_of One t.lower) (tree_of One t.upper)) result (λ x. in_two t x + in_frame f x) (with_rows frame.now) }
+        (tree_with f key.now value.now (tree_of One t.lower) (tree_of One t.upper)) result
+        (λ x. in_two t x + in_frame f x) (with_rows frame.now) }
     ensures blank { R.blank rows.new ≡ R.blank rows.old }
     ensures kept { R.kept rows.new ≡ R.kept rows.old }
 {
@@ -162,7 +176,8 @@ fn close_with<R: Rows, A: Allocator>(
     root
 }
 
-/// Puts a new pair into a gap of a node of its layer: the tree there is split, and the pair stands between its sides.
+/// Puts a new pair into a gap of a node of its layer: the tree there is split, and the pair stands
+/// between its sides.
 fn put_level<R: Rows, A: Allocator>(
     rows: &mut R,
     desk: &mut Desk<A>,
@@ -173,14 +188,18 @@ fn put_level<R: Rows, A: Allocator>(
 ) -> Root
     requires gap { (t : ToSplit (R.content rows.old) desk.old child key.now)
         × Framed (R.content rows.old) desk.old frame.now (λ x. times x (used t.tree.placed))
-        × (split_rows key.now (tree_of One t.tree.placed) + with_rows frame.now ≤ free_count desk.old.lives) }
+        × (split_rows key.now (tree_of One t.tree.placed) + with_rows frame.now
+        ≤ free_count desk.old.lives) }
     requires low { frame.now.layer ≤ 64 }
     requires few { length desk.old.lives ≤ 65535 }
     requires free { FreeIsBlank desk.old.lives (R.blank rows.old) }
-    ensures made { (t : ToSplit (R.content rows.old) desk.old child key.now) (f : Framed (R.content rows.old) desk.old frame.now (λ x. times x (used t.tree.placed)))
+    ensures made { (t : ToSplit (R.content rows.old) desk.old child key.now)
+        (f : Framed (R.content rows.old) desk.old frame.now (λ x. times x (used t.tree.placed)))
         → Grown (R.content rows.old) (R.content rows.new) desk.old desk.new
-        (tree_with f key.now value.now (below key.now (tree_of One t.tree.placed)) (above key.now (tree_of One t.tree.placed))) result
-        (λ x. times x (used t.tree.placed) + in_frame f x) (split_rows key.now (tree_of One t.tree.placed) + with_rows frame.now) }
+        (tree_with f key.now value.now (below key.now (tree_of One t.tree.placed))
+        (above key.now (tree_of One t.tree.placed))) result
+        (λ x. times x (used t.tree.placed) + in_frame f x)
+        (split_rows key.now (tree_of One t.tree.placed) + with_rows frame.now) }
     ensures blank { R.blank rows.new ≡ R.blank rows.old }
     ensures kept { R.kept rows.new ≡ R.kept rows.old }
 {
@@ -215,7 +234,9 @@ fn put_value<R: Rows, A: Allocator>(
     close_with(rows, desk, &meeting.frame, &lower, &upper, key, value)
 }
 
-/// Puts a pair, whose key is of this layer, into the tree at a link. The nodes along the path to its place, and along the path of the split below it, are made anew; their rows die, and all beside that path is shared.
+/// Puts a pair, whose key is of this layer, into the tree at a link. The nodes along the path to
+/// its place, and along the path of the split below it, are made anew; their rows die, and all
+/// beside that path is shared.
 pub(crate) fn put_at<R: Rows, A: Allocator>(
     rows: &mut R,
     desk: &mut Desk<A>,
@@ -224,14 +245,16 @@ pub(crate) fn put_at<R: Rows, A: Allocator>(
     key: &Key,
     value: &Value,
 ) -> Root
-    requires tree { (t : RisingTree (R.content rows.old) desk.old link) × (pair_rows t layer key.now value.now ≤ free_count desk.old.lives) }
+    requires tree { (t : RisingTree (R.content rows.old) desk.old link)
+        × (pair_rows t layer key.now value.now ≤ free_count desk.old.lives) }
     requires layer { layer ≡ layer_in One key.now }
     requires low { layer ≤ 64 }
     requires few { length desk.old.lives ≤ 65535 }
     requires free { FreeIsBlank desk.old.lives (R.blank rows.old) }
     ensures put { (t : RisingTree (R.content rows.old) desk.old link)
         → Grown (R.content rows.old) (R.content rows.new) desk.old desk.new
-        (with_pair t layer key.now value.now) result (in_rising t) (pair_rows t layer key.now value.now) }
+        (with_pair t layer key.now value.now) result (in_rising t)
+        (pair_rows t layer key.now value.now) }
     ensures blank { R.blank rows.new ≡ R.blank rows.old }
     ensures kept { R.kept rows.new ≡ R.kept rows.old }
 {

@@ -1,4 +1,5 @@
-//! A key removed from a tree that stands: along the path to its entry each node is made anew, and the trees beside the entry are joined.
+//! A key removed from a tree that stands: along the path to its entry each node is made anew, and
+//! the trees beside the entry are joined.
 ghost use Rattle.std.specs.Prelude.{◌≡◌, ◌≤◌, ◌<◌, ◌+◌, length, List};
 ghost use Rattle.mst_arena.specs.Lives.{State, free_count};
 ghost use Rattle.mst_arena.specs.Standing.{Placed, link_of, HasRows};
@@ -30,10 +31,14 @@ pub(crate) enum Step {
     Here { meeting: Meeting },
 }
 
-/// The link of the tree in front of these entries, the last ones of their node: its last tree, where there are none.
+/// The link of the tree in front of these entries, the last ones of their node: its last tree,
+/// where there are none.
 fn first_tree<R: Rows>(rows: &mut R, back: Run, tail: u32) -> u32
-    requires run { (es : List PlacedEntry) × IsRunOf back 0 es × HasRows (R.content rows.old) (own_rows 0 es) }
-    ensures tree { (es : List PlacedEntry) (p : Placed) → IsRunOf back 0 es → HasRows (R.content rows.old) (own_rows 0 es) → link_of p ≡ tail → link_of (gap_before es p) ≡ result }
+    requires run { (es : List PlacedEntry) × IsRunOf back 0 es
+        × HasRows (R.content rows.old) (own_rows 0 es) }
+    ensures tree { (es : List PlacedEntry) (p : Placed) → IsRunOf back 0 es
+        → HasRows (R.content rows.old) (own_rows 0 es) → link_of p ≡ tail
+        → link_of (gap_before es p) ≡ result }
     ensures same { rows.new ≡ rows.old }
 {
     if back.count == 0 {
@@ -46,8 +51,10 @@ fn first_tree<R: Rows>(rows: &mut R, back: Run, tail: u32) -> u32
 pub(crate) fn top_step<R: Rows>(rows: &mut R, link: u32, key: &Key) -> Step
     requires tree { (s : State) × SearchTree (R.content rows.old) s link }
     requires some { 0 < link }
-    ensures step { (s : State) (t : SearchTree (R.content rows.old) s link) → IsStep (R.content rows.old) s link t key.now result }
-    ensures opened { (s : State) (t : SearchTree (R.content rows.old) s link) → IsOpened (R.content rows.old) s link t key.now result }
+    ensures step { (s : State) (t : SearchTree (R.content rows.old) s link)
+        → IsStep (R.content rows.old) s link t key.now result }
+    ensures opened { (s : State) (t : SearchTree (R.content rows.old) s link)
+        → IsOpened (R.content rows.old) s link t key.now result }
     ensures same { rows.new ≡ rows.old }
 {
     let head = rows.head(link - 1);
@@ -99,8 +106,9 @@ fn join_round<R: Rows, A: Allocator>(rows: &mut R, desk: &mut Desk<A>, meeting: 
     requires free { FreeIsBlank desk.old.lives (R.blank rows.old) }
     ensures made { (t : TwoTrees (R.content rows.old) desk.old meeting.now.left meeting.now.right)
         (f : Framed (R.content rows.old) desk.old meeting.now.frame (in_both t))
-        → Grown (R.content rows.old) (R.content rows.new) desk.old desk.new (tree_round f (both_joined t)) result
-        (λ x. in_both t x + in_frame f x) (both_rows t + frame_rows meeting.now.frame) }
+        → Grown (R.content rows.old) (R.content rows.new) desk.old desk.new
+        (tree_round f (both_joined t)) result (λ x. in_both t x + in_frame f x)
+        (both_rows t + frame_rows meeting.now.frame) }
     ensures blank { R.blank rows.new ≡ R.blank rows.old }
     ensures kept { R.kept rows.new ≡ R.kept rows.old }
 {
@@ -108,18 +116,21 @@ fn join_round<R: Rows, A: Allocator>(rows: &mut R, desk: &mut Desk<A>, meeting: 
     close(rows, desk, &meeting.frame, &seam)
 }
 
-/// Removes a key from the tree at a link. The nodes along the path to its entry, and where the trees beside it meet, are made anew; their rows die, and all beside that path is shared.
+/// Removes a key from the tree at a link. The nodes along the path to its entry, and where the
+/// trees beside it meet, are made anew; their rows die, and all beside that path is shared.
 pub(crate) fn remove_at<R: Rows, A: Allocator>(
     rows: &mut R,
     desk: &mut Desk<A>,
     link: u32,
     key: &Key,
 ) -> Root
-    requires tree { (t : SearchTree (R.content rows.old) desk.old link) × (without_rows t key.now ≤ free_count desk.old.lives) }
+    requires tree { (t : SearchTree (R.content rows.old) desk.old link)
+        × (without_rows t key.now ≤ free_count desk.old.lives) }
     requires few { length desk.old.lives ≤ 65535 }
     requires free { FreeIsBlank desk.old.lives (R.blank rows.old) }
     ensures removed { (t : SearchTree (R.content rows.old) desk.old link)
-        → Grown (R.content rows.old) (R.content rows.new) desk.old desk.new (without t key.now) result (in_tree t) (without_rows t key.now) }
+        → Grown (R.content rows.old) (R.content rows.new) desk.old desk.new
+        (without t key.now) result (in_tree t) (without_rows t key.now) }
     ensures blank { R.blank rows.new ≡ R.blank rows.old }
     ensures kept { R.kept rows.new ≡ R.kept rows.old }
 {
@@ -137,8 +148,10 @@ pub(crate) fn remove_at<R: Rows, A: Allocator>(
 
 /// How many rows [`remove_at`] takes. It reads along the path alone.
 pub(crate) fn remove_cost<R: Rows>(rows: &mut R, link: u32, key: &Key) -> u32
-    requires tree { (s : State) × (t : SearchTree (R.content rows.old) s link) × (without_rows t key.now ≤ 65535) }
-    ensures cost { (s : State) (t : SearchTree (R.content rows.old) s link) → result ≡ without_rows t key.now }
+    requires tree { (s : State) × (t : SearchTree (R.content rows.old) s link)
+        × (without_rows t key.now ≤ 65535) }
+    ensures cost { (s : State) (t : SearchTree (R.content rows.old) s link)
+        → result ≡ without_rows t key.now }
     ensures same { rows.new ≡ rows.old }
 {
     if link == 0 {

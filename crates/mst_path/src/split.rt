@@ -41,12 +41,13 @@ fn is_none(run: &Run, beside: &Root) -> bool
 pub(crate) fn side<R: Rows, A: Allocator>(rows: &mut R, desk: &mut Desk<A>, parts: &Parts) -> Root
     requires parts { PartsStand (R.content rows.old) desk.old parts.now }
     requires low { parts.now.layer ≤ 64 }
-    requires room { side_rows (parts.now.front.count + parts.now.back.count) false ≤ free_count desk.old.lives }
+    requires room { side_rows (parts.now.front.count + parts.now.back.count) false
+        ≤ free_count desk.old.lives }
     requires few { length desk.old.lives ≤ 65535 }
     requires free { FreeIsBlank desk.old.lives (R.blank rows.old) }
     ensures made { (p : PartsStand (R.content rows.old) desk.old parts.now)
-        → Grown (R.content rows.old) (R.content rows.new) desk.old desk.new
-        (side_of p) result (in_parts p) (side_rows (parts.now.front.count + parts.now.back.count) false) }
+        → Grown (R.content rows.old) (R.content rows.new) desk.old desk.new (side_of p) result
+        (in_parts p) (side_rows (parts.now.front.count + parts.now.back.count) false) }
     ensures blank { R.blank rows.new ≡ R.blank rows.old }
     ensures kept { R.kept rows.new ≡ R.kept rows.old }
 {
@@ -66,12 +67,15 @@ pub(crate) fn both_sides<R: Rows, A: Allocator>(
 ) -> (Root, Root)
     requires parts { BothStand (R.content rows.old) desk.old row left.now right.now }
     requires low { (left.now.layer ≤ 64) × (right.now.layer ≤ 64) }
-    requires room { side_rows (left.now.front.count + left.now.back.count) false + side_rows (right.now.front.count + right.now.back.count) false ≤ free_count desk.old.lives }
+    requires room { side_rows (left.now.front.count + left.now.back.count) false + side_rows
+        (right.now.front.count + right.now.back.count) false ≤ free_count desk.old.lives }
     requires few { length desk.old.lives ≤ 65535 }
     requires free { FreeIsBlank desk.old.lives (R.blank rows.old) }
     ensures made { (b : BothStand (R.content rows.old) desk.old row left.now right.now)
-        → Split (R.content rows.old) (R.content rows.new) desk.old desk.new (side_of b.lower) (side_of b.upper) result.0 result.1
-        (in_both b) (side_rows (left.now.front.count + left.now.back.count) false + side_rows (right.now.front.count + right.now.back.count) false) }
+        → Split (R.content rows.old) (R.content rows.new) desk.old desk.new (side_of b.lower)
+        (side_of b.upper) result.0 result.1 (in_both b)
+        (side_rows (left.now.front.count + left.now.back.count) false + side_rows
+        (right.now.front.count + right.now.back.count) false) }
     ensures blank { R.blank rows.new ≡ R.blank rows.old }
     ensures kept { R.kept rows.new ≡ R.kept rows.old }
 {
@@ -81,24 +85,30 @@ pub(crate) fn both_sides<R: Rows, A: Allocator>(
     (lower, upper)
 }
 
-/// The two sides of a tree at a key that is of a higher layer than all its keys. Along the path to the key each node is made anew, in at most two parts; all beside the path is shared, and so is a tree that is all on one side of the key.
+/// The two sides of a tree at a key that is of a higher layer than all its keys. Along the path to
+/// the key each node is made anew, in at most two parts; all beside the path is shared, and so is a
+/// tree that is all on one side of the key.
 pub(crate) fn split<R: Rows, A: Allocator>(
     rows: &mut R,
     desk: &mut Desk<A>,
     link: u32,
     key: &Key,
 ) -> (Root, Root)
-    requires tree { (t : ToSplit (R.content rows.old) desk.old link key.now) × (split_rows key.now (tree_of One t.tree.placed) ≤ free_count desk.old.lives) }
+    requires tree { (t : ToSplit (R.content rows.old) desk.old link key.now)
+        × (split_rows key.now (tree_of One t.tree.placed) ≤ free_count desk.old.lives) }
     requires few { length desk.old.lives ≤ 65535 }
     requires free { FreeIsBlank desk.old.lives (R.blank rows.old) }
     ensures split { (t : ToSplit (R.content rows.old) desk.old link key.now)
         → Split (R.content rows.old) (R.content rows.new) desk.old desk.new
-        (below key.now (tree_of One t.tree.placed)) (above key.now (tree_of One t.tree.placed)) result.0 result.1
+        (below key.now (tree_of One t.tree.placed))
+        (above key.now (tree_of One t.tree.placed)) result.0 result.1
         (λ x. times x (used t.tree.placed)) (split_rows key.now (tree_of One t.tree.placed)) }
     ensures shared_below { (t : ToSplit (R.content rows.old) desk.old link key.now)
-        → is_empty (above key.now (tree_of One t.tree.placed)) ≡ true → (rows.new ≡ rows.old) × (desk.new ≡ desk.old) }
+        → is_empty (above key.now (tree_of One t.tree.placed)) ≡ true → (rows.new ≡ rows.old)
+        × (desk.new ≡ desk.old) }
     ensures shared_above { (t : ToSplit (R.content rows.old) desk.old link key.now)
-        → is_empty (below key.now (tree_of One t.tree.placed)) ≡ true → (rows.new ≡ rows.old) × (desk.new ≡ desk.old) }
+        → is_empty (below key.now (tree_of One t.tree.placed)) ≡ true → (rows.new ≡ rows.old)
+        × (desk.new ≡ desk.old) }
     ensures blank { R.blank rows.new ≡ R.blank rows.old }
     ensures kept { R.kept rows.new ≡ R.kept rows.old }
 {

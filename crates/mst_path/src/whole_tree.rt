@@ -53,7 +53,8 @@ fn plant_child<R: Rows, A: Allocator, B: Allocator>(
     requires room { rows_needed (tree_of_child One child.now) ≤ free_count desk.old.lives }
     requires few { length desk.old.lives ≤ 65535 }
     requires blank { FreeIsBlank desk.old.lives (R.blank rows.old) }
-    ensures planted { Planted desk.old desk.new (R.content rows.old) (R.content rows.new) (tree_of_child One child.now) result }
+    ensures planted { Planted desk.old desk.new (R.content rows.old) (R.content rows.new)
+        (tree_of_child One child.now) result }
     ensures blank { R.blank rows.new ≡ R.blank rows.old }
     ensures kept { R.kept rows.new ≡ R.kept rows.old }
 {
@@ -77,7 +78,8 @@ fn plant_node<R: Rows, A: Allocator, B: Allocator>(
     requires room { rows_needed (tree_of One node.now) ≤ free_count desk.old.lives }
     requires few { length desk.old.lives ≤ 65535 }
     requires blank { FreeIsBlank desk.old.lives (R.blank rows.old) }
-    ensures planted { Planted desk.old desk.new (R.content rows.old) (R.content rows.new) (tree_of One node.now) result }
+    ensures planted { Planted desk.old desk.new (R.content rows.old) (R.content rows.new)
+        (tree_of One node.now) result }
     ensures blank { R.blank rows.new ≡ R.blank rows.old }
     ensures kept { R.kept rows.new ≡ R.kept rows.old }
 {
@@ -90,13 +92,18 @@ fn plant_node<R: Rows, A: Allocator, B: Allocator>(
     writer.finish(rows, &tail)
 }
 
-/// Writes a whole tree into free rows. It takes exactly one row for each entry and each node, and writes no other; the rows then stand for the tree at the root that it answers, and for the empty tree at link 0.
+/// Writes a whole tree into free rows. It takes exactly one row for each entry and each node, and
+/// writes no other; the rows then stand for the tree at the root that it answers, and for the empty
+/// tree at link 0.
 ///
-/// The tree is one that `build` gave of at most 65,535 pairs, and the desk's free rows may be written. The rows are born with the version to come.
+/// The tree is one that `build` gave of at most 65,535 pairs, and the desk's free rows may be
+/// written. The rows are born with the version to come.
 ///
-/// `NoRoom` comes exactly where fewer rows are free than the tree takes. Nothing was taken or written then.
+/// `NoRoom` comes exactly where fewer rows are free than the tree takes. Nothing was taken or
+/// written then.
 ///
-/// No memory is taken. Each text is fed to the hash while its node is written, and nothing is read. Calls nest no deeper than the layers, 65 at the most.
+/// No memory is taken. Each text is fed to the hash while its node is written, and nothing is read.
+/// Calls nest no deeper than the layers, 65 at the most.
 pub fn plant<R: Rows, A: Allocator, B: Allocator>(
     rows: &mut R,
     desk: &mut Desk<A>,
@@ -104,16 +111,24 @@ pub fn plant<R: Rows, A: Allocator, B: Allocator>(
 ) -> Result<Root, NoRoom>
     requires tree { (m : List Pair) × IsTreeOf (tree_at (option_copied tree)) m }
     requires blank { FreeIsBlank desk.old.lives (R.blank rows.old) }
-    ensures stands { IfOk result (λ root. (m : List Pair) → IsMap m → IsTreeOf (tree_at (option_copied tree.entry)) m → Stands One (R.content rows.new) root m) }
+    ensures stands { IfOk result (λ root. (m : List Pair) → IsMap m
+        → IsTreeOf (tree_at (option_copied tree.entry)) m
+        → Stands One (R.content rows.new) root m) }
     // the rows that stand are those that were taken, and no other was written
-    ensures takes { IfOk result (λ root. (m : List Pair) (s : Stands One (R.content rows.new) root m) → Takes desk.old desk.new (numbers s)) }
-    ensures keeps { IfOk result (λ root. (m : List Pair) (s : Stands One (R.content rows.new) root m) → KeepsBut (numbers s) (R.content rows.old) (R.content rows.new)) }
+    ensures takes { IfOk result (λ root. (m : List Pair)
+        (s : Stands One (R.content rows.new) root m) → Takes desk.old desk.new (numbers s)) }
+    ensures keeps { IfOk result (λ root. (m : List Pair)
+        (s : Stands One (R.content rows.new) root m)
+        → KeepsBut (numbers s) (R.content rows.old) (R.content rows.new)) }
     // a row for each pair and each node of the tree
-    ensures count { IfOk result (λ _. (m : List Pair) → IsTreeOf (tree_at (option_copied tree.entry)) m
-        → free_count desk.new.lives + (length m + node_count (tree_of_map One m)) ≡ free_count desk.old.lives) }
+    ensures count { IfOk result (λ _. (m : List Pair)
+        → IsTreeOf (tree_at (option_copied tree.entry)) m
+        → free_count desk.new.lives + (length m + node_count (tree_of_map One m))
+        ≡ free_count desk.old.lives) }
     ensures blank { R.blank rows.new ≡ R.blank rows.old }
     ensures kept { R.kept rows.new ≡ R.kept rows.old }
-    ensures no_room { IfErr result (λ _. (m : List Pair) → IsTreeOf (tree_at (option_copied tree.entry)) m
+    ensures no_room { IfErr result (λ _. (m : List Pair)
+        → IsTreeOf (tree_at (option_copied tree.entry)) m
         → free_count desk.old.lives < length m + node_count (tree_of_map One m)) }
     ensures untouched { IfErr result (λ _. (desk.new ≡ desk.old) × (rows.new ≡ rows.old)) }
 {

@@ -8,7 +8,14 @@ use Rattle.mst_pin.specs.Words.{due_of, pinned_mask, pinned_by}
 
 -- passes, words, and the rows of each record as bits
 abbrev pub state_of : ℕ → Words → List ℕ → State
-state_of n w rows = record { passes = n; current = record_of w.current; rows = λ r. row_set (slice_index rows r); pins = pinned_by (n + 2) (pinned_mask w); due = due_of w.returned }
+state_of n w rows = record {
+  passes = n;
+  current = record_of w.current;
+  rows = λ r. row_set
+      (slice_index rows r);
+  pins = pinned_by (n + 2) (pinned_mask w);
+  due = due_of w.returned;
+}
 
 unfoldable pub state : Core → State
 state c = state_of c.passes c.words c.rows

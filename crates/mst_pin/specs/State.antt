@@ -1,4 +1,5 @@
--- The core as sets and relations: who pins what, which record is current, which rows each record has, and what each event does. No word and no mask stands here.
+-- The core as sets and relations: who pins what, which record is current, which rows each record
+-- has, and what each event does. No word and no mask stands here.
 use Rattle.std.specs.Prelude.{◌≡◌, ◌≢◌, ◌⊎◌, ℕ, ◌+◌, ◌<◌, ◌≤◌, ◌==◌, Bool, true, false, if◌then◌else◌, Option, Some, None, IsSome, IsNone, List, [], ◌∷◌}
 use Rattle.std.specs.Int.{bit_at}
 use Rattle.mst_pin.specs.declared.event.Event.{Event}
@@ -20,7 +21,8 @@ pub record State : Type 0 where
 
 -- record 0 is current, no record has a row, and nothing is pinned
 abbrev pub opening : ℕ → State
-opening passes = record { passes = passes; current = 0; rows = λ r x. false; pins = λ p. None; due = None }
+opening passes =
+    record { passes = passes; current = 0; rows = λ r x. false; pins = λ p. None; due = None }
 
 abbrev pub IsPass : State → ℕ → Type 0
 IsPass s p = (0 < p) × (p ≤ s.passes)
@@ -64,7 +66,8 @@ abbrev pub IsTaken : State → Event → Type 0
 IsTaken s (Pin p) = IsPass s p × IsNone (s.pins p)
 IsTaken s (Unpin p) = IsSome (s.pins p)
 IsTaken s (Write x) = IsRow x × IsBlank s x × IsNone s.due
-IsTaken s (Publish r rows) = IsNone s.due × IsRecord s r × (r ≢ s.current) × IsDrained s r × AreUsable s (row_set rows)
+IsTaken s (Publish r rows) =
+    IsNone s.due × IsRecord s r × (r ≢ s.current) × IsDrained s r × AreUsable s (row_set rows)
 IsTaken s Transfer = IsSome s.due
 IsTaken s (Ask r) = IsNone s.due × IsRecord s r × (r ≢ s.current)
 
@@ -77,7 +80,8 @@ abbrev pub after : State → Event → State
 after s (Pin p) = record s { pins = with_value s.pins p (Some s.current) }
 after s (Unpin p) = record s { pins = with_value s.pins p None }
 after s (Write x) = s
-after s (Publish r rows) = record s { current = r; rows = with_value s.rows r (row_set rows); due = Some s.current }
+after s (Publish r rows) =
+    record s { current = r; rows = with_value s.rows r (row_set rows); due = Some s.current }
 after s Transfer = record s { due = None }
 after s (Ask r) = s
 
@@ -92,7 +96,8 @@ Answers s (Ask r) a = ((a ≡ Yes) × IsDrained s r) ⊎ ((a ≡ No) × IsPinned
 
 -- one step: the event is taken and answered, or it is refused and changes nothing
 abbrev pub Steps : State → Event → Answer → State → Type 0
-Steps s e a t = (IsTaken s e × Answers s e a × (t ≡ after s e)) ⊎ ((¬ IsTaken s e) × (a ≡ Refused) × (t ≡ s))
+Steps s e a t =
+    (IsTaken s e × Answers s e a × (t ≡ after s e)) ⊎ ((¬ IsTaken s e) × (a ≡ Refused) × (t ≡ s))
 
 -- a list of events, with the answer to each
 abbrev pub Runs : State → List Event → List Answer → State → Type 0

@@ -17,7 +17,8 @@ returned_mask (Some d) r = if r == d.from then d.mask else 0
 
 -- the mask that counts beside a record's DONE
 abbrev pub counted_mask : Words → ℕ → ℕ
-counted_mask w r = if r == record_of w.current then mask_of w.current else returned_mask w.returned r
+counted_mask w r =
+    if r == record_of w.current then mask_of w.current else returned_mask w.returned r
 
 -- the passes that pin a record
 abbrev pub pinned_mask : Words → ℕ → ℕ
@@ -26,7 +27,8 @@ pinned_mask w r = bit_xor (counted_mask w r) (slice_index w.done r)
 -- the record below n in whose mask the bit is set
 abbrev pub record_with_bit : ℕ → (ℕ → ℕ) → ℕ → Option ℕ
 record_with_bit zero masks k = None
-record_with_bit (suc n) masks k = if bit_at (masks n) k == 1 then Some n else record_with_bit n masks k
+record_with_bit (suc n) masks k =
+    if bit_at (masks n) k == 1 then Some n else record_with_bit n masks k
 
 -- the record below n that a pass pins, by the masks of the records
 abbrev pub pinned_by : ℕ → (ℕ → ℕ) → ℕ → Option ℕ
@@ -37,9 +39,11 @@ pub record IsKept (n : ℕ) (w : Words) : Type 0 where
   -- the current record is one of the core
   pub current_in : record_of w.current < n + 2
   -- so is the record whose transfer waits, which is not current
-  pub due_in : (d : Returned) → w.returned ≡ Some d → (d.from < n + 2) × (d.from ≢ record_of w.current)
+  pub due_in : (d : Returned) → w.returned ≡ Some d → (d.from < n + 2)
+      × (d.from ≢ record_of w.current)
   -- only passes of the core pin
   pub few : (r : ℕ) → pinned_mask w r < 2 ^ n
   -- a pass pins at most one record
-  pub one : (r s k : ℕ) → r < n + 2 → s < n + 2 → bit_at (pinned_mask w r) k ≡ 1 → bit_at (pinned_mask w s) k ≡ 1 → r ≡ s
+  pub one : (r s k : ℕ) → r < n + 2 → s < n + 2 → bit_at (pinned_mask w r) k ≡ 1
+      → bit_at (pinned_mask w s) k ≡ 1 → r ≡ s
   pub passes_in : (0 < n) × (n < 33)

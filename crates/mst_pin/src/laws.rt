@@ -1,4 +1,5 @@
-//! Laws of the core, over every list of events. Each function does nothing: its contract is the law.
+//! Laws of the core, over every list of events. Each function does nothing: its contract is the
+//! law.
 
 ghost use Rattle.std.specs.Prelude.{◌≡◌, ◌⊎◌, ℕ, true, false, None, Some};
 ghost use Rattle.mst_pin.specs.Laws.{WritesAreBlank, SomeRecordIsFree, FromPinOn, WhilePinned};
@@ -24,13 +25,15 @@ pub fn pinned_rows_stay()
     // the pass pins the record that was current, and no other
     ensures pinned { FromPinOn (λ p r s u. (r ≡ s.current) × (u.pins p ≡ Some r)) }
     ensures rows { FromPinOn (λ p r s u. (x : ℕ) → u.rows r x ≡ s.rows r x) }
-    ensures unwritten { FromPinOn (λ p r s u. (x : ℕ) (v : State) → Steps u (Write x) Done v → s.rows r x ≡ false) }
+    ensures unwritten { FromPinOn (λ p r s u. (x : ℕ) (v : State) → Steps u (Write x) Done v
+        → s.rows r x ≡ false) }
     // a row of the record that a later version left out comes back into no version
-    ensures lost { WhilePinned (λ r s t. (x : ℕ) → s.rows r x ≡ true → s.rows s.current x ≡ false → t.rows t.current x ≡ false) }
+    ensures lost { WhilePinned (λ r s t. (x : ℕ) → s.rows r x ≡ true → s.rows s.current x ≡ false
+        → t.rows t.current x ≡ false) }
 {}
 
-/// A row that the current record has not, and no pinned one, may be written where no transfer waits.
-/// Such rows and those of the current record may be published.
+/// A row that the current record has not, and no pinned one, may be written where no transfer
+/// waits. Such rows and those of the current record may be published.
 pub fn other_rows_are_free()
     ensures write { (s : State) (x : ℕ) → IsRow x → s.due ≡ None → s.rows s.current x ≡ false
         → ((p r : ℕ) → s.pins p ≡ Some r → s.rows r x ≡ false) → IsTaken s (Write x) }

@@ -58,7 +58,8 @@ impl Core {
 
     /// Whether the number names a record that is not current.
     fn is_spare(&self, number: u8) -> bool
-        ensures { IsTrue result ↔ (IsRecord (state self.now) number × (number ≢ (state self.now).current)) }
+        ensures { IsTrue result
+            ↔ (IsRecord (state self.now) number × (number ≢ (state self.now).current)) }
     {
         let number = number as usize;
         number < self.passes as usize + 2 && number != self.words.record()

@@ -1,4 +1,5 @@
-//! A map of one node, whose text and whose proofs have more than 65,535 bytes: it is put line by line, shown, proved and listed, and the proof is verified.
+//! A map of one node, whose text and whose proofs have more than 65,535 bytes: it is put line by
+//! line, shown, proved and listed, and the proof is verified.
 use mst_command::{Ending, Refusal, execute, plain_task};
 use mst_devices::{BytesSink, BytesSource};
 use mst_key::Key;
@@ -28,7 +29,8 @@ fn value_of(number: &[u8; 2]) -> [u8; 64] {
     [number[1]; 64]
 }
 
-// The text of the node of all keys: the format, the layer, how many entries there are, each entry with no child before it, and no child behind them.
+// The text of the node of all keys: the format, the layer, how many entries there are, each entry
+// with no child before it, and no child behind them.
 fn node_text(alloc: Global, numbers: &[[u8; 2]]) -> Result<Vec<u8>, Fail> {
     let mut text = Vec::new(alloc);
     text.extend_from_slice(&[1, 0])?;
@@ -43,7 +45,8 @@ fn node_text(alloc: Global, numbers: &[[u8; 2]]) -> Result<Vec<u8>, Fail> {
     Ok(text)
 }
 
-// The proof of each key: the version, the number of its texts, the length of the one text, and the text.
+// The proof of each key: the version, the number of its texts, the length of the one text, and the
+// text.
 fn proof_of(alloc: Global, text: &[u8]) -> Result<Vec<u8>, Fail> {
     let mut proof = Vec::new(alloc);
     proof.extend_from_slice(&[1, 1])?;

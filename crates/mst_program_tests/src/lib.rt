@@ -1,4 +1,5 @@
-//! Tests of the program behind its words: a map of one large node, and memory that is refused to a load and to a sink.
+//! Tests of the program behind its words: a map of one large node, and memory that is refused to a
+//! load and to a sink.
 #![tactic(auto)]
 
 #[cfg(test)]

@@ -16,7 +16,8 @@ struct Outcome {
     kept: usize,
 }
 
-// A load of few calls, so that the list of what they leave takes no more than the lists of passes and threads, in a heap of so many bytes.
+// A load of few calls, so that the list of what they leave takes no more than the lists of passes
+// and threads, in a heap of so many bytes.
 fn outcome_in<R: Threads + Wait + AllocGlobal + Sync>(
     rt: &R,
     size: usize,

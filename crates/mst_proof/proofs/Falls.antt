@@ -1,4 +1,5 @@
--- Where a key falls in a node of a map's tree: at an entry, or in the gap of a child that holds what the map says of the key.
+-- Where a key falls in a node of a map's tree: at an entry, or in the gap of a child that holds
+-- what the map says of the key.
 use Rattle.std.proofs.Common.{◌≡◌, ℕ, ◌≤◌, List, [], ◌∷◌, ◌++◌, length, Option, Some, ◌⊎◌, inl, inr, refl, sym, ◌∙◌, ap, subst, arith, length-append}
 use Rattle.std.specs.List.{Contains}
 use Rattle.std.specs.declared.cmp.Ordering.{Ordering}

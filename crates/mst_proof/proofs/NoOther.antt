@@ -1,4 +1,5 @@
--- Texts beside the nodes of a tree: where no text differs from its node's with one digest, no other answer is shown.
+-- Texts beside the nodes of a tree: where no text differs from its node's with one digest, no other
+-- answer is shown.
 use Rattle.std.proofs.Common.{◌≡◌, ◌≢◌, ℕ, List, [], ◌∷◌, Option, Some, None, ◌⊎◌, inl, inr, refl, sym, ◌∙◌, ap, subst}
 use Rattle.std.specs.declared.result.Result.TheVariants.{Ok}
 use Rattle.mst_key.specs.declared.format.Format.{Format}

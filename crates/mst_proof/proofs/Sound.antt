@@ -1,4 +1,5 @@
--- A proof that is accepted for a map's root digest with an answer that the map does not give has a collision.
+-- A proof that is accepted for a map's root digest with an answer that the map does not give has a
+-- collision.
 use Rattle.std.proofs.Common.{◌≡◌, ℕ, Bool, true, false, List, [], ◌∷◌, map, Option, Some, ◌⊎◌, inl, inr, refl, sym, ◌∙◌, ap, subst, arith}
 use Rattle.std.specs.List.{Contains}
 use Rattle.std.specs.Str.{bytes_eq}

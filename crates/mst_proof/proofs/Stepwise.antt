@@ -11,18 +11,23 @@ use Rattle.mst_proof.specs.declared.expected.Step.{Step}
 use Rattle.mst_proof.specs.declared.expected.Step.TheVariants.{Decided, Onward}
 use Rattle.mst_proof.specs.Verdict.{step_of, first_expected}
 
--- a flat node is as expected: its digest is the one named above it, its layer lies below, and its keys lie in the gap where it stands
+-- a flat node is as expected: its digest is the one named above it, its layer lies below, and its
+-- keys lie in the gap where it stands
 pub record IsExpected (x : Expected) (n : FlatNode) : Type 0 where
   pub digest : digest_of (spelling n) ≡ x.digest
   pub layer : IfSome x.upper (λ upper. n.layer < upper)
   pub keys : LiesWithin x.span n
 
--- what a node says of the key is the answer, and no node follows, or it leads on to those that follow
+-- what a node says of the key is the answer, and no node follows, or it leads on to those that
+-- follow
 abbrev pub Says : Step → List FlatNode → Option (List ℕ) → (Expected → Type 0) → Type 0
 Says (Decided answer) ns a lead = (ns ≡ []) × (a ≡ answer)
 Says (Onward next) ns a lead = lead next
 
--- The flat nodes lead to the answer. Each is as expected. Each but the last has a child in the key's gap, and the next one is expected to have its digest, to lie below, and to have its keys in that gap. The last one holds the key with the answer, or has no child in the key's gap, and the answer is none.
+-- The flat nodes lead to the answer. Each is as expected. Each but the last has a child in the
+-- key's gap, and the next one is expected to have its digest, to lie below, and to have its keys in
+-- that gap. The last one holds the key with the answer, or has no child in the key's gap, and the
+-- answer is none.
 abbrev pub Leads : List ℕ → Expected → List FlatNode → Option (List ℕ) → Type 0
 Leads k x [] a = ⊥
 Leads k x (n ∷ ns) a = IsExpected x n × Says (step_of n.layer (place_of k x.span n)) ns a (λ next. Leads k next ns a)

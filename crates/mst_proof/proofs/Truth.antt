@@ -1,4 +1,5 @@
--- The verifier's theorem: the proof that a map gives is accepted with the map's answer, and where another answer is accepted for the map's root there is a collision.
+-- The verifier's theorem: the proof that a map gives is accepted with the map's answer, and where
+-- another answer is accepted for the map's root there is a collision.
 use Rattle.std.proofs.Common.{◌≡◌, ◌≢◌, ℕ, suc, ◌<◌, List, [], ◌∷◌, ◌++◌, length, map, Option, Some, None, ◌⊎◌, inl, inr, refl, sym, ◌∙◌, ap, subst, arith}
 use Rattle.std.specs.List.{Contains}
 use Rattle.std.proofs.lemmas.List.{length-map}

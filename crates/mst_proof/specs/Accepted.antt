@@ -11,7 +11,8 @@ use Rattle.mst_node.specs.Trail.{framing}
 
 -- ---- one node
 
--- the text of a flat node has this digest, its layer lies below an upper one, and its keys between two bounds; the upper layer and the bounds need not be there
+-- the text of a flat node has this digest, its layer lies below an upper one, and its keys between
+-- two bounds; the upper layer and the bounds need not be there
 pub record IsExpected (d : List ℕ) (upper : Option ℕ) (low high : Option (List ℕ)) (n : FlatNode) : Type 0 where
   pub digest : digest_of (spelling n) ≡ d
   pub layer : IfSome upper (λ u. n.layer < u)
@@ -26,7 +27,8 @@ pub record Holds (n : FlatNode) (k v : List ℕ) : Type 0 where
   pub key : entry.key ≡ k
   pub value : entry.held ≡ v
 
--- the key lies in the gap between these entries of the flat node: above the keys before it, and below those behind it
+-- the key lies in the gap between these entries of the flat node: above the keys before it, and
+-- below those behind it
 pub record IsInGap (n : FlatNode) (k : List ℕ) (before behind : List FlatEntry) : Type 0 where
   pub entries : n.entries ≡ before ++ behind
   pub lesser : AllByRecursion (λ e. key_cmp e.key k ≡ Less) before
@@ -54,13 +56,18 @@ ShowsValue k n ns a = (v : List ℕ) × Holds n k v × (ns ≡ []) × (a ≡ Som
 
 -- the key's gap has no child, and the node is the last; the answer is absence
 abbrev pub ShowsAbsence : List ℕ → FlatNode → List FlatNode → Option (List ℕ) → Type 0
-ShowsAbsence k n ns a = (before : List FlatEntry) × (behind : List FlatEntry) × IsInGap n k before behind × (gap_child behind n.tail ≡ None) × (ns ≡ []) × (a ≡ None)
+ShowsAbsence k n ns a = (before : List FlatEntry) × (behind : List FlatEntry)
+    × IsInGap n k before behind × (gap_child behind n.tail ≡ None) × (ns ≡ []) × (a ≡ None)
 
--- the key's gap has a child: its digest, the node's layer and the gap's bounds are expected of the nodes that follow
+-- the key's gap has a child: its digest, the node's layer and the gap's bounds are expected of the
+-- nodes that follow
 abbrev pub LeadsOn : List ℕ → Option (List ℕ) → Option (List ℕ) → FlatNode → (List ℕ → Option ℕ → Option (List ℕ) → Option (List ℕ) → Type 0) → Type 0
-LeadsOn k low high n rest = (before : List FlatEntry) × (behind : List FlatEntry) × (d : List ℕ) × IsInGap n k before behind × (gap_child behind n.tail ≡ Some d) × rest d (Some n.layer) (gap_low low before) (gap_high behind high)
+LeadsOn k low high n rest = (before : List FlatEntry) × (behind : List FlatEntry) × (d : List ℕ)
+    × IsInGap n k before behind × (gap_child behind n.tail ≡ Some d)
+    × rest d (Some n.layer) (gap_low low before) (gap_high behind high)
 
--- the flat nodes lead to the answer, where this digest, upper layer and bounds are expected of the first
+-- the flat nodes lead to the answer, where this digest, upper layer and bounds are expected of the
+-- first
 abbrev pub Leads : List ℕ → List ℕ → Option ℕ → Option (List ℕ) → Option (List ℕ) → List FlatNode → Option (List ℕ) → Type 0
 Leads k digest upper low high [] a = ⊥
 Leads k digest upper low high (n ∷ ns) a =

@@ -34,11 +34,13 @@ pub record IsSmall (t : Tree) : Type 0 where
 
 -- for a tree's digest the proof shows no answer but that of the tree's pairs
 abbrev pub ShowsNoOther : Tree → List ℕ → List ℕ → Type 0
-ShowsNoOther t k proof = (answer : Option (List ℕ)) → verdict (digest t) k proof ≡ Ok answer → answer ≡ map_get (pairs t) k
+ShowsNoOther t k proof =
+    (answer : Option (List ℕ)) → verdict (digest t) k proof ≡ Ok answer → answer ≡ map_get (pairs t) k
 
 -- so do these texts, whatever is expected of the first beside that digest
 abbrev pub NoOther : Tree → List ℕ → List (List ℕ) → Type 0
-NoOther t k ts = (x : Expected) (answer : Option (List ℕ)) → x.digest ≡ digest t → followed k x ts ≡ Ok answer → answer ≡ map_get (pairs t) k
+NoOther t k ts = (x : Expected) (answer : Option (List ℕ)) → x.digest ≡ digest t
+    → followed k x ts ≡ Ok answer → answer ≡ map_get (pairs t) k
 
 -- two of the texts are a collision: one of these texts, and that of a node of the tree
 pub record CollidesWith (ts : List (List ℕ)) (t : Tree) (one other : List ℕ) : Type 0 where

@@ -1,4 +1,5 @@
--- Which tests a proof has passed when a fault is answered: those of its frame, and then those of each text in turn.
+-- Which tests a proof has passed when a fault is answered: those of its frame, and then those of
+-- each text in turn.
 use Rattle.std.specs.Prelude.{◌≡◌, ◌≢◌, ◌⊎◌, ◌<◌, ◌^◌, ℕ, List, [], ◌∷◌, ◌++◌, Option, None, length, IfSome}
 use Rattle.std.specs.List.{AllByRecursion}
 use Rattle.mst_key.specs.declared.format.Format.TheVariants.{One}
@@ -12,16 +13,19 @@ use Rattle.mst_proof.specs.Accepted.{IsExpected, Holds, IsInGap, gap_child, Lead
 
 -- ---- the frame
 
--- the bytes are the version, the number of these texts, the texts, each behind its length in four bytes, and the rest
+-- the bytes are the version, the number of these texts, the texts, each behind its length in four
+-- bytes, and the rest
 abbrev pub Frames : List ℕ → List (List ℕ) → List ℕ → Type 0
 Frames bytes texts rest = bytes ≡ 1 ∷ length texts ∷ framed texts ++ rest
 
--- The first byte is not the version; or no front of the bytes frames texts, each of which is shorter than 2^32 bytes; or bytes are left over.
+-- The first byte is not the version; or no front of the bytes frames texts, each of which is
+-- shorter than 2^32 bytes; or bytes are left over.
 abbrev pub FrameFails : List ℕ → ProofFault → Type 0
 FrameFails bytes Version = (v : ℕ) × (rest : List ℕ) × (bytes ≡ v ∷ rest) × (v ≢ 1)
 FrameFails bytes CutShort =
     ((v : ℕ) (rest : List ℕ) → bytes ≡ v ∷ rest → v ≡ 1) × ((texts : List (List ℕ)) (rest : List ℕ) → AllByRecursion (λ t. length t < 2 ^ 32) texts → Frames bytes texts rest → ⊥)
-FrameFails bytes LeftOver = (texts : List (List ℕ)) × (b : ℕ) × (rest : List ℕ) × Frames bytes texts (b ∷ rest)
+FrameFails bytes LeftOver =
+    (texts : List (List ℕ)) × (b : ℕ) × (rest : List ℕ) × Frames bytes texts (b ∷ rest)
 FrameFails bytes NoNode = ⊥
 FrameFails bytes OtherDigest = ⊥
 FrameFails bytes LayerNotBelow = ⊥
@@ -39,7 +43,8 @@ Spells text n = (n.format ≡ One) × IsFlatNode n × (text ≡ spelling n)
 abbrev pub FailsBy : List ℕ → Option ℕ → Option (List ℕ) → Option (List ℕ) → List ℕ → ProofFault → Type 0
 FailsBy d upper low high text NoNode = InGrammar One text → ⊥
 FailsBy d upper low high text OtherDigest = InGrammar One text × (digest_of text ≢ d)
-FailsBy d upper low high text LayerNotBelow = (n : FlatNode) × Spells text n × (digest_of text ≡ d) × (IfSome upper (λ u. n.layer < u) → ⊥)
+FailsBy d upper low high text LayerNotBelow =
+    (n : FlatNode) × Spells text n × (digest_of text ≡ d) × (IfSome upper (λ u. n.layer < u) → ⊥)
 FailsBy d upper low high text KeyOutside =
     (n : FlatNode) × Spells text n × (digest_of text ≡ d) × IfSome upper (λ u. n.layer < u) × (AllByRecursion (λ e. IsBetween low high e.key) n.entries → ⊥)
 FailsBy d upper low high text Version = ⊥
@@ -52,9 +57,12 @@ FailsBy d upper low high text TextBehind = ⊥
 
 -- the flat node holds the key, or the key's gap has no child
 abbrev pub Decides : List ℕ → FlatNode → Type 0
-Decides k n = ((v : List ℕ) × Holds n k v) ⊎ ((before : List FlatEntry) × (behind : List FlatEntry) × IsInGap n k before behind × (gap_child behind n.tail ≡ None))
+Decides k n = ((v : List ℕ) × Holds n k v)
+    ⊎ ((before : List FlatEntry) × (behind : List FlatEntry) × IsInGap n k before behind
+    × (gap_child behind n.tail ≡ None))
 
--- No text is left although one is expected; or the first text fails a test; or it decides the key and another text follows; or it leads on, and what is left fails.
+-- No text is left although one is expected; or the first text fails a test; or it decides the key
+-- and another text follows; or it leads on, and what is left fails.
 abbrev pub FailAt : List ℕ → List ℕ → Option ℕ → Option (List ℕ) → Option (List ℕ) → List (List ℕ) → ProofFault → Type 0
 FailAt k d upper low high [] fault = fault ≡ Unfinished
 FailAt k d upper low high (t ∷ ts) fault =
@@ -68,4 +76,5 @@ TextsFail root k (t ∷ ts) fault = FailAt k root None None None (t ∷ ts) faul
 
 -- the frame fails, or all of it is well and the texts fail
 abbrev pub ProofFails : List ℕ → List ℕ → List ℕ → ProofFault → Type 0
-ProofFails root k proof fault = FrameFails proof fault ⊎ ((texts : List (List ℕ)) × Frames proof texts [] × TextsFail root k texts fault)
+ProofFails root k proof fault = FrameFails proof fault
+    ⊎ ((texts : List (List ℕ)) × Frames proof texts [] × TextsFail root k texts fault)

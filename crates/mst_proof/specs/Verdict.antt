@@ -35,7 +35,8 @@ are_rising (k ∷ ks) = list_all (λ j. is_lt (key_cmp k j)) ks && are_rising ks
 
 -- keys that have the layer of their node, and rise strictly
 abbrev pub do_fit : FlatNode → Bool
-do_fit n = list_all (λ e. layer_in n.format e.key == n.layer) n.entries && are_rising (map (λ e. e.key) n.entries)
+do_fit n = list_all (λ e. layer_in n.format e.key == n.layer) n.entries
+    && are_rising (map (λ e. e.key) n.entries)
 
 -- the flat node of a text in the grammar
 abbrev pub node_in : List ℕ → Option FlatNode
@@ -72,7 +73,8 @@ step_at k x text = step_in_node k x text (node_in text)
 
 -- of the first text only the digest is known
 abbrev pub first_expected : List ℕ → Expected
-first_expected root = record { digest = root; upper = None; span = record { low = None; high = None } }
+first_expected root =
+    record { digest = root; upper = None; span = record { low = None; high = None } }
 
 -- an answer that ends the proof
 abbrev pub answer_at_end : List (List ℕ) → Option (List ℕ) → Result (Option (List ℕ)) ProofFault
@@ -86,7 +88,8 @@ by_step (Onward x) decided onward = onward x
 -- the texts, followed from one to the next
 abbrev pub followed : List ℕ → Expected → List (List ℕ) → Result (Option (List ℕ)) ProofFault
 followed k x [] = Err Unfinished
-followed k x (t ∷ ts) = step_at k x t >> λ s. by_step s (answer_at_end ts) (λ next. followed k next ts)
+followed k x (t ∷ ts) =
+    step_at k x t >> λ s. by_step s (answer_at_end ts) (λ next. followed k next ts)
 
 -- no texts are the proof of the empty map
 abbrev pub judgement : List ℕ → List ℕ → List (List ℕ) → Result (Option (List ℕ)) ProofFault

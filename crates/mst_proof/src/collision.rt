@@ -30,7 +30,8 @@ fn pair_of<A: Allocator + Copy>(
     other: Vec<u8, A>,
 ) -> Result<Option<Pair<A>>, Memory>
     ensures none { IfOk result (λ pair. IfNone pair (Collision one.now other.items → ⊥)) }
-    ensures some { IfOk result (λ pair. IfSome pair (λ p. (p.one.items ≡ one.now) × (p.other.items ≡ other.items) × Collision one.now other.items)) }
+    ensures some { IfOk result (λ pair. IfSome pair (λ p. (p.one.items ≡ one.now)
+        × (p.other.items ≡ other.items) × Collision one.now other.items)) }
     ensures memory { OnErr result (Collision one.now other.items) }
 {
     if one == other.as_slice() || digest(one) != digest(other.as_slice()) {
@@ -72,8 +73,11 @@ fn walk<A: Allocator + Copy>(
     node: &Node<A>,
 ) -> Result<Option<Pair<A>>, Memory>
     requires small { IsSmall (tree_of One node.now) }
-    ensures none { IfOk result (λ pair. IfNone pair (NoOther (tree_of One node.now) key.now texts.entry)) }
-    ensures some { IfOk result (λ pair. IfSome pair (λ p. CollidesWith texts.entry (tree_of One node.now) p.one.items p.other.items)) }
+    ensures none { IfOk result
+        (λ pair. IfNone pair (NoOther (tree_of One node.now) key.now texts.entry)) }
+    ensures some { IfOk result
+        (λ pair. IfSome pair
+        (λ p. CollidesWith texts.entry (tree_of One node.now) p.one.items p.other.items)) }
 {
     let mut texts = texts;
     let Some(found) = texts.next() else {
@@ -89,21 +93,33 @@ fn walk<A: Allocator + Copy>(
     }
 }
 
-/// The collision behind a false answer: two different texts with one SHA-256 (FIPS 180-4), each of them a text of the proof, the text of a node of the tree, or the empty text. The tree is that of a map of at most 65,535 pairs.
+/// The collision behind a false answer: two different texts with one SHA-256 (FIPS 180-4), each of
+/// them a text of the proof, the text of a node of the tree, or the empty text. The tree is that of
+/// a map of at most 65,535 pairs.
 ///
-/// Where `verify` shows of the key, for the map's root digest, another answer than the map's, there is such a pair and it is found: `None` comes only where the proof shows no other answer. `Memory` comes only where a growth was refused: never where the proof's frame is broken, and without a tree only where the pair stands. The texts of the nodes that a search for the key meets are made one after another, up to the first that is not the proof's.
+/// Where `verify` shows of the key, for the map's root digest, another answer than the map's, there
+/// is such a pair and it is found: `None` comes only where the proof shows no other answer.
+/// `Memory` comes only where a growth was refused: never where the proof's frame is broken, and
+/// without a tree only where the pair stands. The texts of the nodes that a search for the key
+/// meets are made one after another, up to the first that is not the proof's.
 pub fn collide<A: Allocator + Copy>(
     alloc: A,
     key: &Key,
     proof: &[u8],
     tree: Option<&Node<A>>,
 ) -> Result<Option<Pair<A>>, Memory>
-    requires map { (m : List KeyValue) × IsMap m × (length m ≤ 65535) × (top_of (option_copied tree) ≡ tree_of_map One m) }
-    ensures none { IfOk result (λ pair. IfNone pair (ShowsNoOther (top_of (option_copied tree.entry)) key.now proof.now)) }
-    ensures some { IfOk result (λ pair. IfSome pair (λ p. CollidesAmong (texts_named proof.now (top_of (option_copied tree.entry))) p.one.items p.other.items)) }
+    requires map { (m : List KeyValue) × IsMap m × (length m ≤ 65535)
+        × (top_of (option_copied tree) ≡ tree_of_map One m) }
+    ensures none { IfOk result
+        (λ pair. IfNone pair (ShowsNoOther (top_of (option_copied tree.entry)) key.now proof.now)) }
+    ensures some { IfOk result
+        (λ pair. IfSome pair
+        (λ p. CollidesAmong
+        (texts_named proof.now (top_of (option_copied tree.entry))) p.one.items p.other.items)) }
     ensures memory { OnErr result (IsOk (frame_at proof.now)) }
     // without a tree only the pair itself takes memory
-    ensures memory_of_pair { OnErr result (tree.entry ≡ None → (text : List ℕ) × Contains (texts_of proof.now) text × Collision text []) }
+    ensures memory_of_pair { OnErr result (tree.entry ≡ None → (text : List ℕ)
+        × Contains (texts_of proof.now) text × Collision text []) }
 {
     let Ok(mut texts) = Texts::of(proof) else {
         return Ok(None);

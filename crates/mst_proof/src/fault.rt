@@ -1,7 +1,8 @@
 //! The refusals of a proof.
 use thiserror::Error;
 
-/// The first test that a proof fails. The tests of the frame come first, in the order of `Version` to `LeftOver`, and then those of each text in turn.
+/// The first test that a proof fails. The tests of the frame come first, in the order of `Version`
+/// to `LeftOver`, and then those of each text in turn.
 #[derive(Clone, Copy, Debug, PartialEq, Eq, Error)]
 pub enum ProofFault {
     /// The first byte is not the version 01.
@@ -16,7 +17,8 @@ pub enum ProofFault {
     /// A text is not that of a node.
     #[error("P4")]
     NoNode,
-    /// The digest of a text is not the expected one: the root, or that of the child in the node above. So too where there is no text, and the root is not that of the empty map.
+    /// The digest of a text is not the expected one: the root, or that of the child in the node
+    /// above. So too where there is no text, and the root is not that of the empty map.
     #[error("P5")]
     OtherDigest,
     /// The layer of a node is not below that of the node above.

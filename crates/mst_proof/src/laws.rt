@@ -18,37 +18,54 @@ ghost use Rattle.mst_proof.specs.Verdict.{node_in, step_at, verdict};
 ghost use Rattle.mst_proof.specs.declared.expected.Expected.{Expected};
 ghost use Rattle.mst_proof.specs.declared.fault.ProofFault.{ProofFault};
 
-/// The trail of a key, whose texts a proof is made of, is the nodes of the map's tree in whose span the key falls, from the top down to the one that decides. The span of a node lies between the keys beside the gap in which it stands.
+/// The trail of a key, whose texts a proof is made of, is the nodes of the map's tree in whose span
+/// the key falls, from the top down to the one that decides. The span of a node lies between the
+/// keys beside the gap in which it stands.
 pub fn trail_by_spans()
-    ensures trail { (format : Format) (m : List Pair) (k : List ℕ) → IsAscending m → trail format m k ≡ nodes_around k (tree format m) }
+    ensures trail { (format : Format) (m : List Pair) (k : List ℕ) → IsAscending m
+        → trail format m k ≡ nodes_around k (tree format m) }
 {}
 
-/// A trail has at most 65 nodes: layers fall from node to node, from 64 at most. So the number of its texts fits the one byte that a proof has for it.
+/// A trail has at most 65 nodes: layers fall from node to node, from 64 at most. So the number of
+/// its texts fits the one byte that a proof has for it.
 pub fn trail_is_short()
     ensures few { (m : List Pair) (k : List ℕ) → length (trail One m k) ≤ 65 }
 {}
 
-/// Each map of at most 65,535 pairs has its root digest, and no other digest. So what `verify` says of a map that has the root holds of each such map.
+/// Each map of at most 65,535 pairs has its root digest, and no other digest. So what `verify` says
+/// of a map that has the root holds of each such map.
 pub fn each_map_has_its_root()
     ensures has { (m : List Pair) → IsMap m → length m ≤ 65535 → HasRoot m (root_of One m) }
     ensures only { (m : List Pair) (d : List ℕ) → HasRoot m d → d ≡ root_of One m }
 {}
 
-/// Two texts collide among others exactly where both are of them, differ, and have one SHA-256. Then those others have a collision.
+/// Two texts collide among others exactly where both are of them, differ, and have one SHA-256.
+/// Then those others have a collision.
 pub fn collisions_among()
-    ensures two { (texts : List (List ℕ)) (one other : List ℕ) → CollidesAmong texts one other ↔ (Contains texts one × Contains texts other × (one ≢ other) × (digest_of one ≡ digest_of other)) }
-    ensures has { (texts : List (List ℕ)) (one other : List ℕ) → CollidesAmong texts one other → HasCollision texts }
+    ensures two { (texts : List (List ℕ)) (one other : List ℕ) → CollidesAmong texts one other
+        ↔ (Contains texts one × Contains texts other × (one ≢ other)
+        × (digest_of one ≡ digest_of other)) }
+    ensures has { (texts : List (List ℕ)) (one other : List ℕ) → CollidesAmong texts one other
+        → HasCollision texts }
 {}
 
-/// A text is read as the one flat node that it spells, and as none exactly where it is not in the grammar.
+/// A text is read as the one flat node that it spells, and as none exactly where it is not in the
+/// grammar.
 pub fn texts_by_grammar()
-    ensures found { (text : List ℕ) (n : FlatNode) → IsBytes text → (node_in text ≡ Some n) ↔ Spells text n }
-    ensures nothing { (text : List ℕ) → IsBytes text → (node_in text ≡ None) ↔ (InGrammar One text → ⊥) }
+    ensures found { (text : List ℕ) (n : FlatNode) → IsBytes text → (node_in text ≡ Some n)
+        ↔ Spells text n }
+    ensures nothing { (text : List ℕ) → IsBytes text → (node_in text ≡ None)
+        ↔ (InGrammar One text → ⊥) }
 {}
 
-/// What a proof has passed when its verdict is a fault: the frame before any text, each text before the next, and of one text the grammar, then the digest, then the layer, then the keys.
+/// What a proof has passed when its verdict is a fault: the frame before any text, each text before
+/// the next, and of one text the grammar, then the digest, then the layer, then the keys.
 pub fn faults_in_order()
-    // a text is refused with a fault exactly where it has passed the tests before that one, and fails that one
-    ensures text { (k : List ℕ) (x : Expected) (text : List ℕ) (fault : ProofFault) → IsBytes text → (step_at k x text ≡ Err fault) ↔ FailsBy x.digest x.upper x.span.low x.span.high text fault }
-    ensures fails { (root k proof : List ℕ) (fault : ProofFault) → IsBytes proof → verdict root k proof ≡ Err fault → ProofFails root k proof fault }
+    // a text is refused with a fault exactly where it has passed the tests before that one, and
+    // fails that one
+    ensures text { (k : List ℕ) (x : Expected) (text : List ℕ) (fault : ProofFault) → IsBytes text
+        → (step_at k x text ≡ Err fault)
+        ↔ FailsBy x.digest x.upper x.span.low x.span.high text fault }
+    ensures fails { (root k proof : List ℕ) (fault : ProofFault) → IsBytes proof
+        → verdict root k proof ≡ Err fault → ProofFails root k proof fault }
 {}

@@ -1,6 +1,8 @@
 //! The verifier of proofs, and the collisions behind a false answer.
 //!
-//! A proof frames the texts of the nodes that a search for a key meets in a map's Merkle search tree (Auvolat and Taïani 2019). `verify` follows them down from the root digest to the key's value or its absence. It needs nothing of the store that made the proof.
+//! A proof frames the texts of the nodes that a search for a key meets in a map's Merkle search
+//! tree (Auvolat and Taïani 2019). `verify` follows them down from the root digest to the key's
+//! value or its absence. It needs nothing of the store that made the proof.
 //!
 //! ```
 //! match verify(&root, &apple, &proof) {
@@ -10,9 +12,12 @@
 //! }
 //! ```
 //!
-//! An answer is worth what its root digest is: who made that, and when, is not told here. Where an answer is false, `collide` names two texts with one SHA-256. Proofs are made by `mst_read` and `mst_store`.
+//! An answer is worth what its root digest is: who made that, and when, is not told here. Where an
+//! answer is false, `collide` names two texts with one SHA-256. Proofs are made by `mst_read` and
+//! `mst_store`.
 //!
-//! The definitions that the contracts cite stand in `specs/`: `Verdict`, `Accepted`, `Frame`, and in `mst_node` `Trail`.
+//! The definitions that the contracts cite stand in `specs/`: `Verdict`, `Accepted`, `Frame`, and
+//! in `mst_node` `Trail`.
 #![tactic(auto)]
 
 mod collision;

@@ -92,7 +92,8 @@ impl<'a> Texts<'a> {
 
     /// Takes the first text off.
     pub(crate) fn next(&mut self) -> Option<&'a [u8]>
-        ensures next { MatchOption result ((self.old ≡ []) × (self.new ≡ [])) (λ text. self.old ≡ text.now ∷ self.new) }
+        ensures next { MatchOption result ((self.old ≡ [])
+            × (self.new ≡ [])) (λ text. self.old ≡ text.now ∷ self.new) }
         ensures bytes { IfSome result (λ text. IsBytes text.now) }
     {
         if self.count == 0 {

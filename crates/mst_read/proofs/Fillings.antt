@@ -101,7 +101,8 @@ module _ (from to : Option (List ℕ)) (limit : ℕ) where
       alls-weaker (λ p. key_cmp key p.0 ≡ Less) (λ p. within from to p ≡ false)
       (λ p e. outside-at p.0 p.1 (not_below to key p.0 e fails)) m more
 
-  -- a key that is at least the lower bound and below the upper, and one that is not at least the lower
+  -- a key that is at least the lower bound and below the upper, and one that is not at least the
+  -- lower
   pub inside-at : (key v : List ℕ) → from_on from key ≡ true → below to key ≡ true → within from to (key, v) ≡ true
   inside-at key v low high = ap (λ (t : Bool). t && below to key) low ∙ high
 

@@ -19,7 +19,8 @@ use Rattle.mst_read.specs.Search.{Lies, place}
 use Rattle.mst_read.specs.declared.lookup.Place.TheVariants.{Held, Gap}
 use Rattle.mst_read.proofs.Descend.{Ahead}
 
--- a list round a pair of its own, looked at for a key below the pair's, for that key, and for one above it
+-- a list round a pair of its own, looked at for a key below the pair's, for that key, and for one
+-- above it
 
 map_get-before : (front back : List Pair) (k key v : List ℕ) → IsAscending (front ++ (key, v) ∷ back) → key_cmp k key ≡ Less → map_get front k ≡ map_get (front ++ (key, v) ∷ back) k
 map_get-before front back k key v rise less =

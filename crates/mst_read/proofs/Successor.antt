@@ -137,7 +137,8 @@ module _ (format : Format) (content : Content) (bound : Option (List ℕ)) where
             under = r.under;
           }
 
-  -- the least key above the bound is in the tree under the search, or else it is that of the entry to the right
+  -- the least key above the bound is in the tree under the search, or else it is that of the entry
+  -- to the right
   abbrev pub Answers : Option (ℕ × List ℕ) → List Pair → List Pair → Type 0
   Answers right m ps = option_or (map_next ps bound) (pair_at content right) ≡ map_next m bound
 

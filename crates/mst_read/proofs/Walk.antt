@@ -15,7 +15,8 @@ use Rattle.mst_arena.specs.declared.sought.Way.TheVariants.{Child, Here, Next}
 use Rattle.mst_arena.proofs.Stands.{all-front, all-back}
 use Rattle.mst_arena.proofs.WayLemmas.{from_links}
 
--- the rest of a chain behind as many entries as are done: it begins at the link, and something holds of it
+-- the rest of a chain behind as many entries as are done: it begins at the link, and something
+-- holds of it
 pub record Onward (format : Format) (content : Content) (tail next done all : ℕ) (P : Chain → Type 0) : Type 0 where
   pub rest : Chain
   pub first_is : first_of rest ≡ next

@@ -16,9 +16,11 @@ use Rattle.mst_read.specs.declared.lookup.Place.TheVariants.{Held, Gap}
 abbrev pub MapStands : Content → Root → Type 0
 MapStands content at = (format : Format) × (m : List Pair) × Stands format content at m
 
--- the rows stand for the map at a link, whatever digest is kept beside it: at the root of this link that has the map's own
+-- the rows stand for the map at a link, whatever digest is kept beside it: at the root of this link
+-- that has the map's own
 abbrev pub StandsBelow : Format → Content → ℕ → List Pair → Type 0
-StandsBelow format content link m = Stands format content (record { link = link; digest = root format m }) m
+StandsBelow format content link m =
+    Stands format content (record { link = link; digest = root format m }) m
 
 abbrev pub LinkStands : Content → ℕ → Type 0
 LinkStands content link = (format : Format) × (m : List Pair) × StandsBelow format content link m
@@ -41,19 +43,26 @@ abbrev pub TreeLies : Content → ℕ → Type 0
 TreeLies content link = (format : Format) × (p : Placed) × Lies format content link p
 
 abbrev pub ChainLies : Content → HeadLinks → Type 0
-ChainLies content links = (format : Format) × (chain : Chain) × LiesBehind format content links chain
+ChainLies content links =
+    (format : Format) × (chain : Chain) × LiesBehind format content links chain
 
 -- what a search reads of a tree's head: none of the empty tree
 abbrev pub head_of : Placed → Option HeadLinks
 head_of none = None
-head_of (head at layer chain) = Some (record { layer = layer; count = count_of chain; first = first_of chain; tail = tail_of chain })
+head_of (head at layer chain) = Some (record {
+  layer = layer;
+  count = count_of chain;
+  first = first_of chain;
+  tail = tail_of chain;
+})
 
 -- ---- where a search comes to
 
 -- the row that has the key, or the link of the tree in the gap in which the key would lie
 abbrev pub place : List ℕ → Chain → Place
 place k (end child) = Gap (link_of child)
-place k (cell at child key value rest) = by_order (key_cmp k key) (Gap (link_of child)) (Held at) (place k rest)
+place k (cell at child key value rest) =
+    by_order (key_cmp k key) (Gap (link_of child)) (Held at) (place k rest)
 
 -- the first entry whose key is above the bound, and its row
 abbrev pub entry_above : Option (List ℕ) → Chain → Option (ℕ × EntryLinks)
@@ -65,4 +74,5 @@ entry_above bound (cell at child key value rest) =
 -- the tree in the gap in which the key would lie; the empty tree where an entry has the key
 abbrev pub gap_placed : List ℕ → Chain → Placed
 gap_placed k (end child) = child
-gap_placed k (cell at child key value rest) = by_order (key_cmp k key) child none (gap_placed k rest)
+gap_placed k (cell at child key value rest) =
+    by_order (key_cmp k key) child none (gap_placed k rest)

@@ -12,11 +12,13 @@ use Rattle.mst_read.specs.Search.{head_of}
 abbrev pub within : Option (List ℕ) → Option (List ℕ) → Pair → Bool
 within from to p = from_on from p.0 && below to p.0
 
--- the pairs found so far and behind them those of the list that are within the bounds, until there are as many as the limit
+-- the pairs found so far and behind them those of the list that are within the bounds, until there
+-- are as many as the limit
 unfoldable pub filled : Option (List ℕ) → Option (List ℕ) → ℕ → List Pair → List Pair → List Pair
 filled from to limit found m = found ++ take (limit - length found) (filter (within from to) m)
 
--- a Merkle search tree whose keys rise stands in rows of the content, and this is what a search reads of its head
+-- a Merkle search tree whose keys rise stands in rows of the content, and this is what a search
+-- reads of its head
 pub record HeadStands (format : Format) (content : Content) (top : Option HeadLinks) (p : Placed) : Type 0 where
   pub head_is : head_of p ≡ top
   pub rows : HasRows content (rows_of format p)

@@ -43,9 +43,12 @@ fn first_above<R: Rows>(
     None
 }
 
-/// The pair of the least key above the bound, in the map that stands at the link; with no bound, of the least key.
+/// The pair of the least key above the bound, in the map that stands at the link; with no bound, of
+/// the least key.
 ///
-/// It reads the head of each node on the way to the place just above the bound, at most 65, and of the entries of these nodes those with keys up to the first that is above the bound; and at last the value of the pair, once.
+/// It reads the head of each node on the way to the place just above the bound, at most 65, and of
+/// the entries of these nodes those with keys up to the first that is above the bound; and at last
+/// the value of the pair, once.
 pub fn next_below<R: Rows>(rows: &mut R, link: u32, after: Option<&Key>) -> Option<(Key, Value)>
     requires stands { LinkStands (R.content rows.old) link }
     ensures found { (f : Format) (m : List Pair) → StandsBelow f (R.content rows.old) link m
@@ -68,7 +71,8 @@ pub fn next_below<R: Rows>(rows: &mut R, link: u32, after: Option<&Key>) -> Opti
     Some((key, rows.value(row)))
 }
 
-/// The pair of the least key above the bound, in the map that stands at the root, as [`next_below`] has it at a link.
+/// The pair of the least key above the bound, in the map that stands at the root, as [`next_below`]
+/// has it at a link.
 pub fn next<R: Rows>(rows: &mut R, root: &Root, after: Option<&Key>) -> Option<(Key, Value)>
     requires stands { MapStands (R.content rows.old) root.now }
     ensures found { (f : Format) (m : List Pair) → Stands f (R.content rows.old) root.now m

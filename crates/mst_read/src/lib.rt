@@ -1,6 +1,9 @@
 //! Reads over the rows that stand for the tree of a map.
 //!
-//! Each call is exact by the sorted list of the map's pairs, and walks the rows of the tree without making that list: [`get`], [`next`] and [`prove`] go down one path, [`range`] visits only the nodes that its answer meets. Of a root only [`root`] needs more than the link: the others have a twin that takes the link alone.
+//! Each call is exact by the sorted list of the map's pairs, and walks the rows of the tree without
+//! making that list: [`get`], [`next`] and [`prove`] go down one path, [`range`] visits only the
+//! nodes that its answer meets. Of a root only [`root`] needs more than the link: the others have a
+//! twin that takes the link alone.
 //!
 //! ```
 //! get(&mut rows, &root, &apple)                              // Some(30)
@@ -11,7 +14,8 @@
 //!
 //! `specs/` defines where a search comes to in the rows of a node.
 //!
-//! A read writes no row and does not know of versions: its caller sees to it that the rows stay while it reads. Only [`range`] and [`prove`] take memory, for what they answer.
+//! A read writes no row and does not know of versions: its caller sees to it that the rows stay
+//! while it reads. Only [`range`] and [`prove`] take memory, for what they answer.
 #![tactic(auto)]
 
 mod descent;

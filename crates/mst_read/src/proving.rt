@@ -72,14 +72,16 @@ fn node_text<R: Rows, A: Allocator>(
 /// Appends a text, of fewer than 2^32 bytes, behind its length in four bytes, the high one first.
 fn push_framed<A: Allocator>(out: &mut Vec<u8, A>, text: &[u8]) -> Result<(), Memory>
     requires short { length text.now < 2 ^ 32 }
-    ensures ok { OnOk result (out.new.items ≡ out.old.items ++ (to_be_bytes w32 (length text.now) ++ text.now)) }
+    ensures ok { OnOk result
+        (out.new.items ≡ out.old.items ++ (to_be_bytes w32 (length text.now) ++ text.now)) }
 {
     out.extend_from_slice((text.len() as u32).to_be_bytes().as_slice())?;
     out.extend_from_slice(text)?;
     Ok(())
 }
 
-/// The head of the tree in the gap in which the key would lie; none where the node has the key, or the gap no tree.
+/// The head of the tree in the gap in which the key would lie; none where the node has the key, or
+/// the gap no tree.
 fn gap_met<R: Rows>(rows: &mut R, head: &HeadLinks, key: &Sought) -> Option<HeadLinks>
     requires lies { ChainLies (R.content rows.old) head.now }
     ensures head { (f : Format) (c : Chain) → LiesBehind f (R.content rows.old) head.now c
@@ -93,11 +95,15 @@ fn gap_met<R: Rows>(rows: &mut R, head: &HeadLinks, key: &Sought) -> Option<Head
     }
 }
 
-/// The proof of the answer for the key of the map that stands at the link: the texts of the nodes that the search for the key meets, from the top down, each behind its length in four bytes, and in front of them the version 1 and their number.
+/// The proof of the answer for the key of the map that stands at the link: the texts of the nodes
+/// that the search for the key meets, from the top down, each behind its length in four bytes, and
+/// in front of them the version 1 and their number.
 ///
-/// The proof has fewer than 2^32 bytes. `Memory` comes only where a growth was refused, and changes nothing.
+/// The proof has fewer than 2^32 bytes. `Memory` comes only where a growth was refused, and changes
+/// nothing.
 ///
-/// It reads the nodes on the way to the key, at most 65: of each all entries with their values, and the digests of its children.
+/// It reads the nodes on the way to the key, at most 65: of each all entries with their values, and
+/// the digests of its children.
 pub fn prove_below<R: Rows, A: Allocator + Copy>(
     alloc: A,
     rows: &mut R,
@@ -127,7 +133,8 @@ pub fn prove_below<R: Rows, A: Allocator + Copy>(
     Ok(proof)
 }
 
-/// The proof of the answer for the key of the map that stands at the root, as [`prove_below`] has it at a link.
+/// The proof of the answer for the key of the map that stands at the root, as [`prove_below`] has
+/// it at a link.
 pub fn prove<R: Rows, A: Allocator + Copy>(
     alloc: A,
     rows: &mut R,

@@ -36,7 +36,8 @@ fn is_below(key: &Key, bound: Option<&Key>) -> bool
     }
 }
 
-/// The head of the tree in the gap before the entry, if keys there can be at least the bound: where the entry's key is above it.
+/// The head of the tree in the gap before the entry, if keys there can be at least the bound: where
+/// the entry's key is above it.
 fn gap_from<R: Rows>(rows: &mut R, entry: &EntryLinks, from: Option<&Key>) -> Option<HeadLinks>
     requires lies { TreeLies (R.content rows.old) entry.now.child }
     ensures head { (f : Format) (p : Placed) → Lies f (R.content rows.old) entry.now.child p
@@ -50,7 +51,8 @@ fn gap_from<R: Rows>(rows: &mut R, entry: &EntryLinks, from: Option<&Key>) -> Op
     }
 }
 
-/// Adds the entry's own pair, if it is within the bounds and below the limit, and answers whether pairs behind it may be.
+/// Adds the entry's own pair, if it is within the bounds and below the limit, and answers whether
+/// pairs behind it may be.
 fn add<R: Rows, A: Allocator>(
     rows: &mut R,
     row: u32,
@@ -62,7 +64,9 @@ fn add<R: Rows, A: Allocator>(
 ) -> Result<bool, Memory>
     requires there { IsSome (part_at entry_value (R.content rows.old) row) }
     ensures found { (v : List ℕ) → part_at entry_value (R.content rows.old) row ≡ Some v
-        → OnOk result (found.new.items ≡ filled (option_copied from.entry) (option_copied to.entry) limit found.old.items ((key, v) ∷ [])) }
+        → OnOk result
+        (found.new.items ≡ filled (option_copied from.entry)
+        (option_copied to.entry) limit found.old.items ((key, v) ∷ [])) }
     ensures ends { IfOk result (λ more. more ≡ false
         → (limit ≤ length found.new.items) ⊎ (below (option_copied to.entry) key ≡ false)) }
     ensures same { rows.new ≡ rows.old }
@@ -76,7 +80,8 @@ fn add<R: Rows, A: Allocator>(
     Ok(found.len() < limit)
 }
 
-/// Adds the pairs of a tree, by its head, that are within the bounds, in the order of their keys, until there are as many as the limit.
+/// Adds the pairs of a tree, by its head, that are within the bounds, in the order of their keys,
+/// until there are as many as the limit.
 fn gather<R: Rows, A: Allocator>(
     rows: &mut R,
     top: Option<HeadLinks>,
@@ -87,7 +92,9 @@ fn gather<R: Rows, A: Allocator>(
 ) -> Result<(), Memory>
     requires stands { (f : Format) × (p : Placed) × HeadStands f (R.content rows.old) top p }
     ensures found { (f : Format) (p : Placed) → HeadStands f (R.content rows.old) top p
-        → OnOk result (found.new.items ≡ filled (option_copied from.entry) (option_copied to.entry) limit found.old.items (pairs (tree_of f p))) }
+        → OnOk result
+        (found.new.items ≡ filled (option_copied from.entry)
+        (option_copied to.entry) limit found.old.items (pairs (tree_of f p))) }
     ensures same { rows.new ≡ rows.old }
 {
     let Some(head) = top else { return Ok(()) };
@@ -106,11 +113,16 @@ fn gather<R: Rows, A: Allocator>(
     gather(rows, tail, from, to, limit, found)
 }
 
-/// The first pairs, at most `limit`, of the keys that are at least `from` and below `to`, in the map that stands at the link, in the order of their keys. A bound that is not given does not bind.
+/// The first pairs, at most `limit`, of the keys that are at least `from` and below `to`, in the
+/// map that stands at the link, in the order of their keys. A bound that is not given does not
+/// bind.
 ///
 /// `Memory` comes only where a growth of the list was refused, and changes nothing.
 ///
-/// It visits the nodes on the way to the two bounds, at most 65 each, and of the nodes between them only those that hold a pair of the answer; it reads the head of each node once and of its entries those up to the upper bound, and the value of each pair of the answer once. It stops at the limit, and reads nothing where that is 0.
+/// It visits the nodes on the way to the two bounds, at most 65 each, and of the nodes between them
+/// only those that hold a pair of the answer; it reads the head of each node once and of its
+/// entries those up to the upper bound, and the value of each pair of the answer once. It stops at
+/// the limit, and reads nothing where that is 0.
 pub fn range_below<R: Rows, A: Allocator>(
     alloc: A,
     rows: &mut R,
@@ -121,7 +133,9 @@ pub fn range_below<R: Rows, A: Allocator>(
 ) -> Result<Vec<(Key, Value), A>, Memory>
     requires stands { LinkStands (R.content rows.old) link }
     ensures found { (f : Format) (m : List Pair) → StandsBelow f (R.content rows.old) link m
-        → IfOk result (λ found. found.items ≡ map_range m (option_copied from.entry) (option_copied to.entry) limit) }
+        → IfOk result
+        (λ found. found.items ≡ map_range m (option_copied from.entry)
+        (option_copied to.entry) limit) }
     ensures same { rows.new ≡ rows.old }
 {
     let mut found = Vec::new(alloc);
@@ -133,7 +147,8 @@ pub fn range_below<R: Rows, A: Allocator>(
     Ok(found)
 }
 
-/// The first pairs between two bounds in the map that stands at the root, as [`range_below`] has them at a link.
+/// The first pairs between two bounds in the map that stands at the root, as [`range_below`] has
+/// them at a link.
 ///
 /// `Memory` comes only where a growth of the list was refused, and changes nothing.
 pub fn range<R: Rows, A: Allocator>(
@@ -146,7 +161,9 @@ pub fn range<R: Rows, A: Allocator>(
 ) -> Result<Vec<(Key, Value), A>, Memory>
     requires stands { MapStands (R.content rows.old) root.now }
     ensures found { (f : Format) (m : List Pair) → Stands f (R.content rows.old) root.now m
-        → IfOk result (λ found. found.items ≡ map_range m (option_copied from.entry) (option_copied to.entry) limit) }
+        → IfOk result
+        (λ found. found.items ≡ map_range m (option_copied from.entry)
+        (option_copied to.entry) limit) }
     ensures same { rows.new ≡ rows.old }
 {
     range_below(alloc, rows, root.link, from, to, limit)

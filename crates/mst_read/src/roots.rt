@@ -8,7 +8,8 @@ ghost use Rattle.mst_read.specs.Search.{MapStands};
 
 use mst_arena::{Root, Rows};
 
-/// The root digest of the map that stands at the root: the SHA-256 (FIPS 180-4) of the text of its tree's top node, or of the empty string for the empty map.
+/// The root digest of the map that stands at the root: the SHA-256 (FIPS 180-4) of the text of its
+/// tree's top node, or of the empty string for the empty map.
 ///
 /// It reads no row: the root carries the digest.
 pub fn root<R: Rows>(_rows: &mut R, root: &Root) -> [u8; 32]

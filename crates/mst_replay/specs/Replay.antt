@@ -24,8 +24,11 @@ core_state r = state_in r.core
 abbrev pub Obeys : Option State → Command → Reply → Option State → Type 0
 Obeys s (Open n) reply t = (reply ≡ Records (n + 2)) × (t ≡ Some (opening n))
 Obeys None (Take e) reply t = (reply ≡ FaultLine) × (t ≡ None)
-Obeys (Some s) (Take e) reply t = (a : Answer) × (u : State) × Steps s e a u × (reply ≡ reply_of a) × (t ≡ Some u)
+Obeys (Some s) (Take e) reply t =
+    (a : Answer) × (u : State) × Steps s e a u × (reply ≡ reply_of a) × (t ≡ Some u)
 
--- the line is a command's text, and does what that does; or it is no command's text, and changes nothing
+-- the line is a command's text, and does what that does; or it is no command's text, and changes
+-- nothing
 abbrev pub Replays : Option State → List ℕ → Reply → Option State → Type 0
-Replays s line reply t = ((c : Command) × IsSpelt c line × Obeys s c reply t) ⊎ (((c : Command) → IsSpelt c line → ⊥) × (reply ≡ FaultLine) × (t ≡ s))
+Replays s line reply t = ((c : Command) × IsSpelt c line × Obeys s c reply t)
+    ⊎ (((c : Command) → IsSpelt c line → ⊥) × (reply ≡ FaultLine) × (t ≡ s))

@@ -30,14 +30,17 @@ spelt n (d ∷ ds) = spelt (n * 10 + (d - 48)) ds
 
 -- the same, if they are digits and the number is at most so much
 abbrev pub number_up_to : ℕ → ℕ → List ℕ → Option ℕ
-number_up_to most n digits = if list_all is_ascii_digit digits && nat_le (spelt n digits) most then Some (spelt n digits) else None
+number_up_to most n digits = if list_all is_ascii_digit digits && nat_le (spelt n digits) most
+    then Some (spelt n digits) else None
 
--- the pass that a field names, where the passes 1 to n are dealt: decimal digits, the first of them not 0
+-- the pass that a field names, where the passes 1 to n are dealt: decimal digits, the first of them
+-- not 0
 abbrev pub pass_in : ℕ → List ℕ → Option ℕ
 pass_in n [] = None
 pass_in n (d ∷ ds) = if d == 48 then None else number_up_to n 0 (d ∷ ds)
 
--- the number of pairs that a field names, at most 65,535: decimal digits, the first of several not 0
+-- the number of pairs that a field names, at most 65,535: decimal digits, the first of several not
+-- 0
 abbrev pub count_in : List ℕ → Option ℕ
 count_in [] = None
 count_in (d ∷ []) = number_up_to 65535 0 (d ∷ [])
@@ -69,10 +72,12 @@ abbrev pub bound_of : List ℕ → Option (List ℕ)
 bound_of [] = None
 bound_of (b ∷ bs) = Some (b ∷ bs)
 
--- ---- the commands, by the fields behind the name: first their number is tested, then whether each spells something, then the sizes of keys, then that of the value
+-- ---- the commands, by the fields behind the name: first their number is tested, then whether each
+-- spells something, then the sizes of keys, then that of the value
 
 abbrev pub put_of : Option (List ℕ) → Option (List ℕ) → Result Command Fault
-put_of (Some k) (Some v) = if has_key_size k then (if has_value_size v then Ok (Put k v) else Err ValueSize) else Err KeySize
+put_of (Some k) (Some v) =
+    if has_key_size k then (if has_value_size v then Ok (Put k v) else Err ValueSize) else Err KeySize
 put_of _ _ = Err BadField
 
 abbrev pub put_fields : List (List ℕ) → Result Command Fault
@@ -102,7 +107,9 @@ next_fields (k ∷ []) = next_of (bytes_of k)
 next_fields _ = Err FieldCount
 
 abbrev pub range_of : Option (List ℕ) → Option (List ℕ) → Option ℕ → Result Command Fault
-range_of (Some from) (Some to) (Some limit) = if has_bound_size from then (if has_bound_size to then Ok (Range (bound_of from) (bound_of to) limit) else Err KeySize) else Err KeySize
+range_of (Some from) (Some to) (Some limit) = if has_bound_size from
+    then (if has_bound_size to then Ok (Range (bound_of from) (bound_of to) limit) else Err KeySize)
+    else Err KeySize
 range_of _ _ _ = Err BadField
 
 abbrev pub range_fields : List (List ℕ) → Result Command Fault

@@ -45,7 +45,8 @@ pub enum Answer<A: Allocator> {
     Memory,
 }
 
-/// A line of an answer: the longest is `pair ` with the 64 digits of a key, a blank, the 128 digits of a value and the newline.
+/// A line of an answer: the longest is `pair ` with the 64 digits of a key, a blank, the 128 digits
+/// of a value and the newline.
 pub type Text = ArrayVec<u8, 208>;
 
 /// Of how many bytes the digits are put at a time; they fit a `Text`.
@@ -207,9 +208,11 @@ fn put_pairs<W: Sink, A: Allocator>(
     pairs: &[(Key, Value)],
 ) -> Result<(), Device>
     requires { W.failures sink.old < 2 ^ 64 - 1 }
-    ensures ok { OnOk result (Puts W.takes sink.old pending.old (pair_lines pairs.now) sink.new pending.new) }
+    ensures ok { OnOk result
+        (Puts W.takes sink.old pending.old (pair_lines pairs.now) sink.new pending.new) }
     ensures steady { OnOk result (W.failures sink.new ≡ W.failures sink.old) }
-    ensures err { OnErr result (Breaks W.takes sink.old pending.old (pair_lines pairs.now) sink.new) }
+    ensures err { OnErr result
+        (Breaks W.takes sink.old pending.old (pair_lines pairs.now) sink.new) }
     ensures failed { OnErr result (W.failures sink.old < W.failures sink.new) }
 {
     for (key, value) in pairs {
@@ -235,9 +238,11 @@ fn put_digits<W: Sink, A: Allocator>(
     bytes: &[u8],
 ) -> Result<(), Device>
     requires { W.failures sink.old < 2 ^ 64 - 1 }
-    ensures ok { OnOk result (Puts W.takes sink.old pending.old (encode_lower bytes.now) sink.new pending.new) }
+    ensures ok { OnOk result
+        (Puts W.takes sink.old pending.old (encode_lower bytes.now) sink.new pending.new) }
     ensures steady { OnOk result (W.failures sink.new ≡ W.failures sink.old) }
-    ensures err { OnErr result (Breaks W.takes sink.old pending.old (encode_lower bytes.now) sink.new) }
+    ensures err { OnErr result
+        (Breaks W.takes sink.old pending.old (encode_lower bytes.now) sink.new) }
     ensures failed { OnErr result (W.failures sink.old < W.failures sink.new) }
 {
     let mut at = 0;
@@ -257,7 +262,8 @@ pub fn put_answer<W: Sink, A: Allocator, B: Allocator>(
     answer: &Answer<B>,
 ) -> Result<(), Device>
     requires { W.failures sink.old < 2 ^ 64 - 1 }
-    ensures ok { OnOk result (Puts W.takes sink.old pending.old (text_of answer.now) sink.new pending.new) }
+    ensures ok { OnOk result
+        (Puts W.takes sink.old pending.old (text_of answer.now) sink.new pending.new) }
     ensures steady { OnOk result (W.failures sink.new ≡ W.failures sink.old) }
     ensures err { OnErr result (Breaks W.takes sink.old pending.old (text_of answer.now) sink.new) }
     ensures failed { OnErr result (W.failures sink.old < W.failures sink.new) }

@@ -21,7 +21,8 @@ pub fn first_field(line: &[u8]) -> (&[u8], Option<&[u8]>)
 
 /// Nothing, where there are no fields.
 pub fn no_field(fields: Option<&[u8]>) -> Result<(), Fault>
-    ensures { MatchResult result (λ _. fields_behind fields.entry ≡ []) (λ fault. (fault ≡ FieldCount) × (length (fields_behind fields.entry) ≢ 0)) }
+    ensures { MatchResult result (λ _. fields_behind fields.entry ≡ [])
+        (λ fault. (fault ≡ FieldCount) × (length (fields_behind fields.entry) ≢ 0)) }
 {
     match fields {
         Some(_) => Err(Fault::FieldCount),
@@ -32,7 +33,8 @@ pub fn no_field(fields: Option<&[u8]>) -> Result<(), Fault>
 /// The one field, where there is one.
 pub fn one_field(fields: Option<&[u8]>) -> Result<&[u8], Fault>
     requires { IfSome fields (λ rest. length rest.now ≤ 4096) }
-    ensures fields { MatchResult result (λ one. fields_behind fields.entry ≡ one.now ∷ []) (λ fault. (fault ≡ FieldCount) × (length (fields_behind fields.entry) ≢ 1)) }
+    ensures fields { MatchResult result (λ one. fields_behind fields.entry ≡ one.now ∷ [])
+        (λ fault. (fault ≡ FieldCount) × (length (fields_behind fields.entry) ≢ 1)) }
     ensures size { IfOk result (λ one. length one.now ≤ 4096) }
 {
     let Some(fields) = fields else {
@@ -48,7 +50,9 @@ pub fn one_field(fields: Option<&[u8]>) -> Result<&[u8], Fault>
 /// The two fields, where there are two.
 pub fn two_fields(fields: Option<&[u8]>) -> Result<(&[u8], &[u8]), Fault>
     requires { IfSome fields (λ rest. length rest.now ≤ 4096) }
-    ensures fields { MatchResult result (λ two. fields_behind fields.entry ≡ two.0.now ∷ two.1.now ∷ []) (λ fault. (fault ≡ FieldCount) × (length (fields_behind fields.entry) ≢ 2)) }
+    ensures fields { MatchResult result
+        (λ two. fields_behind fields.entry ≡ two.0.now ∷ two.1.now ∷ [])
+        (λ fault. (fault ≡ FieldCount) × (length (fields_behind fields.entry) ≢ 2)) }
     ensures size { IfOk result (λ two. (length two.0.now ≤ 4096) × (length two.1.now ≤ 4096)) }
 {
     let Some(fields) = fields else {
@@ -62,8 +66,11 @@ pub fn two_fields(fields: Option<&[u8]>) -> Result<(&[u8], &[u8]), Fault>
 /// The three fields, where there are three.
 pub fn three_fields(fields: Option<&[u8]>) -> Result<(&[u8], &[u8], &[u8]), Fault>
     requires { IfSome fields (λ rest. length rest.now ≤ 4096) }
-    ensures fields { MatchResult result (λ three. fields_behind fields.entry ≡ three.0.now ∷ three.1.now ∷ three.2.now ∷ []) (λ fault. (fault ≡ FieldCount) × (length (fields_behind fields.entry) ≢ 3)) }
-    ensures size { IfOk result (λ three. (length three.0.now ≤ 4096) × (length three.1.now ≤ 4096)) }
+    ensures fields { MatchResult result
+        (λ three. fields_behind fields.entry ≡ three.0.now ∷ three.1.now ∷ three.2.now ∷ [])
+        (λ fault. (fault ≡ FieldCount) × (length (fields_behind fields.entry) ≢ 3)) }
+    ensures size { IfOk result (λ three. (length three.0.now ≤ 4096)
+        × (length three.1.now ≤ 4096)) }
 {
     let Some(fields) = fields else {
         return Err(Fault::FieldCount);
@@ -100,7 +107,8 @@ pub fn pass_of(field: &[u8], passes: u32) -> Option<u32>
     }
 }
 
-/// The number of pairs that a field names, at most 65,535: decimal digits, without a leading zero before others.
+/// The number of pairs that a field names, at most 65,535: decimal digits, without a leading zero
+/// before others.
 pub fn count_of(field: &[u8]) -> Option<u32>
     ensures { result ≡ count_in field.now }
 {
@@ -110,11 +118,13 @@ pub fn count_of(field: &[u8]) -> Option<u32>
     }
 }
 
-// The bytes that a field spells, at the front of the room: pairs of hexadecimal digits, or `-` for none.
+// The bytes that a field spells, at the front of the room: pairs of hexadecimal digits, or `-` for
+// none.
 #[tactic(auto, unfolding(crate::specs::Grammar::bytes_of))]
 fn bytes_of(field: &[u8], room: &mut [u8; 2048]) -> Option<usize>
     requires { length field.now ≤ 4096 }
-    ensures { MatchOption result (spelt_bytes field.now ≡ None) (λ n. (n ≤ 2048) × (spelt_bytes field.now ≡ Some (take n room.new))) }
+    ensures { MatchOption result (spelt_bytes field.now ≡ None) (λ n. (n ≤ 2048)
+        × (spelt_bytes field.now ≡ Some (take n room.new))) }
 {
     if field.is_empty() {
         return None;
@@ -145,9 +155,10 @@ pub fn key_of(field: &[u8]) -> Option<Result<Key, KeySize>>
 /// The bound that a field spells, if it spells any bytes: `-` is none.
 pub fn bound_in(field: &[u8]) -> Option<Result<Option<Key>, KeySize>>
     requires { length field.now ≤ 4096 }
-    ensures { MatchOption result (spelt_bytes field.now ≡ None) (λ read. MatchResult read
-        (λ bound. (k : List ℕ) × (spelt_bytes field.now ≡ Some k) × (has_bound_size k ≡ true) × (bound ≡ bound_of k))
-        (λ _. (k : List ℕ) × (spelt_bytes field.now ≡ Some k) × (has_bound_size k ≡ false))) }
+    ensures { MatchOption result (spelt_bytes field.now ≡ None) (λ read. MatchResult read (λ bound.
+        (k : List ℕ) × (spelt_bytes field.now ≡ Some k) × (has_bound_size k ≡ true)
+        × (bound ≡ bound_of k)) (λ _. (k : List ℕ) × (spelt_bytes field.now ≡ Some k)
+        × (has_bound_size k ≡ false))) }
 {
     let mut room = [0; 2048];
     let count = bytes_of(field, &mut room)?;

@@ -5,7 +5,8 @@
 //! put_answer(&mut sink, &mut pending, &answer)?   // of Answer::Value(Some(..)): "some 78\n"
 //! ```
 //!
-//! `specs/Grammar.antt` has the lines with their faults in their order, `specs/Texts.antt` the texts of answers. Nothing is asked of a store here: `mst_script` does that.
+//! `specs/Grammar.antt` has the lines with their faults in their order, `specs/Texts.antt` the
+//! texts of answers. Nothing is asked of a store here: `mst_script` does that.
 #![tactic(auto)]
 
 mod answer;

@@ -3,7 +3,8 @@ use mst_key::{Key, Value};
 
 /// Why a line is refused. The first that holds is told, in this order.
 ///
-/// All but `Pinning` are in the line alone; `Pinning` depends on the store, so whoever runs the line tells it.
+/// All but `Pinning` are in the line alone; `Pinning` depends on the store, so whoever runs the
+/// line tells it.
 #[derive(Clone, Copy, Debug, PartialEq, Eq)]
 pub enum Fault {
     /// It has more bytes than a line may have.

@@ -1,4 +1,5 @@
--- A change of rows that stand is published: the rows that stand afterwards are of the current version, and all may be written.
+-- A change of rows that stand is published: the rows that stand afterwards are of the current
+-- version, and all may be written.
 use Rattle.std.proofs.Common.{◌≡◌, ◌↔◌, ℕ, zero, suc, ◌<◌, ◌≤◌, nat_lt, Bool, IsTrue, List, [], length, map, Option, Some, None, refl, sym, ◌∙◌, ap, subst, arith}
 use Rattle.std.specs.Prelude.{slice_get, slice_index, slice_set, replicate}
 use Rattle.std.specs.Option.{option_map}

@@ -11,7 +11,8 @@ use Rattle.mst_path.specs.Changing.{MapStands}
 abbrev pub AreWithin : State → ℕ → Type 0
 AreWithin s rows = (r : ℕ) (life : Life) → slice_get s.lives r ≡ Some life → IsTrue (nat_lt r rows)
 
--- The rows stand for a map at the root, all of them may be written, and one of two records is the current one.
+-- The rows stand for a map at the root, all of them may be written, and one of two records is the
+-- current one.
 pub record IsReady (places : List (Option Row)) (s : State) (at : Root) : Type 0 where
   pub stands : MapStands (listed places) s at
   pub within : AreWithin s (length places)

@@ -70,7 +70,8 @@ impl Both {
         self.list.len()
     }
 
-    /// Gives a key this value, or none, in the rows and in the list. It answers whether there was room for that.
+    /// Gives a key this value, or none, in the rows and in the list. It answers whether there was
+    /// room for that.
     pub fn change(
         &mut self,
         rt: &impl Abort,

@@ -214,7 +214,8 @@ fn fill_and_empty(
     Ok(())
 }
 
-// the node of twelve entries is written beside that of eleven, and takes the last row; so does its removal
+// the node of twelve entries is written beside that of eleven, and takes the last row; so does its
+// removal
 #[test]
 fn filled_and_emptied_ten_times(rt: HostRuntime) -> Result<(), Fail> {
     let alloc = rt.alloc();

@@ -6,7 +6,8 @@ use mst_key::{Memory, Value};
 use std::alloc::{Allocator, Global};
 use std::marker::Model;
 
-/// How many parts of rows were read: heads, entries with their keys, values, and digests or whole rows.
+/// How many parts of rows were read: heads, entries with their keys, values, and digests or whole
+/// rows.
 #[derive(Clone, Copy, Debug, PartialEq, Eq)]
 pub struct Reads {
     pub heads: u32,

@@ -1,4 +1,5 @@
-//! Calls that take no memory, over a heap with no byte left: those of a desk, of plain rows, and those that plant, change and read a map in rows.
+//! Calls that take no memory, over a heap with no byte left: those of a desk, of plain rows, and
+//! those that plant, change and read a map in rows.
 use crate::pairs::{pair, three_pairs};
 use crate::standing::StandingMap;
 use linked_list_allocator::LocalHeap;
@@ -99,7 +100,8 @@ fn plain_rows_go_on_over_a_full_heap(rt: HostRuntime) -> Result<(), Fail> {
     Ok(())
 }
 
-/// The map of 1, 39 and a in the least heap that holds the rows and the desk, so that it is planted with no byte left.
+/// The map of 1, 39 and a in the least heap that holds the rows and the desk, so that it is planted
+/// with no byte left.
 fn planted<'h>(
     rt: &(impl Abort + AllocGlobal),
     heap: &'h LocalHeap,

@@ -1,4 +1,5 @@
-//! Tests of rows and of trees in rows: the words of rows, the desk, planted maps, changes, reads and proofs, against the plain lists of their pairs.
+//! Tests of rows and of trees in rows: the words of rows, the desk, planted maps, changes, reads
+//! and proofs, against the plain lists of their pairs.
 #![tactic(auto)]
 
 #[cfg(test)]

@@ -17,7 +17,8 @@ struct OpenRows {
     places: Vec<Option<Row>>,
 }
 
-/// Contracts see the list of the places, each with its row, which is within its limits, or with none.
+/// Contracts see the list of the places, each with its row, which is within its limits, or with
+/// none.
 impl Model for OpenRows {
     ghost use Rattle.std.specs.Prelude.{List, Option, All, IfSome};
     ghost use Rattle.mst_arena.specs.declared.row.Row.{Row};
@@ -151,7 +152,8 @@ fn walk(
     walk(places, head.tail, depth - 1, pairs)
 }
 
-/// What became of a map that was to be planted: where it stands, or that there was no room; how many rows are free then; and the rows.
+/// What became of a map that was to be planted: where it stands, or that there was no room; how
+/// many rows are free then; and the rows.
 #[derive(Drop)]
 struct Outcome {
     root: Result<Root, NoRoom>,

@@ -12,7 +12,8 @@ use std::alloc::Global;
 use std::process::Abort;
 use std::test::Fail;
 
-/// Pairs from a generator of random numbers, which begins at the seed. The first three bytes of each key are a number that rises by 1 to 31 from key to key; up to four random bytes follow it.
+/// Pairs from a generator of random numbers, which begins at the seed. The first three bytes of
+/// each key are a number that rises by 1 to 31 from key to key; up to four random bytes follow it.
 fn generated(alloc: Global, count: u32, seed: u64) -> Result<Vec<(Key, Value)>, Fail> {
     let mut pairs = Vec::new(alloc);
     let mut state = seed;
@@ -159,7 +160,8 @@ fn all_ranges(
     Ok(())
 }
 
-/// A map of so many pairs against their list: each so many of the keys, and ranges between places so many apart.
+/// A map of so many pairs against their list: each so many of the keys, and ranges between places
+/// so many apart.
 fn reads_a_map(
     rt: &impl Abort,
     alloc: Global,

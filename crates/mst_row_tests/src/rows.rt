@@ -220,7 +220,8 @@ fn rows_fit<R: Abort + AllocGlobal>(rt: &R, bytes: usize) -> bool {
 
 #[test]
 fn each_growth_is_refused_in_turn(rt: HostRuntime) {
-    // a desk of 100 rows takes 24 bytes a row for lives and 8 for lists, and less than 200 bytes beside
+    // a desk of 100 rows takes 24 bytes a row for lives and 8 for lists, and less than 200 bytes
+    // beside
     let mut refused = 0u32;
     for step in 1..300usize {
         if !desk_fits(&rt, step * 16) {

@@ -1,6 +1,8 @@
-//! All scripts of five calls of three passes, over stores of 4, 5 and 6 rows, each compared with plain sets of versions.
+//! All scripts of five calls of three passes, over stores of 4, 5 and 6 rows, each compared with
+//! plain sets of versions.
 //!
-//! A call is one of four of a pass: it pins, or ends its pin; it puts a first or a second value at the key a; it counts the rows. A pinned pass leaves out the last three.
+//! A call is one of four of a pass: it pins, or ends its pin; it puts a first or a second value at
+//! the key a; it counts the rows. A pinned pass leaves out the last three.
 use crate::fixtures::{dealt, is_value, opened, still_gets};
 use mst_key::{Key, Value};
 use mst_store::{Pass, Pinned, WriteFault};
@@ -15,7 +17,8 @@ enum Seat<'a> {
     Held(Pinned<'a, Global>),
 }
 
-/// A version: the change that made its two rows, from 1, or 0 for the empty map, which takes none; and the value of the key.
+/// A version: the change that made its two rows, from 1, or 0 for the empty map, which takes none;
+/// and the value of the key.
 #[derive(Clone, Copy, PartialEq, Eq)]
 struct Version {
     made: u32,
@@ -95,7 +98,8 @@ impl<'a> World<'a> {
         pass.rows() == Ok(wanted)
     }
 
-    // One call of a free pass. It answers whether the answer was right, the pass, and the version that it pins then.
+    // One call of a free pass. It answers whether the answer was right, the pass, and the version
+    // that it pins then.
     fn call(&mut self, mut pass: Pass<'a, Global>, what: u32) -> (bool, Seat<'a>, Option<Version>) {
         let right = match what {
             0 => return (true, Seat::Held(pass.pin()), Some(self.current)),
@@ -126,7 +130,8 @@ impl<'a> World<'a> {
     }
 }
 
-// Whether a put answered this old value; or false where there was no room, and nothing where it answered anything else.
+// Whether a put answered this old value; or false where there was no room, and nothing where it
+// answered anything else.
 fn is_value_of(answer: Result<Option<Value>, WriteFault>, old: Option<&[u8]>) -> Option<bool> {
     match answer {
         Ok(found) if is_value(&found, old) => Some(true),

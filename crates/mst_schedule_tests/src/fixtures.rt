@@ -83,7 +83,8 @@ pub(crate) fn still_gets<A: Allocator + Copy>(
     }
 }
 
-/// Whether the map takes so many rows; or, with none, whether they were not counted since a version is pinned.
+/// Whether the map takes so many rows; or, with none, whether they were not counted since a version
+/// is pinned.
 pub(crate) fn counts<A: Allocator + Copy>(pass: &mut Pass<A>, rows: Option<u32>) -> bool {
     pass.rows() == Ok(rows)
 }

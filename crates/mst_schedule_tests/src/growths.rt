@@ -9,7 +9,8 @@ use std::alloc::Global;
 use std::process::Abort;
 use std::test::Fail;
 
-// Deals the seats in a heap of ever more bytes, and answers how many heaps were too small. The seats of a refusal are dealt again, and at last serve.
+// Deals the seats in a heap of ever more bytes, and answers how many heaps were too small. The
+// seats of a refusal are dealt again, and at last serve.
 fn refused_heaps(
     rt: &(impl Abort + AllocGlobal),
     store: &Store<Global>,
@@ -60,7 +61,8 @@ fn range_in(pinned: &mut Pinned<Global>, heap: &LocalHeap) -> Answered {
     }
 }
 
-/// The proof of a key of the map of a with 1 and abc with x: the version 1, the number 1 of texts, the length of the one text, and the text of the node of both.
+/// The proof of a key of the map of a with 1 and abc with x: the version 1, the number 1 of texts,
+/// the length of the one text, and the text of the node of both.
 const PROOF_OF_BOTH: [u8; 23] = [
     1, 1, 0, 0, 0, 17, 1, 0, 0, 2, 0, 1, 0x61, 1, 0x31, 0, 3, 0x61, 0x62, 0x63, 1, 0x78, 0,
 ];
@@ -73,7 +75,8 @@ fn proof_in(pinned: &mut Pinned<Global>, heap: &LocalHeap, key: &Key) -> Answere
     }
 }
 
-// Whether the read of the pinned pass answers in each heap of this many 16 bytes that there is no memory, up to one in which it answers right.
+// Whether the read of the pinned pass answers in each heap of this many 16 bytes that there is no
+// memory, up to one in which it answers right.
 fn is_right_or_refused(
     alloc: Global,
     pinned: &mut Pinned<Global>,
@@ -126,7 +129,8 @@ fn fill<'h>(alloc: Global, heap: &'h LocalHeap) -> Result<Vec<Vec<u8, &'h LocalH
     Ok(blocks)
 }
 
-// Whether each call of the pinned pass that takes no memory goes on: its version has the key a alone.
+// Whether each call of the pinned pass that takes no memory goes on: its version has the key a
+// alone.
 fn all_go_on(pinned: &mut Pinned<&LocalHeap>, root: [u8; 32]) -> bool {
     still_gets(pinned, b"a", Some(b"1"))
         && pinned.next(None).is_some()

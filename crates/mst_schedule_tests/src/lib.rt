@@ -1,4 +1,5 @@
-//! Tests of a store by all of a kind: each number of passes, each short script of three passes, and each growth that is refused.
+//! Tests of a store by all of a kind: each number of passes, each short script of three passes, and
+//! each growth that is refused.
 #![tactic(auto)]
 
 #[cfg(test)]

@@ -5,7 +5,8 @@ use std::alloc::Global;
 use std::process::Abort;
 use std::test::Fail;
 
-// Whether each pass in turn puts its number as the value of one key, finds the value of the pass before, and reads its own.
+// Whether each pass in turn puts its number as the value of one key, finds the value of the pass
+// before, and reads its own.
 fn each_puts_and_gets(passes: &mut [Pass<'_, Global>]) -> bool {
     let mut number = 0u8;
     for pass in passes.iter_mut() {
@@ -23,7 +24,8 @@ fn each_puts_and_gets(passes: &mut [Pass<'_, Global>]) -> bool {
     true
 }
 
-// Whether each pass reads the last value, and counts the rows of the map, whose one node has one key.
+// Whether each pass reads the last value, and counts the rows of the map, whose one node has one
+// key.
 fn each_reads_the_last(passes: &mut [Pass<'_, Global>], last: u8) -> bool {
     for pass in passes.iter_mut() {
         if !gets(pass, b"a", Some(&[last])) || !counts(pass, Some(2)) {

@@ -1,4 +1,5 @@
--- A history that gathers the passes is the only one. After a turn of one pass it is what it was and the events of that turn.
+-- A history that gathers the passes is the only one. After a turn of one pass it is what it was and
+-- the events of that turn.
 use Rattle.std.proofs.Common.{◌≡◌, ℕ, ◌+◌, ◌≤◌, List, [], ◌∷◌, ◌++◌, length, get_or, sym, refl, ap, ◌∙◌, subst, arith, append-nil, length-append, cond, Bool, eq-eqb, ◌⊎◌, inl, inr}
 use Rattle.std.specs.List.{All, AllByRecursion}
 use Rattle.std.specs.List.Sorted.{IsPermutation}
@@ -95,7 +96,8 @@ one_history ps g h itself a b =
 pub looked : (p q : Known) → Looks p q → Turn q.seen [] p q
 looked p q l = record { same = l.same; later = l.later; seen = sym (append-nil q.seen); mine = l.mine ∙ sym (append-nil p.mine); own = tt }
 
--- One pass had its turn, and then all settled: the turn began at the history that this pass and all others had seen, and now there are that and the events of the turn.
+-- One pass had its turn, and then all settled: the turn began at the history that this pass and all
+-- others had seen, and now there are that and the events of the turn.
 pub turned : (os : List Known) (p q : Known) (g h log t : History) → Gathers g (p ∷ os) → p.seen ≡ g → Turn log t p q → Gathers h (q ∷ os) → (log ≡ g) × (h ≡ g ++ t)
 turned os p q g h log t saw seen turn met =
     let own : events_of p.number g ≡ p.mine = All-head (λ (x : Known). events_of x.number g ≡ x.mine) p os saw.own in

@@ -1,4 +1,5 @@
--- The script machine: what a line is answered, and the machine's next state. Its state is the history so far, and for each pass the version that it pins, or none.
+-- The script machine: what a line is answered, and the machine's next state. Its state is the
+-- history so far, and for each pass the version that it pins, or none.
 use Rattle.std.specs.Prelude.{◌≡◌, ◌≢◌, ℕ, ◌==◌, ◌<◌, ◌⊎◌, List, [], ◌∷◌, ◌++◌, length, take, if◌then◌else◌, Option, None, Some, Result, Ok, Err, codes}
 use Rattle.hex.specs.Hex.{encode_lower}
 use Rattle.mst_key.specs.declared.format.Format.TheVariants.{One}
@@ -21,7 +22,8 @@ use Rattle.mst_requests.specs.declared.request.Request.{Request}
 use Rattle.mst_requests.specs.Grammar.{asked}
 use Rattle.mst_requests.specs.Texts.{line_of, fault_words, digits_of, value_words, found_words, count_words, pair_lines, pinned_words, rows_words}
 
--- The history so far, and which version each pass pins, if it pins one: the version is that of so many first events.
+-- The history so far, and which version each pass pins, if it pins one: the version is that of so
+-- many first events.
 pub record Machine : Type 0 where
   pub history : History
   pub pinned : ℕ → Option ℕ
@@ -32,7 +34,8 @@ with_no_pins h = record { history = h; pinned = λ p. None }
 
 -- the machine, when the pass p pins this version, or none
 abbrev pub with_pin : ℕ → Option ℕ → Machine → Machine
-with_pin p version m = record { history = m.history; pinned = λ q. if q == p then version else m.pinned q }
+with_pin p version m =
+    record { history = m.history; pinned = λ q. if q == p then version else m.pinned q }
 
 -- ---- what is written of a tree
 
@@ -59,14 +62,17 @@ LacksMemory text = text ≡ line_of (codes "memory")
 abbrev pub IsSpent : History → List ℕ → Type 0
 IsSpent h text = (text ≡ line_of (codes "spent")) × (length h ≡ last_version)
 
--- There is a next version, and the change finds no room: the versions that are kept hold too many rows, the last one and at most one for each other pass. Where there is one pass, the rows that the map leaves over are too few
+-- There is a next version, and the change finds no room: the versions that are kept hold too many
+-- rows, the last one and at most one for each other pass. Where there is one pass, the rows that
+-- the map leaves over are too few
 abbrev pub HasNoRoom : StoreId → Change → History → List ℕ → Type 0
 HasNoRoom store change h text = (text ≡ line_of (codes "noroom")) × (length h < last_version)
     × (store.passes ≡ 1 → LacksRoom store.rows (after h) change) × LacksKept store.rows store.passes h change
 
 -- ---- writes and counts
 
--- The event is added, and the answer is the value that its key had. There is a next version, and room.
+-- The event is added, and the answer is the value that its key had. There is a next version, and
+-- room.
 pub record Adds (store : StoreId) (e : Event) (h : History) (text : List ℕ) (new : History) : Type 0 where
   pub answer : text ≡ line_of (value_words (reply h e))
   pub added : new ≡ h ++ e ∷ []
@@ -116,7 +122,8 @@ Acts store p read h text new = Finds read (after h) text × (new ≡ h)
 abbrev pub FreeStep : StoreId → ℕ → Command → Machine → List ℕ → Machine → Type 0
 FreeStep store p Pin m text new = (text ≡ line_of (pinned_words (length m.history)))
     × (new ≡ with_pin p (Some (length m.history)) m)
-FreeStep store p command m text new = Acts store p command m.history text new.history × (new.pinned ≡ m.pinned)
+FreeStep store p command m text new =
+    Acts store p command m.history text new.history × (new.pinned ≡ m.pinned)
 
 -- what a pass is asked for that pins a version with this map, but to unpin it, and answers
 abbrev pub Recalls : Command → List Pair → List ℕ → Type 0

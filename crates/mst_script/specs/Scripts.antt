@@ -10,7 +10,9 @@ use Rattle.mst_script.specs.Serving.{Gathers, AllSaw}
 abbrev pub HasFailed : {S W : Type 0} → (S → ℕ) → (W → ℕ) → S → W → S → W → Type 0
 HasFailed reads writes s w t x = reads s + writes w < reads t + writes x
 
--- The source gave a script, and the sink took what the machine answers its lines, from a history on that the passes had made and with nothing pinned; all passes have then seen the machine's last history.
+-- The source gave a script, and the sink took what the machine answers its lines, from a history on
+-- that the passes had made and with nothing pinned; all passes have then seen the machine's last
+-- history.
 pub record RanScript {S W : Type 0} (gives : S → List ℕ → S → Type 0) (takes : W → List ℕ → W → Type 0)
     (store : StoreId) (s : S) (w : W) (ps : List Known) (t : S) (x : W) (qs : List Known) : Type 0 where
   pub start : History

@@ -1,4 +1,5 @@
--- The passes of a store while they serve a script: between two lines the free ones have seen one history, and the others pin a version of it.
+-- The passes of a store while they serve a script: between two lines the free ones have seen one
+-- history, and the others pin a version of it.
 use Rattle.std.specs.Prelude.{◌≡◌, ◌≢◌, ℕ, ◌==◌, ◌<◌, ◌≤◌, ◌⊎◌, Bool, true, false, List, [], ◌∷◌, ◌++◌, length, slice_index_or, All, Contains, Option, None, Some}
 use Rattle.std.specs.List.{AllByRecursion, count_by, slice_set, swap_remove}
 use Rattle.std.specs.List.Sorted.{IsPermutation}
@@ -16,24 +17,28 @@ use Rattle.mst_script.specs.declared.passes.Place.TheVariants.{Free, Held}
 use Rattle.mst_script.specs.Machine.{Machine, LacksMemory, Acts, Recalls, Step, Line, top_words}
 use Rattle.mst_requests.specs.Texts.{line_of}
 
--- the passes are all those of this store, in any order: each number from 1 to the number of its passes is that of one of them
+-- the passes are all those of this store, in any order: each number from 1 to the number of its
+-- passes is that of one of them
 pub record AreAllOf (store : StoreId) (ps : List Known) : Type 0 where
   pub of_one : All (λ p. p.store ≡ store) ps
   pub complete : (n : ℕ) → 0 < n → n ≤ store.passes → Contains (numbers ps) n
 
--- the history begins with all that each pass has seen, each pass's events in it are its own, and it has no events but theirs
+-- the history begins with all that each pass has seen, each pass's events in it are its own, and it
+-- has no events but theirs
 pub record Gathers (h : History) (ps : List Known) : Type 0 where
   pub later : All (λ p. IsPrefix p.seen h) ps
   pub own : All (λ p. events_of p.number h ≡ p.mine) ps
   pub alone : All (IsOfOne ps) h
 
--- all passes have seen this history, each pass's events in it are its own, and it has no events but theirs
+-- all passes have seen this history, each pass's events in it are its own, and it has no events but
+-- theirs
 pub record AllSaw (h : History) (ps : List Known) : Type 0 where
   pub seen : All (λ p. p.seen ≡ h) ps
   pub own : All (λ p. events_of p.number h ≡ p.mine) ps
   pub alone : All (IsOfOne ps) h
 
--- The passes while they serve a script: those that are free, and those that pin a version. A pass that pins one has seen the history at its pin
+-- The passes while they serve a script: those that are free, and those that pin a version. A pass
+-- that pins one has seen the history at its pin
 pub record Roster : Type 0 where
   pub free : List Known
   pub held : List Known
@@ -52,14 +57,16 @@ SawItself p = events_of p.number p.seen ≡ p.mine
 abbrev pub IsNowhere : List Known → ℕ → Type 0
 IsNowhere ps number = All (λ p. p.number ≢ number) ps
 
--- which version each of these passes pins, and none where no one of them has the number; no two of them have one number
+-- which version each of these passes pins, and none where no one of them has the number; no two of
+-- them have one number
 pub record KnowsPins (pinned : ℕ → Option ℕ) (held : List Known) : Type 0 where
   pub own : All SawItself held
   pub pins : All (λ p. pinned p.number ≡ Some (length p.seen)) held
   pub others : (n : ℕ) → IsNowhere held n → pinned n ≡ None
   pub once : (n : ℕ) → count_by (λ k. k == n) (numbers held) ≤ 1
 
--- the passes are in this state of the machine: the free ones have seen its whole history, and the others pin what it says
+-- the passes are in this state of the machine: the free ones have seen its whole history, and the
+-- others pin what it says
 pub record Shows (m : Machine) (r : Roster) : Type 0 where
   pub seen : All (λ p. p.seen ≡ m.history) r.free
   pub gathered : Gathers m.history (everyone r)
@@ -90,14 +97,17 @@ abbrev pub is_unpin : Command → Bool
 is_unpin Unpin = true
 is_unpin _ = false
 
--- Of a proof that a map gives for a key, whichever these are, the text is the line of the top node of the map's tree; or memory was refused.
+-- Of a proof that a map gives for a key, whichever these are, the text is the line of the top node
+-- of the map's tree; or memory was refused.
 abbrev pub Tops : List ℕ → List ℕ → Type 0
 Tops proof text = (m : List Pair) (k : List ℕ) → proof ≡ proof_text One m k
     → (text ≡ line_of (top_words (tree One m))) ⊎ LacksMemory text
 
--- where the passes are in a state of the machine, the line is answered as the machine does there, and they are then in its next
+-- where the passes are in a state of the machine, the line is answered as the machine does there,
+-- and they are then in its next
 abbrev pub Serves : StoreId → Roster → Option (List ℕ) → List ℕ → Roster → Type 0
-Serves store r line text s = (m : Machine) → Shows m r → (new : Machine) × Line store m line text new × Shows new s
+Serves store r line text s =
+    (m : Machine) → Shows m r → (new : Machine) × Line store m line text new × Shows new s
 
 -- the same for what the pass p is asked for, once the passes have settled that come of it
 abbrev pub Does : StoreId → ℕ → Command → Roster → List ℕ → Roster → Type 0
@@ -106,9 +116,11 @@ Does store p command r text s = (m : Machine) → Shows m r → (t : Roster) →
 
 -- at this place stands the pass with this number
 abbrev pub IsPlace : List Known → ℕ → ℕ → Type 0
-IsPlace ps number place = (place < length ps) × ((d : Known) → (slice_index_or ps place d).number ≡ number)
+IsPlace ps number place =
+    (place < length ps) × ((d : Known) → (slice_index_or ps place d).number ≡ number)
 
--- where the pass with this number was found: among those that pin a version, and where none of them has the number, among the free ones
+-- where the pass with this number was found: among those that pin a version, and where none of them
+-- has the number, among the free ones
 abbrev pub IsFound : Roster → ℕ → Place → Type 0
 IsFound r number (Held place) = IsPlace r.held number place
 IsFound r number (Free place) = IsPlace r.free number place × IsNowhere r.held number

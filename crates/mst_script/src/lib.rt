@@ -7,9 +7,12 @@
 //! sink.bytes()     // "none\nsome 78\nrows 2\n"
 //! ```
 //!
-//! [`run`] settles all passes before the first line and after each, so that a line is answered as by one machine over one map and the pins (`specs/Machine.antt`, and for whole runs `specs/Scripts.antt`). What a line may ask is in `mst_requests`.
+//! [`run`] settles all passes before the first line and after each, so that a line is answered as
+//! by one machine over one map and the pins (`specs/Machine.antt`, and for whole runs
+//! `specs/Scripts.antt`). What a line may ask is in `mst_requests`.
 //!
-//! The passes work in turns in one thread: that no line is then answered `busy` is tested, not proved. A pin lasts until its `unpin`, or to the end of the run.
+//! The passes work in turns in one thread: that no line is then answered `busy` is tested, not
+//! proved. A pin lasts until its `unpin`, or to the end of the run.
 #![tactic(auto)]
 
 mod asking;

@@ -63,7 +63,8 @@ fn recall_node<A: Allocator + Copy, B: Allocator + Copy>(
     }
 }
 
-/// Lets a pinned pass read its version as it is asked to. It makes no write, counts no rows and pins no other version.
+/// Lets a pinned pass read its version as it is asked to. It makes no write, counts no rows and
+/// pins no other version.
 pub fn recall<A: Allocator + Copy, B: Allocator + Copy>(
     alloc: A,
     pinned: &mut Pinned<'_, B>,

@@ -98,7 +98,8 @@ fn drive<S: Source, W: Sink, A: Allocator + Copy, B: Allocator + Copy>(
     ensures steady_sink { OnOk result (W.failures sink.new ≡ W.failures sink.old) }
     ensures err { OnErr result (Stopped S.gives W.takes W.failures (Serves store.now)
         source.old sink.old passes.old source.new sink.new passes.new) }
-    ensures failed { OnErr result (HasFailed S.failures W.failures source.old sink.old source.new sink.new) }
+    ensures failed { OnErr result
+        (HasFailed S.failures W.failures source.old sink.old source.new sink.new) }
 {
     let mut line = LineBuffer::new();
     while reader.next(source, sink, pending, &mut line)? {
@@ -107,7 +108,8 @@ fn drive<S: Source, W: Sink, A: Allocator + Copy, B: Allocator + Copy>(
     finish(alloc, sink, pending, &line, store, passes)
 }
 
-// Lets the passes settle, and answers all lines. Then all pins are ended, and the passes settle once more.
+// Lets the passes settle, and answers all lines. Then all pins are ended, and the passes settle
+// once more.
 fn settle_and_drive<S: Source, W: Sink, A: Allocator + Copy, B: Allocator + Copy>(
     alloc: A,
     source: &mut S,
@@ -131,7 +133,8 @@ fn settle_and_drive<S: Source, W: Sink, A: Allocator + Copy, B: Allocator + Copy
     ensures steady_sink { OnOk result (W.failures sink.new ≡ W.failures sink.old) }
     ensures err { OnErr result (StoppedScript S.gives W.takes W.failures store.now
         source.old sink.old passes.old.free source.new sink.new passes.new.free) }
-    ensures failed { OnErr result (HasFailed S.failures W.failures source.old sink.old source.new sink.new) }
+    ensures failed { OnErr result
+        (HasFailed S.failures W.failures source.old sink.old source.new sink.new) }
 {
     passes.settle();
     let driven = drive(alloc, source, sink, pending, reader, store, passes);
@@ -139,9 +142,14 @@ fn settle_and_drive<S: Source, W: Sink, A: Allocator + Copy, B: Allocator + Copy
     driven
 }
 
-/// Answers the lines of the source into the sink, up to the end of the source or to the first failure of a device. The passes settle before the first line and after each; at the end pins are ended, and they settle once more.
+/// Answers the lines of the source into the sink, up to the end of the source or to the first
+/// failure of a device. The passes settle before the first line and after each; at the end pins are
+/// ended, and they settle once more.
 ///
-/// The passes must be all those of the store, in any order, and so they are then in the vector again. `Memory` comes where a growth at the start was refused, before anything was read, written or changed; `Device` where a read or a write failed. A line takes memory for what its `range`, `prove` or `node` finds alone, and is answered `memory` where that is refused.
+/// The passes must be all those of the store, in any order, and so they are then in the vector
+/// again. `Memory` comes where a growth at the start was refused, before anything was read, written
+/// or changed; `Device` where a read or a write failed. A line takes memory for what its `range`,
+/// `prove` or `node` finds alone, and is answered `memory` where that is refused.
 pub fn run<S: Source, W: Sink, A: Allocator + Copy, B: Allocator + Copy>(
     alloc: A,
     source: &mut S,
@@ -160,8 +168,9 @@ pub fn run<S: Source, W: Sink, A: Allocator + Copy, B: Allocator + Copy>(
     ensures steady_source { OnOk result (S.failures source.new ≡ S.failures source.old) }
     ensures steady_sink { OnOk result (W.failures sink.new ≡ W.failures sink.old) }
 
-    ensures stopped { result ≡ Err RunFault.Device → StoppedScript S.gives W.takes W.failures store.now
-        source.old sink.old passes.old.items source.new sink.new passes.new.items }
+    ensures stopped { result ≡ Err RunFault.Device
+        → StoppedScript S.gives W.takes W.failures store.now source.old sink.old passes.old.items
+        source.new sink.new passes.new.items }
     ensures device { result ≡ Err RunFault.Device
         → HasFailed S.failures W.failures source.old sink.old source.new sink.new }
     ensures memory { result ≡ Err RunFault.Memory

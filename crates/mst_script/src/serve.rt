@@ -34,7 +34,8 @@ fn answer<A: Allocator + Copy, B: Allocator, C: Allocator + Copy>(
     requires whole { AreAllOf store.now (everyone passes.old) }
     requires dealt { IsDealt store.now.passes request.now }
     ensures whole { AreAllOf store.now (everyone passes.new) }
-    ensures does { Does store.now request.now.pass request.now.command passes.old (text_of result) passes.new }
+    ensures does { Does store.now request.now.pass request.now.command passes.old
+        (text_of result) passes.new }
 {
     let command = &request.command;
     match passes.find(request.pass) {

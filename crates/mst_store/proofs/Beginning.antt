@@ -132,7 +132,8 @@ module _ (before taken : Seat) (p : Takes stored before taken) where
       ∙ ap (λ (o : Option ℕ). true && true && true && is_none o && true && is_unreached (asked_view drained blocked asked) x) pinless
       ∙ none
 
-  -- the versions that are live are those of the current record and of the records that were found pinned
+  -- the versions that are live are those of the current record and of the records that were found
+  -- pinned
   kept_of : (drained blocked : List ℕ) (asked : ℕ) (a : Asked) → HasAsked (before.0.passes + 2) (state_of p.desk) a (asked_seat drained blocked asked) → (v : ℕ) → moves.In v a.live.items → IsKept (state_of p.desk) (asked_view drained blocked asked) v
   kept_of drained blocked asked a h v i = ⊎_elim
       (λ (e : v ≡ version (state_of p.desk)). (p.desk.current, h.knows.there, (λ within. (h.drained p.desk.current within).1 refl), e))

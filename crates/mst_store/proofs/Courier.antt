@@ -77,7 +77,9 @@ pinned_still number passes rows at s t h told n is p = record {
 
 -- ---- the way back
 
--- A pass was told of a history that begins with what it had seen, and sees it now. The whole history, which was found then, has no event of the pass that was not there before; so the one between has none either
+-- A pass was told of a history that begins with what it had seen, and sees it now. The whole
+-- history, which was found then, has no event of the pass that was not there before; so the one
+-- between has none either
 pub told_own : (m : Seat) {n o : Seat} (note : View) → n ≡ (having_heard m.0 note, m.1) → SeesTold n o → IsPrefix m.0.seen note.seen → events_of m.0.number m.0.seen ≡ m.0.mine
     → events_of m.0.number note.seen ≡ m.0.mine
 told_own m {n} {o} note heard sees later own =

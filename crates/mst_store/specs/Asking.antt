@@ -1,4 +1,5 @@
--- What the holder of the turn learns of the records other than the current one, as it asks them one after another.
+-- What the holder of the turn learns of the records other than the current one, as it asks them one
+-- after another.
 use Rattle.std.specs.Prelude.{◌≡◌, ◌≢◌, ◌⊎◌, ℕ, ◌+◌, ◌<◌, ◌≤◌, length, slice_index}
 use Rattle.mst_arena.specs.Lives.{State, version}
 use Rattle.mst_path.specs.Moves as moves
@@ -16,7 +17,9 @@ pub record KnowsRecords (desk : State) (m : Seat) : Type 0 where
   pub there : desk.current < m.0.passes + 2
   pub records : length desk.versions ≡ m.0.passes + 2
 
--- The records below n were asked, but for the current one. Each is drained, or it was pinned and stood for a map, and its version is live; the current version is live too, and no other. Fewer are pinned than there are passes. The record to come is drained, as soon as one is
+-- The records below n were asked, but for the current one. Each is drained, or it was pinned and
+-- stood for a map, and its version is live; the current version is live too, and no other. Fewer
+-- are pinned than there are passes. The record to come is drained, as soon as one is
 pub record HasAsked (n : ℕ) (desk : State) (a : Asked) (m : Seat) : Type 0 where
   pub knows : KnowsRecords desk m
   pub before : n ≤ desk.current → length m.0.drained + length m.0.blocked ≡ n
@@ -36,7 +39,8 @@ pub record HasAsked (n : ℕ) (desk : State) (a : Asked) (m : Seat) : Type 0 whe
 
 -- only what was asked has changed
 abbrev pub AsksOnly : Seat → Seat → Type 0
-AsksOnly m m' = m' ≡ (record m.0 { drained = m'.0.drained; blocked = m'.0.blocked; asked = m'.0.asked }, m.1)
+AsksOnly m m' =
+    m' ≡ (record m.0 { drained = m'.0.drained; blocked = m'.0.blocked; asked = m'.0.asked }, m.1)
 
 -- one question was counted for each record that was asked
 abbrev pub AsksEach : Seat → Seat → Type 0

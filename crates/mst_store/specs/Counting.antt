@@ -4,7 +4,10 @@ use Rattle.mst_key.specs.History.{after, events_of, IsPrefix}
 use Rattle.mst_store.specs.Turns.{Seat}
 use Rattle.mst_store.specs.Writes.{rows_of}
 
--- The pass has now seen a history that begins with all that it had seen, and its events in it are its own. A number that was found is that of the rows that the map of this history takes; in a store of one pass one is found. The turn was tried once, each record but the current one asked once, and the current one by two loads
+-- The pass has now seen a history that begins with all that it had seen, and its events in it are
+-- its own. A number that was found is that of the rows that the map of this history takes; in a
+-- store of one pass one is found. The turn was tried once, each record but the current one asked
+-- once, and the current one by two loads
 pub record Counts (m : Seat) (found : Option ℕ) (m' : Seat) : Type 0 where
   pub later : IsPrefix m.0.seen m'.0.seen
   pub own : events_of m.0.number m'.0.seen ≡ m.0.mine

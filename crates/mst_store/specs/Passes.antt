@@ -21,7 +21,9 @@ pub record StoreId : Type 0 where
   pub rows : ℕ
   pub passes : ℕ
 
--- Which store a pass is of, its number, the history that it has seen, and its own events. And how many of its steps so far had an answer that depends on what other passes do: a loop that waits for another pass makes such a step in each turn
+-- Which store a pass is of, its number, the history that it has seen, and its own events. And how
+-- many of its steps so far had an answer that depends on what other passes do: a loop that waits
+-- for another pass makes such a step in each turn
 pub record Known : Type 0 where
   pub store : StoreId
   pub number : ℕ
@@ -43,7 +45,8 @@ known number s = record {
   asked = s.me.0.asked;
 }
 
--- What a pinned pass shows to callers: of what it has seen the history at its pin, which lasts until the pin ends
+-- What a pinned pass shows to callers: of what it has seen the history at its pin, which lasts
+-- until the pin ends
 abbrev pub known_at_pin : ℕ → access.Seated → Known
 known_at_pin number s = record {
   store = store_of s;
@@ -105,7 +108,8 @@ having_asked n p = record p { asked = p.asked + n }
 abbrev pub IsSamePass : Known → Known → Type 0
 IsSamePass p q = (q.store ≡ p.store) × (q.number ≡ p.number)
 
--- The pass has now seen a history that begins with all that it had seen. Its events in it are its own, and none was added to them
+-- The pass has now seen a history that begins with all that it had seen. Its events in it are its
+-- own, and none was added to them
 pub record Looks (p q : Known) : Type 0 where
   pub same : IsSamePass p q
   pub later : IsPrefix p.seen q.seen
@@ -121,14 +125,17 @@ pub record Answers {R : Type 0} (question : List Pair → R) (p : Known) (answer
 abbrev pub made_by : Known → Change → Event
 made_by p change = record { pass = p.number; change = change }
 
--- Whether a change finds room among so many rows: the rows that the map leaves over are enough for the nodes that the change makes new
+-- Whether a change finds room among so many rows: the rows that the map leaves over are enough for
+-- the nodes that the change makes new
 abbrev pub HasRoom : ℕ → List Pair → Change → Type 0
 HasRoom rows m change = rows_of m + rows_taken m change ≤ rows
 
 abbrev pub LacksRoom : ℕ → List Pair → Change → Type 0
 LacksRoom rows m change = rows < rows_of m + rows_taken m change
 
--- A write added its event right behind a history that begins with all that the pass had seen, and answered what that history replies. The pass has now seen both, and its events there are its own. It tried the turn once, asked each record but the current one once, and published once
+-- A write added its event right behind a history that begins with all that the pass had seen, and
+-- answered what that history replies. The pass has now seen both, and its events there are its own.
+-- It tried the turn once, asked each record but the current one once, and published once
 pub record Wrote (e : Event) (p : Known) (old : Option (List ℕ)) (q : Known) : Type 0 where
   pub log : History
   pub same : IsSamePass p q
@@ -145,10 +152,13 @@ pub record Wrote (e : Event) (p : Known) (old : Option (List ℕ)) (q : Known) :
 abbrev pub FindsBusy : Known → Known → Type 0
 FindsBusy p q = (q ≡ having_asked 1 p) × (1 < p.store.passes)
 
--- Why a change was refused. Nothing was added to the history. There is no room where the versions that are kept hold too many rows: the last one, and at most one for each other pass. In a store of one pass there is no room exactly where the rows that the map leaves over are too few
+-- Why a change was refused. Nothing was added to the history. There is no room where the versions
+-- that are kept hold too many rows: the last one, and at most one for each other pass. In a store
+-- of one pass there is no room exactly where the rows that the map leaves over are too few
 abbrev pub Refuses : WriteFault → Change → Known → Known → Type 0
 Refuses Busy change p q = FindsBusy p q
-Refuses VersionsSpent change p q = Looks p q × (length q.seen ≡ last_version) × (q.asked ≡ p.asked + 1)
+Refuses VersionsSpent change p q =
+    Looks p q × (length q.seen ≡ last_version) × (q.asked ≡ p.asked + 1)
 Refuses NoRoom change p q = Looks p q × (length q.seen < last_version)
     × (p.store.passes ≡ 1 → LacksRoom q.store.rows (after q.seen) change)
     × (q.asked ≡ p.asked + p.store.passes + 2) × LacksKept p.store.rows p.store.passes q.seen change

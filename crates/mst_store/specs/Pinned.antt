@@ -12,7 +12,8 @@ use Rattle.mst_words.specs.Records.{field}
 use Rattle.mst_words.specs.Stored.{root_in}
 use Rattle.mst_store.specs.declared.reading.PinnedRoot.{PinnedRoot}
 
--- The record is pinned. The map of the history at the pin stands at the link, on rows that the pass may read, its root digest stands in the record, and the version is the number of events.
+-- The record is pinned. The map of the history at the pin stands at the link, on rows that the pass
+-- may read, its root digest stands in the record, and the version is the number of events.
 pub record HasPinned (at : PinnedRoot) (v : View) : Type 0 where
   pub pin : v.pin ≡ Some at.pinned
   pub there : at.pinned < v.passes + 2
@@ -21,7 +22,8 @@ pub record HasPinned (at : PinnedRoot) (v : View) : Type 0 where
   pub stands : StandsBelow One (content_of v) at.link (after v.place)
   pub digest : (root_in (field v.held at.pinned)).digest ≡ root One (after v.place)
 
--- The current version was pinned. The history at the pin begins with all that the pass had seen, and its events there are its own. One step was counted, the pin. Nothing else changed
+-- The current version was pinned. The history at the pin begins with all that the pass had seen,
+-- and its events there are its own. One step was counted, the pin. Nothing else changed
 pub record Pins {S : Type 0} (m : Me S View) (at : PinnedRoot) (m' : Me S View) : Type 0 where
   pub later : IsPrefix m.0.seen m'.0.place
   pub own : events_of m.0.number m'.0.place ≡ m.0.mine

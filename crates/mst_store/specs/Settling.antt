@@ -11,7 +11,8 @@ use Rattle.mst_store.specs.Turns.{Seat}
 abbrev pub having_seen : History → Known → Known
 having_seen log p = record p { seen = log; asked = p.asked + 1 + 1 }
 
--- Two passes have now heard of one history and seen it, and nothing else about them changed. It begins with all that either had seen, and the events of each in it are its own
+-- Two passes have now heard of one history and seen it, and nothing else about them changed. It
+-- begins with all that either had seen, and the events of each in it are its own
 pub record Met (p q p' q' : Known) : Type 0 where
   pub log : History
   pub now : (p' ≡ having_seen log p) × (q' ≡ having_seen log q)
@@ -22,7 +23,8 @@ pub record Met (p q p' q' : Known) : Type 0 where
 abbrev pub numbers : List Known → List ℕ
 numbers ps = map (λ p. p.number) ps
 
--- the passes are all those of one store, in any order: each number from 1 to the number of its passes is that of one of them
+-- the passes are all those of one store, in any order: each number from 1 to the number of its
+-- passes is that of one of them
 pub record AreAllPasses (ps : List Known) : Type 0 where
   pub store : StoreId
   pub of_one : All (λ p. p.store ≡ store) ps
@@ -32,7 +34,10 @@ pub record AreAllPasses (ps : List Known) : Type 0 where
 abbrev pub IsOfOne : List Known → Event → Type 0
 IsOfOne ps e = Contains (numbers ps) e.pass
 
--- All passes have now heard of one history and seen it; those that pin a version have asked three times, and keep what they pin. Nothing else about them changed. It begins with all that each of them had seen and with the history at each pin, each pass's events in it are its own, and it has no events but theirs
+-- All passes have now heard of one history and seen it; those that pin a version have asked three
+-- times, and keep what they pin. Nothing else about them changed. It begins with all that each of
+-- them had seen and with the history at each pin, each pass's events in it are its own, and it has
+-- no events but theirs
 pub record Settled (free held free' held' : List Known) : Type 0 where
   pub log : History
   pub now : free' ≡ map (having_seen log) free
@@ -46,7 +51,8 @@ pub record IsCourier (m : Seat) : Type 0 where
   pub off : m.0.turn ≡ false
   pub alone : IsOfPasses m.0.passes m.0.seen
 
--- the pass is of the table at which the courier sits, and the courier knows how many passes that has
+-- the pass is of the table at which the courier sits, and the courier knows how many passes that
+-- has
 pub record IsBeside (table : TableId) (passes : ℕ) (p : Known) : Type 0 where
   pub table_is : p.store.table ≡ table
   pub passes_is : p.store.passes ≡ passes

@@ -1,4 +1,5 @@
--- What the holder of the turn has at hand, from the turn's taking to the publication of the next version.
+-- What the holder of the turn has at hand, from the turn's taking to the publication of the next
+-- version.
 use Rattle.std.specs.Prelude.{◌≡◌, ◌≢◌, ◌↔◌, ℕ, ◌+◌, ◌<◌, ◌≤◌, IsTrue, true, false, List, [], ◌∷◌, ◌++◌, length, slice_get, slice_index, Option, Some, None}
 use Rattle.atomic_table.specs.Table.{Me}
 use Rattle.mst_key.specs.declared.format.Format.TheVariants.{One}
@@ -29,7 +30,9 @@ use Rattle.mst_store.specs.declared.turn.NotBegun.TheVariants.{Busy, VersionsSpe
 abbrev pub Seat : Type 0
 Seat = Me (Option State) View
 
--- The desk is out of the slot. It says of each record that was not found drained, that its version reaches the same rows as when the turn was taken. No record has a later version than the current one. The record to come is one that was found drained
+-- The desk is out of the slot. It says of each record that was not found drained, that its version
+-- reaches the same rows as when the turn was taken. No record has a later version than the current
+-- one. The record to come is one that was found drained
 pub record HoldsDesk {A : Type 0} (t : Turn A) (m : Seat) : Type 0 where
   pub holder : IsHolder m
   pub slot : m.1 ≡ (0, None) ∷ []
@@ -41,24 +44,28 @@ pub record HoldsDesk {A : Type 0} (t : Turn A) (m : Seat) : Type 0 where
   pub records : length t.desk.versions ≡ m.0.passes + 2
   pub version_is : version t.desk ≡ length m.0.seen
   pub earlier : (r : ℕ) → r < m.0.passes + 2 → slice_index t.desk.versions r ≤ version t.desk
-  pub agrees : (r : ℕ) → r < m.0.passes + 2 → (In r m.0.drained → ⊥) → Agrees stored m.0.desk (desk_state t.desk) r
+  pub agrees : (r : ℕ) → r < m.0.passes + 2 → (In r m.0.drained → ⊥)
+      → Agrees stored m.0.desk (desk_state t.desk) r
   pub into_drained : In t.into m.0.drained
   pub into_in : t.into < m.0.passes + 2
   pub into_other : t.into ≢ t.desk.current
 
 -- the record stood for the map at a place of the history that the holder of the turn knows
 abbrev pub StoodAtAsk : ℕ → View → Type 0
-StoodAtAsk r v = (place : History) × (used : List ℕ) × Standing stored v.rows v.passes v.held v.seen v.desk r place used
+StoodAtAsk r v = (place : History) × (used : List ℕ)
+    × Standing stored v.rows v.passes v.held v.seen v.desk r place used
 
 -- the version is that of a record that was not found drained
 abbrev pub IsKept : State → View → ℕ → Type 0
-IsKept desk v n = (r : ℕ) × (r < v.passes + 2) × (In r v.drained → ⊥) × (n ≡ slice_index desk.versions r)
+IsKept desk v n =
+    (r : ℕ) × (r < v.passes + 2) × (In r v.drained → ⊥) × (n ≡ slice_index desk.versions r)
 
 -- these are all versions that are kept, in any order
 abbrev pub AreKept : State → View → List ℕ → Type 0
 AreKept desk v live = (n : ℕ) → moves.In n live ↔ IsKept desk v n
 
--- Of the history so many versions are kept: the last one, and none above it. All rows are free but those that they hold
+-- Of the history so many versions are kept: the last one, and none above it. All rows are free but
+-- those that they hold
 pub record LeavesFree (lives : List Life) (log : History) (kept rows : ℕ) : Type 0 where
   pub live : List ℕ
   pub now : moves.In (length log) live
@@ -66,7 +73,12 @@ pub record LeavesFree (lives : List Life) (log : History) (kept rows : ℕ) : Ty
   pub as_many : length live ≡ kept
   pub left : free_count lives + held One log live ≡ rows
 
--- The map of the whole history stands at the root, on exactly the rows that the current version reaches, and no write is under way. The rows that may be written are free, and no others: all rows but those that the versions together reach that are kept: the current one and those of the records that were found pinned, each of which stood for a map. These are fewer than the passes, and their number is known; what they hold is not free, and all else is. The age of each row of the map is known
+-- The map of the whole history stands at the root, on exactly the rows that the current version
+-- reaches, and no write is under way. The rows that may be written are free, and no others: all
+-- rows but those that the versions together reach that are kept: the current one and those of the
+-- records that were found pinned, each of which stood for a map. These are fewer than the passes,
+-- and their number is known; what they hold is not free, and all else is. The age of each row of
+-- the map is known
 pub record HasTurn {A : Type 0} (t : Turn A) (m : Seat) : Type 0 where
   pub holds : HoldsDesk t m
   pub settled : IsSettled t.desk
@@ -75,13 +87,15 @@ pub record HasTurn {A : Type 0} (t : Turn A) (m : Seat) : Type 0 where
   pub aged : HasAges t.desk.lives m.0.seen stands.tree.placed
   pub blank : FreeIsBlank t.desk.lives (is_blank m.0)
   pub free : (x : ℕ) → IsTrue (is_blank m.0 x) → slice_get t.desk.lives x ≡ Some Free
-  pub kept : (r : ℕ) → r < m.0.passes + 2 → (In r m.0.drained → ⊥) → r ≢ t.desk.current → In r m.0.blocked
+  pub kept : (r : ℕ) → r < m.0.passes + 2 → (In r m.0.drained → ⊥) → r ≢ t.desk.current
+      → In r m.0.blocked
   pub stood : (r : ℕ) → In r m.0.blocked → StoodAtAsk r m.0
   pub now : IsKept t.desk m.0 (version t.desk)
   pub fewer : length m.0.blocked < m.0.passes
   pub number : t.kept ≡ length m.0.blocked + 1
   pub there : t.desk.current < m.0.passes + 2
-  pub count : (live rows : List ℕ) → AreKept t.desk m.0 live → IsDistinct rows → TogetherReach t.desk.lives live rows
+  pub count : (live rows : List ℕ) → AreKept t.desk m.0 live → IsDistinct rows
+      → TogetherReach t.desk.lives live rows
       → free_count t.desk.lives + length rows ≡ m.0.rows
   pub leaves : LeavesFree t.desk.lives m.0.seen t.kept m.0.rows
 
@@ -90,7 +104,9 @@ abbrev pub TakesDesk : Seat → State → Seat → Type 0
 TakesDesk before desk m = (taken : Seat) × Takes stored before taken × (taken.1 ≡ (0, Some desk) ∷ [])
     × (m ≡ (taken.0, (0, None) ∷ []))
 
--- The turn was taken, by one try, and each record but the current one was asked once. The whole history begins with all that the pass had seen, and its events there are its own. Nothing else changed
+-- The turn was taken, by one try, and each record but the current one was asked once. The whole
+-- history begins with all that the pass had seen, and its events there are its own. Nothing else
+-- changed
 pub record Begun {A : Type 0} (m : Seat) (t : Turn A) (m' : Seat) : Type 0 where
   pub later : IsPrefix m.0.seen m'.0.seen
   pub own : events_of m.0.number m'.0.seen ≡ m.0.mine
@@ -109,7 +125,8 @@ pub record Begun {A : Type 0} (m : Seat) (t : Turn A) (m' : Seat) : Type 0 where
   }
   pub asked : m'.0.asked ≡ m.0.asked + m.0.passes + 2
 
--- The turn was taken, by one try, and given back, since the last version number is spent; no record was asked. The pass has seen the whole history
+-- The turn was taken, by one try, and given back, since the last version number is spent; no record
+-- was asked. The pass has seen the whole history
 pub record Spent (m m' : Seat) : Type 0 where
   pub later : IsPrefix m.0.seen m'.0.seen
   pub own : events_of m.0.number m'.0.seen ≡ m.0.mine
@@ -135,7 +152,8 @@ abbrev pub IsNotBegun : NotBegun → Seat → Seat → Type 0
 IsNotBegun Busy m m' = Misses m m'
 IsNotBegun VersionsSpent m m' = Spent m m'
 
--- A change is made, and not yet published: the map of the history with the event stands at a root, on exactly the rows that the version to come reaches, and the age of each is known
+-- A change is made, and not yet published: the map of the history with the event stands at a root,
+-- on exactly the rows that the version to come reaches, and the age of each is known
 pub record HasMade {A : Type 0} (t : Turn A) (root : Root) (e : Event) (m : Seat) : Type 0 where
   pub holds : HoldsDesk t m
   pub mine : e.pass ≡ m.0.number
@@ -145,7 +163,8 @@ pub record HasMade {A : Type 0} (t : Turn A) (root : Root) (e : Event) (m : Seat
   pub aged : HasAges t.desk.lives (m.0.seen ++ e ∷ []) stands.tree.placed
   pub settled : IsSettled (advanced t.into t.desk)
 
--- The turn was given back, and the history has the event behind what the pass had seen. One step was counted, the publication
+-- The turn was given back, and the history has the event behind what the pass had seen. One step
+-- was counted, the publication
 pub record Added (e : Event) (m m' : Seat) : Type 0 where
   pub seen : m'.0.seen ≡ m.0.seen ++ e ∷ []
   pub mine : m'.0.mine ≡ m.0.mine ++ e ∷ []

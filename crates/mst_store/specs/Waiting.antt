@@ -1,4 +1,5 @@
--- What a write that waits for the turn says: after some tries at which another pass had the turn, it is as one that tries once.
+-- What a write that waits for the turn says: after some tries at which another pass had the turn,
+-- it is as one that tries once.
 use Rattle.std.specs.Prelude.{◌≡◌, ℕ, List, Option}
 use Rattle.mst_key.specs.declared.history.Change.{Change}
 use Rattle.mst_key.specs.declared.history.Event.{Event}
@@ -12,7 +13,8 @@ use Rattle.mst_store.specs.Passes.{Known, having_asked, Wrote, Refuses}
 abbrev pub InVain : ℕ → Known → Type 0
 InVain tries p = p.store.passes ≡ 1 → tries ≡ 0
 
--- nothing about the pass has changed but that it tried the turn so many times, and another pass had it
+-- nothing about the pass has changed but that it tried the turn so many times, and another pass had
+-- it
 pub record HasTried (p q : Known) : Type 0 where
   pub tries : ℕ
   pub vain : InVain tries p

@@ -1,4 +1,5 @@
--- A write: what the holder of the turn makes of the map in free rows, what the pass then knows, and why a change is refused.
+-- A write: what the holder of the turn makes of the map in free rows, what the pass then knows, and
+-- why a change is refused.
 use Rattle.std.specs.Prelude.{◌≡◌, ℕ, ◌+◌, ◌<◌, ◌≤◌, List, [], ◌∷◌, ◌++◌, length, Option, Contains}
 use Rattle.mst_key.specs.Map.{Pair}
 use Rattle.mst_key.specs.declared.format.Format.TheVariants.{One}
@@ -29,7 +30,8 @@ rows_of m = length m + node_count (tree One m)
 abbrev pub rows_taken : List Pair → Change → ℕ
 rows_taken m change = cost One m (changed m change)
 
--- The change is made in free rows, as many as it takes, and can be published. Of what the seat knows only the words of those rows have changed. The answer is what the history replies
+-- The change is made in free rows, as many as it takes, and can be published. Of what the seat
+-- knows only the words of those rows have changed. The answer is what the history replies
 pub record Made {A : Type 0} (change : Change) (t : Turn A) (m : Seat)
     (root : Root) (old : Option (List ℕ)) (t' : Turn A) (m' : Seat) : Type 0 where
   pub has : HasMade t' root (made_at_seat m change) m'
@@ -37,7 +39,8 @@ pub record Made {A : Type 0} (change : Change) (t : Turn A) (m : Seat)
   pub rows : free_count t'.desk.lives + rows_taken (after m.0.seen) change ≡ free_count t.desk.lives
   pub kept : m' ≡ (record m.0 { held = m'.0.held }, m.1)
 
--- Versions are kept that hold too many of these rows for the change. The last one is among them, none is above it, and they are at most as many as the passes
+-- Versions are kept that hold too many of these rows for the change. The last one is among them,
+-- none is above it, and they are at most as many as the passes
 pub record LacksKept (rows passes : ℕ) (log : History) (change : Change) : Type 0 where
   pub live : List ℕ
   pub now : Contains live (length log)
@@ -54,7 +57,9 @@ abbrev pub KeepsPass : Seat → Seat → Type 0
 KeepsPass m m' = (m'.0.number ≡ m.0.number) × (m'.0.rows ≡ m.0.rows)
     × (m'.0.passes ≡ m.0.passes) × (m'.0.told ≡ m.0.told)
 
--- The event stands right behind a history that begins with all that the pass had seen, and the answer is what that history replies. The pass has now seen both. It tried the turn once, asked each record but the current one once, and published once
+-- The event stands right behind a history that begins with all that the pass had seen, and the
+-- answer is what that history replies. The pass has now seen both. It tried the turn once, asked
+-- each record but the current one once, and published once
 pub record WroteAtSeat (e : Event) (m : Seat) (old : Option (List ℕ)) (m' : Seat) : Type 0 where
   pub log : History
   pub later : IsPrefix m.0.seen log
@@ -66,14 +71,17 @@ pub record WroteAtSeat (e : Event) (m : Seat) (old : Option (List ℕ)) (m' : Se
   pub mine : m'.0.mine ≡ m.0.mine ++ e ∷ []
   pub asked : m'.0.asked ≡ m.0.asked + m.0.passes + 3
 
--- The pass has now seen a history that begins with all that it had seen. Its events in it are its own, and none was added. It tried the turn once, and asked each record but the current one once
+-- The pass has now seen a history that begins with all that it had seen. Its events in it are its
+-- own, and none was added. It tried the turn once, and asked each record but the current one once
 pub record LookedAtSeat (m m' : Seat) : Type 0 where
   pub later : IsPrefix m.0.seen m'.0.seen
   pub own : events_of m.0.number m'.0.seen ≡ m.0.mine
   pub mine : m'.0.mine ≡ m.0.mine
   pub asked : m'.0.asked ≡ m.0.asked + m.0.passes + 2
 
--- Why a change was refused. There is no room where the versions that are kept hold too many rows. In a store of one pass the map alone is kept, so there is none exactly where the rows that it leaves over are too few
+-- Why a change was refused. There is no room where the versions that are kept hold too many rows.
+-- In a store of one pass the map alone is kept, so there is none exactly where the rows that it
+-- leaves over are too few
 abbrev pub RefusesAtSeat : WriteFault → Change → Seat → Seat → Type 0
 RefusesAtSeat Busy change m m' = Misses m m'
 RefusesAtSeat VersionsSpent change m m' = Spent m m'

@@ -10,7 +10,8 @@ use crate::turn::{begin, give_back};
 use mst_words::PassSeat;
 use std::alloc::Allocator;
 
-// The number, where one version is kept, and nobody was found to pin it: the mask of the current record, as it was noted, is then what its own word says.
+// The number, where one version is kept, and nobody was found to pin it: the mask of the current
+// record, as it was noted, is then what its own word says.
 fn where_alone(used: u32, kept: u32, noted: u64, done: u64) -> Option<u32>
     ensures alone { kept ≡ 1 → noted % 4294967296 ≡ done → result ≡ Some used }
     ensures only { IfSome result (λ n. (n ≡ used) × (kept ≡ 1)) }
@@ -22,9 +23,12 @@ fn where_alone(used: u32, kept: u32, noted: u64, done: u64) -> Option<u32>
     }
 }
 
-/// How many rows the map of the current version takes: all rows but those that are free once no other version is kept. It answers `None` where some pass was found to pin a version; in a store of one pass it never does.
+/// How many rows the map of the current version takes: all rows but those that are free once no
+/// other version is kept. It answers `None` where some pass was found to pin a version; in a store
+/// of one pass it never does.
 ///
-/// The turn is taken, each record is asked, the rows that no version reaches are freed, and the turn is given back. `Busy` comes only where another pass has the turn. It takes no memory.
+/// The turn is taken, each record is asked, the rows that no version reaches are freed, and the
+/// turn is given back. `Busy` comes only where another pass has the turn. It takes no memory.
 pub(crate) fn rows<A: Allocator + Copy>(
     seat: &mut PassSeat<'_, A>,
     number: u32,

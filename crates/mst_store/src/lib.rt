@@ -1,4 +1,5 @@
-//! A store: one ordered map that several passes, each in a thread of its own, read and write. Each read pins the current version by one step, and waits for nobody.
+//! A store: one ordered map that several passes, each in a thread of its own, read and write. Each
+//! read pins the current version by one step, and waits for nobody.
 //!
 //! ```
 //! let (store, seats) = Store::open(rt.alloc(), Shape { rows: 16, passes: 2 })?;
@@ -11,9 +12,13 @@
 //! pinned.unpin().get(&apple)                       // Some(35)
 //! ```
 //!
-//! One pass at a time writes: another is answered [`Busy`](WriteFault::Busy) by [`Pass::try_put`] and [`Pass::try_remove`], and waits in [`Pass::put`] and [`Pass::remove`], which may then never return. What all passes saw and did is one history; [`meet`] and [`settle`] tell them of it. `specs/Passes.antt` has the definitions that the contracts cite.
+//! One pass at a time writes: another is answered [`Busy`](WriteFault::Busy) by [`Pass::try_put`]
+//! and [`Pass::try_remove`], and waits in [`Pass::put`] and [`Pass::remove`], which may then never
+//! return. What all passes saw and did is one history; [`meet`] and [`settle`] tell them of it.
+//! `specs/Passes.antt` has the definitions that the contracts cite.
 //!
-//! A store does not grow, and does not outlive its process. The rows of a pinned version are not used again, so a pass that is dropped while it pins keeps them for good.
+//! A store does not grow, and does not outlive its process. The rows of a pinned version are not
+//! used again, so a pass that is dropped while it pins keeps them for good.
 #![tactic(auto)]
 
 mod counting;

@@ -19,7 +19,9 @@ use std::marker::Model;
 
 /// A pass of a store. It may go to another thread, and each of its calls is one thread's.
 ///
-/// A read pins the current version by one step, reads it, and ends the pin. Its place in the history is the pin. No other pass can make it wait: of its steps the pin alone has an answer that depends on others (`once`).
+/// A read pins the current version by one step, reads it, and ends the pin. Its place in the
+/// history is the pin. No other pass can make it wait: of its steps the pin alone has an answer
+/// that depends on others (`once`).
 #[derive(Drop)]
 pub struct Pass<'a, A: Allocator + Copy> {
     pub(crate) seat: PassSeat<'a, A>,
@@ -58,9 +60,11 @@ impl<'a, A: Allocator + Copy> Pass<'a, A> {
         found
     }
 
-    /// The pair of the least key above the bound; with no bound, of the least key. It takes no memory.
+    /// The pair of the least key above the bound; with no bound, of the least key. It takes no
+    /// memory.
     pub fn next(&mut self, after: Option<&Key>) -> Option<(Key, Value)>
-        ensures answers { Answers (λ m. map_next m (option_copied after.entry)) self.old result self.new }
+        ensures answers { Answers (λ m. map_next m (option_copied after.entry)) self.old result
+            self.new }
         ensures once { self.new.asked ≡ self.old.asked + 1 }
     {
         let at = reading::pin(&mut self.seat, self.number);
@@ -69,9 +73,11 @@ impl<'a, A: Allocator + Copy> Pass<'a, A> {
         found
     }
 
-    /// The first pairs, at most `limit`, of the keys that are at least `from` and below `to`, in the order of their keys. A bound that is not given does not bind.
+    /// The first pairs, at most `limit`, of the keys that are at least `from` and below `to`, in
+    /// the order of their keys. A bound that is not given does not bind.
     ///
-    /// `Memory` comes where the growth of the list was refused; the pass has then seen what it had seen before.
+    /// `Memory` comes where the growth of the list was refused; the pass has then seen what it had
+    /// seen before.
     pub fn range<B: Allocator>(
         &mut self,
         alloc: B,
@@ -79,8 +85,10 @@ impl<'a, A: Allocator + Copy> Pass<'a, A> {
         to: Option<&Key>,
         limit: usize,
     ) -> Result<Vec<(Key, Value), B>, Memory>
-        ensures ok { IfOk result (λ found. Answers
-            (λ m. map_range m (option_copied from.entry) (option_copied to.entry) limit) self.old found.items self.new) }
+        ensures ok { IfOk result
+            (λ found. Answers
+            (λ m. map_range m (option_copied from.entry) (option_copied to.entry) limit) self.old
+            found.items self.new) }
         ensures memory { OnErr result (self.new ≡ having_asked 1 self.old) }
         ensures once { self.new.asked ≡ self.old.asked + 1 }
     {
@@ -98,7 +106,9 @@ impl<'a, A: Allocator + Copy> Pass<'a, A> {
         }
     }
 
-    /// The root digest of the map: the SHA-256 (FIPS 180-4) of the text of its tree's top node, or of the empty string for the empty map. It depends on the pairs of the map alone. It takes no memory.
+    /// The root digest of the map: the SHA-256 (FIPS 180-4) of the text of its tree's top node, or
+    /// of the empty string for the empty map. It depends on the pairs of the map alone. It takes no
+    /// memory.
     pub fn root(&mut self) -> [u8; 32]
         ensures answers { Answers (root One) self.old result self.new }
         ensures once { self.new.asked ≡ self.old.asked + 1 }
@@ -109,11 +119,14 @@ impl<'a, A: Allocator + Copy> Pass<'a, A> {
         digest
     }
 
-    /// The proof of the map's answer for the key, value or absence, against the root digest: the texts of the nodes that a search for the key meets, from the top down, each behind its length in four bytes, and in front of them the version 1 and their number.
+    /// The proof of the map's answer for the key, value or absence, against the root digest: the
+    /// texts of the nodes that a search for the key meets, from the top down, each behind its
+    /// length in four bytes, and in front of them the version 1 and their number.
     ///
     /// `Memory` comes where a growth was refused; the pass has then seen what it had seen before.
     pub fn prove<B: Allocator + Copy>(&mut self, alloc: B, key: &Key) -> Result<Vec<u8, B>, Memory>
-        ensures ok { IfOk result (λ found. Answers (λ m. proof_text One m key.now) self.old found.items self.new) }
+        ensures ok { IfOk result
+            (λ found. Answers (λ m. proof_text One m key.now) self.old found.items self.new) }
         ensures short { IfOk result (λ found. length found.items < 2 ^ 32) }
         ensures memory { OnErr result (self.new ≡ having_asked 1 self.old) }
         ensures once { self.new.asked ≡ self.old.asked + 1 }
@@ -132,12 +145,15 @@ impl<'a, A: Allocator + Copy> Pass<'a, A> {
         }
     }
 
-    /// How many rows the map takes, one for each key and one for each node of its tree; or `None` where some pass was found to pin a version, which never comes in a store of one pass. It takes no memory.
+    /// How many rows the map takes, one for each key and one for each node of its tree; or `None`
+    /// where some pass was found to pin a version, which never comes in a store of one pass. It
+    /// takes no memory.
     ///
     /// `Busy` comes only where another pass has the turn.
     pub fn rows(&mut self) -> Result<Option<u32>, Busy>
         ensures looks { OnOk result (Looks self.old self.new) }
-        ensures some { IfOk result (λ found. IfSome found (λ n. n ≡ rows_of (after self.new.seen))) }
+        ensures some { IfOk result
+            (λ found. IfSome found (λ n. n ≡ rows_of (after self.new.seen))) }
         ensures alone { IfOk result (λ found. self.old.store.passes ≡ 1 → IsSome found) }
         ensures steps { OnOk result (self.new.asked ≡ self.old.asked + self.old.store.passes + 4) }
         ensures busy { OnErr result (FindsBusy self.old self.new) }
@@ -170,10 +186,18 @@ impl<'a, A: Allocator + Copy> Pass<'a, A> {
 
     /// Gives the key the value, and answers the value that it had. It takes no memory.
     ///
-    /// `Busy` comes only where another pass has the turn, else `VersionsSpent` exactly where the current version has the last number, else `NoRoom` where too few rows are free for the nodes that the write makes new. A write copies whole nodes along its path; its cost is a row for each entry and one for each node that it makes new. All rows are free but those that the kept versions hold: the current one, and those that other passes pin, of which there is at most one for each. A node that stays over several of them counts once. In a store of one pass these are the rows of the map. A put of the value that stands costs nothing.
+    /// `Busy` comes only where another pass has the turn, else `VersionsSpent` exactly where the
+    /// current version has the last number, else `NoRoom` where too few rows are free for the nodes
+    /// that the write makes new. A write copies whole nodes along its path; its cost is a row for
+    /// each entry and one for each node that it makes new. All rows are free but those that the
+    /// kept versions hold: the current one, and those that other passes pin, of which there is at
+    /// most one for each. A node that stays over several of them counts once. In a store of one
+    /// pass these are the rows of the map. A put of the value that stands costs nothing.
     pub fn try_put(&mut self, key: &Key, value: &Value) -> Result<Option<Value>, WriteFault>
-        ensures ok { IfOk result (λ old. Wrote (made_by self.old (Put key.now value.now)) self.old old self.new) }
-        ensures err { IfErr result (λ fault. Refuses fault (Put key.now value.now) self.old self.new) }
+        ensures ok { IfOk result
+            (λ old. Wrote (made_by self.old (Put key.now value.now)) self.old old self.new) }
+        ensures err { IfErr result
+            (λ fault. Refuses fault (Put key.now value.now) self.old self.new) }
     {
         self.write(Change::Put(key.copy(), value.copy()))
     }
@@ -182,7 +206,8 @@ impl<'a, A: Allocator + Copy> Pass<'a, A> {
     ///
     /// The refusals come as those of [`Pass::try_put`]. A remove of an absent key costs nothing.
     pub fn try_remove(&mut self, key: &Key) -> Result<Option<Value>, WriteFault>
-        ensures ok { IfOk result (λ old. Wrote (made_by self.old (Remove key.now)) self.old old self.new) }
+        ensures ok { IfOk result
+            (λ old. Wrote (made_by self.old (Remove key.now)) self.old old self.new) }
         ensures err { IfErr result (λ fault. Refuses fault (Remove key.now) self.old self.new) }
     {
         self.write(Change::Remove(key.copy()))

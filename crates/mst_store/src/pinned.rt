@@ -1,4 +1,5 @@
-//! A pass that pins a version: it reads that version as long as it likes, whatever other passes write.
+//! A pass that pins a version: it reads that version as long as it likes, whatever other passes
+//! write.
 ghost use Rattle.std.specs.Prelude.{◌≡◌, ◌+◌, ◌<◌, ◌^◌, length, IfOk};
 ghost use Rattle.mst_key.specs.Map.{map_get, map_next, map_range};
 ghost use Rattle.mst_key.specs.declared.format.Format.TheVariants.{One};
@@ -17,7 +18,9 @@ use std::marker::Model;
 
 /// A pass that pins a version. It may go to another thread, as a pass may.
 ///
-/// Each of its calls answers for the history at the pin, and makes no step whose answer depends on other passes. The rows of its version are not used again before [`Pinned::unpin`]; a pinned pass that is dropped holds them for good.
+/// Each of its calls answers for the history at the pin, and makes no step whose answer depends on
+/// other passes. The rows of its version are not used again before [`Pinned::unpin`]; a pinned pass
+/// that is dropped holds them for good.
 #[derive(Drop)]
 pub struct Pinned<'a, A: Allocator + Copy> {
     pub(crate) seat: PassSeat<'a, A>,
@@ -39,7 +42,8 @@ impl<'a, A: Allocator + Copy> Model for Pinned<'a, A> {
 }
 
 impl<'a, A: Allocator + Copy> Pass<'a, A> {
-    /// Pins the current version, by one step. The history at the pin begins with all that the pass had seen.
+    /// Pins the current version, by one step. The history at the pin begins with all that the pass
+    /// had seen.
     pub fn pin(self) -> Pinned<'a, A>
         ensures looks { Looks self.entry result }
         ensures once { result.asked ≡ self.entry.asked + 1 }
@@ -84,7 +88,8 @@ impl<'a, A: Allocator + Copy> Pinned<'a, A> {
         reading::get(&mut self.seat, &self.at, key)
     }
 
-    /// The pair of the least key above the bound in the pinned version; with no bound, of the least key. It takes no memory.
+    /// The pair of the least key above the bound in the pinned version; with no bound, of the least
+    /// key. It takes no memory.
     pub fn next(&mut self, after: Option<&Key>) -> Option<(Key, Value)>
         ensures found { result ≡ map_next (after_events self.old.seen) (option_copied after.entry) }
         ensures same { self.new ≡ self.old }
@@ -92,7 +97,8 @@ impl<'a, A: Allocator + Copy> Pinned<'a, A> {
         reading::next(&mut self.seat, &self.at, after)
     }
 
-    /// The first pairs of the pinned version, at most `limit`, of the keys that are at least `from` and below `to`, in the order of their keys. A bound that is not given does not bind.
+    /// The first pairs of the pinned version, at most `limit`, of the keys that are at least `from`
+    /// and below `to`, in the order of their keys. A bound that is not given does not bind.
     ///
     /// `Memory` comes where the growth of the list was refused.
     pub fn range<B: Allocator>(
@@ -102,8 +108,9 @@ impl<'a, A: Allocator + Copy> Pinned<'a, A> {
         to: Option<&Key>,
         limit: usize,
     ) -> Result<Vec<(Key, Value), B>, Memory>
-        ensures found { IfOk result (λ found. found.items ≡ map_range
-            (after_events self.old.seen) (option_copied from.entry) (option_copied to.entry) limit) }
+        ensures found { IfOk result
+            (λ found. found.items ≡ map_range (after_events self.old.seen)
+            (option_copied from.entry) (option_copied to.entry) limit) }
         ensures same { self.new ≡ self.old }
     {
         reading::range(&mut self.seat, alloc, &self.at, from, to, limit)
@@ -117,11 +124,13 @@ impl<'a, A: Allocator + Copy> Pinned<'a, A> {
         reading::root(&mut self.seat, &self.at)
     }
 
-    /// The proof of the pinned version's answer for the key against its root digest, as [`Pass::prove`] has it, of fewer than 2^32 bytes.
+    /// The proof of the pinned version's answer for the key against its root digest, as
+    /// [`Pass::prove`] has it, of fewer than 2^32 bytes.
     ///
     /// `Memory` comes where a growth was refused.
     pub fn prove<B: Allocator + Copy>(&mut self, alloc: B, key: &Key) -> Result<Vec<u8, B>, Memory>
-        ensures found { IfOk result (λ found. found.items ≡ proof_text One (after_events self.old.seen) key.now) }
+        ensures found { IfOk result
+            (λ found. found.items ≡ proof_text One (after_events self.old.seen) key.now) }
         ensures short { IfOk result (λ found. length found.items < 2 ^ 32) }
         ensures same { self.new ≡ self.old }
     {

@@ -11,7 +11,9 @@ use mst_words::PassSeat;
 use std::alloc::Allocator;
 use std::marker::Brand;
 
-/// Publishes the version to come, whose map stands at the root, with its event, and gives the turn back: the words of its record are stored, it becomes the current record by one swap, the mask of the pins of the one before is moved by one xor, and desk and turn go back.
+/// Publishes the version to come, whose map stands at the root, with its event, and gives the turn
+/// back: the words of its record are stored, it becomes the current record by one swap, the mask of
+/// the pins of the one before is moved by one xor, and desk and turn go back.
 pub(crate) fn publish<A: Allocator + Copy>(
     seat: &mut PassSeat<'_, A>,
     turn: Turn<A>,

@@ -58,7 +58,8 @@ pub(crate) fn get<A: Allocator + Copy>(
     mst_read::get_below(seat, at.link, key)
 }
 
-/// The pair of the least key above the bound in the pinned version; with no bound, of the least key.
+/// The pair of the least key above the bound in the pinned version; with no bound, of the least
+/// key.
 pub(crate) fn next<A: Allocator + Copy>(
     seat: &mut PassSeat<'_, A>,
     at: &PinnedRoot,
@@ -80,7 +81,8 @@ pub(crate) fn root<A: Allocator + Copy>(seat: &mut PassSeat<'_, A>, at: &PinnedR
     read_digest(seat, at.pinned)
 }
 
-/// The first pairs of the pinned version, at most `limit`, of the keys that are at least `from` and below `to`. A bound that is not given does not bind.
+/// The first pairs of the pinned version, at most `limit`, of the keys that are at least `from` and
+/// below `to`. A bound that is not given does not bind.
 ///
 /// `Memory` comes where the growth of the list was refused.
 pub(crate) fn range<A: Allocator + Copy, B: Allocator>(
@@ -99,7 +101,8 @@ pub(crate) fn range<A: Allocator + Copy, B: Allocator>(
     mst_read::range_below(alloc, seat, at.link, from, to, limit)
 }
 
-/// The proof of the pinned version's answer for the key, against its root digest, of fewer than 2^32 bytes.
+/// The proof of the pinned version's answer for the key, against its root digest, of fewer than
+/// 2^32 bytes.
 ///
 /// `Memory` comes where a growth was refused.
 pub(crate) fn prove<A: Allocator + Copy, B: Allocator + Copy>(
@@ -109,7 +112,8 @@ pub(crate) fn prove<A: Allocator + Copy, B: Allocator + Copy>(
     key: &Key,
 ) -> Result<Vec<u8, B>, Memory>
     requires pinned { HasPinned at.now seat.old.me.0 }
-    ensures proof { IfOk result (λ proof. proof.items ≡ proof_text One (after seat.old.me.0.place) key.now) }
+    ensures proof { IfOk result
+        (λ proof. proof.items ≡ proof_text One (after seat.old.me.0.place) key.now) }
     ensures short { IfOk result (λ proof. length proof.items < 2 ^ 32) }
     ensures same { seat.new ≡ seat.old }
 {

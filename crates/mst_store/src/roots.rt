@@ -16,7 +16,8 @@ use std::alloc::Allocator;
 // Word k of a record: one load.
 fn field<A: Allocator + Copy>(seat: &mut PassSeat<'_, A>, which: u32, k: usize) -> u64
     requires there { (which < most_records) × (k < record_words) }
-    requires readable { (j : ℕ) → j < record_words → IsReadable seat.old.me.0 (record_word which j) }
+    requires readable { (j : ℕ) → j < record_words
+        → IsReadable seat.old.me.0 (record_word which j) }
     ensures word { result ≡ field seat.old.me.0.held which k }
     ensures same { seat.new ≡ seat.old }
 {
@@ -26,7 +27,8 @@ fn field<A: Allocator + Copy>(seat: &mut PassSeat<'_, A>, which: u32, k: usize) 
 /// The version number and the root of a record.
 pub(crate) fn read_root<A: Allocator + Copy>(seat: &mut PassSeat<'_, A>, which: u32) -> (u64, Root)
     requires there { which < most_records }
-    requires readable { (k : ℕ) → k < record_words → IsReadable seat.old.me.0 (record_word which k) }
+    requires readable { (k : ℕ) → k < record_words
+        → IsReadable seat.old.me.0 (record_word which k) }
     requires link { field seat.old.me.0.held which 1 ≤ 65535 }
     ensures version { result.0 ≡ field seat.old.me.0.held which 0 }
     ensures root { result.1 ≡ root_in (field seat.old.me.0.held which) }
@@ -46,7 +48,8 @@ pub(crate) fn read_root<A: Allocator + Copy>(seat: &mut PassSeat<'_, A>, which: 
 /// The version number and the link of a record.
 pub(crate) fn read_link<A: Allocator + Copy>(seat: &mut PassSeat<'_, A>, which: u32) -> (u64, u32)
     requires there { which < most_records }
-    requires readable { (k : ℕ) → k < record_words → IsReadable seat.old.me.0 (record_word which k) }
+    requires readable { (k : ℕ) → k < record_words
+        → IsReadable seat.old.me.0 (record_word which k) }
     requires link { field seat.old.me.0.held which 1 ≤ 65535 }
     ensures version { result.0 ≡ field seat.old.me.0.held which 0 }
     ensures link { result.1 ≡ field seat.old.me.0.held which 1 }
@@ -60,7 +63,8 @@ pub(crate) fn read_link<A: Allocator + Copy>(seat: &mut PassSeat<'_, A>, which: 
 /// The root digest of a record.
 pub(crate) fn read_digest<A: Allocator + Copy>(seat: &mut PassSeat<'_, A>, which: u32) -> [u8; 32]
     requires there { which < most_records }
-    requires readable { (k : ℕ) → k < record_words → IsReadable seat.old.me.0 (record_word which k) }
+    requires readable { (k : ℕ) → k < record_words
+        → IsReadable seat.old.me.0 (record_word which k) }
     ensures digest { result ≡ (root_in (field seat.old.me.0.held which)).digest }
     ensures same { seat.new ≡ seat.old }
 {

@@ -1,6 +1,9 @@
 //! Meeting and settling: two passes of a store, or all of them, come to have seen one history.
 //!
-//! A courier, which is a seat that is no pass, goes along the line of the passes and back. On its way there it hears what each pass has seen and looks, so that what it has seen in the end begins with what each of them had seen. On its way back each pass hears of that very history and sees it, and not what was added since.
+//! A courier, which is a seat that is no pass, goes along the line of the passes and back. On its
+//! way there it hears what each pass has seen and looks, so that what it has seen in the end begins
+//! with what each of them had seen. On its way back each pass hears of that very history and sees
+//! it, and not what was added since.
 ghost use Rattle.std.specs.Prelude.{◌≡◌, ◌++◌, ◌<◌, [], length, map, All, IfSome, IfNone};
 ghost use Rattle.mst_key.specs.History.{events_of, IsPrefix};
 ghost use Rattle.mst_store.specs.Passes.{having_asked};
@@ -12,7 +15,8 @@ use mst_words::PassSeat;
 use std::alloc::Allocator;
 use std::marker::Brand;
 
-/// Both passes have then seen one and the same history, which begins with all that either had seen. It takes no memory, and each step is one load.
+/// Both passes have then seen one and the same history, which begins with all that either had seen.
+/// It takes no memory, and each step is one load.
 ///
 /// The passes must be of one store.
 pub fn meet<'a, A: Allocator + Copy>(one: &mut Pass<'a, A>, other: &mut Pass<'a, A>)
@@ -25,7 +29,10 @@ pub fn meet<'a, A: Allocator + Copy>(one: &mut Pass<'a, A>, other: &mut Pass<'a,
     deliver(other, &mut courier);
 }
 
-/// All passes of `free` have then seen one and the same history, which begins with all that each of them had seen and with the history at each pin of `held`, and has no events but those of the passes handed in. A pinned pass keeps its version. It takes no memory, and each step is one load: it neither takes the turn nor waits for it.
+/// All passes of `free` have then seen one and the same history, which begins with all that each of
+/// them had seen and with the history at each pin of `held`, and has no events but those of the
+/// passes handed in. A pinned pass keeps its version. It takes no memory, and each step is one
+/// load: it neither takes the turn nor waits for it.
 ///
 /// The passes must be all those of one store, each free or pinned, in any order.
 pub fn settle<'a, A: Allocator + Copy>(free: &mut [Pass<'a, A>], held: &mut [Pinned<'a, A>])
@@ -51,7 +58,8 @@ fn first_courier<'a, A: Allocator + Copy>(
     ensures none { IfNone result ((free.old ≡ []) × (held.old ≡ [])) }
     ensures some { IfSome result (λ _. 0 < length (free.old ++ held.old)) }
     ensures courier { IfSome result (λ courier. IsCourier courier.me) }
-    ensures own { IfSome result (λ courier. All (IsBeside courier.table courier.me.0.passes) (free.old ++ held.old)) }
+    ensures own { IfSome result
+        (λ courier. All (IsBeside courier.table courier.me.0.passes) (free.old ++ held.old)) }
 {
     if !free.is_empty() {
         return Some(send_courier(&mut free[0]));
@@ -99,7 +107,8 @@ fn collect_all<'a, A: Allocator + Copy>(line: &mut [Pass<'a, A>], courier: &mut 
     }
 }
 
-/// The way there along the pinned passes: each looks, the courier hears what it has seen, and looks too.
+/// The way there along the pinned passes: each looks, the courier hears what it has seen, and looks
+/// too.
 fn collect_held<'a, A: Allocator + Copy>(line: &mut [Pinned<'a, A>], courier: &mut PassSeat<'a, A>)
     requires own { All (IsBeside courier.old.table courier.old.me.0.passes) line.old }
     requires courier { IsCourier courier.old.me }
@@ -167,7 +176,8 @@ fn deliver<'a, A: Allocator + Copy>(pass: &mut Pass<'a, A>, courier: &mut PassSe
     pass.seat.see_told();
 }
 
-/// The pinned pass looks, so that it has seen the history at its pin; the courier hears what it has seen, and looks.
+/// The pinned pass looks, so that it has seen the history at its pin; the courier hears what it has
+/// seen, and looks.
 fn collect_pinned<'a, A: Allocator + Copy>(
     pinned: &mut Pinned<'a, A>,
     courier: &mut PassSeat<'a, A>,
@@ -185,7 +195,8 @@ fn collect_pinned<'a, A: Allocator + Copy>(
     courier.see_all();
 }
 
-/// The pinned pass hears what the courier has seen, and looks: the whole history has no event of the pass that was not there at its pin, so the one between has none either.
+/// The pinned pass hears what the courier has seen, and looks: the whole history has no event of
+/// the pass that was not there at its pin, so the one between has none either.
 fn deliver_pinned<'a, A: Allocator + Copy>(
     pinned: &mut Pinned<'a, A>,
     courier: &mut PassSeat<'a, A>,

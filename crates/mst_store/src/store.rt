@@ -58,9 +58,11 @@ fn is_shape(shape: Shape) -> bool
 }
 
 impl<A: Allocator + Copy> Store<A> {
-    /// A store of the empty map, and the right to deal its passes. All memory of the store is taken here.
+    /// A store of the empty map, and the right to deal its passes. All memory of the store is taken
+    /// here.
     ///
-    /// `Shape` comes exactly where the size is out of its limits, else `Memory` where a growth was refused.
+    /// `Shape` comes exactly where the size is out of its limits, else `Memory` where a growth was
+    /// refused.
     pub fn open(alloc: A, shape: Shape) -> Result<(Store<A>, Seats<A>), OpenFault>
         ensures shape { IsErrOf result OpenFault.Shape ↔ ¬ (IsShape shape) }
         ensures limits { OnOk result (IsShape shape) }
@@ -70,7 +72,8 @@ impl<A: Allocator + Copy> Store<A> {
         if !is_shape(shape) {
             return Err(OpenFault::Shape);
         }
-        // one record for each pass and two more, so that a record is always free for the next version
+        // one record for each pass and two more, so that a record is always free for the next
+        // version
         let Ok(desk) = Desk::new(alloc, shape.rows, shape.passes + 2, 0) else {
             return Err(OpenFault::Memory);
         };
@@ -95,9 +98,11 @@ impl<A: Allocator + Copy> Store<A> {
         self.board.pins(which)
     }
 
-    /// The passes of the store, in the order of their numbers from 1. None of them has seen or done anything.
+    /// The passes of the store, in the order of their numbers from 1. None of them has seen or done
+    /// anything.
     ///
-    /// The seats must have come with this store. `Memory` comes where the growth was refused, and gives the seats back.
+    /// The seats must have come with this store. `Memory` comes where the growth was refused, and
+    /// gives the seats back.
     pub fn deal<B: Allocator>(
         &self,
         alloc: B,

@@ -23,7 +23,8 @@ pub(crate) struct Turn<A: Allocator> {
     pub(crate) root: Root,
     /// A record that nobody pins, for the version to come.
     pub(crate) into: u32,
-    /// How many versions are kept: the current one, and those of the records that were found pinned.
+    /// How many versions are kept: the current one, and those of the records that were found
+    /// pinned.
     pub(crate) kept: u32,
 }
 
@@ -108,7 +109,8 @@ fn take<A: Allocator + Copy>(seat: &mut PassSeat<'_, A>, number: u32) -> Option<
 // Gives the turn back, and the desk: one exchange and one store.
 fn lay_back<A: Allocator + Copy>(seat: &mut PassSeat<'_, A>, desk: Desk<A>)
     requires out { seat.old.me.1 ≡ (0, None) ∷ [] }
-    requires giving { IsGiving stored (Some desk) (desk_state desk) (seat.old.me.0, (0, Some desk) ∷ []) }
+    requires giving { IsGiving stored (Some desk) (desk_state desk)
+        (seat.old.me.0, (0, Some desk) ∷ []) }
     ensures same { IsSameSeat seat.old seat.new }
     ensures gave { seat.new.me ≡ (record seat.old.me.0 { turn = false }, []) }
 {
@@ -116,7 +118,8 @@ fn lay_back<A: Allocator + Copy>(seat: &mut PassSeat<'_, A>, desk: Desk<A>)
     seat.give_turn();
 }
 
-// Makes the holder of the turn ready for a write: a record is found for the version to come, and the rows that no version reaches are freed.
+// Makes the holder of the turn ready for a write: a record is found for the version to come, and
+// the rows that no version reaches are freed.
 fn make_ready<A: Allocator + Copy>(
     seat: &mut PassSeat<'_, A>,
     mut desk: Desk<A>,
@@ -144,7 +147,9 @@ fn make_ready<A: Allocator + Copy>(
     }
 }
 
-/// Takes the turn, finds a record for a version to come, and frees the rows that no version reaches: one compare-exchange, one exchange, one load for each record but the current one, and six loads more. `None` comes where another pass has the turn.
+/// Takes the turn, finds a record for a version to come, and frees the rows that no version
+/// reaches: one compare-exchange, one exchange, one load for each record but the current one, and
+/// six loads more. `None` comes where another pass has the turn.
 pub(crate) fn begin<A: Allocator + Copy>(
     seat: &mut PassSeat<'_, A>,
     number: u32,
@@ -164,7 +169,8 @@ pub(crate) fn begin<A: Allocator + Copy>(
     Some(make_ready(seat, desk, passes))
 }
 
-/// Begins a write: as [`begin`], but where the current version has the last number the turn is given back before any record is asked.
+/// Begins a write: as [`begin`], but where the current version has the last number the turn is
+/// given back before any record is asked.
 pub(crate) fn begin_write<A: Allocator + Copy>(
     seat: &mut PassSeat<'_, A>,
     number: u32,

@@ -12,9 +12,11 @@ use std::alloc::Allocator;
 use std::sync::Wait;
 
 impl<'a, A: Allocator + Copy> Pass<'a, A> {
-    /// Gives the key the value as [`Pass::try_put`] does, and tries again for as long as another pass has the turn, with a pause between two tries that grows. It takes no memory.
+    /// Gives the key the value as [`Pass::try_put`] does, and tries again for as long as another
+    /// pass has the turn, with a pause between two tries that grows. It takes no memory.
     ///
-    /// It may wait forever: nothing is said of whether or when the turn comes. If it returns, it is as a `try_put` that got the turn. In a store of one pass it never tries twice.
+    /// It may wait forever: nothing is said of whether or when the turn comes. If it returns, it is
+    /// as a `try_put` that got the turn. In a store of one pass it never tries twice.
     #[tactic(auto, using(crate::proofs::Waits::not_tried, crate::proofs::Waits::tried_again, crate::proofs::Waits::wrote_then, crate::proofs::Waits::refused_then))]
     pub fn put<R: Wait>(
         &mut self,
@@ -22,8 +24,10 @@ impl<'a, A: Allocator + Copy> Pass<'a, A> {
         key: &Key,
         value: &Value,
     ) -> Result<Option<Value>, ChangeFault>
-        ensures ok { IfOk result (λ old. WroteAfter (made_by self.old (Put key.now value.now)) self.old old self.new) }
-        ensures err { IfErr result (λ fault. RefusesAfter fault (Put key.now value.now) self.old self.new) }
+        ensures ok { IfOk result
+            (λ old. WroteAfter (made_by self.old (Put key.now value.now)) self.old old self.new) }
+        ensures err { IfErr result
+            (λ fault. RefusesAfter fault (Put key.now value.now) self.old self.new) }
     {
         let backoff = Backoff::new();
         for _ in rt.forever() {
@@ -37,11 +41,14 @@ impl<'a, A: Allocator + Copy> Pass<'a, A> {
         unreachable!()
     }
 
-    /// Takes the key out of the map as [`Pass::try_remove`] does, and waits for the turn as [`Pass::put`] does.
+    /// Takes the key out of the map as [`Pass::try_remove`] does, and waits for the turn as
+    /// [`Pass::put`] does.
     #[tactic(auto, using(crate::proofs::Waits::not_tried, crate::proofs::Waits::tried_again, crate::proofs::Waits::wrote_then, crate::proofs::Waits::refused_then))]
     pub fn remove<R: Wait>(&mut self, rt: &R, key: &Key) -> Result<Option<Value>, ChangeFault>
-        ensures ok { IfOk result (λ old. WroteAfter (made_by self.old (Remove key.now)) self.old old self.new) }
-        ensures err { IfErr result (λ fault. RefusesAfter fault (Remove key.now) self.old self.new) }
+        ensures ok { IfOk result
+            (λ old. WroteAfter (made_by self.old (Remove key.now)) self.old old self.new) }
+        ensures err { IfErr result
+            (λ fault. RefusesAfter fault (Remove key.now) self.old self.new) }
     {
         let backoff = Backoff::new();
         for _ in rt.forever() {

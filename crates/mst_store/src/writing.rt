@@ -16,7 +16,8 @@ use mst_path::NoRoom;
 use mst_words::PassSeat;
 use std::alloc::Allocator;
 
-// Puts a pair into the map of the current version. It answers where the new map stands, and the value that the key had.
+// Puts a pair into the map of the current version. It answers where the new map stands, and the
+// value that the key had.
 fn make_put<A: Allocator + Copy>(
     seat: &mut PassSeat<'_, A>,
     turn: &mut Turn<A>,
@@ -37,7 +38,8 @@ fn make_put<A: Allocator + Copy>(
     Ok((root, old))
 }
 
-// Takes a key out of the map of the current version. It answers where the new map stands, and the value that the key had.
+// Takes a key out of the map of the current version. It answers where the new map stands, and the
+// value that the key had.
 fn make_remove<A: Allocator + Copy>(
     seat: &mut PassSeat<'_, A>,
     turn: &mut Turn<A>,
@@ -46,7 +48,8 @@ fn make_remove<A: Allocator + Copy>(
     requires turn { HasTurn turn.old seat.old.me }
     requires open { length seat.old.me.0.seen < last_version }
     ensures same { IsSameSeat seat.old seat.new }
-    ensures made { IfOk result (λ done. Made (Remove key.now) turn.old seat.old.me done.0 done.1 turn.new seat.new.me) }
+    ensures made { IfOk result
+        (λ done. Made (Remove key.now) turn.old seat.old.me done.0 done.1 turn.new seat.new.me) }
     ensures lacks { OnErr result (LacksRows (Remove key.now) turn.old seat.old.me) }
     ensures untouched { OnErr result ((turn.new ≡ turn.old) × (seat.new ≡ seat.old)) }
 {
@@ -65,7 +68,8 @@ pub(crate) fn make<A: Allocator + Copy>(
     requires turn { HasTurn turn.old seat.old.me }
     requires open { length seat.old.me.0.seen < last_version }
     ensures same { IsSameSeat seat.old seat.new }
-    ensures made { IfOk result (λ done. Made change.now turn.old seat.old.me done.0 done.1 turn.new seat.new.me) }
+    ensures made { IfOk result
+        (λ done. Made change.now turn.old seat.old.me done.0 done.1 turn.new seat.new.me) }
     ensures lacks { OnErr result (LacksRows change.now turn.old seat.old.me) }
     ensures untouched { OnErr result ((turn.new ≡ turn.old) × (seat.new ≡ seat.old)) }
 {
@@ -75,11 +79,19 @@ pub(crate) fn make<A: Allocator + Copy>(
     }
 }
 
-/// Makes the change of the event, which is the pass's own, and publishes the version that it leads to. It answers the value that the change's key had.
+/// Makes the change of the event, which is the pass's own, and publishes the version that it leads
+/// to. It answers the value that the change's key had.
 ///
-/// The steps, in this order: the turn is taken, the desk is taken, each record but the current one is asked, and the dead rows are freed that no version reaches which is kept; the nodes along the change's path are copied into free rows; then the version is published, the mask of the old record's pins is moved, and desk and turn go back. It takes no memory.
+/// The steps, in this order: the turn is taken, the desk is taken, each record but the current one
+/// is asked, and the dead rows are freed that no version reaches which is kept; the nodes along the
+/// change's path are copied into free rows; then the version is published, the mask of the old
+/// record's pins is moved, and desk and turn go back. It takes no memory.
 ///
-/// `Busy` comes only where another pass has the turn, else `VersionsSpent` exactly where the current version has the last number, else `NoRoom` exactly where fewer rows are free than the change takes: a row for each entry and one for each node that it makes new. All rows are free then but those that the kept versions hold: the current one and those that other passes pin. In a store of one pass these are the rows of the map.
+/// `Busy` comes only where another pass has the turn, else `VersionsSpent` exactly where the
+/// current version has the last number, else `NoRoom` exactly where fewer rows are free than the
+/// change takes: a row for each entry and one for each node that it makes new. All rows are free
+/// then but those that the kept versions hold: the current one and those that other passes pin. In
+/// a store of one pass these are the rows of the map.
 pub(crate) fn write<A: Allocator + Copy>(
     seat: &mut PassSeat<'_, A>,
     number: u32,
@@ -95,7 +107,8 @@ pub(crate) fn write<A: Allocator + Copy>(
     ensures pass { KeepsPass seat.old.me seat.new.me }
     ensures free { IsFree number seat.new.me }
     ensures wrote { IfOk result (λ old. WroteAtSeat event.now seat.old.me old seat.new.me) }
-    ensures refused { IfErr result (λ fault. RefusesAtSeat fault event.now.change seat.old.me seat.new.me) }
+    ensures refused { IfErr result
+        (λ fault. RefusesAtSeat fault event.now.change seat.old.me seat.new.me) }
 {
     let mut turn = match begin_write(seat, number, passes) {
         Ok(turn) => turn,

@@ -1,6 +1,7 @@
 //! What the tests share: stores with their passes, and calls whose answers are compared.
 //!
-//! None of these functions says anything in a contract, so that what calls them is proved from few facts.
+//! None of these functions says anything in a contract, so that what calls them is proved from few
+//! facts.
 ghost use Rattle.std.specs.Prelude.{◌≡◌};
 
 use linked_list_allocator::LocalHeap;
@@ -17,13 +18,15 @@ pub(crate) const ROOT_OF_NONE: [u8; 32] = [
     0x27, 0xae, 0x41, 0xe4, 0x64, 0x9b, 0x93, 0x4c, 0xa4, 0x95, 0x99, 0x1b, 0x78, 0x52, 0xb8, 0x55,
 ];
 
-/// The root digest of the map of abc with x and a with 1: the SHA-256 of the 17 bytes 01 00 0002 00 01 61 01 31 00 03 616263 01 78 00.
+/// The root digest of the map of abc with x and a with 1: the SHA-256 of the 17 bytes 01 00 0002 00
+/// 01 61 01 31 00 03 616263 01 78 00.
 pub(crate) const ROOT_OF_BOTH: [u8; 32] = [
     0xd4, 0xa8, 0xa9, 0xfc, 0x55, 0x05, 0x84, 0x27, 0x16, 0x3b, 0xd8, 0xa1, 0xf0, 0x9c, 0xa5, 0xec,
     0x54, 0x2d, 0xe1, 0xcd, 0xaf, 0x28, 0xdf, 0x10, 0x0b, 0xe5, 0x47, 0x2e, 0x47, 0xb7, 0x25, 0x03,
 ];
 
-/// The proof of a key of that map: the version 1, the number 1 of texts, the length of the one text, and the text of the node of both.
+/// The proof of a key of that map: the version 1, the number 1 of texts, the length of the one
+/// text, and the text of the node of both.
 pub(crate) const PROOF_OF_BOTH: [u8; 23] = [
     1, 1, 0, 0, 0, 17, 1, 0, 0, 2, 0, 1, 0x61, 1, 0x31, 0, 3, 0x61, 0x62, 0x63, 1, 0x78, 0,
 ];
@@ -200,12 +203,14 @@ pub(crate) fn has_version<A: Allocator + Copy>(pass: &mut Pass<A>, version: u64)
     pass.version() == version
 }
 
-/// Whether the map takes so many rows; or, with none, whether they were not counted since a version is pinned.
+/// Whether the map takes so many rows; or, with none, whether they were not counted since a version
+/// is pinned.
 pub(crate) fn counts<A: Allocator + Copy>(pass: &mut Pass<A>, rows: Option<u32>) -> bool {
     pass.rows() == Ok(rows)
 }
 
-/// How many pairs of the keys between the bounds there are, up to the limit; none where memory was refused.
+/// How many pairs of the keys between the bounds there are, up to the limit; none where memory was
+/// refused.
 pub(crate) fn count_pairs<A: Allocator + Copy, B: Allocator>(
     pass: &mut Pass<A>,
     alloc: B,

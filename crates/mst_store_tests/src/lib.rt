@@ -1,4 +1,5 @@
-//! Tests of the store over its public calls: opening, reads and writes of several passes, pins, room, settling, and memory that is refused.
+//! Tests of the store over its public calls: opening, reads and writes of several passes, pins,
+//! room, settling, and memory that is refused.
 #![tactic(auto)]
 
 #[cfg(test)]

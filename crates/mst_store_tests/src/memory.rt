@@ -57,7 +57,8 @@ fn proof_in<A: Allocator + Copy>(pass: &mut Pass<A>, heap: &LocalHeap, key: &Key
     }
 }
 
-// What a proof of the key answers in a heap of so many bytes, or with no key a range. It is wrong too where the heap is not empty then.
+// What a proof of the key answers in a heap of so many bytes, or with no key a range. It is wrong
+// too where the heap is not empty then.
 fn read_in<A: Allocator + Copy>(
     alloc: Global,
     pass: &mut Pass<A>,
@@ -78,7 +79,8 @@ fn read_in<A: Allocator + Copy>(
     }
 }
 
-// Whether the read answers in each heap of this many 16 bytes that there is no memory, up to one in which it answers right.
+// Whether the read answers in each heap of this many 16 bytes that there is no memory, up to one in
+// which it answers right.
 fn is_right_or_refused<A: Allocator + Copy>(
     alloc: Global,
     pass: &mut Pass<A>,

@@ -24,7 +24,8 @@ fn shapes_are_tested_before_memory(rt: HostRuntime) {
     }
 }
 
-// Whether a store of a heap of so many bytes is opened. If not, the answer is memory, and nothing is kept.
+// Whether a store of a heap of so many bytes is opened. If not, the answer is memory, and nothing
+// is kept.
 fn opens_in(rt: &(impl Abort + AllocGlobal), bytes: usize) -> bool {
     let heap = heap_of(rt, bytes);
     match Store::open(&heap, SMALL) {
@@ -38,7 +39,8 @@ fn opens_in(rt: &(impl Abort + AllocGlobal), bytes: usize) -> bool {
 
 #[test]
 fn each_growth_of_open_is_refused_in_turn(rt: HostRuntime) {
-    // The words of the table alone take more than two kilobytes, so growths beyond the first are refused too.
+    // The words of the table alone take more than two kilobytes, so growths beyond the first are
+    // refused too.
     let mut refused = 0u32;
     for step in 1..512usize {
         if !opens_in(&rt, step * 16) {

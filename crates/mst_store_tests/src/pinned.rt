@@ -21,7 +21,8 @@ fn still_gets<A: Allocator + Copy>(
     }
 }
 
-// Whether the key of the next pair of the pinned version is this one, or there is none where none is given.
+// Whether the key of the next pair of the pinned version is this one, or there is none where none
+// is given.
 fn still_next<A: Allocator + Copy>(
     pinned: &mut Pinned<A>,
     after: Option<&Key>,
@@ -152,7 +153,8 @@ fn puts_many(pass: &mut Pass<Global>) -> bool {
     true
 }
 
-// Whether a thousand puts go through beside a pin, and the pinned version stays through all of them.
+// Whether a thousand puts go through beside a pin, and the pinned version stays through all of
+// them.
 fn puts_beside(pass: &mut Pass<Global>, pinned: &mut Pinned<Global>, root: &[u8; 32]) -> bool {
     let mut old = b'1';
     for number in 1..=1_000u32 {

@@ -23,7 +23,8 @@ impl Entry {
     }
 }
 
-/// How many rows the nodes of a map's tree take, and how many of these are of nodes that the tree of an older map has not.
+/// How many rows the nodes of a map's tree take, and how many of these are of nodes that the tree
+/// of an older map has not.
 #[derive(Clone, Copy)]
 pub(crate) struct Cost {
     pub(crate) all: usize,
@@ -143,7 +144,8 @@ impl PlainList {
         Ok(root_of(pairs.as_slice()))
     }
 
-    /// The entries of the tree whose top node has the entry at this place as its first, if it is the first of its node.
+    /// The entries of the tree whose top node has the entry at this place as its first, if it is
+    /// the first of its node.
     fn tree_at(&self, place: usize, layer: u8) -> Option<&[Entry]> {
         let entries = self.entries.as_slice();
         let (front, tail) = entries.split_at(place.min(entries.len()));
@@ -161,7 +163,8 @@ impl PlainList {
         Some(&entries[start..end])
     }
 
-    /// Whether these entries, of at most the layer, are those of a tree between two entries of higher layers.
+    /// Whether these entries, of at most the layer, are those of a tree between two entries of
+    /// higher layers.
     fn has_tree(&self, part: &[Entry], layer: u8) -> bool {
         let Some(first) = part.first() else {
             return false;

@@ -17,7 +17,8 @@ fn rows_of(pass: &mut Pass<Global>) -> Option<u32> {
     pass.rows().ok()?
 }
 
-/// A store of so many rows, and the plain list of the map that it is to have, with the rows that the map takes.
+/// A store of so many rows, and the plain list of the map that it is to have, with the rows that
+/// the map takes.
 #[derive(Drop)]
 struct Both<'a> {
     passes: Vec<Pass<'a, Global>>,
@@ -27,7 +28,8 @@ struct Both<'a> {
 }
 
 impl<'a> Both<'a> {
-    /// Puts, or removes where no value is given, by one of the passes, and compares whether there was room and all that the store then tells of the map.
+    /// Puts, or removes where no value is given, by one of the passes, and compares whether there
+    /// was room and all that the store then tells of the map.
     fn change(
         &mut self,
         rt: &(impl Abort + AllocGlobal),
@@ -83,7 +85,8 @@ fn is_wanted(answer: &Result<Option<Value>, WriteFault>, wanted: Wanted) -> bool
     }
 }
 
-/// A key, the value that it is given or none, what the write is to answer, and how many rows the map then takes.
+/// A key, the value that it is given or none, what the write is to answer, and how many rows the
+/// map then takes.
 type Step = (&'static [u8], Option<&'static [u8]>, Wanted, usize);
 
 /// Makes these changes in a store of so many rows.
@@ -169,7 +172,8 @@ fn keys(rt: &(impl Abort + AllocGlobal)) -> Result<Vec<Key>, Fail> {
     Ok(keys)
 }
 
-/// So many random changes by two passes, from a generator that begins at the seed. It answers how many of them found no room.
+/// So many random changes by two passes, from a generator that begins at the seed. It answers how
+/// many of them found no room.
 fn random_changes(
     rt: &(impl Abort + AllocGlobal),
     both: &mut Both<'_>,

@@ -27,7 +27,8 @@ fn settle_free<A: Allocator + Copy>(passes: &mut [Pass<'_, A>])
     settle(passes, &mut []);
 }
 
-// Each pass puts a key of its own. Settled, each gets them all, in the order in which they stand here.
+// Each pass puts a key of its own. Settled, each gets them all, in the order in which they stand
+// here.
 pub(crate) fn each_gets_what_all_put<A: Allocator + Copy>(
     rt: &impl Abort,
     passes: &mut [Pass<A>],

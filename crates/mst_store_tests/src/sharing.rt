@@ -43,7 +43,8 @@ fn passes_that_write_in_turns_are_never_refused(rt: HostRuntime) {
     assert!(rt; has_version(&mut first, 200) && counts(&mut second, Some(3)));
 }
 
-// Puts the values 0 to 99 at the key, each until it goes through, and answers whether all went through.
+// Puts the values 0 to 99 at the key, each until it goes through, and answers whether all went
+// through.
 fn put_all(pass: &mut Pass<Global>, key: &Key) -> bool {
     for number in 0..100u8 {
         let Ok(value) = Value::new(&[number]) else {

@@ -78,7 +78,8 @@ fn a_write_in_turn_that_finds_no_room_changes_nothing(rt: HostRuntime) {
     );
 }
 
-// Puts the values 0 to 99 at the key and removes each, and answers whether each write found what the one before it left.
+// Puts the values 0 to 99 at the key and removes each, and answers whether each write found what
+// the one before it left.
 fn put_and_remove_all(rt: &impl Wait, pass: &mut Pass<Global>, key: &Key) -> bool {
     for number in 0..100u8 {
         let Ok(value) = Value::new(&[number]) else {

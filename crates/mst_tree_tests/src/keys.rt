@@ -1,4 +1,5 @@
-//! What no clause says: printed texts, and rows worked out elsewhere. The functions above the tests show by their clauses what a caller knows of `==` and `cmp`.
+//! What no clause says: printed texts, and rows worked out elsewhere. The functions above the tests
+//! show by their clauses what a caller knows of `==` and `cmp`.
 ghost use Rattle.std.specs.Prelude.{◌≡◌, ◌↔◌, IsTrue, OnOk, IsSorted};
 ghost use Rattle.std.specs.declared.cmp.Ordering.TheVariants.{Less};
 ghost use Rattle.mst_key.specs.Map.{key_cmp};

@@ -1,4 +1,5 @@
-//! Values from another program (Python's hashlib), large lists, texts outside the grammar, and refused growths.
+//! Values from another program (Python's hashlib), large lists, texts outside the grammar, and
+//! refused growths.
 use crate::pairs::{numbered, pair, top};
 use linked_list_allocator::LocalHeap;
 use mst_key::{Key, Memory, Value};
@@ -99,7 +100,8 @@ fn digest_of(alloc: Global, text: &str) -> Result<[u8; 32], Fail> {
     Ok(digest(bytes.as_slice()))
 }
 
-/// Whether a text is that of a node of layer 1 that has the one key `39`, with the value `y`, between these children.
+/// Whether a text is that of a node of layer 1 that has the one key `39`, with the value `y`,
+/// between these children.
 fn is_node_of_39(text: &[u8], left: [u8; 32], right: [u8; 32]) -> bool {
     let Ok(flat) = read_text(text) else {
         return false;

@@ -1,4 +1,5 @@
-//! Proofs spelt out by hand or by another program (Python's hashlib), forged ones, proofs of larger maps, and refused growths.
+//! Proofs spelt out by hand or by another program (Python's hashlib), forged ones, proofs of larger
+//! maps, and refused growths.
 ghost use Rattle.std.specs.Prelude.{◌≤◌, length};
 ghost use Rattle.mst_key.specs.Map.{IsMap};
 
@@ -58,7 +59,8 @@ fn verdict_in(alloc: Global, root: &str, key: &[u8], proof: &str) -> Result<Stri
     verdict(alloc, &root, key, proof.as_slice())
 }
 
-/// The pairs in the key's gap among those of the greatest layer, or none where one of these has the key.
+/// The pairs in the key's gap among those of the greatest layer, or none where one of these has the
+/// key.
 fn gap_of<'a>(
     alloc: Global,
     pairs: &'a [(Key, Value)],
@@ -125,7 +127,9 @@ fn collided_with_none(alloc: Global, key: &Key, proof: &[u8]) -> Result<bool, Me
     Ok(pair.is_some())
 }
 
-/// Whether `collide` finds a pair of texts beside the tree of the list, in a heap of which only so many blocks of 16 bytes are free once the tree stands. None where the list is empty, or the heap too small for the tree.
+/// Whether `collide` finds a pair of texts beside the tree of the list, in a heap of which only so
+/// many blocks of 16 bytes are free once the tree stands. None where the list is empty, or the heap
+/// too small for the tree.
 fn collided_in(
     alloc: Global,
     heap: &LocalHeap,

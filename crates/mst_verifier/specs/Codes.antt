@@ -32,6 +32,7 @@ code_of room (Err refusal) = refusal_code refusal
 
 -- a value that there is room for stands first; all else stays
 abbrev pub room_after : List ℕ → Result (Option (List ℕ)) Refusal → List ℕ
-room_after room (Ok (Some value)) = if nat_lt (length room) (length value) then room else value ++ drop (length value) room
+room_after room (Ok (Some value)) =
+    if nat_lt (length room) (length value) then room else value ++ drop (length value) room
 room_after room (Ok None) = room
 room_after room (Err refusal) = room

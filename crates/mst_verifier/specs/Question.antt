@@ -9,7 +9,8 @@ abbrev pub with_refusal : Result (Option (List ℕ)) ProofFault → Result (Opti
 with_refusal (Ok answer) = Ok answer
 with_refusal (Err fault) = Err (Proof fault)
 
--- the format is 1, a root digest has 32 bytes, a key has 1 to 32; the first that is not so is told, else what the proof comes to
+-- the format is 1, a root digest has 32 bytes, a key has 1 to 32; the first that is not so is told,
+-- else what the proof comes to
 abbrev pub answer_of : ℕ → List ℕ → List ℕ → List ℕ → Result (Option (List ℕ)) Refusal
 answer_of format root key proof =
     if format == 1

@@ -1,6 +1,8 @@
 //! The verifier of proofs for C, and for every language that calls C.
 //!
-//! A static library over `mst_proof`: it takes no memory, keeps no state and starts no thread. `include/mst_verifier.h` declares its calls. Their answers are numbers that never change (`specs/Codes.antt`).
+//! A static library over `mst_proof`: it takes no memory, keeps no state and starts no thread.
+//! `include/mst_verifier.h` declares its calls. Their answers are numbers that never change
+//! (`specs/Codes.antt`).
 #![tactic(auto)]
 
 ghost use Rattle.std.specs.Prelude.{◌≡◌, ◌≢◌, ◌≤◌, List, ℕ, Option, length, IfSome};
@@ -27,7 +29,9 @@ use codes::NO_TEXT;
 use mst_node::top_text;
 use telling::tell;
 
-/// What a proof shows of a key in the map with this root digest: the length of the key's value, which then stands first in the room, or the number of another answer. The room keeps all other bytes.
+/// What a proof shows of a key in the map with this root digest: the length of the key's value,
+/// which then stands first in the room, or the number of another answer. The room keeps all other
+/// bytes.
 #[unsafe(no_mangle)]
 pub extern "C" fn mst_verify(
     format: u32,
@@ -36,19 +40,28 @@ pub extern "C" fn mst_verify(
     proof: &[u8],
     room: &mut [u8],
 ) -> i32
-    ensures code { result ≡ code_of (length room.old) (answer_of format root.now key.now proof.now) }
+    ensures code { result ≡ code_of (length room.old)
+        (answer_of format root.now key.now proof.now) }
     ensures room { room.new ≡ room_after room.old (answer_of format root.now key.now proof.now) }
     // What is told is what the proof is accepted with.
-    ensures accepted { (a : Option (List ℕ)) → Tells result room.new a → Accepted root.now key.now proof.now a }
+    ensures accepted { (a : Option (List ℕ)) → Tells result room.new a
+        → Accepted root.now key.now proof.now a }
     // The map's answer is told where the proof is the map's and the room takes the value.
-    ensures complete { (m : List Pair) → format ≡ 1 → length root.now ≡ 32 → IsKey key.now → HasRoot m root.now → proof.now ≡ proof_text One m key.now → IfSome (map_get m key.now) (λ v. length v ≤ length room.old) → Tells result room.new (map_get m key.now) }
-    // Where another answer is told for a map's root, two different texts have one SHA-256: two of those of the proof, those of the nodes of the map's tree, and the empty text.
-    ensures sound { (m : List Pair) (a : Option (List ℕ)) → HasRoot m root.now → Tells result room.new a → a ≢ map_get m key.now → HasCollision (texts_named proof.now (tree One m)) }
+    ensures complete { (m : List Pair) → format ≡ 1 → length root.now ≡ 32 → IsKey key.now
+        → HasRoot m root.now → proof.now ≡ proof_text One m key.now
+        → IfSome (map_get m key.now) (λ v. length v ≤ length room.old)
+        → Tells result room.new (map_get m key.now) }
+    // Where another answer is told for a map's root, two different texts have one SHA-256: two of
+    // those of the proof, those of the nodes of the map's tree, and the empty text.
+    ensures sound { (m : List Pair) (a : Option (List ℕ)) → HasRoot m root.now
+        → Tells result room.new a → a ≢ map_get m key.now
+        → HasCollision (texts_named proof.now (tree One m)) }
 {
     tell(format, root, key, proof, room)
 }
 
-/// The length of the first text that a proof frames, which stands behind the proof's first six bytes, or -1 where there is none. The proof is not verified.
+/// The length of the first text that a proof frames, which stands behind the proof's first six
+/// bytes, or -1 where there is none. The proof is not verified.
 #[unsafe(no_mangle)]
 pub extern "C" fn mst_top_text(proof: &[u8]) -> i64
     ensures text { TellsTop proof.now result }

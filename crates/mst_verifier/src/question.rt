@@ -21,7 +21,8 @@ pub(crate) enum Refusal {
     Proof(ProofFault),
 }
 
-/// What the proof shows of the key. The format is tested first, then the root digest, the key, and the proof.
+/// What the proof shows of the key. The format is tested first, then the root digest, the key, and
+/// the proof.
 pub(crate) fn answer(
     format: u32,
     root: &[u8],

@@ -16,7 +16,8 @@ fn put(room: &mut [u8], bytes: &[u8])
 
 /// The code of the answer. The value that it shows stands first in the room then, if it fits.
 pub(crate) fn tell(format: u32, root: &[u8], key: &[u8], proof: &[u8], room: &mut [u8]) -> i32
-    ensures code { result ≡ code_of (length room.old) (answer_of format root.now key.now proof.now) }
+    ensures code { result ≡ code_of (length room.old)
+        (answer_of format root.now key.now proof.now) }
     ensures room { room.new ≡ room_after room.old (answer_of format root.now key.now proof.now) }
 {
     match answer(format, root, key, proof) {

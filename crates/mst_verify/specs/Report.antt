@@ -14,7 +14,8 @@ limit = 33554432
 
 -- a text without the newline at its end, if there is one
 abbrev pub without_newline : List ℕ → List ℕ
-without_newline text = if slice_index text (length text - 1) == 10 then take (length text - 1) text else text
+without_newline text =
+    if slice_index text (length text - 1) == 10 then take (length text - 1) text else text
 
 abbrev pub said : Result (Option (List ℕ)) ProofFault → Report
 said (Ok (Some v)) = Present v
@@ -25,9 +26,11 @@ abbrev pub said_of : List ℕ → List ℕ → Result (List ℕ) FromHexError �
 said_of root k (Ok proof) = said (verdict root k proof)
 said_of root k (Err e) = NotHex
 
--- what is said of the text of a proof for a root digest and a key: its length is tested first, then its digits, then the proof that they spell
+-- what is said of the text of a proof for a root digest and a key: its length is tested first, then
+-- its digits, then the proof that they spell
 abbrev pub report_of : List ℕ → List ℕ → List ℕ → Report
-report_of root k text = if nat_lt limit (length text) then Long else said_of root k (decode_of (without_newline text))
+report_of root k text =
+    if nat_lt limit (length text) then Long else said_of root k (decode_of (without_newline text))
 
 -- ---- as it is written
 

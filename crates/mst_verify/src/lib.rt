@@ -8,7 +8,8 @@
 //! report.is_refusal()     // false of the first two
 //! ```
 //!
-//! `specs/Report.antt` defines what a text, a root digest and a key come to, by the verdict on proofs of `mst_proof`.
+//! `specs/Report.antt` defines what a text, a root digest and a key come to, by the verdict on
+//! proofs of `mst_proof`.
 //!
 //! It reads no device, and has no opinion on the root digest: both are its caller's.
 #![tactic(auto)]

@@ -13,7 +13,8 @@ use std::alloc::Allocator;
 /// How many bytes the text of a proof has at most, with the newline at its end.
 pub const LIMIT: usize = 33_554_432;
 
-/// A line as it is written. The longest is `present ` with the 128 digits of a value and the newline.
+/// A line as it is written. The longest is `present ` with the 128 digits of a value and the
+/// newline.
 pub type Line = ArrayVec<u8, 144>;
 
 /// What is said of the text of a proof.
@@ -65,9 +66,11 @@ fn is_hex(text: &[u8]) -> bool
     are_digits(text)
 }
 
-/// What a text says of the key in the map with this root digest: the hexadecimal digits of a proof, in either case, with at most one newline behind them.
+/// What a text says of the key in the map with this root digest: the hexadecimal digits of a proof,
+/// in either case, with at most one newline behind them.
 ///
-/// `Memory` comes only where the room for the proof was refused. A text that is too long, or no even number of digits, takes no memory.
+/// `Memory` comes only where the room for the proof was refused. A text that is too long, or no
+/// even number of digits, takes no memory.
 pub fn report_on<A: Allocator>(
     alloc: A,
     root: &[u8; 32],
@@ -141,7 +144,8 @@ fn extend_digits(line: &mut Line, value: &Value)
 }
 
 impl Report {
-    /// The line that says it, with its newline: `present` and the value in lower case, `-` where it is empty, `absent`, `P1` to `P9`, `fault hex` or `fault long`.
+    /// The line that says it, with its newline: `present` and the value in lower case, `-` where it
+    /// is empty, `absent`, `P1` to `P9`, `fault hex` or `fault long`.
     #[tactic(auto, unfolding(crate::specs::Report::line_of))]
     pub fn line(&self) -> Line
         ensures line { result.items ≡ line_of self.now }

@@ -1,8 +1,15 @@
 //! Walks at random over one store, and compares each answer with the map as a plain sorted list.
 //!
-//! `mst_walk [OPERATIONS]` makes so many calls, 20,000 where no number is given, by the eight passes of one store in one thread: puts, removes, gets, nexts, ranges, proofs, which it verifies, pins and unpins, and the numbers of versions and rows. After each 1,000 calls, and at the end, it compares the root digest of each pass with that of the list that the pass is to read. Then it prints how many calls of each kind there were, how many writes found no room, how many answers were not the list's, and the root digest of the list. The status is 1 where an answer was not the list's. Calls, keys and values are the same in each run.
+//! `mst_walk [OPERATIONS]` makes so many calls, 20,000 where no number is given, by the eight
+//! passes of one store in one thread: puts, removes, gets, nexts, ranges, proofs, which it
+//! verifies, pins and unpins, and the numbers of versions and rows. After each 1,000 calls, and at
+//! the end, it compares the root digest of each pass with that of the list that the pass is to
+//! read. Then it prints how many calls of each kind there were, how many writes found no room, how
+//! many answers were not the list's, and the root digest of the list. The status is 1 where an
+//! answer was not the list's. Calls, keys and values are the same in each run.
 //!
-//! `rt run -- 10000000` in this folder proves and builds it by LLVM, optimised, and runs it; the executable is then `out/mst_walk`.
+//! `rt run -- 10000000` in this folder proves and builds it by LLVM, optimised, and runs it; the
+//! executable is then `out/mst_walk`.
 #![tactic(auto)]
 
 ghost use Rattle.std.specs.Prelude.{◌<◌};
@@ -18,7 +25,8 @@ use mst_store::{Shape, Store};
 use std::{env, io};
 use walk::{PASSES, Walk};
 
-/// Rows for twice the map, and for some of the versions that are pinned: at times a write finds no room beside them.
+/// Rows for twice the map, and for some of the versions that are pinned: at times a write finds no
+/// room beside them.
 const SHAPE: Shape = Shape {
     rows: 3_000,
     passes: PASSES as u32,

@@ -23,7 +23,8 @@ struct Held<'a> {
     list: List,
 }
 
-/// The passes of a store, the free ones and those that pin a version, and the list that their answers are compared with.
+/// The passes of a store, the free ones and those that pin a version, and the list that their
+/// answers are compared with.
 #[derive(Drop)]
 pub struct Walk<'a> {
     alloc: Global,
@@ -34,7 +35,8 @@ pub struct Walk<'a> {
     tally: Tally,
 }
 
-// Writes by a free pass, and compares the old value with the list's. Where there is no room, which comes only beside a pinned version, both stay.
+// Writes by a free pass, and compares the old value with the list's. Where there is no room, which
+// comes only beside a pinned version, both stay.
 fn write(
     pass: &mut Pass<'_, Global>,
     list: &mut List,
@@ -63,7 +65,8 @@ fn write(
     Ok(())
 }
 
-// Whether the rows are counted exactly where no version is pinned, and are then no fewer than the pairs.
+// Whether the rows are counted exactly where no version is pinned, and are then no fewer than the
+// pairs.
 fn counts_rows(pass: &mut Pass<'_, Global>, list: &List, is_pinned: bool) -> bool {
     match pass.rows() {
         Ok(Some(rows)) => !is_pinned && rows as usize >= list.len(),

@@ -1,4 +1,5 @@
--- The ages of the rows of a tree are known to each desk that says of these rows what the old one said.
+-- The ages of the rows of a tree are known to each desk that says of these rows what the old one
+-- said.
 use Rattle.std.proofs.Common.{◌≡◌, ℕ, ◌≤◌, List, length, ◌∙◌}
 use Rattle.mst_key.specs.History.{History}
 use Rattle.mst_key.proofs.SpanLaws.{contains-all}

@@ -40,7 +40,8 @@ each : (P : ℕ → Type 0) (xs : List ℕ) → ((x : ℕ) → In x xs → P x) 
 each P [] h = tt
 each P (x ∷ xs) h = (h x (inl refl), each P xs (λ y within. h y (inr within)))
 
--- rows that stand do so by their own numbers, on any content and root that agree there, and by the same placing
+-- rows that stand do so by their own numbers, on any content and root that agree there, and by the
+-- same placing
 stands_placed : (old new : Content) (at at' : Root) (m : List Pair) (s : Stands One old at m) → AllByRecursion (λ x. new x ≡ old x) (numbers s) → at' ≡ at
     → (t : Stands One new at' m) × (t.tree.placed ≡ s.tree.placed)
 stands_placed old new at at' m s same is = (

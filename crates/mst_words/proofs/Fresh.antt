@@ -52,7 +52,8 @@ four_of (a ∷ b ∷ c ∷ d ∷ e ∷ l) long = absurd (omega arith)
 
 -- ---- what stands at the start
 
--- a row of a fresh desk is free, and so no version reaches it, and none is born with the version to come
+-- a row of a fresh desk is free, and so no version reaches it, and none is born with the version to
+-- come
 at_free : (P : Option Life → Type 0) → P None → P (Some Free) → (n x : ℕ) → P (slice_get (replicate n Free) x)
 at_free P none_there free n x = by (dec_le n x)
   where

@@ -30,7 +30,8 @@ pub last_named : (P : Event → Type 0) (front : History) (e : Event) → All P 
 last_named P [] e all = all 0 e (omega arith)
 last_named P (x ∷ xs) e all = last_named P xs e (λ k d l. all (suc k) d (omega arith))
 
--- a pass that has seen its own events, of which the last of the history is one, has seen the history
+-- a pass that has seen its own events, of which the last of the history is one, has seen the
+-- history
 pub all_seen : (p : ℕ) (mine seen front : History) (e : Event) → e.pass ≡ p → IsPrefix seen (front ++ e ∷ []) → events_of p seen ≡ mine → events_of p (front ++ e ∷ []) ≡ mine → seen ≡ front ++ e ∷ []
 all_seen p mine seen front e is b here all = dite (ℕ_discrete (length seen) (length (front ++ e ∷ [])))
     (λ same. sym (IsPrefix-length seen (front ++ e ∷ []) b (sym same)))

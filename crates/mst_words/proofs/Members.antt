@@ -1,4 +1,5 @@
--- Three ways to say that a number stands in a list: as a sum, by a count, and as the library says it.
+-- Three ways to say that a number stands in a list: as a sum, by a count, and as the library says
+-- it.
 use Rattle.std.proofs.Common.{◌≡◌, ℕ, ◌+◌, ◌<◌, ◌⊎◌, Bool, true, false, eqb, inl, inr, List, [], ◌∷◌, Contains, refl, sym, ap, ⊎_elim, arith}
 use Rattle.std.proofs.lemmas.Bool.{eq-eqb}
 use Rattle.std.proofs.lemmas.Bool.Decides.{nat_tests}

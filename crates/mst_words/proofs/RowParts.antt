@@ -76,7 +76,8 @@ module _ {S : Type 0} (T : Meaning S) (framed : IsFramed T) (R N : ℕ) where
     live_before w mine r l = ⊎_elim (λ (is : r ≡ cur). inl is)
         (λ (t : (i : ℕ) × (u : View) × (get_elem? (set vs id w) i ≡ some u) × (u.pin ≡ Some r)). each_seat (λ i u. u.pin ≡ Some r → IsLive cur vs r) vs id w (mine r) (λ i u _ e pin. inr (i, u, e, pin)) t.0 t.1 t.2 t.3) l
 
-    -- the frame: one view changes, words that no live version stands on change, and the desk stays the same for live records
+    -- the frame: one view changes, words that no live version stands on change, and the desk stays
+    -- the same for live records
     pub rows_to : (ws' : List ℕ) (desk' : DeskState) (w : View) → desk'.current ≡ cur → ((r : ℕ) → IsLive cur vs r → Kept ws ws' r (used r)) → ((r : ℕ) → IsLive cur vs r → Agrees T desk desk' r)
         → ((r : ℕ) → w.pin ≡ Some r → IsLive cur vs r × Reads T R N ws' r (place r) (used r) w) → (w.turn ≡ true → IsHeld ws' w) → ((i : ℕ) (u : View) → i ≢ id → get_elem? vs i ≡ some u → u.turn ≡ true → IsHeld ws' u)
         → Rows T R N cur ws' log desk' place used (set vs id w)

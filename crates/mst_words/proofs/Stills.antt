@@ -1,4 +1,5 @@
--- The part Still: in a store of one pass the word of the current record is as its holder noted it, and that record's word DONE is the mask that was noted.
+-- The part Still: in a store of one pass the word of the current record is as its holder noted it,
+-- and that record's word DONE is the mask that was noted.
 use Rattle.std.proofs.Common.{◌≡◌, ℕ, ◌+◌, ◌*◌, ◌%◌, ◌<◌, ◌≤◌, ◌≢◌, true, false, List, Option, Some, None, set, get_or, sym, ap, ◌∙◌, subst, arith}
 use Rattle.std.specs.Int.{bit_at}
 use mathlib.Core.Logic.{dite}
@@ -55,7 +56,8 @@ done_is_mask n cur mask due beside ws vs id v p c at one free pos small apart = 
     even k odd = nobody k (c.seat_of cur k p.cur_in odd)
 
 module _ {S : Type 0} (T : Meaning S) (R N : ℕ) where
-  -- the holder of the turn, which pins nothing, is the only pass, so the word DONE of the current record is the mask that it noted
+  -- the holder of the turn, which pins nothing, is the only pass, so the word DONE of the current
+  -- record is the mask that it noted
   pub alone : (s : State S View) (q : Parts T R N s) (id : ℕ) (v : View) → SeatAt s.views id v → v.turn ≡ true → v.pin ≡ None → v.passes ≡ 1
       → (mask : ℕ) → mask < 4294967296 → v.noted ≡ Some (v.desk.current * 4294967296 + mask) → get_or s.words (v.desk.current + 2) 0 ≡ mask
   alone s q id v at on free one mask small noted = ap (done s.words) here ∙ marks ∙ same

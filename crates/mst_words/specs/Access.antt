@@ -16,7 +16,8 @@ pub record Seated : Type 0 where
   pub id : ℕ
   pub me : Me (Option lives.State) View
 
--- what a seat is beside the words of the rows: all else that it knows and holds, the words in front of the rows, and how many words it knows
+-- what a seat is beside the words of the rows: all else that it knows and holds, the words in front
+-- of the rows, and how many words it knows
 pub record Beside : Type 0 where
   pub seat : Seated
   pub front : List ℕ
@@ -27,7 +28,8 @@ abbrev pub with_words : List ℕ → Seated → Seated
 with_words words s = record s { me = (record s.me.0 { held = words }, s.me.1) }
 
 abbrev pub beside : Seated → Beside
-beside s = record { seat = with_words [] s; front = take first_row s.me.0.held; long = length s.me.0.held }
+beside s =
+    record { seat = with_words [] s; front = take first_row s.me.0.held; long = length s.me.0.held }
 
 -- the same seat of the same table
 abbrev pub IsSameSeat : Seated → Seated → Type 0
@@ -48,8 +50,10 @@ all_below (suc n) p = p n && all_below n p
 
 -- no version of a record reaches the row, but of records that were found drained
 abbrev pub is_unreached : View → ℕ → Bool
-is_unreached v x = all_below (v.passes + 2) (λ r. list_any (eqb r) v.drained || not (lives.reaches v.desk.lives (version_of v.desk r) x))
+is_unreached v x = all_below (v.passes + 2) (λ r. list_any (eqb r) v.drained
+    || not (lives.reaches v.desk.lives (version_of v.desk r) x))
 
 -- the holder of the turn, which knows the words, may write such rows, before it publishes
 abbrev pub is_blank : View → ℕ → Bool
-is_blank v x = nat_lt (row_word x 15) (length v.held) && nat_lt x v.rows && v.turn && is_none v.pin && is_none v.due && is_unreached v x
+is_blank v x = nat_lt (row_word x 15) (length v.held) && nat_lt x v.rows && v.turn && is_none v.pin
+    && is_none v.due && is_unreached v x

@@ -1,4 +1,6 @@
--- Where the words of a table lie, and how many there are. Word 0 is the turn, word 1 the current record and the mask of its pins; then come a word DONE for each of the most records, the words of these records, and the words of the rows.
+-- Where the words of a table lie, and how many there are. Word 0 is the turn, word 1 the current
+-- record and the mask of its pins; then come a word DONE for each of the most records, the words of
+-- these records, and the words of the rows.
 use Rattle.std.specs.Prelude.{ℕ, ◌+◌, ◌*◌}
 
 -- the most passes that a table serves
@@ -9,7 +11,8 @@ most_passes = 32
 abbrev pub most_records : ℕ
 most_records = 34
 
--- how many words a record has: the number of its version, the link of its root, and the four words of its root digest
+-- how many words a record has: the number of its version, the link of its root, and the four words
+-- of its root digest
 abbrev pub record_words : ℕ
 record_words = 6
 

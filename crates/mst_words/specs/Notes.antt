@@ -1,4 +1,5 @@
--- How passes learn what others have seen: a seat looks at the whole history, or it hears a note and then sees what the note told.
+-- How passes learn what others have seen: a seat looks at the whole history, or it hears a note and
+-- then sees what the note told.
 use Rattle.std.specs.Prelude.{◌≡◌, ℕ, ◌+◌, ◌<◌, ◌≤◌, Some}
 use Rattle.std.specs.List.{All}
 use Rattle.atomic_table.specs.Table.{Me, Step}
@@ -23,7 +24,9 @@ abbrev pub IsOfPasses : ℕ → History → Type 0
 IsOfPasses n log = All (λ e. (0 < e.pass) × (e.pass ≤ n)) log
 
 module _ {S : Type 0} where
-  -- The whole history was found. It begins with what the seat had seen and with what it was told, and, while the seat is pinned, with the history at its pin. The events of its number there are its own, and each event is of a pass of the store
+  -- The whole history was found. It begins with what the seat had seen and with what it was told,
+  -- and, while the seat is pinned, with the history at its pin. The events of its number there are
+  -- its own, and each event is of a pass of the store
   pub record Finds (m : Me S View) (log : History) : Type 0 where
     pub later : IsPrefix m.0.seen log
     pub told : IsPrefix m.0.told log
@@ -37,7 +40,8 @@ module _ {S : Type 0} where
     pub finds : Finds m log
     pub is : m' ≡ (record m.0 { seen = log; asked = m.0.asked + 1 }, m.1)
 
-  -- The whole history was found, and the seat has now seen the beginning of it that it was told of, which is no less than it had seen
+  -- The whole history was found, and the seat has now seen the beginning of it that it was told of,
+  -- which is no less than it had seen
   pub record SeesTold (m m' : Me S View) : Type 0 where
     pub log : History
     pub forward : IsPrefix m.0.seen m.0.told

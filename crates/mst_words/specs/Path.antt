@@ -1,4 +1,6 @@
--- The pins of the table are those of the core of pins: the current record, the pins of the passes and the record whose transfer waits are reached from the core's opening state by events that it takes.
+-- The pins of the table are those of the core of pins: the current record, the pins of the passes
+-- and the record whose transfer waits are reached from the core's opening state by events that it
+-- takes.
 use Rattle.std.specs.Prelude.{◌≡◌, ℕ, ◌<◌, List, [], ◌∷◌, Option, Some}
 use Rattle.mst_pin.specs.declared.event.Event as core
 use Rattle.mst_pin.specs.declared.event.Event.TheVariants.{Pin, Unpin, Write, Publish, Transfer, Ask}
@@ -15,10 +17,12 @@ IsMove (Publish r rows) = rows ≡ 0
 IsMove Transfer = Unit {0}
 IsMove (Ask r) = ⊥
 
--- the core of n passes comes by these events, of which the last stands first, to a state, and takes each
+-- the core of n passes comes by these events, of which the last stands first, to a state, and takes
+-- each
 abbrev pub ComesTo : ℕ → List core.Event → State → Type 0
 ComesTo n [] s = s ≡ opening n
-ComesTo n (e ∷ es) s = (before : State) × ComesTo n es before × IsMove e × IsTaken before e × (s ≡ after before e)
+ComesTo n (e ∷ es) s =
+    (before : State) × ComesTo n es before × IsMove e × IsTaken before e × (s ≡ after before e)
 
 pub record Path (n cur : ℕ) (due : Option ℕ) (views : List View) : Type 0 where
   pub state : State
@@ -28,4 +32,5 @@ pub record Path (n cur : ℕ) (due : Option ℕ) (views : List View) : Type 0 wh
   pub cur_is : state.current ≡ cur
   pub due_is : state.due ≡ due
   pub pins_are : (i : ℕ) (v : View) → SeatAt views i v → 0 < v.number → state.pins v.number ≡ v.pin
-  pub seats_are : (p r : ℕ) → state.pins p ≡ Some r → (0 < p) × ((i : ℕ) × (v : View) × SeatAt views i v × (v.number ≡ p))
+  pub seats_are : (p r : ℕ) → state.pins p ≡ Some r → (0 < p)
+      × ((i : ℕ) × (v : View) × SeatAt views i v × (v.number ≡ p))

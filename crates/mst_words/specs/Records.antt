@@ -1,4 +1,5 @@
--- What the records and the rows of the table stand for: the current record and each pinned one for the map at its place in the history, on exactly the rows that the desk says its version reaches.
+-- What the records and the rows of the table stand for: the current record and each pinned one for
+-- the map at its place in the history, on exactly the rows that the desk says its version reaches.
 use Rattle.std.specs.Prelude.{◌≡◌, ◌⊎◌, ◌↔◌, ℕ, ◌+◌, ◌<◌, ◌≤◌, true, List, length, slice_index, Some}
 use Rattle.mst_key.specs.History.{History, IsPrefix}
 use Rattle.mst_words.specs.declared.view.View.{View}
@@ -15,7 +16,9 @@ field ws r k = slice_index ws (record_word r k)
 abbrev pub row : List ℕ → ℕ → ℕ → ℕ
 row ws x k = slice_index ws (row_word x k)
 
--- What the rule is about: the map of a history; when the words of rows and of a record stand for a map, on which rows; when they stand for the map of a history, and the desk knows how old these rows are; what lies in the slot; which rows a version reaches; and the version of each record.
+-- What the rule is about: the map of a history; when the words of rows and of a record stand for a
+-- map, on which rows; when they stand for the map of a history, and the desk knows how old these
+-- rows are; what lies in the slot; which rows a version reaches; and the version of each record.
 pub record Meaning (S : Type 0) : Type 1 where
   pub M : Type 0
   pub after : History → M
@@ -27,32 +30,40 @@ pub record Meaning (S : Type 0) : Type 1 where
 
 -- words g and q agree with f and p where a record and these rows stand
 abbrev pub SameWords : (ℕ → ℕ → ℕ) → (ℕ → ℕ → ℕ) → (ℕ → ℕ) → (ℕ → ℕ) → List ℕ → Type 0
-SameWords f g p q used = ((x : ℕ) → In x used → (k : ℕ) → k < row_words → g x k ≡ f x k) × ((k : ℕ) → k < record_words → q k ≡ p k)
+SameWords f g p q used = ((x : ℕ) → In x used → (k : ℕ) → k < row_words → g x k ≡ f x k)
+    × ((k : ℕ) → k < record_words → q k ≡ p k)
 
 -- a record that is current or pinned
 abbrev pub IsLive : ℕ → List View → ℕ → Type 0
 IsLive cur views r = (r ≡ cur) ⊎ ((i : ℕ) × (v : View) × SeatAt views i v × (v.pin ≡ Some r))
 
 module _ {S : Type 0} (T : Meaning S) where
-  -- a row that no version reaches whose record was not found drained, by what the holder of the turn knows
+  -- a row that no version reaches whose record was not found drained, by what the holder of the
+  -- turn knows
   abbrev pub IsBlank : View → ℕ → Type 0
   IsBlank v x = (x < v.rows) × ((r : ℕ) → r < v.passes + 2 → (In r v.drained → ⊥) → T.Reaches v.desk (T.version v.desk r) x → ⊥)
 
-  -- Two desks have one version in a record, and say of the same rows that it reaches them. Of such a row they say that the same versions up to that one reach it
+  -- Two desks have one version in a record, and say of the same rows that it reaches them. Of such
+  -- a row they say that the same versions up to that one reach it
   pub record Agrees (d d' : DeskState) (r : ℕ) : Type 0 where
     pub version : T.version d' r ≡ T.version d r
     pub reached : (x : ℕ) → T.Reaches d (T.version d r) x → T.Reaches d' (T.version d r) x
     pub exactly : (x : ℕ) → T.Reaches d' (T.version d r) x → T.Reaches d (T.version d r) x
-    pub ages : (x v : ℕ) → v ≤ T.version d r → T.Reaches d (T.version d r) x → T.Reaches d v x ↔ T.Reaches d' v x
+    pub ages : (x v : ℕ) → v ≤ T.version d r → T.Reaches d (T.version d r) x → T.Reaches d v x
+        ↔ T.Reaches d' v x
 
-  -- What stands does so by the words of the record and of those rows alone. The age of its rows is known to each desk that agrees on the record
+  -- What stands does so by the words of the record and of those rows alone. The age of its rows is
+  -- known to each desk that agrees on the record
   pub record IsFramed : Type 0 where
-    pub stands : (f g : ℕ → ℕ → ℕ) (p q : ℕ → ℕ) (m : T.M) (used : List ℕ) → SameWords f g p q used → T.Stands f p m used → T.Stands g q m used
-    pub aged : (f g : ℕ → ℕ → ℕ) (p q : ℕ → ℕ) (h : History) (used : List ℕ) (d d' : DeskState) (r : ℕ) → SameWords f g p q used → T.version d r ≡ length h
+    pub stands : (f g : ℕ → ℕ → ℕ) (p q : ℕ → ℕ) (m : T.M) (used : List ℕ) → SameWords f g p q used
+        → T.Stands f p m used → T.Stands g q m used
+    pub aged : (f g : ℕ → ℕ → ℕ) (p q : ℕ → ℕ) (h : History) (used : List ℕ) (d d' : DeskState)
+        (r : ℕ) → SameWords f g p q used → T.version d r ≡ length h
         → ((x : ℕ) → In x used → T.Reaches d (length h) x) → Agrees d d' r → T.Aged f p d h used → T.Aged g q d' h used
 
   module _ (R n : ℕ) where
-    -- a record stands for the map at a place of the history, by these rows, which are those that its version reaches; and the desk knows how old they are
+    -- a record stands for the map at a place of the history, by these rows, which are those that
+    -- its version reaches; and the desk knows how old they are
     pub record Standing (ws : List ℕ) (log : History) (desk : DeskState) (r : ℕ) (place : History) (used : List ℕ) : Type 0 where
       pub numbered : r < n + 2
       pub begins : IsPrefix place log
@@ -71,11 +82,14 @@ module _ {S : Type 0} (T : Meaning S) where
       pub fields : (k : ℕ) → k < record_words → field ws r k ≡ field v.held r k
       pub kept : (x : ℕ) → In x used → (k : ℕ) → k < row_words → row ws x k ≡ row v.held x k
 
-    -- The current record stands for the whole history and each pinned one for its place. What a pinned seat may read is as it was. The holder of the turn knows all words of records and rows
+    -- The current record stands for the whole history and each pinned one for its place. What a
+    -- pinned seat may read is as it was. The holder of the turn knows all words of records and rows
     pub record Rows (cur : ℕ) (ws : List ℕ) (log : History) (desk : DeskState) (place : ℕ → History) (used : ℕ → List ℕ) (views : List View) : Type 0 where
       pub now : place cur ≡ log
       pub desk_at : desk.current ≡ cur
       pub short : length log < 9223372036854775808
       pub live : (r : ℕ) → IsLive cur views r → Standing ws log desk r (place r) (used r)
-      pub reads : (i : ℕ) (v : View) → SeatAt views i v → (r : ℕ) → v.pin ≡ Some r → Reads ws r (place r) (used r) v
-      pub held : (i : ℕ) (v : View) → SeatAt views i v → v.turn ≡ true → (length v.held ≡ length ws) × ((k : ℕ) → first_record ≤ k → slice_index ws k ≡ slice_index v.held k)
+      pub reads : (i : ℕ) (v : View) → SeatAt views i v → (r : ℕ) → v.pin ≡ Some r
+          → Reads ws r (place r) (used r) v
+      pub held : (i : ℕ) (v : View) → SeatAt views i v → v.turn ≡ true → (length v.held ≡ length ws)
+          × ((k : ℕ) → first_record ≤ k → slice_index ws k ≡ slice_index v.held k)

@@ -1,4 +1,5 @@
--- The rule of the table: its parts (the turn, the pins, the records and rows, and the world), and what follows from them.
+-- The rule of the table: its parts (the turn, the pins, the records and rows, and the world), and
+-- what follows from them.
 use Rattle.std.specs.Prelude.{◌≡◌, ◌⊎◌, ℕ, ◌<◌, true, List, [], ◌∷◌, length, slice_index, Option, Some, None}
 use mathlib.Core.Option.{none, some}
 use Rattle.atomic_table.specs.Table.{State}
@@ -13,20 +14,27 @@ use Rattle.mst_words.specs.Records.{Meaning, IsLive, IsBlank, Rows}
 
 -- with one pass, the word of the current record is as the holder of the turn has noted it
 pub record Still (n word : ℕ) (views : List View) : Type 0 where
-  pub noted : (i : ℕ) (v : View) → SeatAt views i v → v.turn ≡ true → n ≡ 1 → (w : ℕ) → v.noted ≡ Some w → w ≡ word
+  pub noted : (i : ℕ) (v : View) → SeatAt views i v → v.turn ≡ true → n ≡ 1 → (w : ℕ)
+      → v.noted ≡ Some w → w ≡ word
 
 module _ {S : Type 0} (T : Meaning S) (R n : ℕ) where
-  -- While the turn is free, the slot is at home with the desk, and no transfer waits. Else the turn names the one pass that has the slot, and that pass has seen the whole history and knows the desk
+  -- While the turn is free, the slot is at home with the desk, and no transfer waits. Else the turn
+  -- names the one pass that has the slot, and that pass has seen the whole history and knows the
+  -- desk
   pub record Turn (word : ℕ) (homes : List (mathlib.Core.Option.Option S)) (desk : DeskState) (due : Option ℕ) (log : History) (views : List View) : Type 0 where
     pub free : word ≡ 0 → (x : S) × (homes ≡ some x ∷ []) × T.IsDesk x R n desk × (due ≡ None)
-    pub taken : 0 < word → (homes ≡ none ∷ []) × ((i : ℕ) × (v : View) × SeatAt views i v × (v.turn ≡ true))
-    pub holder : (i : ℕ) (v : View) → SeatAt views i v → v.turn ≡ true → (0 < word) × (v.number ≡ word) × (v.seen ≡ log) × (v.desk ≡ desk)
+    pub taken : 0 < word → (homes ≡ none ∷ [])
+        × ((i : ℕ) × (v : View) × SeatAt views i v × (v.turn ≡ true))
+    pub holder : (i : ℕ) (v : View) → SeatAt views i v → v.turn ≡ true → (0 < word)
+        × (v.number ≡ word) × (v.seen ≡ log) × (v.desk ≡ desk)
 
   -- the rows that the holder of the turn may write are in no live version
   pub record Apart (cur : ℕ) (used : ℕ → List ℕ) (views : List View) : Type 0 where
-    pub blank : (i : ℕ) (v : View) → SeatAt views i v → v.turn ≡ true → (x : ℕ) → IsBlank T v x → (r : ℕ) → IsLive cur views r → In x (used r) → ⊥
+    pub blank : (i : ℕ) (v : View) → SeatAt views i v → v.turn ≡ true → (x : ℕ) → IsBlank T v x
+        → (r : ℕ) → IsLive cur views r → In x (used r) → ⊥
 
-  -- some seat has seen the whole history, unless it is empty. So the one history is the longest that a seat has seen
+  -- some seat has seen the whole history, unless it is empty. So the one history is the longest
+  -- that a seat has seen
   pub record IsSeen (log : History) (views : List View) : Type 0 where
     pub whole : (log ≡ []) ⊎ ((i : ℕ) × (v : View) × SeatAt views i v × (v.seen ≡ log))
 

@@ -1,4 +1,6 @@
--- What each step tells the seat that makes it, as a relation between what the seat had before and after: its view, and what it holds of the slot. A step whose answer depends on what other passes do adds one to `asked`.
+-- What each step tells the seat that makes it, as a relation between what the seat had before and
+-- after: its view, and what it holds of the slot. A step whose answer depends on what other passes
+-- do adds one to `asked`.
 use Rattle.std.specs.Prelude.{◌≡◌, ◌≢◌, ◌⊎◌, ℕ, ◌+◌, ◌*◌, ◌<◌, ◌≤◌, true, false, List, [], ◌∷◌, ◌++◌, length, slice_index, slice_set, Some, None}
 use Rattle.atomic_table.specs.Table.{Me, Step}
 use Rattle.mst_key.specs.declared.history.Change.TheVariants.{Remove}
@@ -14,7 +16,8 @@ use Rattle.mst_words.specs.Records.{Meaning, field, row, Standing, Agrees, IsBla
 abbrev pub no_event : Event
 no_event = record { pass = 0; change = Remove [] }
 
--- a word that a pinned seat or the holder of the turn may load: of records and rows the holder any, a pinned seat those of its record and of the rows that stand for it
+-- a word that a pinned seat or the holder of the turn may load: of records and rows the holder any,
+-- a pinned seat those of its record and of the rows that stand for it
 abbrev pub IsReadable : View → ℕ → Type 0
 IsReadable v i = ((v.turn ≡ true) × (first_record ≤ i))
     ⊎ (((r k : ℕ) × (v.pin ≡ Some r) × (k < record_words) × (i ≡ record_word r k)) ⊎ ((r x k : ℕ) × (v.pin ≡ Some r) × In x v.stood × (k < row_words) × (i ≡ row_word x k)))
@@ -78,12 +81,26 @@ module _ {S : Type 0} where
 
   -- ---- publication
 
-  -- The history has one event more. The record that was current and the mask of its pins came back, for the transfer
+  -- The history has one event more. The record that was current and the mask of its pins came back,
+  -- for the transfer
   pub record Publishes (e : Event) (d : DeskState) (m : Me S View) (r : ℕ) (m' : Me S View) : Type 0 where
     pub mask : ℕ
     pub small : mask < 4294967296
     pub returned : r ≡ m.0.desk.current * 4294967296 + mask
-    pub is : m' ≡ (record m.0 { seen = m.0.seen ++ e ∷ []; mine = m.0.mine ++ e ∷ []; due = Some m.0.desk.current; mask = mask; drained = []; blocked = []; noted = None; desk = d; asked = m.0.asked + 1 }, m.1)
+    pub is : m' ≡ (
+      record m.0 {
+        seen = m.0.seen ++ e ∷ [];
+        mine = m.0.mine ++ e ∷ [];
+        due = Some m.0.desk.current;
+        mask = mask;
+        drained = [];
+        blocked = [];
+        noted = None;
+        desk = d;
+        asked = m.0.asked + 1;
+      },
+      m.1,
+    )
 
   abbrev pub publishes : Event → DeskState → Step S → Me S View → ℕ → Me S View → Type 0
   publishes e d st m r m' = Publishes e d m r m'
@@ -111,10 +128,13 @@ module _ {S : Type 0} where
   abbrev pub notes_current : Step S → Me S View → ℕ → Me S View → Type 0
   notes_current st m r m' = NotesCurrent m r m'
 
-  -- In a store of one pass, which pins nothing while it has the turn, the word DONE of the current record is the mask that was noted. In a larger store nothing is said of the word: others may pin the record and end their pins between the two loads
+  -- In a store of one pass, which pins nothing while it has the turn, the word DONE of the current
+  -- record is the mask that was noted. In a larger store nothing is said of the word: others may
+  -- pin the record and end their pins between the two loads
   pub record AsksCurrent (m : Me S View) (r : ℕ) (m' : Me S View) : Type 0 where
     pub is : m' ≡ (record m.0 { asked = m.0.asked + 1 }, m.1)
-    pub alone : m.0.passes ≡ 1 → (mask : ℕ) → mask < 4294967296 → m.0.noted ≡ Some (m.0.desk.current * 4294967296 + mask) → r ≡ mask
+    pub alone : m.0.passes ≡ 1 → (mask : ℕ) → mask < 4294967296
+        → m.0.noted ≡ Some (m.0.desk.current * 4294967296 + mask) → r ≡ mask
 
   abbrev pub asks_current : Step S → Me S View → ℕ → Me S View → Type 0
   asks_current st m r m' = AsksCurrent m r m'
@@ -124,7 +144,8 @@ module _ {S : Type 0} (T : Meaning S) where
   abbrev pub IsWritable : View → ℕ → Type 0
   IsWritable v i = ((x k : ℕ) × IsBlank T v x × (k < row_words) × (i ≡ row_word x k)) ⊎ ((r k : ℕ) × In r v.drained × (k < record_words) × (i ≡ record_word r k))
 
-  -- The pass, one of the store's, has the turn and the slot with its desk, and has seen the whole history. The words of the table are known; in them the current record stands for the history
+  -- The pass, one of the store's, has the turn and the slot with its desk, and has seen the whole
+  -- history. The words of the table are known; in them the current record stands for the history
   pub record Takes (m m' : Me S View) : Type 0 where
     pub value : S
     pub desk : DeskState
@@ -138,9 +159,24 @@ module _ {S : Type 0} (T : Meaning S) where
     pub short : length log < 9223372036854775808
     pub wide : length words ≡ table_words m.0.rows
     pub stands : Standing T m.0.rows m.0.passes words log desk desk.current log used
-    pub is : m' ≡ (record m.0 { seen = log; held = words; turn = true; desk = desk; due = None; mask = 0; drained = []; blocked = []; noted = None; asked = m.0.asked + 1 }, (0, value) ∷ [])
+    pub is : m' ≡ (
+      record m.0 {
+        seen = log;
+        held = words;
+        turn = true;
+        desk = desk;
+        due = None;
+        mask = 0;
+        drained = [];
+        blocked = [];
+        noted = None;
+        asked = m.0.asked + 1;
+      },
+      (0, value) ∷ [],
+    )
 
-  -- Another pass pinned the record, which stood for the map at a place of the history, by what the holder of the turn knows. There are fewer such records than other passes
+  -- Another pass pinned the record, which stood for the map at a place of the history, by what the
+  -- holder of the turn knows. There are fewer such records than other passes
   pub record Blocked (a : ℕ) (m m' : Me S View) : Type 0 where
     pub fewer : length m.0.blocked + 1 < m.0.passes
     pub place : History
@@ -155,7 +191,8 @@ module _ {S : Type 0} (T : Meaning S) where
   abbrev pub takes_turn : Step S → Me S View → ℕ → Me S View → Type 0
   takes_turn st m r m' = (r ≡ 0 → Takes m m') × (r ≢ 0 → Misses m m')
 
-  -- what the holder of the turn has to know to give it back with a desk: for each record that it did not find drained, its version reaches the same rows as before
+  -- what the holder of the turn has to know to give it back with a desk: for each record that it
+  -- did not find drained, its version reaches the same rows as before
   pub record IsGiving (x : S) (d : DeskState) (m : Me S View) : Type 0 where
     pub on : m.0.turn ≡ true
     pub settled : m.0.due ≡ None
@@ -164,7 +201,8 @@ module _ {S : Type 0} (T : Meaning S) where
     pub current : d.current ≡ m.0.desk.current
     pub agrees : (r : ℕ) → r < m.0.passes + 2 → (In r m.0.drained → ⊥) → Agrees T m.0.desk d r
 
-  -- the pass pins the current record, which stands for the whole history; its words and those of its rows stay
+  -- the pass pins the current record, which stands for the whole history; its words and those of
+  -- its rows stay
   pub record PinsNow (m : Me S View) (found : ℕ) (m' : Me S View) : Type 0 where
     pub cur : ℕ
     pub mask : ℕ
@@ -180,12 +218,24 @@ module _ {S : Type 0} (T : Meaning S) where
     pub version : field words cur 0 ≡ length log
     pub stands : T.Stands (row words) (field words cur) (T.after log) used
     pub inside : (x : ℕ) → In x used → x < m.0.rows
-    pub is : m' ≡ (record m.0 { pin = Some cur; place = log; stood = used; held = words; asked = m.0.asked + 1 }, m.1)
+    pub is : m' ≡ (
+      record m.0 {
+        pin = Some cur;
+        place = log;
+        stood = used;
+        held = words;
+        asked = m.0.asked
+            + 1;
+      },
+      m.1,
+    )
 
   abbrev pub pins_now : Step S → Me S View → ℕ → Me S View → Type 0
   pins_now st m r m' = PinsNow m r m'
 
-  -- what the holder of the turn has to know to publish a drained record, of an event, after which the desk is d: the record stands for the longer history, and for each record that it did not find drained, its version reaches the same rows as before
+  -- what the holder of the turn has to know to publish a drained record, of an event, after which
+  -- the desk is d: the record stands for the longer history, and for each record that it did not
+  -- find drained, its version reaches the same rows as before
   pub record IsReady (into : ℕ) (e : Event) (d : DeskState) (used : List ℕ) (v : View) : Type 0 where
     pub on : v.turn ≡ true
     pub unpinned : v.pin ≡ None

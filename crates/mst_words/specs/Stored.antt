@@ -1,4 +1,5 @@
--- What the words of the store mean: rows that stand for the map of a history, at the root of a record; and the desk in the slot, with no write under way.
+-- What the words of the store mean: rows that stand for the map of a history, at the root of a
+-- record; and the desk in the slot, with no write under way.
 use Rattle.std.specs.Prelude.{◌≡◌, ℕ, ◌+◌, ◌<◌, ◌≤◌, List, [], ◌∷◌, length, true, slice_index, replicate, Option, Some}
 use Rattle.mst_key.specs.declared.format.Format.TheVariants.{One}
 use Rattle.mst_key.specs.Map.{Pair}
@@ -25,7 +26,8 @@ root_in field = words.root_in (field 1 ∷ field 2 ∷ field 3 ∷ field 4 ∷ f
 
 -- the words of rows and of a record stand for a map, on exactly these rows
 abbrev pub StandsOn : (ℕ → ℕ → ℕ) → (ℕ → ℕ) → List Pair → List ℕ → Type 0
-StandsOn word field m used = (s : standing.Stands One (rows_in word) (root_in field) m) × (standing.numbers s ≡ used)
+StandsOn word field m used =
+    (s : standing.Stands One (rows_in word) (root_in field) m) × (standing.numbers s ≡ used)
 
 -- the desk as the crate of rows knows it
 abbrev pub state_of : DeskState → lives.State
@@ -34,7 +36,8 @@ state_of d = record { current = d.current; versions = d.versions; lives = d.live
 abbrev pub desk_state : lives.State → DeskState
 desk_state s = record { current = s.current; versions = s.versions; lives = s.lives }
 
--- The slot has the desk of a store of so many rows and passes. No record has a later version than the current one
+-- The slot has the desk of a store of so many rows and passes. No record has a later version than
+-- the current one
 pub record IsDesk (x : Option lives.State) (rows passes : ℕ) (d : DeskState) : Type 0 where
   pub there : x ≡ Some (state_of d)
   pub rows_is : length d.lives ≡ rows
@@ -42,13 +45,16 @@ pub record IsDesk (x : Option lives.State) (rows passes : ℕ) (d : DeskState) :
   pub settled : lives.IsSettled (state_of d)
   pub earlier : (r : ℕ) → r < passes + 2 → slice_index d.versions r ≤ lives.version (state_of d)
 
--- They stand for the map of a history, and the desk says of the rows of each node that the versions that reach them are those since which the node's tree has stood
+-- They stand for the map of a history, and the desk says of the rows of each node that the versions
+-- that reach them are those since which the node's tree has stood
 abbrev pub AgedOn : (ℕ → ℕ → ℕ) → (ℕ → ℕ) → DeskState → History → List ℕ → Type 0
-AgedOn word field d h used = (s : StandsOn word field (after h) used) × HasAges d.lives h s.0.tree.placed
+AgedOn word field d h used =
+    (s : StandsOn word field (after h) used) × HasAges d.lives h s.0.tree.placed
 
 -- the desk of a new store: record 0 is current, each record has version 0, and each row is free
 abbrev pub fresh_desk : ℕ → ℕ → lives.State
-fresh_desk rows passes = record { current = 0; versions = replicate (passes + 2) 0; lives = replicate rows Free }
+fresh_desk rows passes =
+    record { current = 0; versions = replicate (passes + 2) 0; lives = replicate rows Free }
 
 -- a version reaches a row
 abbrev pub Reaches : DeskState → ℕ → ℕ → Type 0
@@ -58,4 +64,12 @@ abbrev pub version_of : DeskState → ℕ → ℕ
 version_of d r = slice_index d.versions r
 
 abbrev pub stored : Meaning (Option lives.State)
-stored = record { M = List Pair; after = after; Stands = StandsOn; Aged = AgedOn; IsDesk = IsDesk; Reaches = Reaches; version = version_of }
+stored = record {
+  M = List Pair;
+  after = after;
+  Stands = StandsOn;
+  Aged = AgedOn;
+  IsDesk = IsDesk;
+  Reaches = Reaches;
+  version = version_of;
+}

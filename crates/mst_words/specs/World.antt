@@ -1,4 +1,6 @@
--- What the passes know of the one history: each has seen a beginning of it, and its own events in it are its own list (Herlihy and Wing 1990, in a limited form: no order between passes that never met).
+-- What the passes know of the one history: each has seen a beginning of it, and its own events in
+-- it are its own list (Herlihy and Wing 1990, in a limited form: no order between passes that never
+-- met).
 use Rattle.std.specs.Prelude.{◌≡◌, ℕ, ◌+◌, ◌<◌, ◌≤◌, false, List, [], Some, None}
 use Rattle.std.specs.List.{All}
 use mathlib.Core.Option.{some}
@@ -11,28 +13,36 @@ use Rattle.mst_words.specs.declared.view.DeskState.{DeskState}
 abbrev pub SeatAt : List View → ℕ → View → Type 0
 SeatAt views i v = get_elem? views i ≡ some v
 
--- What the seat has seen, and what it was told, begins the history, in which the events of its number are its own. A pass has seen its own events; and so had a pinned one at its pin, when it saw the history at its place
+-- What the seat has seen, and what it was told, begins the history, in which the events of its
+-- number are its own. A pass has seen its own events; and so had a pinned one at its pin, when it
+-- saw the history at its place
 pub record Fits (log : History) (v : View) : Type 0 where
   pub seen : IsPrefix v.seen log
   pub told : IsPrefix v.told log
   pub own : events_of v.number log ≡ v.mine
   pub mine : 0 < v.number → events_of v.number v.seen ≡ v.mine
-  pub pinned : (r : ℕ) → v.pin ≡ Some r → IsPrefix v.place log × (events_of v.number v.place ≡ v.mine)
+  pub pinned : (r : ℕ) → v.pin ≡ Some r → IsPrefix v.place log
+      × (events_of v.number v.place ≡ v.mine)
 
--- the seat knows the size of the store. Its number is below the next one to be dealt, and only the dealer's seat, which is no pass, deals
+-- the seat knows the size of the store. Its number is below the next one to be dealt, and only the
+-- dealer's seat, which is no pass, deals
 pub record IsPlaced (rows passes next : ℕ) (v : View) : Type 0 where
   pub rows_is : v.rows ≡ rows
   pub passes_is : v.passes ≡ passes
   pub number : v.number < next
   pub deals : 0 < v.deals → (v.deals ≡ next) × (v.number ≡ 0)
 
--- Each seat fits the history. No two passes have one number, each pass that was dealt has a seat, there is one dealer, no more passes were dealt than the store has, and each event is of a pass that was dealt
+-- Each seat fits the history. No two passes have one number, each pass that was dealt has a seat,
+-- there is one dealer, no more passes were dealt than the store has, and each event is of a pass
+-- that was dealt
 pub record World (rows passes next : ℕ) (log : History) (views : List View) : Type 0 where
   pub fits : (i : ℕ) (v : View) → SeatAt views i v → Fits log v
   pub placed : (i : ℕ) (v : View) → SeatAt views i v → IsPlaced rows passes next v
-  pub apart : (i j : ℕ) (v w : View) → SeatAt views i v → SeatAt views j w → 0 < v.number → v.number ≡ w.number → i ≡ j
+  pub apart : (i j : ℕ) (v w : View) → SeatAt views i v → SeatAt views j w → 0 < v.number
+      → v.number ≡ w.number → i ≡ j
   pub seated : (p : ℕ) → 0 < p → p < next → (i : ℕ) × (v : View) × SeatAt views i v × (v.number ≡ p)
-  pub dealer : (i j : ℕ) (v w : View) → SeatAt views i v → SeatAt views j w → 0 < v.deals → 0 < w.deals → i ≡ j
+  pub dealer : (i j : ℕ) (v w : View) → SeatAt views i v → SeatAt views j w → 0 < v.deals
+      → 0 < w.deals → i ≡ j
   pub few : next ≤ passes + 1
   pub named : All (λ e. (0 < e.pass) × (e.pass < next)) log
 

@@ -18,13 +18,15 @@ use mst_key::Memory;
 use std::alloc::Allocator;
 use std::marker::Model;
 
-/// The token of a seat at one table: it has no bytes, and carries what the seat knows. The dealer's is one.
+/// The token of a seat at one table: it has no bytes, and carries what the seat knows. The dealer's
+/// is one.
 pub type Token<A> = Seat<Option<Desk<A>>, View>;
 
 /// The place of the one slot.
 const SLOT: usize = 0;
 
-/// The table: the words of the turn, of pins, records and rows, and the slot in which the desk lies.
+/// The table: the words of the turn, of pins, records and rows, and the slot in which the desk
+/// lies.
 #[derive(Drop)]
 pub struct Board<A: Allocator + Copy> {
     pub(crate) table: Table<Option<Desk<A>>, View, Shape, Law<A>, A>,
@@ -55,14 +57,16 @@ fn one_slot<A: Allocator>(alloc: A, desk: Desk<A>) -> Result<Vec<Option<Desk<A>>
 }
 
 impl<A: Allocator + Copy> Board<A> {
-    /// A table with an empty history, and the dealer's seat. `Memory` comes where a growth was refused.
+    /// A table with an empty history, and the dealer's seat. `Memory` comes where a growth was
+    /// refused.
     pub fn open(alloc: A, shape: Shape, desk: Desk<A>) -> Result<(Board<A>, Token<A>), Memory>
         requires some_rows { 0 < shape.rows }
         requires few_rows { shape.rows ≤ 65535 }
         requires some_passes { 0 < shape.passes }
         requires few_passes { shape.passes ≤ most_passes }
         requires fresh { desk ≡ fresh_desk shape.rows shape.passes }
-        ensures ok { IfOk result (λ r. (r.1.table_id ≡ r.0) × (r.0.words ≡ table_words shape.rows) × (r.1.me ≡ (dealer shape.rows shape.passes 1, []))) }
+        ensures ok { IfOk result (λ r. (r.1.table_id ≡ r.0) × (r.0.words ≡ table_words shape.rows)
+            × (r.1.me ≡ (dealer shape.rows shape.passes 1, []))) }
     {
         let words = first_words(alloc, shape.rows)?;
         let slots = one_slot(alloc, desk)?;
@@ -85,7 +89,8 @@ impl<A: Allocator + Copy> Board<A> {
         self.table.shared.split_seat::<Deal>(seat)
     }
 
-    /// Takes the turn: one compare-exchange of its word from 0 to the pass's number. True where the turn is then the pass's.
+    /// Takes the turn: one compare-exchange of its word from 0 to the pass's number. True where the
+    /// turn is then the pass's.
     pub(crate) fn take_turn(&self, seat: &mut Token<A>, number: u32) -> bool
         requires own { seat.old.table_id ≡ self.now }
         requires wide { self.now.words ≡ table_words seat.old.me.0.rows }
@@ -129,7 +134,8 @@ impl<A: Allocator + Copy> Board<A> {
 
     /// Gives the turn back: one store of 0 to its word.
     ///
-    /// The desk in the slot has to say of each record that was not found drained, that its version reaches the same rows as when the turn was taken.
+    /// The desk in the slot has to say of each record that was not found drained, that its version
+    /// reaches the same rows as when the turn was taken.
     pub(crate) fn give_turn(&self, seat: &mut Token<A>)
         requires own { seat.old.table_id ≡ self.now }
         requires wide { self.now.words ≡ table_words seat.old.me.0.rows }

@@ -1,6 +1,7 @@
 //! Where the words of a table lie, and how many there are.
 //!
-//! Word 0 is the turn, and word 1 names the current record. Then come a word DONE for each of the most records that a table can have, the words of these records, and the words of the rows.
+//! Word 0 is the turn, and word 1 names the current record. Then come a word DONE for each of the
+//! most records that a table can have, the words of these records, and the words of the rows.
 ghost use Rattle.std.specs.Prelude.{◌≡◌, ◌<◌};
 ghost use Rattle.mst_words.specs.Layout.{record_word, row_word, table_words};
 
@@ -10,7 +11,8 @@ pub const MOST_PASSES: u32 = 32;
 /// The most records that a table has: one for each pass, and two more.
 pub const MOST_RECORDS: usize = 34;
 
-/// How many words a record has: the number of its version, the link of its root, and the four words of its root digest.
+/// How many words a record has: the number of its version, the link of its root, and the four words
+/// of its root digest.
 pub const RECORD_WORDS: usize = 6;
 
 /// How many words a row has.

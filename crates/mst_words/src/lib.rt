@@ -1,4 +1,5 @@
-//! The table that the passes of a store share without locks: its words, its rule, and one call for each atomic step.
+//! The table that the passes of a store share without locks: its words, its rule, and one call for
+//! each atomic step.
 //!
 //! ```
 //! let desk = Desk::new(alloc, 16, 4, 0)?;
@@ -15,9 +16,12 @@
 //! reader.unpin(1, record);
 //! ```
 //!
-//! A seat carries what its pass knows, in contracts alone: of each step they say what the pass may know before it and what it then knows. The rule that all steps keep is in `specs/Rule.antt`, the words in `specs/Layout.antt`.
+//! A seat carries what its pass knows, in contracts alone: of each step they say what the pass may
+//! know before it and what it then knows. The rule that all steps keep is in `specs/Rule.antt`, the
+//! words in `specs/Layout.antt`.
 //!
-//! The steps are put together in `mst_store`: nothing here decides which comes next, loops, waits, or takes memory once the table is open.
+//! The steps are put together in `mst_store`: nothing here decides which comes next, loops, waits,
+//! or takes memory once the table is open.
 #![tactic(auto)]
 
 mod board;

@@ -1,4 +1,5 @@
-//! How passes learn what others have seen: a look at the whole history, and notes that go from seat to seat. Each call is one load of a word, at any time: the turn may be free or taken.
+//! How passes learn what others have seen: a look at the whole history, and notes that go from seat
+//! to seat. Each call is one load of a word, at any time: the turn may be free or taken.
 ghost use Rattle.std.specs.Prelude.{◌≡◌, [], false};
 ghost use Rattle.mst_key.specs.History.{IsPrefix};
 ghost use Rattle.mst_words.specs.Layout.{table_words};
@@ -79,7 +80,8 @@ impl<A: Allocator + Copy> Board<A> {
         self.table.shared.load::<SeeAll>(seat, CURRENT);
     }
 
-    /// Sees the history that a note told of, and no more. It has to begin with what the seat has seen.
+    /// Sees the history that a note told of, and no more. It has to begin with what the seat has
+    /// seen.
     pub(crate) fn see_told(&self, seat: &mut Token<A>)
         requires own { seat.old.table_id ≡ self.now }
         requires wide { self.now.words ≡ table_words seat.old.me.0.rows }

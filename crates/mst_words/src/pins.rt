@@ -19,14 +19,16 @@ fn bit_of(number: u32) -> u64
 }
 
 impl<A: Allocator + Copy> Board<A> {
-    /// Pins the current record: one xor of the pass's bit into the word of the current record. It answers the record.
+    /// Pins the current record: one xor of the pass's bit into the word of the current record. It
+    /// answers the record.
     pub(crate) fn pin(&self, seat: &mut Token<A>, number: u32) -> u32
         requires own { seat.old.table_id ≡ self.now }
         requires wide { self.now.words ≡ table_words seat.old.me.0.rows }
         requires free { IsFree number seat.old.me }
         requires few { number ≤ most_passes }
         ensures same { (seat.new.table_id ≡ seat.old.table_id) × (seat.new.id ≡ seat.old.id) }
-        ensures pinned { (found : ℕ) × (p : PinsNow stored seat.old.me found seat.new.me) × (p.cur ≡ result) }
+        ensures pinned { (found : ℕ) × (p : PinsNow stored seat.old.me found seat.new.me)
+            × (p.cur ≡ result) }
     {
         let found = self
             .table
@@ -35,7 +37,8 @@ impl<A: Allocator + Copy> Board<A> {
         (found >> 32) as u32
     }
 
-    /// Ends the pin: one xor of the pass's bit into the record's word DONE. The pass has then seen the history at its pin.
+    /// Ends the pin: one xor of the pass's bit into the record's word DONE. The pass has then seen
+    /// the history at its pin.
     pub(crate) fn unpin(&self, seat: &mut Token<A>, number: u32, which: u32)
         requires own { seat.old.table_id ≡ self.now }
         requires wide { self.now.words ≡ table_words seat.old.me.0.rows }
@@ -72,7 +75,8 @@ impl<A: Allocator + Copy> Board<A> {
         requires own { seat.old.table_id ≡ self.now }
         requires there { word < self.now.words }
         requires readable { IsReadable seat.old.me.0 word }
-        ensures same { (seat.new.table_id ≡ seat.old.table_id) × (seat.new.id ≡ seat.old.id) × (seat.new.me ≡ seat.old.me) }
+        ensures same { (seat.new.table_id ≡ seat.old.table_id) × (seat.new.id ≡ seat.old.id)
+            × (seat.new.me ≡ seat.old.me) }
         ensures value { result ≡ slice_index seat.old.me.0.held word }
     {
         self.table.shared.load::<Read>(seat, word)
@@ -87,9 +91,12 @@ fn low_half(word: u64) -> u32
 }
 
 impl<A: Allocator + Copy> Board<A> {
-    /// For tests: the passes that pin a record, by what the words say; pass p has bit p - 1. It takes no seat, and nothing is proved of its answer.
+    /// For tests: the passes that pin a record, by what the words say; pass p has bit p - 1. It
+    /// takes no seat, and nothing is proved of its answer.
     ///
-    /// It loads two words, one after the other, so it tells the pins of one moment only while no pass makes a step. Between a publication and its transfer the mask of the old record stands in no word, and the answer for that record lacks it.
+    /// It loads two words, one after the other, so it tells the pins of one moment only while no
+    /// pass makes a step. Between a publication and its transfer the mask of the old record stands
+    /// in no word, and the answer for that record lacks it.
     pub fn pins(&self, which: u32) -> u32
         requires there { which < most_records }
         requires wide { first_row ≤ self.now.words }

@@ -70,7 +70,8 @@ impl<A: Allocator> Play<Option<Desk<A>>, View> for Write {
     ghost then = { writes };
 }
 
-/// Which event a publication adds to the history, and what the desk then knows. Each call that publishes picks them.
+/// Which event a publication adds to the history, and what the desk then knows. Each call that
+/// publishes picks them.
 pub trait Naming {
     ghost use Rattle.mst_key.specs.declared.history.Event.{Event};
     ghost use Rattle.mst_words.specs.declared.view.DeskState.{DeskState};

@@ -20,7 +20,10 @@ impl<A: Allocator + Copy> Board<A> {
         requires holder { IsHolder seat.old.me }
         requires writable { IsWritable stored seat.old.me.0 word }
         ensures same { (seat.new.table_id ≡ seat.old.table_id) × (seat.new.id ≡ seat.old.id) }
-        ensures written { seat.new.me ≡ (record seat.old.me.0 { held = slice_set seat.old.me.0.held word value }, seat.old.me.1) }
+        ensures written { seat.new.me ≡ (
+          record seat.old.me.0 { held = slice_set seat.old.me.0.held word value },
+          seat.old.me.1,
+        ) }
     {
         self.table.shared.store::<Write>(seat, word, value);
     }
@@ -44,7 +47,8 @@ impl<A: Allocator + Copy> Board<A> {
             == 0
     }
 
-    /// Publishes a drained record: one swap of the word of the current record, with an empty mask. It answers the word that was there: the record that was current, and the mask of its pins.
+    /// Publishes a drained record: one swap of the word of the current record, with an empty mask.
+    /// It answers the word that was there: the record that was current, and the mask of its pins.
     pub(crate) fn publish<J: Naming>(
         &self,
         seat: &mut Token<A>,
@@ -55,9 +59,11 @@ impl<A: Allocator + Copy> Board<A> {
         requires own { seat.old.table_id ≡ self.now }
         requires wide { self.now.words ≡ table_words seat.old.me.0.rows }
         requires named { (J.event ≡ event.now) × (J.desk ≡ desk_state desk.now) }
-        requires ready { (used : List ℕ) × IsReady stored into event.now (desk_state desk.now) used seat.old.me.0 }
+        requires ready { (used : List ℕ)
+            × IsReady stored into event.now (desk_state desk.now) used seat.old.me.0 }
         ensures same { (seat.new.table_id ≡ seat.old.table_id) × (seat.new.id ≡ seat.old.id) }
-        ensures published { Publishes event.now (desk_state desk.now) seat.old.me result seat.new.me }
+        ensures published { Publishes event.now
+            (desk_state desk.now) seat.old.me result seat.new.me }
     {
         self.table
             .shared
@@ -69,7 +75,8 @@ impl<A: Allocator + Copy> Board<A> {
         requires own { seat.old.table_id ≡ self.now }
         requires wide { self.now.words ≡ table_words seat.old.me.0.rows }
         requires there { old < most_records }
-        requires due { (seat.old.me.0.turn ≡ true) × (seat.old.me.0.due ≡ Some old) × (mask ≡ seat.old.me.0.mask) }
+        requires due { (seat.old.me.0.turn ≡ true) × (seat.old.me.0.due ≡ Some old)
+            × (mask ≡ seat.old.me.0.mask) }
         ensures same { (seat.new.table_id ≡ seat.old.table_id) × (seat.new.id ≡ seat.old.id) }
         ensures settled { Transfers seat.old.me seat.new.me }
     {
@@ -89,7 +96,8 @@ impl<A: Allocator + Copy> Board<A> {
         self.table.shared.load::<NoteCurrent>(seat, CURRENT)
     }
 
-    /// Loads the current record's own word DONE. In a store of one pass it is the mask that was noted; of a larger store nothing is said.
+    /// Loads the current record's own word DONE. In a store of one pass it is the mask that was
+    /// noted; of a larger store nothing is said.
     pub(crate) fn ask_current(&self, seat: &mut Token<A>, current: u32) -> u64
         requires own { seat.old.table_id ≡ self.now }
         requires wide { self.now.words ≡ table_words seat.old.me.0.rows }

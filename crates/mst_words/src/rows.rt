@@ -40,11 +40,13 @@ impl<'a, A: Allocator + Copy> PassSeat<'a, A> {
         words
     }
 
-    // The order of what was compared before, and where that is the same, of a number and word k of a row: one load at most.
+    // The order of what was compared before, and where that is the same, of a number and word k of
+    // a row: one load at most.
     fn next_order(&mut self, before: Ordering, number: u64, row: u32, k: usize) -> Ordering
         requires readable { may_read self.old.me.0 row ≡ true }
         requires there { k < row_words }
-        ensures order { result ≡ ordering_then before (nat_cmp number (records.row self.old.me.0.held row k)) }
+        ensures order { result ≡ ordering_then before
+            (nat_cmp number (records.row self.old.me.0.held row k)) }
         ensures same { self.new ≡ self.old }
     {
         match before {
@@ -54,10 +56,12 @@ impl<'a, A: Allocator + Copy> PassSeat<'a, A> {
         }
     }
 
-    // The order of what was compared before, and where that is the same, of a length and that of the key of a row.
+    // The order of what was compared before, and where that is the same, of a length and that of
+    // the key of a row.
     fn length_order(&mut self, before: Ordering, len: u64, row: u32) -> Ordering
         requires readable { may_read self.old.me.0 row ≡ true }
-        ensures order { result ≡ ordering_then before (nat_cmp len (records.row self.old.me.0.held row 3 % 256)) }
+        ensures order { result ≡ ordering_then before
+            (nat_cmp len (records.row self.old.me.0.held row 3 % 256)) }
         ensures same { self.new ≡ self.old }
     {
         match before {
@@ -83,11 +87,17 @@ impl<'a, A: Allocator + Copy> PassSeat<'a, A> {
         self.length_order(order, key.len(), row)
     }
 
-    // Makes word k of a blank row this one: one load, and a store where another word stands there, since a store costs some twenty times as much as a load.
+    // Makes word k of a blank row this one: one load, and a store where another word stands there,
+    // since a store costs some twenty times as much as a load.
     fn store_word(&mut self, row: u32, k: usize, value: u64)
         requires blank { IsTrue (is_blank self.old.me.0 row) }
         requires there { k < row_words }
-        ensures stored { self.new ≡ record self.old { me = (record self.old.me.0 { held = slice_set self.old.me.0.held (row_word row k) value }, self.old.me.1) } }
+        ensures stored { self.new ≡ record self.old {
+          me = (
+            record self.old.me.0 { held = slice_set self.old.me.0.held (row_word row k) value },
+            self.old.me.1,
+          );
+        } }
         ensures wide { row_word row 15 < length self.old.me.0.held }
     {
         if self.word(row, k) != value {

@@ -21,7 +21,9 @@ use std::marker::Model;
 
 /// A pass's seat at the table. It may go to another thread, and each of its steps is one thread's.
 ///
-/// It is the pass's access to the rows too (`mst_arena::Rows`): a pinned pass may read the rows that stand for its version; the holder of the turn may read every row, and write those that no version reaches but of records that it found drained.
+/// It is the pass's access to the rows too (`mst_arena::Rows`): a pinned pass may read the rows
+/// that stand for its version; the holder of the turn may read every row, and write those that no
+/// version reaches but of records that it found drained.
 #[derive(Drop)]
 pub struct PassSeat<'a, A: Allocator + Copy> {
     pub(crate) board: &'a Board<A>,
@@ -58,7 +60,8 @@ impl<A: Allocator + Copy> Board<A> {
 }
 
 impl<'a, A: Allocator + Copy> PassSeat<'a, A> {
-    /// Takes the turn: one compare-exchange of its word from 0 to the pass's number. True where the turn is then the pass's.
+    /// Takes the turn: one compare-exchange of its word from 0 to the pass's number. True where the
+    /// turn is then the pass's.
     pub fn take_turn(&mut self, number: u32) -> bool
         requires free { IsFree number self.old.me }
         ensures same { IsSameSeat self.old self.new }
@@ -89,7 +92,8 @@ impl<'a, A: Allocator + Copy> PassSeat<'a, A> {
 
     /// Gives the turn back: one store of 0 to its word.
     ///
-    /// The desk in the slot has to say of each record that was not found drained, that its version reaches the same rows as when the turn was taken.
+    /// The desk in the slot has to say of each record that was not found drained, that its version
+    /// reaches the same rows as when the turn was taken.
     pub fn give_turn(&mut self)
         requires giving { (x : Option State) × (d : DeskState) × IsGiving stored x d self.old.me }
         ensures same { IsSameSeat self.old self.new }
@@ -100,17 +104,20 @@ impl<'a, A: Allocator + Copy> PassSeat<'a, A> {
 }
 
 impl<'a, A: Allocator + Copy> PassSeat<'a, A> {
-    /// Pins the current record: one xor of the pass's bit into the word of the current record. It answers the record.
+    /// Pins the current record: one xor of the pass's bit into the word of the current record. It
+    /// answers the record.
     pub fn pin(&mut self, number: u32) -> u32
         requires free { IsFree number self.old.me }
         requires few { number ≤ most_passes }
         ensures same { IsSameSeat self.old self.new }
-        ensures pinned { (found : ℕ) × (p : PinsNow stored self.old.me found self.new.me) × (p.cur ≡ result) }
+        ensures pinned { (found : ℕ) × (p : PinsNow stored self.old.me found self.new.me)
+            × (p.cur ≡ result) }
     {
         self.board.pin(&mut self.token, number)
     }
 
-    /// Ends the pin: one xor of the pass's bit into the record's word DONE. The pass has then seen the history at its pin.
+    /// Ends the pin: one xor of the pass's bit into the record's word DONE. The pass has then seen
+    /// the history at its pin.
     pub fn unpin(&mut self, number: u32, which: u32)
         requires pinned { IsPinned number which self.old.me }
         requires some { 0 < number }
@@ -151,7 +158,10 @@ impl<'a, A: Allocator + Copy> PassSeat<'a, A> {
         requires there { word < table_words self.old.me.0.rows }
         requires holder { IsHolder self.old.me }
         requires writable { IsWritable stored self.old.me.0 word }
-        ensures written { self.new ≡ record self.old { me = (record self.old.me.0 { held = slice_set self.old.me.0.held word value }, self.old.me.1) } }
+        ensures written { self.new ≡ record self.old {
+          me =
+              (record self.old.me.0 { held = slice_set self.old.me.0.held word value }, self.old.me.1);
+        } }
     {
         self.board.write(&mut self.token, word, value)
     }
@@ -170,12 +180,15 @@ impl<'a, A: Allocator + Copy> PassSeat<'a, A> {
         self.board.ask(&mut self.token, which)
     }
 
-    /// Publishes a drained record: one swap of the word of the current record, with an empty mask. It answers the word that was there: the record that was current, and the mask of its pins.
+    /// Publishes a drained record: one swap of the word of the current record, with an empty mask.
+    /// It answers the word that was there: the record that was current, and the mask of its pins.
     pub fn publish<J: Naming>(&mut self, into: u32, event: &Event, desk: &Desk<A>) -> u64
         requires named { (J.event ≡ event.now) × (J.desk ≡ desk_state desk.now) }
-        requires ready { (used : List ℕ) × IsReady stored into event.now (desk_state desk.now) used self.old.me.0 }
+        requires ready { (used : List ℕ)
+            × IsReady stored into event.now (desk_state desk.now) used self.old.me.0 }
         ensures same { IsSameSeat self.old self.new }
-        ensures published { Publishes event.now (desk_state desk.now) self.old.me result self.new.me }
+        ensures published { Publishes event.now
+            (desk_state desk.now) self.old.me result self.new.me }
     {
         self.board.publish::<J>(&mut self.token, into, event, desk)
     }
@@ -183,7 +196,8 @@ impl<'a, A: Allocator + Copy> PassSeat<'a, A> {
     /// Moves the mask that a publication brought back into the old record's word DONE: one xor.
     pub fn transfer(&mut self, old: u32, mask: u64)
         requires there { old < most_records }
-        requires due { (self.old.me.0.turn ≡ true) × (self.old.me.0.due ≡ Some old) × (mask ≡ self.old.me.0.mask) }
+        requires due { (self.old.me.0.turn ≡ true) × (self.old.me.0.due ≡ Some old)
+            × (mask ≡ self.old.me.0.mask) }
         ensures same { IsSameSeat self.old self.new }
         ensures settled { Transfers self.old.me self.new.me }
     {
@@ -199,7 +213,9 @@ impl<'a, A: Allocator + Copy> PassSeat<'a, A> {
         self.board.note_current(&mut self.token)
     }
 
-    /// Loads the current record's own word DONE: one load. In a store of one pass it is the mask that was noted. In a larger store nothing is said of it, since others may pin the record and end their pins between the two loads.
+    /// Loads the current record's own word DONE: one load. In a store of one pass it is the mask
+    /// that was noted. In a larger store nothing is said of it, since others may pin the record and
+    /// end their pins between the two loads.
     pub fn ask_current(&mut self, current: u32) -> u64
         requires holder { IsHolder self.old.me }
         requires there { current < most_records }
@@ -221,7 +237,8 @@ impl<'a, A: Allocator + Copy> PassSeat<'a, A> {
         self.board.see_all(&mut self.token)
     }
 
-    /// Sees the history that a note told of, and no more: one load of the word of the current record. That history has to begin with what the seat has seen.
+    /// Sees the history that a note told of, and no more: one load of the word of the current
+    /// record. That history has to begin with what the seat has seen.
     pub fn see_told(&mut self)
         requires off { self.old.me.0.turn ≡ false }
         requires forward { IsPrefix self.old.me.0.seen self.old.me.0.told }
@@ -231,7 +248,8 @@ impl<'a, A: Allocator + Copy> PassSeat<'a, A> {
         self.board.see_told(&mut self.token)
     }
 
-    /// Writes a note of what the seat has seen: another seat at the table, which is no pass. It costs one load.
+    /// Writes a note of what the seat has seen: another seat at the table, which is no pass. It
+    /// costs one load.
     pub fn write_note(&mut self) -> PassSeat<'a, A>
         ensures kept { self.new ≡ self.old }
         ensures own { result.table ≡ self.old.table }
@@ -244,7 +262,8 @@ impl<'a, A: Allocator + Copy> PassSeat<'a, A> {
         }
     }
 
-    /// Hears a note: the seat is told of the history that the note's writer had seen. It costs one load.
+    /// Hears a note: the seat is told of the history that the note's writer had seen. It costs one
+    /// load.
     pub fn hear_note<J: Telling>(&mut self, note: PassSeat<'a, A>)
         requires own { note.table ≡ self.old.table }
         requires named { J.note ≡ note.me.0 }

@@ -15,7 +15,8 @@ const SMALL: Shape = Shape { rows: 4, passes: 2 };
 
 // A table for 4 rows and 2 passes, and the dealer's token.
 fn opened<A: Allocator + Copy>(alloc: A) -> Result<(Board<A>, Token<A>), Memory>
-    ensures ok { IfOk result (λ r. (r.1.table_id ≡ r.0) × (r.0.words ≡ table_words 4) × (r.1.me ≡ (dealer 4 2 1, []))) }
+    ensures ok { IfOk result (λ r. (r.1.table_id ≡ r.0) × (r.0.words ≡ table_words 4)
+        × (r.1.me ≡ (dealer 4 2 1, []))) }
 {
     let desk = Desk::new(alloc, SMALL.rows, SMALL.passes + 2, 0)?;
     Board::open(alloc, SMALL, desk)
@@ -109,7 +110,8 @@ fn a_note_is_heard_and_seen(rt: HostRuntime) -> Result<(), Fail> {
     Ok(())
 }
 
-// Whether a table of a heap of so many bytes is opened. If not, the answer is memory, and nothing is kept.
+// Whether a table of a heap of so many bytes is opened. If not, the answer is memory, and nothing
+// is kept.
 fn opens_in<R: Abort + AllocGlobal>(rt: &R, bytes: usize) -> bool {
     let Ok(heap) = LocalHeap::new(rt.alloc(), bytes) else {
         panic!(rt; "no memory")

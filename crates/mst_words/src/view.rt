@@ -41,7 +41,8 @@ pub struct View {
     pub place: LinkedList<Event>,
     /// The numbers of the rows that stand for the map of the pinned version.
     pub stood: LinkedList<u32>,
-    /// The words of the table as they were at the pin, or when the turn was taken and with what its holder has stored since.
+    /// The words of the table as they were at the pin, or when the turn was taken and with what its
+    /// holder has stored since.
     pub held: LinkedList<u64>,
     /// Whether the pass has the turn.
     pub turn: bool,
@@ -57,6 +58,9 @@ pub struct View {
     pub blocked: LinkedList<u32>,
     /// The word of the current record, as the holder of the turn has noted it.
     pub noted: Option<u64>,
-    /// How many steps of the seat had an answer that depends on what other passes do: a try of the turn, a pin, a publication, a load of the word of the current record, a question to a record, and a note that was heard. No part of the rule speaks of it, and no other step changes it.
+    /// How many steps of the seat had an answer that depends on what other passes do: a try of the
+    /// turn, a pin, a publication, a load of the word of the current record, a question to a
+    /// record, and a note that was heard. No part of the rule speaks of it, and no other step
+    /// changes it.
     pub asked: u64,
 }

@@ -36,12 +36,16 @@ fn zeros<A: Allocator>(alloc: A, count: usize) -> Result<Vec<u64, A>, Memory>
     Ok(words)
 }
 
-/// The words of a table with so many rows: all of them 0, but for the digest in record 0, which is that of the empty text. `Memory` comes where the growth was refused.
+/// The words of a table with so many rows: all of them 0, but for the digest in record 0, which is
+/// that of the empty text. `Memory` comes where the growth was refused.
 pub(crate) fn first_words<A: Allocator>(alloc: A, rows: u32) -> Result<Vec<u64, A>, Memory>
     requires few { rows ≤ 65535 }
     ensures long { IfOk result (λ v. length v.items ≡ table_words rows) }
     ensures front { IfOk result (λ v. (i : ℕ) → i < record_word 0 2 → slice_index v.items i ≡ 0) }
-    ensures digest { IfOk result (λ v. bytes_in (field v.items 0 2 ∷ field v.items 0 3 ∷ field v.items 0 4 ∷ field v.items 0 5 ∷ []) ≡ digest_of []) }
+    ensures digest { IfOk result
+        (λ v. bytes_in
+        (field v.items 0 2 ∷ field v.items 0 3 ∷ field v.items 0 4 ∷ field v.items 0 5 ∷ [])
+        ≡ digest_of []) }
 {
     let [a, b, c, d] = empty_digest_words();
     let mut words = zeros(alloc, table_words(rows))?;

@@ -11,7 +11,8 @@ const SCRIPT: &[u8] = b"1 put 61 31\n2 get 61\n1 frob\n3 put 61 -\n4 get 61";
 
 const ANSWERS: &[u8] = b"none\nsome 31\nfault L3\nsome 31\nsome -\n";
 
-/// The report of a load of one call: the digest is the SHA-256 of the text of the node that has the key 0101 with the value 00000001.
+/// The report of a load of one call: the digest is the SHA-256 of the text of the node that has the
+/// key 0101 with the value 00000001.
 const ONE_CALL_EACH: &str = "events 1
 falls 0
 root d67d0c748b5dfcf53175350f0cc336e4b706fbc761243e4b7056b5b010063223
@@ -40,7 +41,8 @@ impl<'a> Read for Reader<'a> {
     }
 }
 
-/// Writes at most so many bytes at a time, and fails after so many writes: by a write of 0 or an error.
+/// Writes at most so many bytes at a time, and fails after so many writes: by a write of 0 or an
+/// error.
 #[derive(Drop)]
 struct Writer {
     bytes: Vec<u8>,
@@ -243,7 +245,8 @@ fn devices_of_a_proof_fail(rt: HostRuntime) -> Result<(), Fail> {
     Ok(())
 }
 
-// With a write that fails in any of the four lines of a load's report, what was written is a beginning of them.
+// With a write that fails in any of the four lines of a load's report, what was written is a
+// beginning of them.
 #[test]
 fn devices_of_a_load_fail(rt: HostRuntime) -> Result<(), Fail> {
     let lines = ONE_CALL_EACH.as_bytes();

@@ -28,21 +28,24 @@ fn outcome_at<R: Threads + Wait + AllocGlobal + Sync>(
     outcome_with(rt, options.as_slice())
 }
 
-/// The report of two writers that make 1,000 calls each. The digest was computed apart from the program, of the map that these calls leave.
+/// The report of two writers that make 1,000 calls each. The digest was computed apart from the
+/// program, of the map that these calls leave.
 const TWO_WRITERS: &str = "events 2000
 falls 0
 root ff477271f5f4cfa7df2b76a1e09ed4502155b09e632811107c463f3ac731ba33
 built ff477271f5f4cfa7df2b76a1e09ed4502155b09e632811107c463f3ac731ba33
 ";
 
-/// The report of one writer that makes one call. The digest is the SHA-256 of the text of the node that has the key 0101 with the value 00000001.
+/// The report of one writer that makes one call. The digest is the SHA-256 of the text of the node
+/// that has the key 0101 with the value 00000001.
 const ONE_CALL: &str = "events 1
 falls 0
 root d67d0c748b5dfcf53175350f0cc336e4b706fbc761243e4b7056b5b010063223
 built d67d0c748b5dfcf53175350f0cc336e4b706fbc761243e4b7056b5b010063223
 ";
 
-/// The report of eight writers that make one call each, with a digest that was computed apart from the program.
+/// The report of eight writers that make one call each, with a digest that was computed apart from
+/// the program.
 const EIGHT_WRITERS: &str = "events 8
 falls 0
 root 753e94d5429eea012fc882d05f6cc60f5569dc2a50236500dfe4d8bcf34df486

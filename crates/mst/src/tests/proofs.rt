@@ -38,7 +38,8 @@ fn compare<R: Abort + Threads + Wait + AllocGlobal + Sync>(
     Ok(())
 }
 
-/// That proof without its last byte, with a byte more, and with another first and another eighth byte: the version, and the layer.
+/// That proof without its last byte, with a byte more, and with another first and another eighth
+/// byte: the version, and the layer.
 const CUT_SHORT: &str = "01010000001101000002000161013100036162630178";
 
 const LEFT_OVER: &str = "010100000011010000020001610131000361626301780000";

@@ -35,7 +35,8 @@ fn scripts_are_answered(rt: HostRuntime) -> Result<(), Fail> {
     Ok(())
 }
 
-// Six rows hold the node of two keys, and three more for a change of it, but not four for a third key.
+// Six rows hold the node of two keys, and three more for a change of it, but not four for a third
+// key.
 #[test]
 fn rows_run_out(rt: HostRuntime) -> Result<(), Fail> {
     let script =
@@ -47,7 +48,8 @@ fn rows_run_out(rt: HostRuntime) -> Result<(), Fail> {
     Ok(())
 }
 
-// A pinned version in the least stores that serve the script, and in one where its rows leave no room.
+// A pinned version in the least stores that serve the script, and in one where its rows leave no
+// room.
 #[test]
 fn pins_are_answered(rt: HostRuntime) -> Result<(), Fail> {
     let rows: [(&[&str], &[u8], &str); 3] = [

@@ -189,7 +189,8 @@ const SHORT_ROOT: &str = "b0c44298fc1c149afbf4c8996fb92427ae41e4649b934ca495991b
 
 const LONGEST_KEY: &str = "000102030405060708090a0b0c0d0e0f101112131415161718191A1B1C1D1E1F";
 
-// The words behind `verify`, the status, and what stands on the two outputs where the input is the proof of the empty map.
+// The words behind `verify`, the status, and what stands on the two outputs where the input is the
+// proof of the empty map.
 #[test]
 fn words_of_verify_are_read(rt: HostRuntime) -> Result<(), Fail> {
     let rows: [(&[&str], u8, &str, &str); 20] = [

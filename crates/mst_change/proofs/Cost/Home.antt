@@ -1,4 +1,5 @@
--- Where a node stands in a tree: each key stands in one node, so a node is found again by any key of its own.
+-- Where a node stands in a tree: each key stands in one node, so a node is found again by any key
+-- of its own.
 use Rattle.std.proofs.Common.{◌≡◌, ℕ, ◌<◌, ◌≤◌, length, length-append, arith, ◌⊎◌, inl, inr, List, ◌∷◌, refl, sym, ap, subst, ◌∙◌, Less, Equal, Greater}
 use Rattle.std.specs.List.{AllByRecursion}
 use Rattle.mst_key.specs.declared.format.Format.{Format}

@@ -1,4 +1,5 @@
--- The parts of a tree below and above a key: they are search trees, with the pairs below and above it.
+-- The parts of a tree below and above a key: they are search trees, with the pairs below and above
+-- it.
 use Rattle.std.proofs.Common.{◌≡◌, ℕ, List, [], ◌∷◌, ◌++◌, refl, sym, ap, ◌∙◌}
 use Rattle.mst_key.specs.declared.format.Format.{Format}
 use Rattle.mst_key.specs.Map.{Pair, IsAscending}

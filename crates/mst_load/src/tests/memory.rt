@@ -1,4 +1,5 @@
-//! Growths that are refused, one after another: the threads that were started have returned all the same.
+//! Growths that are refused, one after another: the threads that were started have returned all the
+//! same.
 use crate::{Gate, LoadFault, load};
 use linked_list_allocator::LocalHeap;
 use std::hint;
@@ -29,10 +30,12 @@ impl Gate for Tally {
     }
 }
 
-/// How many calls each worker makes: few, so that the list of what they leave takes no more than the lists of passes and threads.
+/// How many calls each worker makes: few, so that the list of what they leave takes no more than
+/// the lists of passes and threads.
 const CALLS: u32 = 3;
 
-// A heap of each size: too small for one growth after another, and then large enough for all. Each worker that made a call has made all of its calls.
+// A heap of each size: too small for one growth after another, and then large enough for all. Each
+// worker that made a call has made all of its calls.
 #[test]
 fn growths_are_refused(rt: HostRuntime) -> Result<(), Fail> {
     let mut stopped_early = false;

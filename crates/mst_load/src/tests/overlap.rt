@@ -1,4 +1,5 @@
-//! That the workers run at once: two of them wait for each other between the beginning and the end of their first calls.
+//! That the workers run at once: two of them wait for each other between the beginning and the end
+//! of their first calls.
 use crate::{Gate, load};
 use std::hint;
 use std::sync::atomic::Ordering::SeqCst;
@@ -8,7 +9,8 @@ use std::test::Fail;
 /// How many turns a worker is held at most.
 const TURNS: u32 = 50_000_000;
 
-/// Holds the first call of each of two workers until both have entered it, and that of the first worker also until that of the second is answered. A hold gives up in the end, and is counted.
+/// Holds the first call of each of two workers until both have entered it, and that of the first
+/// worker also until that of the second is answered. A hold gives up in the end, and is counted.
 ///
 /// Workers that run one after the other or in turns, on one thread, meet a hold that nobody ends.
 #[derive(Drop)]

@@ -1,6 +1,10 @@
-//! What the reads take of the rows: a range no more than its limit needs, a look-up and a next pair one path.
+//! What the reads take of the rows: a range no more than its limit needs, a look-up and a next pair
+//! one path.
 //!
-//! The rows are of 300 pairs in three layers, with the numbers in three bytes as keys. The counts were worked out apart, from the layers of these keys (Python's hashlib): the head of each node that is met, its entries up to the one that ends the search in it, and the value of each pair of the answer.
+//! The rows are of 300 pairs in three layers, with the numbers in three bytes as keys. The counts
+//! were worked out apart, from the layers of these keys (Python's hashlib): the head of each node
+//! that is met, its entries up to the one that ends the search in it, and the value of each pair of
+//! the answer.
 use crate::counted::Reads;
 use crate::planting::numbered;
 use crate::standing::StandingMap;

@@ -12,7 +12,8 @@ use std::alloc::Global;
 use std::process::Abort;
 use std::test::Fail;
 
-/// Whether two texts among those of the proof and of the tree of the pairs collide. Of no pairs there are none.
+/// Whether two texts among those of the proof and of the tree of the pairs collide. Of no pairs
+/// there are none.
 fn collides(alloc: Global, pairs: &[(Key, Value)], key: &Key, proof: &[u8]) -> Result<bool, Memory>
     requires few { length pairs.now ≤ 65535 }
     requires map { IsMap pairs.now }
@@ -27,7 +28,8 @@ fn collides(alloc: Global, pairs: &[(Key, Value)], key: &Key, proof: &[u8]) -> R
     Ok(pair.is_some())
 }
 
-/// Asks the map of these pairs for all that takes memory: each pair in one range, the proof for a key in its middle and for one that it lacks, and whether that one collides with its tree.
+/// Asks the map of these pairs for all that takes memory: each pair in one range, the proof for a
+/// key in its middle and for one that it lacks, and whether that one collides with its tree.
 fn asks_all(rt: &impl Abort, alloc: Global, pairs: &[(Key, Value)], rows: u32) -> Result<(), Fail> {
     assert!(rt; pairs.len() <= 65_535);
     assert!(rt; is_map(pairs));
@@ -55,7 +57,8 @@ fn each_size_up_to_2000(rt: HostRuntime) -> Result<(), Fail> {
     Ok(())
 }
 
-/// Pairs of keys of layer 0 alone, which stand in one node, with values of 64 bytes: the numbers below the end in three bytes that have this layer.
+/// Pairs of keys of layer 0 alone, which stand in one node, with values of 64 bytes: the numbers
+/// below the end in three bytes that have this layer.
 fn pairs_of_one_node(alloc: Global, end: u32) -> Result<Vec<(Key, Value)>, Fail> {
     let mut pairs = Vec::new(alloc);
     for i in 0..end {

@@ -24,7 +24,8 @@ impl<'a> Read for Reader<'a> {
     }
 }
 
-/// Writes at most so many bytes at a time, and fails after so many writes: by a write of 0 or an error.
+/// Writes at most so many bytes at a time, and fails after so many writes: by a write of 0 or an
+/// error.
 #[derive(Drop)]
 pub struct Writer {
     pub bytes: Vec<u8>,

@@ -19,7 +19,8 @@ const ANSWERS: &[u8] = b"none\nnone\npairs 2\npair 61 31\npair 616263 78\nfault 
 
 const NO_MEMORY: &[u8] = b"none\nnone\nmemory\nfault L3\nsome 31\n";
 
-// What the script is answered where such a heap gives the memory of the run; none where that is too small for the start.
+// What the script is answered where such a heap gives the memory of the run; none where that is too
+// small for the start.
 fn answers_in_heap(
     rt: &impl Abort,
     alloc: Global,
@@ -39,7 +40,8 @@ fn answers_in_heap(
     }
 }
 
-// A heap of each size: too small for the start, then for the pairs of the range alone, and then large enough for all.
+// A heap of each size: too small for the start, then for the pairs of the range alone, and then
+// large enough for all.
 #[test]
 fn growths_are_refused(rt: HostRuntime) -> Result<(), Fail> {
     let mut at_start = false;
@@ -73,7 +75,8 @@ const NO_NODE: &[u8] = b"none\n01010000000a01000001000161013100\nmemory\nsome 31
 
 const NO_PROOF: &[u8] = b"none\nmemory\nmemory\nsome 31\n";
 
-// A heap that is large enough for the start, too small for a proof at first, and then large enough for all.
+// A heap that is large enough for the start, too small for a proof at first, and then large enough
+// for all.
 #[test]
 fn proofs_are_refused(rt: HostRuntime) -> Result<(), Fail> {
     let mut refused = false;
@@ -104,7 +107,8 @@ const TOP: &str =
 const PROOF: &str =
     "01020000004b01010001017dfdf041db1f9c4de0e5e646a376510cfb7c4e47760ef8f74cb3181b74c061e6023339017901d2c0950048c47bae86f8557f6e7357048963954bbb6f1328ea6cc19d8898c5d80000000a01000001000131017800";
 
-// What a read of a pinned version finds, in heaps of rising size: refused memory, which the next line does not notice, and then the whole.
+// What a read of a pinned version finds, in heaps of rising size: refused memory, which the next
+// line does not notice, and then the whole.
 #[test]
 fn reads_under_a_pin_are_refused(rt: HostRuntime) -> Result<(), Fail> {
     for (line, found) in [
@@ -144,7 +148,8 @@ const PIN: &[u8] = b"1 pin\n1 get 61\n1 unpin\n1 put 61 31\n1 pin\n1 get 61\n";
 
 const OF_PIN: &[u8] = b"pinned 0\nnone\nunpinned\nnone\npinned 1\nsome 31\n";
 
-// Whether a run of so many passes starts where such a heap gives its memory. If not, nothing was read, written or changed: the same passes then serve the same devices. If so, pins take no more.
+// Whether a run of so many passes starts where such a heap gives its memory. If not, nothing was
+// read, written or changed: the same passes then serve the same devices. If so, pins take no more.
 fn starts_in(rt: &impl Abort, alloc: Global, bytes: usize, passes: u32) -> Result<bool, Fail> {
     let heap = LocalHeap::new(alloc, bytes)?;
     let Ok((store, seats)) = Store::open(alloc, Shape { rows: 4, passes }) else {
@@ -180,7 +185,8 @@ fn least_heap(rt: &impl Abort, alloc: Global, passes: u32) -> Result<usize, Fail
     Ok(0)
 }
 
-// The growths of the start, one after another: those for lines and answers, and the last for passes with a pin.
+// The growths of the start, one after another: those for lines and answers, and the last for passes
+// with a pin.
 #[test]
 fn growths_at_the_start_are_refused(rt: HostRuntime) -> Result<(), Fail> {
     for step in 1..=64 {

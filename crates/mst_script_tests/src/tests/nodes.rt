@@ -50,7 +50,8 @@ const THREE_PUTS: &str = "1 put 31 78\n1 put 61 7a\n1 put 3339 79\n";
 const TOP: &str =
     "01010001017dfdf041db1f9c4de0e5e646a376510cfb7c4e47760ef8f74cb3181b74c061e6023339017901d2c0950048c47bae86f8557f6e7357048963954bbb6f1328ea6cc19d8898c5d8";
 
-// A key of a higher layer stands above the others, in a text of more bytes than are spelt at a time.
+// A key of a higher layer stands above the others, in a text of more bytes than are spelt at a
+// time.
 #[test]
 fn proofs_go_down(rt: HostRuntime) -> Result<(), Fail> {
     let script = format!(in rt.alloc();

@@ -2,7 +2,8 @@
 use super::each_is_answered;
 use std::test::Fail;
 
-// Beside the rows of the map that stands, a write takes a row for each entry and for each node that it makes new.
+// Beside the rows of the map that stands, a write takes a row for each entry and for each node that
+// it makes new.
 #[test]
 fn writes_take_rows(rt: HostRuntime) -> Result<(), Fail> {
     let scripts = [

@@ -1,4 +1,6 @@
-//! Two passes that each pin and end their pin, and a third that puts twice, in each of the 90 orders in which these calls can come. The answers are those of the plain list of the puts, and after each call the words say the pins of a core of pins that is fed the same events.
+//! Two passes that each pin and end their pin, and a third that puts twice, in each of the 90
+//! orders in which these calls can come. The answers are those of the plain list of the puts, and
+//! after each call the words say the pins of a core of pins that is fed the same events.
 use crate::{Pass, Pinned, Shape, Store};
 use mst_key::{Key, Value};
 use mst_pin::{Answer, Core, Event};
@@ -13,7 +15,8 @@ enum Place<'a> {
     Held(Pinned<'a, Global>),
 }
 
-/// A pass that pins; while it does, the record that the core answered, and how many puts its version has.
+/// A pass that pins; while it does, the record that the core answered, and how many puts its
+/// version has.
 #[derive(Drop)]
 struct Pinner<'a> {
     number: u8,
@@ -21,7 +24,8 @@ struct Pinner<'a> {
     held: Option<(u8, u8)>,
 }
 
-/// The passes, and the core that is fed what they do. The current version has so many puts, and this record.
+/// The passes, and the core that is fed what they do. The current version has so many puts, and
+/// this record.
 #[derive(Drop)]
 struct World<'a> {
     core: Core,
@@ -76,7 +80,8 @@ impl<'a> Pinner<'a> {
 }
 
 impl<'a> World<'a> {
-    // Puts, and feeds the core the publication and its transfer. The writer then pins to learn the record.
+    // Puts, and feeds the core the publication and its transfer. The writer then pins to learn the
+    // record.
     fn puts(&mut self) -> bool {
         let Some(mut pass) = self.writer.take() else {
             return false;
@@ -119,7 +124,8 @@ impl<'a> World<'a> {
         bits
     }
 
-    // Whether the words say of each record who pins it, and the core that it is drained where nobody does.
+    // Whether the words say of each record who pins it, and the core that it is drained where
+    // nobody does.
     fn agrees(&self, store: &Store<Global>) -> bool {
         for record in 0..5u8 {
             let pins = store.pins(u32::from(record));

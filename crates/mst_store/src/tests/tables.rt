@@ -13,7 +13,8 @@ const SMALL: Shape = Shape { rows: 4, passes: 2 };
 
 // A table for 4 rows and 2 passes, and the dealer's token.
 pub(crate) fn opened<A: Allocator + Copy>(alloc: A) -> Result<(Board<A>, Token<A>), Memory>
-    ensures ok { IfOk result (λ r. (r.1.table_id ≡ r.0) × (r.0.words ≡ table_words 4) × (r.1.me ≡ (dealer 4 2 1, []))) }
+    ensures ok { IfOk result (λ r. (r.1.table_id ≡ r.0) × (r.0.words ≡ table_words 4)
+        × (r.1.me ≡ (dealer 4 2 1, []))) }
 {
     let desk = Desk::new(alloc, SMALL.rows, SMALL.passes + 2, 0)?;
     Board::open(alloc, SMALL, desk)

@@ -15,7 +15,8 @@ use std::alloc::Allocator;
 use std::marker::Brand;
 use std::test::Fail;
 
-// Publishes as `publish` does, up to the transfer. It answers who pins the record that was current, before the transfer and behind it.
+// Publishes as `publish` does, up to the transfer. It answers who pins the record that was current,
+// before the transfer and behind it.
 fn publish_by_steps<A: Allocator + Copy>(
     board: &Board<A>,
     seat: &mut PassSeat<'_, A>,

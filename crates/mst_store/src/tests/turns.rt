@@ -1,4 +1,5 @@
-//! The turn: one pass has it until it is given back. Meanwhile writes of the others are refused, and their reads answer as ever.
+//! The turn: one pass has it until it is given back. Meanwhile writes of the others are refused,
+//! and their reads answer as ever.
 ghost use Rattle.std.specs.Prelude.{◌≡◌};
 
 use crate::tests::tables::opened;
@@ -69,7 +70,8 @@ fn gets<A: Allocator + Copy>(pass: &mut Pass<A>, key: &Key, value: &Value, versi
     }
 }
 
-// The root digest, the proof of the key, and how many pairs there are; none where memory was refused.
+// The root digest, the proof of the key, and how many pairs there are; none where memory was
+// refused.
 fn shown<A: Allocator + Copy>(
     pass: &mut Pass<A>,
     alloc: Global,

@@ -1,4 +1,5 @@
-//! Maps of many sizes, and nodes of many entries with long values, in ample memory: no call may answer that memory was refused.
+//! Maps of many sizes, and nodes of many entries with long values, in ample memory: no call may
+//! answer that memory was refused.
 ghost use Rattle.std.specs.Prelude.{◌≤◌, length};
 ghost use Rattle.mst_key.specs.Map.{IsMap};
 
@@ -38,7 +39,8 @@ fn each_size_up_to_300_and_some_above(rt: HostRuntime) -> Result<(), Fail> {
     Ok(())
 }
 
-/// Pairs of keys of layer 0 alone, which stand in one node, with values of 64 bytes: the numbers below the end in three bytes that have this layer.
+/// Pairs of keys of layer 0 alone, which stand in one node, with values of 64 bytes: the numbers
+/// below the end in three bytes that have this layer.
 fn pairs_of_one_node(alloc: Global, end: u32) -> Result<Vec<(Key, Value)>, Fail> {
     let mut pairs = Vec::new(alloc);
     for i in 0..end {
@@ -51,7 +53,8 @@ fn pairs_of_one_node(alloc: Global, end: u32) -> Result<Vec<(Key, Value)>, Fail>
     Ok(pairs)
 }
 
-/// Whether a node of layer 0 without children has as many entries as there are pairs, and each so many of its entries is the pair at its place.
+/// Whether a node of layer 0 without children has as many entries as there are pairs, and each so
+/// many of its entries is the pair at its place.
 fn has_pairs(flat: &Flat<'_>, pairs: &[(Key, Value)], step: usize) -> bool {
     if flat.layer() != 0 || flat.len() != pairs.len() {
         return false;
@@ -85,7 +88,8 @@ fn proves(
     }
 }
 
-/// Whether two texts among those of the proof and of the tree of the pairs collide. Of no pairs there are none.
+/// Whether two texts among those of the proof and of the tree of the pairs collide. Of no pairs
+/// there are none.
 fn collides(alloc: Global, pairs: &[(Key, Value)], key: &Key, proof: &[u8]) -> Result<bool, Memory>
     requires few { length pairs.now ≤ 65535 }
     requires map { IsMap pairs.now }
@@ -100,7 +104,8 @@ fn collides(alloc: Global, pairs: &[(Key, Value)], key: &Key, proof: &[u8]) -> R
     Ok(pair.is_some())
 }
 
-/// Asks a map whose pairs stand in one node for its root digest, its text, proofs, and a collision with its own tree and with another's proof.
+/// Asks a map whose pairs stand in one node for its root digest, its text, proofs, and a collision
+/// with its own tree and with another's proof.
 fn asks_one_node(
     rt: &impl Abort,
     alloc: Global,

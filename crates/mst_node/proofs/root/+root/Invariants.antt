@@ -16,7 +16,8 @@ decreases-digest_of l = 2 * length l.pairs.now
 abbrev pub decreases-gap_digest : goal.decreases-gap_digest
 decreases-gap_digest l = 2 * length l.pairs.now + 1
 
--- the hasher holds the front of the text, which goes on with the entries that the gap so far and the other pairs make
+-- the hasher holds the front of the text, which goes on with the entries that the gap so far and
+-- the other pairs make
 abbrev pub invariant-digest_of-loop-i : goal.invariant-digest_of-loop-i
 invariant-digest_of-loop-i l = record {
   within : l.start ≤ l.i;

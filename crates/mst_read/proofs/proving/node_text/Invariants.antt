@@ -8,7 +8,8 @@ use Rattle.mst_read.proofs.Walk.{Onward}
 use Rattle.mst_read.proofs.NodeTexts.{rest_text}
 use Rattle.mst_read.proofs.proving.node_text.Given as goal
 
--- what is written, with the text of the rest, is the text of the whole node; each entry takes at most 131 bytes
+-- what is written, with the text of the rest, is the text of the whole node; each entry takes at
+-- most 131 bytes
 abbrev pub invariant-loop : goal.invariant-loop
 invariant-loop g l = record {
   same : l.rows ≡ l.initial.rows;

@@ -9,7 +9,8 @@ use Rattle.mst_read.proofs.Descend.{depth}
 use Rattle.mst_read.proofs.Trails.{Met}
 use Rattle.mst_read.proofs.proving.prove_below.Given as goal
 
--- the texts so far begin those of the trail; no text is longer than the entries of one node make it, and a layer is left for each node to come
+-- the texts so far begin those of the trail; no text is longer than the entries of one node make
+-- it, and a layer is left for each node to come
 abbrev pub invariant-loop-top : goal.invariant-loop-top
 invariant-loop-top g l = record {
   same : l.rows ≡ l.fn.rows;
