@@ -10,15 +10,17 @@ ghost use Rattle.mst_command.specs.declared.task.Ending.TheVariants.{Done, Proof
 use crate::words::task_of;
 use mst_command::{DONE, Ending, PROOF_REFUSED, Refusal, complain, execute};
 use mst_devices::{Sink, Source};
+use mst_load::Gate;
 use std::alloc::{AllocGlobal, Global};
 use std::sync::Wait;
 use std::thread::Threads;
 
 // Does what the words ask for.
-fn perform<R: Threads + Wait + AllocGlobal + Sync, S: Source, W: Sink>(
+fn perform<R: Threads + Wait + AllocGlobal + Sync, G: Gate + Sync, S: Source, W: Sink>(
     rt: &R,
     alloc: Global,
     words: &[&str],
+    gate: &G,
     source: &mut S,
     out: &mut W,
 ) -> Result<Ending, Refusal>
@@ -56,7 +58,7 @@ fn perform<R: Threads + Wait + AllocGlobal + Sync, S: Source, W: Sink>(
     ensures unwritten { IfErr result (λ why. Untouched why out.old out.new) }
 {
     match task_of(alloc, words) {
-        Ok(task) => execute(rt, alloc, task, source, out),
+        Ok(task) => execute(rt, alloc, task, gate, source, out),
         Err(why) => Err(why),
     }
 }
@@ -65,10 +67,14 @@ fn perform<R: Threads + Wait + AllocGlobal + Sync, S: Source, W: Sink>(
 /// status: 0 done, 1 a proof refused, 2 words refused, 3 a read or a write failed, 4 a growth was
 /// refused or a thread could not be started. With 2, 3 and 4 it says so on standard error, with 2
 /// by clap's own text, `shape`, `bad root` or `bad key`.
-pub fn command<R, S: Source, O: Sink, E: Sink>(
+///
+/// The gate is asked before each call of a load and told after it. What it writes by itself is in
+/// no clause.
+pub fn command<R, G: Gate + Sync, S: Source, O: Sink, E: Sink>(
     rt: &R,
     alloc: Global,
     words: &[&str],
+    gate: &G,
     source: &mut S,
     out: &mut O,
     err: &mut E,
@@ -115,7 +121,7 @@ where
     ensures memory { result ≡ 4 → out.new ≡ out.old }
     ensures memory_unread { result ≡ 4 → asks_verify words.now ≡ None → source.new ≡ source.old }
 {
-    match perform(rt, alloc, words, source, out) {
+    match perform(rt, alloc, words, gate, source, out) {
         Ok(Ending::Done) => DONE,
         Ok(Ending::ProofRefused) => PROOF_REFUSED,
         Err(why) => complain(err, &why),

@@ -2,6 +2,7 @@
 #![tactic(auto)]
 
 mod command;
+mod progress;
 #[cfg(test)]
 mod tests;
 mod words;
@@ -9,7 +10,10 @@ mod words;
 use command::command;
 use mst_command::{Refusal, complain};
 use mst_devices::{StdSink, StdSource};
+use mst_load::Open;
+use progress::Progress;
 use std::alloc::Global;
+use std::io::IsTerminal;
 use std::process::ExitCode;
 use std::{env, io};
 
@@ -25,6 +29,7 @@ fn arguments(rt: &HostRuntime) -> Result<Vec<String>, Refusal> {
     }
 }
 
+// A load tells how far it is where somebody may look on: where standard error is a terminal.
 fn main(rt: HostRuntime) -> ExitCode {
     let mut source = StdSource::new(rt.stdin());
     let mut out = StdSink::new(rt.stdout());
@@ -37,12 +42,12 @@ fn main(rt: HostRuntime) -> ExitCode {
         return ExitCode::from(complain(&mut err, &Refusal::Memory));
     };
     let words: Vec<&str> = words;
-    ExitCode::from(command(
-        &rt,
-        rt.alloc(),
-        words.as_slice(),
-        &mut source,
-        &mut out,
-        &mut err,
-    ))
+    let (words, alloc, errors) = (words.as_slice(), rt.alloc(), rt.stderr());
+    let status = if errors.is_terminal() {
+        let gate = Progress::new(errors);
+        command(&rt, alloc, words, &gate, &mut source, &mut out, &mut err)
+    } else {
+        command(&rt, alloc, words, &Open, &mut source, &mut out, &mut err)
+    };
+    ExitCode::from(status)
 }

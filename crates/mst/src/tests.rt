@@ -1,6 +1,7 @@
 //! What no clause says: whole scripts, the texts for the user, and devices that fail.
 mod failures;
 mod loads;
+mod progress;
 mod proofs;
 mod replays;
 mod scripts;
@@ -8,6 +9,7 @@ mod words;
 
 use crate::command::command;
 use mst_devices::{BytesSink, BytesSource};
+use mst_load::{Gate, Open};
 use std::alloc::{AllocError, AllocGlobal};
 use std::sync::Wait;
 use std::thread::Threads;
@@ -26,11 +28,21 @@ fn outcome_of<R: Threads + Wait + AllocGlobal + Sync>(
     words: &[&str],
     input: &[u8],
 ) -> Result<Outcome, AllocError> {
+    outcome_behind(rt, words, input, &Open)
+}
+
+/// Runs the program over memory, with this gate at the calls of a load.
+fn outcome_behind<R: Threads + Wait + AllocGlobal + Sync, G: Gate + Sync>(
+    rt: &R,
+    words: &[&str],
+    input: &[u8],
+    gate: &G,
+) -> Result<Outcome, AllocError> {
     let alloc = rt.alloc();
     let mut source = BytesSource::new(input);
     let mut out = BytesSink::new(alloc, 65_536)?;
     let mut err = BytesSink::new(alloc, 65_536)?;
-    let status = command(rt, alloc, words, &mut source, &mut out, &mut err);
+    let status = command(rt, alloc, words, gate, &mut source, &mut out, &mut err);
     Ok(Outcome {
         status,
         out: out.bytes().to_vec(alloc)?,

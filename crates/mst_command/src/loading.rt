@@ -6,7 +6,7 @@ ghost use Rattle.mst_command.specs.declared.task.Ending.TheVariants.{Done};
 
 use crate::task::{Ending, Load, Refusal};
 use mst_devices::{Device, Sink, write_all};
-use mst_load::{Open, load};
+use mst_load::{Gate, load};
 use std::alloc::{AllocGlobal, Allocator};
 use std::sync::Wait;
 use std::thread::Threads;
@@ -22,17 +22,20 @@ fn is_load_size(size: Load) -> bool
 }
 
 /// Lets readers and writers work at one store at once, each in a thread of its own, and writes the
-/// four lines of the report.
+/// four lines of the report. The gate is asked before each call and told after it.
 ///
 /// `Shape` comes before any thread is started, where a load may not have these numbers. `Memory`
 /// comes where a growth was refused or a thread could not be started: all threads that were started
 /// have then returned.
-pub fn run_load<R: Threads + Wait + AllocGlobal + Sync, A: Allocator + Copy, W: Sink>(
+pub fn run_load<R, A: Allocator + Copy, G: Gate + Sync, W: Sink>(
     rt: &R,
     alloc: A,
     size: Load,
+    gate: &G,
     out: &mut W,
 ) -> Result<Ending, Refusal>
+where
+    R: Threads + Wait + AllocGlobal + Sync,
     requires { W.failures out.old < 2 ^ 64 - 1 }
     ensures ran { OnOk result (RanLoad W.takes size out.old out.new) }
     ensures done { IfOk result (λ ending. ending ≡ Done) }
@@ -46,7 +49,7 @@ pub fn run_load<R: Threads + Wait + AllocGlobal + Sync, A: Allocator + Copy, W: 
     if !is_load_size(size) {
         return Err(Refusal::Shape);
     }
-    let Ok(report) = load(rt, alloc, size.readers, size.writers, size.calls, &Open) else {
+    let Ok(report) = load(rt, alloc, size.readers, size.writers, size.calls, gate) else {
         return Err(Refusal::Memory);
     };
     match write_all(out, report.lines().as_slice()) {

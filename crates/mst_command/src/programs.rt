@@ -11,6 +11,7 @@ use crate::loading::run_load;
 use crate::task::{Ending, Refusal, Task};
 use crate::verify::run_verify;
 use mst_devices::{Device, Sink, Source, write_all};
+use mst_load::Gate;
 use mst_replay::Replay;
 use mst_script::{RunFault, run};
 use mst_store::{OpenFault, Shape, Store};
@@ -109,20 +110,24 @@ fn show<W: Sink>(out: &mut W, text: &str) -> Result<Ending, Refusal>
     }
 }
 
-/// Does the task, and says how the program ends, or why it ends early.
+/// Does the task, and says how the program ends, or why it ends early. The gate is asked before
+/// each call of a load and told after it.
 ///
 /// `Shape` comes for a size out of the store's limits and for numbers that a load may not have,
 /// `BadRoot` and then `BadKey` for words that spell no root digest and no key, all before anything
 /// is read or run. `Memory` comes where a growth was refused or a thread could not be started:
 /// nothing was written then, and nothing read but a proof. `Device` comes where a read or a write
 /// failed.
-pub fn execute<R: Threads + Wait + AllocGlobal + Sync, A: Allocator + Copy, S: Source, W: Sink>(
+pub fn execute<R, A: Allocator + Copy, G: Gate + Sync, S: Source, W: Sink>(
     rt: &R,
     alloc: A,
     task: Task<'_>,
+    gate: &G,
     source: &mut S,
     out: &mut W,
 ) -> Result<Ending, Refusal>
+where
+    R: Threads + Wait + AllocGlobal + Sync,
     requires source { S.failures source.old < 2 ^ 64 - 1 }
     requires out { W.failures out.old < 2 ^ 64 - 1 }
     ensures did { IfOk result
@@ -148,7 +153,7 @@ pub fn execute<R: Threads + Wait + AllocGlobal + Sync, A: Allocator + Copy, S: S
         Task::Run(shape) => run_script(alloc, shape, source, out),
         Task::Verify(root, key) => run_verify(alloc, root, key, source, out),
         Task::Replay => run_replay(alloc, source, out),
-        Task::Load(size) => run_load(rt, alloc, size, out),
+        Task::Load(size) => run_load(rt, alloc, size, gate, out),
         Task::Help(text) => show(out, text.as_str()),
     }
 }

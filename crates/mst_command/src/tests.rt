@@ -2,6 +2,7 @@
 use crate::{DONE, Ending, Refusal, Task, complain, execute};
 use linked_list_allocator::LocalHeap;
 use mst_devices::{BytesSink, BytesSource};
+use mst_load::Open;
 use mst_store::Shape;
 use std::alloc::AllocGlobal;
 use std::sync::Wait;
@@ -23,7 +24,7 @@ fn growths_are_refused(rt: HostRuntime) -> Result<(), Fail> {
         let mut source = BytesSource::new(SCRIPT);
         let mut out = BytesSink::new(rt.alloc(), 64)?;
         let mut err = BytesSink::new(rt.alloc(), 64)?;
-        match execute(&rt, &heap, Task::Run(shape), &mut source, &mut out) {
+        match execute(&rt, &heap, Task::Run(shape), &Open, &mut source, &mut out) {
             Ok(ending) => {
                 was_enough = true;
                 assert!(rt; ending == Ending::Done);
@@ -88,7 +89,7 @@ fn growths_of_a_replay_are_refused(rt: HostRuntime) -> Result<(), Fail> {
         let heap = LocalHeap::new(rt.alloc(), 64 + 4_096 * step)?;
         let mut source = BytesSource::new(EVENTS.as_bytes());
         let mut out = BytesSink::new(rt.alloc(), 256)?;
-        match execute(&rt, &heap, Task::Replay, &mut source, &mut out) {
+        match execute(&rt, &heap, Task::Replay, &Open, &mut source, &mut out) {
             Ok(ending) => {
                 was_enough = true;
                 assert!(rt; ending == Ending::Done);
@@ -120,7 +121,14 @@ fn outcome_in<R: Threads + Wait + AllocGlobal + Sync>(
     let mut source = BytesSource::new(text);
     let mut out = BytesSink::new(alloc, 64)?;
     let mut err = BytesSink::new(alloc, 64)?;
-    let status = match execute(rt, &heap, Task::Verify(TWO, "62"), &mut source, &mut out) {
+    let status = match execute(
+        rt,
+        &heap,
+        Task::Verify(TWO, "62"),
+        &Open,
+        &mut source,
+        &mut out,
+    ) {
         Ok(_) => DONE,
         Err(why) => complain(&mut err, &why),
     };

@@ -3,6 +3,7 @@
 use mst_command::{Ending, Refusal, execute, plain_task};
 use mst_devices::{BytesSink, BytesSource};
 use mst_key::Key;
+use mst_load::Open;
 use mst_node::digest;
 use std::alloc::{AllocGlobal, Global};
 use std::process::Abort;
@@ -104,7 +105,7 @@ fn output_of<R: Threads + Wait + AllocGlobal + Sync>(
     let Some(task) = plain_task(words) else {
         return Err("words of no plain form".into());
     };
-    match execute(rt, alloc, task, &mut source, &mut out) {
+    match execute(rt, alloc, task, &Open, &mut source, &mut out) {
         Ok(Ending::Done) => Ok(out.bytes().to_vec(alloc)?),
         Ok(Ending::ProofRefused) => Err("a proof was refused".into()),
         Err(Refusal::Memory) => Err("memory was refused".into()),

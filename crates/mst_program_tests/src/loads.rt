@@ -2,6 +2,7 @@
 use linked_list_allocator::LocalHeap;
 use mst_command::{DONE, Load, Task, complain, execute};
 use mst_devices::{BytesSink, BytesSource};
+use mst_load::Open;
 use std::alloc::AllocGlobal;
 use std::sync::Wait;
 use std::test::Fail;
@@ -31,7 +32,7 @@ fn outcome_in<R: Threads + Wait + AllocGlobal + Sync>(
     let mut source = BytesSource::new(b"");
     let mut out = BytesSink::new(rt.alloc(), 256)?;
     let mut err = BytesSink::new(rt.alloc(), 64)?;
-    let status = match execute(rt, &heap, Task::Load(load), &mut source, &mut out) {
+    let status = match execute(rt, &heap, Task::Load(load), &Open, &mut source, &mut out) {
         Ok(_) => DONE,
         Err(why) => complain(&mut err, &why),
     };

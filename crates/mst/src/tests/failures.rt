@@ -1,6 +1,7 @@
 //! Devices that fail, and devices that take their time.
 use crate::command::command;
 use mst_devices::{StdSink, StdSource};
+use mst_load::Open;
 use std::alloc::{AllocGlobal, Global};
 use std::io::{self, Read, Write};
 use std::sync::Wait;
@@ -92,7 +93,15 @@ fn command_status<R: Threads + Wait + AllocGlobal + Sync>(
     let mut source = StdSource::new(reader);
     let mut out = StdSink::new(out);
     let mut err = StdSink::new(err);
-    command(rt, rt.alloc(), words, &mut source, &mut out, &mut err)
+    command(
+        rt,
+        rt.alloc(),
+        words,
+        &Open,
+        &mut source,
+        &mut out,
+        &mut err,
+    )
 }
 
 /// Runs the script between such devices, and answers the exit status.

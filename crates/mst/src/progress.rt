@@ -1,0 +1,47 @@
+//! How far a load is, told line by line while its threads make their calls.
+ghost use Rattle.std.specs.Prelude.{◌≡◌, ◌↔◌, ◌%◌, true};
+
+use mst_load::Gate;
+use std::sync::atomic::AtomicU64;
+use std::sync::atomic::Ordering::SeqCst;
+
+/// How many calls are answered from a line to the next.
+const BETWEEN: u64 = 10_000;
+
+// Whether a line is written at this count of answered calls.
+fn is_shown(count: u64) -> bool
+    ensures { (result ≡ true) ↔ (count % 10000 ≡ 0) }
+{
+    count % BETWEEN == 0
+}
+
+/// The gate that holds nobody, and writes each 10,000th time how many calls are answered.
+///
+/// The workers write themselves, each a line by one write, so that two lines may change places. A
+/// line that cannot be written is left out.
+#[derive(Drop)]
+pub(crate) struct Progress<E: Eprint> {
+    pub(crate) errors: E,
+    answered: AtomicU64,
+}
+
+impl<E: Eprint> Progress<E> {
+    /// A gate that nobody has come to.
+    pub(crate) fn new(errors: E) -> Progress<E> {
+        Progress {
+            errors,
+            answered: AtomicU64::new(0),
+        }
+    }
+}
+
+impl<E: Eprint> Gate for Progress<E> {
+    fn enter(&self, _worker: u32, _call: u32) {}
+
+    fn answered(&self, _worker: u32, _call: u32) {
+        let count = self.answered.fetch_add(1, SeqCst).wrapping_add(1);
+        if is_shown(count) {
+            let _ = eprintln!(self.errors; "calls {count}");
+        }
+    }
+}
