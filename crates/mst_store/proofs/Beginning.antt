@@ -17,9 +17,9 @@ use Rattle.mst_arena.specs.declared.row.Root.{Root}
 use Rattle.mst_path.specs.Moves as moves
 use Rattle.mst_path.specs.Ages.{HasPlace}
 use Rattle.mst_path.specs.Reached.{TogetherReach, swept_by}
-use Rattle.mst_path.proofs.FreeCounts.{count_swept}
-use Rattle.mst_path.proofs.KeptRoom.{held_free}
-use Rattle.mst_path.proofs.Reached.{same_swept, settled_swept, free_swept, some_reach}
+use Rattle.mst_path.proofs.lemmas.rows.FreeCounts.{count_swept}
+use Rattle.mst_path.proofs.lemmas.versions.KeptRoom.{held_free}
+use Rattle.mst_path.proofs.lemmas.versions.Reached.{same_swept, settled_swept, free_swept, some_reach}
 use Rattle.mst_words.specs.declared.view.View.{View}
 use Rattle.mst_words.specs.Layout.{row_word}
 use Rattle.mst_words.specs.Pins.{In}

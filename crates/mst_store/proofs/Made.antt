@@ -15,11 +15,11 @@ use Rattle.mst_path.specs.Ages.{HasAges}
 use Rattle.mst_path.specs.Changing.{MapStands, OnlyFreeWritten}
 use Rattle.mst_path.specs.Made.{IsMade}
 use Rattle.mst_path.specs.Reached.{ReachesExactly, Changes, IsSettled}
-use Rattle.mst_path.proofs.AgeSteps.{ages_next}
-use Rattle.mst_path.proofs.Changes.{distinct_times}
-use Rattle.mst_path.proofs.NodeAges.{aged}
-use Rattle.mst_path.proofs.Reached.{older, newest, settled_after, reached_old}
-use Rattle.mst_path.proofs.RowCounts.{as_many}
+use Rattle.mst_path.proofs.lemmas.versions.AgeSteps.{ages_next}
+use Rattle.mst_path.proofs.lemmas.versions.Changes.{distinct_times}
+use Rattle.mst_path.proofs.lemmas.versions.NodeAges.{aged}
+use Rattle.mst_path.proofs.lemmas.versions.Reached.{older, newest, settled_after, reached_old}
+use Rattle.mst_path.proofs.lemmas.rows.RowCounts.{as_many}
 use Rattle.mst_words.specs.Access.{Seated, Beside, beside, with_words, content_of, IsSameSeat}
 use Rattle.mst_words.specs.Pins.{In}
 use Rattle.mst_words.specs.Records.{Agrees}

@@ -12,9 +12,9 @@ use Rattle.mst_arena.specs.declared.life.Life.TheVariants.{Free, Born, Dead}
 use Rattle.mst_arena.specs.declared.row.Root.{Root}
 use Rattle.mst_path.specs.Moves as moves
 use Rattle.mst_path.specs.Versions.{HasMap}
-use Rattle.mst_path.proofs.Moving.{one_row}
-use Rattle.mst_path.proofs.Taking.{frees, frees_is}
-use Rattle.mst_path.proofs.Versions.{room_alone, rows_of_map}
+use Rattle.mst_path.proofs.lemmas.rows.Moving.{one_row}
+use Rattle.mst_path.proofs.lemmas.rows.Taking.{frees, frees_is}
+use Rattle.mst_path.proofs.lemmas.versions.Versions.{room_alone, rows_of_map}
 use Rattle.mst_words.specs.declared.view.View.{View}
 use Rattle.mst_words.specs.Access.{content_of}
 use Rattle.mst_words.specs.Pins.{In}

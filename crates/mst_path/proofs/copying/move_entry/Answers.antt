@@ -5,7 +5,7 @@ use Rattle.std.proofs.lemmas.List.{append-nil}
 use Rattle.mst_arena.specs.Lives.{State}
 use Rattle.mst_path.specs.Moves.{IsOld, Moves}
 use Rattle.mst_path.specs.Writing.{ahead}
-use Rattle.mst_path.proofs.Moving.{moves_takes, moves_kill, moves_then, old_stays}
+use Rattle.mst_path.proofs.lemmas.rows.Moving.{moves_takes, moves_kill, moves_then, old_stays}
 use Rattle.mst_path.proofs.copying.move_entry.Goals as goal
 
 pub returns-clause-moves : goal.returns-clause-moves

@@ -6,7 +6,7 @@ use Rattle.mst_arena.specs.Standing.{rows_of, HasRows}
 use Rattle.mst_path.specs.Takes.{KeepsBut, FreeIsBlank}
 use Rattle.mst_path.specs.Moves.{Moves}
 use Rattle.mst_path.specs.Writing.{ahead, IsWritten}
-use Rattle.mst_path.proofs.Copies.{Progress, starts, ends, some_left, steps, next_run, link_is, link_less, row_there, row_old, links_there, links_are, value_there, next_some, one_ahead, row_out, small_link, old_alive, blank_free, blank_taken, blank_ahead}
+use Rattle.mst_path.proofs.lemmas.rows.Copies.{Progress, starts, ends, some_left, steps, next_run, link_is, link_less, row_there, row_old, links_there, links_are, value_there, next_some, one_ahead, row_out, small_link, old_alive, blank_free, blank_taken, blank_ahead}
 use Rattle.mst_path.proofs.copying.move_run.Goals as goal
 
 pub loop-init : goal.loop-init

@@ -3,7 +3,7 @@ use Rattle.mst_arena.specs.Lives.{free_count}
 use Rattle.mst_path.specs.Takes.{FreeIsBlank}
 use Rattle.mst_path.specs.Writing.{IsWriter}
 use Rattle.mst_path.specs.Copying.{Copying}
-use Rattle.mst_path.proofs.Copies.{Progress}
+use Rattle.mst_path.proofs.lemmas.rows.Copies.{Progress}
 use Rattle.mst_path.proofs.copying.move_run.Given as goal
 
 abbrev pub invariant-loop : goal.invariant-loop

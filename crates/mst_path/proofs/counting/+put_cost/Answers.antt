@@ -7,7 +7,7 @@ use Rattle.mst_change.specs.Cost.{split_rows}
 use Rattle.mst_path.specs.Joining.{height, height_at}
 use Rattle.mst_path.specs.Splitting.{ToSplit}
 use Rattle.mst_path.specs.Putting.{RisingTree, pair_rows, IsPutStep, PutsDown, PutsBetween, PutsAnew}
-use Rattle.mst_path.proofs.PutGaps.{whole_split, put_top_rows, falls_at}
+use Rattle.mst_path.proofs.lemmas.steps.PutGaps.{whole_split, put_top_rows, falls_at}
 use Rattle.mst_path.proofs.counting.+put_cost.Goals as goal
 
 pub split_cost-requires : goal.split_cost-requires

@@ -9,8 +9,8 @@ use Rattle.mst_change.specs.Cost.{split_rows}
 use Rattle.mst_path.specs.Joining.{height_at}
 use Rattle.mst_path.specs.Splitting.{ToSplit}
 use Rattle.mst_path.specs.Gaps.{IsOpened, OpensGap, OpensEntry}
-use Rattle.mst_path.proofs.Splitting.{positive}
-use Rattle.mst_path.proofs.PutCosts.{search_of, none_rows, no_below, no_above, no_entry, split_inner, split_falls, below_is, above_is, rows_are, rows_counted}
+use Rattle.mst_path.proofs.lemmas.steps.Splitting.{positive}
+use Rattle.mst_path.proofs.lemmas.cost.PutCosts.{search_of, none_rows, no_below, no_above, no_entry, split_inner, split_falls, below_is, above_is, rows_are, rows_counted}
 use Rattle.mst_path.proofs.counting.+split_cost.Goals as goal
 
 pub unreachable-requires : goal.unreachable-requires

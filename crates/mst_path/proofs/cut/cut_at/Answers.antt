@@ -5,8 +5,8 @@ use Rattle.mst_arena.specs.Content.{Content, part_at}
 use Rattle.mst_arena.specs.Row.{entry_links}
 use Rattle.mst_path.specs.declared.making.Run.{Run}
 use Rattle.mst_path.specs.Cutting.{CutGap}
-use Rattle.mst_path.proofs.Copies.{links_there}
-use Rattle.mst_path.proofs.Cutting.{onward_starts, at_entry, cut_end, cut_gap, cut_held, cut_on}
+use Rattle.mst_path.proofs.lemmas.rows.Copies.{links_there}
+use Rattle.mst_path.proofs.lemmas.trees.Cutting.{onward_starts, at_entry, cut_end, cut_gap, cut_held, cut_on}
 use Rattle.mst_path.proofs.cut.cut_at.Goals as goal
 
 pub loop-count-init : goal.loop-count-init

@@ -1,7 +1,7 @@
 use Rattle.std.proofs.Common.{◌≡◌, List}
 use Rattle.mst_path.specs.Writing.{PlacedEntry}
 use Rattle.mst_path.specs.Cutting.{EntriesLie}
-use Rattle.mst_path.proofs.Cutting.{Onward}
+use Rattle.mst_path.proofs.lemmas.trees.Cutting.{Onward}
 use Rattle.mst_path.proofs.cut.cut_at.Given as goal
 
 -- the entries so far are below the key

@@ -10,8 +10,8 @@ use Rattle.mst_path.specs.Cutting.{EntriesLie, IsCut, CutGap, CutHeld}
 use Rattle.mst_path.specs.Joining.{height_at}
 use Rattle.mst_path.specs.Removing.{SearchTree}
 use Rattle.mst_path.specs.Writing.{PlacedEntry}
-use Rattle.mst_path.proofs.Removals.{top}
-use Rattle.mst_path.proofs.Lookups.{lies, finds_below, finds_here, some_value}
+use Rattle.mst_path.proofs.lemmas.steps.Removals.{top}
+use Rattle.mst_path.proofs.lemmas.trees.Lookups.{lies, finds_below, finds_here, some_value}
 use Rattle.mst_path.proofs.finding.+find.Goals as goal
 
 pub cut_at-requires : goal.cut_at-requires

@@ -1,5 +1,5 @@
 use Rattle.std.proofs.Common.{rules}
-use Rattle.mst_path.proofs.Framing.{spare_old, closed}
+use Rattle.mst_path.proofs.lemmas.steps.Framing.{spare_old, closed}
 use Rattle.mst_path.proofs.frames.close.Goals as goal
 
 pub kill_both-requires-clause-old : goal.kill_both-requires-clause-old

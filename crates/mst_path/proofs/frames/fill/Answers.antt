@@ -1,5 +1,5 @@
 use Rattle.std.proofs.Common.{◌≡◌, ◌<◌, ℕ, zero, suc, refl, arith}
-use Rattle.mst_path.proofs.Framing.{alone, filled}
+use Rattle.mst_path.proofs.lemmas.steps.Framing.{alone, filled}
 use Rattle.mst_path.proofs.frames.fill.Goals as goal
 
 pub returns-then-frame-eq0-clause-made : goal.returns-then-frame-eq0-clause-made

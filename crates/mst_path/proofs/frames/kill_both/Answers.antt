@@ -1,4 +1,4 @@
-use Rattle.mst_path.proofs.Framing.{second_old, both_die, one_dies}
+use Rattle.mst_path.proofs.lemmas.steps.Framing.{second_old, both_die, one_dies}
 use Rattle.mst_path.proofs.frames.kill_both.Goals as goal
 
 pub kill-requires-in-Some : goal.kill-requires-in-Some

@@ -4,8 +4,8 @@ use Rattle.mst_arena.specs.Lives.{free_count}
 use Rattle.mst_path.specs.Takes.{FreeIsBlank}
 use Rattle.mst_path.specs.Making.{Grown}
 use Rattle.mst_path.specs.Joining.{TwoTrees, in_both, both_joined, both_rows, height_at}
-use Rattle.mst_path.proofs.Copies.{blank_free}
-use Rattle.mst_path.proofs.Joined.{left_none, right_none, lower_trees, frame_now, room_now, few_now, joined_round}
+use Rattle.mst_path.proofs.lemmas.rows.Copies.{blank_free}
+use Rattle.mst_path.proofs.lemmas.trees.Joined.{left_none, right_none, lower_trees, frame_now, room_now, few_now, joined_round}
 use Rattle.mst_path.proofs.joining.+join.Goals as goal
 
 pub returns-then-left-eq0-clause-joined : goal.returns-then-left-eq0-clause-joined

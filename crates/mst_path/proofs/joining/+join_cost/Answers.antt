@@ -2,7 +2,7 @@ use Rattle.std.proofs.Common.{◌≡◌, ◌≤◌, ◌<◌, ◌+◌, sym, ap, s
 use Rattle.mst_arena.specs.Content.{Content}
 use Rattle.mst_arena.specs.Lives.{State}
 use Rattle.mst_path.specs.Joining.{TwoTrees, both_rows, height_at}
-use Rattle.mst_path.proofs.Joined.{lower_trees}
+use Rattle.mst_path.proofs.lemmas.trees.Joined.{lower_trees}
 use Rattle.mst_path.proofs.joining.+join_cost.Goals as goal
 
 pub join_cost-inner-requires : goal.join_cost-inner-requires

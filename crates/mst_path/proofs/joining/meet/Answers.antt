@@ -3,8 +3,8 @@ use Rattle.std.proofs.Common.{◌≡◌, ◌∙◌, ◌-◌, Some, IsSome, sym, 
 use Rattle.mst_arena.specs.Content.{Content, part_at}
 use Rattle.mst_arena.specs.Row.{head_links, entry_links}
 use Rattle.mst_path.specs.Joining.{Met}
-use Rattle.mst_path.proofs.Opening.{head_there}
-use Rattle.mst_path.proofs.Meetings.{b_node, first_some, first_there, met_higher, met_lower, met_level}
+use Rattle.mst_path.proofs.lemmas.trees.Opening.{head_there}
+use Rattle.mst_path.proofs.lemmas.trees.Meetings.{b_node, first_some, first_there, met_higher, met_lower, met_level}
 use Rattle.mst_path.proofs.joining.meet.Goals as goal
 
 pub head-high-requires : goal.head-high-requires

@@ -15,10 +15,10 @@ use Rattle.mst_path.specs.Made.{IsMade}
 use Rattle.mst_path.specs.Reached.{Changes}
 use Rattle.std.specs.List.{AllByRecursion}
 use Rattle.mst_arena.specs.declared.row.Root.{Root}
-use Rattle.mst_path.proofs.AgeSteps.{ages_stay, ages_next, ages_swept}
-use Rattle.mst_path.proofs.Changes.{distinct_times}
-use Rattle.mst_path.proofs.NodeAges.{aged}
-use Rattle.mst_path.proofs.Reached.{reached_old}
+use Rattle.mst_path.proofs.lemmas.versions.AgeSteps.{ages_stay, ages_next, ages_swept}
+use Rattle.mst_path.proofs.lemmas.versions.Changes.{distinct_times}
+use Rattle.mst_path.proofs.lemmas.versions.NodeAges.{aged}
+use Rattle.mst_path.proofs.lemmas.versions.Reached.{reached_old}
 use Rattle.mst_path.proofs.laws.age_laws.Goals as goal
 
 all_aged : (old new : State) (before now : Content) (root at : Root) (m n : List Pair) (stood : Stands One before root m) (stands : Stands One now at n) → AreOld old (numbers stood) → Changes old new (numbers stood) (numbers stands) → OnlyFreeWritten old before now → IsMade new stands.tree.placed → free_count new.lives + cost One m n ≡ free_count old.lives → AllByRecursion (IsAged new stood.tree.placed) (placed_nodes stands.tree.placed)

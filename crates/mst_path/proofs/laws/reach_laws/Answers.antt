@@ -3,9 +3,9 @@ use Rattle.std.proofs.lemmas.Bool.Decides.{nat_tests}
 use Rattle.mst_arena.specs.Lives.{version}
 use Rattle.mst_arena.specs.Lists.{bit}
 use Rattle.mst_path.specs.Reached.{ReachesExactly}
-use Rattle.mst_path.proofs.Reached as reached
-use Rattle.mst_path.proofs.RowCounts.{as_many}
-use Rattle.mst_path.proofs.FreeCounts.{count_swept, alone}
+use Rattle.mst_path.proofs.lemmas.versions.Reached as reached
+use Rattle.mst_path.proofs.lemmas.rows.RowCounts.{as_many}
+use Rattle.mst_path.proofs.lemmas.rows.FreeCounts.{count_swept, alone}
 use Rattle.mst_path.proofs.laws.reach_laws.Goals as goal
 
 pub returns-clause-older : goal.returns-clause-older

@@ -1,4 +1,4 @@
-use Rattle.mst_path.proofs.KeptRoom.{held_free}
+use Rattle.mst_path.proofs.lemmas.versions.KeptRoom.{held_free}
 use Rattle.mst_path.proofs.laws.room_laws.Goals as goal
 
 pub returns : goal.returns

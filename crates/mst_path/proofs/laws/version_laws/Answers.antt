@@ -1,4 +1,4 @@
-use Rattle.mst_path.proofs.Versions.{keeps_empty, keeps_write, keeps_plant, keeps_fewer, keeps_sweep, free_kept, count_kept, rows_of_map, room_alone}
+use Rattle.mst_path.proofs.lemmas.versions.Versions.{keeps_empty, keeps_write, keeps_plant, keeps_fewer, keeps_sweep, free_kept, count_kept, rows_of_map, room_alone}
 use Rattle.mst_path.proofs.laws.version_laws.Goals as goal
 
 pub returns-clause-open : goal.returns-clause-open

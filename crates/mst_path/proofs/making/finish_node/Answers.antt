@@ -1,7 +1,7 @@
 use Rattle.std.proofs.Common.{arith}
-use Rattle.mst_path.proofs.Copies.{small_link}
-use Rattle.mst_path.proofs.Finishing.{at_seam, head_out}
-use Rattle.mst_path.proofs.Made.{piece_alive}
+use Rattle.mst_path.proofs.lemmas.rows.Copies.{small_link}
+use Rattle.mst_path.proofs.lemmas.steps.Finishing.{at_seam, head_out}
+use Rattle.mst_path.proofs.lemmas.trees.Made.{piece_alive}
 use Rattle.mst_path.proofs.making.finish_node.Goals as goal
 
 pub finish-requires-clause-tail : goal.finish-requires-clause-tail

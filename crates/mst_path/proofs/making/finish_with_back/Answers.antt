@@ -5,9 +5,9 @@ use Rattle.mst_arena.specs.Standing.{rows_of, HasRows}
 use Rattle.mst_path.specs.Takes.{KeepsBut}
 use Rattle.mst_path.specs.Moves.{Moves}
 use Rattle.mst_path.specs.Writing.{ahead, IsWritten}
-use Rattle.mst_path.proofs.Copies.{small_link, old_alive, links_are, value_there, next_some}
-use Rattle.mst_path.proofs.Finishing.{first_back, none_ahead, no_length, seam_out, back_copying, tail_stays, back_head_out, with_back}
-use Rattle.mst_path.proofs.Made.{piece_alive}
+use Rattle.mst_path.proofs.lemmas.rows.Copies.{small_link, old_alive, links_are, value_there, next_some}
+use Rattle.mst_path.proofs.lemmas.steps.Finishing.{first_back, none_ahead, no_length, seam_out, back_copying, tail_stays, back_head_out, with_back}
+use Rattle.mst_path.proofs.lemmas.trees.Made.{piece_alive}
 use Rattle.mst_path.proofs.making.finish_with_back.Goals as goal
 
 pub move_entry-requires-clause-child : goal.move_entry-requires-clause-child

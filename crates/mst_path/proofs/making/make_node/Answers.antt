@@ -1,10 +1,10 @@
 use Rattle.std.proofs.Common.{◌∷◌, [], sym, ◌∙◌, subst, arith}
 use Rattle.mst_path.specs.Takes.{FreeIsBlank}
 use Rattle.mst_path.specs.Writing.{ahead}
-use Rattle.mst_path.proofs.Moving.{moves_takes}
-use Rattle.mst_path.proofs.Copies.{blank_free}
-use Rattle.mst_path.proofs.Finishing.{ahead_length, ahead_min}
-use Rattle.mst_path.proofs.Whole.{begins_copying, front_rest, made}
+use Rattle.mst_path.proofs.lemmas.rows.Moving.{moves_takes}
+use Rattle.mst_path.proofs.lemmas.rows.Copies.{blank_free}
+use Rattle.mst_path.proofs.lemmas.steps.Finishing.{ahead_length, ahead_min}
+use Rattle.mst_path.proofs.lemmas.steps.Whole.{begins_copying, front_rest, made}
 use Rattle.mst_path.proofs.making.make_node.Goals as goal
 
 pub move_run-requires-clause-copying : goal.move_run-requires-clause-copying

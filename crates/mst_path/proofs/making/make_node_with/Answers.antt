@@ -1,11 +1,11 @@
 use Rattle.std.proofs.Common.{◌<◌, ℕ, Bool, ◌∷◌, [], IfSome, IsTrue, sym, ◌∙◌, subst, arith}
 use Rattle.mst_path.specs.Takes.{FreeIsBlank}
 use Rattle.mst_path.specs.Writing.{ahead}
-use Rattle.mst_path.proofs.Moving.{moves_takes}
-use Rattle.mst_path.proofs.Copies.{blank_free, blank_taken, blank_ahead, next_some, small_link}
-use Rattle.mst_path.proofs.Finishing.{ahead_length, ahead_min}
-use Rattle.mst_path.proofs.Whole.{begins_copying, child_later, with_out, rest_three, made_with}
-use Rattle.mst_path.proofs.Made.{piece_alive}
+use Rattle.mst_path.proofs.lemmas.rows.Moving.{moves_takes}
+use Rattle.mst_path.proofs.lemmas.rows.Copies.{blank_free, blank_taken, blank_ahead, next_some, small_link}
+use Rattle.mst_path.proofs.lemmas.steps.Finishing.{ahead_length, ahead_min}
+use Rattle.mst_path.proofs.lemmas.steps.Whole.{begins_copying, child_later, with_out, rest_three, made_with}
+use Rattle.mst_path.proofs.lemmas.trees.Made.{piece_alive}
 use Rattle.mst_path.proofs.making.make_node_with.Goals as goal
 
 pub move_run-requires-clause-copying : goal.move_run-requires-clause-copying

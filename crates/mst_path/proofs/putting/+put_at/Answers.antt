@@ -13,9 +13,9 @@ use Rattle.mst_path.specs.Frames.{Framed, in_frame, tree_round, frame_rows}
 use Rattle.mst_path.specs.Joining.{TwoTrees, in_both, height, height_at}
 use Rattle.mst_path.specs.Splitting.{ToSplit}
 use Rattle.mst_path.specs.Putting.{RisingTree, in_rising, with_pair, pair_rows, tree_with, with_rows, IsPutStep, PutsDown, PutsBetween, PutsAnew}
-use Rattle.mst_path.proofs.Copies.{blank_free}
-use Rattle.mst_path.proofs.Rounds.{regrown, frame_after, room_after, few_after, closed_round}
-use Rattle.mst_path.proofs.PutGaps.{whole_split, put_top, put_top_rows, falls_at}
+use Rattle.mst_path.proofs.lemmas.rows.Copies.{blank_free}
+use Rattle.mst_path.proofs.lemmas.steps.Rounds.{regrown, frame_after, room_after, few_after, closed_round}
+use Rattle.mst_path.proofs.lemmas.steps.PutGaps.{whole_split, put_top, put_top_rows, falls_at}
 use Rattle.mst_path.proofs.putting.+put_at.Goals as goal
 
 pub put_on_top-requires-clause-tree : goal.put_on_top-requires-clause-tree

@@ -2,9 +2,9 @@ use Rattle.std.proofs.Common.{rules}
 use Rattle.std.proofs.Common.{◌+◌, refl, arith}
 use Rattle.mst_path.specs.Frames.{in_entries}
 use Rattle.mst_path.specs.Putting.{in_two, with_rows}
-use Rattle.mst_path.proofs.Framing.{spare_old, closed}
-use Rattle.mst_path.proofs.NewEntry.{grown_as}
-use Rattle.mst_path.proofs.PutFrames.{frame_parts}
+use Rattle.mst_path.proofs.lemmas.steps.Framing.{spare_old, closed}
+use Rattle.mst_path.proofs.lemmas.steps.NewEntry.{grown_as}
+use Rattle.mst_path.proofs.lemmas.steps.PutFrames.{frame_parts}
 use Rattle.mst_path.proofs.putting.close_with.Goals as goal
 
 pub make_node_with-root-requires-clause-parts : goal.make_node_with-root-requires-clause-parts

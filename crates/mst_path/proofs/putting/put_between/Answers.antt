@@ -1,6 +1,6 @@
 use Rattle.std.proofs.Common.{refl, ap, arith}
 use Rattle.mst_path.specs.declared.making.Run.{Run as Entries_at}
-use Rattle.mst_path.proofs.NewEntry.{bare_parts, grown_as}
+use Rattle.mst_path.proofs.lemmas.steps.NewEntry.{bare_parts, grown_as}
 use Rattle.mst_path.proofs.putting.put_between.Goals as goal
 
 pub make_node_with-requires-clause-parts : goal.make_node_with-requires-clause-parts

@@ -3,8 +3,8 @@ use Rattle.mst_arena.specs.Lists.{times}
 use Rattle.mst_arena.specs.Standing.{used}
 use Rattle.mst_path.specs.Takes.{FreeIsBlank}
 use Rattle.mst_path.specs.Moves.{IsAlive}
-use Rattle.mst_path.proofs.Copies.{blank_free, old_alive}
-use Rattle.mst_path.proofs.PutFrames.{two, level_frame, level_room, level_few, level_made}
+use Rattle.mst_path.proofs.lemmas.rows.Copies.{blank_free, old_alive}
+use Rattle.mst_path.proofs.lemmas.steps.PutFrames.{two, level_frame, level_room, level_few, level_made}
 use Rattle.mst_path.proofs.putting.put_level.Goals as goal
 
 pub split-requires-clause-tree : goal.split-requires-clause-tree

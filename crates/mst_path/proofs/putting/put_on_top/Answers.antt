@@ -1,7 +1,7 @@
 use Rattle.std.proofs.Common.{sym, subst, arith}
 use Rattle.mst_path.specs.Takes.{FreeIsBlank}
-use Rattle.mst_path.proofs.Copies.{blank_free, old_alive}
-use Rattle.mst_path.proofs.NewEntry.{sides_stand, on_top}
+use Rattle.mst_path.proofs.lemmas.rows.Copies.{blank_free, old_alive}
+use Rattle.mst_path.proofs.lemmas.steps.NewEntry.{sides_stand, on_top}
 use Rattle.mst_path.proofs.putting.put_on_top.Goals as goal
 
 pub split-requires-clause-tree : goal.split-requires-clause-tree

@@ -4,7 +4,7 @@ use Rattle.mst_arena.specs.Content.{Content}
 use Rattle.mst_arena.specs.Lives.{State}
 use Rattle.mst_path.specs.Gaps.{IsOpened, OpensGap, OpensEntry}
 use Rattle.mst_path.specs.Removing.{SearchTree}
-use Rattle.mst_path.proofs.PutGaps.{some_link, puts_down, puts_between, puts_anew}
+use Rattle.mst_path.proofs.lemmas.steps.PutGaps.{some_link, puts_down, puts_between, puts_anew}
 use Rattle.mst_path.proofs.putting.put_step.Goals as goal
 
 pub is_lower-requires : goal.is_lower-requires

@@ -7,7 +7,7 @@ use Rattle.mst_path.specs.Writing.{IsRootOf}
 use Rattle.mst_path.specs.Making.{Grown}
 use Rattle.mst_path.specs.Frames.{Framed, in_frame}
 use Rattle.mst_path.specs.Putting.{TwoStand, in_two, tree_with, with_rows}
-use Rattle.mst_path.proofs.PutFrames.{beside}
+use Rattle.mst_path.proofs.lemmas.steps.PutFrames.{beside}
 use Rattle.mst_path.proofs.putting.put_value.Goals as goal
 
 pub root_at-lower-requires : goal.root_at-lower-requires

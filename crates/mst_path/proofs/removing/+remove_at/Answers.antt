@@ -6,8 +6,8 @@ use Rattle.mst_path.specs.Making.{Grown}
 use Rattle.mst_path.specs.Frames.{Framed, in_frame, tree_round, frame_rows}
 use Rattle.mst_path.specs.Joining.{TwoTrees, in_both, both_joined, both_rows, height_at}
 use Rattle.mst_path.specs.Removing.{SearchTree, in_tree, without, without_rows, IsStep, StepsDown, StepsHere}
-use Rattle.mst_path.proofs.Copies.{blank_free}
-use Rattle.mst_path.proofs.Rounds.{regrown, frame_after, room_after, few_after, closed_round, none_without, lower_tree}
+use Rattle.mst_path.proofs.lemmas.rows.Copies.{blank_free}
+use Rattle.mst_path.proofs.lemmas.steps.Rounds.{regrown, frame_after, room_after, few_after, closed_round, none_without, lower_tree}
 use Rattle.mst_path.proofs.removing.+remove_at.Goals as goal
 
 pub returns-then-link-eq0-clause-removed : goal.returns-then-link-eq0-clause-removed

@@ -3,7 +3,7 @@ use Rattle.mst_arena.specs.Content.{Content}
 use Rattle.mst_arena.specs.Lives.{State}
 use Rattle.mst_path.specs.Joining.{TwoTrees, both_rows, height_at}
 use Rattle.mst_path.specs.Removing.{SearchTree, without_rows, IsStep, StepsDown, StepsHere}
-use Rattle.mst_path.proofs.Rounds.{lower_tree}
+use Rattle.mst_path.proofs.lemmas.steps.Rounds.{lower_tree}
 use Rattle.mst_path.proofs.removing.+remove_cost.Goals as goal
 
 pub remove_cost-inner-requires : goal.remove_cost-inner-requires

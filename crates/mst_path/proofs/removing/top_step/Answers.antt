@@ -5,8 +5,8 @@ use Rattle.mst_arena.specs.Standing.{Placed, link_of, HasRows}
 use Rattle.mst_path.specs.Cutting.{EntriesLie, IsCut, CutGap, CutHeld}
 use Rattle.mst_path.specs.Runs.{own_rows}
 use Rattle.mst_path.specs.Writing.{PlacedEntry}
-use Rattle.mst_path.proofs.Parting.{back_rows}
-use Rattle.mst_path.proofs.Removals.{top, steps_down, steps_here, opens_gap, opens_entry}
+use Rattle.mst_path.proofs.lemmas.trees.Parting.{back_rows}
+use Rattle.mst_path.proofs.lemmas.steps.Removals.{top, steps_down, steps_here, opens_gap, opens_entry}
 use Rattle.mst_path.proofs.removing.top_step.Goals as goal
 
 pub cut_at-requires : goal.cut_at-requires

@@ -13,9 +13,9 @@ use Rattle.mst_path.specs.Takes.{FreeIsBlank}
 use Rattle.mst_path.specs.Making.{Split, tail_behind}
 use Rattle.mst_path.specs.Cutting.{EntriesLie, CutGap, CutHeld, IsCut}
 use Rattle.mst_path.specs.Splitting.{ToSplit}
-use Rattle.mst_path.proofs.Copies.{blank_free}
-use Rattle.mst_path.proofs.Heights.{height}
-use Rattle.mst_path.proofs.Splitting.{split_none, o, lies_behind, tail_behind_is, layer_is, layer_low, not_held, in_gap, gap_to_split, gap_falls, gap_room, above_empty, below_empty, and_right, all_below, all_above, both, count_is, split_made, shared_made_below, shared_made_above, last_link}
+use Rattle.mst_path.proofs.lemmas.rows.Copies.{blank_free}
+use Rattle.mst_path.proofs.lemmas.trees.Heights.{height}
+use Rattle.mst_path.proofs.lemmas.steps.Splitting.{split_none, o, lies_behind, tail_behind_is, layer_is, layer_low, not_held, in_gap, gap_to_split, gap_falls, gap_room, above_empty, below_empty, and_right, all_below, all_above, both, count_is, split_made, shared_made_below, shared_made_above, last_link}
 use Rattle.mst_path.proofs.split.+split.Goals as goal
 
 pub returns-then-link-eq0-clause-split : goal.returns-then-link-eq0-clause-split

@@ -1,4 +1,4 @@
-use Rattle.mst_path.proofs.Heights.{height}
+use Rattle.mst_path.proofs.lemmas.trees.Heights.{height}
 use Rattle.mst_path.proofs.split.+split.Given as goal
 
 -- layers fall

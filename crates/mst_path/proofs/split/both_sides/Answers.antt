@@ -1,7 +1,7 @@
 use Rattle.std.proofs.Common.{refl, sym, subst}
 use Rattle.mst_path.specs.Takes.{FreeIsBlank}
-use Rattle.mst_path.proofs.Copies.{blank_free}
-use Rattle.mst_path.proofs.Sides.{upper_stands, row_still_old, both_made}
+use Rattle.mst_path.proofs.lemmas.rows.Copies.{blank_free}
+use Rattle.mst_path.proofs.lemmas.steps.Sides.{upper_stands, row_still_old, both_made}
 use Rattle.mst_path.proofs.split.both_sides.Goals as goal
 
 pub side-upper-requires-clause-parts : goal.side-upper-requires-clause-parts

@@ -1,4 +1,4 @@
-use Rattle.mst_path.proofs.Sides.{seam_alone}
+use Rattle.mst_path.proofs.lemmas.steps.Sides.{seam_alone}
 use Rattle.mst_path.proofs.split.side.Goals as goal
 
 pub returns-then-parts-eq0-clause-made : goal.returns-then-parts-eq0-clause-made

@@ -5,7 +5,7 @@ use Rattle.mst_key.specs.declared.format.Format.TheVariants.{One}
 use Rattle.mst_node.specs.Shape.{tree_of, tree_entry}
 use Rattle.mst_node.specs.declared.node.Entry.TheViews.{the_lemmas}
 use Rattle.mst_node.proofs.Shapes.{child-fits, tail-fits}
-use Rattle.mst_path.proofs.Nodes.{items, needed_take, needed_more, node_needed, node_child, node_last, nodes_le}
+use Rattle.mst_path.proofs.lemmas.trees.Nodes.{items, needed_take, needed_more, node_needed, node_child, node_last, nodes_le}
 use Rattle.mst_path.proofs.whole_tree.+count.Goals as goal
 
 pub rows_of_node-rows_of_child-requires : goal.rows_of_node-rows_of_child-requires

@@ -1,7 +1,7 @@
 use Rattle.std.proofs.Common.{◌≡◌, ◌+◌, map, take}
 use Rattle.mst_key.specs.declared.format.Format.TheVariants.{One}
 use Rattle.mst_node.specs.Shape.{tree_entry}
-use Rattle.mst_path.proofs.Nodes.{items, entries_needed}
+use Rattle.mst_path.proofs.lemmas.trees.Nodes.{items, entries_needed}
 use Rattle.mst_path.proofs.whole_tree.+count.Given as goal
 
 -- the rows of the head and of the entries so far

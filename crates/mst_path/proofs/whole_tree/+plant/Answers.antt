@@ -13,9 +13,9 @@ use Rattle.mst_arena.proofs.Stands.{all-back}
 use Rattle.mst_path.specs.Takes.{FreeIsBlank}
 use Rattle.mst_path.specs.Writing.{ahead, entries_used}
 use Rattle.mst_path.specs.Planting.{Planted}
-use Rattle.mst_path.proofs.Taking.{takes_none, takes_length, takes_blank, taken_blank}
-use Rattle.mst_path.proofs.Nodes.{items, tail, entries_needed, needed_take, needed_more, node_out, node_needed, node_some, node_layer, node_child, node_last, entries_more}
-use Rattle.mst_path.proofs.Growing.{PlantedSoFar, ahead_count, ahead_none, ahead_some, ahead_all, root_small, free_now, free_beside, entry_more, node_whole}
+use Rattle.mst_path.proofs.lemmas.rows.Taking.{takes_none, takes_length, takes_blank, taken_blank}
+use Rattle.mst_path.proofs.lemmas.trees.Nodes.{items, tail, entries_needed, needed_take, needed_more, node_out, node_needed, node_some, node_layer, node_child, node_last, entries_more}
+use Rattle.mst_path.proofs.lemmas.trees.Growing.{PlantedSoFar, ahead_count, ahead_none, ahead_some, ahead_all, root_small, free_now, free_beside, entry_more, node_whole}
 use Rattle.mst_path.proofs.whole_tree.+plant.Goals as goal
 
 pub plant_child-returns-in-None-clause-planted : goal.plant_child-returns-in-None-clause-planted

@@ -3,8 +3,8 @@ use Rattle.mst_key.specs.declared.format.Format.TheVariants.{One}
 use Rattle.mst_node.specs.Shape.{tree_entry}
 use Rattle.mst_node.specs.declared.node.Node.{out-Node}
 use Rattle.mst_path.specs.Writing.{IsWriter}
-use Rattle.mst_path.proofs.Nodes.{items}
-use Rattle.mst_path.proofs.Growing.{PlantedSoFar}
+use Rattle.mst_path.proofs.lemmas.trees.Nodes.{items}
+use Rattle.mst_path.proofs.lemmas.trees.Growing.{PlantedSoFar}
 use Rattle.mst_path.proofs.whole_tree.+plant.Given as goal
 
 -- the entries so far are planted

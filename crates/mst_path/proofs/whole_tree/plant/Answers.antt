@@ -12,8 +12,8 @@ use Rattle.mst_arena.specs.Lives.{State}
 use Rattle.mst_arena.proofs.Stands.{one_placed}
 use Rattle.mst_path.specs.Takes.{Takes, KeepsBut}
 use Rattle.mst_path.specs.Planting.{rows_needed, node_count, tree_at, IsTreeOf, Planted}
-use Rattle.mst_path.proofs.Taking.{takes_count}
-use Rattle.mst_path.proofs.Nodes.{used_count}
+use Rattle.mst_path.proofs.lemmas.rows.Taking.{takes_count}
+use Rattle.mst_path.proofs.lemmas.trees.Nodes.{used_count}
 use Rattle.mst_path.proofs.whole_tree.plant.Goals as goal
 
 -- ---- the tree of a map

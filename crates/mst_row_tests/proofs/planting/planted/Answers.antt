@@ -3,7 +3,7 @@ use Rattle.std.proofs.lemmas.Bool.Decides.{nat_tests}
 use Rattle.std.proofs.lemmas.List.{length-replicate}
 use Rattle.mst_arena.specs.Lives.{State}
 use Rattle.mst_arena.specs.declared.life.Life.TheVariants.{Free}
-use Rattle.mst_path.proofs.Taking.{within_length}
+use Rattle.mst_path.proofs.lemmas.rows.Taking.{within_length}
 use Rattle.mst_row_tests.proofs.planting.planted.Goals as goal
 
 pub plant-root-requires-clause-blank : goal.plant-root-requires-clause-blank

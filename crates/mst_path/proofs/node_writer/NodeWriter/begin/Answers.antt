@@ -1,6 +1,6 @@
 use Rattle.std.proofs.Common.{rules}
 use Rattle.std.proofs.Common.{arith}
-use Rattle.mst_path.proofs.Taking.{takes_append, takes_count, takes_small}
+use Rattle.mst_path.proofs.lemmas.rows.Taking.{takes_append, takes_count, takes_small}
 use Rattle.mst_path.proofs.node_writer.NodeWriter.begin.Goals as goal
 
 pub take_row-first-requires : goal.take_row-first-requires

@@ -7,8 +7,8 @@ use Rattle.mst_arena.specs.declared.row.Row.TheVariants.{Head}
 use Rattle.mst_arena.specs.Standing.{tree_of, rows_of, used, count_of, first_of, tail_of, HasRows}
 use Rattle.mst_arena.proofs.Stands.{all-append, placed_frame, same_of_write}
 use Rattle.mst_path.specs.Writing.{chain_of, link_from, link_to, IsAhead, entry_rows, entries_used, text_up_to}
-use Rattle.mst_path.proofs.Taking.{out_front, out_back, out_flip}
-use Rattle.mst_path.proofs.Entries.{entries_frame, first_chain, tail_chain, count_chain, rows_chain, text_chain}
+use Rattle.mst_path.proofs.lemmas.rows.Taking.{out_front, out_back, out_flip}
+use Rattle.mst_path.proofs.lemmas.rows.Entries.{entries_frame, first_chain, tail_chain, count_chain, rows_chain, text_chain}
 use Rattle.mst_path.proofs.node_writer.NodeWriter.finish.Goals as goal
 
 -- no row is ahead where nothing is left

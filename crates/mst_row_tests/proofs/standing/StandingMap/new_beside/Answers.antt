@@ -1,7 +1,7 @@
 use Rattle.std.proofs.Common.{rules}
 use Rattle.mst_key.specs.Map.{IsMap}
 use Rattle.mst_arena.specs.Standing.{numbers}
-use Rattle.mst_path.proofs.Moving.{moves_takes}
+use Rattle.mst_path.proofs.lemmas.rows.Moving.{moves_takes}
 use Rattle.mst_row_tests.proofs.Publishing.{IsPrefix, begins, changes_taken, ready_after, within_new, lives_of}
 use Rattle.mst_row_tests.proofs.standing.StandingMap.new_beside.Goals as goal
 use Rattle.mst_row_tests.proofs.standing.StandingMap.new_beside.Given.{Over}

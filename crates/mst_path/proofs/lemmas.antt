@@ -1,0 +1,5 @@
+pub mod rows
+pub mod trees
+pub mod steps
+pub mod cost
+pub mod versions

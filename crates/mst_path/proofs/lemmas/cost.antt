@@ -1,0 +1,2 @@
+pub mod PutCosts
+pub mod Sizes

@@ -1,0 +1,7 @@
+pub mod Taking
+pub mod Entries
+pub mod Moving
+pub mod Fewness
+pub mod FreeCounts
+pub mod RowCounts
+pub mod Copies

@@ -1,0 +1,11 @@
+pub mod Steps
+pub mod Framing
+pub mod Rounds
+pub mod Removals
+pub mod Finishing
+pub mod Whole
+pub mod Sides
+pub mod Splitting
+pub mod NewEntry
+pub mod PutGaps
+pub mod PutFrames

@@ -1,0 +1,164 @@
+-- What becomes of a node into whose tree a pair is put, by its layer and by where the key falls.
+use Rattle.std.proofs.Common.{◌≡◌, ℕ, zero, suc, ◌+◌, ◌<◌, ◌≤◌, List, refl, sym, ◌∙◌, ap, subst, arith}
+use Rattle.mst_key.specs.declared.format.Format.TheVariants.{One}
+use Rattle.mst_key.specs.Layer.{layer_in}
+use Rattle.mst_key.specs.Map.{IsAscending}
+use Rattle.mst_node.specs.Tree.{Tree, empty, node, Entries, last, entry, entry_count, pairs, entries_pairs, IsMst, IsMstEntries, IsUnder}
+use Rattle.mst_node.specs.Shape.{TreeEntry, with_entries}
+use Rattle.mst_arena.specs.Content.{Content}
+use Rattle.mst_arena.specs.Lives.{State}
+use Rattle.mst_arena.specs.Standing.{Placed, none as no_tree, head as tree_head, tree_of, link_of}
+use Rattle.mst_path.specs.declared.frames.Frame.{Frame}
+use Rattle.mst_path.specs.declared.joining.Meeting.{Meeting}
+use Rattle.mst_change.specs.Parts.{first_child, with_first}
+use Rattle.mst_change.specs.Split.{below, above}
+use Rattle.mst_change.specs.Put.{put_at}
+use Rattle.mst_change.specs.Cost.{split_rows, put_rows}
+use Rattle.mst_path.specs.Making.{cells_of, entries_to}
+use Rattle.mst_path.specs.Joining.{height, height_at}
+use Rattle.mst_path.specs.Gaps.{OpensGap, OpensEntry}
+use Rattle.mst_path.specs.Splitting.{ToSplit}
+use Rattle.mst_path.specs.Putting.{RisingTree, PutsDown, PutsBetween, PutsAnew}
+use Rattle.mst_change.proofs.Parts.{with_first_count, with_entries_count}
+use Rattle.mst_change.proofs.Split.Steps.{gap_count}
+use Rattle.mst_change.proofs.Put.Steps.{put_lower, put_rows_lower, put_level, put_rows_level, put_higher, put_rows_higher, put_value, put_rows_value}
+use Rattle.mst_path.proofs.lemmas.trees.Heights.{gap_rises, entry_layer}
+use Rattle.mst_path.proofs.lemmas.trees.Meetings.{node_of_some, side_some, height_there}
+
+pub under_height : (l : ℕ) (u : Tree) → height u ≤ l → IsUnder l u
+under_height l empty low = tt
+under_height l (node g j es) low = omega (arith, low)
+
+-- a tree that has a node stands at a link
+pub some_link : (p : Placed) (link l : ℕ) → link_of p ≡ link → l < height (tree_of One p) → 0 < link
+some_link no_tree link l at high = absurd (omega (arith, high))
+some_link (tree_head i j chain) link l at high = omega (arith, at)
+
+own_first : (es : Entries) → with_first (first_child es) es ≡ es
+own_first (last child) = refl
+own_first (entry child key value rest) = refl
+
+-- ---- all keys are of lower layers
+
+pub put_top : (u : Tree) (l : ℕ) (k v : List ℕ) → height u ≤ l → put_at One l k v u ≡ node One l (entry (below k u) k v (last (above k u)))
+put_top empty l k v low = refl
+put_top (node g j es) l k v low = put_lower One g l j k v es (omega (arith, low))
+
+pub put_top_rows : (u : Tree) (l : ℕ) (k v : List ℕ) → height u ≤ l → put_rows l k v u ≡ 2 + split_rows k u
+put_top_rows empty l k v low = refl
+put_top_rows (node g j es) l k v low = put_rows_lower One g l j k v es (omega (arith, low))
+
+module _ (c : Content) (s : State) (link : ℕ) (t : RisingTree c s link) (l : ℕ) (k : List ℕ) (l_is : l ≡ layer_in One k) where
+  abbrev pub whole_split : height (tree_of One t.tree.placed) ≤ l → ToSplit c s link k
+  whole_split low = record {
+    tree = record { placed = t.tree.placed; at = t.tree.at; piece = t.tree.piece; once = t.tree.once };
+    mst = t.tree.search;
+    rises = t.rises;
+    under = under_height (layer_in One k) (tree_of One t.tree.placed) (omega (arith, low, l_is));
+  }
+
+  rises_inside : (j : ℕ) (es : Entries) → tree_of One t.tree.placed ≡ node One j es → (front : List TreeEntry) (back : Entries) → es ≡ with_entries front back → IsAscending (pairs (first_child back))
+  rises_inside j es top front back whole =
+      gap_rises One j back front (subst (λ (e : Entries). IsAscending (entries_pairs e)) whole (subst (λ (u : Tree). IsAscending (pairs u)) top t.rises))
+
+  -- ---- the key falls into a gap
+
+  module _ (child : ℕ) (frame : Frame) (o : OpensGap c s link t.tree k child frame) where
+    abbrev cells : List TreeEntry
+    cells = cells_of o.framed.front
+
+    abbrev inside : Tree
+    inside = tree_of One o.inner.placed
+
+    inner_rises : IsAscending (pairs inside)
+    inner_rises = subst (λ (u : Tree). IsAscending (pairs u)) o.first (rises_inside frame.layer o.entries o.top cells o.behind o.gap.whole)
+
+    tall : height (tree_of One t.tree.placed) ≡ frame.layer + 1
+    tall = ap height o.top
+
+    higher : l < height (tree_of One t.tree.placed) → (frame.layer ≡ l → ⊥) → l < frame.layer
+    higher high other = more l frame.layer (omega (arith, high, tall)) other
+      where
+        more : (a b : ℕ) → a ≤ b → (b ≡ a → ⊥) → a < b
+        more zero zero le differ = absurd (differ refl)
+        more zero (suc b) le differ = omega arith
+        more (suc a) zero le differ = absurd (omega (arith, le))
+        more (suc a) (suc b) le differ = omega (arith, more a b (omega (arith, le)) (λ e. differ (ap suc e)))
+
+    some_round : (u : Tree) → 0 < entry_count (with_entries cells (with_first u (entries_to o.framed.back o.framed.tail)))
+    some_round u =
+        omega (arith, with_entries_count cells (with_first u (entries_to o.framed.back o.framed.tail)), ap entry_count (o.same u), with_first_count o.behind u, gap_count k o.entries cells o.behind o.gap, o.some)
+
+    pub puts_down : l < height (tree_of One t.tree.placed) → (frame.layer ≡ l → ⊥) → PutsDown c s link t l k child frame
+    puts_down high other = record {
+      inner = record { tree = o.inner; rises = inner_rises };
+      framed = o.framed;
+      is = λ v.
+          ap (put_at One l k v) o.top
+          ∙ put_higher k o.entries cells o.behind o.gap One One l frame.layer v (higher high other)
+          ∙ ap (λ (u : Tree). node One frame.layer (with_entries cells (with_first (put_at One l k v u) o.behind))) o.first
+          ∙ ap (λ (e : Entries). node One frame.layer (with_entries cells e)) (o.same (put_at One l k v inside))
+          ∙ sym (node_of_some frame.layer (with_entries cells (with_first (put_at One l k v inside) (entries_to o.framed.back o.framed.tail))) (some_round (put_at One l k v inside)));
+      rows = λ v.
+          let all = ap (put_rows l k v) o.top ∙ put_rows_higher k o.entries cells o.behind o.gap One l frame.layer v (higher high other) in
+          let inner = ap (put_rows l k v) o.first in
+          let frames = side_some (frame.front.count + frame.back.count) (omega (arith, o.some, o.counted)) in
+          omega (arith, all, inner, frames, o.counted);
+      given = o.given;
+      falls = o.falls;
+      low = o.low;
+    }
+
+    pub puts_between : frame.layer ≡ l → PutsBetween c s link t l k child frame
+    puts_between level = record {
+      inner = record {
+        tree = record { placed = o.inner.placed; at = o.inner.at; piece = o.inner.piece; once = o.inner.once };
+        mst = o.inner.search;
+        rises = inner_rises;
+        under = under_height (layer_in One k) inside (omega (arith, o.falls, tall, level, l_is));
+      };
+      framed = o.framed;
+      is = λ v.
+          ap (put_at One l k v) (o.top ∙ ap (λ (n : ℕ). node One n o.entries) level)
+          ∙ put_level k o.entries cells o.behind o.gap One One l v
+          ∙ ap (λ (u : Tree). node One l (with_entries cells (entry (below k u) k v (with_first (above k u) o.behind)))) o.first
+          ∙ ap (λ (e : Entries). node One l (with_entries cells (entry (below k inside) k v e))) (o.same (above k inside))
+          ∙ ap (λ (n : ℕ). node One n (with_entries cells (entry (below k inside) k v (with_first (above k inside) (entries_to o.framed.back o.framed.tail))))) (sym level);
+      rows = λ v.
+          let all = ap (put_rows l k v) (o.top ∙ ap (λ (n : ℕ). node One n o.entries) level) ∙ put_rows_level k o.entries cells o.behind o.gap One l v in
+          omega (arith, all, ap (split_rows k) o.first, o.counted);
+      given = o.given;
+      low = o.low;
+    }
+
+  -- ---- the key has an entry
+
+  module _ (m : Meeting) (o : OpensEntry c s link t.tree k m) where
+    abbrev before : List TreeEntry
+    before = cells_of o.framed.front
+
+    level : m.frame.layer ≡ l
+    level =
+        let search : IsMst One (node One m.frame.layer o.entries) = subst (IsMst One) o.top t.tree.search in
+        sym (entry_layer One m.frame.layer (tree_of One o.inner.a) k o.value o.behind before (subst (IsMstEntries One m.frame.layer) o.at.whole search.2)) ∙ sym l_is
+
+    pub puts_anew : PutsAnew c s link t l k m
+    puts_anew = record {
+      inner = o.inner;
+      framed = o.framed;
+      is = λ v.
+          ap (put_at One l k v) (o.top ∙ ap (λ (n : ℕ). node One n o.entries) level)
+          ∙ put_value k o.entries before (tree_of One o.inner.a) o.value o.behind o.at One One l v
+          ∙ ap (λ (e : Entries). node One l (with_entries before (entry (tree_of One o.inner.a) k v e))) (sym (own_first o.behind) ∙ ap (λ (u : Tree). with_first u o.behind) o.first ∙ o.same (tree_of One o.inner.b))
+          ∙ ap (λ (n : ℕ). node One n (with_entries before (entry (tree_of One o.inner.a) k v (with_first (tree_of One o.inner.b) (entries_to o.framed.back o.framed.tail))))) (sym level);
+      rows = λ v.
+          let all = ap (put_rows l k v) (o.top ∙ ap (λ (n : ℕ). node One n o.entries) level) ∙ put_rows_value k o.entries before (tree_of One o.inner.a) o.value o.behind o.at One l v in
+          omega (arith, all, o.counted);
+      given = o.given;
+      low = o.low;
+    }
+
+-- a step down is a step to less
+pub falls_at : (c : Content) (s : State) (link : ℕ) (t : RisingTree c s link) (l : ℕ) (k : List ℕ) (child : ℕ) (frame : Frame) → PutsDown c s link t l k child frame → height_at c child < height_at c link
+falls_at c s link t l k child frame down =
+    omega (arith, down.falls, height_there c down.inner.tree.placed child down.inner.tree.at down.inner.tree.piece.rows, height_there c t.tree.placed link t.tree.at t.tree.piece.rows)

@@ -1,0 +1,11 @@
+pub mod Nodes
+pub mod Growing
+pub mod Opening
+pub mod Opened
+pub mod Meetings
+pub mod Joined
+pub mod Parting
+pub mod Heights
+pub mod Lookups
+pub mod Made
+pub mod Cutting

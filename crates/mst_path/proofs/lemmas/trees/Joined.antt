@@ -1,0 +1,99 @@
+-- Two trees that are joined: where one of them is empty, and where the trees that meet are joined
+-- already.
+use Rattle.std.proofs.Common.{◌≡◌, ℕ, ◌+◌, ◌<◌, ◌≤◌, [], length, refl, sym, ◌∙◌, ap, arith}
+use Rattle.mst_key.specs.declared.format.Format.TheVariants.{One}
+use Rattle.mst_node.specs.Tree.{Tree, empty}
+use Rattle.mst_arena.specs.Content.{Content}
+use Rattle.mst_arena.specs.Lives.{State, free_count}
+use Rattle.mst_arena.specs.Lists.{times}
+use Rattle.mst_arena.specs.declared.row.Root.{Root}
+use Rattle.mst_arena.specs.Standing.{Placed, none as no_tree, head as tree_head, tree_of, link_of, used}
+use Rattle.mst_path.specs.declared.joining.Meeting.{Meeting}
+use Rattle.mst_change.specs.Join.{join}
+use Rattle.mst_change.specs.Cost.{join_rows}
+use Rattle.mst_path.specs.Making.{Grown}
+use Rattle.mst_path.specs.Runs.{Piece, OldPiece}
+use Rattle.mst_path.specs.Writing.{IsRootOf}
+use Rattle.mst_path.specs.Frames.{Framed, in_frame, tree_round, frame_rows}
+use Rattle.mst_path.specs.Joining.{TwoTrees, in_both, both_joined, both_rows, height_at, Met}
+use Rattle.mst_path.proofs.lemmas.rows.Moving.{moves_none}
+use Rattle.mst_path.proofs.lemmas.trees.Made.{made_old}
+use Rattle.mst_change.proofs.Join.Steps.{join_empty}
+use Rattle.mst_path.proofs.lemmas.steps.Framing.{framed_after, grown_round}
+use Rattle.mst_path.proofs.lemmas.trees.Meetings.{height_there}
+
+pub placed_none : (p : Placed) (link : ℕ) → link_of p ≡ link → link ≡ 0 → p ≡ no_tree
+placed_none no_tree link at zero_link = refl
+placed_none (tree_head i l chain) link at zero_link = absurd (omega (arith, at, zero_link))
+
+pub old_piece : (c : Content) (s : State) (p : Placed) → OldPiece c s p → Piece c s p
+old_piece c s p is = record { rows = is.rows; made = made_old s p is.old }
+
+-- the tree stays as it is
+pub unchanged : (c : Content) (s : State) (p : Placed) (at : Root) → OldPiece c s p → IsRootOf p at → (t : Tree) → tree_of One p ≡ t → (given : ℕ → ℕ) → ((x : ℕ) → times x (used p) ≡ given x) → (n : ℕ) → n ≡ 0 → Grown c c s s t at given n
+unchanged c s p at piece root t is given all n zero_rows = record {
+  placed = p;
+  is = is;
+  root = root;
+  piece = old_piece c s p piece;
+  taken = [];
+  killed = [];
+  moves = moves_none s;
+  keeps = λ x out. refl;
+  rows = λ x. omega (arith, all x);
+  counted = sym zero_rows;
+}
+
+rows_empty : (t : Tree) → join_rows t empty ≡ 0
+rows_empty empty = refl
+rows_empty (Rattle.mst_node.specs.Tree.node g l es) = refl
+
+module _ (c : Content) (s : State) (left right : ℕ) (t : TwoTrees c s left right) where
+  pub left_none : left ≡ 0 → (at : Root) → IsRootOf t.b at → Grown c c s s (both_joined t) at (in_both t) (both_rows t)
+  left_none no_left at root =
+      let gone = placed_none t.a left t.a_at no_left in
+      unchanged c s t.b at t.b_piece root (both_joined t) (sym (ap (λ p. join (tree_of One p) (tree_of One t.b)) gone)) (in_both t) (λ x. omega (arith, ap (λ p. times x (used p)) gone)) (both_rows t) (ap (λ p. join_rows (tree_of One p) (tree_of One t.b)) gone)
+
+  pub right_none : right ≡ 0 → (at : Root) → IsRootOf t.a at → Grown c c s s (both_joined t) at (in_both t) (both_rows t)
+  right_none no_right at root =
+      let gone = placed_none t.b right t.b_at no_right in
+      unchanged c s t.a at t.a_piece root (both_joined t) (sym (ap (λ p. join (tree_of One t.a) (tree_of One p)) gone ∙ join_empty (tree_of One t.a))) (in_both t) (λ x. omega (arith, ap (λ p. times x (used p)) gone)) (both_rows t) (ap (λ p. join_rows (tree_of One t.a) (tree_of One p)) gone ∙ rows_empty (tree_of One t.a))
+
+  module _ (m : Meeting) (met : Met c s left right t m) where
+    -- a step down is a step to less
+    pub lower_trees : height_at c m.left + height_at c m.right < height_at c left + height_at c right
+    lower_trees = omega (
+      arith,
+      met.falls,
+      height_there c met.inner.a m.left met.inner.a_at met.inner.a_piece.rows,
+      height_there c met.inner.b m.right met.inner.b_at met.inner.b_piece.rows,
+      height_there c t.a left t.a_at t.a_piece.rows,
+      height_there c t.b right t.b_at t.b_piece.rows,
+    )
+
+    -- the trees that meet are joined
+    module _ (c1 : Content) (s1 : State) (seam : Root) (g : Grown c c1 s s1 (both_joined met.inner) seam (in_both met.inner) (both_rows met.inner)) where
+      abbrev pub frame_now : Framed c1 s1 m.frame (λ x. times x (used g.placed))
+      frame_now = framed_after c c1 s s1 (both_joined met.inner) seam (in_both met.inner) (both_rows met.inner) g m.frame met.framed
+
+      pub room_now : both_rows t ≤ free_count s.lives → frame_rows m.frame ≤ free_count s1.lives
+      room_now room = omega (arith, room, met.rows, g.moves.room, g.counted)
+
+      pub few_now : length s.lives ≤ 65535 → length s1.lives ≤ 65535
+      few_now few = omega (arith, few, g.moves.rows)
+
+      pub joined_round : (c2 : Content) (s2 : State) (at : Root) → Grown c1 c2 s1 s2 (tree_round frame_now (tree_of One g.placed)) at (λ x. times x (used g.placed) + in_frame frame_now x) (frame_rows m.frame) → Grown c c2 s s2 (both_joined t) at (in_both t) (both_rows t)
+      joined_round c2 s2 at h =
+          let all = grown_round c c1 s s1 (both_joined met.inner) seam (in_both met.inner) (both_rows met.inner) g m.frame met.framed c2 s2 (tree_round frame_now (tree_of One g.placed)) at (frame_rows m.frame) h in
+          record {
+            placed = all.placed;
+            is = all.is ∙ ap (tree_round met.framed) g.is ∙ sym met.is;
+            root = all.root;
+            piece = all.piece;
+            taken = all.taken;
+            killed = all.killed;
+            moves = all.moves;
+            keeps = all.keeps;
+            rows = λ x. omega (arith, all.rows x, met.given x);
+            counted = omega (arith, all.counted, met.rows);
+          }

@@ -1,0 +1,344 @@
+-- Where two trees meet that are to be joined, by the layers of their nodes.
+use Rattle.std.proofs.Common.{◌≡◌, ℕ, zero, suc, ◌+◌, ◌-◌, ◌<◌, ◌≤◌, ◌==◌, ◌||◌, Bool, true, false, eqb, List, [], ◌∷◌, length, Option, Some, IsSome, refl, sym, ◌∙◌, ap, subst, arith, inl, inr, ◌⊎◌}
+use Rattle.std.specs.Prelude.{option_and_then, if◌then◌else◌}
+use Rattle.std.specs.List.{AllByRecursion}
+use Rattle.std.specs.Option.{option_map_or}
+use Rattle.std.proofs.lemmas.List.{length-map}
+use Rattle.std.proofs.lemmas.Bool.Decides.{nat_tests}
+use Rattle.mst_key.specs.declared.format.Format.TheVariants.{One}
+use Rattle.mst_node.specs.Tree.{Tree, empty, node, Entries, last, entry, entry_count, IsUnder, IsMst, IsMstEntries}
+use Rattle.mst_node.specs.Shape.{TreeEntry, with_entries}
+use Rattle.mst_arena.specs.Content.{Content, part_at}
+use Rattle.mst_arena.specs.Lives.{State}
+use Rattle.mst_arena.specs.Lists.{times, bit}
+use Rattle.mst_arena.specs.Row.{head_links, entry_links}
+use Rattle.mst_arena.specs.declared.row.Row.{Row}
+use Rattle.mst_arena.specs.declared.row.Row.TheVariants.{Entry}
+use Rattle.mst_arena.specs.declared.row.HeadLinks.{HeadLinks}
+use Rattle.mst_arena.specs.declared.row.EntryLinks.{EntryLinks}
+use Rattle.mst_arena.specs.Standing.{Placed, none as no_tree, head as tree_head, tree_of, link_of, rows_of, used, HasRows}
+use Rattle.mst_arena.proofs.ListLemmas.{times-append}
+use Rattle.mst_change.specs.Parts.{cells, last_child, first_child, with_first, node_of}
+use Rattle.mst_change.specs.Join.{join}
+use Rattle.mst_change.specs.Cost.{side_rows, join_rows}
+use Rattle.mst_path.specs.Moves.{In, IsAlive, IsOld}
+use Rattle.mst_path.specs.Runs.{OldPiece, Run, gaps_used, EachGap}
+use Rattle.mst_path.specs.Making.{BackRun, HasTail, cell_of, cells_of, entries_to, others}
+use Rattle.mst_path.specs.Joining.{TwoTrees, height, height_at, Met, above_right, below_right, beside_right}
+use Rattle.mst_path.specs.Writing.{PlacedEntry, link_from}
+use Rattle.mst_path.proofs.lemmas.rows.Copies.{old_alive, links_there, links_are}
+use Rattle.mst_path.proofs.lemmas.trees.Nodes.{layer_of_entries}
+use Rattle.mst_change.proofs.Parts.{first_mst, last_mst, with_first_count, with_entries_count}
+use Rattle.mst_change.proofs.Join.Steps.{join_higher, join_lower, join_level, join_rows_higher, join_rows_lower, join_rows_level}
+use Rattle.mst_path.proofs.lemmas.trees.Opening.{Opened, opened, cells_to, last_to, count_to, First, first_of_some}
+
+-- ---- rows of a list, each with a fact
+
+pub each_in : (P : ℕ → Type 0) (xs : List ℕ) → AllByRecursion P xs → (r : ℕ) → In r xs → P r
+each_in P [] all r i = absurd (omega (arith, i))
+each_in P (x ∷ xs) all r i = go (eqb r x) refl (λ more. each_in P xs all.1 r more)
+  where
+    go : (t : Bool) → eqb r x ≡ t → (In r xs → P r) → P r
+    go true e rest = let same : x ≡ r = grind (arith, nat_tests) in subst P same all.0
+    go false e rest = rest (omega (arith, i, ap bit e))
+
+-- ---- nodes with entries
+
+pub node_of_some : (l : ℕ) (es : Entries) → 0 < entry_count es → node_of One l es ≡ node One l es
+node_of_some l (last child) h = absurd (omega (arith, h))
+node_of_some l (entry child key value rest) h = refl
+
+pub side_some : (k : ℕ) → 0 < k → side_rows k false ≡ k + 1
+side_some zero h = absurd (omega (arith, h))
+side_some (suc k) h = let e : (suc k == 0) ≡ false = grind (arith, nat_tests) in ap (λ (b : Bool). if b || false then 0 else suc k + 1) e
+
+pub height_under : (l : ℕ) (t : Tree) → IsUnder l t → height t ≤ l
+height_under l empty under = omega arith
+height_under l (node g k es) under = omega (arith, under)
+
+pub gaps_others : (P : Placed → Type 0) (es : List PlacedEntry) → EachGap P es → EachGap P (others es)
+gaps_others P [] each = tt
+gaps_others P (e ∷ es) each = each.1
+
+pub has_tail : (es : List PlacedEntry) (tail : Placed) → 0 < length es → HasTail es tail
+has_tail [] tail some = absurd (omega (arith, some))
+has_tail (e ∷ es) tail some = tt
+
+pub back_of_run : (c : Content) (s : State) (link count : ℕ) (es : List PlacedEntry) → Run c s link count 0 es → 0 < length es → (tail_link : ℕ) (tail : Placed) → link_of tail ≡ tail_link → OldPiece c s tail → BackRun c s link count tail_link es tail
+back_of_run c s link count es run some tail_link tail at piece = record {
+  counted = run.counted;
+  begins = run.begins;
+  rows = run.rows;
+  old = run.old;
+  gaps = gaps_others (OldPiece c s) es run.gaps;
+  tail_at = at;
+  tail_piece = piece;
+  tail_none = has_tail es tail some;
+}
+
+pub no_back : (c : Content) (s : State) → BackRun c s 0 0 0 [] no_tree
+no_back c s = record {
+  counted = refl;
+  begins = refl;
+  rows = tt;
+  old = λ r i. absurd (omega (arith, i));
+  gaps = tt;
+  tail_at = refl;
+  tail_piece = record { rows = tt; old = λ r i. absurd (omega (arith, i)) };
+  tail_none = refl;
+}
+
+pub no_front : (c : Content) (s : State) → Run c s 0 0 0 []
+no_front c s = record { counted = refl; begins = refl; rows = tt; old = λ r i. absurd (omega (arith, i)); gaps = tt }
+
+pub some_of : (a b : ℕ) → 0 < a + b → (0 < a) ⊎ (0 < b)
+some_of zero b h = inr (omega (arith, h))
+some_of (suc a) b h = inl (omega arith)
+
+-- what is in two old trees is alive
+pub both_alive : (c : Content) (s : State) (p q : Placed) → OldPiece c s p → OldPiece c s q → (r : ℕ) → 0 < times r (used p) + times r (used q) → IsAlive s r
+both_alive c s p q a b r i = elim (some_of (times r (used p)) (times r (used q)) i) [
+  | inl k ↦ old_alive s r (a.old r k)
+  | inr k ↦ old_alive s r (b.old r k)
+]
+
+-- ---- a search tree's node that is opened
+
+module _ (c : Content) (s : State) (p : Placed) (row : ℕ) (h : HeadLinks) (o : Opened c s p row h) (search : IsMst One (tree_of One p)) where
+  abbrev pub entries : Entries
+  entries = entries_to o.entries o.tail
+
+  pub node_search : (One ≡ One) × (0 < entry_count entries) × IsMstEntries One h.layer entries
+  node_search = subst (IsMst One) o.tree search
+
+  pub some_entries : 0 < length o.entries
+  some_entries = omega (arith, node_search.1, count_to o.entries o.tail)
+
+  pub low_layer : h.layer ≤ 64
+  low_layer = layer_of_entries h.layer entries node_search.1 node_search.2
+
+  pub tall : height (tree_of One p) ≡ h.layer + 1
+  tall = ap height o.tree
+
+  pub tail_search : IsMst One (tree_of One o.tail)
+  tail_search = subst (IsMst One) (last_to o.entries o.tail) (last_mst entries One h.layer node_search.2).1
+
+  pub tail_low : height (tree_of One o.tail) ≤ h.layer
+  tail_low = height_under h.layer (tree_of One o.tail) (subst (IsUnder h.layer) (last_to o.entries o.tail) (last_mst entries One h.layer node_search.2).0)
+
+  pub first : First o.entries
+  first = first_of_some o.entries some_entries
+
+  pub first_is : first_child entries ≡ tree_of One first.entry.child
+  first_is = ap (λ (l : List PlacedEntry). first_child (entries_to l o.tail)) first.is
+
+  pub first_search : IsMst One (tree_of One first.entry.child)
+  first_search = subst (IsMst One) first_is (first_mst entries One h.layer node_search.2).1
+
+  pub first_low : height (tree_of One first.entry.child) ≤ h.layer
+  first_low = height_under h.layer (tree_of One first.entry.child) (subst (IsUnder h.layer) first_is (first_mst entries One h.layer node_search.2).0)
+
+  first_run : Run c s h.first h.count 0 (first.entry ∷ first.more)
+  first_run = subst (Run c s h.first h.count 0) first.is o.run
+
+  pub first_piece : OldPiece c s first.entry.child
+  first_piece = first_run.gaps.0
+
+  pub first_gap : (x : ℕ) → times x (gaps_used o.entries) ≡ times x (used first.entry.child) + times x (gaps_used (others o.entries))
+  first_gap x = ap (λ (l : List PlacedEntry). times x (gaps_used l)) first.is ∙ times-append x (used first.entry.child) (gaps_used first.more) ∙ ap (λ (l : List PlacedEntry). times x (used first.entry.child) + times x (gaps_used (others l))) (sym first.is)
+
+  first_row : c (h.first - 1) ≡ Some (Entry (link_of first.entry.child) (link_from 0 first.more) first.entry.key first.entry.value)
+  first_row = let same : h.first - 1 ≡ first.entry.at = omega (arith, first_run.begins) in ap c same ∙ first_run.rows.0
+
+  pub first_some : 0 < h.first
+  first_some = omega (arith, first_run.begins)
+
+  pub first_there : IsSome (part_at entry_links c (h.first - 1))
+  first_there = links_there (c (h.first - 1)) _ _ _ _ first_row
+
+  pub first_link : (l : EntryLinks) → part_at entry_links c (h.first - 1) ≡ Some l → l.child ≡ link_of first.entry.child
+  first_link l read = (links_are (c (h.first - 1)) l _ _ _ _ first_row read).0
+
+-- ---- the two nodes
+
+module _ (c : Content) (s : State) (left right : ℕ) (t : TwoTrees c s left right) (low high : HeadLinks) (some_left : 0 < left) (some_right : 0 < right) (read_low : part_at head_links c (left - 1) ≡ Some low) (read_high : part_at head_links c (right - 1) ≡ Some high) where
+  abbrev pub a_node : Opened c s t.a (left - 1) low
+  a_node = opened c s t.a left low t.a_at some_left t.a_piece read_low
+
+  abbrev pub b_node : Opened c s t.b (right - 1) high
+  b_node = opened c s t.b right high t.b_at some_right t.b_piece read_high
+
+  abbrev a_entries : Entries
+  a_entries = entries_to a_node.entries a_node.tail
+
+  abbrev b_entries : Entries
+  b_entries = entries_to b_node.entries b_node.tail
+
+  abbrev a_some : 0 < length a_node.entries
+  a_some = some_entries c s t.a (left - 1) low a_node t.a_search
+
+  abbrev b_some : 0 < length b_node.entries
+  b_some = some_entries c s t.b (right - 1) high b_node t.b_search
+
+  pub met_higher : high.layer < low.layer → Met c s left right t (above_right left right low)
+  met_higher less = record {
+    inner = record {
+      a = a_node.tail;
+      b = t.b;
+      a_at = a_node.tail_at;
+      b_at = t.b_at;
+      a_piece = a_node.tail_piece;
+      b_piece = t.b_piece;
+      a_search = tail_search c s t.a (left - 1) low a_node t.a_search;
+      b_search = t.b_search;
+      once = λ x. omega (arith, t.once x, a_node.used_is x);
+    };
+    framed = record {
+      front = a_node.entries;
+      behind = 0;
+      front_run = a_node.run;
+      back = [];
+      tail = no_tree;
+      back_run = no_back c s;
+      goes = each_in (IsOld s) ((left - 1) ∷ []) (a_node.head_old, tt);
+      alive = both_alive c s a_node.tail t.b a_node.tail_piece t.b_piece;
+      once = λ x. omega (arith, t.once x, a_node.used_is x);
+    };
+    is =
+        ap (λ u. join u (tree_of One t.b)) a_node.tree
+        ∙ ap (λ u. join (node One low.layer a_entries) u) b_node.tree
+        ∙ join_higher One One low.layer high.layer a_entries b_entries less
+        ∙ ap (λ u. node One low.layer (with_entries (cells a_entries) (last (join (last_child a_entries) u)))) (sym b_node.tree)
+        ∙ ap (λ l. node One low.layer (with_entries l (last (join (last_child a_entries) (tree_of One t.b))))) (cells_to a_node.entries a_node.tail)
+        ∙ ap (λ u. node One low.layer (with_entries (cells_of a_node.entries) (last (join u (tree_of One t.b))))) (last_to a_node.entries a_node.tail)
+        ∙ sym (node_of_some low.layer (with_entries (cells_of a_node.entries) (last (join (tree_of One a_node.tail) (tree_of One t.b)))) (omega (arith, with_entries_count (cells_of a_node.entries) (last (join (tree_of One a_node.tail) (tree_of One t.b))), length-map {B = TreeEntry} a_node.entries cell_of, a_some)));
+    rows =
+        let all = ap (λ u. join_rows u (tree_of One t.b)) a_node.tree
+        ∙ ap (λ u. join_rows (node One low.layer a_entries) u) b_node.tree
+        ∙ join_rows_higher One One low.layer high.layer a_entries b_entries less
+        ∙ ap (λ u. entry_count a_entries + 1 + join_rows (last_child a_entries) u) (sym b_node.tree)
+        ∙ ap (λ u. entry_count a_entries + 1 + join_rows u (tree_of One t.b)) (last_to a_node.entries a_node.tail) in
+        omega (arith, all, count_to a_node.entries a_node.tail, a_node.run.counted, side_some (low.count + 0) (omega (arith, a_some, a_node.run.counted)));
+    given = λ x. omega (arith, a_node.used_is x);
+    falls = omega (arith, tall c s t.a (left - 1) low a_node t.a_search, tail_low c s t.a (left - 1) low a_node t.a_search);
+    low = low_layer c s t.a (left - 1) low a_node t.a_search;
+  }
+
+  module _ (links : EntryLinks) (read : part_at entry_links c (high.first - 1) ≡ Some links) where
+    abbrev b_first : First b_node.entries
+    b_first = first c s t.b (right - 1) high b_node t.b_search
+
+    abbrev child_at : link_of b_first.entry.child ≡ links.child
+    child_at = sym (first_link c s t.b (right - 1) high b_node t.b_search links read)
+
+    abbrev child_piece : OldPiece c s b_first.entry.child
+    child_piece = first_piece c s t.b (right - 1) high b_node t.b_search
+
+    abbrev child_gap : (x : ℕ) → times x (gaps_used b_node.entries) ≡ times x (used b_first.entry.child) + times x (gaps_used (others b_node.entries))
+    child_gap = first_gap c s t.b (right - 1) high b_node t.b_search
+
+    abbrev child_is : first_child b_entries ≡ tree_of One b_first.entry.child
+    child_is = first_is c s t.b (right - 1) high b_node t.b_search
+
+    abbrev b_back : BackRun c s high.first high.count high.tail b_node.entries b_node.tail
+    b_back = back_of_run c s high.first high.count b_node.entries b_node.run b_some high.tail b_node.tail b_node.tail_at b_node.tail_piece
+
+    pub met_lower : low.layer < high.layer → Met c s left right t (below_right left right high links.child)
+    met_lower less = record {
+      inner = record {
+        a = t.a;
+        b = b_first.entry.child;
+        a_at = t.a_at;
+        b_at = child_at;
+        a_piece = t.a_piece;
+        b_piece = child_piece;
+        a_search = t.a_search;
+        b_search = first_search c s t.b (right - 1) high b_node t.b_search;
+        once = λ x. omega (arith, t.once x, b_node.used_is x, child_gap x);
+      };
+      framed = record {
+        front = [];
+        behind = 0;
+        front_run = no_front c s;
+        back = b_node.entries;
+        tail = b_node.tail;
+        back_run = b_back;
+        goes = each_in (IsOld s) ((right - 1) ∷ []) (b_node.head_old, tt);
+        alive = both_alive c s t.a b_first.entry.child t.a_piece child_piece;
+        once = λ x. omega (arith, t.once x, b_node.used_is x, child_gap x);
+      };
+      is =
+          ap (λ u. join u (tree_of One t.b)) a_node.tree
+          ∙ ap (λ u. join (node One low.layer a_entries) u) b_node.tree
+          ∙ join_lower One One low.layer high.layer a_entries b_entries less
+          ∙ ap (λ u. node One high.layer (with_first (join u (first_child b_entries)) b_entries)) (sym a_node.tree)
+          ∙ ap (λ u. node One high.layer (with_first (join (tree_of One t.a) u) b_entries)) child_is
+          ∙ sym (node_of_some high.layer (with_first (join (tree_of One t.a) (tree_of One b_first.entry.child)) b_entries) (omega (arith, with_first_count b_entries (join (tree_of One t.a) (tree_of One b_first.entry.child)), count_to b_node.entries b_node.tail, b_some)));
+      rows =
+          let all = ap (λ u. join_rows u (tree_of One t.b)) a_node.tree
+          ∙ ap (λ u. join_rows (node One low.layer a_entries) u) b_node.tree
+          ∙ join_rows_lower One One low.layer high.layer a_entries b_entries less
+          ∙ ap (λ u. entry_count b_entries + 1 + join_rows u (first_child b_entries)) (sym a_node.tree)
+          ∙ ap (λ u. entry_count b_entries + 1 + join_rows (tree_of One t.a) u) child_is in
+          omega (arith, all, count_to b_node.entries b_node.tail, b_node.run.counted, side_some (0 + high.count) (omega (arith, b_some, b_node.run.counted)));
+      given = λ x. omega (arith, b_node.used_is x, child_gap x);
+      falls = omega (arith, tall c s t.b (right - 1) high b_node t.b_search, first_low c s t.b (right - 1) high b_node t.b_search);
+      low = low_layer c s t.b (right - 1) high b_node t.b_search;
+    }
+
+    pub met_level : low.layer ≡ high.layer → Met c s left right t (beside_right left right low high links.child)
+    met_level same = record {
+      inner = record {
+        a = a_node.tail;
+        b = b_first.entry.child;
+        a_at = a_node.tail_at;
+        b_at = child_at;
+        a_piece = a_node.tail_piece;
+        b_piece = child_piece;
+        a_search = tail_search c s t.a (left - 1) low a_node t.a_search;
+        b_search = first_search c s t.b (right - 1) high b_node t.b_search;
+        once = λ x. omega (arith, t.once x, a_node.used_is x, b_node.used_is x, child_gap x);
+      };
+      framed = record {
+        front = a_node.entries;
+        behind = 0;
+        front_run = a_node.run;
+        back = b_node.entries;
+        tail = b_node.tail;
+        back_run = b_back;
+        goes = each_in (IsOld s) ((left - 1) ∷ (right - 1) ∷ []) (a_node.head_old, (b_node.head_old, tt));
+        alive = both_alive c s a_node.tail b_first.entry.child a_node.tail_piece child_piece;
+        once = λ x. omega (arith, t.once x, a_node.used_is x, b_node.used_is x, child_gap x);
+      };
+      is =
+          ap (λ u. join u (tree_of One t.b)) a_node.tree
+          ∙ ap (λ u. join (node One low.layer a_entries) u) b_tree
+          ∙ join_level One One low.layer a_entries b_entries
+          ∙ ap (λ l. node One low.layer (with_entries l (with_first (join (last_child a_entries) (first_child b_entries)) b_entries))) (cells_to a_node.entries a_node.tail)
+          ∙ ap (λ u. node One low.layer (with_entries (cells_of a_node.entries) (with_first (join u (first_child b_entries)) b_entries))) (last_to a_node.entries a_node.tail)
+          ∙ ap (λ u. node One low.layer (with_entries (cells_of a_node.entries) (with_first (join (tree_of One a_node.tail) u) b_entries))) child_is
+          ∙ sym (node_of_some low.layer (with_entries (cells_of a_node.entries) (with_first (join (tree_of One a_node.tail) (tree_of One b_first.entry.child)) b_entries)) (omega (arith, with_entries_count (cells_of a_node.entries) (with_first (join (tree_of One a_node.tail) (tree_of One b_first.entry.child)) b_entries), length-map {B = TreeEntry} a_node.entries cell_of, a_some)));
+      rows =
+          let all = ap (λ u. join_rows u (tree_of One t.b)) a_node.tree
+          ∙ ap (λ u. join_rows (node One low.layer a_entries) u) b_tree
+          ∙ join_rows_level One One low.layer a_entries b_entries
+          ∙ ap (λ u. entry_count a_entries + entry_count b_entries + 1 + join_rows u (first_child b_entries)) (last_to a_node.entries a_node.tail)
+          ∙ ap (λ u. entry_count a_entries + entry_count b_entries + 1 + join_rows (tree_of One a_node.tail) u) child_is in
+          omega (arith, all, count_to a_node.entries a_node.tail, a_node.run.counted, count_to b_node.entries b_node.tail, b_node.run.counted, side_some (low.count + high.count) (omega (arith, a_some, a_node.run.counted)));
+      given = λ x. omega (arith, a_node.used_is x, b_node.used_is x, child_gap x);
+      falls = omega (arith, tall c s t.a (left - 1) low a_node t.a_search, tail_low c s t.a (left - 1) low a_node t.a_search, tall c s t.b (right - 1) high b_node t.b_search, first_low c s t.b (right - 1) high b_node t.b_search);
+      low = low_layer c s t.a (left - 1) low a_node t.a_search;
+    }
+      where
+        b_tree : tree_of One t.b ≡ node One low.layer b_entries
+        b_tree = b_node.tree ∙ ap (λ (l : ℕ). node One l b_entries) (sym same)
+
+-- ---- how high the trees are
+
+pub height_there : (c : Content) (p : Placed) (link : ℕ) → link_of p ≡ link → HasRows c (rows_of One p) → height_at c link ≡ height (tree_of One p)
+height_there c no_tree zero at has = refl
+height_there c no_tree (suc row) at has = absurd (omega (arith, at))
+height_there c (tree_head i l chain) zero at has = absurd (omega (arith, at))
+height_there c (tree_head i l chain) (suc row) at has =
+    let same : row ≡ i = omega (arith, at) in
+    ap (λ (o : Option Row). option_map_or (λ h. h.layer + 1) (option_and_then head_links o) 0) (ap c same ∙ has.0)

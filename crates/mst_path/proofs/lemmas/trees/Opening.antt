@@ -1,0 +1,142 @@
+-- A node that stands, opened: its head, its entries, and the tree in the last gap.
+use Rattle.std.proofs.Common.{◌≡◌, ℕ, ◌+◌, ◌-◌, ◌<◌, eqb, List, [], ◌∷◌, length, Option, Some, IsSome, refl, sym, ◌∙◌, ap, subst, arith}
+use Rattle.std.specs.Prelude.{option_and_then}
+use Rattle.mst_key.specs.declared.format.Format.TheVariants.{One}
+use Rattle.mst_node.specs.Tree.{node, entry, entry_count}
+use Rattle.mst_node.specs.Shape.{TreeEntry}
+use Rattle.mst_arena.specs.Content.{Content, part_at}
+use Rattle.mst_arena.specs.Lives.{State}
+use Rattle.mst_arena.specs.Lists.{times, bit}
+use Rattle.mst_arena.specs.Row.{head_links}
+use Rattle.mst_arena.specs.declared.row.Row.{Row}
+use Rattle.mst_arena.specs.declared.row.Row.TheVariants.{Entry}
+use Rattle.mst_arena.specs.declared.row.HeadLinks.{HeadLinks}
+use Rattle.mst_arena.specs.Standing.{Placed, none as no_tree, head as tree_head, Chain, end, cell, tree_of, entries_of, link_of, first_of, tail_of, count_of, head_row, rows_of, chain_rows, used, chain_used, HasRows}
+use Rattle.mst_arena.proofs.ListLemmas.{times-append}
+use Rattle.mst_arena.proofs.Stands.{all-front, all-back}
+use Rattle.mst_change.specs.Parts.{cells, last_child}
+use Rattle.mst_path.specs.Moves.{In, IsOld}
+use Rattle.mst_path.specs.Runs.{OldPiece, Run, own_rows, own, gaps_used, EachGap}
+use Rattle.mst_path.specs.Making.{cell_of, cells_of, entries_to}
+use Rattle.mst_path.specs.Writing.{PlacedEntry, link_from}
+use Rattle.mst_path.proofs.lemmas.rows.Copies.{at_self}
+
+-- ---- the entries of a chain
+
+abbrev pub cells_in : Chain → List PlacedEntry
+cells_in (end child) = []
+cells_in (cell at child key value rest) = record { at = at; child = child; key = key; value = value } ∷ cells_in rest
+
+abbrev pub last_in : Chain → Placed
+last_in (end child) = child
+last_in (cell at child key value rest) = last_in rest
+
+count_in : (c : Chain) → length (cells_in c) ≡ count_of c
+count_in (end child) = refl
+count_in (cell at child key value rest) = omega (arith, count_in rest)
+
+first_in : (c : Chain) → link_from 0 (cells_in c) ≡ first_of c
+first_in (end child) = refl
+first_in (cell at child key value rest) = refl
+
+tail_in : (c : Chain) → link_of (last_in c) ≡ tail_of c
+tail_in (end child) = refl
+tail_in (cell at child key value rest) = tail_in rest
+
+tree_in : (c : Chain) → entries_of One c ≡ entries_to (cells_in c) (last_in c)
+tree_in (end child) = refl
+tree_in (cell at child key value rest) = ap (entry (tree_of One child) key value) (tree_in rest)
+
+rows_in : (content : Content) (c : Chain) → HasRows content (chain_rows One c) → HasRows content (own_rows 0 (cells_in c))
+rows_in content (end child) has = tt
+rows_in content (cell at child key value rest) has = (
+  has.0 ∙ ap (λ (n : ℕ). Some (Entry (link_of child) n key value)) (sym (first_in rest)),
+  rows_in content rest (all-back _ (rows_of One child) (chain_rows One rest) has.1),
+)
+
+used_in : (x : ℕ) (c : Chain) → times x (chain_used c) ≡ times x (own (cells_in c)) + times x (gaps_used (cells_in c)) + times x (used (last_in c))
+used_in x (end child) = omega arith
+used_in x (cell at child key value rest) = omega (arith, used_in x rest, times-append x (used child) (chain_used rest), times-append x (used child) (gaps_used (cells_in rest)))
+
+gaps_in : (content : Content) (s : State) (c : Chain) → HasRows content (chain_rows One c) → ((r : ℕ) → In r (chain_used c) → IsOld s r) → EachGap (OldPiece content s) (cells_in c)
+gaps_in content s (end child) has old = tt
+gaps_in content s (cell at child key value rest) has old = (
+  record {
+    rows = all-front _ (rows_of One child) (chain_rows One rest) has.1;
+    old = λ r i. old r (omega (arith, i, times-append r (used child) (chain_used rest)));
+  },
+  gaps_in content s rest (all-back _ (rows_of One child) (chain_rows One rest) has.1) (λ r i. old r (omega (arith, i, times-append r (used child) (chain_used rest)))),
+)
+
+last_rows : (content : Content) (c : Chain) → HasRows content (chain_rows One c) → HasRows content (rows_of One (last_in c))
+last_rows content (end child) has = has
+last_rows content (cell at child key value rest) has = last_rows content rest (all-back _ (rows_of One child) (chain_rows One rest) has.1)
+
+-- ---- a node
+
+-- What stands at a row whose head has these links.
+pub record Opened (c : Content) (s : State) (p : Placed) (row : ℕ) (h : HeadLinks) : Type 0 where
+  pub entries : List PlacedEntry
+  pub tail : Placed
+  pub run : Run c s h.first h.count 0 entries
+  pub tail_at : link_of tail ≡ h.tail
+  pub tail_piece : OldPiece c s tail
+  pub head_old : IsOld s row
+  pub used_is : (x : ℕ) → times x (used p) ≡ bit (eqb x row) + times x (own entries) + times x (gaps_used entries) + times x (used tail)
+  pub tree : tree_of One p ≡ node One h.layer (entries_to entries tail)
+
+-- the head row of a tree that is not empty
+pub head_there : (c : Content) (p : Placed) (link : ℕ) → link_of p ≡ link → 0 < link → HasRows c (rows_of One p) → IsSome (part_at head_links c (link - 1))
+head_there c no_tree link at some has = absurd (omega (arith, at, some))
+head_there c (tree_head i l chain) link at some has =
+    let same : link - 1 ≡ i = omega (arith, at) in
+    let there : c (link - 1) ≡ Some (head_row One l chain) = ap c same ∙ has.0 in
+    subst (λ (o : Option Row). IsSome (option_and_then head_links o)) (sym there) refl
+
+pub opened : (c : Content) (s : State) (p : Placed) (link : ℕ) (h : HeadLinks) → link_of p ≡ link → 0 < link → OldPiece c s p → part_at head_links c (link - 1) ≡ Some h → Opened c s p (link - 1) h
+opened c s no_tree link h at some piece read = absurd (omega (arith, at, some))
+opened c s (tree_head i l chain) link h at some piece read =
+    let same : link - 1 ≡ i = omega (arith, at) in
+    let there : c (link - 1) ≡ Some (head_row One l chain) = ap c same ∙ piece.rows.0 in
+    let both : Some (record { layer = l; count = count_of chain; first = first_of chain; tail = tail_of chain }) ≡ Some h = sym (ap (option_and_then head_links) there) ∙ read in
+    let is : record { layer = l; count = count_of chain; first = first_of chain; tail = tail_of chain } ≡ h = cc in
+    let old : (r : ℕ) → In r (chain_used chain) → IsOld s r = λ r k. piece.old r (omega (arith, k)) in
+    record {
+      entries = cells_in chain;
+      tail = last_in chain;
+      run = record {
+        counted = count_in chain ∙ ap (λ (x : HeadLinks). x.count) is;
+        begins = first_in chain ∙ ap (λ (x : HeadLinks). x.first) is;
+        rows = rows_in c chain piece.rows.1;
+        old = λ r k. old r (omega (arith, k, used_in r chain));
+        gaps = gaps_in c s chain piece.rows.1 old;
+      };
+      tail_at = tail_in chain ∙ ap (λ (x : HeadLinks). x.tail) is;
+      tail_piece = record { rows = last_rows c chain piece.rows.1; old = λ r k. old r (omega (arith, k, used_in r chain)) };
+      head_old = subst (IsOld s) (sym same) (piece.old i (omega (arith, at_self i)));
+      used_is = λ x. omega (arith, used_in x chain, ap (λ (n : ℕ). bit (eqb x n)) same);
+      tree = ap (node One l) (tree_in chain) ∙ ap (λ (x : HeadLinks). node One x.layer (entries_to (cells_in chain) (last_in chain))) is;
+    }
+
+-- ---- its first entry
+
+pub cells_to : (es : List PlacedEntry) (tail : Placed) → cells (entries_to es tail) ≡ cells_of es
+cells_to [] tail = refl
+cells_to (e ∷ es) tail = ap (λ (l : List TreeEntry). cell_of e ∷ l) (cells_to es tail)
+
+pub last_to : (es : List PlacedEntry) (tail : Placed) → last_child (entries_to es tail) ≡ tree_of One tail
+last_to [] tail = refl
+last_to (e ∷ es) tail = last_to es tail
+
+pub count_to : (es : List PlacedEntry) (tail : Placed) → entry_count (entries_to es tail) ≡ length es
+count_to [] tail = refl
+count_to (e ∷ es) tail = omega (arith, count_to es tail)
+
+pub record First (es : List PlacedEntry) : Type 0 where
+  pub entry : PlacedEntry
+  pub more : List PlacedEntry
+  pub is : es ≡ entry ∷ more
+
+pub first_of_some : (es : List PlacedEntry) → 0 < length es → First es
+first_of_some [] some = absurd (omega (arith, some))
+first_of_some (e ∷ es) some = record { entry = e; more = es; is = refl }

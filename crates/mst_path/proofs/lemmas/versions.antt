@@ -1,0 +1,9 @@
+pub mod Versions
+pub mod Reached
+pub mod NodeAges
+pub mod AgeSteps
+pub mod HeldRows
+pub mod KeptRoom
+pub mod Changes
+pub mod Removed
+pub mod Inserted

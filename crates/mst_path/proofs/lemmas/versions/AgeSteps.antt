@@ -1,0 +1,185 @@
+-- The ages of rows, from one version to the next, and over a sweep.
+use Rattle.std.proofs.Common.{◌≡◌, ℕ, zero, suc, ◌+◌, ◌<◌, ◌≤◌, ◌⊎◌, inl, inr, eqb, nat_lt, nat_le, Bool, true, false, ◌&&◌, ◌||◌, cond, List, [], ◌∷◌, ◌++◌, length, length-append, Option, Some, None, refl, sym, ◌∙◌, ap, arith, true≢false}
+use Rattle.std.specs.Prelude.{◌==◌, Contains, slice_get}
+use Rattle.std.specs.List.{AllByRecursion, list_any}
+use Rattle.std.proofs.lemmas.Bool.Decides.{nat_tests}
+use Rattle.std.proofs.lemmas.List.{take_all, take-append-le}
+use Rattle.std.proofs.lemmas.List.Elements.{Contains-append_cases}
+use Rattle.std.proofs.lemmas.Option.{slice_get-map}
+use Rattle.mst_key.specs.History.{History, after}
+use Rattle.mst_key.specs.declared.format.Format.TheVariants.{One}
+use Rattle.mst_key.specs.declared.history.Event.{Event}
+use Rattle.mst_key.proofs.Alls.{alls-weaker}
+use Rattle.mst_key.proofs.SpanLaws.{contains-cases, contains-nothing, contains-first, contains-later, contains-all}
+use Rattle.mst_node.specs.Cost.{is_subtree}
+use Rattle.mst_node.specs.Stays.{tree_at, lasts}
+use Rattle.mst_node.specs.Tree.{Tree, tree}
+use Rattle.mst_node.proofs.HeldLaws.{lasts_here, lasts_on, lasts_stands}
+use Rattle.mst_node.proofs.InTrees.{is_old}
+use Rattle.mst_arena.specs.Lives.{State, version, next, reaches, reached_at, swept_life}
+use Rattle.mst_arena.specs.Lists.{times, bit}
+use Rattle.mst_arena.specs.declared.life.Life.{Life}
+use Rattle.mst_arena.specs.declared.life.Life.TheVariants.{Free, Born, Dead}
+use Rattle.mst_arena.specs.Standing.{Placed, none, head, Chain, end, cell, tree_of, used, chain_used}
+use Rattle.mst_arena.proofs.ListLemmas.{times-append}
+use Rattle.mst_path.specs.Ages.{placed_nodes, chain_nodes, chain_own, top_rows, IsAged, HasAge, HasAges}
+use Rattle.mst_path.specs.Moves.{In, IsNew}
+use Rattle.mst_path.specs.Reached.{ReachesExactly, Changes, IsSettled, swept_by}
+use Rattle.mst_path.proofs.lemmas.versions.NodeAges.{node_in}
+use Rattle.mst_path.proofs.lemmas.versions.Reached.{older, newest, has_in, some_reach}
+
+-- what holds of each element that a list contains holds of all
+pub all_contained : {A : Type 0} (P : A → Type 0) (xs : List A) → ((x : A) → Contains xs x → P x) → AllByRecursion P xs
+all_contained P [] each = tt
+all_contained P (x ∷ xs) each = (each x (contains-first x xs x refl), all_contained P xs (λ y has. each y (contains-later x xs y has)))
+
+-- ---- the rows of a node are rows of the tree
+
+own_inside : (chain : Chain) (r : ℕ) → In r (chain_own chain) → In r (chain_used chain)
+own_inside (end child) r i = absurd (omega (arith, i))
+own_inside (cell at child key value rest) r i = go (bit (eqb r at)) refl i (λ j. own_inside rest r j)
+  where
+    go : (n : ℕ) → bit (eqb r at) ≡ n → 0 < bit (eqb r at) + times r (chain_own rest) → (In r (chain_own rest) → In r (chain_used rest)) → 0 < bit (eqb r at) + times r (used child ++ chain_used rest)
+    go zero e j more = let k = more (omega (arith, j, e)) in omega (arith, k, times-append r (used child) (chain_used rest))
+    go (suc n) e j more = omega (arith, e)
+
+head_inside : (at layer : ℕ) (chain : Chain) (r : ℕ) → In r (top_rows (head at layer chain)) → In r (used (head at layer chain))
+head_inside at layer chain r i = go (bit (eqb r at)) refl
+  where
+    go : (n : ℕ) → bit (eqb r at) ≡ n → 0 < bit (eqb r at) + times r (chain_used chain)
+    go zero e = let k = own_inside chain r (omega (arith, i, e)) in omega (arith, k)
+    go (suc n) e = omega (arith, e)
+
+mutual
+  pub top_inside : (p q : Placed) → Contains (placed_nodes p) q → (r : ℕ) → In r (top_rows q) → In r (used p)
+  top_inside none q has r i = absurd (contains-nothing q has)
+  top_inside (head at layer chain) q has r i = go (contains-cases (head at layer chain) (chain_nodes chain) q has) (λ k. chain_inside chain q k r i)
+    where
+      go : (head at layer chain ≡ q) ⊎ Contains (chain_nodes chain) q → (Contains (chain_nodes chain) q → In r (chain_used chain)) → 0 < bit (eqb r at) + times r (chain_used chain)
+      go (inl same) more = let same_rows : times r (top_rows (head at layer chain)) ≡ times r (top_rows q) = ap (λ (p : Placed). times r (top_rows p)) same in head_inside at layer chain r (omega (arith, i, same_rows))
+      go (inr later) more = let k = more later in omega (arith, k)
+
+  chain_inside : (chain : Chain) (q : Placed) → Contains (chain_nodes chain) q → (r : ℕ) → In r (top_rows q) → In r (chain_used chain)
+  chain_inside (end child) q has r i = top_inside child q has r i
+  chain_inside (cell at child key value rest) q has r i = go (Contains-append_cases (placed_nodes child) (chain_nodes rest) q has) (λ k. top_inside child q k r i) (λ k. chain_inside rest q k r i)
+    where
+      go : Contains (placed_nodes child) q ⊎ Contains (chain_nodes rest) q → (Contains (placed_nodes child) q → In r (used child)) → (Contains (chain_nodes rest) q → In r (chain_used rest)) → 0 < bit (eqb r at) + times r (used child ++ chain_used rest)
+      go (inl k) first more = let j = first k in omega (arith, j, times-append r (used child) (chain_used rest))
+      go (inr k) first more = let j = more k in omega (arith, j, times-append r (used child) (chain_used rest))
+
+-- ---- one more event
+
+module _ (h : History) (e : Event) where
+  same_trees : (u : ℕ) → u ≤ length h → tree_at One (h ++ e ∷ []) u ≡ tree_at One h u
+  same_trees u le = ap (λ (g : History). tree One (after g)) (take-append-le u h (e ∷ []) le)
+
+  same_lasts : (v w : ℕ) (t : Tree) → w ≤ length h → lasts One (h ++ e ∷ []) v w t ≡ lasts One h v w t
+  same_lasts v zero t le = ap (is_subtree t) (same_trees zero le)
+  same_lasts v (suc w) t le =
+      let here = same_trees (suc w) le in
+      let back = same_lasts v w t (omega (arith, le)) in
+      λ i. is_subtree t (here i) && (nat_lt w v || back i)
+
+  last_number : length (h ++ e ∷ []) ≡ suc (length h)
+  last_number = omega (arith, length-append h (e ∷ []))
+
+  last_tree : tree_at One (h ++ e ∷ []) (suc (length h)) ≡ tree One (after (h ++ e ∷ []))
+  last_tree = ap (λ (g : History). tree One (after g)) (take_all (suc (length h)) (h ++ e ∷ []) (omega (arith, last_number)))
+
+  -- a tree that stands in the last version has stood there since it stood in the one before
+  module _ (t : Tree) (stands : is_subtree t (tree One (after (h ++ e ∷ []))) ≡ true) where
+    stands_last : is_subtree t (tree_at One (h ++ e ∷ []) (suc (length h))) ≡ true
+    stands_last = ap (is_subtree t) last_tree ∙ stands
+
+    lasts_before : (v : ℕ) → v ≤ length h → lasts One (h ++ e ∷ []) v (length (h ++ e ∷ [])) t ≡ lasts One h v (length h) t
+    lasts_before v le =
+        ap (λ (n : ℕ). lasts One (h ++ e ∷ []) v n t) last_number
+        ∙ lasts_on One (h ++ e ∷ []) v (length h) t le
+        ∙ ap (λ (b : Bool). b && lasts One (h ++ e ∷ []) v (length h) t) stands_last
+        ∙ same_lasts v (length h) t (omega arith)
+
+    lasts_last : (v : ℕ) → v ≡ suc (length h) → lasts One (h ++ e ∷ []) v (length (h ++ e ∷ [])) t ≡ true
+    lasts_last v is =
+        ap (λ (n : ℕ). lasts One (h ++ e ∷ []) n (length (h ++ e ∷ [])) t) is
+        ∙ ap (λ (n : ℕ). lasts One (h ++ e ∷ []) (suc (length h)) n t) last_number
+        ∙ lasts_here One (h ++ e ∷ []) (suc (length h)) t
+        ∙ stands_last
+
+-- a tree that does not stand in the last version has not lasted
+not_lasted : (h : History) (t : Tree) (v : ℕ) → is_subtree t (tree One (after h)) ≡ false → lasts One h v (length h) t ≡ false
+not_lasted h t v not = go (lasts One h v (length h) t) refl
+  where
+    whole : tree_at One h (length h) ≡ tree One (after h)
+    whole = ap (λ (g : History). tree One (after g)) (take_all (length h) h (omega arith))
+
+    go : (b : Bool) → lasts One h v (length h) t ≡ b → b ≡ false
+    go false is = refl
+    go true is = absurd (true≢false (sym (lasts_stands One h v (length h) t is) ∙ ap (is_subtree t) whole ∙ not))
+
+up_to : (v n : ℕ) → v ≤ suc n → (v ≤ n) ⊎ (v ≡ suc n)
+up_to v n le = go (v == suc n) refl
+  where
+    go : (b : Bool) → (v == suc n) ≡ b → (v ≤ n) ⊎ (v ≡ suc n)
+    go true e = inr (grind (arith, nat_tests, e))
+    go false e = let other : v ≡ suc n → ⊥ = grind (arith, nat_tests, e) in inl (omega (arith, le, other))
+
+-- ---- a put or a remove
+
+module _ (old new : State) (before after_rows : List ℕ) (change : Changes old new before after_rows) where
+  -- the rows of the versions up to the current one keep their ages
+  pub ages_stay : (h : History) (p : Placed) → length h ≤ version old → HasAges old.lives h p → HasAges new.lives h p
+  ages_stay h p le ages =
+      alls-weaker (HasAge old.lives h) (HasAge new.lives h)
+      (λ q was r v i below. older old new before after_rows change v r (omega (arith, le, below)) ∙ was r v i below) (placed_nodes p) ages
+
+module _ (old new : State) (o w : Placed) (h : History) (e : Event) (change : Changes old new (used o) (used w)) (settled : IsSettled old) (exact : ReachesExactly old.lives (version old) (used o)) (now : version old ≡ length h) (o_is : tree_of One o ≡ tree One (after h)) (w_is : tree_of One w ≡ tree One (after (h ++ e ∷ []))) (ages : HasAges old.lives h o) where
+  same_version : version new ≡ version old
+  same_version = rw (change.versions.0, change.versions.1)
+
+  module _ (q : Placed) (has : Contains (placed_nodes w) q) (r v : ℕ) (i : In r (top_rows q)) where
+    stands_now : is_subtree (tree_of One q) (tree One (after (h ++ e ∷ []))) ≡ true
+    stands_now = ap (is_subtree (tree_of One q)) (sym w_is) ∙ is_old (tree_of One q) (tree_of One w) (node_in w q has)
+
+    -- the version to come reaches each row
+    reached_now : v ≡ suc (length h) → reaches new.lives v r ≡ true
+    reached_now is =
+        let number : v ≡ next old = omega (arith, is, now) in
+        ap (λ (u : ℕ). reaches new.lives u r) number ∙ (newest old new (used o) (used w) change settled exact r).1 (top_inside w q has r i)
+
+    -- no earlier one reaches a new row
+    not_reached : IsNew new r → v ≤ length h → reaches new.lives v r ≡ false
+    not_reached born le =
+        let low : v < next new = omega (arith, le, now, same_version) in
+        let not : nat_le (next new) v ≡ false = grind (arith, nat_tests, low) in
+        ap (λ (l : Option Life). reached_at l v) born ∙ not
+
+    ages_of : IsAged new o q → v ≤ length (h ++ e ∷ []) → reaches new.lives v r ≡ lasts One (h ++ e ∷ []) v (length (h ++ e ∷ [])) (tree_of One q)
+    ages_of aged le = go (up_to v (length h) (omega (arith, le, last_number h e))) aged
+      where
+        go : (v ≤ length h) ⊎ (v ≡ suc (length h)) → IsAged new o q → reaches new.lives v r ≡ lasts One (h ++ e ∷ []) v (length (h ++ e ∷ [])) (tree_of One q)
+        go (inr is) any = reached_now is ∙ sym (lasts_last h e (tree_of One q) stands_now v is)
+        go (inl below) (inl stood) =
+            older old new (used o) (used w) change v r (omega (arith, below, now))
+            ∙ contains-all (HasAge old.lives h) (placed_nodes o) q ages stood r v i below
+            ∙ sym (lasts_before h e (tree_of One q) stands_now v below)
+        go (inl below) (inr fresh) =
+            not_reached (fresh.0 r i) below
+            ∙ sym (not_lasted h (tree_of One q) v (ap (is_subtree (tree_of One q)) (sym o_is) ∙ fresh.1))
+            ∙ sym (lasts_before h e (tree_of One q) stands_now v below)
+
+  pub ages_next : AllByRecursion (IsAged new o) (placed_nodes w) → HasAges new.lives (h ++ e ∷ []) w
+  ages_next all = all_contained (HasAge new.lives (h ++ e ∷ [])) (placed_nodes w) (λ q has r v i le. ages_of q has r v i (contains-all (IsAged new o) (placed_nodes w) q all has) le)
+
+-- ---- a sweep
+
+-- what a live version reaches keeps its life
+kept_life : (live : List ℕ) (o : Option Life) (v : ℕ) → list_any (λ w. w == v) live ≡ true → In v live → reached_at o v ≡ true → Rattle.std.specs.Prelude.option_map (swept_life live) o ≡ o
+kept_life live None v has i is = refl
+kept_life live (Some Free) v has i is = refl
+kept_life live (Some (Born b)) v has i is = refl
+kept_life live (Some (Dead b d)) v has i is = ap (λ (t : Bool). Some (cond t (Dead b d) Free)) (some_reach (Dead b d) live v i is)
+
+pub ages_swept : (s : State) (live : List ℕ) (h : History) (p : Placed) → In (length h) live → ReachesExactly s.lives (length h) (used p) → HasAges s.lives h p → HasAges (swept_by live s).lives h p
+ages_swept s live h p kept exact ages = all_contained (HasAge (swept_by live s).lives h) (placed_nodes p) (λ q has r v i le.
+    let same = slice_get-map (swept_life live) s.lives r ∙ kept_life live (slice_get s.lives r) (length h) (has_in (length h) live kept) kept ((exact r).1 (top_inside p q has r i)) in
+    ap (λ (l : Option Life). reached_at l v) same ∙ contains-all (HasAge s.lives h) (placed_nodes p) q ages has r v i le)
