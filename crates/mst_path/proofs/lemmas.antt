@@ -1,3 +1,4 @@
+-- Lemmas about trees that stand in rows, by theme.
 pub mod rows
 pub mod trees
 pub mod steps

@@ -1,3 +1,4 @@
+-- Rows that are taken, killed, kept and counted.
 pub mod Taking
 pub mod Entries
 pub mod Moving

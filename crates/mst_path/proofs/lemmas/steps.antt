@@ -1,3 +1,4 @@
+-- The steps of a change: what stands after each, up to the whole of it.
 pub mod Steps
 pub mod Framing
 pub mod Rounds

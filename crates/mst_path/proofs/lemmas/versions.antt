@@ -1,3 +1,4 @@
+-- What a change, an advance and a sweep leave of each version, and how old rows are.
 pub mod Versions
 pub mod Reached
 pub mod NodeAges
