@@ -1,7 +1,7 @@
 //! The auditor. He trusts nobody: what he goes by is a root digest, and a proof for each answer.
 use anyhow::Result;
-use mst_key::Key;
-use mst_proof::verify;
+use mst_key::{Key, Value};
+use mst_proof::{ProofFault, verify};
 use std::alloc::Global;
 use std::str;
 
@@ -11,12 +11,14 @@ pub fn shortened(alloc: Global, digest: &[u8; 32]) -> Result<String> {
     Ok(hex::encode(alloc, [first, second, third, fourth])?)
 }
 
-/// Prints what the proof shows of the price of a fruit in the map with this root digest. A proof
-/// that is refused shows nothing.
-pub fn audit(rt: &HostRuntime, root: &[u8; 32], fruit: &str, proof: &[u8]) -> Result<()> {
-    let key = Key::new(fruit.as_bytes())?;
-    let digits = shortened(rt.alloc(), root)?;
-    match verify(root, &key, proof) {
+// Prints what the auditor found of the price of a fruit, under the root digest with these digits.
+fn tell(
+    rt: &HostRuntime,
+    digits: &str,
+    fruit: &str,
+    found: &Result<Option<Value>, ProofFault>,
+) -> Result<()> {
+    match found {
         Ok(Some(value)) => {
             let price = str::from_utf8(value.bytes())?;
             println!(rt; "auditor: under {digits}.. the price of {fruit} is {price}")?;
@@ -27,4 +29,12 @@ pub fn audit(rt: &HostRuntime, root: &[u8; 32], fruit: &str, proof: &[u8]) -> Re
         }
     }
     Ok(())
+}
+
+/// Prints what the proof shows of the price of a fruit in the map with this root digest. A proof
+/// that is refused shows nothing.
+pub fn audit(rt: &HostRuntime, root: &[u8; 32], fruit: &str, proof: &[u8]) -> Result<()> {
+    let found = verify(root, &Key::new(fruit.as_bytes())?, proof);
+    let digits = shortened(rt.alloc(), root)?;
+    tell(rt, &digits, fruit, &found)
 }

@@ -14,7 +14,7 @@
 
 mod auditor;
 
-use anyhow::{Context, Error, Result};
+use anyhow::{Error, Result};
 use auditor::{audit, shortened};
 use mst_key::{Key, Value};
 use mst_store::{Pass, Pinned, Shape, Store};
@@ -80,7 +80,47 @@ fn one_version(rt: &HostRuntime, root: &[u8; 32], reader: &mut Pass<'_, Global>)
     audit(rt, root, "apple", &proof)
 }
 
-// An answer that is newer than the root digest, and one of the version that the reader pinned.
+// The writer goes on beside the pinned version. The newer root digest.
+fn go_on(
+    rt: &HostRuntime,
+    writer: &mut Pass<'_, Global>,
+    pinned: &mut Pinned<'_, Global>,
+) -> Result<[u8; 32]> {
+    let version = pinned.version();
+    println!(rt; "reader: version {version} is pinned")?;
+    put(rt, writer, "apple", "35")?;
+    let new = hand_out(rt, writer)?;
+    let digits = shortened(rt.alloc(), &pinned.root())?;
+    println!(rt; "reader: the pinned root digest is still {digits}..")?;
+    Ok(new)
+}
+
+// The pinned version's answer, against the older root digest and the newer one.
+fn audit_pinned(
+    rt: &HostRuntime,
+    old: &[u8; 32],
+    new: &[u8; 32],
+    pinned: &mut Pinned<'_, Global>,
+) -> Result<()> {
+    let proof = prove_pinned(rt, pinned, "apple")?;
+    audit(rt, old, "apple", &proof)?;
+    audit(rt, new, "apple", &proof)
+}
+
+// The current version's answer, against the same two.
+fn audit_current(
+    rt: &HostRuntime,
+    old: &[u8; 32],
+    new: &[u8; 32],
+    reader: &mut Pass<'_, Global>,
+) -> Result<()> {
+    println!(rt; "reader: the pin is ended")?;
+    let proof = prove(rt, reader, "apple")?;
+    audit(rt, old, "apple", &proof)?;
+    audit(rt, new, "apple", &proof)
+}
+
+// An answer of the version that the reader pinned, and one that is newer than the root digest.
 fn two_versions(
     rt: &HostRuntime,
     old: &[u8; 32],
@@ -88,20 +128,23 @@ fn two_versions(
     reader: Pass<'_, Global>,
 ) -> Result<()> {
     let mut pinned = reader.pin();
-    let version = pinned.version();
-    println!(rt; "reader: version {version} is pinned")?;
-    put(rt, writer, "apple", "35")?;
-    let new = hand_out(rt, writer)?;
-    let digits = shortened(rt.alloc(), &pinned.root())?;
-    println!(rt; "reader: the pinned root digest is still {digits}..")?;
-    let proof = prove_pinned(rt, &mut pinned, "apple")?;
-    audit(rt, old, "apple", &proof)?;
-    audit(rt, &new, "apple", &proof)?;
-    let mut reader = pinned.unpin();
-    println!(rt; "reader: the pin is ended")?;
-    let proof = prove(rt, &mut reader, "apple")?;
-    audit(rt, old, "apple", &proof)?;
-    audit(rt, &new, "apple", &proof)
+    let new = go_on(rt, writer, &mut pinned)?;
+    audit_pinned(rt, old, &new, &mut pinned)?;
+    audit_current(rt, old, &new, &mut pinned.unpin())
+}
+
+// What the two passes of a store show.
+fn show(
+    rt: &HostRuntime,
+    writer: &mut Pass<'_, Global>,
+    mut reader: Pass<'_, Global>,
+) -> Result<()> {
+    for (fruit, price) in [("apple", "30"), ("grape", "25"), ("plum", "12")] {
+        put(rt, writer, fruit, price)?;
+    }
+    let root = hand_out(rt, writer)?;
+    one_version(rt, &root, &mut reader)?;
+    two_versions(rt, &root, writer, reader)
 }
 
 fn main(rt: HostRuntime) -> Result<()> {
@@ -109,12 +152,8 @@ fn main(rt: HostRuntime) -> Result<()> {
     let Ok(mut passes) = store.deal(rt.alloc(), seats) else {
         return Err(Error::msg("no memory"));
     };
-    let mut reader = passes.pop().context("a store of two passes")?;
-    let mut writer = passes.pop().context("a store of two passes")?;
-    for (fruit, price) in [("apple", "30"), ("grape", "25"), ("plum", "12")] {
-        put(&rt, &mut writer, fruit, price)?;
-    }
-    let root = hand_out(&rt, &mut writer)?;
-    one_version(&rt, &root, &mut reader)?;
-    two_versions(&rt, &root, &mut writer, reader)
+    let (Some(reader), Some(mut writer)) = (passes.pop(), passes.pop()) else {
+        return Err(Error::msg("a store of two passes"));
+    };
+    show(&rt, &mut writer, reader)
 }
