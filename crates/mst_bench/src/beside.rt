@@ -87,6 +87,30 @@ fn time_both(
     Ok(())
 }
 
+// Fills the map, times the calls, and tells the rows.
+fn time_filled(
+    rt: &HostRuntime,
+    reader: Pass<'_, Global>,
+    writer: &mut Pass<'_, Global>,
+    keys: &[Key],
+    calls: u32,
+    rows: u32,
+) -> io::Result<()>
+    requires some { 0 < length keys.now }
+    requires few { length keys.now ≤ 65535 }
+{
+    if !calls::fill(writer, keys) {
+        return Err(io::ErrorKind::Other.into());
+    }
+    let before = rows_of(writer)?;
+    time_both(rt, reader, writer, keys, calls)?;
+    let after = rows_of(writer)?;
+    let count = keys.len();
+    println!(rt;
+        "rows: {count} keys, {before} of the map before, {after} after, at most {rows} in use"
+    )
+}
+
 /// Times ten puts a key, first with nothing pinned and then while one version stays pinned, and
 /// gets of the pinned version. The store has rows for twice the map and one path, and each put has
 /// to find room: so never more rows are in use, which the last line tells.
@@ -108,14 +132,5 @@ pub fn run(rt: &HostRuntime, keys: &[Key], calls: u32, map_rows: u32) -> io::Res
     let (Some(reader), Some(mut writer)) = (passes.pop(), passes.pop()) else {
         return Err(io::ErrorKind::Other.into());
     };
-    if !calls::fill(&mut writer, keys) {
-        return Err(io::ErrorKind::Other.into());
-    }
-    let before = rows_of(&mut writer)?;
-    time_both(rt, reader, &mut writer, keys, calls)?;
-    let after = rows_of(&mut writer)?;
-    let count = keys.len();
-    println!(rt;
-        "rows: {count} keys, {before} of the map before, {after} after, at most {rows} in use"
-    )
+    time_filled(rt, reader, &mut writer, keys, calls, rows)
 }
