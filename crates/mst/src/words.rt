@@ -32,77 +32,107 @@ fn required_number<'a>(alloc: Global, name: &'a str, help: &'a str) -> Arg<'a> {
         .value_parser(value_parser!(u32))
 }
 
+// An option that is a number and has a default.
+fn usual_number<'a>(alloc: Global, name: &'a str, help: &'a str, usual: &'a str) -> Arg<'a> {
+    Arg::new(alloc, name)
+        .long(name)
+        .value_name("N")
+        .help(help)
+        .action(ArgAction::Set)
+        .value_parser(value_parser!(u32))
+        .default_value(usual)
+}
+
+// A word that has to be given.
+fn required_word<'a>(alloc: Global, name: &'a str, help: &'a str) -> Arg<'a> {
+    Arg::new(alloc, name)
+        .required(true)
+        .action(ArgAction::Set)
+        .help(help)
+}
+
 // The command of a load.
 fn load_command<'a>(alloc: Global) -> Result<Command<'a>, AllocError> {
-    let readers = required_number(alloc, "readers", "How many threads read, 1 to 24");
-    let writers = required_number(alloc, "writers", "How many threads write, 1 to 8");
-    let calls = required_number(alloc, "calls", "How many calls each makes, 1 to 100000");
     Command::new(alloc, "load")
         .about("Lets threads read and write one store at once, and reports what they left")
-        .arg(readers)?
-        .arg(writers)?
-        .arg(calls)
+        .arg(required_number(alloc, "readers", "How many threads read, 1 to 24"))?
+        .arg(required_number(alloc, "writers", "How many threads write, 1 to 8"))?
+        .arg(required_number(alloc, "calls", "How many calls each makes, 1 to 100000"))
 }
 
 // The command of a script.
 fn run_command<'a>(alloc: Global) -> Result<Command<'a>, AllocError> {
-    let rows = Arg::new(alloc, "rows")
-        .long("rows")
-        .value_name("N")
-        .help("How many rows the store has, 4 to 65535")
-        .action(ArgAction::Set)
-        .value_parser(value_parser!(u32))
-        .default_value("1024");
-    let passes = Arg::new(alloc, "passes")
-        .long("passes")
-        .value_name("N")
-        .help("How many passes the store has, 1 to 32")
-        .action(ArgAction::Set)
-        .value_parser(value_parser!(u32))
-        .default_value("4");
+    let rows = "How many rows the store has, 4 to 65535";
+    let passes = "How many passes the store has, 1 to 32";
     Command::new(alloc, "run")
         .about("Answers the lines of standard input, each of them a command of a pass")
-        .arg(rows)?
-        .arg(passes)
+        .arg(usual_number(alloc, "rows", rows, "1024"))?
+        .arg(usual_number(alloc, "passes", passes, "4"))
 }
 
 // The command that verifies a proof.
 fn verify_command<'a>(alloc: Global) -> Result<Command<'a>, AllocError> {
-    let root = Arg::new(alloc, "ROOT")
-        .required(true)
-        .action(ArgAction::Set)
-        .help("The root digest of the map, 64 hexadecimal digits");
-    let key = Arg::new(alloc, "KEY")
-        .required(true)
-        .action(ArgAction::Set)
-        .help("The key, 1 to 32 bytes of two hexadecimal digits each");
+    let root = "The root digest of the map, 64 hexadecimal digits";
+    let key = "The key, 1 to 32 bytes of two hexadecimal digits each";
     Command::new(alloc, "verify")
         .about("Says what the proof on standard input, in hexadecimal, shows of a key")
-        .arg(root)?
-        .arg(key)
+        .arg(required_word(alloc, "ROOT", root))?
+        .arg(required_word(alloc, "KEY", key))
 }
 
-// The program, with its commands.
-fn program<'a>(alloc: Global) -> Result<Command<'a>, AllocError> {
-    let replay = Command::new(alloc, "replay").about(
+// The command that replays events.
+fn replay_command<'a>(alloc: Global) -> Command<'a> {
+    Command::new(alloc, "replay").about(
         "Answers the lines of standard input, each of them an event of the core of pins",
-    );
+    )
+}
+
+// The program without its commands.
+fn bare_program<'a>(alloc: Global) -> Command<'a> {
     Command::new(alloc, "mst")
         .about("A map of short keys to short values, shared by several passes")
         .subcommand_required(true)
         .arg_required_else_help(true)
         .version("0.1.0")
         .after_help(AFTER_HELP)
-        .subcommand(run_command(alloc)?)?
-        .subcommand(verify_command(alloc)?)?
-        .subcommand(replay)?
-        .subcommand(load_command(alloc)?)
+}
+
+// The program with its first two commands.
+fn half_program<'a>(alloc: Global) -> Result<Command<'a>, AllocError> {
+    let run = run_command(alloc)?;
+    let program = bare_program(alloc).subcommand(run)?;
+    program.subcommand(verify_command(alloc)?)
+}
+
+// The program, with its commands.
+fn program<'a>(alloc: Global) -> Result<Command<'a>, AllocError> {
+    let program = half_program(alloc)?.subcommand(replay_command(alloc))?;
+    program.subcommand(load_command(alloc)?)
 }
 
 // The number that an option gives. Each option has a default or has to be given, so there is one
 // where its command is.
 fn number(matches: &ArgMatches<'_>, option: &str) -> u32 {
     matches.get_one::<u32>(option).unwrap_or_default()
+}
+
+// The shape of the store that the options of a script give.
+fn shape_in(matches: &ArgMatches<'_>) -> Shape {
+    let run = matches.subcommand_matches("run").unwrap_or(matches);
+    Shape {
+        rows: number(run, "rows"),
+        passes: number(run, "passes"),
+    }
+}
+
+// The size of the load that its options give.
+fn load_in(matches: &ArgMatches<'_>) -> Load {
+    let load = matches.subcommand_matches("load").unwrap_or(matches);
+    Load {
+        readers: number(load, "readers"),
+        writers: number(load, "writers"),
+        calls: number(load, "calls"),
+    }
 }
 
 // The task that clap finds in words of no plain form, with the program's name. The program has no
@@ -113,18 +143,7 @@ fn task_in<'a>(alloc: Global, words: &[&'a str]) -> Result<Task<'a>, Error>
     ensures { IfOk result (λ task. AsksFor words.now task) }
 {
     let matches = program(alloc)?.try_get_matches_from(words)?;
-    let run = matches.subcommand_matches("run").unwrap_or(&matches);
-    let shape = Shape {
-        rows: number(run, "rows"),
-        passes: number(run, "passes"),
-    };
-    let load = matches.subcommand_matches("load").unwrap_or(&matches);
-    let size = Load {
-        readers: number(load, "readers"),
-        writers: number(load, "writers"),
-        calls: number(load, "calls"),
-    };
-    Ok(named_task(words, shape, size))
+    Ok(named_task(words, shape_in(&matches), load_in(&matches)))
 }
 
 // What clap answers words that name no task: help and the version that were asked for are one, and
