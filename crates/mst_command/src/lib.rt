@@ -14,8 +14,6 @@ mod plain;
 mod programs;
 mod replay;
 mod task;
-#[cfg(test)]
-mod tests;
 mod verify;
 mod words;
 

@@ -23,8 +23,6 @@ mod engine;
 mod gate;
 mod lines;
 mod running;
-#[cfg(test)]
-mod tests;
 mod worker;
 
 pub use engine::{LoadFault, Report, load};

@@ -1,5 +1,5 @@
-//! Tests of the store over its public calls: opening, reads and writes of several passes, pins,
-//! room, settling, and memory that is refused.
+//! Tests of the store and of its table over their public calls: opening, reads and writes of several
+//! passes, pins, room, settling, and memory that is refused.
 #![tactic(auto)]
 
 #[cfg(test)]
@@ -24,5 +24,7 @@ mod room;
 mod settling;
 #[cfg(test)]
 mod sharing;
+#[cfg(test)]
+mod table;
 #[cfg(test)]
 mod waiting;

@@ -1,4 +1,5 @@
-//! Tests of keys and values, of nodes with their texts and digests, and of the verifier of proofs.
+//! Tests of keys and values, of nodes with their texts and digests, of the verifier of proofs, and
+//! of what is said of a proof.
 #![tactic(auto)]
 
 #[cfg(test)]
@@ -11,3 +12,5 @@ mod nodes;
 mod pairs;
 #[cfg(test)]
 mod proving;
+#[cfg(test)]
+mod reports;

@@ -15,8 +15,6 @@
 #![tactic(auto)]
 
 mod report;
-#[cfg(test)]
-mod tests;
 mod words;
 
 pub use report::{LIMIT, Line, Report, report_on};

@@ -33,8 +33,6 @@ mod publishing;
 mod rows;
 mod rule;
 mod seat;
-#[cfg(test)]
-mod tests;
 mod view;
 mod words;
 

@@ -1,7 +1,8 @@
-//! Words, texts and lines that are written out, and a growth that is refused.
-use crate::{LIMIT, Report, key_in, report_on, root_in};
+//! What is said of the text of a proof: words, texts and lines that are written out, and a growth
+//! that is refused.
 use linked_list_allocator::LocalHeap;
 use mst_key::{Key, Memory};
+use mst_verify::{LIMIT, Report, key_in, report_on, root_in};
 use std::alloc::Global;
 use std::test::Fail;
 

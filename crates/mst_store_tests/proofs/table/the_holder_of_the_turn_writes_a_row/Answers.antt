@@ -11,7 +11,7 @@ use Rattle.mst_words.specs.Access.{all_below, is_blank}
 use Rattle.mst_words.specs.Layout.{row_word}
 use Rattle.mst_words.specs.Stored.{stored, state_of, version_of}
 use Rattle.mst_words.specs.Steps.{Takes}
-use Rattle.mst_words.proofs.tests.the_holder_of_the_turn_writes_a_row.Goals as goal
+use Rattle.mst_store_tests.proofs.table.the_holder_of_the_turn_writes_a_row.Goals as goal
 
 -- the slot of whoever took the turn has the desk
 has_desk : (m m' : Me (Option State) View) (t : Takes stored m m') → m'.1 ≡ (0, Some (state_of t.desk)) ∷ []

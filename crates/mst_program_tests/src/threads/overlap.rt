@@ -1,6 +1,6 @@
 //! That the workers run at once: two of them wait for each other between the beginning and the end
 //! of their first calls.
-use crate::{Gate, load};
+use mst_load::{Gate, load};
 use std::hint;
 use std::sync::atomic::Ordering::SeqCst;
 use std::sync::atomic::{AtomicBool, AtomicU32};

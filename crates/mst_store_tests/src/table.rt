@@ -2,10 +2,10 @@ ghost use Rattle.std.specs.Prelude.{◌≡◌, [], IfOk};
 ghost use Rattle.mst_words.specs.Layout.{table_words};
 ghost use Rattle.mst_words.specs.World.{dealer};
 
-use crate::{Board, Shape, Token};
 use linked_list_allocator::LocalHeap;
 use mst_arena::{Desk, Row, Rows};
 use mst_key::Memory;
+use mst_words::{Board, Shape, Token};
 use std::alloc::Allocator;
 use std::marker::Brand;
 use std::process::Abort;

@@ -1,7 +1,7 @@
 //! Growths that are refused, one after another: the threads that were started have returned all the
 //! same.
-use crate::{Gate, LoadFault, load};
 use linked_list_allocator::LocalHeap;
+use mst_load::{Gate, LoadFault, load};
 use std::hint;
 use std::sync::atomic::AtomicU32;
 use std::sync::atomic::Ordering::SeqCst;

@@ -1,6 +1,6 @@
-//! What no clause says: memory that is refused, growth after growth.
-use crate::{DONE, Ending, Refusal, Task, complain, execute};
+//! Memory that is refused to a script, to a replay and to a proof, growth after growth.
 use linked_list_allocator::LocalHeap;
+use mst_command::{DONE, Ending, Refusal, Task, complain, execute};
 use mst_devices::{BytesSink, BytesSource};
 use mst_load::Open;
 use mst_store::Shape;

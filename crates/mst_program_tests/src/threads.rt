@@ -3,7 +3,7 @@
 mod memory;
 mod overlap;
 
-use crate::{Open, Report, load};
+use mst_load::{Open, Report, load};
 use std::test::Fail;
 
 // The digest is the SHA-256 of the text of the node that has the key 0101 with the value 00000001.

@@ -1,4 +1,4 @@
-use Rattle.mst_words.proofs.tests.a_note_is_heard_and_seen.Given as goal
+use Rattle.mst_store_tests.proofs.table.a_note_is_heard_and_seen.Given as goal
 
 -- the note that is heard
 abbrev pub ghosts-hear_note : goal.ghosts-hear_note

@@ -4,7 +4,7 @@ use Rattle.mst_arena.specs.Lives.{State}
 use Rattle.mst_words.specs.declared.view.View.{View}
 use Rattle.mst_words.specs.Stored.{stored, state_of}
 use Rattle.mst_words.specs.Steps.{Takes}
-use Rattle.mst_words.proofs.tests.one_pass_has_the_turn.Goals as goal
+use Rattle.mst_store_tests.proofs.table.one_pass_has_the_turn.Goals as goal
 
 -- the slot of whoever took the turn has the desk
 has_desk : (m m' : Me (Option State) View) → Takes stored m m' → (d : State) × (m'.1 ≡ (0, Some d) ∷ [])
