@@ -158,36 +158,53 @@ fn random_changes_in_few_rows(rt: HostRuntime) -> Result<(), Fail> {
     Ok(())
 }
 
+/// Gives each of these keys this value, or none, for which there is room each time.
+fn change_each(
+    rt: &impl Abort,
+    alloc: Global,
+    both: &mut Both,
+    keys: &[Key],
+    value: Option<&Value>,
+) -> Result<(), Fail> {
+    for key in keys {
+        assert!(rt; both.change(rt, alloc, key, value)?);
+    }
+    Ok(())
+}
+
 #[test]
 fn the_greatest_layer_goes_first(rt: HostRuntime) -> Result<(), Fail> {
     let alloc = rt.alloc();
-    let keys = layered_keys(&rt, alloc)?;
+    let mut keys = layered_keys(&rt, alloc)?;
     let value = Value::new(b"value")?;
     let mut both = Both::new(&rt, alloc, Vec::new(alloc), 300)?;
-    for key in &keys {
-        assert!(rt; both.change(&rt, alloc, key, Some(&value))?);
-    }
-    for key in keys.iter().rev() {
-        assert!(rt; both.change(&rt, alloc, key, None)?);
-    }
+    change_each(&rt, alloc, &mut both, keys.as_slice(), Some(&value))?;
+    keys.reverse();
+    change_each(&rt, alloc, &mut both, keys.as_slice(), None)?;
     assert!(rt; both.len() == 0);
     assert!(rt; both.free() == 300, "no row is left behind");
     Ok(())
 }
 
+/// Eight keys of 32 bytes.
+fn longest_keys(alloc: Global) -> Result<Vec<Key>, Fail> {
+    let mut keys = Vec::new(alloc);
+    for i in 0..8u8 {
+        keys.push(Key::new(&[i; 32])?)?;
+    }
+    Ok(keys)
+}
+
 #[test]
 fn longest_keys_and_values(rt: HostRuntime) -> Result<(), Fail> {
     let alloc = rt.alloc();
+    let keys = longest_keys(alloc)?;
     let mut both = Both::new(&rt, alloc, Vec::new(alloc), 40)?;
     for round in 0..3u8 {
-        for i in 0..8u8 {
-            let (key, value) = pair(&[i; 32], &[round; 64])?;
-            assert!(rt; both.change(&rt, alloc, &key, Some(&value))?);
-        }
+        let value = Value::new(&[round; 64])?;
+        change_each(&rt, alloc, &mut both, keys.as_slice(), Some(&value))?;
     }
-    for i in 0..8u8 {
-        assert!(rt; both.change(&rt, alloc, &Key::new(&[i; 32])?, None)?);
-    }
+    change_each(&rt, alloc, &mut both, keys.as_slice(), None)?;
     assert!(rt; both.free() == 40);
     Ok(())
 }

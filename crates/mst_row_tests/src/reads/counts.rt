@@ -35,6 +35,20 @@ fn key_of(number: Option<u32>) -> Result<Option<Key>, Fail> {
     Ok(Some(Key::new(&bytes[1..])?))
 }
 
+/// How many pairs stand between two keys, so many at most, and what was read for them.
+fn range_of(
+    alloc: Global,
+    map: &mut StandingMap,
+    from: Option<u32>,
+    to: Option<u32>,
+    limit: usize,
+) -> Result<(usize, Reads), Fail> {
+    let (from, to) = (key_of(from)?, key_of(to)?);
+    map.forget_reads();
+    let found = map.range(alloc, from.as_ref(), to.as_ref(), limit)?;
+    Ok((found.len(), map.reads()))
+}
+
 #[test]
 fn a_range_reads_no_row_past_its_limit(rt: HostRuntime) -> Result<(), Fail> {
     let alloc = rt.alloc();
@@ -54,14 +68,11 @@ fn a_range_reads_no_row_past_its_limit(rt: HostRuntime) -> Result<(), Fail> {
         (Some(150), Some(160), 2, 3, 13, 2),
         (Some(150), Some(160), 300, 3, 22, 10),
     ] {
-        let (from, to) = (key_of(from)?, key_of(to)?);
-        map.forget_reads();
-        let found = map.range(alloc, from.as_ref(), to.as_ref(), limit)?;
-        assert!(rt; found.len() == values as usize, "{limit}");
+        let (count, reads) = range_of(alloc, &mut map, from, to, limit)?;
+        assert!(rt; count == values as usize, "{limit}");
         assert!(rt;
-            is_within(map.reads(), heads, entries, values),
-            "{limit}: {:?}",
-            map.reads()
+            is_within(reads, heads, entries, values),
+            "{limit}: {reads:?}"
         );
     }
     Ok(())

@@ -2,7 +2,7 @@
 use super::{generated, just_above, proves};
 use crate::standing::StandingMap;
 use linked_list_allocator::LocalHeap;
-use mst_key::{Key, Memory};
+use mst_key::{Key, Memory, Value};
 use mst_node::root_of;
 use std::alloc::Global;
 use std::test::Fail;
@@ -21,6 +21,45 @@ fn just_below(alloc: Global, key: &Key) -> Result<Key, Fail> {
     Ok(Key::new(bytes.as_slice())?)
 }
 
+/// Whether rows prove the value of a key, and that no key just below it or just above it is there.
+fn proves_around(
+    alloc: Global,
+    planted: &mut StandingMap,
+    key: &Key,
+    value: &Value,
+) -> Result<bool, Fail> {
+    let below = just_below(alloc, key)?;
+    let above = just_above(alloc, key)?;
+    Ok(
+        proves(alloc, planted, key, Some(value))?
+            && proves(alloc, planted, &below, None)?
+            && proves(alloc, planted, &above, None)?,
+    )
+}
+
+/// Whether each pair is proved, and that none stands just beside it.
+fn proves_all(
+    alloc: Global,
+    planted: &mut StandingMap,
+    pairs: &[(Key, Value)],
+) -> Result<(), Fail> {
+    for (key, value) in pairs {
+        if !proves_around(alloc, planted, key, value)? {
+            return Err(
+                "a pair is not proved, or a key beside it is not proved to be absent".into(),
+            );
+        }
+    }
+    Ok(())
+}
+
+/// Whether the least key and the greatest one are proved to be absent.
+fn proves_ends(alloc: Global, planted: &mut StandingMap) -> Result<bool, Fail> {
+    let least = Key::new(&[0])?;
+    let greatest = Key::new(&[0xff; 32])?;
+    Ok(proves(alloc, planted, &least, None)? && proves(alloc, planted, &greatest, None)?)
+}
+
 #[test]
 fn ten_thousand_pairs(rt: HostRuntime) -> Result<(), Fail> {
     let alloc = rt.alloc();
@@ -29,17 +68,8 @@ fn ten_thousand_pairs(rt: HostRuntime) -> Result<(), Fail> {
     assert!(rt; pairs.len() == 10_000);
     let mut planted = StandingMap::new(&rt, alloc, pairs, 20_000)?;
     assert!(rt; planted.root() == root_of(pairs));
-    for (i, (key, value)) in pairs.iter().enumerate() {
-        assert!(rt; proves(alloc, &mut planted, key, Some(value))?, "{i}");
-        let below = just_below(alloc, key)?;
-        assert!(rt; proves(alloc, &mut planted, &below, None)?, "below {i}");
-        let above = just_above(alloc, key)?;
-        assert!(rt; proves(alloc, &mut planted, &above, None)?, "above {i}");
-    }
-    for bytes in [[0].as_slice(), [0xff; 32].as_slice()] {
-        let key = Key::new(bytes)?;
-        assert!(rt; proves(alloc, &mut planted, &key, None)?, "{bytes:?}");
-    }
+    proves_all(alloc, &mut planted, pairs)?;
+    assert!(rt; proves_ends(alloc, &mut planted)?);
     Ok(())
 }
 

@@ -28,20 +28,32 @@ fn collides(alloc: Global, pairs: &[(Key, Value)], key: &Key, proof: &[u8]) -> R
     Ok(pair.is_some())
 }
 
+/// Whether one range has each pair, and the key in their middle and one that they lack are proved.
+fn finds_all(alloc: Global, map: &mut StandingMap, pairs: &[(Key, Value)]) -> Result<bool, Fail> {
+    let found = map.range(alloc, None, None, usize::MAX)?;
+    let middle = match pairs.get(pairs.len() / 2) {
+        Some((key, value)) => proves(alloc, map, key, Some(value))?,
+        None => true,
+    };
+    let absent = Key::new(&[0xff])?;
+    Ok(found.as_slice() == pairs && middle && proves(alloc, map, &absent, None)?)
+}
+
+/// The proof for a key that is greater than each one of a map that was generated.
+fn proof_of_absence(alloc: Global, map: &mut StandingMap) -> Result<(Key, Vec<u8>), Fail> {
+    let absent = Key::new(&[0xff])?;
+    let proof = map.prove(alloc, &absent)?;
+    Ok((absent, proof))
+}
+
 /// Asks the map of these pairs for all that takes memory: each pair in one range, the proof for a
 /// key in its middle and for one that it lacks, and whether that one collides with its tree.
 fn asks_all(rt: &impl Abort, alloc: Global, pairs: &[(Key, Value)], rows: u32) -> Result<(), Fail> {
+    let mut map = StandingMap::new(rt, alloc, pairs, rows)?;
+    assert!(rt; finds_all(alloc, &mut map, pairs)?);
+    let (absent, proof) = proof_of_absence(alloc, &mut map)?;
     assert!(rt; pairs.len() <= 65_535);
     assert!(rt; is_map(pairs));
-    let mut map = StandingMap::new(rt, alloc, pairs, rows)?;
-    let found = map.range(alloc, None, None, usize::MAX)?;
-    assert!(rt; found.as_slice() == pairs);
-    if let Some((key, value)) = pairs.get(pairs.len() / 2) {
-        assert!(rt; proves(alloc, &mut map, key, Some(value))?);
-    }
-    let absent = Key::new(&[0xff])?;
-    assert!(rt; proves(alloc, &mut map, &absent, None)?);
-    let proof = map.prove(alloc, &absent)?;
     assert!(rt; !collides(alloc, pairs, &absent, proof.as_slice())?);
     Ok(())
 }

@@ -1,3 +1,4 @@
+use Rattle.std.proofs.Common.{rules}
 use Rattle.std.proofs.Common.{Err, ap, ◌∙◌}
 use Rattle.mst_command.proofs.Asked.{told_early, stopped_early}
 use Rattle.mst.proofs.command.command.Goals as goal
@@ -8,3 +9,123 @@ returns-in-Err-clause-told g c = told_early g.E.Sink.takes g.E.Sink.failures c.a
 pub returns-in-Err-clause-stopped : goal.returns-in-Err-clause-stopped
 returns-in-Err-clause-stopped g c = stopped_early g.E.Sink.takes g.E.Sink.failures c.args.err.now c.complain.new.err c.in-Err.why c.complain.result c.complain.ensures.failed c.complain.ensures.status c.complain.ensures.told
     (λ d. c.perform.ensures.stopped (c.in-Err.is ∙ ap Err d)) c.complain.ensures.broke
+
+pub perform-requires-clause-source : goal.perform-requires-clause-source
+perform-requires-clause-source g c = search rules
+
+pub perform-requires-clause-out : goal.perform-requires-clause-out
+perform-requires-clause-out g c = search rules
+
+pub complain-requires : goal.complain-requires
+complain-requires g c = search rules
+
+pub returns-in-Ok-Done-clause-range : goal.returns-in-Ok-Done-clause-range
+returns-in-Ok-Done-clause-range g c = search rules
+
+pub returns-in-Ok-Done-clause-device : goal.returns-in-Ok-Done-clause-device
+returns-in-Ok-Done-clause-device g c = search rules
+
+pub returns-in-Ok-Done-clause-done : goal.returns-in-Ok-Done-clause-done
+returns-in-Ok-Done-clause-done g c = search rules
+
+pub returns-in-Ok-Done-clause-replayed : goal.returns-in-Ok-Done-clause-replayed
+returns-in-Ok-Done-clause-replayed g c = search rules
+
+pub returns-in-Ok-Done-clause-loaded : goal.returns-in-Ok-Done-clause-loaded
+returns-in-Ok-Done-clause-loaded g c = search rules
+
+pub returns-in-Ok-Done-clause-verified : goal.returns-in-Ok-Done-clause-verified
+returns-in-Ok-Done-clause-verified g c = search rules
+
+pub returns-in-Ok-Done-clause-proof_refused : goal.returns-in-Ok-Done-clause-proof_refused
+returns-in-Ok-Done-clause-proof_refused g c = search rules
+
+pub returns-in-Ok-Done-clause-silent : goal.returns-in-Ok-Done-clause-silent
+returns-in-Ok-Done-clause-silent g c = search rules
+
+pub returns-in-Ok-Done-clause-told : goal.returns-in-Ok-Done-clause-told
+returns-in-Ok-Done-clause-told g c = search rules
+
+pub returns-in-Ok-Done-clause-stopped : goal.returns-in-Ok-Done-clause-stopped
+returns-in-Ok-Done-clause-stopped g c = search rules
+
+pub returns-in-Ok-Done-clause-refused : goal.returns-in-Ok-Done-clause-refused
+returns-in-Ok-Done-clause-refused g c = search rules
+
+pub returns-in-Ok-Done-clause-memory : goal.returns-in-Ok-Done-clause-memory
+returns-in-Ok-Done-clause-memory g c = search rules
+
+pub returns-in-Ok-Done-clause-memory_unread : goal.returns-in-Ok-Done-clause-memory_unread
+returns-in-Ok-Done-clause-memory_unread g c = search rules
+
+pub returns-in-Ok-ProofRefused-clause-range : goal.returns-in-Ok-ProofRefused-clause-range
+returns-in-Ok-ProofRefused-clause-range g c = search rules
+
+pub returns-in-Ok-ProofRefused-clause-device : goal.returns-in-Ok-ProofRefused-clause-device
+returns-in-Ok-ProofRefused-clause-device g c = search rules
+
+pub returns-in-Ok-ProofRefused-clause-done : goal.returns-in-Ok-ProofRefused-clause-done
+returns-in-Ok-ProofRefused-clause-done g c = search rules
+
+pub returns-in-Ok-ProofRefused-clause-replayed : goal.returns-in-Ok-ProofRefused-clause-replayed
+returns-in-Ok-ProofRefused-clause-replayed g c = search rules
+
+pub returns-in-Ok-ProofRefused-clause-loaded : goal.returns-in-Ok-ProofRefused-clause-loaded
+returns-in-Ok-ProofRefused-clause-loaded g c = search rules
+
+pub returns-in-Ok-ProofRefused-clause-verified : goal.returns-in-Ok-ProofRefused-clause-verified
+returns-in-Ok-ProofRefused-clause-verified g c = search rules
+
+pub returns-in-Ok-ProofRefused-clause-proof_refused : goal.returns-in-Ok-ProofRefused-clause-proof_refused
+returns-in-Ok-ProofRefused-clause-proof_refused g c = search rules
+
+pub returns-in-Ok-ProofRefused-clause-silent : goal.returns-in-Ok-ProofRefused-clause-silent
+returns-in-Ok-ProofRefused-clause-silent g c = search rules
+
+pub returns-in-Ok-ProofRefused-clause-told : goal.returns-in-Ok-ProofRefused-clause-told
+returns-in-Ok-ProofRefused-clause-told g c = search rules
+
+pub returns-in-Ok-ProofRefused-clause-stopped : goal.returns-in-Ok-ProofRefused-clause-stopped
+returns-in-Ok-ProofRefused-clause-stopped g c = search rules
+
+pub returns-in-Ok-ProofRefused-clause-refused : goal.returns-in-Ok-ProofRefused-clause-refused
+returns-in-Ok-ProofRefused-clause-refused g c = search rules
+
+pub returns-in-Ok-ProofRefused-clause-memory : goal.returns-in-Ok-ProofRefused-clause-memory
+returns-in-Ok-ProofRefused-clause-memory g c = search rules
+
+pub returns-in-Ok-ProofRefused-clause-memory_unread : goal.returns-in-Ok-ProofRefused-clause-memory_unread
+returns-in-Ok-ProofRefused-clause-memory_unread g c = search rules
+
+pub returns-in-Err-clause-range : goal.returns-in-Err-clause-range
+returns-in-Err-clause-range g c = search rules
+
+pub returns-in-Err-clause-device : goal.returns-in-Err-clause-device
+returns-in-Err-clause-device g c = search rules
+
+pub returns-in-Err-clause-done : goal.returns-in-Err-clause-done
+returns-in-Err-clause-done g c = search rules
+
+pub returns-in-Err-clause-replayed : goal.returns-in-Err-clause-replayed
+returns-in-Err-clause-replayed g c = search rules
+
+pub returns-in-Err-clause-loaded : goal.returns-in-Err-clause-loaded
+returns-in-Err-clause-loaded g c = search rules
+
+pub returns-in-Err-clause-verified : goal.returns-in-Err-clause-verified
+returns-in-Err-clause-verified g c = search rules
+
+pub returns-in-Err-clause-proof_refused : goal.returns-in-Err-clause-proof_refused
+returns-in-Err-clause-proof_refused g c = search rules
+
+pub returns-in-Err-clause-silent : goal.returns-in-Err-clause-silent
+returns-in-Err-clause-silent g c = search rules
+
+pub returns-in-Err-clause-refused : goal.returns-in-Err-clause-refused
+returns-in-Err-clause-refused g c = search rules
+
+pub returns-in-Err-clause-memory : goal.returns-in-Err-clause-memory
+returns-in-Err-clause-memory g c = search rules
+
+pub returns-in-Err-clause-memory_unread : goal.returns-in-Err-clause-memory_unread
+returns-in-Err-clause-memory_unread g c = search rules

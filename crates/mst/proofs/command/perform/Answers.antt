@@ -1,3 +1,4 @@
+use Rattle.std.proofs.Common.{rules}
 use Rattle.std.proofs.Common.{◌+◌}
 use Rattle.mst_command.proofs.Asked.{asked_script, asked_replay, asked_verify, asked_load, asked_others, not_verified, words_device, still_unread, still_untouched, task_comes, words_come, no_device}
 use Rattle.mst.proofs.command.perform.Goals as goal
@@ -43,3 +44,39 @@ returns-in-Err-clause-comes g c = words_come c.args.words.now c.in-Err.why c.in-
 
 pub returns-in-Err-clause-stopped : goal.returns-in-Err-clause-stopped
 returns-in-Err-clause-stopped g c = λ is. absurd (no_device c.in-Err.why c.in-Err.ensures.refused is)
+
+pub execute-requires-clause-source : goal.execute-requires-clause-source
+execute-requires-clause-source g c = search rules
+
+pub execute-requires-clause-out : goal.execute-requires-clause-out
+execute-requires-clause-out g c = search rules
+
+pub returns-in-Ok-clause-steady : goal.returns-in-Ok-clause-steady
+returns-in-Ok-clause-steady g c = search rules
+
+pub returns-in-Ok-clause-device : goal.returns-in-Ok-clause-device
+returns-in-Ok-clause-device g c = search rules
+
+pub returns-in-Ok-clause-unread : goal.returns-in-Ok-clause-unread
+returns-in-Ok-clause-unread g c = search rules
+
+pub returns-in-Ok-clause-unwritten : goal.returns-in-Ok-clause-unwritten
+returns-in-Ok-clause-unwritten g c = search rules
+
+pub returns-in-Err-clause-ran : goal.returns-in-Err-clause-ran
+returns-in-Err-clause-ran g c = search rules
+
+pub returns-in-Err-clause-replayed : goal.returns-in-Err-clause-replayed
+returns-in-Err-clause-replayed g c = search rules
+
+pub returns-in-Err-clause-loaded : goal.returns-in-Err-clause-loaded
+returns-in-Err-clause-loaded g c = search rules
+
+pub returns-in-Err-clause-verified : goal.returns-in-Err-clause-verified
+returns-in-Err-clause-verified g c = search rules
+
+pub returns-in-Err-clause-others : goal.returns-in-Err-clause-others
+returns-in-Err-clause-others g c = search rules
+
+pub returns-in-Err-clause-steady : goal.returns-in-Err-clause-steady
+returns-in-Err-clause-steady g c = search rules
