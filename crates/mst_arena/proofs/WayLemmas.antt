@@ -1,5 +1,5 @@
 -- The way to a key from an entry, by its links and by its words.
-use Rattle.std.proofs.Common.{◌≡◌, ℕ, ◌*◌, ◌+◌, ◌%◌, ◌≤◌, List, length, Option, Some, None, refl, sym, ◌∙◌, ap, arith}
+use Rattle.std.proofs.Common.{◌≡◌, ℕ, ◌*◌, ◌+◌, ◌%◌, ◌≤◌, List, length, Option, Some, None, Ordering, Less, Equal, Greater, refl, sym, ◌∙◌, ap, arith}
 use Rattle.std.specs.Prelude.{slice_index, option_and_then, IsSome}
 use Rattle.mst_key.specs.Bytes.{IsKey, IsBytes}
 use Rattle.mst_key.specs.Map.{key_cmp}
@@ -9,6 +9,7 @@ use Rattle.mst_arena.specs.declared.row.Row.TheVariants.{Entry, Head}
 use Rattle.mst_arena.specs.declared.row.EntryLinks.{EntryLinks}
 use Rattle.mst_arena.specs.declared.sought.Way.{Way}
 use Rattle.mst_arena.specs.declared.sought.Way.TheVariants.{Child, Here, Next}
+use Rattle.mst_arena.specs.Content.{Content, part_at}
 use Rattle.mst_arena.specs.Row.{IsRow, HasBytes, entry_links}
 use Rattle.mst_arena.specs.Words.{words_of, part_in}
 use Rattle.mst_arena.specs.Ways.{entry_way, way_at, words_order}
@@ -23,6 +24,37 @@ from_links k (Some (Entry child next key value)) e is =
     let some : Some (record { child = child; next = next; key = key }) ≡ Some e = is in
     let fields : record { child = child; next = next; key = key } ≡ e = cc in
     ap (λ (x : EntryLinks). Some (way_at k x.child x.next x.key)) fields
+
+-- the way that was answered is that from the entry
+pub way_is : (content : Content) (row : ℕ) (k : List ℕ) (e : EntryLinks) (w : Way) → part_at entry_links content row ≡ Some e → part_at (entry_way k) content row ≡ Some w → way_at k e.child e.next e.key ≡ w
+way_is content row k e w part is =
+    let both : Some (way_at k e.child e.next e.key) ≡ Some w = sym (from_links k (content row) e part) ∙ is in
+    cc
+
+-- what a way says of the order and of the link
+child_way : (r : Ordering) (child next link : ℕ) → by_order r (Child child) Here (Next next) ≡ Child link → (r ≡ Less) × (child ≡ link)
+child_way Less child next link is = (refl, cc)
+child_way Equal child next link is = absurd cc
+child_way Greater child next link is = absurd cc
+
+here_way : (r : Ordering) (child next : ℕ) → by_order r (Child child) Here (Next next) ≡ Here → r ≡ Equal
+here_way Less child next is = absurd cc
+here_way Equal child next is = refl
+here_way Greater child next is = absurd cc
+
+next_way : (r : Ordering) (child next link : ℕ) → by_order r (Child child) Here (Next next) ≡ Next link → (r ≡ Greater) × (next ≡ link)
+next_way Less child next link is = absurd cc
+next_way Equal child next link is = absurd cc
+next_way Greater child next link is = (refl, cc)
+
+pub to_child : (k : List ℕ) (e : EntryLinks) (link : ℕ) → way_at k e.child e.next e.key ≡ Child link → (key_cmp k e.key ≡ Less) × (e.child ≡ link)
+to_child k e link = child_way (key_cmp k e.key) e.child e.next link
+
+pub is_here : (k : List ℕ) (e : EntryLinks) → way_at k e.child e.next e.key ≡ Here → key_cmp k e.key ≡ Equal
+is_here k e = here_way (key_cmp k e.key) e.child e.next
+
+pub to_next : (k : List ℕ) (e : EntryLinks) (link : ℕ) → way_at k e.child e.next e.key ≡ Next link → (key_cmp k e.key ≡ Greater) × (e.next ≡ link)
+to_next k e link = next_way (key_cmp k e.key) e.child e.next link
 
 -- the words of an entry: its links are small, and the order by words chooses the way
 pub record WayIn (k words : List ℕ) : Type 0 where

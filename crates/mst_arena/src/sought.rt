@@ -59,6 +59,13 @@ impl Sought {
         }
     }
 
+    /// The key.
+    pub fn key(&self) -> &Key
+        ensures key { result.now ≡ self.now }
+    {
+        &self.key
+    }
+
     /// The bytes of the key in four words, the first of them highest; what is left over is 0.
     pub fn words(&self) -> [u64; 4]
         ensures words { result ≡ word_from self.now 0 ∷ word_from self.now 8 ∷ word_from self.now 16

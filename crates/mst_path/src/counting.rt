@@ -13,8 +13,7 @@ ghost use Rattle.mst_path.specs.Putting.{RisingTree, pair_rows, with_rows};
 use crate::frames::Frame;
 use crate::putting::{PutStep, put_step};
 use crate::removing::{Step, top_step};
-use mst_arena::Rows;
-use mst_key::Key;
+use mst_arena::{Rows, Sought};
 
 /// What a split of a tree makes.
 #[derive(Clone, Copy)]
@@ -62,7 +61,7 @@ fn rows_with_entry(frame: &Frame) -> u32
 }
 
 /// How many rows a split takes. It reads along its path alone.
-pub(crate) fn split_cost<R: Rows>(rows: &mut R, link: u32, key: &Key) -> SplitCost
+pub(crate) fn split_cost<R: Rows>(rows: &mut R, link: u32, key: &Sought) -> SplitCost
     requires tree { (s : State) × (t : ToSplit (R.content rows.old) s link key.now)
         × (split_rows key.now (tree_of One t.tree.placed) ≤ 4294967295) }
     ensures rows { (s : State) (t : ToSplit (R.content rows.old) s link key.now)
@@ -97,7 +96,7 @@ pub(crate) fn split_cost<R: Rows>(rows: &mut R, link: u32, key: &Key) -> SplitCo
 
 /// How many rows a put takes of a key that has this layer, where the value is not the one that the
 /// key has. It reads along its path alone.
-pub(crate) fn put_cost<R: Rows>(rows: &mut R, link: u32, layer: u8, key: &Key) -> u32
+pub(crate) fn put_cost<R: Rows>(rows: &mut R, link: u32, layer: u8, key: &Sought) -> u32
     requires tree { (s : State) × (t : RisingTree (R.content rows.old) s link) × (v : List ℕ)
         × (pair_rows t layer key.now v ≤ 4294967295) }
     requires layer { layer ≡ layer_in One key.now }

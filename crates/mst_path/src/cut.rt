@@ -5,9 +5,7 @@ ghost use Rattle.mst_path.specs.Writing.{PlacedEntry};
 ghost use Rattle.mst_path.specs.Cutting.{EntriesLie, IsCut};
 
 use crate::making::{Run, no_run};
-use mst_arena::{HeadLinks, Rows};
-use mst_key::Key;
-use std::cmp::Ordering;
+use mst_arena::{HeadLinks, Rows, Sought, Way};
 
 /// The entries of a node, cut at a key.
 #[derive(Clone, Copy)]
@@ -36,7 +34,7 @@ pub(crate) enum Cut {
 
 /// Cuts the entries of a node at a key. It reads the entries with keys up to the first that is not
 /// below the key.
-pub(crate) fn cut_at<R: Rows>(rows: &mut R, head: &HeadLinks, key: &Key) -> Cut
+pub(crate) fn cut_at<R: Rows>(rows: &mut R, head: &HeadLinks, key: &Sought) -> Cut
     requires lies { (es : List PlacedEntry) × EntriesLie (R.content rows.old) head.now es }
     ensures cut { (es : List PlacedEntry) (tail : Placed)
         → EntriesLie (R.content rows.old) head.now es → link_of tail ≡ head.now.tail
@@ -47,19 +45,19 @@ pub(crate) fn cut_at<R: Rows>(rows: &mut R, head: &HeadLinks, key: &Key) -> Cut
     let mut link = first;
     for count in 0..head.count {
         let row = link - 1;
-        let entry = rows.entry(row);
-        match key.cmp(&entry.key) {
-            Ordering::Less => {
+        match rows.way(row, key) {
+            Way::Child(child) => {
                 return Cut::Gap {
                     front: Run { first, count },
-                    child: entry.child,
+                    child,
                     back: Run {
                         first: link,
                         count: head.count - count,
                     },
                 };
             }
-            Ordering::Equal => {
+            Way::Here => {
+                let entry = rows.entry(row);
                 return Cut::Held {
                     front: Run { first, count },
                     row,
@@ -70,7 +68,7 @@ pub(crate) fn cut_at<R: Rows>(rows: &mut R, head: &HeadLinks, key: &Key) -> Cut
                     },
                 };
             }
-            Ordering::Greater => link = entry.next,
+            Way::Next(next) => link = next,
         }
     }
     let count = head.count;

@@ -8,11 +8,11 @@ ghost use Rattle.mst_arena.specs.Standing.{tree_of};
 ghost use Rattle.mst_path.specs.Removing.{SearchTree};
 
 use crate::cut::{Cut, cut_at};
-use mst_arena::Rows;
-use mst_key::{Key, Value};
+use mst_arena::{Rows, Sought};
+use mst_key::Value;
 
 /// The value of a key in the tree at a link. It reads along the path to the key alone.
-pub(crate) fn find<R: Rows>(rows: &mut R, link: u32, key: &Key) -> Option<Value>
+pub(crate) fn find<R: Rows>(rows: &mut R, link: u32, key: &Sought) -> Option<Value>
     requires tree { (s : State) × (t : SearchTree (R.content rows.old) s link)
         × IsAscending (pairs (tree_of One t.placed)) }
     ensures found { (s : State) (t : SearchTree (R.content rows.old) s link)

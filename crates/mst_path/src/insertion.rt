@@ -17,7 +17,7 @@ use crate::counting::put_cost;
 use crate::faults::NoRoom;
 use crate::finding::find;
 use crate::putting::put_at;
-use mst_arena::{Desk, Root, Rows};
+use mst_arena::{Desk, Root, Rows, Sought};
 use mst_key::{Key, Value};
 use std::alloc::Allocator;
 
@@ -94,15 +94,16 @@ pub fn put<R: Rows, A: Allocator>(
     ensures untouched { IfErr result (λ _. (desk.new ≡ desk.old) × (rows.new ≡ rows.old)) }
 {
     within_limits(key, value);
-    let old = find(rows, root.link, key);
+    let sought = Sought::new(key);
+    let old = find(rows, root.link, &sought);
     if is_same(&old, value) {
         return Ok((*root, old));
     }
     let layer = key.layer();
     let free = desk.free();
-    if put_cost(rows, root.link, layer, key) > free {
+    if put_cost(rows, root.link, layer, &sought) > free {
         return Err(NoRoom);
     }
-    let new = put_at(rows, desk, root.link, layer, key, value);
+    let new = put_at(rows, desk, root.link, layer, &sought, value);
     Ok((new, old))
 }

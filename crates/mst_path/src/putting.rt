@@ -23,7 +23,7 @@ use crate::joining::Meeting;
 use crate::making::{Parts, make_node_with, no_run};
 use crate::removing::{Step, top_step};
 use crate::split::split;
-use mst_arena::{Desk, Root, Rows};
+use mst_arena::{Desk, Root, Rows, Sought};
 use mst_key::{Key, Value};
 use std::alloc::Allocator;
 
@@ -56,7 +56,7 @@ fn is_lower<R: Rows>(rows: &mut R, link: u32, layer: u8) -> bool
 }
 
 /// What becomes of the top node of a tree into which a key of this layer is put.
-pub(crate) fn put_step<R: Rows>(rows: &mut R, link: u32, layer: u8, key: &Key) -> PutStep
+pub(crate) fn put_step<R: Rows>(rows: &mut R, link: u32, layer: u8, key: &Sought) -> PutStep
     requires tree { (s : State) × RisingTree (R.content rows.old) s link }
     requires layer { layer ≡ layer_in One key.now }
     ensures step { (s : State) (t : RisingTree (R.content rows.old) s link)
@@ -118,7 +118,7 @@ fn put_on_top<R: Rows, A: Allocator>(
     desk: &mut Desk<A>,
     link: u32,
     layer: u8,
-    key: &Key,
+    key: &Sought,
     value: &Value,
 ) -> Root
     requires tree { (t : ToSplit (R.content rows.old) desk.old link key.now)
@@ -136,7 +136,7 @@ fn put_on_top<R: Rows, A: Allocator>(
     ensures kept { R.kept rows.new ≡ R.kept rows.old }
 {
     let (lower, upper) = split(rows, desk, link, key);
-    put_between(rows, desk, layer, &lower, &upper, key, value)
+    put_between(rows, desk, layer, &lower, &upper, key.key(), value)
 }
 
 /// Makes the node of the frame with a new entry in its gap, between two trees. The rows that the
@@ -183,7 +183,7 @@ fn put_level<R: Rows, A: Allocator>(
     desk: &mut Desk<A>,
     child: u32,
     frame: &Frame,
-    key: &Key,
+    key: &Sought,
     value: &Value,
 ) -> Root
     requires gap { (t : ToSplit (R.content rows.old) desk.old child key.now)
@@ -204,7 +204,7 @@ fn put_level<R: Rows, A: Allocator>(
     ensures kept { R.kept rows.new ≡ R.kept rows.old }
 {
     let (lower, upper) = split(rows, desk, child, key);
-    close_with(rows, desk, frame, &lower, &upper, key, value)
+    close_with(rows, desk, frame, &lower, &upper, key.key(), value)
 }
 
 /// Writes the entry of a key anew, with another value.
@@ -242,7 +242,7 @@ pub(crate) fn put_at<R: Rows, A: Allocator>(
     desk: &mut Desk<A>,
     link: u32,
     layer: u8,
-    key: &Key,
+    key: &Sought,
     value: &Value,
 ) -> Root
     requires tree { (t : RisingTree (R.content rows.old) desk.old link)
@@ -265,6 +265,6 @@ pub(crate) fn put_at<R: Rows, A: Allocator>(
             close(rows, desk, &frame, &seam)
         }
         PutStep::Between { child, frame } => put_level(rows, desk, child, &frame, key, value),
-        PutStep::Anew { meeting } => put_value(rows, desk, &meeting, key, value),
+        PutStep::Anew { meeting } => put_value(rows, desk, &meeting, key.key(), value),
     }
 }

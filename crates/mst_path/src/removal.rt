@@ -14,7 +14,7 @@ ghost use Rattle.mst_path.specs.Reached.{Changes};
 use crate::faults::NoRoom;
 use crate::finding::find;
 use crate::removing::{remove_at, remove_cost};
-use mst_arena::{Desk, Root, Rows};
+use mst_arena::{Desk, Root, Rows, Sought};
 use mst_key::{Key, Value};
 use std::alloc::Allocator;
 
@@ -70,13 +70,14 @@ pub fn remove<R: Rows, A: Allocator>(
         → free_count desk.old.lives < cost One m (map.remove m key.now)) }
     ensures untouched { IfErr result (λ _. (desk.new ≡ desk.old) × (rows.new ≡ rows.old)) }
 {
-    let Some(value) = find(rows, root.link, key) else {
+    let sought = Sought::new(key);
+    let Some(value) = find(rows, root.link, &sought) else {
         return Ok((*root, None));
     };
     let free = desk.free();
-    if remove_cost(rows, root.link, key) > free {
+    if remove_cost(rows, root.link, &sought) > free {
         return Err(NoRoom);
     }
-    let new = remove_at(rows, desk, root.link, key);
+    let new = remove_at(rows, desk, root.link, &sought);
     Ok((new, Some(value)))
 }

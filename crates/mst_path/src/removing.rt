@@ -18,8 +18,7 @@ use crate::cut::{Cut, cut_at};
 use crate::frames::{Frame, close};
 use crate::joining::{Meeting, join, join_cost};
 use crate::making::{Run, kept_tail};
-use mst_arena::{Desk, HeadLinks, Root, Rows};
-use mst_key::Key;
+use mst_arena::{Desk, HeadLinks, Root, Rows, Sought};
 use std::alloc::Allocator;
 
 /// What becomes of a node whose tree loses a key.
@@ -48,7 +47,7 @@ fn first_tree<R: Rows>(rows: &mut R, back: Run, tail: u32) -> u32
 }
 
 /// What becomes of the top node of a tree that is not empty.
-pub(crate) fn top_step<R: Rows>(rows: &mut R, link: u32, key: &Key) -> Step
+pub(crate) fn top_step<R: Rows>(rows: &mut R, link: u32, key: &Sought) -> Step
     requires tree { (s : State) × SearchTree (R.content rows.old) s link }
     requires some { 0 < link }
     ensures step { (s : State) (t : SearchTree (R.content rows.old) s link)
@@ -122,7 +121,7 @@ pub(crate) fn remove_at<R: Rows, A: Allocator>(
     rows: &mut R,
     desk: &mut Desk<A>,
     link: u32,
-    key: &Key,
+    key: &Sought,
 ) -> Root
     requires tree { (t : SearchTree (R.content rows.old) desk.old link)
         × (without_rows t key.now ≤ free_count desk.old.lives) }
@@ -147,7 +146,7 @@ pub(crate) fn remove_at<R: Rows, A: Allocator>(
 }
 
 /// How many rows [`remove_at`] takes. It reads along the path alone.
-pub(crate) fn remove_cost<R: Rows>(rows: &mut R, link: u32, key: &Key) -> u32
+pub(crate) fn remove_cost<R: Rows>(rows: &mut R, link: u32, key: &Sought) -> u32
     requires tree { (s : State) × (t : SearchTree (R.content rows.old) s link)
         × (without_rows t key.now ≤ 65535) }
     ensures cost { (s : State) (t : SearchTree (R.content rows.old) s link)

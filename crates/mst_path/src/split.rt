@@ -15,8 +15,7 @@ ghost use Rattle.mst_path.specs.Splitting.{ToSplit, BothStand, side_of, in_both}
 use crate::copying::root_at;
 use crate::cut::{Cut, cut_at};
 use crate::making::{Parts, Run, kept_tail, make_node, no_run};
-use mst_arena::{Desk, Root, Rows};
-use mst_key::Key;
+use mst_arena::{Desk, Root, Rows, Sought};
 use mst_node::empty_digest;
 use std::alloc::Allocator;
 
@@ -92,7 +91,7 @@ pub(crate) fn split<R: Rows, A: Allocator>(
     rows: &mut R,
     desk: &mut Desk<A>,
     link: u32,
-    key: &Key,
+    key: &Sought,
 ) -> (Root, Root)
     requires tree { (t : ToSplit (R.content rows.old) desk.old link key.now)
         × (split_rows key.now (tree_of One t.tree.placed) ≤ free_count desk.old.lives) }

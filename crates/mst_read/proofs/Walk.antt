@@ -1,19 +1,13 @@
 -- A walk along the entries of a node.
-use Rattle.std.proofs.Common.{◌≡◌, ℕ, ◌+◌, ◌-◌, ◌<◌, List, Some, refl, sym, ◌∙◌, ap, subst, arith, Ordering, Less, Equal, Greater}
+use Rattle.std.proofs.Common.{◌≡◌, ℕ, ◌+◌, ◌-◌, ◌<◌, List, Some, refl, sym, ◌∙◌, ap, subst, arith}
 use Rattle.std.specs.Prelude.{option_and_then}
-use Rattle.mst_key.specs.Map.{key_cmp}
-use Rattle.mst_node.specs.Trail.{by_order}
 use Rattle.mst_key.specs.declared.format.Format.{Format}
 use Rattle.mst_arena.specs.Content.{Content, part_at}
 use Rattle.mst_arena.specs.Row.{entry_links}
 use Rattle.mst_arena.specs.declared.row.Row.TheVariants.{Entry}
 use Rattle.mst_arena.specs.declared.row.EntryLinks.{EntryLinks}
 use Rattle.mst_arena.specs.Standing.{Placed, Chain, end, cell, link_of, first_of, tail_of, count_of, rows_of, chain_rows, HasRows}
-use Rattle.mst_arena.specs.Ways.{entry_way, way_at}
-use Rattle.mst_arena.specs.declared.sought.Way.{Way}
-use Rattle.mst_arena.specs.declared.sought.Way.TheVariants.{Child, Here, Next}
 use Rattle.mst_arena.proofs.Stands.{all-front, all-back}
-use Rattle.mst_arena.proofs.WayLemmas.{from_links}
 
 -- the rest of a chain behind as many entries as are done: it begins at the link, and something
 -- holds of it
@@ -97,34 +91,3 @@ module _ (format : Format) (content : Content) where
           let is : at ≡ next - 1 = omega arith in
           let row : content (next - 1) ≡ Some (Entry (link_of p) (first_of c) key v) = ap content (sym is) ∙ rows.0 in
           (record { child = link_of p; next = first_of c; key = key }, ap (option_and_then entry_links) row)
-
--- the way that was answered is that from the entry
-pub way_is : (content : Content) (row : ℕ) (k : List ℕ) (e : EntryLinks) (w : Way) → part_at entry_links content row ≡ Some e → part_at (entry_way k) content row ≡ Some w → way_at k e.child e.next e.key ≡ w
-way_is content row k e w part is =
-    let both : Some (way_at k e.child e.next e.key) ≡ Some w = sym (from_links k (content row) e part) ∙ is in
-    cc
-
--- what a way says of the order and of the link
-child_way : (r : Ordering) (child next link : ℕ) → by_order r (Child child) Here (Next next) ≡ Child link → (r ≡ Less) × (child ≡ link)
-child_way Less child next link is = (refl, cc)
-child_way Equal child next link is = absurd cc
-child_way Greater child next link is = absurd cc
-
-here_way : (r : Ordering) (child next : ℕ) → by_order r (Child child) Here (Next next) ≡ Here → r ≡ Equal
-here_way Less child next is = absurd cc
-here_way Equal child next is = refl
-here_way Greater child next is = absurd cc
-
-next_way : (r : Ordering) (child next link : ℕ) → by_order r (Child child) Here (Next next) ≡ Next link → (r ≡ Greater) × (next ≡ link)
-next_way Less child next link is = absurd cc
-next_way Equal child next link is = absurd cc
-next_way Greater child next link is = (refl, cc)
-
-pub to_child : (k : List ℕ) (e : EntryLinks) (link : ℕ) → way_at k e.child e.next e.key ≡ Child link → (key_cmp k e.key ≡ Less) × (e.child ≡ link)
-to_child k e link = child_way (key_cmp k e.key) e.child e.next link
-
-pub is_here : (k : List ℕ) (e : EntryLinks) → way_at k e.child e.next e.key ≡ Here → key_cmp k e.key ≡ Equal
-is_here k e = here_way (key_cmp k e.key) e.child e.next
-
-pub to_next : (k : List ℕ) (e : EntryLinks) (link : ℕ) → way_at k e.child e.next e.key ≡ Next link → (key_cmp k e.key ≡ Greater) × (e.next ≡ link)
-to_next k e link = next_way (key_cmp k e.key) e.child e.next link

@@ -26,7 +26,7 @@ nothing g c =
     let k = c.args.key.now in
     let v = c.args.value.now in
     let old = c.find-old.result in
-    let all = after_same content s root k v c.within_limits.ensures.key c.within_limits.ensures.value c.requires.stands old (says content s root k c.requires.stands old c.find-old.ensures.found) (sym c.is_same.ensures.same ∙ c.if-is_same.true) in
+    let all = after_same content s root k v c.within_limits.ensures.key c.within_limits.ensures.value c.requires.stands old (says content s root k c.requires.stands old (rw c.new-sought.ensures.key at c.find-old.ensures.found)) (sym c.is_same.ensures.same ∙ c.if-is_same.true) in
     subst (λ (x : Content). AfterPut content x s s root root k v) (sym (ap g.R.Rows.content c.find-old.ensures.same)) all
 
 pub returns-then-is_same-clause-stands : goal.returns-then-is_same-clause-stands
@@ -34,7 +34,7 @@ returns-then-is_same-clause-stands g c = (nothing g c).stands
 
 pub returns-then-is_same-clause-value : goal.returns-then-is_same-clause-value
 returns-then-is_same-clause-value g c m st =
-    sym (says (g.R.Rows.content c.args.rows.now) c.args.desk.now c.args.root.now c.args.key.now c.requires.stands c.find-old.result c.find-old.ensures.found m st)
+    sym (says (g.R.Rows.content c.args.rows.now) c.args.desk.now c.args.root.now c.args.key.now c.requires.stands c.find-old.result (rw c.new-sought.ensures.key at c.find-old.ensures.found) m st)
 
 pub returns-then-is_same-clause-cost : goal.returns-then-is_same-clause-cost
 returns-then-is_same-clause-cost g c = (nothing g c).counted
@@ -57,7 +57,7 @@ put_cost-requires-clause-tree g c =
     let v = c.args.value.now in
     let l = c.layer-layer.result in
     let few = few_new content s root one.0 one.1 k v one.2 l c.free-free.ensures.few in
-    subst (λ (x : Content). (q : State) × (t : RisingTree x q root.link) × (w : List ℕ) × (pair_rows t l k w ≤ 4294967295)) (sym (ap g.R.Rows.content c.find-old.ensures.same)) (s, rising_at content s root one.0 one.1 k v one.2, v, omega (arith, few))
+    rw (sym c.new-sought.ensures.key) at (subst (λ (x : Content). (q : State) × (t : RisingTree x q root.link) × (w : List ℕ) × (pair_rows t l k w ≤ 4294967295)) (sym (ap g.R.Rows.content c.find-old.ensures.same)) (s, rising_at content s root one.0 one.1 k v one.2, v, omega (arith, few)))
 
 pub returns-then-put_cost-free-clause-no_room :
     goal.returns-then-put_cost-free-clause-no_room
@@ -69,8 +69,8 @@ returns-then-put_cost-free-clause-no_room g c m st =
     let v = c.args.value.now in
     let l = c.layer-layer.result in
     let old = any_old content s root c.requires.stands m st in
-    let found = says content s root k c.requires.stands c.find-old.result c.find-old.ensures.found m st in
-    let counted = subst (λ (x : Content). (q : State) (t : RisingTree x q root.link) (w : List ℕ) → c.put_cost.result ≡ pair_rows t l k w) (ap g.R.Rows.content c.find-old.ensures.same) c.put_cost.ensures.cost s (rising_at content s root m st k v old) v in
+    let found = says content s root k c.requires.stands c.find-old.result (rw c.new-sought.ensures.key at c.find-old.ensures.found) m st in
+    let counted = subst (λ (x : Content). (q : State) (t : RisingTree x q root.link) (w : List ℕ) → c.put_cost.result ≡ pair_rows t l k w) (ap g.R.Rows.content c.find-old.ensures.same) (rw c.new-sought.ensures.key at c.put_cost.ensures.cost) s (rising_at content s root m st k v old) v in
     let is = ap (λ (n : ℕ). pair_rows (rising_at content s root m st k v old) n k v) c.layer-layer.ensures.layer in
     omega (arith, counted, is, cost_other content s root m st k v c.find-old.result found (sym c.is_same.ensures.same ∙ c.if-is_same.false), c.free-free.ensures.count, c.if-put_cost-free.true)
 
@@ -84,8 +84,8 @@ put_at-new-requires-clause-tree g c =
     let v = c.args.value.now in
     let l = c.layer-layer.result in
     let z = rising_at content s root one.0 one.1 k v one.2 in
-    let counted = subst (λ (x : Content). (q : State) (t : RisingTree x q root.link) (w : List ℕ) → c.put_cost.result ≡ pair_rows t l k w) (ap g.R.Rows.content c.find-old.ensures.same) c.put_cost.ensures.cost s z v in
-    subst (λ (x : Content). (t : RisingTree x s root.link) × (pair_rows t l k v ≤ free_count s.lives)) (sym (ap g.R.Rows.content (c.put_cost.ensures.same ∙ c.find-old.ensures.same))) (z, omega (arith, counted, c.free-free.ensures.count, c.if-put_cost-free.false))
+    let counted = subst (λ (x : Content). (q : State) (t : RisingTree x q root.link) (w : List ℕ) → c.put_cost.result ≡ pair_rows t l k w) (ap g.R.Rows.content c.find-old.ensures.same) (rw c.new-sought.ensures.key at c.put_cost.ensures.cost) s z v in
+    rw (sym c.new-sought.ensures.key) at (subst (λ (x : Content). (t : RisingTree x s root.link) × (pair_rows t l k v ≤ free_count s.lives)) (sym (ap g.R.Rows.content (c.put_cost.ensures.same ∙ c.find-old.ensures.same))) (z, omega (arith, counted, c.free-free.ensures.count, c.if-put_cost-free.false)))
 
 -- ---- the pair is put
 
@@ -98,15 +98,15 @@ inserted g c =
     let v = c.args.value.now in
     let l = c.layer-layer.result in
     let old = c.find-old.result in
-    let done = subst (λ (x : Content). (t : RisingTree x s root.link) → Grown x (g.R.Rows.content c.put_at-new.new.rows) s c.put_at-new.new.desk (with_pair t l k v) c.put_at-new.result (in_rising t) (pair_rows t l k v)) (ap g.R.Rows.content (c.put_cost.ensures.same ∙ c.find-old.ensures.same)) c.put_at-new.ensures.put in
-    after_other content s root k v c.within_limits.ensures.key c.within_limits.ensures.value c.requires.stands old (says content s root k c.requires.stands old c.find-old.ensures.found) (g.R.Rows.content c.put_at-new.new.rows) c.put_at-new.new.desk c.put_at-new.result l c.layer-layer.ensures.layer (sym c.is_same.ensures.same ∙ c.if-is_same.false) done
+    let done = subst (λ (x : Content). (t : RisingTree x s root.link) → Grown x (g.R.Rows.content c.put_at-new.new.rows) s c.put_at-new.new.desk (with_pair t l k v) c.put_at-new.result (in_rising t) (pair_rows t l k v)) (ap g.R.Rows.content (c.put_cost.ensures.same ∙ c.find-old.ensures.same)) (rw c.new-sought.ensures.key at c.put_at-new.ensures.put) in
+    after_other content s root k v c.within_limits.ensures.key c.within_limits.ensures.value c.requires.stands old (says content s root k c.requires.stands old (rw c.new-sought.ensures.key at c.find-old.ensures.found)) (g.R.Rows.content c.put_at-new.new.rows) c.put_at-new.new.desk c.put_at-new.result l c.layer-layer.ensures.layer (sym c.is_same.ensures.same ∙ c.if-is_same.false) done
 
 pub returns-clause-stands : goal.returns-clause-stands
 returns-clause-stands g c = (inserted g c).stands
 
 pub returns-clause-value : goal.returns-clause-value
 returns-clause-value g c m st =
-    sym (says (g.R.Rows.content c.args.rows.now) c.args.desk.now c.args.root.now c.args.key.now c.requires.stands c.find-old.result c.find-old.ensures.found m st)
+    sym (says (g.R.Rows.content c.args.rows.now) c.args.desk.now c.args.root.now c.args.key.now c.requires.stands c.find-old.result (rw c.new-sought.ensures.key at c.find-old.ensures.found) m st)
 
 pub returns-clause-written : goal.returns-clause-written
 returns-clause-written g c = (inserted g c).written
@@ -125,7 +125,7 @@ returns-clause-made g c = (inserted g c).made
 
 pub returns-clause-same_value : goal.returns-clause-same_value
 returns-clause-same_value g c m st same =
-    let found = says (g.R.Rows.content c.args.rows.now) c.args.desk.now c.args.root.now c.args.key.now c.requires.stands c.find-old.result c.find-old.ensures.found m st in
+    let found = says (g.R.Rows.content c.args.rows.now) c.args.desk.now c.args.root.now c.args.key.now c.requires.stands c.find-old.result (rw c.new-sought.ensures.key at c.find-old.ensures.found) m st in
     absurd (true≢false (sym (ap (λ o. is_same o c.args.value.now) (sym found ∙ same) ∙ same_found c.args.value.now) ∙ sym c.is_same.ensures.same ∙ c.if-is_same.false))
 
 pub returns-then-is_same-clause-written : goal.returns-then-is_same-clause-written

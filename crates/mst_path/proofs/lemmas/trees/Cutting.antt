@@ -1,5 +1,6 @@
 -- A walk along the entries of a node, up to where a key stands.
 use Rattle.std.proofs.Common.{◌≡◌, ℕ, ◌+◌, ◌-◌, ◌<◌, List, [], ◌∷◌, ◌++◌, length, Some, refl, sym, ◌∙◌, ap, subst, arith, append_assoc, length-append, Less, Equal, Greater}
+use Rattle.std.specs.Prelude.{option_and_then}
 use Rattle.std.proofs.lemmas.List.{map-append}
 use Rattle.mst_key.specs.declared.format.Format.TheVariants.{One}
 use Rattle.mst_key.specs.Map.{key_cmp}
@@ -55,6 +56,12 @@ at_entry content k es link done all o lt = go o.rest refl
         let at : x.at ≡ link - 1 = omega (arith, link_is) in
         let rows : HasRows content (own_rows 0 (x ∷ xs)) = subst (λ (l : List PlacedEntry). HasRows content (own_rows 0 l)) e o.rows in
         record { here = x; more = xs; is = e; at = at; link_is = sym link_is; row = ap content (sym at) ∙ rows.0; rows = rows.1 }
+
+-- the links and the key of the entry that comes next
+pub next_links : (content : Content) (k : List ℕ) (es : List PlacedEntry) (link done all : ℕ) → Onward content k es link done all → done < all → (e : EntryLinks) × (part_at entry_links content (link - 1) ≡ Some e)
+next_links content k es link done all o lt =
+    let a = at_entry content k es link done all o lt in
+    (record { child = link_of a.here.child; next = link_from 0 a.more; key = a.here.key }, ap (option_and_then entry_links) a.row)
 
 -- ---- entries and cells
 

@@ -244,5 +244,5 @@ returns-in-Anew-clause-put g t c = λ z.
     let same = ap g.R.Rows.content c.put_step.ensures.same in
     let m = c.in-Anew.meeting in
     let here : PutsAnew C s c.args.link z l k m = subst (IsPutStep C s c.args.link z l k) c.in-Anew.is (c.put_step.ensures.step s z) in
-    let all = subst (λ (x : Content). (y : TwoTrees x s m.left m.right) (f : Framed x s m.frame (in_both y)) → Grown x (g.R.Rows.content c.put_value.new.rows) s c.put_value.new.desk (tree_with f k v (tree_of One y.a) (tree_of One y.b)) c.put_value.result (λ r. in_both y r + in_frame f r) (with_rows m.frame)) same c.put_value.ensures.made here.inner here.framed in
+    let all = subst (λ (x : Content). (y : TwoTrees x s m.left m.right) (f : Framed x s m.frame (in_both y)) → Grown x (g.R.Rows.content c.put_value.new.rows) s c.put_value.new.desk (tree_with f k v (tree_of One y.a) (tree_of One y.b)) c.put_value.result (λ r. in_both y r + in_frame f r) (with_rows m.frame)) same (rw c.key.ensures.key at c.put_value.ensures.made) here.inner here.framed in
     regrown C (g.R.Rows.content c.put_value.new.rows) s c.put_value.new.desk (tree_with here.framed k v (tree_of One here.inner.a) (tree_of One here.inner.b)) (with_pair z l k v) c.put_value.result (λ x. in_both here.inner x + in_frame here.framed x) (in_rising z) (with_rows m.frame) (pair_rows z l k v) all (here.is v) here.given (here.rows v)

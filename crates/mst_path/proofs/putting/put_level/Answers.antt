@@ -36,5 +36,5 @@ pub returns-clause-made : goal.returns-clause-made
 returns-clause-made g c = λ t f.
     let r = c.split.ensures.split t in
     let alive : (x : ℕ) → 0 < times x (used t.tree.placed) → IsAlive c.args.desk.now x = λ x i. old_alive c.args.desk.now x (t.tree.piece.old x i) in
-    level_made _ _ _ _ _ _ _ _ t.tree.placed _ t.tree.once alive r c.args.frame.now f _ _ _ _ _
-    (c.close_with.ensures.made (two _ _ _ _ _ _ _ _ t.tree.placed _ t.tree.once alive r c.args.frame.now f) (level_frame _ _ _ _ _ _ _ _ t.tree.placed _ t.tree.once alive r c.args.frame.now f))
+    rw c.key.ensures.key at (level_made _ _ _ _ _ _ _ _ t.tree.placed _ t.tree.once alive r c.args.frame.now f _ _ _ _ _
+    (c.close_with.ensures.made (two _ _ _ _ _ _ _ _ t.tree.placed _ t.tree.once alive r c.args.frame.now f) (level_frame _ _ _ _ _ _ _ _ t.tree.placed _ t.tree.once alive r c.args.frame.now f)))

@@ -28,4 +28,4 @@ put_between-requires-clause-free g c =
 pub returns-clause-made : goal.returns-clause-made
 returns-clause-made g c t =
     let r = c.split.ensures.split t in
-    on_top _ _ _ _ _ _ _ _ t.tree.placed _ t.tree.once (λ x i. old_alive c.args.desk.now x (t.tree.piece.old x i)) r _ _ _ _ _ _ (c.put_between.ensures.made (sides_stand _ _ _ _ _ _ _ _ t.tree.placed _ t.tree.once (λ x i. old_alive c.args.desk.now x (t.tree.piece.old x i)) r))
+    rw c.key.ensures.key at (on_top _ _ _ _ _ _ _ _ t.tree.placed _ t.tree.once (λ x i. old_alive c.args.desk.now x (t.tree.piece.old x i)) r _ _ _ _ _ _ (c.put_between.ensures.made (sides_stand _ _ _ _ _ _ _ _ t.tree.placed _ t.tree.once (λ x i. old_alive c.args.desk.now x (t.tree.piece.old x i)) r)))

@@ -23,7 +23,7 @@ nothing g c =
     let content = g.R.Rows.content c.args.rows.now in
     let one = c.requires.stands in
     let k = c.args.key.now in
-    let found = says content c.args.desk.now c.args.root.now k one c.find.result c.find.ensures.found in
+    let found = says content c.args.desk.now c.args.root.now k one c.find.result (rw c.new-sought.ensures.key at c.find.ensures.found) in
     let all = after_none content c.args.desk.now c.args.root.now k one (λ m st. found m st ∙ c.in_default.is) in
     subst (λ (x : Content). AfterRemove content x c.args.desk.now c.args.desk.now c.args.root.now c.args.root.now k) (sym (ap g.R.Rows.content c.find.ensures.same)) all
 
@@ -32,7 +32,7 @@ returns-in_default-clause-stands g c = (nothing g c).stands
 
 pub returns-in_default-clause-value : goal.returns-in_default-clause-value
 returns-in_default-clause-value g c m st =
-    let found = says (g.R.Rows.content c.args.rows.now) c.args.desk.now c.args.root.now c.args.key.now c.requires.stands c.find.result c.find.ensures.found m st in
+    let found = says (g.R.Rows.content c.args.rows.now) c.args.desk.now c.args.root.now c.args.key.now c.requires.stands c.find.result (rw c.new-sought.ensures.key at c.find.ensures.found) m st in
     sym (found ∙ c.in_default.is)
 
 pub returns-in_default-clause-cost : goal.returns-in_default-clause-cost
@@ -53,7 +53,7 @@ remove_cost-requires g c =
     let one = c.requires.stands in
     let k = c.args.key.now in
     let few = few_new content s c.args.root.now one.0 one.1 k one.2 c.free-free.ensures.few in
-    record { tree = subst (λ (x : Content). (q : State) × (t : SearchTree x q c.args.root.now.link) × (without_rows t k ≤ 65535)) (sym (ap g.R.Rows.content c.find.ensures.same)) (s, search_at content s c.args.root.now one.0 one.1 one.2, few) }
+    record { tree = rw (sym c.new-sought.ensures.key) at (subst (λ (x : Content). (q : State) × (t : SearchTree x q c.args.root.now.link) × (without_rows t k ≤ 65535)) (sym (ap g.R.Rows.content c.find.ensures.same)) (s, search_at content s c.args.root.now one.0 one.1 one.2, few)) }
 
 pub returns-then-remove_cost-free-clause-no_room :
     goal.returns-then-remove_cost-free-clause-no_room
@@ -63,8 +63,8 @@ returns-then-remove_cost-free-clause-no_room g c m st =
     let root = c.args.root.now in
     let k = c.args.key.now in
     let old = any_old content s root c.requires.stands m st in
-    let found = says content s root k c.requires.stands c.find.result c.find.ensures.found m st ∙ c.in-Some.is in
-    let counted = subst (λ (x : Content). (q : State) (t : SearchTree x q root.link) → c.remove_cost.result ≡ without_rows t k) (ap g.R.Rows.content c.find.ensures.same) c.remove_cost.ensures.cost s (search_at content s root m st old) in
+    let found = says content s root k c.requires.stands c.find.result (rw c.new-sought.ensures.key at c.find.ensures.found) m st ∙ c.in-Some.is in
+    let counted = subst (λ (x : Content). (q : State) (t : SearchTree x q root.link) → c.remove_cost.result ≡ without_rows t k) (ap g.R.Rows.content c.find.ensures.same) (rw c.new-sought.ensures.key at c.remove_cost.ensures.cost) s (search_at content s root m st old) in
     omega (arith, counted, cost_found content s root m st k c.in-Some.value found, c.free-free.ensures.count, c.if-remove_cost-free.true)
 
 pub remove_at-new-requires-clause-tree : goal.remove_at-new-requires-clause-tree
@@ -75,8 +75,8 @@ remove_at-new-requires-clause-tree g c =
     let one = c.requires.stands in
     let k = c.args.key.now in
     let z = search_at content s root one.0 one.1 one.2 in
-    let counted = subst (λ (x : Content). (q : State) (t : SearchTree x q root.link) → c.remove_cost.result ≡ without_rows t k) (ap g.R.Rows.content c.find.ensures.same) c.remove_cost.ensures.cost s z in
-    subst (λ (x : Content). (t : SearchTree x s root.link) × (without_rows t k ≤ free_count s.lives)) (sym (ap g.R.Rows.content (c.remove_cost.ensures.same ∙ c.find.ensures.same))) (z, omega (arith, counted, c.free-free.ensures.count, c.if-remove_cost-free.false))
+    let counted = subst (λ (x : Content). (q : State) (t : SearchTree x q root.link) → c.remove_cost.result ≡ without_rows t k) (ap g.R.Rows.content c.find.ensures.same) (rw c.new-sought.ensures.key at c.remove_cost.ensures.cost) s z in
+    rw (sym c.new-sought.ensures.key) at (subst (λ (x : Content). (t : SearchTree x s root.link) × (without_rows t k ≤ free_count s.lives)) (sym (ap g.R.Rows.content (c.remove_cost.ensures.same ∙ c.find.ensures.same))) (z, omega (arith, counted, c.free-free.ensures.count, c.if-remove_cost-free.false)))
 
 -- ---- the key is removed
 
@@ -86,8 +86,8 @@ removed g c =
     let s = c.args.desk.now in
     let root = c.args.root.now in
     let k = c.args.key.now in
-    let found = says content s root k c.requires.stands c.find.result c.find.ensures.found in
-    let done = subst (λ (x : Content). (t : SearchTree x s root.link) → Grown x (g.R.Rows.content c.remove_at-new.new.rows) s c.remove_at-new.new.desk (without t k) c.remove_at-new.result (in_tree t) (without_rows t k)) (ap g.R.Rows.content (c.remove_cost.ensures.same ∙ c.find.ensures.same)) c.remove_at-new.ensures.removed in
+    let found = says content s root k c.requires.stands c.find.result (rw c.new-sought.ensures.key at c.find.ensures.found) in
+    let done = subst (λ (x : Content). (t : SearchTree x s root.link) → Grown x (g.R.Rows.content c.remove_at-new.new.rows) s c.remove_at-new.new.desk (without t k) c.remove_at-new.result (in_tree t) (without_rows t k)) (ap g.R.Rows.content (c.remove_cost.ensures.same ∙ c.find.ensures.same)) (rw c.new-sought.ensures.key at c.remove_at-new.ensures.removed) in
     after_found content s root k c.requires.stands (g.R.Rows.content c.remove_at-new.new.rows) c.remove_at-new.new.desk c.remove_at-new.result c.in-Some.value (λ m st. found m st ∙ c.in-Some.is) done
 
 pub returns-clause-stands : goal.returns-clause-stands
@@ -95,7 +95,7 @@ returns-clause-stands g c = (removed g c).stands
 
 pub returns-clause-value : goal.returns-clause-value
 returns-clause-value g c m st =
-    let found = says (g.R.Rows.content c.args.rows.now) c.args.desk.now c.args.root.now c.args.key.now c.requires.stands c.find.result c.find.ensures.found m st in
+    let found = says (g.R.Rows.content c.args.rows.now) c.args.desk.now c.args.root.now c.args.key.now c.requires.stands c.find.result (rw c.new-sought.ensures.key at c.find.ensures.found) m st in
     sym (found ∙ c.in-Some.is)
 
 pub returns-clause-written : goal.returns-clause-written
@@ -115,7 +115,7 @@ returns-clause-made g c = (removed g c).made
 
 pub returns-clause-absent : goal.returns-clause-absent
 returns-clause-absent g c m st none =
-    let found = says (g.R.Rows.content c.args.rows.now) c.args.desk.now c.args.root.now c.args.key.now c.requires.stands c.find.result c.find.ensures.found m st ∙ c.in-Some.is in
+    let found = says (g.R.Rows.content c.args.rows.now) c.args.desk.now c.args.root.now c.args.key.now c.requires.stands c.find.result (rw c.new-sought.ensures.key at c.find.ensures.found) m st ∙ c.in-Some.is in
     absurd (let no : Some c.in-Some.value ≡ None = sym found ∙ none in cc)
 
 pub returns-in_default-clause-written : goal.returns-in_default-clause-written

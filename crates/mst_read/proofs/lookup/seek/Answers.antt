@@ -7,7 +7,8 @@ use Rattle.mst_arena.specs.declared.sought.Way.TheVariants.{Child, Here, Next}
 use Rattle.mst_arena.specs.Standing.{Chain}
 use Rattle.mst_read.specs.Search.{place}
 use Rattle.mst_read.specs.declared.lookup.Place.TheVariants.{Gap}
-use Rattle.mst_read.proofs.Walk.{Onward, at_cell, further, entry_left, way_is, to_child, is_here, to_next}
+use Rattle.mst_arena.proofs.WayLemmas.{way_is, to_child, is_here, to_next}
+use Rattle.mst_read.proofs.Walk.{Onward, at_cell, further, entry_left}
 use Rattle.mst_read.proofs.lookup.seek.Goals as goal
 
 pub returns-in-Child-clause-place : goal.returns-in-Child-clause-place
