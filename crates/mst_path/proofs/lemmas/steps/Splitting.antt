@@ -16,6 +16,8 @@ use Rattle.mst_arena.specs.declared.row.Root.{Root}
 use Rattle.mst_arena.specs.declared.row.HeadLinks.{HeadLinks}
 use Rattle.mst_arena.specs.Standing.{Placed, none, head, tree_of, link_of, used}
 use Rattle.mst_path.specs.declared.making.Run.{Run as Entries_at}
+use Rattle.mst_path.specs.declared.cut.Cut.{Cut}
+use Rattle.mst_path.specs.declared.cut.Cut.TheVariants.{Gap}
 use Rattle.mst_change.specs.Parts.{first_child, with_first, node_of, is_empty}
 use Rattle.mst_change.specs.Split.{below, above}
 use Rattle.mst_change.specs.Cost.{side_rows, split_rows}
@@ -23,8 +25,8 @@ use Rattle.mst_path.specs.Moves.{IsAlive, IsOld}
 use Rattle.mst_path.specs.Runs.{Piece}
 use Rattle.mst_path.specs.Writing.{PlacedEntry, link_from, IsRootOf}
 use Rattle.mst_path.specs.Making.{cell_of, cells_of, entries_to, Split, tail_behind}
-use Rattle.mst_path.specs.Cutting.{EntriesLie, CutGap, CutHeld, gap_before}
-use Rattle.mst_path.specs.Splitting.{SearchUnder, ToSplit, BothStand, side_of, in_both}
+use Rattle.mst_path.specs.Cutting.{EntriesLie, CutGap, CutHeld, IsCut, gap_before}
+use Rattle.mst_path.specs.Splitting.{ToSplit, BothStand, side_of, in_both}
 use Rattle.mst_path.proofs.lemmas.rows.Moving.{moves_none}
 use Rattle.mst_path.proofs.lemmas.trees.Made.{made_old}
 use Rattle.mst_path.proofs.lemmas.rows.Copies.{old_alive}
@@ -75,7 +77,7 @@ pub and_right : (a b : Bool) → (a && b) ≡ true → b ≡ true
 and_right true b e = e
 and_right false b e = absurd cc
 
-pub last_link : (es : List PlacedEntry) (tail : Placed) (n : ℕ) → length es ≡ n → link_of (last_of es tail) ≡ tail_behind n (link_of tail)
+last_link : (es : List PlacedEntry) (tail : Placed) (n : ℕ) → length es ≡ n → link_of (last_of es tail) ≡ tail_behind n (link_of tail)
 last_link [] tail n e = ap (λ (m : ℕ). tail_behind m (link_of tail)) e
 last_link (x ∷ es) tail n e = ap (λ (m : ℕ). tail_behind m (link_of tail)) e
 
@@ -102,59 +104,72 @@ split_none c s link k left right zero_is l r t = go t.tree.placed (t.tree.at ∙
     }
     go (head at l chain) is = absurd (omega (arith, is))
 
-module _ (c : Content) (s : State) (link : ℕ) (k : List ℕ) (j : ℕ) (j_le : j ≤ layer_in One k + 1) (t : SearchUnder c s link j) (some : link ≡ 0 → ⊥) (h : HeadLinks) (read : part_at head_links c (link - 1) ≡ Some h) where
-  abbrev pub o : Opened c s link t.tree.placed
-  o = opened c s link t.tree (positive link some)
+-- a tree that is to be split, with a head that was read
+pub record AtHead (c : Content) (s : State) (link : ℕ) (k : List ℕ) (h : HeadLinks) : Type 0 where
+  pub tree : ToSplit c s link k
+  pub some : link ≡ 0 → ⊥
+  pub read : part_at head_links c (link - 1) ≡ Some h
+
+module _ {c : Content} {s : State} {link : ℕ} {k : List ℕ} {h : HeadLinks} (here : AtHead c s link k h) where
+  abbrev pub o : Opened c s link here.tree.tree.placed
+  o = opened c s link here.tree.tree (positive link here.some)
 
   pub at_is : link - 1 ≡ o.at
   at_is = omega (arith, o.link_is)
 
   head_is : record { layer = o.layer; count = length o.es; first = link_from 0 o.es; tail = link_of o.tail } ≡ h
-  head_is = let e : Some (record { layer = o.layer; count = length o.es; first = link_from 0 o.es; tail = link_of o.tail }) ≡ Some h = sym o.links ∙ ap (λ (n : ℕ). part_at head_links c n) (sym at_is) ∙ read in cc
+  head_is = let e : Some (record { layer = o.layer; count = length o.es; first = link_from 0 o.es; tail = link_of o.tail }) ≡ Some h = sym o.links ∙ ap (λ (n : ℕ). part_at head_links c n) (sym at_is) ∙ here.read in cc
 
   pub layer_is : o.layer ≡ h.layer
   layer_is = ap (λ (x : HeadLinks). x.layer) head_is
 
-  pub lies_behind : EntriesLie c h o.es
+  lies_behind : EntriesLie c h o.es
   lies_behind = record { first = ap (λ (x : HeadLinks). x.first) head_is; count = ap (λ (x : HeadLinks). x.count) head_is; rows = o.rows }
+
+  -- the same behind reads that leave the rows
+  pub lies_in : (c' : Content) → c' ≡ c → EntriesLie c' h o.es
+  lies_in c' same = subst (λ (x : Content). EntriesLie x h o.es) (sym same) lies_behind
 
   pub tail_behind_is : link_of o.tail ≡ h.tail
   tail_behind_is = ap (λ (x : HeadLinks). x.tail) head_is
 
   pub mst : IsMst One (node One o.layer (entries_to o.es o.tail))
-  mst = subst (IsMst One) o.tree_is t.mst
+  mst = subst (IsMst One) o.tree_is here.tree.mst
 
-  pub under : o.layer < j
-  under = subst (IsUnder j) o.tree_is t.under
+  pub under : o.layer < layer_in One k
+  under = subst (IsUnder (layer_in One k)) o.tree_is here.tree.under
 
   pub layer_low : h.layer ≤ 64
   layer_low = omega (arith, layer_of_entries o.layer (entries_to o.es o.tail) mst.1 mst.2, layer_is)
 
   -- the key has no entry
-  pub not_held : j ≤ layer_in One k → (front : Entries_at) (row child : ℕ) (back : Entries_at) → CutHeld k o.es o.tail front row child back → ⊥
-  not_held strict front row child back held =
+  pub not_held : (front : Entries_at) (row child : ℕ) (back : Entries_at) → CutHeld k o.es o.tail front row child back → ⊥
+  not_held front row child back held =
       let entries : IsMstEntries One o.layer (with_entries (cells_of held.before) (entry (tree_of One held.here.child) k held.here.value (entries_to held.behind o.tail))) = subst (IsMstEntries One o.layer) held.at.whole mst.2 in
-      absurd (omega (arith, strict, under, entry_layer One o.layer (tree_of One held.here.child) k held.here.value (entries_to held.behind o.tail) (cells_of held.before) entries))
+      absurd (omega (arith, under, entry_layer One o.layer (tree_of One held.here.child) k held.here.value (entries_to held.behind o.tail) (cells_of held.before) entries))
 
-  module _ (front back : Entries_at) (child : ℕ) (cut : CutGap k o.es o.tail front child back) where
+  pub gap_of : {c' : Content} → c' ≡ c → {found : Cut} → ((es : List PlacedEntry) (tail : Placed) → EntriesLie c' h es → link_of tail ≡ h.tail → IsCut k es tail found) → {front back : Entries_at} {child : ℕ} → found ≡ Gap front child back → CutGap k o.es o.tail front child back
+  gap_of {c' = c'} same made is = subst (IsCut k o.es o.tail) is (made o.es o.tail (lies_in c' same) tail_behind_is)
+
+  module _ {front back : Entries_at} {child : ℕ} (cut : CutGap k o.es o.tail front child back) where
     abbrev pub in_gap : Placed
     in_gap = gap_before cut.behind o.tail
 
     pub first_is : first_child (entries_to cut.behind o.tail) ≡ tree_of One in_gap
     first_is = first_gap cut.behind o.tail
 
-    pub sum : (x : ℕ) → times x (used t.tree.placed) ≡ around o.at cut.before cut.behind (last_of cut.behind o.tail) x + times x (used in_gap)
-    sum = gap_round_sum c s link t.tree.placed o cut.before cut.behind cut.whole
+    pub sum : (x : ℕ) → times x (used here.tree.tree.placed) ≡ around o.at cut.before cut.behind (last_of cut.behind o.tail) x + times x (used in_gap)
+    sum = gap_round_sum c s link here.tree.tree.placed o cut.before cut.behind cut.whole
 
     pub gap_is : IsUnder o.layer (tree_of One in_gap) × IsMst One (tree_of One in_gap)
     gap_is = subst (λ (u : Tree). IsUnder o.layer u × IsMst One u) first_is (gap_mst One o.layer (entries_to cut.behind o.tail) (cells_of cut.before) (subst (IsMstEntries One o.layer) cut.gap.whole mst.2))
 
     abbrev pub gap_to_split : ToSplit c s child k
     gap_to_split = record {
-      tree = record { placed = in_gap; at = cut.child_at; piece = gap_old_piece c s link t.tree.placed o cut.before cut.behind cut.whole; once = λ x. omega (arith, sum x, t.tree.once x) };
+      tree = record { placed = in_gap; at = cut.child_at; piece = gap_old_piece c s link here.tree.tree.placed o cut.before cut.behind cut.whole; once = λ x. omega (arith, sum x, here.tree.tree.once x) };
       mst = gap_is.1;
-      rises = subst (λ (u : Tree). IsAscending (pairs u)) first_is (gap_rises One o.layer (entries_to cut.behind o.tail) (cells_of cut.before) (subst (λ (es : Entries). IsAscending (entries_pairs es)) cut.gap.whole (subst (λ (u : Tree). IsAscending (pairs u)) o.tree_is t.rises)));
-      under = under_weaker o.layer (layer_in One k) (tree_of One in_gap) (omega (arith, under, j_le)) gap_is.0;
+      rises = subst (λ (u : Tree). IsAscending (pairs u)) first_is (gap_rises One o.layer (entries_to cut.behind o.tail) (cells_of cut.before) (subst (λ (es : Entries). IsAscending (entries_pairs es)) cut.gap.whole (subst (λ (u : Tree). IsAscending (pairs u)) o.tree_is here.tree.rises)));
+      under = under_weaker o.layer (layer_in One k) (tree_of One in_gap) (omega (arith, under)) gap_is.0;
     }
 
     pub gap_falls : height c child < height c link
@@ -163,11 +178,11 @@ module _ (c : Content) (s : State) (link : ℕ) (k : List ℕ) (j : ℕ) (j_le :
         let low = child_height c o.layer in_gap (gap_to_split.tree.piece.rows) gap_is.0 in
         omega (arith, top, low, ap (height c) cut.child_at)
 
-    pub below_is : below k (tree_of One t.tree.placed) ≡ node_of One o.layer (with_entries (cells_of cut.before) (last (below k (tree_of One in_gap))))
+    pub below_is : below k (tree_of One here.tree.tree.placed) ≡ node_of One o.layer (with_entries (cells_of cut.before) (last (below k (tree_of One in_gap))))
     below_is = ap (below k) o.tree_is ∙ below_step k (entries_to o.es o.tail) (cells_of cut.before) (entries_to cut.behind o.tail) cut.gap One o.layer
         ∙ ap (λ (u : Tree). node_of One o.layer (with_entries (cells_of cut.before) (last (below k u)))) first_is
 
-    pub above_is : above k (tree_of One t.tree.placed) ≡ node_of One o.layer (with_first (above k (tree_of One in_gap)) (entries_to cut.behind o.tail))
+    pub above_is : above k (tree_of One here.tree.tree.placed) ≡ node_of One o.layer (with_first (above k (tree_of One in_gap)) (entries_to cut.behind o.tail))
     above_is = ap (above k) o.tree_is ∙ above_step k (entries_to o.es o.tail) (cells_of cut.before) (entries_to cut.behind o.tail) cut.gap One o.layer
         ∙ ap (λ (u : Tree). node_of One o.layer (with_first (above k u) (entries_to cut.behind o.tail))) first_is
 
@@ -177,54 +192,57 @@ module _ (c : Content) (s : State) (link : ℕ) (k : List ℕ) (j : ℕ) (j_le :
     back_count : entry_count (entries_to cut.behind o.tail) ≡ back.count
     back_count = entries_count cut.behind o.tail ∙ cut.back_is.counted
 
-    pub above_empty : is_empty (above k (tree_of One t.tree.placed)) ≡ ((back.count == 0) && is_empty (above k (tree_of One in_gap)))
+    pub above_empty : is_empty (above k (tree_of One here.tree.tree.placed)) ≡ ((back.count == 0) && is_empty (above k (tree_of One in_gap)))
     above_empty = ap (λ (u : Tree). is_empty (above k u)) o.tree_is ∙ none_above k (entries_to o.es o.tail) (cells_of cut.before) (entries_to cut.behind o.tail) cut.gap One o.layer
         ∙ ap (λ n. (n == 0) && is_empty (above k (first_child (entries_to cut.behind o.tail)))) back_count ∙ ap (λ (u : Tree). (back.count == 0) && is_empty (above k u)) first_is
 
-    pub below_empty : is_empty (below k (tree_of One t.tree.placed)) ≡ ((front.count == 0) && is_empty (below k (tree_of One in_gap)))
+    pub below_empty : is_empty (below k (tree_of One here.tree.tree.placed)) ≡ ((front.count == 0) && is_empty (below k (tree_of One in_gap)))
     below_empty = ap (λ (u : Tree). is_empty (below k u)) o.tree_is ∙ none_below k (entries_to o.es o.tail) (cells_of cut.before) (entries_to cut.behind o.tail) cut.gap One o.layer
         ∙ no_front (cells_of cut.before) (below k (first_child (entries_to cut.behind o.tail)))
         ∙ ap (λ n. (n == 0) && is_empty (below k (first_child (entries_to cut.behind o.tail)))) front_count ∙ ap (λ (u : Tree). (front.count == 0) && is_empty (below k u)) first_is
 
-    pub rows_is : split_rows k (tree_of One t.tree.placed) ≡ side_rows front.count (is_empty (above k (tree_of One t.tree.placed))) + side_rows back.count (is_empty (below k (tree_of One t.tree.placed))) + split_rows k (tree_of One in_gap)
+    pub rows_is : split_rows k (tree_of One here.tree.tree.placed) ≡ side_rows front.count (is_empty (above k (tree_of One here.tree.tree.placed))) + side_rows back.count (is_empty (below k (tree_of One here.tree.tree.placed))) + split_rows k (tree_of One in_gap)
     rows_is =
         let es = entries_to o.es o.tail in
         let n = node One o.layer es in
         let step = split_rows_step k es (cells_of cut.before) (entries_to cut.behind o.tail) cut.gap One o.layer in
-        let a : side_rows (length (cells_of cut.before)) (is_empty (above k n)) ≡ side_rows front.count (is_empty (above k (tree_of One t.tree.placed))) = ap (λ m. side_rows m (is_empty (above k n))) front_count ∙ ap (λ (u : Tree). side_rows front.count (is_empty (above k u))) (sym o.tree_is) in
-        let b : side_rows (entry_count (entries_to cut.behind o.tail)) (is_empty (below k n)) ≡ side_rows back.count (is_empty (below k (tree_of One t.tree.placed))) = ap (λ m. side_rows m (is_empty (below k n))) back_count ∙ ap (λ (u : Tree). side_rows back.count (is_empty (below k u))) (sym o.tree_is) in
+        let a : side_rows (length (cells_of cut.before)) (is_empty (above k n)) ≡ side_rows front.count (is_empty (above k (tree_of One here.tree.tree.placed))) = ap (λ m. side_rows m (is_empty (above k n))) front_count ∙ ap (λ (u : Tree). side_rows front.count (is_empty (above k u))) (sym o.tree_is) in
+        let b : side_rows (entry_count (entries_to cut.behind o.tail)) (is_empty (below k n)) ≡ side_rows back.count (is_empty (below k (tree_of One here.tree.tree.placed))) = ap (λ m. side_rows m (is_empty (below k n))) back_count ∙ ap (λ (u : Tree). side_rows back.count (is_empty (below k u))) (sym o.tree_is) in
         let d : split_rows k (first_child (entries_to cut.behind o.tail)) ≡ split_rows k (tree_of One in_gap) = ap (split_rows k) first_is in
-        let whole : split_rows k (tree_of One t.tree.placed) ≡ split_rows k n = ap (split_rows k) o.tree_is in
+        let whole : split_rows k (tree_of One here.tree.tree.placed) ≡ split_rows k n = ap (split_rows k) o.tree_is in
         omega (arith, step, a, b, d, whole)
 
-    pub gap_room : split_rows k (tree_of One in_gap) ≤ split_rows k (tree_of One t.tree.placed)
+    pub gap_room : split_rows k (tree_of One in_gap) ≤ split_rows k (tree_of One here.tree.tree.placed)
     gap_room = omega (arith, rows_is)
 
-    module _ (c1 : Content) (s1 : State) (lower upper : Root) (n : ℕ) (r : Split c c1 s s1 (below k (tree_of One in_gap)) (above k (tree_of One in_gap)) lower upper (λ x. times x (used in_gap)) n) where
+    module _ {c1 : Content} {s1 : State} {lower upper : Root} {n : ℕ} (r : Split c c1 s s1 (below k (tree_of One in_gap)) (above k (tree_of One in_gap)) lower upper (λ x. times x (used in_gap)) n) where
       -- whether all is on one side
-      pub all_below : is_empty (above k (tree_of One t.tree.placed)) ≡ ((back.count == 0) && (upper.link == 0))
+      pub all_below : is_empty (above k (tree_of One here.tree.tree.placed)) ≡ ((back.count == 0) && (upper.link == 0))
       all_below = above_empty ∙ ap (λ (b : Bool). (back.count == 0) && b) (ap is_empty (sym r.upper_is) ∙ empty_link r.upper upper r.upper_root)
 
-      pub all_above : is_empty (below k (tree_of One t.tree.placed)) ≡ ((front.count == 0) && (lower.link == 0))
+      pub all_above : is_empty (below k (tree_of One here.tree.tree.placed)) ≡ ((front.count == 0) && (lower.link == 0))
       all_above = below_empty ∙ ap (λ (b : Bool). (front.count == 0) && b) (ap is_empty (sym r.lower_is) ∙ empty_link r.lower lower r.lower_root)
 
       abbrev pub inner : Step c c1 s s1 (λ x. times x (used in_gap)) (λ x. times x (used r.lower) + times x (used r.upper)) n
       inner = step_split c c1 s s1 (below k (tree_of One in_gap)) (above k (tree_of One in_gap)) lower upper (λ x. times x (used in_gap)) n r
 
       pub round_apart : (x : ℕ) → around o.at cut.before cut.behind (last_of cut.behind o.tail) x + times x (used in_gap) ≤ 1
-      round_apart x = omega (arith, sum x, t.tree.once x)
+      round_apart x = omega (arith, sum x, here.tree.tree.once x)
 
       round_alive : (x : ℕ) → 0 < around o.at cut.before cut.behind (last_of cut.behind o.tail) x + times x (used in_gap) → IsAlive s x
-      round_alive x i = old_alive s x (t.tree.piece.old x (omega (arith, i, sum x)))
+      round_alive x i = old_alive s x (here.tree.tree.piece.old x (omega (arith, i, sum x)))
 
       pub apart_now : (x : ℕ) → around o.at cut.before cut.behind (last_of cut.behind o.tail) x + (times x (used r.lower) + times x (used r.upper)) ≤ 1
       apart_now = apart_after c c1 s s1 (λ x. times x (used in_gap)) (λ x. times x (used r.lower) + times x (used r.upper)) n inner (around o.at cut.before cut.behind (last_of cut.behind o.tail)) round_apart round_alive
 
-      module _ (l : ℕ) (l_is : o.layer ≡ l) (none_l none_r : Entries_at) (none_l_is : none_l ≡ record { first = 0; count = 0 }) (none_r_is : none_r ≡ record { first = 0; count = 0 }) (tail_link : ℕ) (tail_is : link_of (last_of cut.behind o.tail) ≡ tail_link) where
-        pub round : Round c s o.at front back tail_link cut.before cut.behind (last_of cut.behind o.tail)
-        round = gap_round c s link t.tree.placed o cut.before cut.behind cut.whole t.tree.piece.old front back tail_link cut.front_is cut.back_is tail_is
+      module _ {none_l none_r : Entries_at} {tail_link : ℕ} (none_l_is : none_l ≡ record { first = 0; count = 0 }) (none_r_is : none_r ≡ record { first = 0; count = 0 }) (tail_at : tail_link ≡ tail_behind back.count h.tail) where
+        tail_is : link_of (last_of cut.behind o.tail) ≡ tail_link
+        tail_is = last_link cut.behind o.tail back.count cut.back_is.counted ∙ ap (tail_behind back.count) tail_behind_is ∙ sym tail_at
 
-        abbrev pub both : BothStand c1 s1 (link - 1) (record { layer = l; front = front; seam = lower; back = none_l; tail = 0 }) (record { layer = l; front = none_r; seam = upper; back = back; tail = tail_link })
+        pub round : Round c s o.at front back tail_link cut.before cut.behind (last_of cut.behind o.tail)
+        round = gap_round c s link here.tree.tree.placed o cut.before cut.behind cut.whole here.tree.tree.piece.old front back tail_link cut.front_is cut.back_is tail_is
+
+        abbrev pub both : BothStand c1 s1 (link - 1) (record { layer = h.layer; front = front; seam = lower; back = none_l; tail = 0 }) (record { layer = h.layer; front = none_r; seam = upper; back = back; tail = tail_link })
         both = record {
           head_old = subst (IsOld s1) (sym at_is) (old_after c c1 s s1 (λ x. times x (used in_gap)) (λ x. times x (used r.lower) + times x (used r.upper)) n inner o.at o.head_old (omega (arith, round_apart o.at, Rattle.mst_path.proofs.lemmas.rows.Copies.at_self o.at)));
           lower = record {
@@ -269,28 +287,28 @@ module _ (c : Content) (s : State) (link : ℕ) (k : List ℕ) (j : ℕ) (j_le :
           once = λ x. omega (arith, apart_now x, ap (λ (m : ℕ). times x (m ∷ [])) at_is);
         }
 
-        pub lower_side : side_of both.lower ≡ below k (tree_of One t.tree.placed)
-        lower_side = ap (λ (u : Tree). node_of One l (with_entries (cells_of cut.before) (last u))) r.lower_is ∙ ap (λ (m : ℕ). node_of One m (with_entries (cells_of cut.before) (last (below k (tree_of One in_gap))))) (sym l_is) ∙ sym below_is
+        pub lower_side : side_of both.lower ≡ below k (tree_of One here.tree.tree.placed)
+        lower_side = ap (λ (u : Tree). node_of One h.layer (with_entries (cells_of cut.before) (last u))) r.lower_is ∙ ap (λ (m : ℕ). node_of One m (with_entries (cells_of cut.before) (last (below k (tree_of One in_gap))))) (sym layer_is) ∙ sym below_is
 
-        pub upper_side : side_of both.upper ≡ above k (tree_of One t.tree.placed)
-        upper_side = ap (λ (u : Tree). node_of One l (with_first u (entries_to cut.behind (last_of cut.behind o.tail)))) r.upper_is
-            ∙ ap (node_of One l) (with_first_last cut.behind o.tail (above k (tree_of One in_gap)))
-            ∙ ap (λ (m : ℕ). node_of One m (with_first (above k (tree_of One in_gap)) (entries_to cut.behind o.tail))) (sym l_is) ∙ sym above_is
+        pub upper_side : side_of both.upper ≡ above k (tree_of One here.tree.tree.placed)
+        upper_side = ap (λ (u : Tree). node_of One h.layer (with_first u (entries_to cut.behind (last_of cut.behind o.tail)))) r.upper_is
+            ∙ ap (node_of One h.layer) (with_first_last cut.behind o.tail (above k (tree_of One in_gap)))
+            ∙ ap (λ (m : ℕ). node_of One m (with_first (above k (tree_of One in_gap)) (entries_to cut.behind o.tail))) (sym layer_is) ∙ sym above_is
 
         module _ (not_below : ((back.count == 0) && (upper.link == 0)) ≡ false) (not_above : ((front.count == 0) && (lower.link == 0)) ≡ false) where
-          pub count_is : side_rows (front.count + none_l.count) false + side_rows (none_r.count + back.count) false + split_rows k (tree_of One in_gap) ≡ split_rows k (tree_of One t.tree.placed)
+          pub count_is : side_rows (front.count + none_l.count) false + side_rows (none_r.count + back.count) false + split_rows k (tree_of One in_gap) ≡ split_rows k (tree_of One here.tree.tree.placed)
           count_is =
-              let a : side_rows (front.count + none_l.count) false ≡ side_rows front.count (is_empty (above k (tree_of One t.tree.placed))) = ap (λ m. side_rows m false) (omega (arith, ap (λ (e : Entries_at). e.count) none_l_is)) ∙ ap (side_rows front.count) (sym (all_below ∙ not_below)) in
-              let b : side_rows (none_r.count + back.count) false ≡ side_rows back.count (is_empty (below k (tree_of One t.tree.placed))) = ap (λ m. side_rows m false) (omega (arith, ap (λ (e : Entries_at). e.count) none_r_is)) ∙ ap (side_rows back.count) (sym (all_above ∙ not_above)) in
+              let a : side_rows (front.count + none_l.count) false ≡ side_rows front.count (is_empty (above k (tree_of One here.tree.tree.placed))) = ap (λ m. side_rows m false) (omega (arith, ap (λ (e : Entries_at). e.count) none_l_is)) ∙ ap (side_rows front.count) (sym (all_below ∙ not_below)) in
+              let b : side_rows (none_r.count + back.count) false ≡ side_rows back.count (is_empty (below k (tree_of One here.tree.tree.placed))) = ap (λ m. side_rows m false) (omega (arith, ap (λ (e : Entries_at). e.count) none_r_is)) ∙ ap (side_rows back.count) (sym (all_above ∙ not_above)) in
               omega (arith, a, b, rows_is)
 
           pub split_made : n ≡ split_rows k (tree_of One in_gap) → (c2 : Content) (s2 : State) (left right : Root)
               → Split c1 c2 s1 s2 (side_of both.lower) (side_of both.upper) left right (in_both both) (side_rows (front.count + none_l.count) false + side_rows (none_r.count + back.count) false)
-              → Split c c2 s s2 (below k (tree_of One t.tree.placed)) (above k (tree_of One t.tree.placed)) left right (λ x. times x (used t.tree.placed)) (split_rows k (tree_of One t.tree.placed))
+              → Split c c2 s s2 (below k (tree_of One here.tree.tree.placed)) (above k (tree_of One here.tree.tree.placed)) left right (λ x. times x (used here.tree.tree.placed)) (split_rows k (tree_of One here.tree.tree.placed))
           split_made n_is c2 s2 left right m =
               let count = side_rows (front.count + none_l.count) false + side_rows (none_r.count + back.count) false in
               let outer = step_split c1 c2 s1 s2 (side_of both.lower) (side_of both.upper) left right (in_both both) count m in
-              let whole = step_then c c1 c2 s s1 s2 (λ x. times x (used in_gap)) (in_both both) (λ x. times x (used r.lower) + times x (used r.upper)) (λ x. times x (used m.lower) + times x (used m.upper)) (λ x. times x (used t.tree.placed)) (λ x. times x (used m.lower) + times x (used m.upper)) n count inner outer
+              let whole = step_then c c1 c2 s s1 s2 (λ x. times x (used in_gap)) (in_both both) (λ x. times x (used r.lower) + times x (used r.upper)) (λ x. times x (used m.lower) + times x (used m.upper)) (λ x. times x (used here.tree.tree.placed)) (λ x. times x (used m.lower) + times x (used m.upper)) n count inner outer
               (λ x. omega (arith, sum x, ap (λ (i : ℕ). times x (i ∷ [])) at_is)) in
               record {
                 lower = m.lower;
@@ -309,24 +327,24 @@ module _ (c : Content) (s : State) (link : ℕ) (k : List ℕ) (j : ℕ) (j_le :
                 counted = omega (arith, whole.counted, n_is, count_is);
               }
 
-      module _ (still : s1 ≡ s) (n_is : n ≡ split_rows k (tree_of One in_gap)) (j_is : j ≡ layer_in One k) where
+      module _ (still : s1 ≡ s) (n_is : n ≡ split_rows k (tree_of One in_gap)) where
         nothing_taken : split_rows k (tree_of One in_gap) ≡ 0
         nothing_taken = omega (arith, r.counted, r.moves.room, ap (λ (u : State). free_count u.lives) still, n_is)
 
-        base_piece : Piece c s t.tree.placed
-        base_piece = record { rows = t.tree.piece.rows; made = made_old s t.tree.placed t.tree.piece.old }
+        base_piece : Piece c s here.tree.tree.placed
+        base_piece = record { rows = here.tree.tree.piece.rows; made = made_old s here.tree.tree.placed here.tree.tree.piece.old }
 
         no_piece : Piece c s none
         no_piece = record { rows = tt; made = tt }
 
-        lacks : map_get (pairs (tree_of One t.tree.placed)) k ≡ None
-        lacks = absent_under (tree_of One t.tree.placed) One k j t.mst t.under (sym j_is)
+        lacks : map_get (pairs (tree_of One here.tree.tree.placed)) k ≡ None
+        lacks = absent_under (tree_of One here.tree.tree.placed) One k (layer_in One k) here.tree.mst here.tree.under refl
 
         -- the tree is all below the key
-        pub shared_made_below : is_empty (above k (tree_of One t.tree.placed)) ≡ true → (c2 : Content) → c2 ≡ c → (left right : Root) → IsRootOf t.tree.placed left → IsRootOf none right
-            → Split c c2 s s1 (below k (tree_of One t.tree.placed)) (above k (tree_of One t.tree.placed)) left right (λ x. times x (used t.tree.placed)) (split_rows k (tree_of One t.tree.placed))
+        pub shared_made_below : is_empty (above k (tree_of One here.tree.tree.placed)) ≡ true → (c2 : Content) → c2 ≡ c → (left right : Root) → IsRootOf here.tree.tree.placed left → IsRootOf none right
+            → Split c c2 s s1 (below k (tree_of One here.tree.tree.placed)) (above k (tree_of One here.tree.tree.placed)) left right (λ x. times x (used here.tree.tree.placed)) (split_rows k (tree_of One here.tree.tree.placed))
         shared_made_below e c2 c_is left right l_root r_root =
-            let p = t.tree.placed in
+            let p = here.tree.tree.placed in
             let no_back : (back.count == 0) ≡ true = and_left (back.count == 0) (is_empty (above k (tree_of One in_gap))) (sym above_empty ∙ e) in
             let zero_front : side_rows front.count (is_empty (above k (tree_of One p))) ≡ 0 = ap (side_rows front.count) e ∙ side_whole front.count in
             let zero_back = side_nothing back.count (is_empty (below k (tree_of One p))) no_back in
@@ -334,7 +352,7 @@ module _ (c : Content) (s : State) (link : ℕ) (k : List ℕ) (j : ℕ) (j_le :
             let base : Split c c s s (below k (tree_of One p)) (above k (tree_of One p)) left right (λ x. times x (used p)) (split_rows k (tree_of One p)) = record {
               lower = p;
               upper = none;
-              lower_is = sym (below_whole (tree_of One p) One k t.rises t.mst lacks gone);
+              lower_is = sym (below_whole (tree_of One p) One k here.tree.rises here.tree.mst lacks gone);
               upper_is = sym gone;
               lower_root = l_root;
               upper_root = r_root;
@@ -351,10 +369,10 @@ module _ (c : Content) (s : State) (link : ℕ) (k : List ℕ) (j : ℕ) (j_le :
             (subst (λ (u : State). Split c c s u (below k (tree_of One p)) (above k (tree_of One p)) left right (λ x. times x (used p)) (split_rows k (tree_of One p))) (sym still) base)
 
         -- the tree is all above the key
-        pub shared_made_above : is_empty (below k (tree_of One t.tree.placed)) ≡ true → (c2 : Content) → c2 ≡ c → (left right : Root) → IsRootOf none left → IsRootOf t.tree.placed right
-            → Split c c2 s s1 (below k (tree_of One t.tree.placed)) (above k (tree_of One t.tree.placed)) left right (λ x. times x (used t.tree.placed)) (split_rows k (tree_of One t.tree.placed))
+        pub shared_made_above : is_empty (below k (tree_of One here.tree.tree.placed)) ≡ true → (c2 : Content) → c2 ≡ c → (left right : Root) → IsRootOf none left → IsRootOf here.tree.tree.placed right
+            → Split c c2 s s1 (below k (tree_of One here.tree.tree.placed)) (above k (tree_of One here.tree.tree.placed)) left right (λ x. times x (used here.tree.tree.placed)) (split_rows k (tree_of One here.tree.tree.placed))
         shared_made_above e c2 c_is left right l_root r_root =
-            let p = t.tree.placed in
+            let p = here.tree.tree.placed in
             let no_front_run : (front.count == 0) ≡ true = and_left (front.count == 0) (is_empty (below k (tree_of One in_gap))) (sym below_empty ∙ e) in
             let zero_back : side_rows back.count (is_empty (below k (tree_of One p))) ≡ 0 = ap (side_rows back.count) e ∙ side_whole back.count in
             let zero_front = side_nothing front.count (is_empty (above k (tree_of One p))) no_front_run in
@@ -363,7 +381,7 @@ module _ (c : Content) (s : State) (link : ℕ) (k : List ℕ) (j : ℕ) (j_le :
               lower = none;
               upper = p;
               lower_is = sym gone;
-              upper_is = sym (above_whole (tree_of One p) One k t.rises t.mst lacks gone);
+              upper_is = sym (above_whole (tree_of One p) One k here.tree.rises here.tree.mst lacks gone);
               lower_root = l_root;
               upper_root = r_root;
               lower_piece = no_piece;
