@@ -12,7 +12,7 @@ use Rattle.mst_arena.specs.Standing.{Placed, tree_of, used}
 use Rattle.mst_arena.proofs.ListLemmas.{times-append}
 use Rattle.mst_arena.proofs.Stands.{placed_frame}
 use Rattle.mst_change.specs.Parts.{with_first}
-use Rattle.mst_path.specs.Takes.{IsOut, KeepsBut}
+use Rattle.mst_path.specs.Takes.{Takes, IsOut, KeepsBut}
 use Rattle.mst_path.specs.Moves.{In, IsAlive, IsOld, Moves, IsNew}
 use Rattle.mst_path.specs.Runs.{Piece, OldPiece, Run, own, gaps_used, EachGap}
 use Rattle.mst_path.specs.Writing.{PlacedEntry, entries_used, ahead, IsWritten}
@@ -20,7 +20,7 @@ use Rattle.mst_path.specs.Copying.{Going, Copying, Copied}
 use Rattle.mst_path.specs.Making.{cells_of, entries_to, others, BackRun, PartsStand, in_parts, Grown, Rest, Finished}
 use Rattle.mst_path.specs.declared.making.Parts.{Parts}
 use Rattle.mst_path.specs.declared.node_writer.NodeWriter.{NodeWriter}
-use Rattle.mst_path.proofs.lemmas.rows.Moving.{in_either, not_in, out_of_times, times_of_out, moves_then, alive_out, old_stays}
+use Rattle.mst_path.proofs.lemmas.rows.Moving.{in_either, not_in, out_of_times, times_of_out, moves_takes, moves_then, alive_out, old_stays}
 use Rattle.mst_path.proofs.lemmas.rows.Copies.{at_self, kept_at, all_in, new_not_old, old_alive, own_frame, gaps_frame}
 use Rattle.mst_path.proofs.lemmas.trees.Made.{new_stays, made_stays, piece_alive}
 use Rattle.mst_path.proofs.lemmas.steps.Finishing.{used_entries, used_more, going_more, copies_gaps, copies_cells, cells-append, entries-front}
@@ -74,17 +74,25 @@ module _ (c c' : Content) (s s' : State) (t k ks : List ℕ) (m : Moves s s' t k
 
 -- ---- a node begins
 
-module _ (w : NodeWriter) (c : Content) (s s1 : State) (parts : Parts) (p : PartsStand c s parts) (began : Moves s s1 (w.head ∷ ahead w.next) []) (written : IsWritten w c []) where
+-- a node is begun: rows were taken for its head and its next entry
+pub record Begun (w : NodeWriter) (c : Content) (s s1 : State) : Type 0 where
+  pub moves : Moves s s1 (w.head ∷ ahead w.next) []
+  pub written : IsWritten w c []
+
+pub begun_by : {w : NodeWriter} {s s1 : State} → Takes s s1 (w.head ∷ ahead w.next) → ((c : Content) → IsWritten w c []) → (c : Content) → Begun w c s s1
+begun_by {w = w} {s = s} {s1 = s1} takes written c = record { moves = moves_takes s s1 (w.head ∷ ahead w.next) takes; written = written c }
+
+module _ {w : NodeWriter} {c : Content} {s s1 : State} {parts : Parts} (p : PartsStand c s parts) (begun : Begun w c s s1) where
   begin_next : next s1 ≡ next s
-  begin_next = let v : version s1 ≡ version s = rw (began.current, began.versions) in ap (λ (n : ℕ). n + 1) v
+  begin_next = let v : version s1 ≡ version s = rw (begun.moves.current, begun.moves.versions) in ap (λ (n : ℕ). n + 1) v
 
   pub begin_new : (x : ℕ) → In x (w.head ∷ ahead w.next) → IsNew s1 x
-  begin_new x i = began.born x i ∙ ap (λ (v : ℕ). Some (Born v)) (sym begin_next)
+  begin_new x i = begun.moves.born x i ∙ ap (λ (v : ℕ). Some (Born v)) (sym begin_next)
 
   pub begins_going : Going w c s1 []
   begins_going = record {
-    written = written;
-    once = λ x. omega (arith, began.once x);
+    written = begun.written;
+    once = λ x. omega (arith, begun.moves.once x);
     alive = λ x i. absurd (omega arith);
     made = tt;
     new = λ x i. begin_new x (omega (arith, i));
@@ -95,7 +103,7 @@ module _ (w : NodeWriter) (c : Content) (s s1 : State) (parts : Parts) (p : Part
     behind = p.behind;
     es = p.front;
     ws = [];
-    run = run_later c c s s1 (w.head ∷ ahead w.next) [] [] began (λ x out. refl) (λ x alive. refl) parts.front.first parts.front.count p.behind p.front (λ x i. refl) (λ x i. refl) p.front_run;
+    run = run_later c c s s1 (w.head ∷ ahead w.next) [] [] begun.moves (λ x out. refl) (λ x alive. refl) parts.front.first parts.front.count p.behind p.front (λ x i. refl) (λ x i. refl) p.front_run;
     going = begins_going;
     once = λ x. omega (arith, p.once x);
   }
@@ -112,10 +120,10 @@ module _ (w : NodeWriter) (c : Content) (s s1 : State) (parts : Parts) (p : Part
       go zero ae zero be zero de zero ee (suc f) fe = old_alive s x (gap_rows_old c s x (others p.back) p.back_run.gaps (omega (arith, fe)))
       go zero ae zero be zero de zero ee zero fe = old_alive s x (p.back_run.tail_piece.old x (omega (arith, some, ae, be, de, ee, fe)))
 
-  module _ (w2 : NodeWriter) (c2 : Content) (s2 : State) (copied : Copied w w2 c c2 s1 s2 [] p.front) (same_head : w2.head ≡ w.head) where
+  module _ {w2 : NodeWriter} {c2 : Content} {s2 : State} (copied : Copied w w2 c c2 s1 s2 [] p.front) (same_head : w2.head ≡ w.head) where
     -- the rows that are taken up to here
     pub all_taken : Moves s s2 ((w.head ∷ ahead w.next) ++ copied.taken) ([] ++ own p.front)
-    all_taken = moves_then s s1 s2 (w.head ∷ ahead w.next) [] copied.taken (own p.front) began copied.moves
+    all_taken = moves_then s s1 s2 (w.head ∷ ahead w.next) [] copied.taken (own p.front) begun.moves copied.moves
 
     pub taken_times : (x : ℕ) → times x ((w.head ∷ ahead w.next) ++ copied.taken) ≡ times x (w.head ∷ []) + times x (ahead w.next) + times x copied.taken
     taken_times x = omega (arith, times-append x (w.head ∷ ahead w.next) copied.taken)
@@ -143,7 +151,7 @@ module _ (w : NodeWriter) (c : Content) (s s1 : State) (parts : Parts) (p : Part
     front_rest = record {
       ws = copied.copies;
       going = copied.going;
-      head_new = subst (IsNew s2) (sym same_head) (new_stays s1 s2 copied.taken (own p.front) copied.moves w.head (begin_new w.head head_in) (not_in w.head (own p.front) (λ i. new_not_old s1 w.head (begin_new w.head head_in) (old_stays s s1 (w.head ∷ ahead w.next) [] began w.head (p.front_run.old w.head i) refl))));
+      head_new = subst (IsNew s2) (sym same_head) (new_stays s1 s2 copied.taken (own p.front) copied.moves w.head (begin_new w.head head_in) (not_in w.head (own p.front) (λ i. new_not_old s1 w.head (begin_new w.head head_in) (old_stays s s1 (w.head ∷ ahead w.next) [] begun.moves w.head (p.front_run.old w.head i) refl))));
       seam = p.seam;
       seam_at = p.seam_at;
       seam_piece = piece_later c c2 s s2 ((w.head ∷ ahead w.next) ++ copied.taken) ([] ++ own p.front) (ahead w.next ++ copied.taken) all_taken copied.keeps unwritten p.seam (λ x i. omega (arith, i, p.once x)) p.seam_piece;
@@ -156,7 +164,7 @@ module _ (w : NodeWriter) (c : Content) (s s1 : State) (parts : Parts) (p : Part
         head_in : In w.head (w.head ∷ ahead w.next)
         head_in = omega (arith, at_self w.head)
 
-    module _ (c3 : Content) (s3 : State) (at : Root) (f : Finished w2 c2 c3 s2 s3 parts front_rest at) where
+    module _ {c3 : Content} {s3 : State} {at : Root} (f : Finished w2 c2 c3 s2 s3 parts front_rest at) where
       pub made : w2.layer ≡ parts.layer → w2.left ≡ parts.back.count → length (ahead w.next) ≡ 1 → length (ahead w2.next) ≡ min 1 w2.left → Grown c c3 s s3 (node One parts.layer (with_entries (cells_of p.front) (with_first (tree_of One p.seam) (entries_to p.back p.tail)))) at (in_parts p) (parts.front.count + parts.back.count + 1)
       unfolding front_rest
       made layer left one some = record {
@@ -181,17 +189,17 @@ module _ (w : NodeWriter) (c : Content) (s s1 : State) (parts : Parts) (p : Part
       }
 
     -- the tree of a new entry stays, and the row for that entry is none of those that are written
-    pub child_later : (child : Placed) → Piece c s child → ((x : ℕ) → in_parts p x + times x (used child) ≤ 1) → Piece c2 s2 child
-    child_later child piece apart = piece_later c c2 s s2 ((w.head ∷ ahead w.next) ++ copied.taken) ([] ++ own p.front) (ahead w.next ++ copied.taken) all_taken copied.keeps unwritten child (λ x i. omega (arith, i, apart x)) piece
+    pub child_later : {child : Placed} → Piece c s child → ((x : ℕ) → in_parts p x + times x (used child) ≤ 1) → Piece c2 s2 child
+    child_later {child = child} piece apart = piece_later c c2 s s2 ((w.head ∷ ahead w.next) ++ copied.taken) ([] ++ own p.front) (ahead w.next ++ copied.taken) all_taken copied.keeps unwritten child (λ x i. omega (arith, i, apart x)) piece
 
-    pub with_out : (child : Placed) (r2 : ℕ) → w2.next ≡ Some r2 → Piece c s child → ((x : ℕ) → in_parts p x + times x (used child) ≤ 1) → IsOut r2 (entries_used copied.copies ++ used child)
-    with_out child r2 next2 piece apart =
+    pub with_out : {child : Placed} {r2 : ℕ} → w2.next ≡ Some r2 → Piece c s child → ((x : ℕ) → in_parts p x + times x (used child) ≤ 1) → IsOut r2 (entries_used copied.copies ++ used child)
+    with_out {child = child} {r2 = r2} next2 piece apart =
         let row : times r2 (ahead w2.next) ≡ bit (eqb r2 r2) + 0 = ap (λ (o : Option ℕ). times r2 (ahead o)) next2 in
         let none_of : times r2 (used child) ≡ 0 = not_in r2 (used child) (λ i. let untaken = alive_out s s2 ((w.head ∷ ahead w.next) ++ copied.taken) ([] ++ own p.front) all_taken r2 (piece_alive piece r2 i) in absurd (omega (arith, untaken, taken_times r2, copied.rows r2, row, at_self r2))) in
         out_of_times r2 (entries_used copied.copies ++ used child) (omega (arith, times-append r2 (entries_used copied.copies) (used child), copied.going.once r2, row, at_self r2, none_of))
 
     -- ---- with a new entry behind the front
-    module _ (child : Placed) (key value : List ℕ) (r2 : ℕ) (next2 : w2.next ≡ Some r2) (child_piece : Piece c s child) (apart : (x : ℕ) → in_parts p x + times x (used child) ≤ 1) (w3 : NodeWriter) (c3 : Content) (s3 : State) (moves3 : Moves s2 s3 (ahead w3.next) []) (keeps3 : KeepsBut (ahead w2.next) c2 c3) (written3 : IsWritten w3 c3 (copied.copies ++ record { at = r2; child = child; key = key; value = value } ∷ [])) (head3 : w3.head ≡ w2.head) where
+    module _ {child : Placed} (key value : List ℕ) {r2 : ℕ} (next2 : w2.next ≡ Some r2) (child_piece : Piece c s child) (apart : (x : ℕ) → in_parts p x + times x (used child) ≤ 1) {w3 : NodeWriter} {c3 : Content} {s3 : State} (moves3 : Moves s2 s3 (ahead w3.next) []) (keeps3 : KeepsBut (ahead w2.next) c2 c3) (written3 : IsWritten w3 c3 (copied.copies ++ record { at = r2; child = child; key = key; value = value } ∷ [])) (head3 : w3.head ≡ w2.head) where
       pub all_three : Moves s s3 (((w.head ∷ ahead w.next) ++ copied.taken) ++ ahead w3.next) (([] ++ own p.front) ++ [])
       all_three = moves_then s s2 s3 ((w.head ∷ ahead w.next) ++ copied.taken) ([] ++ own p.front) (ahead w3.next) [] all_taken moves3
 
@@ -262,7 +270,7 @@ module _ (w : NodeWriter) (c : Content) (s s1 : State) (parts : Parts) (p : Part
         once = three_once;
       }
 
-      module _ (c4 : Content) (s4 : State) (at : Root) (f : Finished w3 c3 c4 s3 s4 parts rest_three at) where
+      module _ {c4 : Content} {s4 : State} {at : Root} (f : Finished w3 c3 c4 s3 s4 parts rest_three at) where
         pub made_with : w3.layer ≡ parts.layer → w3.left ≡ parts.back.count → length (ahead w.next) ≡ 1 → length (ahead w2.next) ≡ 1 → length (ahead w3.next) ≡ min 1 w3.left → Grown c c4 s s4 (node One parts.layer (with_entries (cells_of p.front) (entry (tree_of One child) key value (with_first (tree_of One p.seam) (entries_to p.back p.tail))))) at (λ x. in_parts p x + times x (used child)) (parts.front.count + parts.back.count + 2)
         unfolding rest_three
         made_with layer left one two some = record {

@@ -1,134 +1,79 @@
-use Rattle.std.proofs.Common.{◌∷◌, [], sym, ◌∙◌, subst, arith}
+use Rattle.std.proofs.Common.{◌≡◌, ◌≤◌, ◌+◌, ◌∷◌, [], ℕ, length, sym, ◌∙◌, subst, arith}
+use Rattle.mst_arena.specs.Lives.{free_count}
 use Rattle.mst_path.specs.Takes.{FreeIsBlank}
 use Rattle.mst_path.specs.Writing.{ahead}
-use Rattle.mst_path.proofs.lemmas.rows.Moving.{moves_takes}
+use Rattle.mst_path.specs.Copying.{Copied}
+use Rattle.mst_path.specs.Making.{PartsStand}
 use Rattle.mst_path.proofs.lemmas.rows.Copies.{blank_free}
 use Rattle.mst_path.proofs.lemmas.steps.Finishing.{ahead_length, ahead_min}
-use Rattle.mst_path.proofs.lemmas.steps.Whole.{begins_copying, front_rest, made}
+use Rattle.mst_path.proofs.lemmas.steps.Whole.{Begun, begun_by, begins_copying, front_rest, made}
+use Rattle.mst_path.proofs.making.make_node.Given.{Over}
+use Rattle.mst_path.proofs.making.make_node.Goals.{After-begin-writer, After-move_run}
 use Rattle.mst_path.proofs.making.make_node.Goals as goal
 
+-- ---- the node is begun
+
+module _ (g : Over) (c : goal.After-begin-writer g) where
+  begun : Begun c.begin-writer.result (g.R.Rows.content c.args.rows.now) c.args.desk.now c.begin-writer.new.desk
+  begun = begun_by c.begin-writer.ensures.takes c.begin-writer.ensures.written (g.R.Rows.content c.args.rows.now)
+
+  one_ahead : length (ahead c.begin-writer.result.next) ≡ 1
+  one_ahead = (ahead_length c.begin-writer.result.next c.begin-writer.result.left c.begin-writer.ensures.writer.reserved).1 (omega (arith, c.begin-writer.ensures.node, c.requires.some))
+
+  blank_begun : FreeIsBlank c.begin-writer.new.desk.lives (g.R.Rows.blank c.args.rows.now)
+  blank_begun = blank_free c.args.desk.now c.begin-writer.new.desk (c.begin-writer.result.head ∷ ahead c.begin-writer.result.next) [] begun.moves (g.R.Rows.blank c.args.rows.now) c.requires.free
+
 pub move_run-requires-clause-copying : goal.move_run-requires-clause-copying
-move_run-requires-clause-copying g c =
-    let w = c.begin-writer.result in
-    let s = c.args.desk.now in
-    let s1 = c.begin-writer.new.desk in
-    let content = g.R.Rows.content c.args.rows.now in
-    let began = moves_takes s s1 (w.head ∷ ahead w.next) c.begin-writer.ensures.takes in
-    let written = c.begin-writer.ensures.written content in
-    let first = ahead_length w.next w.left c.begin-writer.ensures.writer.reserved in
-    begins_copying w content s s1 c.args.parts.now c.requires.parts began written
+move_run-requires-clause-copying g c = begins_copying c.requires.parts (begun g (goal.at.move_run-requires-clause-copying g c).After-begin-writer)
 
 pub move_run-requires-clause-room : goal.move_run-requires-clause-room
 move_run-requires-clause-room g c =
-    let w = c.begin-writer.result in
-    let s = c.args.desk.now in
-    let s1 = c.begin-writer.new.desk in
-    let content = g.R.Rows.content c.args.rows.now in
-    let began = moves_takes s s1 (w.head ∷ ahead w.next) c.begin-writer.ensures.takes in
-    let written = c.begin-writer.ensures.written content in
-    let first = ahead_length w.next w.left c.begin-writer.ensures.writer.reserved in
-    omega (arith, began.room, first.0, c.begin-writer.ensures.node, c.requires.room)
+    let at = (goal.at.move_run-requires-clause-room g c).After-begin-writer in
+    omega (arith, (begun g at).moves.room, one_ahead g at, c.begin-writer.ensures.node, c.requires.room)
 
 pub move_run-requires-clause-free : goal.move_run-requires-clause-free
-move_run-requires-clause-free g c =
-    let w = c.begin-writer.result in
-    let s = c.args.desk.now in
-    let s1 = c.begin-writer.new.desk in
-    let content = g.R.Rows.content c.args.rows.now in
-    let began = moves_takes s s1 (w.head ∷ ahead w.next) c.begin-writer.ensures.takes in
-    let written = c.begin-writer.ensures.written content in
-    let first = ahead_length w.next w.left c.begin-writer.ensures.writer.reserved in
-    blank_free s s1 (w.head ∷ ahead w.next) [] began (g.R.Rows.blank c.args.rows.now) c.requires.free
+move_run-requires-clause-free g c = blank_begun g (goal.at.move_run-requires-clause-free g c).After-begin-writer
+
+-- ---- the front is copied
+
+module _ (g : Over) (c : goal.After-move_run g) (p : PartsStand (g.R.Rows.content c.args.rows.now) c.args.desk.now c.args.parts.now) (b : Begun c.begin-writer.result (g.R.Rows.content c.args.rows.now) c.args.desk.now c.begin-writer.new.desk) where
+  copied : Copied c.begin-writer.result c.move_run.new.writer (g.R.Rows.content c.args.rows.now) (g.R.Rows.content c.move_run.new.rows) c.begin-writer.new.desk c.move_run.new.desk [] p.front
+  unfolding begins_copying
+  copied = (c.move_run.ensures.copied (begins_copying p b)).1
 
 pub finish_node-requires-clause-rest : goal.finish_node-requires-clause-rest
-unfolding begins_copying
 finish_node-requires-clause-rest g c =
-    let p = c.requires.parts in
-    let w = c.begin-writer.result in
-    let s = c.args.desk.now in
-    let s1 = c.begin-writer.new.desk in
-    let content = g.R.Rows.content c.args.rows.now in
-    let began = moves_takes s s1 (w.head ∷ ahead w.next) c.begin-writer.ensures.takes in
-    let written = c.begin-writer.ensures.written content in
-    let first = ahead_length w.next w.left c.begin-writer.ensures.writer.reserved in
-    let w2 = c.move_run.new.writer in
-    let s2 = c.move_run.new.desk in
-    let copied = (c.move_run.ensures.copied (begins_copying w content s s1 c.args.parts.now p began written)).1 in
-    let second = ahead_length w2.next w2.left c.move_run.ensures.writer.reserved in
-    front_rest w content s s1 c.args.parts.now p began written w2 (g.R.Rows.content c.move_run.new.rows) s2 copied c.move_run.ensures.node.3
+    let at = goal.at.finish_node-requires-clause-rest g c in
+    let b = begun g at.After-begin-writer in
+    front_rest c.requires.parts b (copied g at.After-move_run c.requires.parts b) c.move_run.ensures.node.3
 
 pub finish_node-requires-clause-room : goal.finish_node-requires-clause-room
-unfolding begins_copying
 finish_node-requires-clause-room g c =
-    let p = c.requires.parts in
-    let w = c.begin-writer.result in
-    let s = c.args.desk.now in
-    let s1 = c.begin-writer.new.desk in
-    let content = g.R.Rows.content c.args.rows.now in
-    let began = moves_takes s s1 (w.head ∷ ahead w.next) c.begin-writer.ensures.takes in
-    let written = c.begin-writer.ensures.written content in
-    let first = ahead_length w.next w.left c.begin-writer.ensures.writer.reserved in
-    let w2 = c.move_run.new.writer in
-    let s2 = c.move_run.new.desk in
-    let copied = (c.move_run.ensures.copied (begins_copying w content s s1 c.args.parts.now p began written)).1 in
-    let second = ahead_length w2.next w2.left c.move_run.ensures.writer.reserved in
-    let one = first.1 (omega (arith, c.begin-writer.ensures.node, c.requires.some)) in
-    omega (arith, began.room, one, c.begin-writer.ensures.node, c.requires.room, copied.moves.room, copied.counted, p.front_run.counted, second.0, c.move_run.ensures.node.2)
+    let at = goal.at.finish_node-requires-clause-room g c in
+    let b = begun g at.After-begin-writer in
+    let k = copied g at.After-move_run c.requires.parts b in
+    let few_ahead = (ahead_length c.move_run.new.writer.next c.move_run.new.writer.left c.move_run.ensures.writer.reserved).0 in
+    omega (arith, b.moves.room, one_ahead g at.After-begin-writer, c.begin-writer.ensures.node, c.requires.room, k.moves.room, k.counted, c.requires.parts.front_run.counted, few_ahead, c.move_run.ensures.node.2)
 
 pub finish_node-requires-clause-few : goal.finish_node-requires-clause-few
-unfolding begins_copying
 finish_node-requires-clause-few g c =
-    let p = c.requires.parts in
-    let w = c.begin-writer.result in
-    let s = c.args.desk.now in
-    let s1 = c.begin-writer.new.desk in
-    let content = g.R.Rows.content c.args.rows.now in
-    let began = moves_takes s s1 (w.head ∷ ahead w.next) c.begin-writer.ensures.takes in
-    let written = c.begin-writer.ensures.written content in
-    let first = ahead_length w.next w.left c.begin-writer.ensures.writer.reserved in
-    let w2 = c.move_run.new.writer in
-    let s2 = c.move_run.new.desk in
-    let copied = (c.move_run.ensures.copied (begins_copying w content s s1 c.args.parts.now p began written)).1 in
-    let second = ahead_length w2.next w2.left c.move_run.ensures.writer.reserved in
-    omega (arith, began.rows, copied.moves.rows, c.requires.few)
+    let at = goal.at.finish_node-requires-clause-few g c in
+    let b = begun g at.After-begin-writer in
+    omega (arith, b.moves.rows, (copied g at.After-move_run c.requires.parts b).moves.rows, c.requires.few)
 
 pub finish_node-requires-clause-free : goal.finish_node-requires-clause-free
-unfolding begins_copying
 finish_node-requires-clause-free g c =
-    let p = c.requires.parts in
-    let w = c.begin-writer.result in
-    let s = c.args.desk.now in
-    let s1 = c.begin-writer.new.desk in
-    let content = g.R.Rows.content c.args.rows.now in
-    let began = moves_takes s s1 (w.head ∷ ahead w.next) c.begin-writer.ensures.takes in
-    let written = c.begin-writer.ensures.written content in
-    let first = ahead_length w.next w.left c.begin-writer.ensures.writer.reserved in
-    let w2 = c.move_run.new.writer in
-    let s2 = c.move_run.new.desk in
-    let copied = (c.move_run.ensures.copied (begins_copying w content s s1 c.args.parts.now p began written)).1 in
-    let second = ahead_length w2.next w2.left c.move_run.ensures.writer.reserved in
-    let free = blank_free s s1 (w.head ∷ ahead w.next) [] began (g.R.Rows.blank c.args.rows.now) c.requires.free in
-    subst (FreeIsBlank s2.lives) (sym c.move_run.ensures.blank) (blank_free s1 s2 copied.taken _ copied.moves (g.R.Rows.blank c.args.rows.now) free)
+    let at = goal.at.finish_node-requires-clause-free g c in
+    let k = copied g at.After-move_run c.requires.parts (begun g at.After-begin-writer) in
+    subst (FreeIsBlank c.move_run.new.desk.lives) (sym c.move_run.ensures.blank) (blank_free c.begin-writer.new.desk c.move_run.new.desk k.taken _ k.moves (g.R.Rows.blank c.args.rows.now) (blank_begun g at.After-begin-writer))
 
 pub returns-clause-made : goal.returns-clause-made
-unfolding begins_copying front_rest
 returns-clause-made g c = λ p.
-    let w = c.begin-writer.result in
-    let s = c.args.desk.now in
-    let s1 = c.begin-writer.new.desk in
-    let content = g.R.Rows.content c.args.rows.now in
-    let began = moves_takes s s1 (w.head ∷ ahead w.next) c.begin-writer.ensures.takes in
-    let written = c.begin-writer.ensures.written content in
-    let first = ahead_length w.next w.left c.begin-writer.ensures.writer.reserved in
-    let w2 = c.move_run.new.writer in
-    let s2 = c.move_run.new.desk in
-    let copied = (c.move_run.ensures.copied (begins_copying w content s s1 c.args.parts.now p began written)).1 in
-    let second = ahead_length w2.next w2.left c.move_run.ensures.writer.reserved in
-    let rest = front_rest w content s s1 c.args.parts.now p began written w2 (g.R.Rows.content c.move_run.new.rows) s2 copied c.move_run.ensures.node.3 in
-    let one = first.1 (omega (arith, c.begin-writer.ensures.node, c.requires.some)) in
-    made w content s s1 c.args.parts.now p began written w2 (g.R.Rows.content c.move_run.new.rows) s2 copied c.move_run.ensures.node.3
-    (g.R.Rows.content c.finish_node.new.rows) c.finish_node.new.desk c.finish_node.result (c.finish_node.ensures.finished rest)
+    let at = goal.at.returns-clause-made g c in
+    let b = begun g at.After-begin-writer in
+    let k = copied g at.After-move_run p b in
+    made p b k c.move_run.ensures.node.3 (c.finish_node.ensures.finished (front_rest p b k c.move_run.ensures.node.3))
     (c.move_run.ensures.node.0 ∙ c.begin-writer.ensures.node.0)
     (omega (arith, c.move_run.ensures.node.2, c.begin-writer.ensures.node.2))
-    one
-    (ahead_min w2.next w2.left c.move_run.ensures.writer.reserved)
+    (one_ahead g at.After-begin-writer)
+    (ahead_min c.move_run.new.writer.next c.move_run.new.writer.left c.move_run.ensures.writer.reserved)

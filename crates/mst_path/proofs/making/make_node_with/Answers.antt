@@ -1,314 +1,142 @@
-use Rattle.std.proofs.Common.{◌<◌, ℕ, Bool, ◌∷◌, [], IfSome, IsTrue, sym, ◌∙◌, subst, arith}
+use Rattle.std.proofs.Common.{◌≡◌, ◌<◌, ◌≤◌, ◌+◌, ℕ, Bool, Some, ◌∷◌, [], ◌++◌, length, IfSome, IsTrue, sym, ◌∙◌, subst, arith}
+use Rattle.mst_arena.specs.Lives.{free_count}
+use Rattle.mst_arena.specs.Lists.{times}
+use Rattle.mst_arena.specs.Standing.{Placed, used}
 use Rattle.mst_path.specs.Takes.{FreeIsBlank}
-use Rattle.mst_path.specs.Writing.{ahead}
+use Rattle.mst_path.specs.Moves.{Moves}
+use Rattle.mst_path.specs.Runs.{Piece}
+use Rattle.mst_path.specs.Writing.{ahead, IsRootOf, IsWritten}
+use Rattle.mst_path.specs.Copying.{Copied}
+use Rattle.mst_path.specs.Making.{PartsStand, in_parts}
 use Rattle.mst_path.proofs.lemmas.rows.Moving.{moves_takes}
 use Rattle.mst_path.proofs.lemmas.rows.Copies.{blank_free, blank_taken, blank_ahead, next_some, small_link}
 use Rattle.mst_path.proofs.lemmas.steps.Finishing.{ahead_length, ahead_min}
-use Rattle.mst_path.proofs.lemmas.steps.Whole.{begins_copying, child_later, with_out, rest_three, made_with}
+use Rattle.mst_path.proofs.lemmas.steps.Whole.{Begun, begun_by, begins_copying, child_later, with_out, rest_three, made_with}
 use Rattle.mst_path.proofs.lemmas.trees.Made.{piece_alive}
+use Rattle.mst_path.proofs.making.make_node_with.Given.{Over}
+use Rattle.mst_path.proofs.making.make_node_with.Goals.{After-begin-writer, After-move_run, After-entry}
 use Rattle.mst_path.proofs.making.make_node_with.Goals as goal
 
+-- ---- the node is begun
+
+module _ (g : Over) (c : goal.After-begin-writer g) where
+  begun : Begun c.begin-writer.result (g.R.Rows.content c.args.rows.now) c.args.desk.now c.begin-writer.new.desk
+  begun = begun_by c.begin-writer.ensures.takes c.begin-writer.ensures.written (g.R.Rows.content c.args.rows.now)
+
+  one_ahead : length (ahead c.begin-writer.result.next) ≡ 1
+  one_ahead = (ahead_length c.begin-writer.result.next c.begin-writer.result.left c.begin-writer.ensures.writer.reserved).1 (omega (arith, c.begin-writer.ensures.node))
+
+  blank_begun : FreeIsBlank c.begin-writer.new.desk.lives (g.R.Rows.blank c.args.rows.now)
+  blank_begun = blank_free c.args.desk.now c.begin-writer.new.desk (c.begin-writer.result.head ∷ ahead c.begin-writer.result.next) [] begun.moves (g.R.Rows.blank c.args.rows.now) c.requires.free
+
 pub move_run-requires-clause-copying : goal.move_run-requires-clause-copying
-move_run-requires-clause-copying g c =
-    let p = c.requires.parts.0 in
-    let q = c.requires.parts.1 in
-    let root_is = c.requires.parts.2 in
-    let stands = c.requires.parts.3 in
-    let apart = c.requires.parts.4 in
-    let w = c.begin-writer.result in
-    let s = c.args.desk.now in
-    let s1 = c.begin-writer.new.desk in
-    let content = g.R.Rows.content c.args.rows.now in
-    let began = moves_takes s s1 (w.head ∷ ahead w.next) c.begin-writer.ensures.takes in
-    let written = c.begin-writer.ensures.written content in
-    let first = ahead_length w.next w.left c.begin-writer.ensures.writer.reserved in
-    let one = first.1 (omega (arith, c.begin-writer.ensures.node)) in
-    begins_copying w content s s1 c.args.parts.now p began written
+move_run-requires-clause-copying g c = begins_copying c.requires.parts.0 (begun g (goal.at.move_run-requires-clause-copying g c).After-begin-writer)
 
 pub move_run-requires-clause-room : goal.move_run-requires-clause-room
 move_run-requires-clause-room g c =
-    let w = c.begin-writer.result in
-    let s = c.args.desk.now in
-    let s1 = c.begin-writer.new.desk in
-    let content = g.R.Rows.content c.args.rows.now in
-    let began = moves_takes s s1 (w.head ∷ ahead w.next) c.begin-writer.ensures.takes in
-    let written = c.begin-writer.ensures.written content in
-    let first = ahead_length w.next w.left c.begin-writer.ensures.writer.reserved in
-    let one = first.1 (omega (arith, c.begin-writer.ensures.node)) in
-    omega (arith, began.room, first.0, c.begin-writer.ensures.node, c.requires.room)
+    let at = (goal.at.move_run-requires-clause-room g c).After-begin-writer in
+    omega (arith, (begun g at).moves.room, one_ahead g at, c.begin-writer.ensures.node, c.requires.room)
 
 pub move_run-requires-clause-free : goal.move_run-requires-clause-free
-move_run-requires-clause-free g c =
-    let w = c.begin-writer.result in
-    let s = c.args.desk.now in
-    let s1 = c.begin-writer.new.desk in
-    let content = g.R.Rows.content c.args.rows.now in
-    let began = moves_takes s s1 (w.head ∷ ahead w.next) c.begin-writer.ensures.takes in
-    let written = c.begin-writer.ensures.written content in
-    let first = ahead_length w.next w.left c.begin-writer.ensures.writer.reserved in
-    let one = first.1 (omega (arith, c.begin-writer.ensures.node)) in
-    blank_free s s1 (w.head ∷ ahead w.next) [] began (g.R.Rows.blank c.args.rows.now) c.requires.free
+move_run-requires-clause-free g c = blank_begun g (goal.at.move_run-requires-clause-free g c).After-begin-writer
+
+-- ---- the front is copied
+
+module _ (g : Over) (c : goal.After-move_run g) where
+  some_left : 0 < c.move_run.new.writer.left
+  some_left = omega (arith, c.begin-writer.ensures.node, c.move_run.ensures.node.2)
+
+  next_ahead : length (ahead c.move_run.new.writer.next) ≡ 1
+  next_ahead = (ahead_length c.move_run.new.writer.next c.move_run.new.writer.left c.move_run.ensures.writer.reserved).1 some_left
+
+module _ (g : Over) (c : goal.After-move_run g) (p : PartsStand (g.R.Rows.content c.args.rows.now) c.args.desk.now c.args.parts.now) (b : Begun c.begin-writer.result (g.R.Rows.content c.args.rows.now) c.args.desk.now c.begin-writer.new.desk) where
+  copied : Copied c.begin-writer.result c.move_run.new.writer (g.R.Rows.content c.args.rows.now) (g.R.Rows.content c.move_run.new.rows) c.begin-writer.new.desk c.move_run.new.desk [] p.front
+  unfolding begins_copying
+  copied = (c.move_run.ensures.copied (begins_copying p b)).1
+
+  room_left : length (ahead c.begin-writer.result.next) ≡ 1 → c.args.parts.now.back.count ≤ free_count c.move_run.new.desk.lives
+  room_left one = omega (arith, one, b.moves.room, c.begin-writer.ensures.node, c.requires.room, copied.moves.room, copied.counted, p.front_run.counted, next_ahead g c, c.move_run.ensures.node.2)
+
+  few_rows : length c.move_run.new.desk.lives ≤ 65535
+  few_rows = omega (arith, b.moves.rows, copied.moves.rows, c.requires.few)
+
+  blank_copied : FreeIsBlank c.begin-writer.new.desk.lives (g.R.Rows.blank c.args.rows.now) → FreeIsBlank c.move_run.new.desk.lives (g.R.Rows.blank c.args.rows.now)
+  blank_copied = blank_free c.begin-writer.new.desk c.move_run.new.desk copied.taken _ copied.moves (g.R.Rows.blank c.args.rows.now)
 
 pub entry-requires-clause-room : goal.entry-requires-clause-room
-unfolding begins_copying
 entry-requires-clause-room g c =
-    let p = c.requires.parts.0 in
-    let q = c.requires.parts.1 in
-    let root_is = c.requires.parts.2 in
-    let stands = c.requires.parts.3 in
-    let apart = c.requires.parts.4 in
-    let w = c.begin-writer.result in
-    let s = c.args.desk.now in
-    let s1 = c.begin-writer.new.desk in
-    let content = g.R.Rows.content c.args.rows.now in
-    let began = moves_takes s s1 (w.head ∷ ahead w.next) c.begin-writer.ensures.takes in
-    let written = c.begin-writer.ensures.written content in
-    let first = ahead_length w.next w.left c.begin-writer.ensures.writer.reserved in
-    let one = first.1 (omega (arith, c.begin-writer.ensures.node)) in
-    let w2 = c.move_run.new.writer in
-    let s2 = c.move_run.new.desk in
-    let content2 = g.R.Rows.content c.move_run.new.rows in
-    let copied = (c.move_run.ensures.copied (begins_copying w content s s1 c.args.parts.now p began written)).1 in
-    let second = ahead_length w2.next w2.left c.move_run.ensures.writer.reserved in
-    let left2 : 0 < w2.left = omega (arith, c.begin-writer.ensures.node, c.move_run.ensures.node.2) in
-    let free1 = blank_free s s1 (w.head ∷ ahead w.next) [] began (g.R.Rows.blank c.args.rows.now) c.requires.free in
-    let free2 = blank_free s1 s2 copied.taken _ copied.moves (g.R.Rows.blank c.args.rows.now) free1 in
-    λ more. omega (arith, more, began.room, one, c.begin-writer.ensures.node, c.requires.room, copied.moves.room, copied.counted, p.front_run.counted, second.1 left2, c.move_run.ensures.node.2)
+    let at = goal.at.entry-requires-clause-room g c in
+    let room = room_left g at.After-move_run c.requires.parts.0 (begun g at.After-begin-writer) (one_ahead g at.After-begin-writer) in
+    λ more. omega (arith, more, room, c.begin-writer.ensures.node, c.move_run.ensures.node.2)
 
 pub entry-requires-clause-few : goal.entry-requires-clause-few
-unfolding begins_copying
 entry-requires-clause-few g c =
-    let p = c.requires.parts.0 in
-    let q = c.requires.parts.1 in
-    let root_is = c.requires.parts.2 in
-    let stands = c.requires.parts.3 in
-    let apart = c.requires.parts.4 in
-    let w = c.begin-writer.result in
-    let s = c.args.desk.now in
-    let s1 = c.begin-writer.new.desk in
-    let content = g.R.Rows.content c.args.rows.now in
-    let began = moves_takes s s1 (w.head ∷ ahead w.next) c.begin-writer.ensures.takes in
-    let written = c.begin-writer.ensures.written content in
-    let first = ahead_length w.next w.left c.begin-writer.ensures.writer.reserved in
-    let one = first.1 (omega (arith, c.begin-writer.ensures.node)) in
-    let w2 = c.move_run.new.writer in
-    let s2 = c.move_run.new.desk in
-    let content2 = g.R.Rows.content c.move_run.new.rows in
-    let copied = (c.move_run.ensures.copied (begins_copying w content s s1 c.args.parts.now p began written)).1 in
-    let second = ahead_length w2.next w2.left c.move_run.ensures.writer.reserved in
-    let left2 : 0 < w2.left = omega (arith, c.begin-writer.ensures.node, c.move_run.ensures.node.2) in
-    let free1 = blank_free s s1 (w.head ∷ ahead w.next) [] began (g.R.Rows.blank c.args.rows.now) c.requires.free in
-    let free2 = blank_free s1 s2 copied.taken _ copied.moves (g.R.Rows.blank c.args.rows.now) free1 in
-    omega (arith, began.rows, copied.moves.rows, c.requires.few)
+    let at = goal.at.entry-requires-clause-few g c in
+    few_rows g at.After-move_run c.requires.parts.0 (begun g at.After-begin-writer)
 
 pub entry-requires-clause-child : goal.entry-requires-clause-child
 entry-requires-clause-child g c =
-    let p = c.requires.parts.0 in
-    let q = c.requires.parts.1 in
-    let root_is = c.requires.parts.2 in
-    let stands = c.requires.parts.3 in
-    let apart = c.requires.parts.4 in
-    omega (arith, root_is.link, small_link c.args.desk.now q (piece_alive stands) c.requires.few)
+    omega (arith, c.requires.parts.2.link, small_link c.args.desk.now c.requires.parts.1 (piece_alive c.requires.parts.3) c.requires.few)
+
+-- ---- the new entry is written
+
+module _ (g : Over) (c : goal.After-entry g) where
+  moves_entry : Moves c.move_run.new.desk c.entry.new.desk (ahead c.entry.new.self.next) []
+  moves_entry = moves_takes c.move_run.new.desk c.entry.new.desk (ahead c.entry.new.self.next) c.entry.ensures.takes
+
+  next_row : (r : ℕ) × (c.move_run.new.writer.next ≡ Some r)
+  next_row = next_some c.move_run.new.writer.next c.move_run.new.writer.left c.move_run.ensures.writer.reserved (omega (arith, c.begin-writer.ensures.node, c.move_run.ensures.node.2))
+
+  module _ (p : PartsStand (g.R.Rows.content c.args.rows.now) c.args.desk.now c.args.parts.now) (b : Begun c.begin-writer.result (g.R.Rows.content c.args.rows.now) c.args.desk.now c.begin-writer.new.desk) (k : Copied c.begin-writer.result c.move_run.new.writer (g.R.Rows.content c.args.rows.now) (g.R.Rows.content c.move_run.new.rows) c.begin-writer.new.desk c.move_run.new.desk [] p.front) (q : Placed) (root : IsRootOf q c.args.child.now) (stands : Piece (g.R.Rows.content c.args.rows.now) c.args.desk.now q) (apart : (x : ℕ) → in_parts p x + times x (used q) ≤ 1) where
+    entry_written : IsWritten c.entry.new.self (g.R.Rows.content c.entry.new.rows) (k.copies ++ record { at = next_row.0; child = q; key = c.args.key.now; value = c.args.value.now } ∷ [])
+    entry_written = c.entry.ensures.written k.copies q next_row.0 next_row.1 k.going.written root (child_later p b k c.move_run.ensures.node.3 stands apart).rows (with_out p b k c.move_run.ensures.node.3 next_row.1 stands apart)
 
 pub finish_node-requires-clause-rest : goal.finish_node-requires-clause-rest
-unfolding begins_copying
 finish_node-requires-clause-rest g c =
-    let p = c.requires.parts.0 in
-    let q = c.requires.parts.1 in
-    let root_is = c.requires.parts.2 in
-    let stands = c.requires.parts.3 in
-    let apart = c.requires.parts.4 in
-    let w = c.begin-writer.result in
-    let s = c.args.desk.now in
-    let s1 = c.begin-writer.new.desk in
-    let content = g.R.Rows.content c.args.rows.now in
-    let began = moves_takes s s1 (w.head ∷ ahead w.next) c.begin-writer.ensures.takes in
-    let written = c.begin-writer.ensures.written content in
-    let first = ahead_length w.next w.left c.begin-writer.ensures.writer.reserved in
-    let one = first.1 (omega (arith, c.begin-writer.ensures.node)) in
-    let w2 = c.move_run.new.writer in
-    let s2 = c.move_run.new.desk in
-    let content2 = g.R.Rows.content c.move_run.new.rows in
-    let copied = (c.move_run.ensures.copied (begins_copying w content s s1 c.args.parts.now p began written)).1 in
-    let second = ahead_length w2.next w2.left c.move_run.ensures.writer.reserved in
-    let left2 : 0 < w2.left = omega (arith, c.begin-writer.ensures.node, c.move_run.ensures.node.2) in
-    let free1 = blank_free s s1 (w.head ∷ ahead w.next) [] began (g.R.Rows.blank c.args.rows.now) c.requires.free in
-    let free2 = blank_free s1 s2 copied.taken _ copied.moves (g.R.Rows.blank c.args.rows.now) free1 in
-    let w3 = c.entry.new.self in
-    let s3 = c.entry.new.desk in
-    let content3 = g.R.Rows.content c.entry.new.rows in
-    let moves3 = moves_takes s2 s3 (ahead w3.next) c.entry.ensures.takes in
-    let next2 = next_some w2.next w2.left c.move_run.ensures.writer.reserved left2 in
-    let head2 = c.move_run.ensures.node.3 in
-    let written3 = c.entry.ensures.written copied.copies q next2.0 next2.1 copied.going.written root_is (child_later w content s s1 c.args.parts.now p began written w2 content2 s2 copied head2 q stands apart).rows (with_out w content s s1 c.args.parts.now p began written w2 content2 s2 copied head2 q next2.0 next2.1 stands apart) in
-    rest_three w content s s1 c.args.parts.now p began written w2 content2 s2 copied head2 q c.args.key.now c.args.value.now next2.0 next2.1 stands apart w3 content3 s3 moves3 c.entry.ensures.keeps written3 c.entry.ensures.node.3
+    let at = goal.at.finish_node-requires-clause-rest g c in
+    let entry = at.After-entry in
+    let parts = c.requires.parts in
+    let b = begun g at.After-begin-writer in
+    let k = copied g at.After-move_run parts.0 b in
+    rest_three parts.0 b k c.move_run.ensures.node.3 c.args.key.now c.args.value.now (next_row g entry).1 parts.3 parts.4 (moves_entry g entry) c.entry.ensures.keeps (entry_written g entry parts.0 b k parts.1 parts.2 parts.3 parts.4) c.entry.ensures.node.3
 
 pub finish_node-requires-clause-room : goal.finish_node-requires-clause-room
-unfolding begins_copying
 finish_node-requires-clause-room g c =
-    let p = c.requires.parts.0 in
-    let q = c.requires.parts.1 in
-    let root_is = c.requires.parts.2 in
-    let stands = c.requires.parts.3 in
-    let apart = c.requires.parts.4 in
-    let w = c.begin-writer.result in
-    let s = c.args.desk.now in
-    let s1 = c.begin-writer.new.desk in
-    let content = g.R.Rows.content c.args.rows.now in
-    let began = moves_takes s s1 (w.head ∷ ahead w.next) c.begin-writer.ensures.takes in
-    let written = c.begin-writer.ensures.written content in
-    let first = ahead_length w.next w.left c.begin-writer.ensures.writer.reserved in
-    let one = first.1 (omega (arith, c.begin-writer.ensures.node)) in
-    let w2 = c.move_run.new.writer in
-    let s2 = c.move_run.new.desk in
-    let content2 = g.R.Rows.content c.move_run.new.rows in
-    let copied = (c.move_run.ensures.copied (begins_copying w content s s1 c.args.parts.now p began written)).1 in
-    let second = ahead_length w2.next w2.left c.move_run.ensures.writer.reserved in
-    let left2 : 0 < w2.left = omega (arith, c.begin-writer.ensures.node, c.move_run.ensures.node.2) in
-    let free1 = blank_free s s1 (w.head ∷ ahead w.next) [] began (g.R.Rows.blank c.args.rows.now) c.requires.free in
-    let free2 = blank_free s1 s2 copied.taken _ copied.moves (g.R.Rows.blank c.args.rows.now) free1 in
-    let w3 = c.entry.new.self in
-    let s3 = c.entry.new.desk in
-    let content3 = g.R.Rows.content c.entry.new.rows in
-    let moves3 = moves_takes s2 s3 (ahead w3.next) c.entry.ensures.takes in
-    let next2 = next_some w2.next w2.left c.move_run.ensures.writer.reserved left2 in
-    let head2 = c.move_run.ensures.node.3 in
-    let written3 = c.entry.ensures.written copied.copies q next2.0 next2.1 copied.going.written root_is (child_later w content s s1 c.args.parts.now p began written w2 content2 s2 copied head2 q stands apart).rows (with_out w content s s1 c.args.parts.now p began written w2 content2 s2 copied head2 q next2.0 next2.1 stands apart) in
-    let last = ahead_length w3.next w3.left c.entry.ensures.writer.reserved in
-    omega (arith, began.room, one, c.begin-writer.ensures.node, c.requires.room, copied.moves.room, copied.counted, p.front_run.counted, second.1 left2, c.move_run.ensures.node.2, moves3.room, last.0, c.entry.ensures.node.2)
+    let at = goal.at.finish_node-requires-clause-room g c in
+    let room = room_left g at.After-move_run c.requires.parts.0 (begun g at.After-begin-writer) (one_ahead g at.After-begin-writer) in
+    let few_ahead = (ahead_length c.entry.new.self.next c.entry.new.self.left c.entry.ensures.writer.reserved).0 in
+    omega (arith, room, c.begin-writer.ensures.node, c.move_run.ensures.node.2, (moves_entry g at.After-entry).room, few_ahead, c.entry.ensures.node.2)
 
 pub finish_node-requires-clause-few : goal.finish_node-requires-clause-few
-unfolding begins_copying
 finish_node-requires-clause-few g c =
-    let p = c.requires.parts.0 in
-    let q = c.requires.parts.1 in
-    let root_is = c.requires.parts.2 in
-    let stands = c.requires.parts.3 in
-    let apart = c.requires.parts.4 in
-    let w = c.begin-writer.result in
-    let s = c.args.desk.now in
-    let s1 = c.begin-writer.new.desk in
-    let content = g.R.Rows.content c.args.rows.now in
-    let began = moves_takes s s1 (w.head ∷ ahead w.next) c.begin-writer.ensures.takes in
-    let written = c.begin-writer.ensures.written content in
-    let first = ahead_length w.next w.left c.begin-writer.ensures.writer.reserved in
-    let one = first.1 (omega (arith, c.begin-writer.ensures.node)) in
-    let w2 = c.move_run.new.writer in
-    let s2 = c.move_run.new.desk in
-    let content2 = g.R.Rows.content c.move_run.new.rows in
-    let copied = (c.move_run.ensures.copied (begins_copying w content s s1 c.args.parts.now p began written)).1 in
-    let second = ahead_length w2.next w2.left c.move_run.ensures.writer.reserved in
-    let left2 : 0 < w2.left = omega (arith, c.begin-writer.ensures.node, c.move_run.ensures.node.2) in
-    let free1 = blank_free s s1 (w.head ∷ ahead w.next) [] began (g.R.Rows.blank c.args.rows.now) c.requires.free in
-    let free2 = blank_free s1 s2 copied.taken _ copied.moves (g.R.Rows.blank c.args.rows.now) free1 in
-    let w3 = c.entry.new.self in
-    let s3 = c.entry.new.desk in
-    let content3 = g.R.Rows.content c.entry.new.rows in
-    let moves3 = moves_takes s2 s3 (ahead w3.next) c.entry.ensures.takes in
-    let next2 = next_some w2.next w2.left c.move_run.ensures.writer.reserved left2 in
-    let head2 = c.move_run.ensures.node.3 in
-    let written3 = c.entry.ensures.written copied.copies q next2.0 next2.1 copied.going.written root_is (child_later w content s s1 c.args.parts.now p began written w2 content2 s2 copied head2 q stands apart).rows (with_out w content s s1 c.args.parts.now p began written w2 content2 s2 copied head2 q next2.0 next2.1 stands apart) in
-    omega (arith, began.rows, copied.moves.rows, moves3.rows, c.requires.few)
+    let at = goal.at.finish_node-requires-clause-few g c in
+    omega (arith, few_rows g at.After-move_run c.requires.parts.0 (begun g at.After-begin-writer), (moves_entry g at.After-entry).rows)
 
 pub finish_node-requires-clause-blank : goal.finish_node-requires-clause-blank
-unfolding begins_copying
 finish_node-requires-clause-blank g c =
-    let p = c.requires.parts.0 in
-    let q = c.requires.parts.1 in
-    let root_is = c.requires.parts.2 in
-    let stands = c.requires.parts.3 in
-    let apart = c.requires.parts.4 in
-    let w = c.begin-writer.result in
-    let s = c.args.desk.now in
-    let s1 = c.begin-writer.new.desk in
-    let content = g.R.Rows.content c.args.rows.now in
-    let began = moves_takes s s1 (w.head ∷ ahead w.next) c.begin-writer.ensures.takes in
-    let written = c.begin-writer.ensures.written content in
-    let first = ahead_length w.next w.left c.begin-writer.ensures.writer.reserved in
-    let one = first.1 (omega (arith, c.begin-writer.ensures.node)) in
-    let w2 = c.move_run.new.writer in
-    let s2 = c.move_run.new.desk in
-    let content2 = g.R.Rows.content c.move_run.new.rows in
-    let copied = (c.move_run.ensures.copied (begins_copying w content s s1 c.args.parts.now p began written)).1 in
-    let second = ahead_length w2.next w2.left c.move_run.ensures.writer.reserved in
-    let left2 : 0 < w2.left = omega (arith, c.begin-writer.ensures.node, c.move_run.ensures.node.2) in
-    let free1 = blank_free s s1 (w.head ∷ ahead w.next) [] began (g.R.Rows.blank c.args.rows.now) c.requires.free in
-    let free2 = blank_free s1 s2 copied.taken _ copied.moves (g.R.Rows.blank c.args.rows.now) free1 in
-    let w3 = c.entry.new.self in
-    let s3 = c.entry.new.desk in
-    let content3 = g.R.Rows.content c.entry.new.rows in
-    let moves3 = moves_takes s2 s3 (ahead w3.next) c.entry.ensures.takes in
-    let next2 = next_some w2.next w2.left c.move_run.ensures.writer.reserved left2 in
-    let head2 = c.move_run.ensures.node.3 in
-    let written3 = c.entry.ensures.written copied.copies q next2.0 next2.1 copied.going.written root_is (child_later w content s s1 c.args.parts.now p began written w2 content2 s2 copied head2 q stands apart).rows (with_out w content s s1 c.args.parts.now p began written w2 content2 s2 copied head2 q next2.0 next2.1 stands apart) in
-    let same = c.entry.ensures.blank ∙ c.move_run.ensures.blank in
-    subst (λ (b : ℕ → Bool). IfSome w3.next (λ r. IsTrue (b r))) (sym same) (blank_ahead w3 (g.R.Rows.blank c.args.rows.now) (blank_taken s2 s3 (ahead w3.next) [] moves3 (g.R.Rows.blank c.args.rows.now) free2))
+    let at = goal.at.finish_node-requires-clause-blank g c in
+    let free = blank_copied g at.After-move_run c.requires.parts.0 (begun g at.After-begin-writer) (blank_begun g at.After-begin-writer) in
+    let taken = blank_taken c.move_run.new.desk c.entry.new.desk (ahead c.entry.new.self.next) [] (moves_entry g at.After-entry) (g.R.Rows.blank c.args.rows.now) free in
+    subst (λ (b : ℕ → Bool). IfSome c.entry.new.self.next (λ r. IsTrue (b r))) (sym (c.entry.ensures.blank ∙ c.move_run.ensures.blank)) (blank_ahead c.entry.new.self (g.R.Rows.blank c.args.rows.now) taken)
 
 pub finish_node-requires-clause-free : goal.finish_node-requires-clause-free
-unfolding begins_copying
 finish_node-requires-clause-free g c =
-    let p = c.requires.parts.0 in
-    let q = c.requires.parts.1 in
-    let root_is = c.requires.parts.2 in
-    let stands = c.requires.parts.3 in
-    let apart = c.requires.parts.4 in
-    let w = c.begin-writer.result in
-    let s = c.args.desk.now in
-    let s1 = c.begin-writer.new.desk in
-    let content = g.R.Rows.content c.args.rows.now in
-    let began = moves_takes s s1 (w.head ∷ ahead w.next) c.begin-writer.ensures.takes in
-    let written = c.begin-writer.ensures.written content in
-    let first = ahead_length w.next w.left c.begin-writer.ensures.writer.reserved in
-    let one = first.1 (omega (arith, c.begin-writer.ensures.node)) in
-    let w2 = c.move_run.new.writer in
-    let s2 = c.move_run.new.desk in
-    let content2 = g.R.Rows.content c.move_run.new.rows in
-    let copied = (c.move_run.ensures.copied (begins_copying w content s s1 c.args.parts.now p began written)).1 in
-    let second = ahead_length w2.next w2.left c.move_run.ensures.writer.reserved in
-    let left2 : 0 < w2.left = omega (arith, c.begin-writer.ensures.node, c.move_run.ensures.node.2) in
-    let free1 = blank_free s s1 (w.head ∷ ahead w.next) [] began (g.R.Rows.blank c.args.rows.now) c.requires.free in
-    let free2 = blank_free s1 s2 copied.taken _ copied.moves (g.R.Rows.blank c.args.rows.now) free1 in
-    let w3 = c.entry.new.self in
-    let s3 = c.entry.new.desk in
-    let content3 = g.R.Rows.content c.entry.new.rows in
-    let moves3 = moves_takes s2 s3 (ahead w3.next) c.entry.ensures.takes in
-    let next2 = next_some w2.next w2.left c.move_run.ensures.writer.reserved left2 in
-    let head2 = c.move_run.ensures.node.3 in
-    let written3 = c.entry.ensures.written copied.copies q next2.0 next2.1 copied.going.written root_is (child_later w content s s1 c.args.parts.now p began written w2 content2 s2 copied head2 q stands apart).rows (with_out w content s s1 c.args.parts.now p began written w2 content2 s2 copied head2 q next2.0 next2.1 stands apart) in
-    let same = c.entry.ensures.blank ∙ c.move_run.ensures.blank in
-    subst (FreeIsBlank s3.lives) (sym same) (blank_free s2 s3 (ahead w3.next) [] moves3 (g.R.Rows.blank c.args.rows.now) free2)
+    let at = goal.at.finish_node-requires-clause-free g c in
+    let free = blank_copied g at.After-move_run c.requires.parts.0 (begun g at.After-begin-writer) (blank_begun g at.After-begin-writer) in
+    subst (FreeIsBlank c.entry.new.desk.lives) (sym (c.entry.ensures.blank ∙ c.move_run.ensures.blank)) (blank_free c.move_run.new.desk c.entry.new.desk (ahead c.entry.new.self.next) [] (moves_entry g at.After-entry) (g.R.Rows.blank c.args.rows.now) free)
 
 pub returns-clause-made : goal.returns-clause-made
-unfolding begins_copying rest_three
-returns-clause-made g c = λ p q root_is stands apart.
-    let w = c.begin-writer.result in
-    let s = c.args.desk.now in
-    let s1 = c.begin-writer.new.desk in
-    let content = g.R.Rows.content c.args.rows.now in
-    let began = moves_takes s s1 (w.head ∷ ahead w.next) c.begin-writer.ensures.takes in
-    let written = c.begin-writer.ensures.written content in
-    let first = ahead_length w.next w.left c.begin-writer.ensures.writer.reserved in
-    let one = first.1 (omega (arith, c.begin-writer.ensures.node)) in
-    let w2 = c.move_run.new.writer in
-    let s2 = c.move_run.new.desk in
-    let content2 = g.R.Rows.content c.move_run.new.rows in
-    let copied = (c.move_run.ensures.copied (begins_copying w content s s1 c.args.parts.now p began written)).1 in
-    let second = ahead_length w2.next w2.left c.move_run.ensures.writer.reserved in
-    let left2 : 0 < w2.left = omega (arith, c.begin-writer.ensures.node, c.move_run.ensures.node.2) in
-    let free1 = blank_free s s1 (w.head ∷ ahead w.next) [] began (g.R.Rows.blank c.args.rows.now) c.requires.free in
-    let free2 = blank_free s1 s2 copied.taken _ copied.moves (g.R.Rows.blank c.args.rows.now) free1 in
-    let w3 = c.entry.new.self in
-    let s3 = c.entry.new.desk in
-    let content3 = g.R.Rows.content c.entry.new.rows in
-    let moves3 = moves_takes s2 s3 (ahead w3.next) c.entry.ensures.takes in
-    let next2 = next_some w2.next w2.left c.move_run.ensures.writer.reserved left2 in
-    let head2 = c.move_run.ensures.node.3 in
-    let written3 = c.entry.ensures.written copied.copies q next2.0 next2.1 copied.going.written root_is (child_later w content s s1 c.args.parts.now p began written w2 content2 s2 copied head2 q stands apart).rows (with_out w content s s1 c.args.parts.now p began written w2 content2 s2 copied head2 q next2.0 next2.1 stands apart) in
-    let rest = rest_three w content s s1 c.args.parts.now p began written w2 content2 s2 copied head2 q c.args.key.now c.args.value.now next2.0 next2.1 stands apart w3 content3 s3 moves3 c.entry.ensures.keeps written3 c.entry.ensures.node.3 in
-    made_with w content s s1 c.args.parts.now p began written w2 content2 s2 copied head2 q c.args.key.now c.args.value.now next2.0 next2.1 stands apart w3 content3 s3 moves3 c.entry.ensures.keeps written3 c.entry.ensures.node.3
-    (g.R.Rows.content c.finish_node.new.rows) c.finish_node.new.desk c.finish_node.result (c.finish_node.ensures.finished rest)
+unfolding rest_three
+returns-clause-made g c = λ p q root stands apart.
+    let at = goal.at.returns-clause-made g c in
+    let entry = at.After-entry in
+    let b = begun g at.After-begin-writer in
+    let k = copied g at.After-move_run p b in
+    let written = entry_written g entry p b k q root stands apart in
+    let rest = rest_three p b k c.move_run.ensures.node.3 c.args.key.now c.args.value.now (next_row g entry).1 stands apart (moves_entry g entry) c.entry.ensures.keeps written c.entry.ensures.node.3 in
+    made_with p b k c.move_run.ensures.node.3 c.args.key.now c.args.value.now (next_row g entry).1 stands apart (moves_entry g entry) c.entry.ensures.keeps written c.entry.ensures.node.3 (c.finish_node.ensures.finished rest)
     (c.entry.ensures.node.0 ∙ c.move_run.ensures.node.0 ∙ c.begin-writer.ensures.node.0)
     (omega (arith, c.entry.ensures.node.2, c.move_run.ensures.node.2, c.begin-writer.ensures.node.2))
-    one
-    (second.1 left2)
-    (ahead_min w3.next w3.left c.entry.ensures.writer.reserved)
+    (one_ahead g at.After-begin-writer)
+    (next_ahead g at.After-move_run)
+    (ahead_min c.entry.new.self.next c.entry.new.self.left c.entry.ensures.writer.reserved)
