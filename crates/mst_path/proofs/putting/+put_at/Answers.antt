@@ -1,4 +1,4 @@
-use Rattle.std.proofs.Common.{◌∙◌, ◌≤◌, ◌<◌, ◌+◌, sym, ap, subst, arith, rules}
+use Rattle.std.proofs.Common.{◌∙◌, ◌≤◌, ◌<◌, ◌+◌, ℕ, sym, ap, subst, arith, rules}
 use Rattle.mst_key.specs.declared.format.Format.TheVariants.{One}
 use Rattle.mst_arena.specs.Content.{Content}
 use Rattle.mst_arena.specs.Lives.{free_count}
@@ -16,61 +16,68 @@ use Rattle.mst_path.specs.Putting.{RisingTree, in_rising, with_pair, pair_rows, 
 use Rattle.mst_path.proofs.lemmas.rows.Copies.{blank_free}
 use Rattle.mst_path.proofs.lemmas.steps.Rounds.{regrown, frame_after, room_after, few_after, closed_round}
 use Rattle.mst_path.proofs.lemmas.steps.PutGaps.{whole_split, put_top, put_top_rows, falls_at}
+use Rattle.mst_path.proofs.putting.+put_at.Given.{Over}
+use Rattle.mst_path.proofs.putting.+put_at.Goals.{In-OnTop, In-Down, After-put_at-seam, In-Between, In-Anew}
 use Rattle.mst_path.proofs.putting.+put_at.Goals as goal
+
+-- ---- all keys are of lower layers
+
+module _ (g : Over) (n : ℕ) (c : goal.In-OnTop g n) (z : RisingTree (g.R.Rows.content c.args.rows.now) c.args.desk.now c.args.link) where
+  low : height (tree_of One z.tree.placed) ≤ c.args.layer
+  low = subst (IsPutStep (g.R.Rows.content c.args.rows.now) c.args.desk.now c.args.link z c.args.layer c.args.key.now) c.in-OnTop.is (c.put_step.ensures.step c.args.desk.now z)
+
+  abbrev whole : ToSplit (g.R.Rows.content c.args.rows.now) c.args.desk.now c.args.link c.args.key.now
+  whole = whole_split (g.R.Rows.content c.args.rows.now) c.args.desk.now c.args.link z c.args.layer c.args.key.now c.requires.layer low
 
 pub put_on_top-requires-clause-tree : goal.put_on_top-requires-clause-tree
 put_on_top-requires-clause-tree g t c =
-    let C = g.R.Rows.content c.args.rows.now in
-    let s = c.args.desk.now in
-    let k = c.args.key.now in
-    let v = c.args.value.now in
-    let l = c.args.layer in
-    let same = ap g.R.Rows.content c.put_step.ensures.same in
+    let at = (goal.at.put_on_top-requires-clause-tree g t c).In-OnTop in
     let z = c.requires.tree.0 in
-    let low : height (tree_of One z.tree.placed) ≤ l = subst (IsPutStep C s c.args.link z l k) c.in-OnTop.is (c.put_step.ensures.step s z) in
-    let whole = whole_split C s c.args.link z l k c.requires.layer low in
-    subst (λ (x : Content). (y : ToSplit x s c.args.link k) × (2 + split_rows k (tree_of One y.tree.placed) ≤ free_count s.lives)) (sym same) (whole, omega (arith, c.requires.tree.1, put_top_rows (tree_of One z.tree.placed) l k v low))
+    subst (λ (x : Content). (y : ToSplit x c.args.desk.now c.args.link c.args.key.now) × (2 + split_rows c.args.key.now (tree_of One y.tree.placed) ≤ free_count c.args.desk.now.lives)) (sym (ap g.R.Rows.content c.put_step.ensures.same)) (whole g t at z, omega (arith, c.requires.tree.1, put_top_rows (tree_of One z.tree.placed) c.args.layer c.args.key.now c.args.value.now (low g t at z)))
 
 pub returns-in-OnTop-clause-put : goal.returns-in-OnTop-clause-put
 returns-in-OnTop-clause-put g t c = λ z.
-    let C = g.R.Rows.content c.args.rows.now in
-    let s = c.args.desk.now in
+    let at = (goal.at.returns-in-OnTop-clause-put g t c).In-OnTop in
     let k = c.args.key.now in
     let v = c.args.value.now in
-    let l = c.args.layer in
-    let same = ap g.R.Rows.content c.put_step.ensures.same in
-    let low : height (tree_of One z.tree.placed) ≤ l = subst (IsPutStep C s c.args.link z l k) c.in-OnTop.is (c.put_step.ensures.step s z) in
-    let whole = whole_split C s c.args.link z l k c.requires.layer low in
-    let all = subst (λ (x : Content). (y : ToSplit x s c.args.link k) → Grown x (g.R.Rows.content c.put_on_top.new.rows) s c.put_on_top.new.desk (node One l (entry (below k (tree_of One y.tree.placed)) k v (last (above k (tree_of One y.tree.placed))))) c.put_on_top.result (λ r. times r (used y.tree.placed)) (2 + split_rows k (tree_of One y.tree.placed))) same c.put_on_top.ensures.made whole in
     let u = tree_of One z.tree.placed in
-    regrown C (g.R.Rows.content c.put_on_top.new.rows) s c.put_on_top.new.desk (node One l (entry (below k u) k v (last (above k u)))) (with_pair z l k v) c.put_on_top.result (in_rising z) (in_rising z) (2 + split_rows k u) (pair_rows z l k v) all (put_top u l k v low) (λ x. omega arith) (put_top_rows u l k v low)
+    let all = subst (λ (x : Content). (y : ToSplit x c.args.desk.now c.args.link k) → Grown x (g.R.Rows.content c.put_on_top.new.rows) c.args.desk.now c.put_on_top.new.desk (node One c.args.layer (entry (below k (tree_of One y.tree.placed)) k v (last (above k (tree_of One y.tree.placed))))) c.put_on_top.result (λ r. times r (used y.tree.placed)) (2 + split_rows k (tree_of One y.tree.placed))) (ap g.R.Rows.content c.put_step.ensures.same) c.put_on_top.ensures.made (whole g t at z) in
+    regrown _ _ _ _ (node One c.args.layer (entry (below k u) k v (last (above k u)))) (with_pair z c.args.layer k v) _ (in_rising z) (in_rising z) (2 + split_rows k u) (pair_rows z c.args.layer k v) all (put_top u c.args.layer k v (low g t at z)) (λ x. omega arith) (put_top_rows u c.args.layer k v (low g t at z))
+
+-- ---- the pair goes into a gap
+
+module _ (g : Over) (n : ℕ) (c : goal.In-Down g n) (z : RisingTree (g.R.Rows.content c.args.rows.now) c.args.desk.now c.args.link) where
+  down : PutsDown (g.R.Rows.content c.args.rows.now) c.args.desk.now c.args.link z c.args.layer c.args.key.now c.in-Down.child c.in-Down.frame
+  down = subst (IsPutStep (g.R.Rows.content c.args.rows.now) c.args.desk.now c.args.link z c.args.layer c.args.key.now) c.in-Down.is (c.put_step.ensures.step c.args.desk.now z)
+
+module _ (g : Over) (n : ℕ) (c : goal.After-put_at-seam g n) (z : RisingTree (g.R.Rows.content c.args.rows.now) c.args.desk.now c.args.link) (d : PutsDown (g.R.Rows.content c.args.rows.now) c.args.desk.now c.args.link z c.args.layer c.args.key.now c.in-Down.child c.in-Down.frame) where
+  grown : Grown (g.R.Rows.content c.args.rows.now) (g.R.Rows.content c.put_at-seam.new.rows) c.args.desk.now c.put_at-seam.new.desk (with_pair d.inner c.args.layer c.args.key.now c.args.value.now) c.put_at-seam.result (in_rising d.inner) (pair_rows d.inner c.args.layer c.args.key.now c.args.value.now)
+  grown = subst (λ (x : Content). (y : RisingTree x c.args.desk.now c.in-Down.child) → Grown x (g.R.Rows.content c.put_at-seam.new.rows) c.args.desk.now c.put_at-seam.new.desk (with_pair y c.args.layer c.args.key.now c.args.value.now) c.put_at-seam.result (in_rising y) (pair_rows y c.args.layer c.args.key.now c.args.value.now)) (ap g.R.Rows.content c.put_step.ensures.same) c.put_at-seam.ensures.put d.inner
+
+  abbrev framed : Framed (g.R.Rows.content c.put_at-seam.new.rows) c.put_at-seam.new.desk c.in-Down.frame (λ x. times x (used grown.placed))
+  framed = frame_after _ _ _ _ _ _ (in_rising d.inner) _ grown c.in-Down.frame d.framed
 
 pub put_at-seam-requires : goal.put_at-seam-requires
 put_at-seam-requires g t c κs within =
-    let C = g.R.Rows.content c.args.rows.now in
-    let s = c.args.desk.now in
-    let k = c.args.key.now in
-    let v = c.args.value.now in
-    let l = c.args.layer in
-    let same = ap g.R.Rows.content c.put_step.ensures.same in
     let z = c.requires.tree.0 in
-    let down : PutsDown C s c.args.link z l k c.in-Down.child c.in-Down.frame = subst (IsPutStep C s c.args.link z l k) c.in-Down.is (c.put_step.ensures.step s z) in
-    let less = falls_at C s c.args.link z l k c.in-Down.child c.in-Down.frame down in
-    let falls = subst (λ (x : Content). height_at x c.in-Down.child < height_at C c.args.link) (sym same) less in (
+    let d = down g t (goal.at.put_at-seam-requires g t c).In-Down z in
+    let same = ap g.R.Rows.content c.put_step.ensures.same in
+    let less = falls_at (g.R.Rows.content c.args.rows.now) c.args.desk.now c.args.link z c.args.layer c.args.key.now c.in-Down.child c.in-Down.frame d in
+    let falls = subst (λ (x : Content). height_at x c.in-Down.child < height_at (g.R.Rows.content c.args.rows.now) c.args.link) (sym same) less in (
       omega (arith, c.decreases, falls),
       (
         search rules,
         (
           search rules,
           (
-            subst (λ (x : Content). (y : RisingTree x s c.in-Down.child) × (pair_rows y l k v ≤ free_count s.lives)) (sym same) (down.inner, omega (arith, c.requires.tree.1, down.rows v)),
+            subst (λ (x : Content). (y : RisingTree x c.args.desk.now c.in-Down.child) × (pair_rows y c.args.layer c.args.key.now c.args.value.now ≤ free_count c.args.desk.now.lives)) (sym same) (d.inner, omega (arith, c.requires.tree.1, d.rows c.args.value.now)),
             (
               c.requires.layer,
               (
                 c.requires.low,
                 (
                   c.requires.few,
-                  subst (FreeIsBlank s.lives) (sym (ap g.R.Rows.blank c.put_step.ensures.same)) c.requires.free,
+                  subst (FreeIsBlank c.args.desk.now.lives) (sym (ap g.R.Rows.blank c.put_step.ensures.same)) c.requires.free,
                 ),
               ),
             ),
@@ -81,168 +88,87 @@ put_at-seam-requires g t c κs within =
 
 pub close-requires-clause-frame : goal.close-requires-clause-frame
 close-requires-clause-frame g t c =
-    let C = g.R.Rows.content c.args.rows.now in
-    let s = c.args.desk.now in
-    let k = c.args.key.now in
-    let v = c.args.value.now in
-    let l = c.args.layer in
-    let same = ap g.R.Rows.content c.put_step.ensures.same in
-    let z = c.requires.tree.0 in
-    let down : PutsDown C s c.args.link z l k c.in-Down.child c.in-Down.frame = subst (IsPutStep C s c.args.link z l k) c.in-Down.is (c.put_step.ensures.step s z) in
-    let done = subst (λ (x : Content). (y : RisingTree x s c.in-Down.child) → Grown x (g.R.Rows.content c.put_at-seam.new.rows) s c.put_at-seam.new.desk (with_pair y l k v) c.put_at-seam.result (in_rising y) (pair_rows y l k v)) same c.put_at-seam.ensures.put down.inner in
-    (done.placed, done.root, done.piece, frame_after C (g.R.Rows.content c.put_at-seam.new.rows) s c.put_at-seam.new.desk (with_pair down.inner l k v) c.put_at-seam.result (in_rising down.inner) (pair_rows down.inner l k v) done c.in-Down.frame down.framed)
+    let at = goal.at.close-requires-clause-frame g t c in
+    let d = down g t at.In-Down c.requires.tree.0 in
+    let made = grown g t at.After-put_at-seam c.requires.tree.0 d in
+    (made.placed, made.root, made.piece, framed g t at.After-put_at-seam c.requires.tree.0 d)
 
 pub close-requires-clause-low : goal.close-requires-clause-low
-close-requires-clause-low g t c =
-    let C = g.R.Rows.content c.args.rows.now in
-    let s = c.args.desk.now in
-    let k = c.args.key.now in
-    let v = c.args.value.now in
-    let l = c.args.layer in
-    let same = ap g.R.Rows.content c.put_step.ensures.same in
-    let z = c.requires.tree.0 in
-    let down : PutsDown C s c.args.link z l k c.in-Down.child c.in-Down.frame = subst (IsPutStep C s c.args.link z l k) c.in-Down.is (c.put_step.ensures.step s z) in
-    down.low
+close-requires-clause-low g t c = (down g t (goal.at.close-requires-clause-low g t c).In-Down c.requires.tree.0).low
 
 pub close-requires-clause-room : goal.close-requires-clause-room
 close-requires-clause-room g t c =
-    let C = g.R.Rows.content c.args.rows.now in
-    let s = c.args.desk.now in
-    let k = c.args.key.now in
-    let v = c.args.value.now in
-    let l = c.args.layer in
-    let same = ap g.R.Rows.content c.put_step.ensures.same in
-    let z = c.requires.tree.0 in
-    let down : PutsDown C s c.args.link z l k c.in-Down.child c.in-Down.frame = subst (IsPutStep C s c.args.link z l k) c.in-Down.is (c.put_step.ensures.step s z) in
-    let done = subst (λ (x : Content). (y : RisingTree x s c.in-Down.child) → Grown x (g.R.Rows.content c.put_at-seam.new.rows) s c.put_at-seam.new.desk (with_pair y l k v) c.put_at-seam.result (in_rising y) (pair_rows y l k v)) same c.put_at-seam.ensures.put down.inner in
-    room_after C (g.R.Rows.content c.put_at-seam.new.rows) s c.put_at-seam.new.desk (with_pair down.inner l k v) c.put_at-seam.result (in_rising down.inner) (pair_rows down.inner l k v) done c.in-Down.frame down.framed (omega (arith, c.requires.tree.1, down.rows v))
+    let at = goal.at.close-requires-clause-room g t c in
+    let d = down g t at.In-Down c.requires.tree.0 in
+    room_after _ _ _ _ _ _ (in_rising d.inner) _ (grown g t at.After-put_at-seam c.requires.tree.0 d) c.in-Down.frame d.framed (omega (arith, c.requires.tree.1, d.rows c.args.value.now))
 
 pub close-requires-clause-few : goal.close-requires-clause-few
 close-requires-clause-few g t c =
-    let C = g.R.Rows.content c.args.rows.now in
-    let s = c.args.desk.now in
-    let k = c.args.key.now in
-    let v = c.args.value.now in
-    let l = c.args.layer in
-    let same = ap g.R.Rows.content c.put_step.ensures.same in
-    let z = c.requires.tree.0 in
-    let down : PutsDown C s c.args.link z l k c.in-Down.child c.in-Down.frame = subst (IsPutStep C s c.args.link z l k) c.in-Down.is (c.put_step.ensures.step s z) in
-    let done = subst (λ (x : Content). (y : RisingTree x s c.in-Down.child) → Grown x (g.R.Rows.content c.put_at-seam.new.rows) s c.put_at-seam.new.desk (with_pair y l k v) c.put_at-seam.result (in_rising y) (pair_rows y l k v)) same c.put_at-seam.ensures.put down.inner in
-    few_after C (g.R.Rows.content c.put_at-seam.new.rows) s c.put_at-seam.new.desk (with_pair down.inner l k v) c.put_at-seam.result (in_rising down.inner) (pair_rows down.inner l k v) done c.in-Down.frame down.framed c.requires.few
+    let at = goal.at.close-requires-clause-few g t c in
+    let d = down g t at.In-Down c.requires.tree.0 in
+    few_after _ _ _ _ _ _ (in_rising d.inner) _ (grown g t at.After-put_at-seam c.requires.tree.0 d) c.in-Down.frame d.framed c.requires.few
 
 pub close-requires-clause-free : goal.close-requires-clause-free
 close-requires-clause-free g t c =
-    let C = g.R.Rows.content c.args.rows.now in
-    let s = c.args.desk.now in
-    let k = c.args.key.now in
-    let v = c.args.value.now in
-    let l = c.args.layer in
-    let same = ap g.R.Rows.content c.put_step.ensures.same in
-    let z = c.requires.tree.0 in
-    let down : PutsDown C s c.args.link z l k c.in-Down.child c.in-Down.frame = subst (IsPutStep C s c.args.link z l k) c.in-Down.is (c.put_step.ensures.step s z) in
-    let done = subst (λ (x : Content). (y : RisingTree x s c.in-Down.child) → Grown x (g.R.Rows.content c.put_at-seam.new.rows) s c.put_at-seam.new.desk (with_pair y l k v) c.put_at-seam.result (in_rising y) (pair_rows y l k v)) same c.put_at-seam.ensures.put down.inner in
-    let blank = c.put_at-seam.ensures.blank ∙ ap g.R.Rows.blank c.put_step.ensures.same in
-    subst (FreeIsBlank c.put_at-seam.new.desk.lives) (sym blank) (blank_free s c.put_at-seam.new.desk done.taken done.killed done.moves (g.R.Rows.blank c.args.rows.now) c.requires.free)
+    let at = goal.at.close-requires-clause-free g t c in
+    let made = grown g t at.After-put_at-seam c.requires.tree.0 (down g t at.In-Down c.requires.tree.0) in
+    subst (FreeIsBlank c.put_at-seam.new.desk.lives) (sym (c.put_at-seam.ensures.blank ∙ ap g.R.Rows.blank c.put_step.ensures.same)) (blank_free c.args.desk.now c.put_at-seam.new.desk made.taken made.killed made.moves (g.R.Rows.blank c.args.rows.now) c.requires.free)
 
 pub returns-in-Down-clause-put : goal.returns-in-Down-clause-put
 returns-in-Down-clause-put g t c = λ z.
-    let C = g.R.Rows.content c.args.rows.now in
-    let s = c.args.desk.now in
-    let k = c.args.key.now in
-    let v = c.args.value.now in
-    let l = c.args.layer in
-    let same = ap g.R.Rows.content c.put_step.ensures.same in
-    let down : PutsDown C s c.args.link z l k c.in-Down.child c.in-Down.frame = subst (IsPutStep C s c.args.link z l k) c.in-Down.is (c.put_step.ensures.step s z) in
-    let done = subst (λ (x : Content). (y : RisingTree x s c.in-Down.child) → Grown x (g.R.Rows.content c.put_at-seam.new.rows) s c.put_at-seam.new.desk (with_pair y l k v) c.put_at-seam.result (in_rising y) (pair_rows y l k v)) same c.put_at-seam.ensures.put down.inner in
-    let frame = frame_after C (g.R.Rows.content c.put_at-seam.new.rows) s c.put_at-seam.new.desk (with_pair down.inner l k v) c.put_at-seam.result (in_rising down.inner) (pair_rows down.inner l k v) done c.in-Down.frame down.framed in
-    let all = closed_round C (g.R.Rows.content c.put_at-seam.new.rows) s c.put_at-seam.new.desk (with_pair down.inner l k v) c.put_at-seam.result (in_rising down.inner) (pair_rows down.inner l k v) done c.in-Down.frame down.framed (g.R.Rows.content c.close.new.rows) c.close.new.desk c.close.result (c.close.ensures.made done.placed done.root done.piece frame) in
-    regrown C (g.R.Rows.content c.close.new.rows) s c.close.new.desk (tree_round down.framed (with_pair down.inner l k v)) (with_pair z l k v) c.close.result (λ x. in_rising down.inner x + in_frame down.framed x) (in_rising z) (pair_rows down.inner l k v + frame_rows c.in-Down.frame) (pair_rows z l k v) all (down.is v) down.given (down.rows v)
+    let at = goal.at.returns-in-Down-clause-put g t c in
+    let d = down g t at.In-Down z in
+    let made = grown g t at.After-put_at-seam z d in
+    let all = closed_round _ _ _ _ _ _ (in_rising d.inner) _ made c.in-Down.frame d.framed _ _ _ (c.close.ensures.made made.placed made.root made.piece (framed g t at.After-put_at-seam z d)) in
+    regrown _ _ _ _ (tree_round d.framed (with_pair d.inner c.args.layer c.args.key.now c.args.value.now)) (with_pair z c.args.layer c.args.key.now c.args.value.now) _ (λ x. in_rising d.inner x + in_frame d.framed x) (in_rising z) (pair_rows d.inner c.args.layer c.args.key.now c.args.value.now + frame_rows c.in-Down.frame) (pair_rows z c.args.layer c.args.key.now c.args.value.now) all (d.is c.args.value.now) d.given (d.rows c.args.value.now)
+
+-- ---- the new entry goes between
+
+module _ (g : Over) (n : ℕ) (c : goal.In-Between g n) (z : RisingTree (g.R.Rows.content c.args.rows.now) c.args.desk.now c.args.link) where
+  between : PutsBetween (g.R.Rows.content c.args.rows.now) c.args.desk.now c.args.link z c.args.layer c.args.key.now c.in-Between.child c.in-Between.frame
+  between = subst (IsPutStep (g.R.Rows.content c.args.rows.now) c.args.desk.now c.args.link z c.args.layer c.args.key.now) c.in-Between.is (c.put_step.ensures.step c.args.desk.now z)
 
 pub put_level-requires-clause-gap : goal.put_level-requires-clause-gap
 put_level-requires-clause-gap g t c =
-    let C = g.R.Rows.content c.args.rows.now in
-    let s = c.args.desk.now in
-    let k = c.args.key.now in
-    let v = c.args.value.now in
-    let l = c.args.layer in
-    let same = ap g.R.Rows.content c.put_step.ensures.same in
-    let z = c.requires.tree.0 in
-    let mid : PutsBetween C s c.args.link z l k c.in-Between.child c.in-Between.frame = subst (IsPutStep C s c.args.link z l k) c.in-Between.is (c.put_step.ensures.step s z) in
-    subst (λ (x : Content). (y : ToSplit x s c.in-Between.child k) × Framed x s c.in-Between.frame (λ r. times r (used y.tree.placed)) × (split_rows k (tree_of One y.tree.placed) + with_rows c.in-Between.frame ≤ free_count s.lives)) (sym same) (mid.inner, mid.framed, omega (arith, c.requires.tree.1, mid.rows v))
+    let mid = between g t (goal.at.put_level-requires-clause-gap g t c).In-Between c.requires.tree.0 in
+    subst (λ (x : Content). (y : ToSplit x c.args.desk.now c.in-Between.child c.args.key.now) × Framed x c.args.desk.now c.in-Between.frame (λ r. times r (used y.tree.placed)) × (split_rows c.args.key.now (tree_of One y.tree.placed) + with_rows c.in-Between.frame ≤ free_count c.args.desk.now.lives)) (sym (ap g.R.Rows.content c.put_step.ensures.same)) (mid.inner, mid.framed, omega (arith, c.requires.tree.1, mid.rows c.args.value.now))
 
 pub put_level-requires-clause-low : goal.put_level-requires-clause-low
-put_level-requires-clause-low g t c =
-    let C = g.R.Rows.content c.args.rows.now in
-    let s = c.args.desk.now in
-    let k = c.args.key.now in
-    let v = c.args.value.now in
-    let l = c.args.layer in
-    let same = ap g.R.Rows.content c.put_step.ensures.same in
-    let z = c.requires.tree.0 in
-    let mid : PutsBetween C s c.args.link z l k c.in-Between.child c.in-Between.frame = subst (IsPutStep C s c.args.link z l k) c.in-Between.is (c.put_step.ensures.step s z) in
-    mid.low
+put_level-requires-clause-low g t c = (between g t (goal.at.put_level-requires-clause-low g t c).In-Between c.requires.tree.0).low
 
 pub returns-in-Between-clause-put : goal.returns-in-Between-clause-put
 returns-in-Between-clause-put g t c = λ z.
-    let C = g.R.Rows.content c.args.rows.now in
+    let mid = between g t (goal.at.returns-in-Between-clause-put g t c).In-Between z in
     let s = c.args.desk.now in
     let k = c.args.key.now in
     let v = c.args.value.now in
-    let l = c.args.layer in
-    let same = ap g.R.Rows.content c.put_step.ensures.same in
-    let mid : PutsBetween C s c.args.link z l k c.in-Between.child c.in-Between.frame = subst (IsPutStep C s c.args.link z l k) c.in-Between.is (c.put_step.ensures.step s z) in
     let n = tree_of One mid.inner.tree.placed in
-    let all = subst (λ (x : Content). (y : ToSplit x s c.in-Between.child k) (f : Framed x s c.in-Between.frame (λ r. times r (used y.tree.placed))) → Grown x (g.R.Rows.content c.put_level.new.rows) s c.put_level.new.desk (tree_with f k v (below k (tree_of One y.tree.placed)) (above k (tree_of One y.tree.placed))) c.put_level.result (λ r. times r (used y.tree.placed) + in_frame f r) (split_rows k (tree_of One y.tree.placed) + with_rows c.in-Between.frame)) same c.put_level.ensures.made mid.inner mid.framed in
-    regrown C (g.R.Rows.content c.put_level.new.rows) s c.put_level.new.desk (tree_with mid.framed k v (below k n) (above k n)) (with_pair z l k v) c.put_level.result (λ x. times x (used mid.inner.tree.placed) + in_frame mid.framed x) (in_rising z) (split_rows k n + with_rows c.in-Between.frame) (pair_rows z l k v) all (mid.is v) mid.given (mid.rows v)
+    let all = subst (λ (x : Content). (y : ToSplit x s c.in-Between.child k) (f : Framed x s c.in-Between.frame (λ r. times r (used y.tree.placed))) → Grown x (g.R.Rows.content c.put_level.new.rows) s c.put_level.new.desk (tree_with f k v (below k (tree_of One y.tree.placed)) (above k (tree_of One y.tree.placed))) c.put_level.result (λ r. times r (used y.tree.placed) + in_frame f r) (split_rows k (tree_of One y.tree.placed) + with_rows c.in-Between.frame)) (ap g.R.Rows.content c.put_step.ensures.same) c.put_level.ensures.made mid.inner mid.framed in
+    regrown _ _ _ _ (tree_with mid.framed k v (below k n) (above k n)) (with_pair z c.args.layer k v) _ (λ x. times x (used mid.inner.tree.placed) + in_frame mid.framed x) (in_rising z) (split_rows k n + with_rows c.in-Between.frame) (pair_rows z c.args.layer k v) all (mid.is v) mid.given (mid.rows v)
+
+-- ---- the entry is written anew
+
+module _ (g : Over) (n : ℕ) (c : goal.In-Anew g n) (z : RisingTree (g.R.Rows.content c.args.rows.now) c.args.desk.now c.args.link) where
+  anew : PutsAnew (g.R.Rows.content c.args.rows.now) c.args.desk.now c.args.link z c.args.layer c.args.key.now c.in-Anew.meeting
+  anew = subst (IsPutStep (g.R.Rows.content c.args.rows.now) c.args.desk.now c.args.link z c.args.layer c.args.key.now) c.in-Anew.is (c.put_step.ensures.step c.args.desk.now z)
 
 pub put_value-requires-clause-met : goal.put_value-requires-clause-met
 put_value-requires-clause-met g t c =
-    let C = g.R.Rows.content c.args.rows.now in
-    let s = c.args.desk.now in
-    let k = c.args.key.now in
-    let v = c.args.value.now in
-    let l = c.args.layer in
-    let same = ap g.R.Rows.content c.put_step.ensures.same in
-    let z = c.requires.tree.0 in
-    let m = c.in-Anew.meeting in
-    let here : PutsAnew C s c.args.link z l k m = subst (IsPutStep C s c.args.link z l k) c.in-Anew.is (c.put_step.ensures.step s z) in
-    subst (λ (x : Content). (y : TwoTrees x s m.left m.right) × Framed x s m.frame (in_both y)) (sym same) (here.inner, here.framed)
+    let here = anew g t (goal.at.put_value-requires-clause-met g t c).In-Anew c.requires.tree.0 in
+    subst (λ (x : Content). (y : TwoTrees x c.args.desk.now c.in-Anew.meeting.left c.in-Anew.meeting.right) × Framed x c.args.desk.now c.in-Anew.meeting.frame (in_both y)) (sym (ap g.R.Rows.content c.put_step.ensures.same)) (here.inner, here.framed)
 
 pub put_value-requires-clause-room : goal.put_value-requires-clause-room
-put_value-requires-clause-room g t c =
-    let C = g.R.Rows.content c.args.rows.now in
-    let s = c.args.desk.now in
-    let k = c.args.key.now in
-    let v = c.args.value.now in
-    let l = c.args.layer in
-    let same = ap g.R.Rows.content c.put_step.ensures.same in
-    let z = c.requires.tree.0 in
-    let m = c.in-Anew.meeting in
-    let here : PutsAnew C s c.args.link z l k m = subst (IsPutStep C s c.args.link z l k) c.in-Anew.is (c.put_step.ensures.step s z) in
-    omega (arith, c.requires.tree.1, here.rows v)
+put_value-requires-clause-room g t c = omega (arith, c.requires.tree.1, (anew g t (goal.at.put_value-requires-clause-room g t c).In-Anew c.requires.tree.0).rows c.args.value.now)
 
 pub put_value-requires-clause-low : goal.put_value-requires-clause-low
-put_value-requires-clause-low g t c =
-    let C = g.R.Rows.content c.args.rows.now in
-    let s = c.args.desk.now in
-    let k = c.args.key.now in
-    let v = c.args.value.now in
-    let l = c.args.layer in
-    let same = ap g.R.Rows.content c.put_step.ensures.same in
-    let z = c.requires.tree.0 in
-    let m = c.in-Anew.meeting in
-    let here : PutsAnew C s c.args.link z l k m = subst (IsPutStep C s c.args.link z l k) c.in-Anew.is (c.put_step.ensures.step s z) in
-    here.low
+put_value-requires-clause-low g t c = (anew g t (goal.at.put_value-requires-clause-low g t c).In-Anew c.requires.tree.0).low
 
 pub returns-in-Anew-clause-put : goal.returns-in-Anew-clause-put
 returns-in-Anew-clause-put g t c = λ z.
-    let C = g.R.Rows.content c.args.rows.now in
+    let here = anew g t (goal.at.returns-in-Anew-clause-put g t c).In-Anew z in
     let s = c.args.desk.now in
     let k = c.args.key.now in
     let v = c.args.value.now in
-    let l = c.args.layer in
-    let same = ap g.R.Rows.content c.put_step.ensures.same in
     let m = c.in-Anew.meeting in
-    let here : PutsAnew C s c.args.link z l k m = subst (IsPutStep C s c.args.link z l k) c.in-Anew.is (c.put_step.ensures.step s z) in
-    let all = subst (λ (x : Content). (y : TwoTrees x s m.left m.right) (f : Framed x s m.frame (in_both y)) → Grown x (g.R.Rows.content c.put_value.new.rows) s c.put_value.new.desk (tree_with f k v (tree_of One y.a) (tree_of One y.b)) c.put_value.result (λ r. in_both y r + in_frame f r) (with_rows m.frame)) same (rw c.key.ensures.key at c.put_value.ensures.made) here.inner here.framed in
-    regrown C (g.R.Rows.content c.put_value.new.rows) s c.put_value.new.desk (tree_with here.framed k v (tree_of One here.inner.a) (tree_of One here.inner.b)) (with_pair z l k v) c.put_value.result (λ x. in_both here.inner x + in_frame here.framed x) (in_rising z) (with_rows m.frame) (pair_rows z l k v) all (here.is v) here.given (here.rows v)
+    let all = subst (λ (x : Content). (y : TwoTrees x s m.left m.right) (f : Framed x s m.frame (in_both y)) → Grown x (g.R.Rows.content c.put_value.new.rows) s c.put_value.new.desk (tree_with f k v (tree_of One y.a) (tree_of One y.b)) c.put_value.result (λ r. in_both y r + in_frame f r) (with_rows m.frame)) (ap g.R.Rows.content c.put_step.ensures.same) (rw c.key.ensures.key at c.put_value.ensures.made) here.inner here.framed in
+    regrown _ _ _ _ (tree_with here.framed k v (tree_of One here.inner.a) (tree_of One here.inner.b)) (with_pair z c.args.layer k v) _ (λ x. in_both here.inner x + in_frame here.framed x) (in_rising z) (with_rows m.frame) (pair_rows z c.args.layer k v) all (here.is v) here.given (here.rows v)
