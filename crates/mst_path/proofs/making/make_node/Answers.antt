@@ -1,5 +1,4 @@
-use Rattle.std.proofs.Common.{◌≡◌, ◌≤◌, ◌+◌, ◌∷◌, [], ℕ, length, sym, ◌∙◌, subst, arith}
-use Rattle.mst_arena.specs.Lives.{free_count}
+use Rattle.std.proofs.Common.{◌≡◌, ◌∷◌, [], length, sym, ◌∙◌, subst, arith}
 use Rattle.mst_path.specs.Takes.{FreeIsBlank}
 use Rattle.mst_path.specs.Writing.{ahead}
 use Rattle.mst_path.specs.Copying.{Copied}
