@@ -34,7 +34,7 @@ regrown c c1 s s1 t u at given other n m g same all count = record {
   counted = omega (arith, g.counted, count);
 }
 
-module _ (c c1 : Content) (s s1 : State) (u : Tree) (at : Root) (given : ℕ → ℕ) (n : ℕ) (g : Grown c c1 s s1 u at given n) (frame : Frame) (f : Framed c s frame given) where
+module _ {c c1 : Content} {s s1 : State} {u : Tree} {at : Root} {given : ℕ → ℕ} {n : ℕ} (g : Grown c c1 s s1 u at given n) {frame : Frame} (f : Framed c s frame given) where
   abbrev pub frame_after : Framed c1 s1 frame (λ x. times x (used g.placed))
   frame_after = framed_after c c1 s s1 u at given n g frame f
 
@@ -44,8 +44,8 @@ module _ (c c1 : Content) (s s1 : State) (u : Tree) (at : Root) (given : ℕ →
   pub few_after : length s.lives ≤ 65535 → length s1.lives ≤ 65535
   few_after few = omega (arith, few, g.moves.rows)
 
-  pub closed_round : (c2 : Content) (s2 : State) (root : Root) → Grown c1 c2 s1 s2 (tree_round frame_after (tree_of One g.placed)) root (λ x. times x (used g.placed) + in_frame frame_after x) (frame_rows frame) → Grown c c2 s s2 (tree_round f u) root (λ x. given x + in_frame f x) (n + frame_rows frame)
-  closed_round c2 s2 root h =
+  pub closed_round : {c2 : Content} {s2 : State} {root : Root} → Grown c1 c2 s1 s2 (tree_round frame_after (tree_of One g.placed)) root (λ x. times x (used g.placed) + in_frame frame_after x) (frame_rows frame) → Grown c c2 s s2 (tree_round f u) root (λ x. given x + in_frame f x) (n + frame_rows frame)
+  closed_round {c2 = c2} {s2 = s2} {root = root} h =
       let all = grown_round c c1 s s1 u at given n g frame f c2 s2 (tree_round frame_after (tree_of One g.placed)) root (frame_rows frame) h in
       regrown c c2 s s2 (tree_round f (tree_of One g.placed)) (tree_round f u) root (λ x. given x + in_frame f x) (λ x. given x + in_frame f x) (n + frame_rows frame) (n + frame_rows frame) all (sym (ap (tree_round f) g.is)) (λ x. refl) refl
 

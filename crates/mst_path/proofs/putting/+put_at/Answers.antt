@@ -55,7 +55,7 @@ module _ (g : Over) (n : ℕ) (c : goal.After-put_at-seam g n) (z : RisingTree (
   grown = subst (λ (x : Content). (y : RisingTree x c.args.desk.now c.in-Down.child) → Grown x (g.R.Rows.content c.put_at-seam.new.rows) c.args.desk.now c.put_at-seam.new.desk (with_pair y c.args.layer c.args.key.now c.args.value.now) c.put_at-seam.result (in_rising y) (pair_rows y c.args.layer c.args.key.now c.args.value.now)) (ap g.R.Rows.content c.put_step.ensures.same) c.put_at-seam.ensures.put d.inner
 
   abbrev framed : Framed (g.R.Rows.content c.put_at-seam.new.rows) c.put_at-seam.new.desk c.in-Down.frame (λ x. times x (used grown.placed))
-  framed = frame_after _ _ _ _ _ _ (in_rising d.inner) _ grown c.in-Down.frame d.framed
+  framed = frame_after grown d.framed
 
 pub put_at-seam-requires : goal.put_at-seam-requires
 put_at-seam-requires g t c κs within =
@@ -100,13 +100,13 @@ pub close-requires-clause-room : goal.close-requires-clause-room
 close-requires-clause-room g t c =
     let at = goal.at.close-requires-clause-room g t c in
     let d = down g t at.In-Down c.requires.tree.0 in
-    room_after _ _ _ _ _ _ (in_rising d.inner) _ (grown g t at.After-put_at-seam c.requires.tree.0 d) c.in-Down.frame d.framed (omega (arith, c.requires.tree.1, d.rows c.args.value.now))
+    room_after (grown g t at.After-put_at-seam c.requires.tree.0 d) d.framed (omega (arith, c.requires.tree.1, d.rows c.args.value.now))
 
 pub close-requires-clause-few : goal.close-requires-clause-few
 close-requires-clause-few g t c =
     let at = goal.at.close-requires-clause-few g t c in
     let d = down g t at.In-Down c.requires.tree.0 in
-    few_after _ _ _ _ _ _ (in_rising d.inner) _ (grown g t at.After-put_at-seam c.requires.tree.0 d) c.in-Down.frame d.framed c.requires.few
+    few_after (grown g t at.After-put_at-seam c.requires.tree.0 d) d.framed c.requires.few
 
 pub close-requires-clause-free : goal.close-requires-clause-free
 close-requires-clause-free g t c =
@@ -119,7 +119,7 @@ returns-in-Down-clause-put g t c = λ z.
     let at = goal.at.returns-in-Down-clause-put g t c in
     let d = down g t at.In-Down z in
     let made = grown g t at.After-put_at-seam z d in
-    let all = closed_round _ _ _ _ _ _ (in_rising d.inner) _ made c.in-Down.frame d.framed _ _ _ (c.close.ensures.made made.placed made.root made.piece (framed g t at.After-put_at-seam z d)) in
+    let all = closed_round made d.framed (c.close.ensures.made made.placed made.root made.piece (framed g t at.After-put_at-seam z d)) in
     regrown _ _ _ _ (tree_round d.framed (with_pair d.inner c.args.layer c.args.key.now c.args.value.now)) (with_pair z c.args.layer c.args.key.now c.args.value.now) _ (λ x. in_rising d.inner x + in_frame d.framed x) (in_rising z) (pair_rows d.inner c.args.layer c.args.key.now c.args.value.now + frame_rows c.in-Down.frame) (pair_rows z c.args.layer c.args.key.now c.args.value.now) all (d.is c.args.value.now) d.given (d.rows c.args.value.now)
 
 -- ---- the new entry goes between

@@ -46,7 +46,7 @@ close-requires-clause-frame g t c =
     let k = c.args.key.now in
     let down : StepsDown (g.R.Rows.content c.args.rows.now) c.args.desk.now c.args.link z k c.in-Down.child c.in-Down.frame = subst (IsStep (g.R.Rows.content c.args.rows.now) c.args.desk.now c.args.link z k) c.in-Down.is (c.top_step.ensures.step c.args.desk.now z) in
     let done = subst (λ (x : Content). (y : SearchTree x c.args.desk.now c.in-Down.child) → Grown x (g.R.Rows.content c.remove_at-seam.new.rows) c.args.desk.now c.remove_at-seam.new.desk (without y k) c.remove_at-seam.result (in_tree y) (without_rows y k)) (ap g.R.Rows.content c.top_step.ensures.same) c.remove_at-seam.ensures.removed down.inner in
-    (done.placed, done.root, done.piece, frame_after (g.R.Rows.content c.args.rows.now) (g.R.Rows.content c.remove_at-seam.new.rows) c.args.desk.now c.remove_at-seam.new.desk (without down.inner k) c.remove_at-seam.result (in_tree down.inner) (without_rows down.inner k) done c.in-Down.frame down.framed)
+    (done.placed, done.root, done.piece, frame_after done down.framed)
 
 pub close-requires-clause-low : goal.close-requires-clause-low
 close-requires-clause-low g t c =
@@ -61,7 +61,7 @@ close-requires-clause-room g t c =
     let k = c.args.key.now in
     let down : StepsDown (g.R.Rows.content c.args.rows.now) c.args.desk.now c.args.link z k c.in-Down.child c.in-Down.frame = subst (IsStep (g.R.Rows.content c.args.rows.now) c.args.desk.now c.args.link z k) c.in-Down.is (c.top_step.ensures.step c.args.desk.now z) in
     let done = subst (λ (x : Content). (y : SearchTree x c.args.desk.now c.in-Down.child) → Grown x (g.R.Rows.content c.remove_at-seam.new.rows) c.args.desk.now c.remove_at-seam.new.desk (without y k) c.remove_at-seam.result (in_tree y) (without_rows y k)) (ap g.R.Rows.content c.top_step.ensures.same) c.remove_at-seam.ensures.removed down.inner in
-    room_after (g.R.Rows.content c.args.rows.now) (g.R.Rows.content c.remove_at-seam.new.rows) c.args.desk.now c.remove_at-seam.new.desk (without down.inner k) c.remove_at-seam.result (in_tree down.inner) (without_rows down.inner k) done c.in-Down.frame down.framed (omega (arith, c.requires.tree.1, down.rows))
+    room_after done down.framed (omega (arith, c.requires.tree.1, down.rows))
 
 pub close-requires-clause-few : goal.close-requires-clause-few
 close-requires-clause-few g t c =
@@ -69,7 +69,7 @@ close-requires-clause-few g t c =
     let k = c.args.key.now in
     let down : StepsDown (g.R.Rows.content c.args.rows.now) c.args.desk.now c.args.link z k c.in-Down.child c.in-Down.frame = subst (IsStep (g.R.Rows.content c.args.rows.now) c.args.desk.now c.args.link z k) c.in-Down.is (c.top_step.ensures.step c.args.desk.now z) in
     let done = subst (λ (x : Content). (y : SearchTree x c.args.desk.now c.in-Down.child) → Grown x (g.R.Rows.content c.remove_at-seam.new.rows) c.args.desk.now c.remove_at-seam.new.desk (without y k) c.remove_at-seam.result (in_tree y) (without_rows y k)) (ap g.R.Rows.content c.top_step.ensures.same) c.remove_at-seam.ensures.removed down.inner in
-    few_after (g.R.Rows.content c.args.rows.now) (g.R.Rows.content c.remove_at-seam.new.rows) c.args.desk.now c.remove_at-seam.new.desk (without down.inner k) c.remove_at-seam.result (in_tree down.inner) (without_rows down.inner k) done c.in-Down.frame down.framed c.requires.few
+    few_after done down.framed c.requires.few
 
 pub close-requires-clause-free : goal.close-requires-clause-free
 close-requires-clause-free g t c =
@@ -85,8 +85,8 @@ returns-in-Down-clause-removed g t c = λ z.
     let k = c.args.key.now in
     let down : StepsDown (g.R.Rows.content c.args.rows.now) c.args.desk.now c.args.link z k c.in-Down.child c.in-Down.frame = subst (IsStep (g.R.Rows.content c.args.rows.now) c.args.desk.now c.args.link z k) c.in-Down.is (c.top_step.ensures.step c.args.desk.now z) in
     let done = subst (λ (x : Content). (y : SearchTree x c.args.desk.now c.in-Down.child) → Grown x (g.R.Rows.content c.remove_at-seam.new.rows) c.args.desk.now c.remove_at-seam.new.desk (without y k) c.remove_at-seam.result (in_tree y) (without_rows y k)) (ap g.R.Rows.content c.top_step.ensures.same) c.remove_at-seam.ensures.removed down.inner in
-    let frame = frame_after (g.R.Rows.content c.args.rows.now) (g.R.Rows.content c.remove_at-seam.new.rows) c.args.desk.now c.remove_at-seam.new.desk (without down.inner k) c.remove_at-seam.result (in_tree down.inner) (without_rows down.inner k) done c.in-Down.frame down.framed in
-    let all = closed_round (g.R.Rows.content c.args.rows.now) (g.R.Rows.content c.remove_at-seam.new.rows) c.args.desk.now c.remove_at-seam.new.desk (without down.inner k) c.remove_at-seam.result (in_tree down.inner) (without_rows down.inner k) done c.in-Down.frame down.framed (g.R.Rows.content c.close.new.rows) c.close.new.desk c.close.result (c.close.ensures.made done.placed done.root done.piece frame) in
+    let frame = frame_after done down.framed in
+    let all = closed_round done down.framed (c.close.ensures.made done.placed done.root done.piece frame) in
     regrown (g.R.Rows.content c.args.rows.now) (g.R.Rows.content c.close.new.rows) c.args.desk.now c.close.new.desk (tree_round down.framed (without down.inner k)) (without z k) c.close.result (λ x. in_tree down.inner x + in_frame down.framed x) (in_tree z) (without_rows down.inner k + frame_rows c.in-Down.frame) (without_rows z k) all down.is down.given down.rows
 
 pub join_round-requires-clause-met : goal.join_round-requires-clause-met

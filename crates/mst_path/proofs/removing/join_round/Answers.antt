@@ -10,11 +10,9 @@ pub close-requires-clause-frame : goal.close-requires-clause-frame
 close-requires-clause-frame g c =
     let z = c.requires.met.0 in
     let done = c.join-seam.ensures.joined z in
-    (done.placed, done.root, done.piece, frame_after (g.R.Rows.content c.args.rows.now) (g.R.Rows.content c.join-seam.new.rows) c.args.desk.now c.join-seam.new.desk (both_joined z) c.join-seam.result (in_both z) (both_rows z) done c.args.meeting.now.frame c.requires.met.1)
+    (done.placed, done.root, done.piece, frame_after done c.requires.met.1)
 
 pub returns-clause-made : goal.returns-clause-made
 returns-clause-made g c = λ z f.
     let done = c.join-seam.ensures.joined z in
-    let frame = frame_after (g.R.Rows.content c.args.rows.now) (g.R.Rows.content c.join-seam.new.rows) c.args.desk.now c.join-seam.new.desk (both_joined z) c.join-seam.result (in_both z) (both_rows z) done c.args.meeting.now.frame f in
-    closed_round (g.R.Rows.content c.args.rows.now) (g.R.Rows.content c.join-seam.new.rows) c.args.desk.now c.join-seam.new.desk (both_joined z) c.join-seam.result (in_both z) (both_rows z) done c.args.meeting.now.frame f
-    (g.R.Rows.content c.close.new.rows) c.close.new.desk c.close.result (c.close.ensures.made done.placed done.root done.piece frame)
+    closed_round done f (c.close.ensures.made done.placed done.root done.piece (frame_after done f))
