@@ -1,5 +1,4 @@
 use Rattle.std.proofs.Common.{arith}
-use Rattle.mst_path.specs.Joining.{in_both, both_joined, both_rows}
 use Rattle.mst_path.proofs.lemmas.steps.Rounds.{frame_after, closed_round}
 use Rattle.mst_path.proofs.removing.join_round.Goals as goal
 
