@@ -1,17 +1,17 @@
 //! A map in rows beside the plain list of its pairs.
+use crate::pairs::{key_of, value_of};
 use crate::standing::StandingMap;
 use mst_key::{Key, Value};
 use mst_node::root_of;
 use mst_path::NoRoom;
 use std::alloc::Global;
 use std::process::Abort;
-use std::test::Fail;
 
 /// The value of a key in a list.
-fn value_in(pairs: &[(Key, Value)], key: &Key) -> Option<Value> {
+fn value_in<'a>(pairs: &'a [(Key, Value)], key: &Key) -> Option<&'a Value> {
     for pair in pairs {
         if pair.0 == *key {
-            return Some(pair.1.copy());
+            return Some(&pair.1);
         }
     }
     None
@@ -19,26 +19,29 @@ fn value_in(pairs: &[(Key, Value)], key: &Key) -> Option<Value> {
 
 /// The list in which a key has this value, or none.
 fn changed(
+    rt: &impl Abort,
     alloc: Global,
     pairs: &[(Key, Value)],
     key: &Key,
     value: Option<&Value>,
-) -> Result<Vec<(Key, Value)>, Fail> {
+) -> Vec<(Key, Value)> {
     let mut new = Vec::new(alloc);
     for pair in pairs {
         if pair.0 < *key {
-            new.push((pair.0.copy(), pair.1.copy()))?;
+            new.push((pair.0.copy(), pair.1.copy()))
+                .expect(rt, "memory");
         }
     }
     if let Some(value) = value {
-        new.push((key.copy(), value.copy()))?;
+        new.push((key.copy(), value.copy())).expect(rt, "memory");
     }
     for pair in pairs {
         if pair.0 > *key {
-            new.push((pair.0.copy(), pair.1.copy()))?;
+            new.push((pair.0.copy(), pair.1.copy()))
+                .expect(rt, "memory");
         }
     }
-    Ok(new)
+    new
 }
 
 /// A map in rows, and the list that it is to stand for.
@@ -50,14 +53,14 @@ pub struct Both {
 
 impl Both {
     /// The map of these pairs in so many rows.
-    pub fn new(
-        rt: &impl Abort,
-        alloc: Global,
-        list: Vec<(Key, Value)>,
-        rows: u32,
-    ) -> Result<Both, Fail> {
-        let map = StandingMap::new(rt, alloc, list.as_slice(), rows)?;
-        Ok(Both { map, list })
+    pub fn new(rt: &impl Abort, alloc: Global, list: Vec<(Key, Value)>, rows: u32) -> Both {
+        let map = StandingMap::new(rt, alloc, list.as_slice(), rows);
+        Both { map, list }
+    }
+
+    /// The map of no pair in so many rows.
+    pub fn empty(rt: &impl Abort, alloc: Global, rows: u32) -> Both {
+        Both::new(rt, alloc, Vec::new(alloc), rows)
     }
 
     /// How many rows are free.
@@ -78,22 +81,43 @@ impl Both {
         alloc: Global,
         key: &Key,
         value: Option<&Value>,
-    ) -> Result<bool, Fail> {
+    ) -> bool {
         let free = self.map.free();
         let done = match value {
-            Some(value) => self.map.put(key, value)?,
-            None => self.map.remove(key)?,
+            Some(value) => self.map.put(key, value),
+            None => self.map.remove(key),
         };
-        let fits = done.is_ok();
-        match done {
+        let fits = match done.expect(rt, "a version to come") {
             Ok(old) => {
-                assert!(rt; old == value_in(self.list.as_slice(), key));
-                self.list = changed(alloc, self.list.as_slice(), key, value)?;
+                assert!(rt; old.as_ref() == value_in(self.list.as_slice(), key));
+                self.list = changed(rt, alloc, self.list.as_slice(), key, value);
+                true
             }
-            Err(NoRoom) => assert!(rt; self.map.free() == free, "no row was taken"),
-        }
+            Err(NoRoom) => {
+                assert!(rt; self.map.free() == free, "no row was taken");
+                false
+            }
+        };
         self.agrees(rt);
-        Ok(fits)
+        fits
+    }
+
+    /// The same for a key and a value of these texts.
+    pub fn change_text(
+        &mut self,
+        rt: &impl Abort,
+        alloc: Global,
+        key: &str,
+        value: Option<&str>,
+    ) -> bool {
+        let key = key_of(rt, key.as_bytes());
+        match value {
+            Some(text) => {
+                let value = value_of(rt, text.as_bytes());
+                self.change(rt, alloc, &key, Some(&value))
+            }
+            None => self.change(rt, alloc, &key, None),
+        }
     }
 
     /// Compares the root digest, and the value of each key.
@@ -101,22 +125,17 @@ impl Both {
         assert!(rt; self.list.len() <= 65_535);
         assert!(rt; self.map.root() == root_of(self.list.as_slice()));
         for pair in self.list.as_slice() {
-            assert!(rt; self.map.get(&pair.0) == Some(pair.1.copy()));
+            assert!(rt; self.map.has(&pair.0, Some(&pair.1)));
         }
     }
 
     /// Compares the pairs in their order, from the least key on.
     pub fn agrees_in_order(&mut self, rt: &impl Abort) {
-        let mut found = self.map.next(None);
+        let mut last = None;
         for pair in self.list.as_slice() {
-            match found {
-                Some(next) => {
-                    assert!(rt; next == *pair);
-                    found = self.map.next(Some(&next.0));
-                }
-                None => assert!(rt; false, "a pair is missing"),
-            }
+            assert!(rt; self.map.has_next(last, Some(pair)));
+            last = Some(&pair.0);
         }
-        assert!(rt; found.is_none(), "a pair too many");
+        assert!(rt; self.map.has_next(last, None), "a pair too many");
     }
 }

@@ -1,67 +1,67 @@
 //! Puts and removes over rows, each compared with the plain list.
 use crate::both::Both;
-use crate::pairs::{pair, three_pairs};
+use crate::pairs::{key_of, next_random, numbered_key, pair, three_pairs, value_of};
 use mst_key::{Key, Value};
 use std::alloc::Global;
 use std::process::Abort;
-use std::test::Fail;
 
 /// The key 1 and the key a, which share a node.
-fn two_pairs(alloc: Global) -> Result<Vec<(Key, Value)>, Fail> {
+fn two_pairs(rt: &impl Abort, alloc: Global) -> Vec<(Key, Value)> {
     let mut pairs = Vec::new(alloc);
-    pairs.push(pair(b"1", b"x")?)?;
-    pairs.push(pair(b"a", b"z")?)?;
-    Ok(pairs)
+    pairs.push(pair(rt, b"1", b"x")).expect(rt, "memory");
+    pairs.push(pair(rt, b"a", b"z")).expect(rt, "memory");
+    pairs
+}
+
+/// Gives the key 39 this value, or none, in the map of these pairs, where so many rows of all are
+/// free. It answers whether there was room for that, and how many rows are free then.
+fn changed_in(
+    rt: &impl Abort,
+    alloc: Global,
+    pairs: Vec<(Key, Value)>,
+    (rows, free): (u32, u32),
+    value: Option<&str>,
+) -> (bool, u32) {
+    let mut both = Both::new(rt, alloc, pairs, rows);
+    assert!(rt; both.free() == free);
+    let fits = both.change_text(rt, alloc, "39", value);
+    both.agrees_in_order(rt);
+    (fits, both.free())
 }
 
 #[test]
-fn a_put_takes_exactly_six_rows(rt: HostRuntime) -> Result<(), Fail> {
-    let (key, value) = pair(b"39", b"y")?;
+fn a_put_takes_exactly_six_rows(rt: HostRuntime) {
+    let alloc = rt.alloc();
     for free in 0..7 {
-        let mut both = Both::new(&rt, rt.alloc(), two_pairs(rt.alloc())?, 3 + free)?;
-        assert!(rt; both.free() == free);
-        let fits = both.change(&rt, rt.alloc(), &key, Some(&value))?;
-        assert!(rt; fits == (free == 6));
+        let pairs = two_pairs(&rt, alloc);
         // the three rows that two pairs took are free again
-        assert!(rt; both.free() == (if fits { 3 } else { free }));
-        both.agrees_in_order(&rt);
+        let wanted = if free == 6 { (true, 3) } else { (false, free) };
+        assert!(rt; changed_in(&rt, alloc, pairs, (3 + free, free), Some("y")) == wanted);
     }
-    Ok(())
 }
 
 #[test]
-fn a_remove_takes_exactly_three_rows(rt: HostRuntime) -> Result<(), Fail> {
-    let key = Key::new(b"39")?;
+fn a_remove_takes_exactly_three_rows(rt: HostRuntime) {
+    let alloc = rt.alloc();
     for free in 0..4 {
-        let mut both = Both::new(&rt, rt.alloc(), three_pairs(rt.alloc())?, 6 + free)?;
-        assert!(rt; both.free() == free);
-        let fits = both.change(&rt, rt.alloc(), &key, None)?;
-        assert!(rt; fits == (free == 3));
-        assert!(rt; both.free() == (if fits { 6 } else { free }));
-        both.agrees_in_order(&rt);
+        let pairs = three_pairs(&rt, alloc);
+        let wanted = if free == 3 { (true, 6) } else { (false, free) };
+        assert!(rt; changed_in(&rt, alloc, pairs, (6 + free, free), None) == wanted);
     }
-    Ok(())
 }
 
 #[test]
-fn what_changes_nothing_takes_no_row(rt: HostRuntime) -> Result<(), Fail> {
-    let mut both = Both::new(&rt, rt.alloc(), two_pairs(rt.alloc())?, 3)?;
-    let (key, value) = pair(b"a", b"z")?;
-    assert!(rt;
-        both.change(&rt, rt.alloc(), &key, Some(&value))?,
-        "the value that it has"
-    );
-    assert!(rt;
-        both.change(&rt, rt.alloc(), &Key::new(b"39")?, None)?,
-        "a key that is not there"
-    );
-    let (key, value) = pair(b"a", b"y")?;
-    assert!(rt;
-        !both.change(&rt, rt.alloc(), &key, Some(&value))?,
-        "another value"
-    );
+fn what_changes_nothing_takes_no_row(rt: HostRuntime) {
+    let alloc = rt.alloc();
+    let mut both = Both::new(&rt, alloc, two_pairs(&rt, alloc), 3);
+    for (key, value, fits, what) in [
+        ("a", Some("z"), true, "the value that it has"),
+        ("39", None, true, "a key that is not there"),
+        ("a", Some("y"), false, "another value"),
+    ] {
+        assert!(rt; both.change_text(&rt, alloc, key, value) == fits, "{what}");
+    }
     assert!(rt; both.free() == 0);
-    Ok(())
 }
 
 /// Twelve numbers whose keys are of each layer from 0 to 4.
@@ -88,74 +88,63 @@ const LAYERED: [[u32; 12]; 5] = [
     ],
 ];
 
-/// The key of a number: its three low bytes.
-fn key_of(number: u32) -> Result<Key, Fail> {
-    let bytes = number.to_be_bytes();
-    Ok(Key::new(&bytes[1..])?)
-}
-
 /// All these keys, layer by layer from 0 on.
-fn layered_keys(rt: &impl Abort, alloc: Global) -> Result<Vec<Key>, Fail> {
+fn layered_keys(rt: &impl Abort, alloc: Global) -> Vec<Key> {
     let mut keys = Vec::new(alloc);
     for (layer, numbers) in LAYERED.iter().enumerate() {
         for number in numbers {
-            let key = key_of(*number)?;
+            let key = numbered_key(rt, *number);
             assert!(rt; usize::from(key.layer()) == layer);
-            keys.push(key)?;
+            keys.push(key).expect(rt, "memory");
         }
     }
-    Ok(keys)
+    keys
 }
 
-/// The next of a row of random numbers.
-fn next_random(state: u64) -> u64 {
-    state
-        .wrapping_mul(6_364_136_223_846_793_005)
-        .wrapping_add(1_442_695_040_888_963_407)
-}
-
-/// Random puts, in three of five steps, and removes. It answers how many were refused.
-fn random_changes(
+/// Puts to one of the keys, in three of five cases, or removes it, as the random number says. It
+/// answers whether there was room for that.
+fn random_change(
     rt: &impl Abort,
     alloc: Global,
     both: &mut Both,
-    steps: u32,
-    seed: u64,
-) -> Result<u32, Fail> {
-    let keys = layered_keys(rt, alloc)?;
+    keys: &[Key],
+    random: u32,
+) -> bool {
+    let key = keys
+        .get((random >> 8) as usize % 60)
+        .expect(rt, "sixty keys");
+    let bytes = random.to_be_bytes();
+    let value = value_of(rt, &bytes[..(random >> 24) as usize % 5]);
+    let put = random % 5 < 3;
+    both.change(rt, alloc, key, if put { Some(&value) } else { None })
+}
+
+/// Random changes of a map in so many rows, which begins with no pair. It answers how many were
+/// refused.
+fn random_changes(rt: &impl Abort, alloc: Global, rows: u32, seed: u64) -> u32 {
+    let keys = layered_keys(rt, alloc);
+    let mut both = Both::empty(rt, alloc, rows);
     let mut state = seed;
     let mut refused = 0u32;
-    for _ in 0..steps {
+    for _ in 0..600u32 {
         state = next_random(state);
-        let random = (state >> 32) as u32;
-        let bytes = random.to_be_bytes();
-        let value = Value::new(&bytes[..(random >> 24) as usize % 5])?;
-        let Some(key) = keys.get((random >> 8) as usize % 60) else {
-            return Err("no such key".into());
-        };
-        let put = random % 5 < 3;
-        if !both.change(rt, alloc, key, if put { Some(&value) } else { None })? {
+        if !random_change(rt, alloc, &mut both, keys.as_slice(), (state >> 32) as u32) {
             refused = refused.wrapping_add(1);
         }
     }
     both.agrees_in_order(rt);
-    Ok(refused)
+    refused
 }
 
 #[test]
-fn random_changes_in_many_rows(rt: HostRuntime) -> Result<(), Fail> {
-    let mut both = Both::new(&rt, rt.alloc(), Vec::new(rt.alloc()), 300)?;
-    let refused = random_changes(&rt, rt.alloc(), &mut both, 600, 1)?;
-    assert!(rt; refused == 0);
-    Ok(())
+fn random_changes_in_many_rows(rt: HostRuntime) {
+    assert!(rt; random_changes(&rt, rt.alloc(), 300, 1) == 0);
 }
 
 #[test]
-fn random_changes_in_few_rows(rt: HostRuntime) -> Result<(), Fail> {
-    let mut both = Both::new(&rt, rt.alloc(), Vec::new(rt.alloc()), 70)?;
-    let refused = random_changes(&rt, rt.alloc(), &mut both, 600, 2)?;
+fn random_changes_in_few_rows(rt: HostRuntime) {
+    let refused = random_changes(&rt, rt.alloc(), 70, 2);
     assert!(rt; 0 < refused && refused < 300, "{refused}");
-    Ok(())
 }
 
 /// Gives each of these keys this value, or none, for which there is room each time.
@@ -165,88 +154,68 @@ fn change_each(
     both: &mut Both,
     keys: &[Key],
     value: Option<&Value>,
-) -> Result<(), Fail> {
+) {
     for key in keys {
-        assert!(rt; both.change(rt, alloc, key, value)?);
+        assert!(rt; both.change(rt, alloc, key, value));
     }
-    Ok(())
 }
 
 #[test]
-fn the_greatest_layer_goes_first(rt: HostRuntime) -> Result<(), Fail> {
+fn the_greatest_layer_goes_first(rt: HostRuntime) {
     let alloc = rt.alloc();
-    let mut keys = layered_keys(&rt, alloc)?;
-    let value = Value::new(b"value")?;
-    let mut both = Both::new(&rt, alloc, Vec::new(alloc), 300)?;
-    change_each(&rt, alloc, &mut both, keys.as_slice(), Some(&value))?;
+    let mut keys = layered_keys(&rt, alloc);
+    let mut both = Both::empty(&rt, alloc, 300);
+    let value = value_of(&rt, b"value");
+    change_each(&rt, alloc, &mut both, keys.as_slice(), Some(&value));
     keys.reverse();
-    change_each(&rt, alloc, &mut both, keys.as_slice(), None)?;
+    change_each(&rt, alloc, &mut both, keys.as_slice(), None);
     assert!(rt; both.len() == 0);
     assert!(rt; both.free() == 300, "no row is left behind");
-    Ok(())
 }
 
 /// Eight keys of 32 bytes.
-fn longest_keys(alloc: Global) -> Result<Vec<Key>, Fail> {
+fn longest_keys(rt: &impl Abort, alloc: Global) -> Vec<Key> {
     let mut keys = Vec::new(alloc);
     for i in 0..8u8 {
-        keys.push(Key::new(&[i; 32])?)?;
+        keys.push(key_of(rt, &[i; 32])).expect(rt, "memory");
     }
-    Ok(keys)
+    keys
 }
 
 #[test]
-fn longest_keys_and_values(rt: HostRuntime) -> Result<(), Fail> {
+fn longest_keys_and_values(rt: HostRuntime) {
     let alloc = rt.alloc();
-    let keys = longest_keys(alloc)?;
-    let mut both = Both::new(&rt, alloc, Vec::new(alloc), 40)?;
+    let keys = longest_keys(&rt, alloc);
+    let mut both = Both::empty(&rt, alloc, 40);
     for round in 0..3u8 {
-        let value = Value::new(&[round; 64])?;
-        change_each(&rt, alloc, &mut both, keys.as_slice(), Some(&value))?;
+        let value = value_of(&rt, &[round; 64]);
+        change_each(&rt, alloc, &mut both, keys.as_slice(), Some(&value));
     }
-    change_each(&rt, alloc, &mut both, keys.as_slice(), None)?;
+    change_each(&rt, alloc, &mut both, keys.as_slice(), None);
     assert!(rt; both.free() == 40);
-    Ok(())
 }
 
 /// Puts twelve keys of one layer, after which a thirteenth does not fit, and removes them.
-fn fill_and_empty(
-    rt: &impl Abort,
-    alloc: Global,
-    both: &mut Both,
-    keys: &[Key],
-    value: &Value,
-) -> Result<(), Fail> {
-    for (i, key) in keys.iter().take(13).enumerate() {
-        assert!(rt;
-            both.change(rt, alloc, key, Some(value))? == (i < 12),
-            "key {i}"
-        );
-    }
+fn fill_and_empty(rt: &impl Abort, alloc: Global, both: &mut Both, keys: &[Key], value: &Value) {
+    let twelve = keys.get(..12).expect(rt, "twelve keys");
+    let thirteenth = keys.get(12).expect(rt, "one more");
+    change_each(rt, alloc, both, twelve, Some(value));
+    assert!(rt; !both.change(rt, alloc, thirteenth, Some(value)));
     both.agrees_in_order(rt);
-    for key in keys.iter().take(12) {
-        assert!(rt; both.change(rt, alloc, key, None)?);
-    }
+    change_each(rt, alloc, both, twelve, None);
     assert!(rt; both.len() == 0);
-    Ok(())
 }
 
 // the node of twelve entries is written beside that of eleven, and takes the last row; so does its
 // removal
 #[test]
-fn filled_and_emptied_ten_times(rt: HostRuntime) -> Result<(), Fail> {
+fn filled_and_emptied_ten_times(rt: HostRuntime) {
     let alloc = rt.alloc();
-    let keys = layered_keys(&rt, alloc)?;
-    let mut both = Both::new(&rt, alloc, Vec::new(alloc), 25)?;
+    let keys = layered_keys(&rt, alloc);
+    let mut both = Both::empty(&rt, alloc, 25);
     for round in 0..10u8 {
-        fill_and_empty(
-            &rt,
-            alloc,
-            &mut both,
-            keys.as_slice(),
-            &Value::new(&[round])?,
-        )?;
+        let value = value_of(&rt, &[round]);
+        fill_and_empty(&rt, alloc, &mut both, keys.as_slice(), &value);
         assert!(rt; both.free() == 25, "round {round}");
     }
-    Ok(())
 }

@@ -1,6 +1,10 @@
 //! Calls that take no memory, over a heap with no byte left: those of a desk, of plain rows, and
 //! those that plant, change and read a map in rows.
-use crate::pairs::{pair, three_pairs};
+ghost use Rattle.std.specs.Prelude.{◌≡◌, length, replicate};
+ghost use Rattle.mst_arena.specs.declared.life.Life.TheVariants.{Free};
+
+use crate::pairs::{heap_of, pair, three_pairs};
+use crate::rows::free_after;
 use crate::standing::StandingMap;
 use linked_list_allocator::LocalHeap;
 use mst_arena::{Desk, HeadLinks, PlainRows, Row, Rows};
@@ -8,18 +12,19 @@ use mst_key::{Key, Memory, Value};
 use mst_node::root_of;
 use std::alloc::{Allocator, Global};
 use std::process::Abort;
-use std::test::Fail;
 
 /// Takes what is left of the heap, in blocks of the least size.
-fn fill<'h>(alloc: Global, heap: &'h LocalHeap) -> Result<Vec<Vec<u8, &'h LocalHeap>>, Fail> {
+fn fill<'h>(rt: &impl Abort, alloc: Global, heap: &'h LocalHeap) -> Vec<Vec<u8, &'h LocalHeap>> {
     let mut blocks = Vec::new(alloc);
     for _ in 0..1024u32 {
-        match Vec::with_capacity(heap, 1) {
-            Ok(block) => blocks.push(block)?,
-            Err(_) => return Ok(blocks),
+        let Ok(block) = Vec::with_capacity(heap, 1) else {
+            return blocks;
+        };
+        if blocks.push(block).is_err() {
+            panic!(rt; "no memory")
         }
     }
-    Ok(blocks)
+    blocks
 }
 
 /// Whether the heap has no byte left.
@@ -38,14 +43,11 @@ fn borrows_a_row<A: Allocator>(desk: &mut Desk<A>) -> bool {
     }
 }
 
-#[test]
-fn a_desk_goes_on_over_a_full_heap(rt: HostRuntime) -> Result<(), Fail> {
-    let heap = LocalHeap::new(rt.alloc(), 2_048)?;
-    let Ok(mut desk) = Desk::new(&heap, 4, 3, 0) else {
-        panic!(rt; "an ample heap")
-    };
-    let blocks = fill(rt.alloc(), &heap)?;
-    assert!(rt; is_full(&heap) && !blocks.is_empty());
+/// Takes rows of a new desk, lets one die, and frees it.
+fn desk_goes_on(rt: &impl Abort, desk: &mut Desk<&LocalHeap>)
+    requires new { desk.old
+        ≡ record { current = 0; versions = replicate 3 0; lives = replicate 4 Free } }
+{
     let (Some(a), Some(_)) = (desk.take(), desk.take()) else {
         panic!(rt; "four rows")
     };
@@ -53,24 +55,30 @@ fn a_desk_goes_on_over_a_full_heap(rt: HostRuntime) -> Result<(), Fail> {
     assert!(rt; desk.version_of(1) == 1);
     desk.kill(a);
     desk.advance(2);
-    desk.sweep(&[2, 1]);
-    assert!(rt; desk.free() == 2);
-    desk.sweep(&[2]);
-    assert!(rt; desk.free() == 3);
-    assert!(rt; desk.current() == (2, 2) && desk.next_version() == Ok(3));
-    assert!(rt; borrows_a_row(&mut desk) && is_full(&heap));
-    Ok(())
+    assert!(rt; free_after(desk, &[2, 1]) == 2);
+    assert!(rt; free_after(desk, &[2]) == 3);
+    assert!(rt; desk.current() == (2, 2));
+    assert!(rt; desk.next_version() == Ok(3));
+    assert!(rt; borrows_a_row(desk));
 }
 
 #[test]
-fn plain_rows_go_on_over_a_full_heap(rt: HostRuntime) -> Result<(), Fail> {
-    let heap = LocalHeap::new(rt.alloc(), 2_048)?;
-    let Ok(mut rows) = PlainRows::new(&heap, 2) else {
+fn a_desk_goes_on_over_a_full_heap(rt: HostRuntime) {
+    let heap = heap_of(&rt, rt.alloc(), 2_048);
+    let Ok(mut desk) = Desk::new(&heap, 4, 3, 0) else {
         panic!(rt; "an ample heap")
     };
-    let blocks = fill(rt.alloc(), &heap)?;
+    let blocks = fill(&rt, rt.alloc(), &heap);
     assert!(rt; is_full(&heap) && !blocks.is_empty());
-    let (key, value) = pair(b"ab", b"xyz")?;
+    desk_goes_on(&rt, &mut desk);
+    assert!(rt; is_full(&heap));
+}
+
+/// Writes an entry and a head, and reads them part by part and whole.
+fn rows_go_on(rt: &impl Abort, rows: &mut PlainRows<&LocalHeap>)
+    requires two { length rows.old ≡ 2 }
+{
+    let (key, value) = pair(rt, b"ab", b"xyz");
     let row = Row::Entry {
         child: 7,
         next: 9,
@@ -92,22 +100,24 @@ fn plain_rows_go_on_over_a_full_heap(rt: HostRuntime) -> Result<(), Fail> {
         first: 3,
         tail: 4,
     };
-    assert!(rt; rows.entry(0).child == 7 && rows.head(1) == links);
+    assert!(rt; rows.entry(0).child == 7);
+    assert!(rt; rows.head(1) == links);
     assert!(rt; rows.value(0).bytes() == b"xyz".as_slice());
     assert!(rt; rows.digest(1) == [5; 32]);
-    assert!(rt; rows.read(1) == head && rows.read(0) == row);
-    assert!(rt; is_full(&heap));
-    Ok(())
+    assert!(rt; rows.read(1) == head);
+    assert!(rt; rows.read(0) == row);
 }
 
-/// The map of 1, 39 and a in the least heap that holds the rows and the desk, so that it is planted
-/// with no byte left.
-fn planted<'h>(
-    rt: &(impl Abort + AllocGlobal),
-    heap: &'h LocalHeap,
-    pairs: &[(Key, Value)],
-) -> Option<StandingMap<&'h LocalHeap>> {
-    StandingMap::new_beside(rt, rt.alloc(), heap, pairs, 12).ok()
+#[test]
+fn plain_rows_go_on_over_a_full_heap(rt: HostRuntime) {
+    let heap = heap_of(&rt, rt.alloc(), 2_048);
+    let Ok(mut rows) = PlainRows::new(&heap, 2) else {
+        panic!(rt; "an ample heap")
+    };
+    let blocks = fill(&rt, rt.alloc(), &heap);
+    assert!(rt; is_full(&heap) && !blocks.is_empty());
+    rows_go_on(&rt, &mut rows);
+    assert!(rt; is_full(&heap));
 }
 
 /// Whether the map has this value at the key and this pair behind it, by its root and by its link.
@@ -118,40 +128,77 @@ fn reads(
     next: Option<&(Key, Value)>,
 ) -> bool {
     let (found, behind) = map.get_and_next(key);
-    map.get(key).as_ref() == value
-        && map.next(Some(key)).as_ref() == next
-        && found.as_ref() == value
-        && behind.as_ref() == next
+    let below = found.as_ref() == value && behind.as_ref() == next;
+    below && map.has(key, value) && map.has_next(Some(key), next)
+}
+
+/// Whether a put answers this old value, or a remove where no value is given.
+fn changes(
+    map: &mut StandingMap<&LocalHeap>,
+    key: &Key,
+    value: Option<&Value>,
+    old: Option<&Value>,
+) -> bool {
+    let done = match value {
+        Some(value) => map.put(key, value),
+        None => map.remove(key),
+    };
+    match done {
+        Ok(Ok(found)) => found.as_ref() == old,
+        _ => false,
+    }
 }
 
 /// Puts, removes and reads of the map of 1, 39 and a; then it has a alone.
-fn goes_on(map: &mut StandingMap<&LocalHeap>, pairs: &[(Key, Value)]) -> Result<bool, Fail> {
-    let [(one, x), (middle, y), (last, z)] = pairs else {
-        return Err("three pairs".into());
+fn goes_on(rt: &impl Abort, map: &mut StandingMap<&LocalHeap>, pairs: &[(Key, Value)]) {
+    let [first, second, third] = pairs else {
+        panic!(rt; "three pairs")
     };
-    let after = (middle.copy(), y.copy());
-    let reads_all = reads(map, one, Some(x), Some(&after));
-    let changed = map.put(one, z)? == Ok(Some(x.copy()));
-    let removed = map.remove(middle)? == Ok(Some(y.copy()));
-    let again = map.remove(middle)? == Ok(None) && map.remove(one)? == Ok(Some(z.copy()));
-    let after = (last.copy(), z.copy());
-    Ok(reads_all && changed && removed && again && reads(map, one, None, Some(&after)))
+    let (one, middle) = (&first.0, &second.0);
+    assert!(rt; reads(map, one, Some(&first.1), Some(second)));
+    assert!(rt; changes(map, one, Some(&third.1), Some(&first.1)));
+    assert!(rt; changes(map, middle, None, Some(&second.1)));
+    assert!(rt; changes(map, middle, None, None));
+    assert!(rt; changes(map, one, None, Some(&third.1)));
+    assert!(rt; reads(map, one, None, Some(third)));
+}
+
+/// The map of 1, 39 and a that was planted with no byte left goes on.
+fn goes_on_in(
+    rt: &impl Abort,
+    heap: &LocalHeap,
+    map: &mut StandingMap<&LocalHeap>,
+    pairs: &[(Key, Value)],
+) {
+    assert!(rt; is_full(heap));
+    assert!(rt; pairs.len() == 3);
+    assert!(rt; map.root() == root_of(pairs));
+    goes_on(rt, map, pairs);
+    assert!(rt; matches!(map.range(heap, None, None, 1), Err(Memory)));
+    assert!(rt; is_full(heap));
+    assert!(rt; map.free() == 10);
+}
+
+/// Whether the map is planted in a heap of so many bytes. In the least that holds the rows and the
+/// desk it is planted with no byte left.
+fn is_planted(rt: &impl Abort, alloc: Global, pairs: &[(Key, Value)], bytes: usize) -> bool {
+    let heap = heap_of(rt, alloc, bytes);
+    match StandingMap::new_beside(rt, alloc, &heap, pairs, 12) {
+        Ok(mut map) => {
+            goes_on_in(rt, &heap, &mut map, pairs);
+            true
+        }
+        Err(Memory) => false,
+    }
 }
 
 #[test]
-fn a_map_is_planted_and_goes_on_over_a_full_heap(rt: HostRuntime) -> Result<(), Fail> {
-    let pairs = three_pairs(rt.alloc())?;
+fn a_map_is_planted_and_goes_on_over_a_full_heap(rt: HostRuntime) {
+    let pairs = three_pairs(&rt, rt.alloc());
     for units in 1..512usize {
-        let heap = LocalHeap::new(rt.alloc(), units * 16)?;
-        let Some(mut map) = planted(&rt, &heap, pairs.as_slice()) else {
-            continue;
-        };
-        assert!(rt; is_full(&heap));
-        assert!(rt; pairs.len() == 3 && map.root() == root_of(pairs.as_slice()));
-        assert!(rt; goes_on(&mut map, pairs.as_slice())?);
-        assert!(rt; matches!(map.range(&heap, None, None, 1), Err(Memory)));
-        assert!(rt; is_full(&heap) && map.free() == 10);
-        return Ok(());
+        if is_planted(&rt, rt.alloc(), pairs.as_slice(), units * 16) {
+            return;
+        }
     }
     panic!(rt; "no heap was large enough")
 }

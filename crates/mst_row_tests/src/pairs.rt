@@ -1,17 +1,45 @@
-//! Pairs for the tests.
+//! Keys, values, pairs and heaps for the tests. Where memory is refused for them, the test ends.
+use linked_list_allocator::LocalHeap;
 use mst_key::{Key, Value};
 use std::alloc::Global;
-use std::test::Fail;
+use std::process::Abort;
 
-pub fn pair(key: &[u8], value: &[u8]) -> Result<(Key, Value), Fail> {
-    Ok((Key::new(key)?, Value::new(value)?))
+pub fn key_of(rt: &impl Abort, bytes: &[u8]) -> Key {
+    Key::new(bytes).expect(rt, "1 to 32 bytes")
+}
+
+pub fn value_of(rt: &impl Abort, bytes: &[u8]) -> Value {
+    Value::new(bytes).expect(rt, "at most 64 bytes")
+}
+
+pub fn pair(rt: &impl Abort, key: &[u8], value: &[u8]) -> (Key, Value) {
+    (key_of(rt, key), value_of(rt, value))
+}
+
+/// The key of a number: its three low bytes.
+pub fn numbered_key(rt: &impl Abort, number: u32) -> Key {
+    let bytes = number.to_be_bytes();
+    key_of(rt, &bytes[1..])
 }
 
 /// The keys 1 and a, which share a node, and the key 39 of the layer above between them.
-pub fn three_pairs(alloc: Global) -> Result<Vec<(Key, Value)>, Fail> {
+pub fn three_pairs(rt: &impl Abort, alloc: Global) -> Vec<(Key, Value)> {
     let mut pairs = Vec::new(alloc);
     for (key, value) in [("1", "x"), ("39", "y"), ("a", "z")] {
-        pairs.push(pair(key.as_bytes(), value.as_bytes())?)?;
+        let pair = pair(rt, key.as_bytes(), value.as_bytes());
+        pairs.push(pair).expect(rt, "memory");
     }
-    Ok(pairs)
+    pairs
+}
+
+/// A heap of so many bytes.
+pub fn heap_of(rt: &impl Abort, alloc: Global, bytes: usize) -> LocalHeap {
+    LocalHeap::new(alloc, bytes).expect(rt, "memory")
+}
+
+/// The next of a row of random numbers.
+pub fn next_random(state: u64) -> u64 {
+    state
+        .wrapping_mul(6_364_136_223_846_793_005)
+        .wrapping_add(1_442_695_040_888_963_407)
 }

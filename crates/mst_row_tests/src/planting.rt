@@ -1,15 +1,14 @@
 //! Planted maps, read back row by row.
 ghost use Rattle.std.specs.Prelude.{◌≡◌, IfOk, length};
 
-use crate::pairs::{pair, three_pairs};
+use crate::pairs::{numbered_key, three_pairs, value_of};
 use mst_arena::{Desk, EntryLinks, HeadLinks, Root, Row, Rows};
-use mst_key::{Key, Value};
+use mst_key::{Key, Memory, Value};
 use mst_node::{build, root_of};
 use mst_path::{NoRoom, plant};
 use std::alloc::Global;
 use std::marker::Model;
 use std::process::Abort;
-use std::test::Fail;
 
 /// Rows that a test can look into.
 #[derive(Drop)]
@@ -33,7 +32,7 @@ impl Model for OpenRows {
 
 impl OpenRows {
     /// So many rows, none of them written.
-    fn new(alloc: Global, rows: u32) -> Result<OpenRows, Fail>
+    fn new(alloc: Global, rows: u32) -> Result<OpenRows, Memory>
         ensures size { IfOk result (λ r. length r ≡ rows) }
     {
         let mut places = Vec::new(alloc);
@@ -67,13 +66,14 @@ impl Rows for OpenRows {
 }
 
 /// The first numbers in three bytes, each with its two low bytes as the value.
-pub fn numbered(alloc: Global, count: u32) -> Result<Vec<(Key, Value)>, Fail> {
+pub fn numbered(rt: &impl Abort, alloc: Global, count: u32) -> Vec<(Key, Value)> {
     let mut pairs = Vec::new(alloc);
     for i in 0..count {
         let bytes = i.to_be_bytes();
-        pairs.push(pair(&bytes[1..], &bytes[2..])?)?;
+        let pair = (numbered_key(rt, i), value_of(rt, &bytes[2..]));
+        pairs.push(pair).expect(rt, "memory");
     }
-    Ok(pairs)
+    pairs
 }
 
 /// The row at a link.
@@ -83,7 +83,7 @@ fn row_at(places: &[Option<Row>], link: u32) -> Option<&Row> {
 }
 
 /// Layer, count and links of the head at a link.
-fn head_at(places: &[Option<Row>], link: u32) -> Result<HeadLinks, Fail> {
+fn head_at(rt: &impl Abort, places: &[Option<Row>], link: u32) -> HeadLinks {
     match row_at(places, link) {
         Some(
             Row::Head {
@@ -93,18 +93,18 @@ fn head_at(places: &[Option<Row>], link: u32) -> Result<HeadLinks, Fail> {
                 tail,
                 ..
             },
-        ) => Ok(HeadLinks {
+        ) => HeadLinks {
             layer: *layer,
             count: *count,
             first: *first,
             tail: *tail,
-        }),
-        _ => Err("no head".into()),
+        },
+        _ => panic!(rt; "no head"),
     }
 }
 
 /// Links, key and value of the entry at a link.
-fn entry_at(places: &[Option<Row>], link: u32) -> Result<(EntryLinks, Value), Fail> {
+fn entry_at(rt: &impl Abort, places: &[Option<Row>], link: u32) -> (EntryLinks, Value) {
     match row_at(places, link) {
         Some(
             Row::Entry {
@@ -119,37 +119,34 @@ fn entry_at(places: &[Option<Row>], link: u32) -> Result<(EntryLinks, Value), Fa
                 next: *next,
                 key: key.copy(),
             };
-            Ok((links, value.copy()))
+            (links, value.copy())
         }
-        _ => Err("no entry".into()),
+        _ => panic!(rt; "no entry"),
     }
 }
 
 /// Appends the pairs of the tree at a link, from left to right.
 fn walk(
+    rt: &impl Abort,
     places: &[Option<Row>],
     link: u32,
     depth: u32,
     pairs: &mut Vec<(Key, Value)>,
-) -> Result<(), Fail> {
+) {
     if link == 0 {
-        return Ok(());
+        return;
     }
-    if depth == 0 {
-        return Err("too deep".into());
-    }
-    let head = head_at(places, link)?;
+    assert!(rt; depth > 0, "too deep");
+    let head = head_at(rt, places, link);
     let mut link = head.first;
     for _ in 0..head.count {
-        let (entry, value) = entry_at(places, link)?;
-        walk(places, entry.child, depth - 1, pairs)?;
-        pairs.push((entry.key, value))?;
+        let (entry, value) = entry_at(rt, places, link);
+        walk(rt, places, entry.child, depth - 1, pairs);
+        pairs.push((entry.key, value)).expect(rt, "memory");
         link = entry.next;
     }
-    if link != 0 {
-        return Err("too many entries".into());
-    }
-    walk(places, head.tail, depth - 1, pairs)
+    assert!(rt; link == 0, "too many entries");
+    walk(rt, places, head.tail, depth - 1, pairs);
 }
 
 /// What became of a map that was to be planted: where it stands, or that there was no room; how
@@ -167,7 +164,7 @@ fn planted(
     alloc: Global,
     pairs: &[(Key, Value)],
     size: u32,
-) -> Result<Outcome, Fail> {
+) -> Result<Outcome, Memory> {
     assert!(rt; pairs.len() <= 65_535);
     assert!(rt; 0 < size && size <= 65_535);
     let tree = build(alloc, pairs)?;
@@ -181,39 +178,64 @@ fn planted(
     })
 }
 
-#[test]
-fn three_pairs_take_six_rows(rt: HostRuntime) -> Result<(), Fail> {
-    let alloc = rt.alloc();
-    let pairs = three_pairs(alloc)?;
-    assert!(rt; pairs.len() == 3);
-    let digest = root_of(pairs.as_slice());
-    for (size, free) in [(9, 3), (6, 0), (5, 5)] {
-        let outcome = planted(&rt, alloc, pairs.as_slice(), size)?;
-        assert!(rt; outcome.free == free, "{size} rows");
-        match outcome.root {
-            Ok(root) => assert!(rt;
-                size >= 6 && root == Root { link: 1, digest },
-                "{size} rows"
-            ),
-            Err(NoRoom) => assert!(rt; size == 5, "{size} rows"),
-        }
-    }
-    assert!(rt; format!(in alloc; "{NoRoom}")?.as_str() == "no room");
-    Ok(())
+/// What becomes of the root when these pairs are planted in so many rows, and how many are free then.
+fn root_and_free(
+    rt: &impl Abort,
+    alloc: Global,
+    pairs: &[(Key, Value)],
+    size: u32,
+) -> (Result<Root, NoRoom>, u32) {
+    let outcome = planted(rt, alloc, pairs, size).expect(rt, "memory");
+    (outcome.root, outcome.free)
+}
+
+/// Whether `NoRoom` is printed so.
+fn prints_no_room(rt: &impl Abort, alloc: Global, text: &str) -> bool {
+    let printed = format!(in alloc; "{NoRoom}").expect(rt, "memory");
+    printed.as_str() == text
 }
 
 #[test]
-fn maps_of_many_sizes(rt: HostRuntime) -> Result<(), Fail> {
+fn three_pairs_take_six_rows(rt: HostRuntime) {
     let alloc = rt.alloc();
-    for count in [0, 1, 2, 17, 1_000] {
-        let pairs = numbered(alloc, count)?;
-        assert!(rt; pairs.len() <= 65_535);
-        let outcome = planted(&rt, alloc, pairs.as_slice(), 2_000)?;
-        let root = outcome.root?;
-        assert!(rt; root.digest == root_of(pairs.as_slice()));
-        let mut found = Vec::new(alloc);
-        walk(outcome.rows.places.as_slice(), root.link, 65, &mut found)?;
-        assert!(rt; found.as_slice() == pairs.as_slice());
+    assert!(rt; prints_no_room(&rt, alloc, "no room"));
+    let pairs = three_pairs(&rt, alloc);
+    assert!(rt; pairs.len() == 3);
+    let root = Root {
+        link: 1,
+        digest: root_of(pairs.as_slice()),
+    };
+    for (size, wanted) in [
+        (9, (Ok(root), 3)),
+        (6, (Ok(root), 0)),
+        (5, (Err(NoRoom), 5)),
+    ] {
+        let found = root_and_free(&rt, alloc, pairs.as_slice(), size);
+        assert!(rt; found == wanted, "{size} rows");
     }
-    Ok(())
+}
+
+/// The pairs of the map at a root, as they stand in rows.
+fn pairs_at(rt: &impl Abort, alloc: Global, rows: &OpenRows, root: Root) -> Vec<(Key, Value)> {
+    let mut found = Vec::new(alloc);
+    walk(rt, rows.places.as_slice(), root.link, 65, &mut found);
+    found
+}
+
+/// Compares the map of so many pairs, as it stands in rows, with their list.
+fn reads_back(rt: &impl Abort, alloc: Global, count: u32) {
+    let pairs = numbered(rt, alloc, count);
+    let outcome = planted(rt, alloc, pairs.as_slice(), 2_000).expect(rt, "memory");
+    let root = outcome.root.expect(rt, "room");
+    assert!(rt; pairs.len() <= 65_535);
+    assert!(rt; root.digest == root_of(pairs.as_slice()));
+    let found = pairs_at(rt, alloc, &outcome.rows, root);
+    assert!(rt; found.as_slice() == pairs.as_slice());
+}
+
+#[test]
+fn maps_of_many_sizes(rt: HostRuntime) {
+    for count in [0, 1, 2, 17, 1_000] {
+        reads_back(&rt, rt.alloc(), count);
+    }
 }

@@ -1,10 +1,13 @@
 //! What no clause says: worked rows, printed text, and each growth refused in turn.
+ghost use Rattle.std.specs.Prelude.{◌≡◌, map};
+ghost use Rattle.mst_arena.specs.Lives.{swept_life};
+
+use crate::pairs::{heap_of, key_of, pair};
 use linked_list_allocator::LocalHeap;
 use mst_arena::{Desk, HeadLinks, PlainRows, Row, Rows, Sought, VersionsSpent, Way};
-use mst_key::{Key, Memory, Value};
-use std::alloc::Global;
+use mst_key::Memory;
+use std::alloc::{Allocator, Global};
 use std::process::Abort;
-use std::test::Fail;
 
 const HEAD: Row = Row::Head {
     layer: 64,
@@ -15,10 +18,8 @@ const HEAD: Row = Row::Head {
 };
 
 #[test]
-fn plain_rows_are_read_as_written(rt: HostRuntime) -> Result<(), Fail> {
-    let (Ok(key), Ok(value)) = (Key::new(&[0x6b; 32]), Value::new(&[0x76; 64])) else {
-        panic!(rt; "sizes")
-    };
+fn plain_rows_are_read_as_written(rt: HostRuntime) {
+    let (key, value) = pair(&rt, &[0x6b; 32], &[0x76; 64]);
     let row = Row::Entry {
         child: 65_535,
         next: 0,
@@ -47,7 +48,6 @@ fn plain_rows_are_read_as_written(rt: HostRuntime) -> Result<(), Fail> {
     // rows at their limits come back from their words
     assert!(rt; Row::read(&HEAD.words()) == Some(HEAD));
     assert!(rt; Row::read(&row.words()) == Some(row));
-    Ok(())
 }
 
 /// Rows that are read and written whole. Their parts come from the default bodies.
@@ -76,10 +76,8 @@ impl Rows for WholeRows {
 }
 
 #[test]
-fn parts_by_default_are_those_of_the_row(rt: HostRuntime) -> Result<(), Fail> {
-    let (Ok(key), Ok(value)) = (Key::new(b"ab"), Value::new(b"xyz")) else {
-        panic!(rt; "sizes")
-    };
+fn parts_by_default_are_those_of_the_row(rt: HostRuntime) {
+    let (key, value) = pair(&rt, b"ab", b"xyz");
     let Ok(rows) = PlainRows::new(rt.alloc(), 1) else {
         panic!(rt; "no memory")
     };
@@ -100,18 +98,13 @@ fn parts_by_default_are_those_of_the_row(rt: HostRuntime) -> Result<(), Fail> {
     assert!(rt; (links.child, links.next) == (7, 9));
     assert!(rt; links.key.bytes() == b"ab".as_slice());
     assert!(rt; rows.value(0).bytes() == b"xyz".as_slice());
-    Ok(())
 }
 
 // A key that is a front of the entry's is below it, also where the bytes behind it are 0.
 #[test]
-fn the_way_from_an_entry_is_by_the_order_of_keys(rt: HostRuntime) -> Result<(), Fail> {
-    let (Ok(held), Ok(value)) = (Key::new(b"ab\0"), Value::new(b"xyz")) else {
-        panic!(rt; "sizes")
-    };
-    let (Ok(front), Ok(longer)) = (Key::new(b"ab"), Key::new(b"ab\0\0")) else {
-        panic!(rt; "sizes")
-    };
+fn the_way_from_an_entry_is_by_the_order_of_keys(rt: HostRuntime) {
+    let (held, value) = pair(&rt, b"ab\0", b"xyz");
+    let (front, longer) = (key_of(&rt, b"ab"), key_of(&rt, b"ab\0\0"));
     let Ok(rows) = PlainRows::new(rt.alloc(), 1) else {
         panic!(rt; "no memory")
     };
@@ -128,12 +121,20 @@ fn the_way_from_an_entry_is_by_the_order_of_keys(rt: HostRuntime) -> Result<(), 
     assert!(rt; rows.way(0, &same) == Way::Here);
     assert!(rt; rows.way(0, &Sought::new(&longer)) == Way::Next(9));
     assert!(rt; rows.rows.way(0, &Sought::new(&longer)) == Way::Next(9));
-    Ok(())
+}
+
+/// How many rows of a desk are free after a sweep with these live versions.
+pub(crate) fn free_after<A: Allocator>(desk: &mut Desk<A>, live: &[u64]) -> u32
+    ensures swept { desk.new
+        ≡ record desk.old { lives = map (swept_life live.now) desk.old.lives } }
+{
+    desk.sweep(live);
+    desk.free()
 }
 
 // The worked rows of the desk: two rows that die between two pins, one after the other.
 #[test]
-fn rows_between_two_live_versions_stay(rt: HostRuntime) -> Result<(), Fail> {
+fn rows_between_two_live_versions_stay(rt: HostRuntime) {
     let Ok(mut desk) = Desk::new(rt.alloc(), 4, 3, 0) else {
         panic!(rt; "no memory")
     };
@@ -149,26 +150,20 @@ fn rows_between_two_live_versions_stay(rt: HostRuntime) -> Result<(), Fail> {
     desk.advance(2);
     assert!(rt; desk.free() == 1);
     // in any order, and more of them than the desk has records
-    desk.sweep(&[1, 2]);
-    assert!(rt; desk.free() == 1);
-    desk.sweep(&[2, 1]);
-    assert!(rt; desk.free() == 1);
-    desk.sweep(&[9, 2, 8, 1, 7]);
-    assert!(rt; desk.free() == 1);
-    desk.sweep(&[2]);
-    assert!(rt; desk.free() == 2);
+    assert!(rt; free_after(&mut desk, &[1, 2]) == 1);
+    assert!(rt; free_after(&mut desk, &[2, 1]) == 1);
+    assert!(rt; free_after(&mut desk, &[9, 2, 8, 1, 7]) == 1);
+    assert!(rt; free_after(&mut desk, &[2]) == 2);
     desk.kill(b);
     desk.advance(0);
     for (live, free) in [([1], 2), ([2], 2), ([3], 3)] {
-        desk.sweep(&live);
-        assert!(rt; desk.free() == free, "{live:?}");
+        assert!(rt; free_after(&mut desk, &live) == free, "{live:?}");
     }
     assert!(rt; desk.current() == (0, 3));
-    Ok(())
 }
 
 #[test]
-fn versions_at_the_limit(rt: HostRuntime) -> Result<(), Fail> {
+fn versions_at_the_limit(rt: HostRuntime) {
     for (first, next) in [
         (9_223_372_036_854_775_807, Err(VersionsSpent)),
         (9_223_372_036_854_775_806, Ok(9_223_372_036_854_775_807)),
@@ -178,23 +173,27 @@ fn versions_at_the_limit(rt: HostRuntime) -> Result<(), Fail> {
         };
         assert!(rt; desk.next_version() == next, "{first}");
     }
-    let text = format!(in rt.alloc(); "{}", VersionsSpent)?;
+    let text = format!(in rt.alloc(); "{}", VersionsSpent).expect(&rt, "memory");
     assert!(rt; text.as_str() == "version numbers are spent");
-    Ok(())
+}
+
+// Whether sweeps take no memory, also with more live versions than the desk has records.
+fn sweeps_in_place(desk: &mut Desk<&LocalHeap>, heap: &LocalHeap) -> bool {
+    let used = heap.used();
+    desk.sweep(&[1, 2, 3, 4, 5]);
+    desk.sweep(&[3, 1]);
+    heap.used() == used
 }
 
 // Whether a desk of 100 rows is made in a heap of so many bytes. If not, nothing of it is kept.
 fn desk_fits<R: Abort + AllocGlobal>(rt: &R, bytes: usize) -> bool {
-    let Ok(heap) = LocalHeap::new(rt.alloc(), bytes) else {
-        panic!(rt; "no memory")
-    };
+    let heap = heap_of(rt, rt.alloc(), bytes);
     match Desk::new(&heap, 100, 3, 0) {
         Ok(mut desk) => {
-            // with more live versions than the desk has records, and no more
-            let used = heap.used();
-            desk.sweep(&[1, 2, 3, 4, 5]);
-            desk.sweep(&[3, 1]);
-            assert!(rt; heap.used() == used, "a sweep takes no memory");
+            assert!(rt;
+                sweeps_in_place(&mut desk, &heap),
+                "a sweep takes no memory"
+            );
             true
         }
         Err(Memory) => {
@@ -206,9 +205,7 @@ fn desk_fits<R: Abort + AllocGlobal>(rt: &R, bytes: usize) -> bool {
 
 // Whether three plain rows are made in a heap of so many bytes.
 fn rows_fit<R: Abort + AllocGlobal>(rt: &R, bytes: usize) -> bool {
-    let Ok(heap) = LocalHeap::new(rt.alloc(), bytes) else {
-        panic!(rt; "no memory")
-    };
+    let heap = heap_of(rt, rt.alloc(), bytes);
     match PlainRows::new(&heap, 3) {
         Ok(_) => true,
         Err(Memory) => {

@@ -4,14 +4,13 @@ ghost use Rattle.mst_arena.specs.Lives.{next, last_version};
 ghost use Rattle.mst_row_tests.specs.Ready.{IsPublished};
 
 use crate::counted::{CountedRows, Reads};
-use mst_arena::{Desk, Root};
+use mst_arena::{Desk, Root, VersionsSpent};
 use mst_key::{Key, Memory, Value};
 use mst_node::{build, is_map};
 use mst_path::{NoRoom, plant, put, remove};
 use std::alloc::{Allocator, Global};
 use std::marker::Model;
 use std::process::Abort;
-use std::test::Fail;
 
 /// A map in rows. Each change is published at once, and then no earlier version is live.
 #[derive(Drop)]
@@ -75,13 +74,11 @@ impl<A: Allocator + Copy> StandingMap<A> {
     }
 
     /// The map of these pairs, planted in so many rows.
-    pub fn new(
-        rt: &impl Abort,
-        alloc: A,
-        pairs: &[(Key, Value)],
-        size: u32,
-    ) -> Result<StandingMap<A>, Fail> {
-        Ok(StandingMap::new_beside(rt, alloc, alloc, pairs, size)?)
+    pub fn new(rt: &impl Abort, alloc: A, pairs: &[(Key, Value)], size: u32) -> StandingMap<A> {
+        let Ok(map) = StandingMap::new_beside(rt, alloc, alloc, pairs, size) else {
+            panic!(rt; "no memory")
+        };
+        map
     }
 
     /// How many rows are free.
@@ -100,7 +97,11 @@ impl<A: Allocator + Copy> StandingMap<A> {
     }
 
     /// Puts a pair, and answers the value that the key had.
-    pub fn put(&mut self, key: &Key, value: &Value) -> Result<Result<Option<Value>, NoRoom>, Fail> {
+    pub fn put(
+        &mut self,
+        key: &Key,
+        value: &Value,
+    ) -> Result<Result<Option<Value>, NoRoom>, VersionsSpent> {
         self.desk.next_version()?;
         let (root, old) = match put(&mut self.rows, &mut self.desk, &self.root, key, value) {
             Ok(done) => done,
@@ -112,7 +113,7 @@ impl<A: Allocator + Copy> StandingMap<A> {
     }
 
     /// Removes a key, and answers the value that it had.
-    pub fn remove(&mut self, key: &Key) -> Result<Result<Option<Value>, NoRoom>, Fail> {
+    pub fn remove(&mut self, key: &Key) -> Result<Result<Option<Value>, NoRoom>, VersionsSpent> {
         self.desk.next_version()?;
         let (root, old) = match remove(&mut self.rows, &mut self.desk, &self.root, key) {
             Ok(done) => done,
@@ -131,6 +132,16 @@ impl<A: Allocator + Copy> StandingMap<A> {
     /// The pair of the next key.
     pub fn next(&mut self, after: Option<&Key>) -> Option<(Key, Value)> {
         mst_read::next(&mut self.rows, &self.root, after)
+    }
+
+    /// Whether a key has this value, or none.
+    pub fn has(&mut self, key: &Key, value: Option<&Value>) -> bool {
+        self.get(key).as_ref() == value
+    }
+
+    /// Whether this pair is the next one, or none is.
+    pub fn has_next(&mut self, after: Option<&Key>, pair: Option<&(Key, Value)>) -> bool {
+        self.next(after).as_ref() == pair
     }
 
     /// The value of a key, and the pair of the next key, by the link of the root alone.

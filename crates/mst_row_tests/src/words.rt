@@ -1,7 +1,6 @@
 //! Worked words: of an entry, of a head, of their parts, and words that are of no row.
+use crate::pairs::pair;
 use mst_arena::{EntryLinks, HeadLinks, Row};
-use mst_key::{Key, Value};
-use std::test::Fail;
 
 // The words of the key `ab` with the value `xyz`, and of a head, by hand.
 const ENTRY_WORDS: [u64; 16] = [
@@ -48,10 +47,8 @@ const DIGEST: [u8; 32] = [
 ];
 
 #[test]
-fn words_by_hand(rt: HostRuntime) -> Result<(), Fail> {
-    let (Ok(key), Ok(value)) = (Key::new(b"ab"), Value::new(b"xyz")) else {
-        panic!(rt; "sizes")
-    };
+fn words_by_hand(rt: HostRuntime) {
+    let (key, value) = pair(&rt, b"ab", b"xyz");
     let row = Row::Entry {
         child: 7,
         next: 9,
@@ -67,7 +64,6 @@ fn words_by_hand(rt: HostRuntime) -> Result<(), Fail> {
         digest: DIGEST,
     };
     assert!(rt; Row::read(&HEAD_WORDS) == Some(row));
-    Ok(())
 }
 
 #[test]
@@ -100,10 +96,8 @@ fn words_with_a_fault_are_no_row(rt: HostRuntime) {
 }
 
 #[test]
-fn parts_by_hand(rt: HostRuntime) -> Result<(), Fail> {
-    let (Ok(key), Ok(value)) = (Key::new(b"ab"), Value::new(b"xyz")) else {
-        panic!(rt; "sizes")
-    };
+fn parts_by_hand(rt: HostRuntime) {
+    let (key, value) = pair(&rt, b"ab", b"xyz");
     let links = EntryLinks {
         child: 7,
         next: 9,
@@ -127,7 +121,6 @@ fn parts_by_hand(rt: HostRuntime) -> Result<(), Fail> {
         0x1819_1a1b_1c1d_1e1f,
     ];
     assert!(rt; Row::read_digest(&digest_words) == DIGEST);
-    Ok(())
 }
 
 #[test]

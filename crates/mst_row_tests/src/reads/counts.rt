@@ -6,19 +6,17 @@
 //! that is met, its entries up to the one that ends the search in it, and the value of each pair of
 //! the answer.
 use crate::counted::Reads;
+use crate::pairs::{key_of, numbered_key};
 use crate::planting::numbered;
 use crate::standing::StandingMap;
 use mst_key::Key;
 use std::alloc::Global;
 use std::process::Abort;
-use std::test::Fail;
 
-/// The map of 300 pairs, of which nothing was read.
-fn map_of_300(rt: &impl Abort, alloc: Global) -> Result<StandingMap, Fail> {
-    let pairs = numbered(alloc, 300)?;
-    let mut map = StandingMap::new(rt, alloc, pairs.as_slice(), 1_000)?;
-    map.forget_reads();
-    Ok(map)
+/// The map of 300 pairs.
+fn map_of_300(rt: &impl Abort, alloc: Global) -> StandingMap {
+    let pairs = numbered(rt, alloc, 300);
+    StandingMap::new(rt, alloc, pairs.as_slice(), 1_000)
 }
 
 /// Whether no more was read than so many heads, entries and values, and nothing else.
@@ -27,32 +25,30 @@ fn is_within(reads: Reads, heads: u32, entries: u32, values: u32) -> bool {
 }
 
 /// The key of a number, if there is one.
-fn key_of(number: Option<u32>) -> Result<Option<Key>, Fail> {
-    let Some(number) = number else {
-        return Ok(None);
-    };
-    let bytes = number.to_be_bytes();
-    Ok(Some(Key::new(&bytes[1..])?))
+fn bound(rt: &impl Abort, number: Option<u32>) -> Option<Key> {
+    Some(numbered_key(rt, number?))
 }
 
 /// How many pairs stand between two keys, so many at most, and what was read for them.
 fn range_of(
+    rt: &impl Abort,
     alloc: Global,
     map: &mut StandingMap,
-    from: Option<u32>,
-    to: Option<u32>,
+    (from, to): (Option<u32>, Option<u32>),
     limit: usize,
-) -> Result<(usize, Reads), Fail> {
-    let (from, to) = (key_of(from)?, key_of(to)?);
+) -> (usize, Reads) {
+    let (from, to) = (bound(rt, from), bound(rt, to));
     map.forget_reads();
-    let found = map.range(alloc, from.as_ref(), to.as_ref(), limit)?;
-    Ok((found.len(), map.reads()))
+    let found = map
+        .range(alloc, from.as_ref(), to.as_ref(), limit)
+        .expect(rt, "memory");
+    (found.len(), map.reads())
 }
 
 #[test]
-fn a_range_reads_no_row_past_its_limit(rt: HostRuntime) -> Result<(), Fail> {
+fn a_range_reads_no_row_past_its_limit(rt: HostRuntime) {
     let alloc = rt.alloc();
-    let mut map = map_of_300(&rt, alloc)?;
+    let mut map = map_of_300(&rt, alloc);
     for (from, to, limit, heads, entries, values) in [
         (None, None, 0usize, 0, 0, 0),
         (None, None, 1, 3, 3, 1),
@@ -68,19 +64,32 @@ fn a_range_reads_no_row_past_its_limit(rt: HostRuntime) -> Result<(), Fail> {
         (Some(150), Some(160), 2, 3, 13, 2),
         (Some(150), Some(160), 300, 3, 22, 10),
     ] {
-        let (count, reads) = range_of(alloc, &mut map, from, to, limit)?;
+        let (count, reads) = range_of(&rt, alloc, &mut map, (from, to), limit);
         assert!(rt; count == values as usize, "{limit}");
         assert!(rt;
             is_within(reads, heads, entries, values),
             "{limit}: {reads:?}"
         );
     }
-    Ok(())
+}
+
+/// Whether the key has a value, and what was read for that.
+fn look_up(map: &mut StandingMap, key: &Key) -> (bool, Reads) {
+    map.forget_reads();
+    let found = map.get(key).is_some();
+    (found, map.reads())
+}
+
+/// What was read for the root digest.
+fn reads_of_the_root(map: &mut StandingMap) -> Reads {
+    map.forget_reads();
+    let _ = map.root();
+    map.reads()
 }
 
 #[test]
-fn a_look_up_reads_one_path(rt: HostRuntime) -> Result<(), Fail> {
-    let mut map = map_of_300(&rt, rt.alloc())?;
+fn a_look_up_reads_one_path(rt: HostRuntime) {
+    let mut map = map_of_300(&rt, rt.alloc());
     for (number, heads, entries) in [
         (0, 3, 3),
         (39, 2, 4),
@@ -89,28 +98,27 @@ fn a_look_up_reads_one_path(rt: HostRuntime) -> Result<(), Fail> {
         (286, 3, 41),
         (299, 3, 7),
     ] {
-        let key = key_of(Some(number))?.ok_or("no key")?;
-        map.forget_reads();
-        assert!(rt; map.get(&key).is_some(), "{number}");
-        assert!(rt;
-            is_within(map.reads(), heads, entries, 1),
-            "{number}: {:?}",
-            map.reads()
-        );
+        let (found, reads) = look_up(&mut map, &numbered_key(&rt, number));
+        assert!(rt; found, "{number}");
+        assert!(rt; is_within(reads, heads, entries, 1), "{number}: {reads:?}");
     }
-    let absent = Key::new(&[0, 0, 49, 0])?;
+    let (found, reads) = look_up(&mut map, &key_of(&rt, &[0, 0, 49, 0]));
+    assert!(rt; !found);
+    assert!(rt; is_within(reads, 3, 16, 0), "{reads:?}");
+    let reads = reads_of_the_root(&mut map);
+    assert!(rt; is_within(reads, 0, 0, 0), "the root is at hand");
+}
+
+/// Whether a pair is next, and what was read for that.
+fn next_of(map: &mut StandingMap, after: Option<&Key>) -> (bool, Reads) {
     map.forget_reads();
-    assert!(rt; map.get(&absent).is_none());
-    assert!(rt; is_within(map.reads(), 3, 16, 0), "{:?}", map.reads());
-    map.forget_reads();
-    let _ = map.root();
-    assert!(rt; is_within(map.reads(), 0, 0, 0), "the root is at hand");
-    Ok(())
+    let found = map.next(after).is_some();
+    (found, map.reads())
 }
 
 #[test]
-fn the_next_pair_is_on_one_path(rt: HostRuntime) -> Result<(), Fail> {
-    let mut map = map_of_300(&rt, rt.alloc())?;
+fn the_next_pair_is_on_one_path(rt: HostRuntime) {
+    let mut map = map_of_300(&rt, rt.alloc());
     for (after, heads, entries, values) in [
         (None, 3, 3, 1),
         (Some(39), 3, 6, 1),
@@ -119,15 +127,8 @@ fn the_next_pair_is_on_one_path(rt: HostRuntime) -> Result<(), Fail> {
         (Some(246), 3, 21, 1),
         (Some(299), 3, 7, 0),
     ] {
-        let after = key_of(after)?;
-        map.forget_reads();
-        let found = map.next(after.as_ref());
-        assert!(rt; found.is_some() == (values == 1));
-        assert!(rt;
-            is_within(map.reads(), heads, entries, values),
-            "{:?}",
-            map.reads()
-        );
+        let (found, reads) = next_of(&mut map, bound(&rt, after).as_ref());
+        assert!(rt; found == (values == 1));
+        assert!(rt; is_within(reads, heads, entries, values), "{reads:?}");
     }
-    Ok(())
 }
