@@ -156,10 +156,14 @@ fn goes_on(rt: &impl Abort, map: &mut StandingMap<&LocalHeap>, pairs: &[(Key, Va
     };
     let (one, middle) = (&first.0, &second.0);
     assert!(rt; reads(map, one, Some(&first.1), Some(second)));
-    assert!(rt; changes(map, one, Some(&third.1), Some(&first.1)));
-    assert!(rt; changes(map, middle, None, Some(&second.1)));
-    assert!(rt; changes(map, middle, None, None));
-    assert!(rt; changes(map, one, None, Some(&third.1)));
+    for (key, value, old) in [
+        (one, Some(&third.1), Some(&first.1)),
+        (middle, None, Some(&second.1)),
+        (middle, None, None),
+        (one, None, Some(&third.1)),
+    ] {
+        assert!(rt; changes(map, key, value, old));
+    }
     assert!(rt; reads(map, one, None, Some(third)));
 }
 

@@ -1,6 +1,8 @@
 //! What no clause says: worked rows, printed text, and each growth refused in turn.
-ghost use Rattle.std.specs.Prelude.{◌≡◌, map};
+ghost use Rattle.std.specs.Prelude.{◌≡◌, map, replicate};
 ghost use Rattle.mst_arena.specs.Lives.{swept_life};
+ghost use Rattle.mst_arena.specs.Row.{IsRow};
+ghost use Rattle.mst_arena.specs.declared.life.Life.TheVariants.{Free};
 
 use crate::pairs::{heap_of, key_of, pair};
 use linked_list_allocator::LocalHeap;
@@ -16,6 +18,13 @@ const HEAD: Row = Row::Head {
     tail: 0,
     digest: [0xd1; 32],
 };
+
+/// Whether a row comes back from its words.
+fn comes_back(row: &Row) -> bool
+    requires limits { IsRow row.now }
+{
+    Row::read(&row.words()).as_ref() == Some(row)
+}
 
 #[test]
 fn plain_rows_are_read_as_written(rt: HostRuntime) {
@@ -45,9 +54,10 @@ fn plain_rows_are_read_as_written(rt: HostRuntime) {
     assert!(rt; rows.digest(1) == [0xd1; 32]);
     assert!(rt; rows.read(1) == HEAD);
     assert!(rt; rows.read(0) == row);
-    // rows at their limits come back from their words
-    assert!(rt; Row::read(&HEAD.words()) == Some(HEAD));
-    assert!(rt; Row::read(&row.words()) == Some(row));
+    assert!(rt;
+        comes_back(&HEAD) && comes_back(&row),
+        "rows at their limits"
+    );
 }
 
 /// Rows that are read and written whole. Their parts come from the default bodies.
@@ -132,12 +142,11 @@ pub(crate) fn free_after<A: Allocator>(desk: &mut Desk<A>, live: &[u64]) -> u32
     desk.free()
 }
 
-// The worked rows of the desk: two rows that die between two pins, one after the other.
-#[test]
-fn rows_between_two_live_versions_stay(rt: HostRuntime) {
-    let Ok(mut desk) = Desk::new(rt.alloc(), 4, 3, 0) else {
-        panic!(rt; "no memory")
-    };
+/// Lets two rows of a new desk die between two pins, one after the other.
+fn two_rows_die(rt: &impl Abort, desk: &mut Desk<Global>)
+    requires new { desk.old
+        ≡ record { current = 0; versions = replicate 3 0; lives = replicate 4 Free } }
+{
     let (Some(a), Some(b)) = (desk.take(), desk.take()) else {
         panic!(rt; "four rows")
     };
@@ -150,12 +159,21 @@ fn rows_between_two_live_versions_stay(rt: HostRuntime) {
     desk.advance(2);
     assert!(rt; desk.free() == 1);
     // in any order, and more of them than the desk has records
-    assert!(rt; free_after(&mut desk, &[1, 2]) == 1);
-    assert!(rt; free_after(&mut desk, &[2, 1]) == 1);
-    assert!(rt; free_after(&mut desk, &[9, 2, 8, 1, 7]) == 1);
-    assert!(rt; free_after(&mut desk, &[2]) == 2);
+    assert!(rt; free_after(desk, &[1, 2]) == 1);
+    assert!(rt; free_after(desk, &[2, 1]) == 1);
+    assert!(rt; free_after(desk, &[9, 2, 8, 1, 7]) == 1);
+    assert!(rt; free_after(desk, &[2]) == 2);
     desk.kill(b);
     desk.advance(0);
+}
+
+// The worked rows of the desk.
+#[test]
+fn rows_between_two_live_versions_stay(rt: HostRuntime) {
+    let Ok(mut desk) = Desk::new(rt.alloc(), 4, 3, 0) else {
+        panic!(rt; "no memory")
+    };
+    two_rows_die(&rt, &mut desk);
     for (live, free) in [([1], 2), ([2], 2), ([3], 3)] {
         assert!(rt; free_after(&mut desk, &live) == free, "{live:?}");
     }
