@@ -2,13 +2,15 @@
 //!
 //! None of these functions says anything in a contract, so that what calls them is proved from few
 //! facts.
-ghost use Rattle.std.specs.Prelude.{◌≡◌};
+ghost use Rattle.std.specs.Prelude.{◌≡◌, length};
+ghost use Rattle.mst_store.specs.Passes.{new_passes};
 
 use linked_list_allocator::LocalHeap;
 use mst_key::{Key, Value};
-use mst_store::{Pass, Seats, Shape, Store, WriteFault};
+use mst_store::{ChangeFault, Pass, Pinned, Seats, Shape, Store, WriteFault};
 use std::alloc::{Allocator, Global};
 use std::process::Abort;
+use std::sync::Wait;
 
 pub(crate) const SMALL: Shape = Shape { rows: 8, passes: 2 };
 
@@ -27,7 +29,7 @@ pub(crate) const ROOT_OF_BOTH: [u8; 32] = [
 
 /// The proof of a key of that map: the version 1, the number 1 of texts, the length of the one
 /// text, and the text of the node of both.
-pub(crate) const PROOF_OF_BOTH: [u8; 23] = [
+pub(crate) const PROOF_OF_BOTH: &[u8] = &[
     1, 1, 0, 0, 0, 17, 1, 0, 0, 2, 0, 1, 0x61, 1, 0x31, 0, 3, 0x61, 0x62, 0x63, 1, 0x78, 0,
 ];
 
@@ -81,6 +83,36 @@ pub(crate) fn opened(
         panic!(rt; "no memory")
     };
     opened
+}
+
+/// A small store in this heap.
+pub(crate) fn opened_in<'h>(
+    rt: &impl Abort,
+    heap: &'h LocalHeap,
+) -> (Store<&'h LocalHeap>, Seats<&'h LocalHeap>)
+    ensures own { result.1 ≡ result.0 }
+{
+    let Ok(opened) = Store::open(heap, SMALL) else {
+        panic!(rt; "an ample heap")
+    };
+    opened
+}
+
+/// The passes of a store in this heap.
+pub(crate) fn dealt_in<'a, 'h>(
+    rt: &impl Abort,
+    heap: &'h LocalHeap,
+    store: &'a Store<&'h LocalHeap>,
+    seats: Seats<&'h LocalHeap>,
+) -> Vec<Pass<'a, &'h LocalHeap>, &'h LocalHeap>
+    requires own { seats ≡ store.now }
+    ensures passes { result.items ≡ new_passes store.now }
+    ensures count { length result.items ≡ store.now.passes }
+{
+    let Ok(passes) = store.deal(heap, seats) else {
+        panic!(rt; "an ample heap")
+    };
+    passes
 }
 
 /// The passes of a store of two.
@@ -168,6 +200,61 @@ pub(crate) fn removes<A: Allocator + Copy>(
     }
 }
 
+/// Whether a thousand puts at the key a go through, which had 1.
+pub(crate) fn puts_many<A: Allocator + Copy>(pass: &mut Pass<A>) -> bool {
+    let mut old = b'1';
+    for number in 1..=1_000u32 {
+        let new = (number % 256) as u8;
+        if !puts(pass, b"a", &[new], Some(&[old])) {
+            return false;
+        }
+        old = new;
+    }
+    true
+}
+
+/// Whether a put that waits goes through where the key had no value.
+pub(crate) fn puts_in_turn<A: Allocator + Copy>(
+    rt: &impl Wait,
+    pass: &mut Pass<A>,
+    key: &[u8],
+    value: &[u8],
+) -> bool {
+    let (Ok(key), Ok(value)) = (Key::new(key), Value::new(value)) else {
+        return false;
+    };
+    pass.put(rt, &key, &value) == Ok(None)
+}
+
+/// Whether a remove that waits goes through, and answers this old value.
+pub(crate) fn removes_in_turn<A: Allocator + Copy>(
+    rt: &impl Wait,
+    pass: &mut Pass<A>,
+    key: &[u8],
+    old: Option<&[u8]>,
+) -> bool {
+    let Ok(key) = Key::new(key) else {
+        return false;
+    };
+    match pass.remove(rt, &key) {
+        Ok(found) => is_value(&found, old),
+        Err(_) => false,
+    }
+}
+
+/// Whether a put and a remove that wait are refused for want of room.
+pub(crate) fn finds_no_room<A: Allocator + Copy>(
+    rt: &impl Wait,
+    pass: &mut Pass<A>,
+    key: &[u8],
+) -> bool {
+    let (Ok(key), Ok(value)) = (Key::new(key), Value::new(b"3")) else {
+        return false;
+    };
+    pass.put(rt, &key, &value).err() == Some(ChangeFault::NoRoom)
+        && pass.remove(rt, &key).err() == Some(ChangeFault::NoRoom)
+}
+
 /// Whether the key has this value, or none where none is given.
 pub(crate) fn gets<A: Allocator + Copy>(
     pass: &mut Pass<A>,
@@ -180,17 +267,30 @@ pub(crate) fn gets<A: Allocator + Copy>(
     }
 }
 
-/// Whether the next pair has this key, or there is none where none is given.
-pub(crate) fn next_is<A: Allocator + Copy>(
-    pass: &mut Pass<A>,
-    after: Option<&Key>,
-    wanted: Option<&[u8]>,
-) -> bool {
-    match (pass.next(after), wanted) {
+/// The key of these bytes, if any.
+pub(crate) fn bound(bytes: Option<&[u8]>) -> Option<Key> {
+    match bytes {
+        Some(bytes) => Key::new(bytes).ok(),
+        None => None,
+    }
+}
+
+// Whether a pair that was found has this key, or there is none where none is given.
+fn has_key(found: &Option<(Key, Value)>, wanted: Option<&[u8]>) -> bool {
+    match (found, wanted) {
         (Some((key, _)), Some(bytes)) => key.bytes() == bytes,
         (None, None) => true,
         _ => false,
     }
+}
+
+/// Whether the next pair above the bound has this key, or there is none where none is given.
+pub(crate) fn next_is<A: Allocator + Copy>(
+    pass: &mut Pass<A>,
+    after: Option<&[u8]>,
+    wanted: Option<&[u8]>,
+) -> bool {
+    has_key(&pass.next(bound(after).as_ref()), wanted)
 }
 
 /// Whether the root digest is this.
@@ -214,11 +314,11 @@ pub(crate) fn counts<A: Allocator + Copy>(pass: &mut Pass<A>, rows: Option<u32>)
 pub(crate) fn count_pairs<A: Allocator + Copy, B: Allocator>(
     pass: &mut Pass<A>,
     alloc: B,
-    from: Option<&Key>,
-    to: Option<&Key>,
+    from: Option<&[u8]>,
+    to: Option<&[u8]>,
     limit: usize,
 ) -> Option<usize> {
-    match pass.range(alloc, from, to, limit) {
+    match pass.range(alloc, bound(from).as_ref(), bound(to).as_ref(), limit) {
         Ok(pairs) => Some(pairs.len()),
         Err(_) => None,
     }
@@ -235,6 +335,59 @@ pub(crate) fn proves<A: Allocator + Copy, B: Allocator + Copy>(
         return false;
     };
     match pass.prove(alloc, &key) {
+        Ok(proof) => proof.as_slice() == text,
+        Err(_) => false,
+    }
+}
+
+/// Whether the key has this value in the pinned version, or none where none is given.
+pub(crate) fn still_gets<A: Allocator + Copy>(
+    pinned: &mut Pinned<A>,
+    key: &[u8],
+    value: Option<&[u8]>,
+) -> bool {
+    match Key::new(key) {
+        Ok(key) => is_value(&pinned.get(&key), value),
+        Err(_) => false,
+    }
+}
+
+/// Whether the next pair of the pinned version above the bound has this key, or there is none where
+/// none is given.
+pub(crate) fn still_next<A: Allocator + Copy>(
+    pinned: &mut Pinned<A>,
+    after: Option<&[u8]>,
+    wanted: Option<&[u8]>,
+) -> bool {
+    has_key(&pinned.next(bound(after).as_ref()), wanted)
+}
+
+/// How many pairs of the keys between the bounds the pinned version has, up to the limit; none
+/// where memory was refused.
+pub(crate) fn still_counts<A: Allocator + Copy, B: Allocator>(
+    pinned: &mut Pinned<A>,
+    alloc: B,
+    from: Option<&[u8]>,
+    to: Option<&[u8]>,
+    limit: usize,
+) -> Option<usize> {
+    match pinned.range(alloc, bound(from).as_ref(), bound(to).as_ref(), limit) {
+        Ok(pairs) => Some(pairs.len()),
+        Err(_) => None,
+    }
+}
+
+/// Whether the proof of the key in the pinned version is this text.
+pub(crate) fn still_proves<A: Allocator + Copy, B: Allocator + Copy>(
+    pinned: &mut Pinned<A>,
+    alloc: B,
+    key: &[u8],
+    text: &[u8],
+) -> bool {
+    let Ok(key) = Key::new(key) else {
+        return false;
+    };
+    match pinned.prove(alloc, &key) {
         Ok(proof) => proof.as_slice() == text,
         Err(_) => false,
     }

@@ -3,6 +3,8 @@
 #![tactic(auto)]
 
 #[cfg(test)]
+mod calls;
+#[cfg(test)]
 mod fixtures;
 #[cfg(test)]
 mod memory;
@@ -24,6 +26,8 @@ mod room;
 mod settling;
 #[cfg(test)]
 mod sharing;
+#[cfg(test)]
+mod starving;
 #[cfg(test)]
 mod table;
 #[cfg(test)]

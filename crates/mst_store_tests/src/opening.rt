@@ -1,26 +1,49 @@
 //! Stores are opened and their passes dealt, also where memory is refused.
-use crate::fixtures::{SMALL, gets, heap_of, opened, puts};
-use mst_store::{Memory, OpenFault, Shape, Store};
+ghost use Rattle.std.specs.Prelude.{◌≡◌};
+
+use crate::calls::Call::{Get, Put};
+use crate::calls::{Step, run};
+use crate::fixtures::{SMALL, both_passes, heap_of, opened};
+use mst_store::{Memory, OpenFault, Seats, Shape, Store};
+use std::alloc::Global;
 use std::process::Abort;
+
+// Whether a store of this shape is refused so in a heap of 64 bytes.
+fn is_refused(rt: &(impl Abort + AllocGlobal), shape: Shape, fault: OpenFault) -> bool {
+    let heap = heap_of(rt, 64);
+    match Store::open(&heap, shape) {
+        Ok(_) => false,
+        Err(found) => found == fault,
+    }
+}
+
+// Whether a store of this shape is refused so in that heap, and opened where there is memory
+// exactly if memory was what it lacked.
+fn is_tested(rt: &(impl Abort + AllocGlobal), shape: Shape, fault: OpenFault) -> bool {
+    let opened = Store::open(rt.alloc(), shape).is_ok();
+    opened == (fault == OpenFault::Memory) && is_refused(rt, shape, fault)
+}
 
 #[test]
 fn shapes_are_tested_before_memory(rt: HostRuntime) {
-    let heap = heap_of(&rt, 64);
-    for (rows, passes) in [(3, 1), (65_536, 1), (4, 0), (4, 33)] {
-        let opened = Store::open(&heap, Shape { rows, passes });
+    const CASES: &[(u32, u32, OpenFault)] = &[
+        (3, 1, OpenFault::Shape),
+        (65_536, 1, OpenFault::Shape),
+        (4, 0, OpenFault::Shape),
+        (4, 33, OpenFault::Shape),
+        (4, 1, OpenFault::Memory),
+        (4, 32, OpenFault::Memory),
+        (65_535, 1, OpenFault::Memory),
+    ];
+    for (rows, passes, fault) in CASES {
+        let shape = Shape {
+            rows: *rows,
+            passes: *passes,
+        };
         assert!(rt;
-            matches!(opened, Err(OpenFault::Shape)),
+            is_tested(&rt, shape, *fault),
             "{rows} rows, {passes} passes"
         );
-    }
-    for (rows, passes) in [(4, 1), (4, 32), (65_535, 1)] {
-        let opened = Store::open(&heap, Shape { rows, passes });
-        assert!(rt;
-            matches!(opened, Err(OpenFault::Memory)),
-            "{rows} rows, {passes} passes"
-        );
-        let opened = Store::open(rt.alloc(), Shape { rows, passes });
-        assert!(rt; opened.is_ok(), "{rows} rows, {passes} passes");
     }
 }
 
@@ -54,18 +77,27 @@ fn each_growth_of_open_is_refused_in_turn(rt: HostRuntime) {
     assert!(rt; 128 <= refused && refused < 511);
 }
 
-#[test]
-fn refused_seats_are_dealt_again(rt: HostRuntime) {
-    let heap = heap_of(&rt, 16);
-    let (store, seats) = opened(&rt, SMALL);
+// The seats, which a heap of 16 bytes refuses to deal.
+fn refused(
+    rt: &(impl Abort + AllocGlobal),
+    store: &Store<Global>,
+    seats: Seats<Global>,
+) -> Seats<Global>
+    requires own { seats ≡ store.now }
+    ensures own { result ≡ store.now }
+{
+    let heap = heap_of(rt, 16);
     let Err((Memory, seats)) = store.deal(&heap, seats) else {
         panic!(rt; "16 bytes hold no two passes")
     };
-    let Ok(mut passes) = store.deal(rt.alloc(), seats) else {
-        panic!(rt; "no memory")
-    };
-    let (Some(mut second), Some(mut first)) = (passes.pop(), passes.pop()) else {
-        panic!(rt; "two passes")
-    };
-    assert!(rt; puts(&mut second, b"abc", b"x", None) && gets(&mut first, b"abc", Some(b"x")));
+    seats
+}
+
+#[test]
+fn refused_seats_are_dealt_again(rt: HostRuntime) {
+    const STEPS: &[Step] = &[(2, Put(b"abc", b"x", None)), (1, Get(b"abc", Some(b"x")))];
+    let (store, seats) = opened(&rt, SMALL);
+    let seats = refused(&rt, &store, seats);
+    let (mut first, mut second) = both_passes(&rt, &store, seats);
+    run(&rt, &mut first, &mut second, STEPS);
 }

@@ -1,30 +1,36 @@
 //! What a pin keeps: rows are not counted beside it, and those of an older version are not free.
-use crate::fixtures::{SMALL, both_passes, counts, gets, opened, put_fails, puts};
-use mst_store::{Shape, WriteFault};
-use std::process::Abort;
+use crate::calls::Call::{Get, LetGo, Pin, Put, PutInVain, Rows, Unpin};
+use crate::calls::{Step, script};
 
 #[test]
 fn rows_are_not_counted_beside_a_pin(rt: HostRuntime) {
-    let (store, seats) = opened(&rt, SMALL);
-    let (mut first, second) = both_passes(&rt, &store, seats);
-    assert!(rt; puts(&mut first, b"a", b"1", None) && counts(&mut first, Some(2)));
-    // the current version is pinned, and then an older one
-    let pinned = second.pin();
-    assert!(rt; counts(&mut first, None));
-    assert!(rt; puts(&mut first, b"a", b"2", Some(b"1")) && counts(&mut first, None));
-    let mut second = pinned.unpin();
-    assert!(rt; counts(&mut first, Some(2)) && counts(&mut second, Some(2)));
+    const STEPS: &[Step] = &[
+        (1, Put(b"a", b"1", None)),
+        (1, Rows(Some(2))),
+        // the current version is pinned, and then an older one
+        (2, Pin),
+        (1, Rows(None)),
+        (1, Put(b"a", b"2", Some(b"1"))),
+        (1, Rows(None)),
+        (2, Unpin),
+        (1, Rows(Some(2))),
+        (2, Rows(Some(2))),
+    ];
+    script(&rt, 8, &[STEPS]);
 }
 
 #[test]
 fn the_rows_of_a_pinned_version_are_not_free(rt: HostRuntime) {
-    let (store, seats) = opened(&rt, Shape { rows: 4, passes: 2 });
-    let (mut first, second) = both_passes(&rt, &store, seats);
-    assert!(rt; puts(&mut first, b"a", b"1", None));
-    let pinned = second.pin();
-    assert!(rt; puts(&mut first, b"a", b"2", Some(b"1")));
-    assert!(rt; put_fails(&mut first, b"a", b"3", WriteFault::NoRoom));
-    assert!(rt; gets(&mut first, b"a", Some(b"2")));
-    drop(pinned.unpin());
-    assert!(rt; puts(&mut first, b"a", b"3", Some(b"2")) && gets(&mut first, b"a", Some(b"3")));
+    const STEPS: &[Step] = &[
+        (1, Put(b"a", b"1", None)),
+        (2, Pin),
+        (1, Put(b"a", b"2", Some(b"1"))),
+        (1, PutInVain(b"a", b"3")),
+        (1, Get(b"a", Some(b"2"))),
+        (2, Unpin),
+        (2, LetGo),
+        (1, Put(b"a", b"3", Some(b"2"))),
+        (1, Get(b"a", Some(b"3"))),
+    ];
+    script(&rt, 4, &[STEPS]);
 }

@@ -1,8 +1,7 @@
 //! What reads answer: ranges, the next key, the root digest.
-use crate::fixtures::{
-    ROOT_OF_BOTH, ROOT_OF_NONE, SMALL, both_passes, count_pairs, has_root, has_version, key,
-    next_is, opened, puts, removes,
-};
+use crate::calls::Call::{Next, Pairs, Put, Remove, Root, Version};
+use crate::calls::{Step, run, script};
+use crate::fixtures::{ROOT_OF_BOTH, ROOT_OF_NONE, SMALL, both_passes, opened};
 use mst_key::{Key, Value};
 use mst_store::Pass;
 use std::alloc::{Allocator, Global};
@@ -23,60 +22,45 @@ fn has_both<A: Allocator + Copy>(pass: &mut Pass<A>, alloc: Global) -> bool {
 
 #[test]
 fn ranges_are_in_the_order_of_keys(rt: HostRuntime) {
+    const PUTS: &[Step] = &[(2, Put(b"abc", b"x", None)), (2, Put(b"a", b"1", None))];
+    const RANGES: &[Step] = &[
+        (2, Pairs(None, None, 1, 1)),
+        (2, Pairs(None, None, 0, 0)),
+        (2, Pairs(Some(b"a"), Some(b"abc"), 10, 1)),
+        (2, Pairs(Some(b"b"), Some(b"a"), 10, 0)),
+        (2, Pairs(Some(b"abc"), None, 10, 1)),
+        (2, Pairs(Some(b"b"), None, 10, 0)),
+    ];
     let (store, seats) = opened(&rt, SMALL);
-    let (_, mut pass) = both_passes(&rt, &store, seats);
-    let (abc, a, b) = (key(&rt, b"abc"), key(&rt, b"a"), key(&rt, b"b"));
-    assert!(rt; puts(&mut pass, b"abc", b"x", None) && puts(&mut pass, b"a", b"1", None));
-    assert!(rt; has_both(&mut pass, rt.alloc()));
-    for (from, to, limit, count) in [
-        (None, None, 1, 1),
-        (None, None, 0, 0),
-        (Some(&a), Some(&abc), 10, 1),
-        (Some(&b), Some(&a), 10, 0),
-        (Some(&abc), None, 10, 1),
-        (Some(&b), None, 10, 0),
-    ] {
-        assert!(rt;
-            count_pairs(&mut pass, rt.alloc(), from, to, limit) == Some(count),
-            "{count} of {limit}"
-        );
-    }
+    let (mut first, mut second) = both_passes(&rt, &store, seats);
+    run(&rt, &mut first, &mut second, PUTS);
+    assert!(rt; has_both(&mut second, rt.alloc()));
+    run(&rt, &mut first, &mut second, RANGES);
 }
 
 #[test]
 fn next_goes_from_key_to_key(rt: HostRuntime) {
-    let (store, seats) = opened(&rt, SMALL);
-    let (mut first, mut second) = both_passes(&rt, &store, seats);
-    let (abc, a) = (key(&rt, b"abc"), key(&rt, b"a"));
-    assert!(rt; puts(&mut first, b"abc", b"x", None) && puts(&mut first, b"a", b"1", None));
-    assert!(rt; next_is(&mut second, None, Some(b"a")));
-    assert!(rt; next_is(&mut second, Some(&a), Some(b"abc")));
-    assert!(rt; next_is(&mut second, Some(&abc), None));
-    assert!(rt; removes(&mut second, b"a", Some(b"1")) && removes(&mut first, b"a", None));
-    assert!(rt; next_is(&mut first, None, Some(b"abc")));
-    assert!(rt; has_version(&mut first, 4) && has_version(&mut second, 4));
-}
-
-// Whether the root is that of both pairs, once two passes have put them in this order.
-fn have_root_of_both<A: Allocator + Copy>(
-    first: &mut Pass<A>,
-    second: &mut Pass<A>,
-    falling: bool,
-) -> bool {
-    let put = if falling {
-        puts(first, b"abc", b"x", None) && puts(second, b"a", b"1", None)
-    } else {
-        puts(first, b"a", b"1", None) && puts(second, b"abc", b"x", None)
-    };
-    put && has_root(first, &ROOT_OF_BOTH) && has_version(first, 2) && has_version(second, 2)
+    const STEPS: &[Step] = &[
+        (1, Put(b"abc", b"x", None)),
+        (1, Put(b"a", b"1", None)),
+        (2, Next(None, Some(b"a"))),
+        (2, Next(Some(b"a"), Some(b"abc"))),
+        (2, Next(Some(b"abc"), None)),
+        (2, Remove(b"a", Some(b"1"))),
+        (1, Remove(b"a", None)),
+        (1, Next(None, Some(b"abc"))),
+        (1, Version(4)),
+        (2, Version(4)),
+    ];
+    script(&rt, 8, &[STEPS]);
 }
 
 #[test]
 fn the_root_depends_on_the_pairs_alone(rt: HostRuntime) {
-    for falling in [false, true] {
-        let (store, seats) = opened(&rt, SMALL);
-        let (mut first, mut second) = both_passes(&rt, &store, seats);
-        assert!(rt; has_root(&mut first, &ROOT_OF_NONE));
-        assert!(rt; have_root_of_both(&mut first, &mut second, falling));
-    }
+    const NONE: &[Step] = &[(1, Root(ROOT_OF_NONE))];
+    const RISING: &[Step] = &[(1, Put(b"a", b"1", None)), (2, Put(b"abc", b"x", None))];
+    const FALLING: &[Step] = &[(1, Put(b"abc", b"x", None)), (2, Put(b"a", b"1", None))];
+    const BOTH: &[Step] = &[(1, Root(ROOT_OF_BOTH)), (1, Version(2)), (2, Version(2))];
+    script(&rt, 8, &[NONE, RISING, BOTH]);
+    script(&rt, 8, &[NONE, FALLING, BOTH]);
 }

@@ -27,6 +27,35 @@ fn settle_free<A: Allocator + Copy>(passes: &mut [Pass<'_, A>])
     settle(passes, &mut []);
 }
 
+// Each pass puts its number as a key.
+fn each_puts_its_number<A: Allocator + Copy>(rt: &impl Abort, passes: &mut [Pass<A>])
+    requires whole { AreAllPasses passes.old }
+    ensures whole { AreAllPasses passes.new }
+{
+    for pass in passes.iter_mut() {
+        let own = pass.number().to_le_bytes();
+        assert!(rt; adds(pass, &own, b"x"));
+    }
+}
+
+// Whether the pass gets what the passes of these numbers put.
+fn gets_all<A: Allocator + Copy>(pass: &mut Pass<A>, numbers: &[u32]) -> bool {
+    for number in numbers {
+        if !gets(pass, &number.to_le_bytes(), Some(b"x")) {
+            return false;
+        }
+    }
+    true
+}
+
+// The passes have these numbers, and each gets what all put.
+fn all_get_all<A: Allocator + Copy>(rt: &impl Abort, passes: &mut [Pass<A>], order: &[u32]) {
+    for (pass, number) in passes.iter_mut().zip(order) {
+        assert!(rt; pass.number() == *number);
+        assert!(rt; gets_all(pass, order));
+    }
+}
+
 // Each pass puts a key of its own. Settled, each gets them all, in the order in which they stand
 // here.
 pub(crate) fn each_gets_what_all_put<A: Allocator + Copy>(
@@ -36,17 +65,9 @@ pub(crate) fn each_gets_what_all_put<A: Allocator + Copy>(
 )
     requires whole { AreAllPasses passes.old }
 {
-    for pass in passes.iter_mut() {
-        let own = pass.number().to_le_bytes();
-        assert!(rt; adds(pass, &own, b"x"));
-    }
+    each_puts_its_number(rt, passes);
     settle_free(passes);
-    for (pass, number) in passes.iter_mut().zip(order) {
-        assert!(rt; pass.number() == *number);
-        for other in order {
-            assert!(rt; gets(pass, &other.to_le_bytes(), Some(b"x")));
-        }
-    }
+    all_get_all(rt, passes, order);
 }
 
 #[test]
@@ -95,13 +116,21 @@ fn adds_its_own(pass: &mut Pass<Global>) -> bool
     adds(pass, key, value)
 }
 
-// The first pass puts abc and the other a. Settled, both have the version and the root of both.
-fn all_have_the_root_of_both(rt: &impl Abort, passes: &mut [Pass<Global>])
+// The first pass puts abc and the other a.
+fn each_puts_its_pair(rt: &impl Abort, passes: &mut [Pass<Global>])
     requires whole { AreAllPasses passes.old }
+    ensures whole { AreAllPasses passes.new }
 {
     for pass in passes.iter_mut() {
         assert!(rt; adds_its_own(pass));
     }
+}
+
+// The first pass puts abc and the other a. Settled, both have the version and the root of both.
+fn all_have_the_root_of_both(rt: &impl Abort, passes: &mut [Pass<Global>])
+    requires whole { AreAllPasses passes.old }
+{
+    each_puts_its_pair(rt, passes);
     settle_free(passes);
     for pass in passes.iter_mut() {
         assert!(rt; has_version(pass, 2) && has_root(pass, &ROOT_OF_BOTH));

@@ -1,7 +1,7 @@
 //! What one pass writes the others read, one after another and in two threads.
-use crate::fixtures::{
-    SMALL, both_passes, counts, gets, has_version, key, next_is, opened, puts, removes,
-};
+use crate::calls::Call::{Get, Next, Number, Put, Remove, Rows, Version};
+use crate::calls::{Step, run};
+use crate::fixtures::{SMALL, both_passes, key, opened, puts};
 use mst_key::{Key, Value};
 use mst_store::{Pass, WriteFault};
 use std::alloc::{Allocator, Global};
@@ -10,17 +10,25 @@ use std::thread::join;
 
 #[test]
 fn passes_share_a_map(rt: HostRuntime) {
+    const STEPS: &[Step] = &[
+        (1, Number(1)),
+        (2, Number(2)),
+        (1, Put(b"abc", b"x", None)),
+        (2, Get(b"abc", Some(b"x"))),
+        (2, Put(b"abc", b"", Some(b"x"))),
+        (1, Get(b"abc", Some(b""))),
+        (1, Get(b"a", None)),
+        (1, Version(2)),
+        (2, Version(2)),
+        // one key and one node
+        (1, Rows(Some(2))),
+        (1, Remove(b"abc", Some(b""))),
+        (2, Next(None, None)),
+    ];
     let (store, seats) = opened(&rt, SMALL);
     let (mut first, mut second) = both_passes(&rt, &store, seats);
-    assert!(rt; store.passes() == 2 && first.number() == 1 && second.number() == 2);
-    assert!(rt; puts(&mut first, b"abc", b"x", None));
-    assert!(rt; gets(&mut second, b"abc", Some(b"x")));
-    assert!(rt; puts(&mut second, b"abc", b"", Some(b"x")));
-    assert!(rt; gets(&mut first, b"abc", Some(b"")) && gets(&mut first, b"a", None));
-    assert!(rt; has_version(&mut first, 2) && has_version(&mut second, 2));
-    // one key and one node
-    assert!(rt; counts(&mut first, Some(2)));
-    assert!(rt; removes(&mut first, b"abc", Some(b"")) && next_is(&mut second, None, None));
+    assert!(rt; store.passes() == 2);
+    run(&rt, &mut first, &mut second, STEPS);
 }
 
 // Whether each of a hundred writes of one pass and of the other, in turns, goes through.
@@ -37,10 +45,11 @@ fn write_in_turns<A: Allocator + Copy>(first: &mut Pass<A>, second: &mut Pass<A>
 
 #[test]
 fn passes_that_write_in_turns_are_never_refused(rt: HostRuntime) {
+    const AFTER: &[Step] = &[(1, Version(200)), (2, Rows(Some(3)))];
     let (store, seats) = opened(&rt, SMALL);
     let (mut first, mut second) = both_passes(&rt, &store, seats);
     assert!(rt; write_in_turns(&mut first, &mut second));
-    assert!(rt; has_version(&mut first, 200) && counts(&mut second, Some(3)));
+    run(&rt, &mut first, &mut second, AFTER);
 }
 
 // Puts the values 0 to 99 at the key, each until it goes through, and answers whether all went
@@ -63,6 +72,12 @@ fn put_all(pass: &mut Pass<Global>, key: &Key) -> bool {
 
 #[test]
 fn passes_in_two_threads_share_a_map(rt: HostRuntime) {
+    const LAST: &[Step] = &[
+        (1, Get(b"a", Some(&[99]))),
+        (1, Get(b"b", Some(&[99]))),
+        (2, Get(b"a", Some(&[99]))),
+        (2, Get(b"b", Some(&[99]))),
+    ];
     let (store, seats) = opened(&rt, SMALL);
     let (mut first, mut second) = both_passes(&rt, &store, seats);
     let (a, b) = (key(&rt, b"a"), key(&rt, b"b"));
@@ -72,6 +87,5 @@ fn passes_in_two_threads_share_a_map(rt: HostRuntime) {
         || -> bool { put_all(&mut second, &b) },
     );
     assert!(rt; one && other);
-    assert!(rt; gets(&mut first, b"a", Some(&[99])) && gets(&mut first, b"b", Some(&[99])));
-    assert!(rt; gets(&mut second, b"a", Some(&[99])) && gets(&mut second, b"b", Some(&[99])));
+    run(&rt, &mut first, &mut second, LAST);
 }

@@ -9,7 +9,6 @@ use mst_words::{Board, Shape, Token};
 use std::alloc::Allocator;
 use std::marker::Brand;
 use std::process::Abort;
-use std::test::Fail;
 
 const SMALL: Shape = Shape { rows: 4, passes: 2 };
 
@@ -23,7 +22,7 @@ fn opened<A: Allocator + Copy>(alloc: A) -> Result<(Board<A>, Token<A>), Memory>
 }
 
 #[test]
-fn a_pass_pins_the_first_record(rt: HostRuntime) -> Result<(), Fail> {
+fn a_pass_pins_the_first_record(rt: HostRuntime) {
     let Ok((board, mut dealer)) = opened(rt.alloc()) else {
         panic!(rt; "no memory")
     };
@@ -34,11 +33,10 @@ fn a_pass_pins_the_first_record(rt: HostRuntime) -> Result<(), Fail> {
     let again = first.pin(1);
     assert!(rt; again == 0);
     first.forget(1, again);
-    Ok(())
 }
 
 #[test]
-fn one_pass_has_the_turn(rt: HostRuntime) -> Result<(), Fail> {
+fn one_pass_has_the_turn(rt: HostRuntime) {
     let Ok((board, mut dealer)) = opened(rt.alloc()) else {
         panic!(rt; "no memory")
     };
@@ -51,11 +49,10 @@ fn one_pass_has_the_turn(rt: HostRuntime) -> Result<(), Fail> {
     second.return_desk(desk);
     second.give_turn();
     assert!(rt; first.take_turn(1));
-    Ok(())
 }
 
 #[test]
-fn records_that_nobody_pins_are_drained(rt: HostRuntime) -> Result<(), Fail> {
+fn records_that_nobody_pins_are_drained(rt: HostRuntime) {
     let Ok((board, mut dealer)) = opened(rt.alloc()) else {
         panic!(rt; "no memory")
     };
@@ -69,11 +66,10 @@ fn records_that_nobody_pins_are_drained(rt: HostRuntime) -> Result<(), Fail> {
     assert!(rt; second.ask(1));
     assert!(rt; second.ask(2));
     assert!(rt; second.ask(3));
-    Ok(())
 }
 
 #[test]
-fn the_holder_of_the_turn_writes_a_row(rt: HostRuntime) -> Result<(), Fail> {
+fn the_holder_of_the_turn_writes_a_row(rt: HostRuntime) {
     let Ok((board, mut dealer)) = opened(rt.alloc()) else {
         panic!(rt; "no memory")
     };
@@ -92,11 +88,10 @@ fn the_holder_of_the_turn_writes_a_row(rt: HostRuntime) -> Result<(), Fail> {
     };
     first.write(row, &head);
     assert!(rt; first.read(row) == head);
-    Ok(())
 }
 
 #[test]
-fn a_note_is_heard_and_seen(rt: HostRuntime) -> Result<(), Fail> {
+fn a_note_is_heard_and_seen(rt: HostRuntime) {
     let Ok((board, mut dealer)) = opened(rt.alloc()) else {
         panic!(rt; "no memory")
     };
@@ -107,7 +102,6 @@ fn a_note_is_heard_and_seen(rt: HostRuntime) -> Result<(), Fail> {
     second.hear_note::<Brand>(note);
     second.see_told();
     assert!(rt; second.pin(2) == 0);
-    Ok(())
 }
 
 // Whether a table of a heap of so many bytes is opened. If not, the answer is memory, and nothing
@@ -126,7 +120,7 @@ fn opens_in<R: Abort + AllocGlobal>(rt: &R, bytes: usize) -> bool {
 }
 
 #[test]
-fn each_growth_of_open_is_refused_in_turn(rt: HostRuntime) -> Result<(), Fail> {
+fn each_growth_of_open_is_refused_in_turn(rt: HostRuntime) {
     // The words alone take more than two kilobytes, so growths beyond the first are refused too.
     let mut refused = 0u32;
     for step in 1..512usize {
@@ -139,11 +133,10 @@ fn each_growth_of_open_is_refused_in_turn(rt: HostRuntime) -> Result<(), Fail> {
         }
     }
     assert!(rt; 152 <= refused && refused < 511);
-    Ok(())
 }
 
 #[test]
-fn the_words_say_who_pins_a_record(rt: HostRuntime) -> Result<(), Fail> {
+fn the_words_say_who_pins_a_record(rt: HostRuntime) {
     let Ok((board, mut dealer)) = opened(rt.alloc()) else {
         panic!(rt; "no memory")
     };
@@ -162,5 +155,4 @@ fn the_words_say_who_pins_a_record(rt: HostRuntime) -> Result<(), Fail> {
     assert!(rt; board.pins(0) == 1);
     first.unpin(1, again);
     assert!(rt; board.pins(0) == 0 && board.pins(33) == 0);
-    Ok(())
 }

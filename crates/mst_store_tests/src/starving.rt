@@ -1,0 +1,105 @@
+//! Reads in heaps that are too small for their answers.
+use crate::fixtures::{PROOF_OF_BOTH, bound};
+use linked_list_allocator::LocalHeap;
+use mst_key::Key;
+use mst_store::{Memory, Pass, Pinned};
+use std::alloc::{Allocator, Global};
+
+/// Whether ranges and proofs in this heap are refused for want of memory.
+pub(crate) fn lacks_memory<A: Allocator + Copy>(
+    pass: &mut Pass<A>,
+    heap: &LocalHeap,
+    key: &Key,
+) -> bool {
+    matches!(pass.range(heap, None, None, 10), Err(Memory))
+        && matches!(pass.prove(heap, key), Err(Memory))
+}
+
+/// The same in a heap of 16 bytes.
+pub(crate) fn is_starved<A: Allocator + Copy>(
+    alloc: Global,
+    pass: &mut Pass<A>,
+    key: &[u8],
+) -> bool {
+    match (LocalHeap::new(alloc, 16), Key::new(key)) {
+        (Ok(heap), Ok(key)) => lacks_memory(pass, &heap, &key),
+        _ => false,
+    }
+}
+
+/// The same of a pinned pass.
+pub(crate) fn still_starved<A: Allocator + Copy>(
+    alloc: Global,
+    pinned: &mut Pinned<A>,
+    key: &[u8],
+) -> bool {
+    let (Ok(heap), Ok(key)) = (LocalHeap::new(alloc, 16), Key::new(key)) else {
+        return false;
+    };
+    matches!(pinned.range(&heap, None, None, 100), Err(Memory))
+        && matches!(pinned.prove(&heap, &key), Err(Memory))
+}
+
+// What a read answered in some heap: the right answer, or that there is no memory.
+#[derive(Clone, Copy)]
+enum Answered {
+    Right,
+    NoMemory,
+    Wrong,
+}
+
+fn range_in<A: Allocator + Copy>(pass: &mut Pass<A>, heap: &LocalHeap) -> Answered {
+    match pass.range(heap, None, None, 10) {
+        Ok(pairs) if pairs.len() == 2 => Answered::Right,
+        Ok(_) => Answered::Wrong,
+        Err(Memory) => Answered::NoMemory,
+    }
+}
+
+fn proof_in<A: Allocator + Copy>(pass: &mut Pass<A>, heap: &LocalHeap, key: &Key) -> Answered {
+    match pass.prove(heap, key) {
+        Ok(proof) if proof.as_slice() == PROOF_OF_BOTH => Answered::Right,
+        Ok(_) => Answered::Wrong,
+        Err(Memory) => Answered::NoMemory,
+    }
+}
+
+// What a proof of the key answers in a heap of so many bytes, or with no key a range. It is wrong
+// too where the heap is not empty then.
+fn read_in<A: Allocator + Copy>(
+    alloc: Global,
+    pass: &mut Pass<A>,
+    key: Option<&Key>,
+    bytes: usize,
+) -> Answered {
+    let Ok(heap) = LocalHeap::new(alloc, bytes) else {
+        return Answered::Wrong;
+    };
+    let answered = match key {
+        Some(key) => proof_in(pass, &heap, key),
+        None => range_in(pass, &heap),
+    };
+    if heap.used() == 0 {
+        answered
+    } else {
+        Answered::Wrong
+    }
+}
+
+/// Whether a proof of the key, or with none a range, answers in each heap of this many 16 bytes
+/// that there is no memory, up to one in which it answers right.
+pub(crate) fn is_right_or_refused<A: Allocator + Copy>(
+    alloc: Global,
+    pass: &mut Pass<A>,
+    key: Option<&[u8]>,
+) -> bool {
+    let key = bound(key);
+    for units in 1..64usize {
+        match read_in(alloc, pass, key.as_ref(), units * 16) {
+            Answered::NoMemory => {}
+            Answered::Right => return units > 1,
+            Answered::Wrong => return false,
+        }
+    }
+    false
+}
