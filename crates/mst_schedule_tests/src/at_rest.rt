@@ -68,19 +68,13 @@ impl<'a> World<'a> {
 
     // Puts the value, and compares the answer: no room comes exactly where too few rows are free.
     fn puts(&mut self, pass: &mut Pass<'a, Global>, byte: u8) -> bool {
-        let (Ok(key), Ok(value)) = (Key::new(b"a"), Value::new(&[byte])) else {
-            return false;
-        };
         let cost = if self.current.value == Some(byte) {
             0
         } else {
             2
         };
         let fits = cost <= self.rows.saturating_sub(self.held());
-        let old = match self.current.value {
-            Some(old) => is_value_of(pass.try_put(&key, &value), Some(&[old])),
-            None => is_value_of(pass.try_put(&key, &value), None),
-        };
+        let answered = put_over(pass, byte, self.current.value);
         if fits && cost > 0 {
             self.changes = self.changes.saturating_add(1);
             self.current = Version {
@@ -88,7 +82,7 @@ impl<'a> World<'a> {
                 value: Some(byte),
             };
         }
-        old == Some(fits)
+        answered == Some(fits)
     }
 
     // Counts the rows, and compares the answer: none exactly where a version is pinned.
@@ -128,6 +122,18 @@ impl<'a> World<'a> {
         place.pinned = pinned;
         right
     }
+
+    // Whether a script is answered right: five calls, each a digit of base 12.
+    fn answers(&mut self, script: u32) -> bool {
+        let mut rest = script;
+        for _ in 0..5u32 {
+            if !self.calls((rest % 3) as usize, rest / 3 % 4) {
+                return false;
+            }
+            rest /= 12;
+        }
+        true
+    }
 }
 
 // Whether a put answered this old value; or false where there was no room, and nothing where it
@@ -137,6 +143,18 @@ fn is_value_of(answer: Result<Option<Value>, WriteFault>, old: Option<&[u8]>) ->
         Ok(found) if is_value(&found, old) => Some(true),
         Err(WriteFault::NoRoom) => Some(false),
         _ => None,
+    }
+}
+
+// Puts the value at the key a, which has the old one, and answers as `is_value_of` does.
+fn put_over(pass: &mut Pass<Global>, byte: u8, old: Option<u8>) -> Option<bool> {
+    let (Ok(key), Ok(value)) = (Key::new(b"a"), Value::new(&[byte])) else {
+        return None;
+    };
+    let answer = pass.try_put(&key, &value);
+    match old {
+        Some(old) => is_value_of(answer, Some(&[old])),
+        None => is_value_of(answer, None),
     }
 }
 
@@ -163,16 +181,22 @@ fn ends<'a>(
     (right, Seat::Free(pinned.unpin()), None)
 }
 
-// Whether a script is answered right: five calls, each a digit of base 12.
-fn is_right(rt: &(impl Abort + AllocGlobal), rows: u32, script: u32) -> Result<bool, Fail> {
-    let (store, seats) = opened(rt, rows, 3);
-    let mut places = Vec::new(rt.alloc());
-    for pass in dealt(rt, &store, seats) {
+// A place for each pass, all free.
+fn free_places<'a>(alloc: Global, passes: Vec<Pass<'a, Global>>) -> Result<Vec<Place<'a>>, Fail> {
+    let mut places = Vec::new(alloc);
+    for pass in passes {
         places.push(Place {
             seat: Some(Seat::Free(pass)),
             pinned: None,
         })?;
     }
+    Ok(places)
+}
+
+// Whether a script is answered right over a new store.
+fn is_right(rt: &(impl Abort + AllocGlobal), rows: u32, script: u32) -> Result<bool, Fail> {
+    let (store, seats) = opened(rt, rows, 3);
+    let places = free_places(rt.alloc(), dealt(rt, &store, seats))?;
     let current = Version {
         made: 0,
         value: None,
@@ -183,14 +207,7 @@ fn is_right(rt: &(impl Abort + AllocGlobal), rows: u32, script: u32) -> Result<b
         current,
         places,
     };
-    let mut rest = script;
-    for _ in 0..5u32 {
-        if !world.calls((rest % 3) as usize, rest / 3 % 4) {
-            return Ok(false);
-        }
-        rest /= 12;
-    }
-    Ok(true)
+    Ok(world.answers(script))
 }
 
 // All scripts over a store of so many rows.

@@ -1,10 +1,19 @@
 //! What the tests share: stores with their passes, and calls whose answers are compared.
 ghost use Rattle.std.specs.Prelude.{◌≡◌};
 
+use linked_list_allocator::LocalHeap;
 use mst_key::{Key, Value};
 use mst_store::{Pass, Pinned, Seats, Shape, Store};
 use std::alloc::{Allocator, Global};
 use std::process::Abort;
+
+/// A heap of so many bytes.
+pub(crate) fn heap_of(rt: &(impl Abort + AllocGlobal), bytes: usize) -> LocalHeap {
+    let Ok(heap) = LocalHeap::new(rt.alloc(), bytes) else {
+        panic!(rt; "no memory")
+    };
+    heap
+}
 
 /// A store of this size.
 pub(crate) fn opened(

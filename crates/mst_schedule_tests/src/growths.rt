@@ -1,13 +1,22 @@
 //! Memory that is refused: to the dealing of passes, and to the reads of a pinned pass.
 ghost use Rattle.std.specs.Prelude.{◌≡◌};
 
-use crate::fixtures::{counts, dealt, gets, opened, puts, still_gets};
+use crate::fixtures::{counts, dealt, gets, heap_of, opened, puts, still_gets};
 use linked_list_allocator::LocalHeap;
 use mst_key::Key;
-use mst_store::{Memory, Pinned, Seats, Shape, Store};
+use mst_store::{Memory, Pass, Pinned, Seats, Shape, Store};
 use std::alloc::Global;
 use std::process::Abort;
-use std::test::Fail;
+
+// Whether each pass reads the empty map.
+fn all_read_nothing(passes: &mut [Pass<'_, Global>]) -> bool {
+    for pass in passes.iter_mut() {
+        if !gets(pass, b"a", None) || !counts(pass, Some(0)) {
+            return false;
+        }
+    }
+    true
+}
 
 // Deals the seats in a heap of ever more bytes, and answers how many heaps were too small. The
 // seats of a refusal are dealt again, and at last serve.
@@ -15,18 +24,16 @@ fn refused_heaps(
     rt: &(impl Abort + AllocGlobal),
     store: &Store<Global>,
     seats: Seats<Global>,
-) -> Result<usize, Fail>
+) -> usize
     requires own { seats ≡ store.now }
 {
     let mut seats = seats;
     for units in 1..1024usize {
-        let heap = LocalHeap::new(rt.alloc(), units * 16)?;
+        let heap = heap_of(rt, units * 16);
         match store.deal(&heap, seats) {
             Ok(mut passes) => {
-                for pass in passes.iter_mut() {
-                    assert!(rt; gets(pass, b"a", None) && counts(pass, Some(0)));
-                }
-                return Ok(units - 1);
+                assert!(rt; all_read_nothing(&mut passes));
+                return units - 1;
             }
             Err((Memory, again)) => {
                 assert!(rt; heap.used() == 0, "nothing is kept");
@@ -34,19 +41,18 @@ fn refused_heaps(
             }
         }
     }
-    Err("refused with ample memory".into())
+    panic!(rt; "refused with ample memory")
 }
 
 #[test]
-fn each_growth_of_deal_is_refused(rt: HostRuntime) -> Result<(), Fail> {
+fn each_growth_of_deal_is_refused(rt: HostRuntime) {
     let (store, seats) = opened(&rt, 4, 32);
-    let refused = refused_heaps(&rt, &store, seats)?;
+    let refused = refused_heaps(&rt, &store, seats);
     assert!(rt; 16 <= refused, "{refused} heaps were too small");
-    Ok(())
 }
 
 // What a read answered in some heap: the right answer, or that there is no memory.
-#[derive(Clone, Copy, PartialEq, Eq)]
+#[derive(Clone, Copy)]
 enum Answered {
     Right,
     NoMemory,
@@ -75,58 +81,87 @@ fn proof_in(pinned: &mut Pinned<Global>, heap: &LocalHeap, key: &Key) -> Answere
     }
 }
 
-// Whether the read of the pinned pass answers in each heap of this many 16 bytes that there is no
-// memory, up to one in which it answers right.
-fn is_right_or_refused(
+// What the read answers in a heap of so many bytes. It is wrong too where the heap is not empty
+// then.
+fn read_in(
     alloc: Global,
     pinned: &mut Pinned<Global>,
     key: Option<&Key>,
-) -> Result<bool, Fail> {
+    bytes: usize,
+) -> Answered {
+    let Ok(heap) = LocalHeap::new(alloc, bytes) else {
+        return Answered::Wrong;
+    };
+    let answered = match key {
+        Some(key) => proof_in(pinned, &heap, key),
+        None => range_in(pinned, &heap),
+    };
+    if heap.used() == 0 {
+        answered
+    } else {
+        Answered::Wrong
+    }
+}
+
+// Whether the read of the pinned pass answers in each heap of this many 16 bytes that there is no
+// memory, up to one in which it answers right.
+fn is_right_or_refused(alloc: Global, pinned: &mut Pinned<Global>, key: Option<&Key>) -> bool {
     for units in 1..64usize {
-        let heap = LocalHeap::new(alloc, units * 16)?;
-        let answered = match key {
-            Some(key) => proof_in(pinned, &heap, key),
-            None => range_in(pinned, &heap),
-        };
-        if answered != Answered::NoMemory {
-            return Ok(units > 1 && answered == Answered::Right && heap.used() == 0);
-        }
-        if !still_gets(pinned, b"a", Some(b"1")) {
-            return Ok(false);
+        match read_in(alloc, pinned, key, units * 16) {
+            Answered::NoMemory if still_gets(pinned, b"a", Some(b"1")) => {}
+            Answered::Right => return units > 1,
+            _ => return false,
         }
     }
-    Ok(false)
+    false
+}
+
+// Whether a range and a proof are right or refused.
+fn are_right_or_refused(alloc: Global, pinned: &mut Pinned<Global>) -> bool {
+    let Ok(key) = Key::new(b"abc") else {
+        return false;
+    };
+    is_right_or_refused(alloc, pinned, None) && is_right_or_refused(alloc, pinned, Some(&key))
+}
+
+// Pins the version of a with 1 and abc with x, and answers whether its reads are right while the
+// other pass writes.
+fn reads_pinned<'a>(
+    alloc: Global,
+    pass: Pass<'a, Global>,
+    other: &mut Pass<Global>,
+) -> (Pass<'a, Global>, bool) {
+    let mut pinned = pass.pin();
+    let right = puts(other, b"a", b"2", Some(b"1")) && are_right_or_refused(alloc, &mut pinned);
+    (pinned.unpin(), right)
 }
 
 #[test]
-fn each_growth_of_a_pinned_read_is_refused(rt: HostRuntime) -> Result<(), Fail> {
+fn each_growth_of_a_pinned_read_is_refused(rt: HostRuntime) {
     let (store, seats) = opened(&rt, 8, 2);
     let mut passes = dealt(&rt, &store, seats);
     let (Some(mut second), Some(mut first)) = (passes.pop(), passes.pop()) else {
         panic!(rt; "two passes")
     };
-    let key = Key::new(b"abc")?;
     assert!(rt; puts(&mut first, b"a", b"1", None) && puts(&mut second, b"abc", b"x", None));
-    let mut pinned = second.pin();
-    assert!(rt; puts(&mut first, b"a", b"2", Some(b"1")));
-    assert!(rt; is_right_or_refused(rt.alloc(), &mut pinned, None)?);
-    assert!(rt; is_right_or_refused(rt.alloc(), &mut pinned, Some(&key))?);
+    let (mut second, right) = reads_pinned(rt.alloc(), second, &mut first);
+    assert!(rt; right);
     // the pin is over, and the rows that it kept are free
-    let mut second = pinned.unpin();
     assert!(rt; counts(&mut second, Some(3)) && gets(&mut second, b"a", Some(b"2")));
-    Ok(())
 }
 
 // Takes what is left of the heap, in blocks of the least size.
-fn fill<'h>(alloc: Global, heap: &'h LocalHeap) -> Result<Vec<Vec<u8, &'h LocalHeap>>, Fail> {
-    let mut blocks = Vec::new(alloc);
+fn fill<'h>(rt: &(impl Abort + AllocGlobal), heap: &'h LocalHeap) -> Vec<Vec<u8, &'h LocalHeap>> {
+    let mut blocks = Vec::new(rt.alloc());
     for _ in 0..1024u32 {
-        match Vec::with_capacity(heap, 1) {
-            Ok(block) => blocks.push(block)?,
-            Err(_) => return Ok(blocks),
+        let Ok(block) = Vec::with_capacity(heap, 1) else {
+            return blocks;
+        };
+        if blocks.push(block).is_err() {
+            panic!(rt; "no memory")
         }
     }
-    Ok(blocks)
+    blocks
 }
 
 // Whether each call of the pinned pass that takes no memory goes on: its version has the key a
@@ -139,11 +174,27 @@ fn all_go_on(pinned: &mut Pinned<&LocalHeap>, root: [u8; 32]) -> bool {
         && pinned.number() == 2
 }
 
+// Pins a version, and answers whether its calls go on over the full heap while the other pass
+// writes.
+fn goes_on<'a, 'h>(
+    pass: Pass<'a, &'h LocalHeap>,
+    other: &mut Pass<'_, &'h LocalHeap>,
+    heap: &LocalHeap,
+) -> (Pass<'a, &'h LocalHeap>, bool) {
+    let put = puts(other, b"a", b"1", None);
+    let root = other.root();
+    let mut pinned = pass.pin();
+    let right = put
+        && puts(other, b"a", b"2", Some(b"1"))
+        && all_go_on(&mut pinned, root)
+        && matches!(pinned.range(heap, None, None, 10), Err(Memory));
+    (pinned.unpin(), right)
+}
+
 #[test]
-fn a_pinned_pass_goes_on_over_a_full_heap(rt: HostRuntime) -> Result<(), Fail> {
-    let heap = LocalHeap::new(rt.alloc(), 16_384)?;
-    let shape = Shape { rows: 8, passes: 2 };
-    let Ok((store, seats)) = Store::open(&heap, shape) else {
+fn a_pinned_pass_goes_on_over_a_full_heap(rt: HostRuntime) {
+    let heap = heap_of(&rt, 16_384);
+    let Ok((store, seats)) = Store::open(&heap, Shape { rows: 8, passes: 2 }) else {
         panic!(rt; "an ample heap")
     };
     let Ok(mut passes) = store.deal(&heap, seats) else {
@@ -152,14 +203,9 @@ fn a_pinned_pass_goes_on_over_a_full_heap(rt: HostRuntime) -> Result<(), Fail> {
     let (Some(second), Some(mut first)) = (passes.pop(), passes.pop()) else {
         panic!(rt; "two passes")
     };
-    let blocks = fill(rt.alloc(), &heap)?;
+    let blocks = fill(&rt, &heap);
     assert!(rt; Vec::<u8, &LocalHeap>::with_capacity(&heap, 1).is_err() && !blocks.is_empty());
-    assert!(rt; puts(&mut first, b"a", b"1", None));
-    let root = first.root();
-    let mut pinned = second.pin();
-    assert!(rt; puts(&mut first, b"a", b"2", Some(b"1")) && all_go_on(&mut pinned, root));
-    assert!(rt; matches!(pinned.range(&heap, None, None, 10), Err(Memory)));
-    let mut second = pinned.unpin();
+    let (mut second, right) = goes_on(second, &mut first, &heap);
+    assert!(rt; right);
     assert!(rt; second.version() == 2 && gets(&mut second, b"a", Some(b"2")));
-    Ok(())
 }

@@ -3,7 +3,6 @@ use crate::fixtures::{counts, dealt, gets, opened, puts};
 use mst_store::Pass;
 use std::alloc::Global;
 use std::process::Abort;
-use std::test::Fail;
 
 // Whether each pass in turn puts its number as the value of one key, finds the value of the pass
 // before, and reads its own.
@@ -35,14 +34,18 @@ fn each_reads_the_last(passes: &mut [Pass<'_, Global>], last: u8) -> bool {
     true
 }
 
+// Whether a store of so many passes deals them all, and each puts and reads.
+fn serves_all(rt: &(impl Abort + AllocGlobal), number: u8) -> bool {
+    let (store, seats) = opened(rt, 4, u32::from(number));
+    let mut passes = dealt(rt, &store, seats);
+    passes.len() == usize::from(number)
+        && each_puts_and_gets(&mut passes)
+        && each_reads_the_last(&mut passes, number)
+}
+
 #[test]
-fn each_number_of_passes(rt: HostRuntime) -> Result<(), Fail> {
+fn each_number_of_passes(rt: HostRuntime) {
     for number in 1..=32u8 {
-        let (store, seats) = opened(&rt, 4, u32::from(number));
-        let mut passes = dealt(&rt, &store, seats);
-        assert!(rt; passes.len() == usize::from(number));
-        assert!(rt; each_puts_and_gets(&mut passes), "{number} passes");
-        assert!(rt; each_reads_the_last(&mut passes, number), "{number} passes");
+        assert!(rt; serves_all(&rt, number), "{number} passes");
     }
-    Ok(())
 }
