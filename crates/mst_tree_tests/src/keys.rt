@@ -4,9 +4,11 @@ ghost use Rattle.std.specs.Prelude.{◌≡◌, ◌↔◌, IsTrue, OnOk, IsSorted
 ghost use Rattle.std.specs.declared.cmp.Ordering.TheVariants.{Less};
 ghost use Rattle.mst_key.specs.Map.{key_cmp};
 
+use crate::pairs::prints;
 use mst_key::{Change, Event, Key, KeySize, Memory, Value, ValueSize};
-use std::alloc::{AllocError, Allocator};
+use std::alloc::{AllocError, Allocator, Global};
 use std::cmp::Ordering;
+use std::process::Abort;
 use std::test::Fail;
 
 /// A caller that knows no more of its keys than that they have a total order.
@@ -63,101 +65,134 @@ fn sort_keys<A: Allocator>(alloc: A, keys: &mut [Key]) -> Result<(), AllocError>
 
 #[test]
 fn refusals_print_their_causes(rt: HostRuntime) -> Result<(), Fail> {
-    let alloc = rt.alloc();
-    let key = format!(in alloc; "{}", KeySize)?;
-    let value = format!(in alloc; "{}", ValueSize)?;
-    let memory = format!(in alloc; "{}", Memory)?;
-    assert!(rt; key.as_str() == "a key has 1 to 32 bytes");
-    assert!(rt; value.as_str() == "a value has at most 64 bytes");
-    assert!(rt; memory.as_str() == "no memory");
+    assert!(rt; prints(rt.alloc(), &KeySize, "a key has 1 to 32 bytes")?);
+    assert!(rt; prints(rt.alloc(), &ValueSize, "a value has at most 64 bytes")?);
+    assert!(rt; prints(rt.alloc(), &Memory, "no memory")?);
     Ok(())
+}
+
+/// A number of bytes, and whether a key and a value can have so many.
+const SIZES: &[(usize, bool, bool)] = &[
+    (0, false, true),
+    (1, true, true),
+    (32, true, true),
+    (33, false, true),
+    (64, false, true),
+    (65, false, false),
+];
+
+/// Whether so many bytes are a key, and whether they are a value.
+fn are_sizes(len: usize) -> (bool, bool) {
+    let bytes = [0x61; 65];
+    let bytes = &bytes[..len.min(65)];
+    (Key::new(bytes).is_ok(), Value::new(bytes).is_ok())
 }
 
 #[test]
 fn sizes_at_the_limits(rt: HostRuntime) {
-    let bytes = [0x61; 65];
-    for (len, is_key, is_value) in [
-        (0, false, true),
-        (1, true, true),
-        (32, true, true),
-        (33, false, true),
-        (64, false, true),
-        (65, false, false),
-    ] {
-        assert!(rt;
-            Key::new(&bytes[..len]).is_ok() == is_key,
-            "a key of {len} bytes"
-        );
-        assert!(rt;
-            Value::new(&bytes[..len]).is_ok() == is_value,
-            "a value of {len} bytes"
-        );
+    for (len, is_key, is_value) in SIZES {
+        let (key, value) = are_sizes(*len);
+        assert!(rt; key == *is_key, "a key of {len} bytes");
+        assert!(rt; value == *is_value, "a value of {len} bytes");
     }
+}
+
+const RISING: &[&[u8]] = &[
+    b"\x00",
+    b"\x00\x00",
+    b"a",
+    b"ab",
+    b"b",
+    b"\x7f\xff",
+    b"\x80",
+];
+
+/// Whether keys of these bytes stand in this order.
+fn is_order(one: &[u8], other: &[u8], order: Ordering) -> Result<bool, KeySize> {
+    Ok(stand_so(&Key::new(one)?, &Key::new(other)?, order))
+}
+
+/// Whether the key of the least bytes comes first when the two are sorted.
+fn comes_first(alloc: Global, one: &[u8], other: &[u8], least: &[u8]) -> Result<bool, Fail> {
+    let mut pair = [Key::new(other)?, Key::new(one)?];
+    sort_keys(alloc, &mut pair)?;
+    Ok(pair[0].bytes() == least)
+}
+
+/// Compares the key at a place among the rising ones with each of them.
+fn compare_with_each(rt: &impl Abort, alloc: Global, i: usize, one: &[u8]) -> Result<(), Fail> {
+    for (j, other) in RISING.iter().enumerate() {
+        assert!(rt; is_order(one, other, i.cmp(&j))?, "{i} and {j}");
+        let least = if i < j { one } else { other };
+        assert!(rt; comes_first(alloc, one, other, least)?, "{i} and {j}");
+    }
+    Ok(())
 }
 
 #[test]
 fn keys_in_ascending_order(rt: HostRuntime) -> Result<(), Fail> {
-    let rising: [&[u8]; 7] = [
-        b"\x00",
-        b"\x00\x00",
-        b"a",
-        b"ab",
-        b"b",
-        b"\x7f\xff",
-        b"\x80",
-    ];
-    for (i, one) in rising.iter().enumerate() {
-        for (j, other) in rising.iter().enumerate() {
-            let (one, other) = (Key::new(one)?, Key::new(other)?);
-            assert!(rt; stand_so(&one, &other, i.cmp(&j)), "{i} and {j}");
-            let mut pair = [other, one];
-            sort_keys(rt.alloc(), &mut pair)?;
-            assert!(rt; pair[0].bytes() == rising[i.min(j)], "{i} and {j}");
-        }
+    for (i, one) in RISING.iter().enumerate() {
+        compare_with_each(&rt, rt.alloc(), i, one)?;
     }
     Ok(())
 }
 
+fn key_is_cloned(bytes: &[u8]) -> Result<bool, Fail> {
+    let key = Key::new(bytes)?;
+    Ok(key.clone()?.bytes() == bytes && same_key(&key, &key.copy()))
+}
+
+fn value_is_cloned(bytes: &[u8]) -> Result<bool, Fail> {
+    let value = Value::new(bytes)?;
+    Ok(value.clone()?.bytes() == bytes && same_value(&value, &value.copy()))
+}
+
+/// Whether a put is the same event as itself, and another than the removal of its key.
+fn events_are_compared(key: &[u8], value: &[u8]) -> Result<bool, Fail> {
+    let key = Key::new(key)?;
+    let change = Change::Put(key.copy(), Value::new(value)?);
+    let put = Event { pass: 1, change };
+    let change = Change::Remove(key);
+    let remove = Event { pass: 1, change };
+    Ok(same_event(&put, &put) && !same_event(&put, &remove))
+}
+
 #[test]
 fn clones_are_the_same(rt: HostRuntime) -> Result<(), Fail> {
-    let (Ok(key), Ok(value)) = (Key::new(&[0xff; 32]), Value::new(&[0x00; 64])) else {
-        panic!(rt; "sizes")
-    };
-    assert!(rt; key.clone()?.bytes() == [0xff; 32].as_slice());
-    assert!(rt; value.clone()?.bytes() == [0x00; 64].as_slice());
-    assert!(rt; same_key(&key, &key.copy()));
-    assert!(rt; same_value(&value, &value.copy()));
-    let change = Change::Put(key.copy(), value.copy());
-    let put = Event { pass: 1, change };
-    let change = Change::Remove(key.copy());
-    let remove = Event { pass: 1, change };
-    assert!(rt; same_event(&put, &put));
-    assert!(rt; !same_event(&put, &remove));
+    assert!(rt; key_is_cloned(&[0xff; 32])?);
+    assert!(rt; value_is_cloned(&[0x00; 64])?);
+    assert!(rt; events_are_compared(&[0xff; 32], &[0x00; 64])?);
     Ok(())
 }
 
 /// Layers by another SHA-256 (Python's hashlib).
+const LAYERS: &[(&str, u8)] = &[
+    ("1", 0),
+    ("a", 0),
+    ("abc", 0),
+    ("0", 0),
+    ("hello", 0),
+    ("merkle search tree keys 32 bytes", 0),
+    ("39", 1),
+    ("49", 1),
+    ("286", 2),
+    ("671", 2),
+    ("886", 3),
+    ("1039", 3),
+    ("88484", 4),
+    ("172608", 4),
+    ("596138", 5),
+    ("665782", 7),
+];
+
+fn layer_of(key: &str) -> Result<u8, KeySize> {
+    Ok(Key::new(key.as_bytes())?.layer())
+}
+
 #[test]
 fn layers(rt: HostRuntime) -> Result<(), Fail> {
-    for (key, layer) in [
-        ("1", 0),
-        ("a", 0),
-        ("abc", 0),
-        ("0", 0),
-        ("hello", 0),
-        ("merkle search tree keys 32 bytes", 0),
-        ("39", 1),
-        ("49", 1),
-        ("286", 2),
-        ("671", 2),
-        ("886", 3),
-        ("1039", 3),
-        ("88484", 4),
-        ("172608", 4),
-        ("596138", 5),
-        ("665782", 7),
-    ] {
-        assert!(rt; Key::new(key.as_bytes())?.layer() == layer, "{key}");
+    for (key, layer) in LAYERS {
+        assert!(rt; layer_of(key)? == *layer, "{key}");
     }
     Ok(())
 }

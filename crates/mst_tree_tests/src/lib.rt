@@ -5,6 +5,8 @@
 #[cfg(test)]
 mod full_heap;
 #[cfg(test)]
+mod heaps;
+#[cfg(test)]
 mod keys;
 #[cfg(test)]
 mod nodes;

@@ -9,14 +9,14 @@ mod maps;
 mod sizes;
 mod verdicts;
 
-use crate::pairs::top;
+use crate::heaps::fill;
+use crate::pairs::{prints, top};
 use linked_list_allocator::LocalHeap;
 use mst_key::{Key, Memory, Value};
-use mst_node::build;
+use mst_node::{build, is_map, root_of};
 use mst_proof::{collide, verify};
 use std::alloc::Global;
 use std::cmp::Ordering;
-use std::process::Abort;
 use std::test::Fail;
 
 /// The root digest of the map of `a` and `abc`, with the values `1` and `x`.
@@ -39,86 +39,119 @@ fn root_in(alloc: Global, digits: &str) -> Result<[u8; 32], Fail> {
     Ok(*root)
 }
 
-/// The verdict in words.
-fn verdict(alloc: Global, root: &[u8; 32], key: &[u8], proof: &[u8]) -> Result<String, Fail> {
-    let key = Key::new(key)?;
-    Ok(match verify(root, &key, proof) {
-        Ok(None) => format!(in alloc; "absent")?,
+/// Whether the verdict in words is this one.
+fn is_verdict(
+    alloc: Global,
+    root: &[u8; 32],
+    key: &[u8],
+    proof: &[u8],
+    words: &str,
+) -> Result<bool, Fail> {
+    match verify(root, &Key::new(key)?, proof) {
+        Ok(None) => Ok(words == "absent"),
         Ok(Some(value)) => {
             let digits = hex::encode(alloc, value.bytes())?;
-            format!(in alloc; "present {}", digits.as_str())?
+            Ok(words.strip_prefix("present ") == Some(digits.as_str()))
         }
-        Err(fault) => format!(in alloc; "{fault}")?,
-    })
+        Err(fault) => Ok(prints(alloc, &fault, words)?),
+    }
 }
 
-/// The verdict on a proof of hexadecimal digits.
-fn verdict_in(alloc: Global, root: &str, key: &[u8], proof: &str) -> Result<String, Fail> {
-    let root = root_in(alloc, root)?;
-    let proof = hex::decode(alloc, proof)?;
-    verdict(alloc, &root, key, proof.as_slice())
+/// The greatest layer of the keys.
+fn greatest_layer(pairs: &[(Key, Value)]) -> u8 {
+    let mut greatest = 0;
+    for (key, _) in pairs {
+        greatest = greatest.max(key.layer());
+    }
+    greatest
 }
 
 /// The pairs in the key's gap among those of the greatest layer, or none where one of these has the
 /// key.
-fn gap_of<'a>(
-    alloc: Global,
-    pairs: &'a [(Key, Value)],
-    key: &Key,
-) -> Result<Option<&'a [(Key, Value)]>, Fail> {
-    let mut layers = Vec::new(alloc);
-    let mut greatest = 0;
-    for (at, _) in pairs {
-        let layer = at.layer();
-        layers.push(layer)?;
-        greatest = greatest.max(layer);
-    }
+fn gap_of<'a>(pairs: &'a [(Key, Value)], key: &Key) -> Option<&'a [(Key, Value)]> {
+    let greatest = greatest_layer(pairs);
     let mut start = 0;
-    let mut end = pairs.len();
-    for (i, (pair, layer)) in pairs.iter().zip(layers.iter()).enumerate() {
-        if *layer == greatest {
-            match key.cmp(&pair.0) {
-                Ordering::Less => {
-                    end = i;
-                    break;
-                }
-                Ordering::Equal => return Ok(None),
-                Ordering::Greater => start = i + 1,
-            }
+    for (i, (at, _)) in pairs.iter().enumerate() {
+        if at.layer() != greatest {
+            continue;
+        }
+        match key.cmp(at) {
+            Ordering::Less => return pairs.get(start..i),
+            Ordering::Equal => return None,
+            Ordering::Greater => start = i + 1,
         }
     }
-    Ok(pairs.get(start..end))
+    pairs.get(start..)
 }
 
-/// The proof for the key in the map of the list, made from the lists in its gaps.
-fn proof_for(
-    rt: &impl Abort,
+/// Adds a text, with its size before it.
+fn push_text(proof: &mut Vec<u8>, text: &[u8]) -> Result<(), Fail> {
+    let Ok(size) = u32::try_from(text.len()) else {
+        return Err("a text too long".into());
+    };
+    proof.extend_from_slice(size.to_be_bytes().as_slice())?;
+    proof.extend_from_slice(text)?;
+    Ok(())
+}
+
+/// Adds the text of the top node of the list's tree, and says whether there is one.
+fn push_top(alloc: Global, proof: &mut Vec<u8>, pairs: &[(Key, Value)]) -> Result<bool, Fail> {
+    if pairs.len() > 65535 {
+        return Err("too many pairs".into());
+    }
+    let Some(text) = top(alloc, pairs)? else {
+        return Ok(false);
+    };
+    push_text(proof, text.as_slice())?;
+    Ok(true)
+}
+
+/// Adds the texts of the proof for the key, made from the lists in its gaps, and gives their number.
+fn push_texts(
     alloc: Global,
+    proof: &mut Vec<u8>,
     pairs: &[(Key, Value)],
     key: &Key,
-) -> Result<Vec<u8>, Fail> {
-    let mut proof = Vec::new(alloc);
-    proof.push(1)?;
-    proof.push(0)?;
+) -> Result<u8, Fail> {
     let mut gap = pairs;
-    for count in 1..=65u8 {
-        assert!(rt; gap.len() <= 65535);
-        let Some(text) = top(alloc, gap)? else {
-            break;
-        };
-        assert!(rt; proof.len() > 1);
-        proof[1] = count;
-        let Ok(size) = u32::try_from(text.len()) else {
-            return Err("a text too long".into());
-        };
-        proof.extend_from_slice(size.to_be_bytes().as_slice())?;
-        proof.extend_from_slice(text.as_slice())?;
-        match gap_of(alloc, gap, key)? {
-            None => break,
+    for count in 0..65u8 {
+        if !push_top(alloc, proof, gap)? {
+            return Ok(count);
+        }
+        match gap_of(gap, key) {
+            None => return Ok(count + 1),
             Some(below) => gap = below,
         }
     }
+    Ok(65)
+}
+
+/// The proof for the key in the map of the list.
+fn proof_for(alloc: Global, pairs: &[(Key, Value)], key: &[u8]) -> Result<Vec<u8>, Fail> {
+    let mut texts = Vec::new(alloc);
+    let count = push_texts(alloc, &mut texts, pairs, &Key::new(key)?)?;
+    let mut proof = [1, count].to_vec(alloc)?;
+    proof.extend_from_slice(texts.as_slice())?;
     Ok(proof)
+}
+
+/// Whether the proof for a key of the map is accepted with this value, or with none.
+fn proves(
+    alloc: Global,
+    pairs: &[(Key, Value)],
+    key: &[u8],
+    value: Option<&[u8]>,
+) -> Result<bool, Fail> {
+    if pairs.len() > 65_535 {
+        return Ok(false);
+    }
+    let root = root_of(pairs);
+    let proof = proof_for(alloc, pairs, key)?;
+    match (verify(&root, &Key::new(key)?, proof.as_slice()), value) {
+        (Ok(Some(shown)), Some(wanted)) => Ok(shown.bytes() == wanted),
+        (Ok(None), None) => Ok(true),
+        _ => Ok(false),
+    }
 }
 
 /// Whether `collide` finds a pair of texts beside no tree.
@@ -147,16 +180,31 @@ fn collided_in(
     let Some(node) = tree else {
         return Ok(None);
     };
-    let mut filling = Vec::new(alloc);
-    for _ in 0..4096 {
-        match Vec::<u8, &LocalHeap>::with_capacity(heap, 16) {
-            Ok(block) => filling.push(block)?,
-            Err(_) => break,
-        }
-    }
+    let mut filling = fill(alloc, heap)?;
     filling.truncate(filling.len().saturating_sub(blocks));
     Ok(Some(match collide(heap, key, proof, Some(&*node)) {
         Ok(pair) => Ok(pair.is_some()),
         Err(Memory) => Err(Memory),
     }))
+}
+
+/// Whether `collide` finds a pair of texts beside the tree of the map, in a heap of so many bytes as
+/// above. The heap keeps nothing of what was asked.
+fn collided(
+    alloc: Global,
+    bytes: usize,
+    pairs: &[(Key, Value)],
+    key: &[u8],
+    proof: &[u8],
+    blocks: usize,
+) -> Result<Option<Result<bool, Memory>>, Fail> {
+    if pairs.len() > 65535 || !is_map(pairs) {
+        return Err("no map".into());
+    }
+    let heap = LocalHeap::new(alloc, bytes)?;
+    let found = collided_in(alloc, &heap, pairs, &Key::new(key)?, proof, blocks)?;
+    if heap.used() > 0 {
+        return Err("something is kept".into());
+    }
+    Ok(found)
 }

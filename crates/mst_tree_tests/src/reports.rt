@@ -11,87 +11,107 @@ const TWO: &str = "d4a8a9fc55058427163bd8a1f09ca5ec542de1cdaf28df100be5472e47b72
 
 const TWO_PROOF: &[u8] = b"0101000000110100000200016101310003616263017800\n";
 
-/// The line for a text, and whether it is a refusal.
-fn said(alloc: Global, key: &str, text: &[u8]) -> Result<(Vec<u8>, bool), Fail> {
+/// Whether this line is said of a text, as a refusal or not.
+fn is_said(alloc: Global, key: &str, text: &[u8], line: &str, refused: bool) -> Result<bool, Fail> {
     let root = root_in(TWO).ok_or("no root")?;
     let key = key_in(key).ok_or("no key")?;
     let report = report_on(alloc, &root, &key, text)?;
-    let line = report.line().as_slice().to_vec(alloc)?;
-    Ok((line, report.is_refusal()))
+    Ok(report.line().as_slice() == line.as_bytes() && report.is_refusal() == refused)
 }
+
+const TEXTS: &[(&str, &[u8], &str, bool)] = &[
+    ("61", TWO_PROOF, "present 31\n", false),
+    ("616263", TWO_PROOF, "present 78\n", false),
+    ("62", TWO_PROOF, "absent\n", false),
+    ("62", b"0100", "P5\n", true),
+    ("62", b"", "P2\n", true),
+    ("62", b"\n", "P2\n", true),
+    ("62", b"\n\n", "fault hex\n", true),
+    ("62", b"0", "fault hex\n", true),
+    ("62", b"0g", "fault hex\n", true),
+];
 
 #[test]
 fn texts_and_lines(rt: HostRuntime) -> Result<(), Fail> {
-    for (key, text, line, refused) in [
-        ("61", TWO_PROOF, "present 31\n", false),
-        ("616263", TWO_PROOF, "present 78\n", false),
-        ("62", TWO_PROOF, "absent\n", false),
-        ("62", b"0100".as_slice(), "P5\n", true),
-        ("62", b"".as_slice(), "P2\n", true),
-        ("62", b"\n".as_slice(), "P2\n", true),
-        ("62", b"\n\n".as_slice(), "fault hex\n", true),
-        ("62", b"0".as_slice(), "fault hex\n", true),
-        ("62", b"0g".as_slice(), "fault hex\n", true),
-    ] {
-        let (got, is_refusal) = said(rt.alloc(), key, text)?;
-        assert_eq!(rt; got.as_slice(), line.as_bytes());
-        assert_eq!(rt; is_refusal, refused);
+    for (key, text, line, refused) in TEXTS {
+        assert!(rt; is_said(rt.alloc(), key, text, line, *refused)?, "{line}");
     }
     Ok(())
+}
+
+/// So many times this byte, and what stands behind it.
+fn text_of(alloc: Global, byte: u8, count: usize, more: &[u8]) -> Result<Vec<u8>, Fail> {
+    let mut text = Vec::new(alloc);
+    text.resize(count, byte)?;
+    text.extend_from_slice(more)?;
+    Ok(text)
 }
 
 #[test]
 fn texts_of_the_largest_size(rt: HostRuntime) -> Result<(), Fail> {
-    let mut text = Vec::new(rt.alloc());
-    text.resize(LIMIT, b'x')?;
-    let (line, _) = said(rt.alloc(), "62", text.as_slice())?;
-    assert_eq!(rt; line.as_slice(), b"fault hex\n".as_slice());
-    text.push(b'\n')?;
-    let (line, _) = said(rt.alloc(), "62", text.as_slice())?;
-    assert_eq!(rt; line.as_slice(), b"fault long\n".as_slice());
+    let text = text_of(rt.alloc(), b'x', LIMIT, b"")?;
+    assert!(rt; is_said(rt.alloc(), "62", text.as_slice(), "fault hex\n", true)?);
+    let longer = text_of(rt.alloc(), b'x', LIMIT, b"\n")?;
+    assert!(rt; is_said(rt.alloc(), "62", longer.as_slice(), "fault long\n", true)?);
     Ok(())
+}
+
+const NO_ROOTS: &[&str] = &[
+    "4a8a9fc55058427163bd8a1f09ca5ec542de1cdaf28df100be5472e47b72503",
+    "a8a9fc55058427163bd8a1f09ca5ec542de1cdaf28df100be5472e47b72503",
+];
+
+const NO_KEYS: &[&str] = &[
+    "",
+    "-",
+    "6",
+    "6g",
+    " 6",
+    "0x61",
+    "616",
+    "d4a8a9fc55058427163bd8a1f09ca5ec542de1cdaf28df100be5472e47b7250300",
+];
+
+fn is_root(word: &str) -> bool {
+    root_in(word).is_some()
+}
+
+fn is_key(word: &str) -> bool {
+    key_in(word).is_some()
 }
 
 #[test]
 fn words(rt: HostRuntime) -> Result<(), Fail> {
-    assert!(rt; root_in(TWO).is_some());
-    let odd = "4a8a9fc55058427163bd8a1f09ca5ec542de1cdaf28df100be5472e47b72503";
-    let short = "a8a9fc55058427163bd8a1f09ca5ec542de1cdaf28df100be5472e47b72503";
-    assert!(rt; root_in(odd).is_none());
-    assert!(rt; root_in(short).is_none());
-    assert!(rt; key_in("6A6a") == Some(Key::new(b"jj")?));
-    for word in ["", "-", "6", "6g", " 6", "0x61", "616"] {
-        assert!(rt; key_in(word).is_none(), "{word}");
+    assert!(rt; is_root(TWO) && is_key(TWO));
+    for word in NO_ROOTS {
+        assert!(rt; !is_root(word), "{word}");
     }
-    assert!(rt; key_in(TWO).is_some());
-    let longer = "d4a8a9fc55058427163bd8a1f09ca5ec542de1cdaf28df100be5472e47b7250300";
-    assert!(rt; key_in(longer).is_none());
+    for word in NO_KEYS {
+        assert!(rt; !is_key(word), "{word}");
+    }
+    assert!(rt; key_in("6A6a") == Some(Key::new(b"jj")?));
     Ok(())
+}
+
+/// Whether such a text is said to be no hexadecimal one in a heap of 64 bytes; none where memory is
+/// refused.
+fn is_not_hex(alloc: Global, zeros: usize, more: &[u8]) -> Result<Option<bool>, Fail> {
+    let root = root_in(TWO).ok_or("no root")?;
+    let text = text_of(alloc, b'0', zeros, more)?;
+    let heap = LocalHeap::new(alloc, 64)?;
+    match report_on(&heap, &root, &Key::new(b"b")?, text.as_slice()) {
+        Ok(Report::NotHex) => Ok(Some(true)),
+        Ok(_) => Ok(Some(false)),
+        Err(Memory) => Ok(None),
+    }
 }
 
 #[test]
 fn room_is_refused(rt: HostRuntime) -> Result<(), Fail> {
-    let heap = LocalHeap::new(rt.alloc(), 64)?;
-    let root = root_in(TWO).ok_or("no root")?;
-    let key = Key::new(b"b")?;
-    let mut text = Vec::new(rt.alloc());
-    text.resize(8_000, b'0')?;
-    assert!(rt; matches!(report_on(&heap, &root, &key, text.as_slice()), Err(Memory)));
-    assert!(rt; matches!(report_on(&heap, &root, &key, b"0"), Ok(Report::NotHex)));
+    assert!(rt; is_not_hex(rt.alloc(), 8_000, b"")?.is_none());
     // what is no even number of digits takes no room
-    text.push(b'0')?;
-    assert!(rt;
-        matches!(
-            report_on(&heap, &root, &key, text.as_slice()),
-            Ok(Report::NotHex)
-        )
-    );
-    text.push(b'g')?;
-    assert!(rt;
-        matches!(
-            report_on(&heap, &root, &key, text.as_slice()),
-            Ok(Report::NotHex)
-        )
-    );
+    assert!(rt; is_not_hex(rt.alloc(), 0, b"0")? == Some(true));
+    assert!(rt; is_not_hex(rt.alloc(), 8_000, b"0")? == Some(true));
+    assert!(rt; is_not_hex(rt.alloc(), 8_000, b"0g")? == Some(true));
     Ok(())
 }

@@ -1,91 +1,148 @@
 //! Proofs that are cut, made longer, changed, or made of nodes that do not belong together.
-use super::{THREE, THREE_PROOF, root_in, verdict};
+use super::{THREE, THREE_PROOF, is_verdict, push_text, root_in};
 use mst_key::Key;
 use mst_node::{digest, empty_digest};
 use mst_proof::{ProofFault, verify};
 use std::alloc::Global;
+use std::process::Abort;
 use std::test::Fail;
+
+/// What is found in a proof for the key 1 in the map of three pairs; whether there is a value.
+fn found_in(root: &[u8; 32], proof: &[u8]) -> Result<bool, ProofFault> {
+    let Ok(key) = Key::new(b"1") else {
+        return Ok(false);
+    };
+    Ok(verify(root, &key, proof)?.is_some())
+}
+
+/// Whether the proof is refused when this byte is changed.
+fn is_refused_changed(
+    alloc: Global,
+    root: &[u8; 32],
+    proof: &[u8],
+    place: usize,
+) -> Result<bool, Fail> {
+    let mut changed = proof.to_vec(alloc)?;
+    let Some(byte) = changed.get_mut(place) else {
+        return Ok(false);
+    };
+    *byte ^= 1;
+    Ok(found_in(root, changed.as_slice()).is_err())
+}
+
+/// Whether the proof is refused with a byte more.
+fn is_refused_longer(alloc: Global, root: &[u8; 32], proof: &[u8]) -> Result<bool, Fail> {
+    let mut longer = proof.to_vec(alloc)?;
+    longer.push(0)?;
+    Ok(found_in(root, longer.as_slice()) == Err(ProofFault::LeftOver))
+}
+
+/// Cuts the proof before each of its bytes, and changes each.
+fn cut_and_change(
+    rt: &impl Abort,
+    alloc: Global,
+    root: &[u8; 32],
+    proof: &[u8],
+) -> Result<(), Fail> {
+    for i in 0..proof.len() {
+        let cut = found_in(root, &proof[..i]) == Err(ProofFault::CutShort);
+        assert!(rt; cut, "{i} bytes");
+        assert!(rt; is_refused_changed(alloc, root, proof, i)?, "byte {i}");
+    }
+    Ok(())
+}
 
 #[test]
 fn each_byte_counts(rt: HostRuntime) -> Result<(), Fail> {
-    let alloc = rt.alloc();
-    let root = root_in(alloc, THREE)?;
-    let key = Key::new(b"1")?;
-    let proof = hex::decode(alloc, THREE_PROOF)?;
+    let root = root_in(rt.alloc(), THREE)?;
+    let proof = hex::decode(rt.alloc(), THREE_PROOF)?;
+    let proof = proof.as_slice();
     assert!(rt; proof.len() == 95);
-    for i in 0..proof.len() {
-        match verify(&root, &key, &proof.as_slice()[..i]) {
-            Err(ProofFault::CutShort) => {}
-            _ => assert!(rt; false, "{i} bytes"),
-        }
-        let mut changed = proof.clone()?;
-        changed[i] ^= 1;
-        assert!(rt;
-            verify(&root, &key, changed.as_slice()).is_err(),
-            "byte {i}"
-        );
-    }
-    let mut longer = proof.clone()?;
-    longer.push(0)?;
-    match verify(&root, &key, longer.as_slice()) {
-        Err(ProofFault::LeftOver) => {}
-        _ => assert!(rt; false, "a byte more"),
-    }
+    cut_and_change(&rt, rt.alloc(), &root, proof)?;
+    assert!(rt; is_refused_longer(rt.alloc(), &root, proof)?, "a byte more");
     Ok(())
 }
 
-/// A proof of these texts, with the digest of the first one as its root.
-fn forged(alloc: Global, key: &[u8], texts: &[&str]) -> Result<String, Fail> {
-    let mut root = empty_digest();
-    let mut proof = Vec::new(alloc);
-    proof.push(1)?;
-    proof.push(texts.len().min(255) as u8)?;
-    for (i, digits) in texts.iter().enumerate() {
+/// Adds these texts of hexadecimal digits, and gives the digest of the first one.
+fn push_digits(alloc: Global, proof: &mut Vec<u8>, texts: &[&str]) -> Result<[u8; 32], Fail> {
+    let mut root = None;
+    for digits in texts {
         let text = hex::decode(alloc, digits)?;
-        if i == 0 {
-            root = digest(text.as_slice());
-        }
-        let size = text.len().min(65535) as u32;
-        proof.extend_from_slice(size.to_be_bytes().as_slice())?;
-        proof.extend_from_slice(text.as_slice())?;
+        root = root.or(Some(digest(text.as_slice())));
+        push_text(proof, text.as_slice())?;
     }
-    verdict(alloc, &root, key, proof.as_slice())
+    Ok(root.unwrap_or(empty_digest()))
 }
+
+/// Whether this is the verdict on a proof of these texts, with the digest of the first one as its
+/// root.
+fn is_forged(alloc: Global, key: &str, texts: &[&str], words: &str) -> Result<bool, Fail> {
+    let count = texts.len().min(255) as u8;
+    let mut proof = [1, count].to_vec(alloc)?;
+    let root = push_digits(alloc, &mut proof, texts)?;
+    is_verdict(alloc, &root, key.as_bytes(), proof.as_slice(), words)
+}
+
+const LEFT: &str = "01000001000131017800";
+
+const RIGHT: &str = "01000001000161017a00";
+
+const OUT_OF_PLACE: &[(&str, [&str; 2], &str)] = &[
+    // the child has the layer of the node above
+    (
+        "1",
+        [
+            "01000001017dfdf041db1f9c4de0e5e646a376510cfb7c4e47760ef8f74cb3181b74c061e60161017a00",
+            LEFT,
+        ],
+        "P6",
+    ),
+    // the child's key lies behind the gap
+    (
+        "1",
+        [
+            "0101000101d2c0950048c47bae86f8557f6e7357048963954bbb6f1328ea6cc19d8898c5d8023339017900",
+            RIGHT,
+        ],
+        "P7",
+    ),
+    // the child's key lies before the gap
+    (
+        "a",
+        [
+            "01010001000233390179017dfdf041db1f9c4de0e5e646a376510cfb7c4e47760ef8f74cb3181b74c061e6",
+            LEFT,
+        ],
+        "P7",
+    ),
+];
 
 #[test]
 fn nodes_out_of_place(rt: HostRuntime) -> Result<(), Fail> {
-    let alloc = rt.alloc();
-    let left = "01000001000131017800";
-    let right = "01000001000161017a00";
-    // the child has the layer of the node above
-    let top =
-        "01000001017dfdf041db1f9c4de0e5e646a376510cfb7c4e47760ef8f74cb3181b74c061e60161017a00";
-    assert!(rt; forged(alloc, b"1", &[top, left])?.as_str() == "P6");
-    // the child's key lies behind the gap
-    let top =
-        "0101000101d2c0950048c47bae86f8557f6e7357048963954bbb6f1328ea6cc19d8898c5d8023339017900";
-    assert!(rt; forged(alloc, b"1", &[top, right])?.as_str() == "P7");
-    // the child's key lies before the gap
-    let top =
-        "01010001000233390179017dfdf041db1f9c4de0e5e646a376510cfb7c4e47760ef8f74cb3181b74c061e6";
-    assert!(rt; forged(alloc, b"a", &[top, left])?.as_str() == "P7");
+    for (key, texts, words) in OUT_OF_PLACE {
+        assert!(rt;
+            is_forged(rt.alloc(), key, texts, words)?,
+            "{key} by {words}"
+        );
+    }
     Ok(())
 }
 
+const NO_NODES: &[&str] = &[
+    "",
+    "0100000000",
+    "01000001000361626301780000",
+    "014100010003616263017800",
+    "0100000200036162630178000161013100",
+    "010000020001610131000161013100",
+    "0100000100023339017900",
+    "010000010203616263017800",
+];
+
 #[test]
 fn texts_of_no_node(rt: HostRuntime) -> Result<(), Fail> {
-    let alloc = rt.alloc();
-    for text in [
-        "",
-        "0100000000",
-        "01000001000361626301780000",
-        "014100010003616263017800",
-        "0100000200036162630178000161013100",
-        "010000020001610131000161013100",
-        "0100000100023339017900",
-        "010000010203616263017800",
-    ] {
-        assert!(rt; forged(alloc, b"abc", &[text])?.as_str() == "P4", "{text}");
+    for text in NO_NODES {
+        assert!(rt; is_forged(rt.alloc(), "abc", &[*text], "P4")?, "{text}");
     }
     Ok(())
 }

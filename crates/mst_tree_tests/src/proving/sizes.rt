@@ -3,40 +3,40 @@
 ghost use Rattle.std.specs.Prelude.{◌≤◌, length};
 ghost use Rattle.mst_key.specs.Map.{IsMap};
 
-use super::{proof_for, root_in};
-use crate::pairs::{numbered, pair, top};
+use super::{proof_for, proves, root_in};
+use crate::pairs::{numbered, pair, roots_agree, top};
 use mst_key::{Key, Memory, Value};
-use mst_node::{Flat, build, digest, empty_digest, is_map, read_text, root_of};
-use mst_proof::{collide, verify};
+use mst_node::{Flat, build, is_map, read_text, root_of};
+use mst_proof::collide;
 use std::alloc::Global;
 use std::process::Abort;
 use std::test::Fail;
 
-/// Whether the text of the top node of the pairs' tree has their root digest.
-fn roots_agree(rt: &impl Abort, alloc: Global, pairs: &[(Key, Value)]) -> Result<bool, Fail> {
-    assert!(rt; pairs.len() <= 65_535);
-    let root = root_of(pairs);
-    Ok(match top(alloc, pairs)? {
-        None => root == empty_digest(),
-        Some(text) => root == digest(text.as_slice()),
-    })
+/// Whether the roots of so many of the pairs agree.
+fn front_agrees(alloc: Global, pairs: &[(Key, Value)], count: usize) -> Result<bool, Fail> {
+    match pairs.get(..count) {
+        Some(front) => roots_agree(alloc, front),
+        None => Ok(false),
+    }
+}
+
+/// Sizes from 1,000 up.
+const ABOVE: &[usize] = &[
+    1_000, 1_001, 4_095, 4_096, 8_191, 16_385, 30_000, 30_001, 32_768, 60_000, 65_535,
+];
+
+/// Compares the roots of the first pairs, of each of these sizes.
+fn compare_roots(rt: &impl Abort, alloc: Global, pairs: &[(Key, Value)]) -> Result<(), Fail> {
+    for count in (0..=300).chain(ABOVE.iter().copied()) {
+        assert!(rt; front_agrees(alloc, pairs, count)?, "{count}");
+    }
+    Ok(())
 }
 
 #[test]
 fn each_size_up_to_300_and_some_above(rt: HostRuntime) -> Result<(), Fail> {
-    let alloc = rt.alloc();
-    let pairs = numbered(alloc, 65_535)?;
-    for count in 0..=300usize {
-        let front = pairs.as_slice().get(..count).ok_or("fewer pairs")?;
-        assert!(rt; roots_agree(&rt, alloc, front)?, "{count}");
-    }
-    for count in [
-        1_000usize, 1_001, 4_095, 4_096, 8_191, 16_385, 30_000, 30_001, 32_768, 60_000, 65_535,
-    ] {
-        let front = pairs.as_slice().get(..count).ok_or("fewer pairs")?;
-        assert!(rt; roots_agree(&rt, alloc, front)?, "{count}");
-    }
-    Ok(())
+    let pairs = numbered(rt.alloc(), 65_535)?;
+    compare_roots(&rt, rt.alloc(), pairs.as_slice())
 }
 
 /// Pairs of keys of layer 0 alone, which stand in one node, with values of 64 bytes: the numbers
@@ -70,24 +70,6 @@ fn has_pairs(flat: &Flat<'_>, pairs: &[(Key, Value)], step: usize) -> bool {
     flat.child(flat.len()).is_none()
 }
 
-/// Whether the proof for a key of the map is accepted with this value, or with none.
-fn proves(
-    rt: &impl Abort,
-    alloc: Global,
-    pairs: &[(Key, Value)],
-    key: &Key,
-    value: Option<&Value>,
-) -> Result<bool, Fail> {
-    assert!(rt; pairs.len() <= 65_535);
-    let root = root_of(pairs);
-    let proof = proof_for(rt, alloc, pairs, key)?;
-    match (verify(&root, key, proof.as_slice()), value) {
-        (Ok(Some(shown)), Some(wanted)) => Ok(shown == *wanted),
-        (Ok(None), None) => Ok(true),
-        _ => Ok(false),
-    }
-}
-
 /// Whether two texts among those of the proof and of the tree of the pairs collide. Of no pairs
 /// there are none.
 fn collides(alloc: Global, pairs: &[(Key, Value)], key: &Key, proof: &[u8]) -> Result<bool, Memory>
@@ -104,6 +86,54 @@ fn collides(alloc: Global, pairs: &[(Key, Value)], key: &Key, proof: &[u8]) -> R
     Ok(pair.is_some())
 }
 
+/// Whether the map has this root digest, which is also that of its node's text.
+fn has_root(alloc: Global, pairs: &[(Key, Value)], digits: &str) -> Result<bool, Fail> {
+    if pairs.len() > 65_535 {
+        return Ok(false);
+    }
+    Ok(root_of(pairs) == root_in(alloc, digits)? && roots_agree(alloc, pairs)?)
+}
+
+/// Whether the text of the map's node has the pairs.
+fn text_has_pairs(alloc: Global, pairs: &[(Key, Value)], step: usize) -> Result<bool, Fail> {
+    if pairs.len() > 65_535 {
+        return Ok(false);
+    }
+    let text = top(alloc, pairs)?.ok_or("no node")?;
+    let flat = read_text(text.as_slice())?;
+    Ok(has_pairs(&flat, pairs, step))
+}
+
+/// Whether the pair in the middle is proved, and the absence of a key behind all.
+fn middle_is_proved(alloc: Global, pairs: &[(Key, Value)]) -> Result<bool, Fail> {
+    let (held, value) = pairs.get(pairs.len() / 2).ok_or("no pair")?;
+    Ok(
+        proves(alloc, pairs, held.bytes(), Some(value.bytes()))?
+            && proves(alloc, pairs, ABSENT, None)?,
+    )
+}
+
+/// A key behind all.
+const ABSENT: &[u8] = &[0xff];
+
+/// Whether no texts of this proof and of the map's tree collide.
+fn is_free(alloc: Global, pairs: &[(Key, Value)], proof: &[u8]) -> Result<bool, Fail> {
+    if pairs.len() > 65_535 || !is_map(pairs) {
+        return Ok(false);
+    }
+    Ok(!collides(alloc, pairs, &Key::new(ABSENT)?, proof)?)
+}
+
+/// Whether neither its own proof nor another collides with the map's tree.
+fn proofs_are_free(alloc: Global, pairs: &[(Key, Value)]) -> Result<bool, Fail> {
+    let mut proof = proof_for(alloc, pairs, ABSENT)?;
+    let own = is_free(alloc, pairs, proof.as_slice())?;
+    // the last byte says that no child stands behind the last entry
+    let none = proof.pop() == Some(0);
+    proof.push(1)?;
+    Ok(own && none && is_free(alloc, pairs, proof.as_slice())?)
+}
+
 /// Asks a map whose pairs stand in one node for its root digest, its text, proofs, and a collision
 /// with its own tree and with another's proof.
 fn asks_one_node(
@@ -113,48 +143,36 @@ fn asks_one_node(
     digits: &str,
     step: usize,
 ) -> Result<(), Fail> {
-    assert!(rt; pairs.len() <= 65_535);
-    assert!(rt; is_map(pairs));
-    assert!(rt; root_of(pairs) == root_in(alloc, digits)?);
-    assert!(rt; roots_agree(rt, alloc, pairs)?);
-    let text = top(alloc, pairs)?.ok_or("no node")?;
-    let flat = read_text(text.as_slice())?;
-    assert!(rt; has_pairs(&flat, pairs, step));
-    let (held, value) = pairs.get(pairs.len() / 2).ok_or("no pair")?;
-    assert!(rt; proves(rt, alloc, pairs, held, Some(value))?);
-    let absent = Key::new(&[0xff])?;
-    assert!(rt; proves(rt, alloc, pairs, &absent, None)?);
-    let mut proof = proof_for(rt, alloc, pairs, &absent)?;
-    assert!(rt; !collides(alloc, pairs, &absent, proof.as_slice())?);
-    // the last byte says that no child stands behind the last entry
-    assert!(rt; proof.pop() == Some(0));
-    proof.push(1)?;
-    assert!(rt; !collides(alloc, pairs, &absent, proof.as_slice())?);
+    assert!(rt; has_root(alloc, pairs, digits)?);
+    assert!(rt; text_has_pairs(alloc, pairs, step)?);
+    assert!(rt; middle_is_proved(alloc, pairs)?);
+    assert!(rt; proofs_are_free(alloc, pairs)?);
     Ok(())
 }
 
-// The root digests are Python's (hashlib).
+/// The end of the numbers, how many pairs they give, the step in which these are compared, and their
+/// root digest by Python's hashlib.
+const NODES: &[(u32, usize, usize, &str)] = &[
+    (
+        5_000,
+        4_712,
+        1,
+        "7280d75bcf4ed528c9fe2cb28bbeb57d00335c1695fb4b2feaa14aded4bbe66f",
+    ),
+    (
+        69_815,
+        65_534,
+        8_000,
+        "e1ca513f5c5e875dbd096ec92f7071748c1af9d5850b3383f62cb1f076f03f73",
+    ),
+];
+
 #[test]
 fn nodes_of_long_values(rt: HostRuntime) -> Result<(), Fail> {
-    let alloc = rt.alloc();
-    let nodes = [
-        (
-            5_000u32,
-            4_712usize,
-            1usize,
-            "7280d75bcf4ed528c9fe2cb28bbeb57d00335c1695fb4b2feaa14aded4bbe66f",
-        ),
-        (
-            69_815,
-            65_534,
-            8_000,
-            "e1ca513f5c5e875dbd096ec92f7071748c1af9d5850b3383f62cb1f076f03f73",
-        ),
-    ];
-    for (end, count, step, digits) in nodes {
-        let pairs = pairs_of_one_node(alloc, end)?;
-        assert!(rt; pairs.len() == count);
-        asks_one_node(&rt, alloc, pairs.as_slice(), digits, step)?;
+    for (end, count, step, digits) in NODES {
+        let pairs = pairs_of_one_node(rt.alloc(), *end)?;
+        assert!(rt; pairs.len() == *count);
+        asks_one_node(&rt, rt.alloc(), pairs.as_slice(), digits, *step)?;
     }
     Ok(())
 }
