@@ -81,16 +81,27 @@ fn are_read(text: &[u8], proof: &[u8], pairs: &[(Key, Value)]) -> bool {
         && shows_first(&root, proof, pairs)
 }
 
-/// Whether the text and the proof are read while they and the blocks fill the heap.
+/// Whether the text and the proof are read once the heap that they lie in is full.
+fn are_read_full(
+    alloc: Global,
+    heap: &LocalHeap,
+    text: &[u8],
+    proof: &[u8],
+    pairs: &[(Key, Value)],
+) -> Result<bool, Fail> {
+    let blocks = fill(alloc, heap)?;
+    let full = is_full(heap) && !blocks.is_empty();
+    Ok(full && are_read(text, proof, pairs) && is_full(heap))
+}
+
+/// Whether the text and the proof are read once they and other blocks fill the heap.
 fn are_read_over(alloc: Global, heap: &LocalHeap, pairs: &[(Key, Value)]) -> Result<bool, Fail> {
     if pairs.len() != 3 {
         return Ok(false);
     }
     let text = top(heap, pairs)?.ok_or("no node")?;
     let proof = hex::decode(heap, PROOF)?;
-    let blocks = fill(alloc, heap)?;
-    let full = is_full(heap) && !blocks.is_empty();
-    Ok(full && are_read(text.as_slice(), proof.as_slice(), pairs) && is_full(heap))
+    are_read_full(alloc, heap, text.as_slice(), proof.as_slice(), pairs)
 }
 
 #[test]

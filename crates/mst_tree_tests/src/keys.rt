@@ -107,11 +107,6 @@ const RISING: &[&[u8]] = &[
     b"\x80",
 ];
 
-/// Whether keys of these bytes stand in this order.
-fn is_order(one: &[u8], other: &[u8], order: Ordering) -> Result<bool, KeySize> {
-    Ok(stand_so(&Key::new(one)?, &Key::new(other)?, order))
-}
-
 /// Whether the key of the least bytes comes first when the two are sorted.
 fn comes_first(alloc: Global, one: &[u8], other: &[u8], least: &[u8]) -> Result<bool, Fail> {
     let mut pair = [Key::new(other)?, Key::new(one)?];
@@ -119,12 +114,19 @@ fn comes_first(alloc: Global, one: &[u8], other: &[u8], least: &[u8]) -> Result<
     Ok(pair[0].bytes() == least)
 }
 
+/// Whether keys of these bytes stand in this order, and are sorted by it.
+fn is_order(alloc: Global, one: &[u8], other: &[u8], order: Ordering) -> Result<bool, Fail> {
+    let least = if order == Ordering::Less { one } else { other };
+    Ok(
+        stand_so(&Key::new(one)?, &Key::new(other)?, order)
+            && comes_first(alloc, one, other, least)?,
+    )
+}
+
 /// Compares the key at a place among the rising ones with each of them.
 fn compare_with_each(rt: &impl Abort, alloc: Global, i: usize, one: &[u8]) -> Result<(), Fail> {
     for (j, other) in RISING.iter().enumerate() {
-        assert!(rt; is_order(one, other, i.cmp(&j))?, "{i} and {j}");
-        let least = if i < j { one } else { other };
-        assert!(rt; comes_first(alloc, one, other, least)?, "{i} and {j}");
+        assert!(rt; is_order(alloc, one, other, i.cmp(&j))?, "{i} and {j}");
     }
     Ok(())
 }

@@ -67,7 +67,7 @@ fn bytes_of(alloc: Global, text: &str) -> Result<Vec<u8>, Fail> {
 }
 
 /// The digest of the bytes of a hexadecimal text.
-fn digest_of(alloc: Global, text: &str) -> Result<[u8; 32], Fail> {
+pub fn digest_of(alloc: Global, text: &str) -> Result<[u8; 32], Fail> {
     let bytes = bytes_of(alloc, text)?;
     Ok(digest(bytes.as_slice()))
 }
@@ -98,16 +98,20 @@ fn has_text(alloc: Global, digits: &str) -> Result<bool, Fail> {
     Ok(found.as_str() == digits)
 }
 
-#[test]
-fn text_of_three(rt: HostRuntime) -> Result<(), Fail> {
-    let alloc = rt.alloc();
-    let digits =
-        "01010001017dfdf041db1f9c4de0e5e646a376510cfb7c4e47760ef8f74cb3181b74c061e6023339017901d2c0950048c47bae86f8557f6e7357048963954bbb6f1328ea6cc19d8898c5d8";
-    assert!(rt; has_text(alloc, digits)?);
+/// Whether this is the text of a node of 39 between the nodes of the two other pairs.
+fn is_text_of_39(alloc: Global, digits: &str) -> Result<bool, Fail> {
     let left = digest_of(alloc, "01000001000131017800")?;
     let right = digest_of(alloc, "01000001000161017a00")?;
     let text = bytes_of(alloc, digits)?;
-    assert!(rt; is_node_of_39(text.as_slice(), left, right));
+    Ok(is_node_of_39(text.as_slice(), left, right))
+}
+
+#[test]
+fn text_of_three(rt: HostRuntime) -> Result<(), Fail> {
+    let digits =
+        "01010001017dfdf041db1f9c4de0e5e646a376510cfb7c4e47760ef8f74cb3181b74c061e6023339017901d2c0950048c47bae86f8557f6e7357048963954bbb6f1328ea6cc19d8898c5d8";
+    assert!(rt; has_text(rt.alloc(), digits)?);
+    assert!(rt; is_text_of_39(rt.alloc(), digits)?);
     Ok(())
 }
 
@@ -125,20 +129,20 @@ const OUTSIDE: &[&str] = &[
     "0100000100036162630178",
 ];
 
-/// The number of entries of the node of a hexadecimal text.
-fn entries_of(alloc: Global, text: &str) -> Result<Result<usize, NodeFault>, Fail> {
+/// The number of entries of the node of a hexadecimal text; none where that is no text of a node.
+fn entries_of(alloc: Global, text: &str) -> Result<Option<usize>, Fail> {
     let bytes = bytes_of(alloc, text)?;
-    Ok(match read_text(bytes.as_slice()) {
-        Ok(flat) => Ok(flat.len()),
-        Err(fault) => Err(fault),
-    })
+    match read_text(bytes.as_slice()) {
+        Ok(flat) => Ok(Some(flat.len())),
+        Err(NodeFault) => Ok(None),
+    }
 }
 
 #[test]
 fn texts_outside_the_grammar(rt: HostRuntime) -> Result<(), Fail> {
-    assert!(rt; entries_of(rt.alloc(), "010000010003616263017800")? == Ok(1));
+    assert!(rt; entries_of(rt.alloc(), "010000010003616263017800")? == Some(1));
     for text in OUTSIDE {
-        assert!(rt; entries_of(rt.alloc(), text)?.is_err(), "{text}");
+        assert!(rt; entries_of(rt.alloc(), text)?.is_none(), "{text}");
     }
     Ok(())
 }
@@ -219,12 +223,17 @@ fn least_units(
     Err("refused with ample memory".into())
 }
 
+/// The same for the text of these pairs.
+fn least_for(rt: &impl Abort, alloc: Global, pairs: &[(Key, Value)]) -> Result<usize, Fail> {
+    assert!(rt; pairs.len() <= 65535);
+    let want = top(alloc, pairs)?.ok_or("no node")?;
+    least_units(rt, alloc, pairs, want.as_slice())
+}
+
 #[test]
 fn each_growth_is_refused(rt: HostRuntime) -> Result<(), Fail> {
     let pairs = numbered(rt.alloc(), 40)?;
-    assert!(rt; pairs.len() <= 65535);
-    let want = top(rt.alloc(), pairs.as_slice())?.ok_or("no node")?;
-    let least = least_units(&rt, rt.alloc(), pairs.as_slice(), want.as_slice())?;
+    let least = least_for(&rt, rt.alloc(), pairs.as_slice())?;
     assert!(rt; least > 16, "refused before");
     Ok(())
 }

@@ -12,10 +12,10 @@ mod verdicts;
 use crate::heaps::fill;
 use crate::pairs::{prints, top};
 use linked_list_allocator::LocalHeap;
-use mst_key::{Key, Memory, Value};
+use mst_key::{Key, KeySize, Memory, Value};
 use mst_node::{build, is_map, root_of};
-use mst_proof::{collide, verify};
-use std::alloc::Global;
+use mst_proof::{ProofFault, collide, verify};
+use std::alloc::{AllocError, Global};
 use std::cmp::Ordering;
 use std::test::Fail;
 
@@ -39,6 +39,25 @@ fn root_in(alloc: Global, digits: &str) -> Result<[u8; 32], Fail> {
     Ok(*root)
 }
 
+/// Whether these words tell the presence of this value.
+fn tell_value(alloc: Global, words: &str, value: &Value) -> Result<bool, AllocError> {
+    let digits = hex::encode(alloc, value.bytes())?;
+    Ok(words.strip_prefix("present ") == Some(digits.as_str()))
+}
+
+/// Whether these words tell this verdict.
+fn tell(
+    alloc: Global,
+    words: &str,
+    verdict: &Result<Option<Value>, ProofFault>,
+) -> Result<bool, AllocError> {
+    match verdict {
+        Ok(None) => Ok(words == "absent"),
+        Ok(Some(value)) => tell_value(alloc, words, value),
+        Err(fault) => prints(alloc, fault, words),
+    }
+}
+
 /// Whether the verdict in words is this one.
 fn is_verdict(
     alloc: Global,
@@ -47,14 +66,8 @@ fn is_verdict(
     proof: &[u8],
     words: &str,
 ) -> Result<bool, Fail> {
-    match verify(root, &Key::new(key)?, proof) {
-        Ok(None) => Ok(words == "absent"),
-        Ok(Some(value)) => {
-            let digits = hex::encode(alloc, value.bytes())?;
-            Ok(words.strip_prefix("present ") == Some(digits.as_str()))
-        }
-        Err(fault) => Ok(prints(alloc, &fault, words)?),
-    }
+    let verdict = verify(root, &Key::new(key)?, proof);
+    Ok(tell(alloc, words, &verdict)?)
 }
 
 /// The greatest layer of the keys.
@@ -135,6 +148,20 @@ fn proof_for(alloc: Global, pairs: &[(Key, Value)], key: &[u8]) -> Result<Vec<u8
     Ok(proof)
 }
 
+/// Whether the proof is accepted for the key, with this value or with none.
+fn is_accepted(
+    root: &[u8; 32],
+    key: &[u8],
+    proof: &[u8],
+    value: Option<&[u8]>,
+) -> Result<bool, KeySize> {
+    match (verify(root, &Key::new(key)?, proof), value) {
+        (Ok(Some(shown)), Some(wanted)) => Ok(shown.bytes() == wanted),
+        (Ok(None), None) => Ok(true),
+        _ => Ok(false),
+    }
+}
+
 /// Whether the proof for a key of the map is accepted with this value, or with none.
 fn proves(
     alloc: Global,
@@ -145,19 +172,25 @@ fn proves(
     if pairs.len() > 65_535 {
         return Ok(false);
     }
-    let root = root_of(pairs);
     let proof = proof_for(alloc, pairs, key)?;
-    match (verify(&root, &Key::new(key)?, proof.as_slice()), value) {
-        (Ok(Some(shown)), Some(wanted)) => Ok(shown.bytes() == wanted),
-        (Ok(None), None) => Ok(true),
-        _ => Ok(false),
-    }
+    Ok(is_accepted(&root_of(pairs), key, proof.as_slice(), value)?)
 }
 
 /// Whether `collide` finds a pair of texts beside no tree.
 fn collided_with_none(alloc: Global, key: &Key, proof: &[u8]) -> Result<bool, Memory> {
     let pair = collide(alloc, key, proof, None)?;
     Ok(pair.is_some())
+}
+
+/// Fills the heap but for so many blocks.
+fn fill_but<'h>(
+    alloc: Global,
+    heap: &'h LocalHeap,
+    blocks: usize,
+) -> Result<Vec<Vec<u8, &'h LocalHeap>>, Fail> {
+    let mut filling = fill(alloc, heap)?;
+    filling.truncate(filling.len().saturating_sub(blocks));
+    Ok(filling)
 }
 
 /// Whether `collide` finds a pair of texts beside the tree of the list, in a heap of which only so
@@ -180,8 +213,7 @@ fn collided_in(
     let Some(node) = tree else {
         return Ok(None);
     };
-    let mut filling = fill(alloc, heap)?;
-    filling.truncate(filling.len().saturating_sub(blocks));
+    let filling = fill_but(alloc, heap, blocks)?;
     Ok(Some(match collide(heap, key, proof, Some(&*node)) {
         Ok(pair) => Ok(pair.is_some()),
         Err(Memory) => Err(Memory),

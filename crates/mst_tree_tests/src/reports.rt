@@ -93,17 +93,22 @@ fn words(rt: HostRuntime) -> Result<(), Fail> {
     Ok(())
 }
 
-/// Whether such a text is said to be no hexadecimal one in a heap of 64 bytes; none where memory is
+/// Whether a text is said to be no hexadecimal one in a heap of 64 bytes; none where memory is
 /// refused.
-fn is_not_hex(alloc: Global, zeros: usize, more: &[u8]) -> Result<Option<bool>, Fail> {
+fn answer_in_64(alloc: Global, text: &[u8]) -> Result<Option<bool>, Fail> {
     let root = root_in(TWO).ok_or("no root")?;
-    let text = text_of(alloc, b'0', zeros, more)?;
     let heap = LocalHeap::new(alloc, 64)?;
-    match report_on(&heap, &root, &Key::new(b"b")?, text.as_slice()) {
+    match report_on(&heap, &root, &Key::new(b"b")?, text) {
         Ok(Report::NotHex) => Ok(Some(true)),
         Ok(_) => Ok(Some(false)),
         Err(Memory) => Ok(None),
     }
+}
+
+/// The same of so many zeros and what stands behind them.
+fn is_not_hex(alloc: Global, zeros: usize, more: &[u8]) -> Result<Option<bool>, Fail> {
+    let text = text_of(alloc, b'0', zeros, more)?;
+    answer_in_64(alloc, text.as_slice())
 }
 
 #[test]

@@ -3,6 +3,7 @@ use super::{THREE_PROOF, TWO_PROOF, collided, collided_with_none, proof_for};
 use crate::pairs::{TWO_PAIRS, numbered, spelt};
 use mst_key::{Key, Memory, Value};
 use std::alloc::Global;
+use std::process::Abort;
 use std::test::Fail;
 
 const PROOFS: &[&str] = &[TWO_PROOF, THREE_PROOF, "0100", "010100000000", ""];
@@ -16,13 +17,18 @@ fn is_free(alloc: Global, pairs: &[(Key, Value)], proof: &str) -> Result<bool, F
     Ok(!alone && beside == Some(Ok(false)))
 }
 
+/// Asks each proof beside these pairs.
+fn ask_each(rt: &impl Abort, alloc: Global, pairs: &[(Key, Value)]) -> Result<(), Fail> {
+    for proof in PROOFS {
+        assert!(rt; is_free(alloc, pairs, proof)?);
+    }
+    Ok(())
+}
+
 #[test]
 fn no_collision(rt: HostRuntime) -> Result<(), Fail> {
     let pairs = spelt(rt.alloc(), TWO_PAIRS)?;
-    for proof in PROOFS {
-        assert!(rt; is_free(rt.alloc(), pairs.as_slice(), proof)?);
-    }
-    Ok(())
+    ask_each(&rt, rt.alloc(), pairs.as_slice())
 }
 
 /// The least number of free blocks in which the search ends.
@@ -43,12 +49,16 @@ fn least_blocks(
     Err("refused with ample memory".into())
 }
 
+/// The same for the proof of the key.
+fn least_for(alloc: Global, pairs: &[(Key, Value)], key: &[u8]) -> Result<usize, Fail> {
+    let proof = proof_for(alloc, pairs, key)?;
+    least_blocks(alloc, pairs, key, proof.as_slice())
+}
+
 #[test]
 fn each_growth_is_refused(rt: HostRuntime) -> Result<(), Fail> {
     let pairs = numbered(rt.alloc(), 40)?;
-    let key = [0, 0, 40];
-    let proof = proof_for(rt.alloc(), pairs.as_slice(), &key)?;
-    let least = least_blocks(rt.alloc(), pairs.as_slice(), &key, proof.as_slice())?;
+    let least = least_for(rt.alloc(), pairs.as_slice(), &[0, 0, 40])?;
     assert!(rt; least > 16, "refused before");
     Ok(())
 }

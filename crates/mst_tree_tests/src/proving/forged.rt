@@ -1,7 +1,7 @@
 //! Proofs that are cut, made longer, changed, or made of nodes that do not belong together.
 use super::{THREE, THREE_PROOF, is_verdict, push_text, root_in};
+use crate::nodes::digest_of;
 use mst_key::Key;
-use mst_node::{digest, empty_digest};
 use mst_proof::{ProofFault, verify};
 use std::alloc::Global;
 use std::process::Abort;
@@ -37,49 +37,48 @@ fn is_refused_longer(alloc: Global, root: &[u8; 32], proof: &[u8]) -> Result<boo
     Ok(found_in(root, longer.as_slice()) == Err(ProofFault::LeftOver))
 }
 
-/// Cuts the proof before each of its bytes, and changes each.
-fn cut_and_change(
-    rt: &impl Abort,
-    alloc: Global,
-    root: &[u8; 32],
-    proof: &[u8],
-) -> Result<(), Fail> {
+/// Whether the proof is refused where it is cut before this byte, and where the byte is changed.
+fn byte_counts(alloc: Global, root: &[u8; 32], proof: &[u8], place: usize) -> Result<bool, Fail> {
+    let Some(front) = proof.get(..place) else {
+        return Ok(false);
+    };
+    let cut = found_in(root, front) == Err(ProofFault::CutShort);
+    Ok(cut && is_refused_changed(alloc, root, proof, place)?)
+}
+
+/// Cuts and changes the proof, and makes it longer.
+fn forge(rt: &impl Abort, alloc: Global, proof: &[u8]) -> Result<(), Fail> {
+    let root = root_in(alloc, THREE)?;
     for i in 0..proof.len() {
-        let cut = found_in(root, &proof[..i]) == Err(ProofFault::CutShort);
-        assert!(rt; cut, "{i} bytes");
-        assert!(rt; is_refused_changed(alloc, root, proof, i)?, "byte {i}");
+        assert!(rt; byte_counts(alloc, &root, proof, i)?, "byte {i}");
     }
+    assert!(rt; is_refused_longer(alloc, &root, proof)?, "a byte more");
     Ok(())
 }
 
 #[test]
 fn each_byte_counts(rt: HostRuntime) -> Result<(), Fail> {
-    let root = root_in(rt.alloc(), THREE)?;
     let proof = hex::decode(rt.alloc(), THREE_PROOF)?;
-    let proof = proof.as_slice();
     assert!(rt; proof.len() == 95);
-    cut_and_change(&rt, rt.alloc(), &root, proof)?;
-    assert!(rt; is_refused_longer(rt.alloc(), &root, proof)?, "a byte more");
-    Ok(())
+    forge(&rt, rt.alloc(), proof.as_slice())
 }
 
-/// Adds these texts of hexadecimal digits, and gives the digest of the first one.
-fn push_digits(alloc: Global, proof: &mut Vec<u8>, texts: &[&str]) -> Result<[u8; 32], Fail> {
-    let mut root = None;
+/// Adds these texts of hexadecimal digits.
+fn push_digits(alloc: Global, proof: &mut Vec<u8>, texts: &[&str]) -> Result<(), Fail> {
     for digits in texts {
         let text = hex::decode(alloc, digits)?;
-        root = root.or(Some(digest(text.as_slice())));
         push_text(proof, text.as_slice())?;
     }
-    Ok(root.unwrap_or(empty_digest()))
+    Ok(())
 }
 
 /// Whether this is the verdict on a proof of these texts, with the digest of the first one as its
 /// root.
 fn is_forged(alloc: Global, key: &str, texts: &[&str], words: &str) -> Result<bool, Fail> {
+    let root = digest_of(alloc, texts.first().ok_or("no text")?)?;
     let count = texts.len().min(255) as u8;
     let mut proof = [1, count].to_vec(alloc)?;
-    let root = push_digits(alloc, &mut proof, texts)?;
+    push_digits(alloc, &mut proof, texts)?;
     is_verdict(alloc, &root, key.as_bytes(), proof.as_slice(), words)
 }
 
@@ -87,11 +86,11 @@ const LEFT: &str = "01000001000131017800";
 
 const RIGHT: &str = "01000001000161017a00";
 
-const OUT_OF_PLACE: &[(&str, [&str; 2], &str)] = &[
+const OUT_OF_PLACE: &[(&str, &[&str], &str)] = &[
     // the child has the layer of the node above
     (
         "1",
-        [
+        &[
             "01000001017dfdf041db1f9c4de0e5e646a376510cfb7c4e47760ef8f74cb3181b74c061e60161017a00",
             LEFT,
         ],
@@ -100,7 +99,7 @@ const OUT_OF_PLACE: &[(&str, [&str; 2], &str)] = &[
     // the child's key lies behind the gap
     (
         "1",
-        [
+        &[
             "0101000101d2c0950048c47bae86f8557f6e7357048963954bbb6f1328ea6cc19d8898c5d8023339017900",
             RIGHT,
         ],
@@ -109,7 +108,7 @@ const OUT_OF_PLACE: &[(&str, [&str; 2], &str)] = &[
     // the child's key lies before the gap
     (
         "a",
-        [
+        &[
             "01010001000233390179017dfdf041db1f9c4de0e5e646a376510cfb7c4e47760ef8f74cb3181b74c061e6",
             LEFT,
         ],
@@ -120,10 +119,7 @@ const OUT_OF_PLACE: &[(&str, [&str; 2], &str)] = &[
 #[test]
 fn nodes_out_of_place(rt: HostRuntime) -> Result<(), Fail> {
     for (key, texts, words) in OUT_OF_PLACE {
-        assert!(rt;
-            is_forged(rt.alloc(), key, texts, words)?,
-            "{key} by {words}"
-        );
+        assert!(rt; is_forged(rt.alloc(), key, texts, words)?, "{words}");
     }
     Ok(())
 }

@@ -16,38 +16,44 @@ fn is_free(alloc: Global, pairs: &[(Key, Value)], key: &[u8]) -> Result<bool, Fa
     }
 }
 
-/// Asks the map of so many numbers for a number, and for a key behind it.
-fn ask(rt: &impl Abort, alloc: Global, pairs: &[(Key, Value)], i: u32) -> Result<(), Fail> {
-    let count = pairs.len();
+/// Whether the map of some numbers proves its value of a number, and that it has no key behind it,
+/// where no texts collide.
+fn is_proved(alloc: Global, pairs: &[(Key, Value)], i: u32) -> Result<bool, Fail> {
     let bytes = i.to_be_bytes();
-    let value = if (i as usize) < count {
+    let value = if (i as usize) < pairs.len() {
         Some(&bytes[2..])
     } else {
         None
     };
-    assert!(rt; proves(alloc, pairs, &bytes[1..], value)?, "{i} of {count}");
-    let behind = bytes.as_slice();
-    assert!(rt;
-        proves(alloc, pairs, behind, None)?,
-        "behind {i} of {count}"
-    );
-    assert!(rt; is_free(alloc, pairs, behind)?, "behind {i} of {count}");
-    Ok(())
+    Ok(
+        proves(alloc, pairs, &bytes[1..], value)?
+            && proves(alloc, pairs, &bytes, None)?
+            && is_free(alloc, pairs, &bytes)?,
+    )
 }
 
-/// Asks the map of so many numbers for some of them, and for some that it does not have.
-fn ask_map(rt: &impl Abort, alloc: Global, count: u32, step: usize) -> Result<(), Fail> {
-    let pairs = numbered(alloc, count)?;
+/// Asks the map of so many numbers for each one of such steps, up to two that it does not have.
+fn ask(
+    rt: &impl Abort,
+    alloc: Global,
+    pairs: &[(Key, Value)],
+    count: u32,
+    step: usize,
+) -> Result<(), Fail> {
     for i in (0..count.saturating_add(2)).step_by(step.max(1)) {
-        ask(rt, alloc, pairs.as_slice(), i)?;
+        assert!(rt; is_proved(alloc, pairs, i)?, "{i} of {count}");
     }
     Ok(())
 }
 
+/// How many numbers a map has, and in which steps they are asked.
+const MAPS: &[(u32, usize)] = &[(0, 1), (1, 1), (17, 1), (1000, 251)];
+
 #[test]
 fn proofs_of_maps(rt: HostRuntime) -> Result<(), Fail> {
-    for (count, step) in [(0, 1), (1, 1), (17, 1), (1000, 251)] {
-        ask_map(&rt, rt.alloc(), count, step)?;
+    for (count, step) in MAPS {
+        let pairs = numbered(rt.alloc(), *count)?;
+        ask(&rt, rt.alloc(), pairs.as_slice(), *count, *step)?;
     }
     Ok(())
 }

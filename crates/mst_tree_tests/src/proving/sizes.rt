@@ -25,10 +25,18 @@ const ABOVE: &[usize] = &[
     1_000, 1_001, 4_095, 4_096, 8_191, 16_385, 30_000, 30_001, 32_768, 60_000, 65_535,
 ];
 
-/// Compares the roots of the first pairs, of each of these sizes.
-fn compare_roots(rt: &impl Abort, alloc: Global, pairs: &[(Key, Value)]) -> Result<(), Fail> {
-    for count in (0..=300).chain(ABOVE.iter().copied()) {
+/// Compares the roots of the first pairs, up to 300.
+fn compare_up_to_300(rt: &impl Abort, alloc: Global, pairs: &[(Key, Value)]) -> Result<(), Fail> {
+    for count in 0..=300 {
         assert!(rt; front_agrees(alloc, pairs, count)?, "{count}");
+    }
+    Ok(())
+}
+
+/// Compares those of the sizes above.
+fn compare_above(rt: &impl Abort, alloc: Global, pairs: &[(Key, Value)]) -> Result<(), Fail> {
+    for count in ABOVE {
+        assert!(rt; front_agrees(alloc, pairs, *count)?, "{count}");
     }
     Ok(())
 }
@@ -36,7 +44,8 @@ fn compare_roots(rt: &impl Abort, alloc: Global, pairs: &[(Key, Value)]) -> Resu
 #[test]
 fn each_size_up_to_300_and_some_above(rt: HostRuntime) -> Result<(), Fail> {
     let pairs = numbered(rt.alloc(), 65_535)?;
-    compare_roots(&rt, rt.alloc(), pairs.as_slice())
+    compare_up_to_300(&rt, rt.alloc(), pairs.as_slice())?;
+    compare_above(&rt, rt.alloc(), pairs.as_slice())
 }
 
 /// Pairs of keys of layer 0 alone, which stand in one node, with values of 64 bytes: the numbers
@@ -134,6 +143,21 @@ fn proofs_are_free(alloc: Global, pairs: &[(Key, Value)]) -> Result<bool, Fail> 
     Ok(own && none && is_free(alloc, pairs, proof.as_slice())?)
 }
 
+/// Whether the map has this root digest, and the text of its node its pairs.
+fn is_whole(
+    alloc: Global,
+    pairs: &[(Key, Value)],
+    digits: &str,
+    step: usize,
+) -> Result<bool, Fail> {
+    Ok(has_root(alloc, pairs, digits)? && text_has_pairs(alloc, pairs, step)?)
+}
+
+/// Whether the map is proved, and no proof collides with its tree.
+fn is_proved(alloc: Global, pairs: &[(Key, Value)]) -> Result<bool, Fail> {
+    Ok(middle_is_proved(alloc, pairs)? && proofs_are_free(alloc, pairs)?)
+}
+
 /// Asks a map whose pairs stand in one node for its root digest, its text, proofs, and a collision
 /// with its own tree and with another's proof.
 fn asks_one_node(
@@ -143,10 +167,8 @@ fn asks_one_node(
     digits: &str,
     step: usize,
 ) -> Result<(), Fail> {
-    assert!(rt; has_root(alloc, pairs, digits)?);
-    assert!(rt; text_has_pairs(alloc, pairs, step)?);
-    assert!(rt; middle_is_proved(alloc, pairs)?);
-    assert!(rt; proofs_are_free(alloc, pairs)?);
+    assert!(rt; is_whole(alloc, pairs, digits, step)?);
+    assert!(rt; is_proved(alloc, pairs)?);
     Ok(())
 }
 
@@ -167,12 +189,21 @@ const NODES: &[(u32, usize, usize, &str)] = &[
     ),
 ];
 
+/// Asks such a node.
+fn ask(
+    rt: &impl Abort,
+    alloc: Global,
+    (end, count, step, digits): (u32, usize, usize, &str),
+) -> Result<(), Fail> {
+    let pairs = pairs_of_one_node(alloc, end)?;
+    assert!(rt; pairs.len() == count);
+    asks_one_node(rt, alloc, pairs.as_slice(), digits, step)
+}
+
 #[test]
 fn nodes_of_long_values(rt: HostRuntime) -> Result<(), Fail> {
-    for (end, count, step, digits) in NODES {
-        let pairs = pairs_of_one_node(rt.alloc(), *end)?;
-        assert!(rt; pairs.len() == *count);
-        asks_one_node(&rt, rt.alloc(), pairs.as_slice(), digits, *step)?;
+    for node in NODES {
+        ask(&rt, rt.alloc(), *node)?;
     }
     Ok(())
 }

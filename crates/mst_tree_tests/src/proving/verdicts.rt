@@ -132,11 +132,16 @@ fn first_text_alone(alloc: Global) -> Result<Vec<u8>, Fail> {
     Ok(proof)
 }
 
+/// Whether this is the verdict on that proof for the key.
+fn is_verdict_alone(alloc: Global, key: &[u8], words: &str) -> Result<bool, Fail> {
+    let root = root_in(alloc, THREE)?;
+    let proof = first_text_alone(alloc)?;
+    is_verdict(alloc, &root, key, proof.as_slice(), words)
+}
+
 #[test]
 fn a_text_short_or_behind(rt: HostRuntime) -> Result<(), Fail> {
-    let root = root_in(rt.alloc(), THREE)?;
-    let proof = first_text_alone(rt.alloc())?;
-    assert!(rt; is_verdict(rt.alloc(), &root, b"39", proof.as_slice(), "present 79")?);
-    assert!(rt; is_verdict(rt.alloc(), &root, b"1", proof.as_slice(), "P8")?);
+    assert!(rt; is_verdict_alone(rt.alloc(), b"39", "present 79")?);
+    assert!(rt; is_verdict_alone(rt.alloc(), b"1", "P8")?);
     Ok(())
 }
