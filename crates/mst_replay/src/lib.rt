@@ -49,6 +49,3 @@ impl Replay {
         }
     }
 }
-
-#[cfg(test)]
-mod tests;

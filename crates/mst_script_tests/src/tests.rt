@@ -15,7 +15,6 @@ use mst_script::{RunFault, run};
 use mst_store::{Shape, Store};
 use std::alloc::{AllocError, Allocator, Global};
 use std::process::Abort;
-use std::test::Fail;
 
 /// Runs a script over the passes of a new store.
 fn run_over<S: Source, W: Sink, A: Allocator + Copy>(
@@ -37,58 +36,65 @@ fn run_over<S: Source, W: Sink, A: Allocator + Copy>(
     run(alloc, source, sink, &store, &mut passes)
 }
 
-/// What a script over four passes is answered.
-fn answers_to(alloc: Global, script: &[u8]) -> Result<Vec<u8>, AllocError> {
-    let shape = Shape {
-        rows: 1024,
-        passes: 4,
-    };
-    answers_in(alloc, shape, script)
-}
+/// A store of four passes.
+const FOUR: Shape = Shape {
+    rows: 1024,
+    passes: 4,
+};
 
-/// What a script over the passes of a new store is answered.
-fn answers_in(alloc: Global, shape: Shape, script: &[u8]) -> Result<Vec<u8>, AllocError> {
+/// Whether a script over the passes of a new store is answered so.
+fn is_answered(
+    alloc: Global,
+    shape: Shape,
+    script: &[u8],
+    expected: &[u8],
+) -> Result<bool, AllocError> {
     let mut source = BytesSource::new(script);
     let mut sink = BytesSink::new(alloc, 200_000)?;
-    match run_over(alloc, alloc, shape, &mut source, &mut sink) {
-        Ok(()) => sink.bytes().to_vec(alloc),
-        Err(_) => b"the run ended early\n".as_slice().to_vec(alloc),
-    }
+    let ran = run_over(alloc, alloc, shape, &mut source, &mut sink);
+    Ok(ran.is_ok() && sink.bytes() == expected)
+}
+
+/// Whether a script over four passes is answered so.
+fn four_answer(alloc: Global, script: &[u8], expected: &[u8]) -> bool {
+    matches!(is_answered(alloc, FOUR, script, expected), Ok(true))
+}
+
+fn joined(alloc: Global, one: &str, other: &str) -> Result<String, AllocError> {
+    format!(in alloc; "{one}{other}")
+}
+
+/// Whether four passes give the first answers to the first lines, and then these to these.
+fn four_follow(
+    alloc: Global,
+    first: (&str, &str),
+    more: &str,
+    answers: &str,
+) -> Result<bool, AllocError> {
+    let script = joined(alloc, first.0, more)?;
+    let expected = joined(alloc, first.1, answers)?;
+    Ok(four_answer(alloc, script.as_bytes(), expected.as_bytes()))
 }
 
 /// Each script is given to a new store of so many rows and passes.
-fn each_is_answered(
-    rt: &impl Abort,
-    alloc: Global,
-    scripts: &[(u32, u32, &str, &str)],
-) -> Result<(), Fail> {
+fn each_is_answered(rt: &impl Abort, alloc: Global, scripts: &[(u32, u32, &str, &str)]) {
     for (rows, passes, script, expected) in scripts {
         let shape = Shape {
             rows: *rows,
             passes: *passes,
         };
-        let answers = answers_in(alloc, shape, script.as_bytes())?;
+        let answered = is_answered(alloc, shape, script.as_bytes(), expected.as_bytes());
         assert!(rt;
-            answers.as_slice() == expected.as_bytes(),
+            matches!(answered, Ok(true)),
             "in {rows} rows by {passes} passes to {script}"
         );
     }
-    Ok(())
 }
 
 /// More lines follow the first ones, of four passes.
-fn each_follows(
-    rt: &impl Abort,
-    alloc: Global,
-    first: (&str, &str),
-    rows: &[(&str, &str)],
-) -> Result<(), Fail> {
-    let (lines, answered) = first;
+fn each_follows(rt: &impl Abort, alloc: Global, first: (&str, &str), rows: &[(&str, &str)]) {
     for (more, answers) in rows {
-        let script = format!(in alloc; "{lines}{more}")?;
-        let expected = format!(in alloc; "{answered}{answers}")?;
-        let found = answers_to(alloc, script.as_bytes())?;
-        assert!(rt; found.as_slice() == expected.as_bytes(), "to {more}");
+        let followed = four_follow(alloc, first, more, answers);
+        assert!(rt; matches!(followed, Ok(true)), "to {more}");
     }
-    Ok(())
 }

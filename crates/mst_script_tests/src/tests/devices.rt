@@ -5,6 +5,7 @@ use mst_devices::{BytesSink, BytesSource, Device, StdSink, StdSource};
 use mst_script::RunFault;
 use mst_store::Shape;
 use std::alloc::{AllocError, Global};
+use std::process::Abort;
 use std::test::Fail;
 
 const SCRIPT: &[u8] = b"1 put 61 31\n2 put 616263 78\n3 range - - 10\n1 frob\n4 get 61";
@@ -37,31 +38,40 @@ fn pins(alloc: Global) -> Result<(Vec<u8>, Vec<u8>), AllocError> {
     Ok((script, answers))
 }
 
-/// Runs the script between such devices.
+/// Runs a script between such devices.
 fn run_between(alloc: Global, reader: Reader<'_>, out: &mut Writer) -> Result<(), RunFault> {
     let mut source = StdSource::new(reader);
     let mut sink = StdSink::new(out);
     run_over(alloc, alloc, SHAPE, &mut source, &mut sink)
 }
 
+/// Whether the run between such devices writes these bytes, and ends so.
+fn runs(
+    alloc: Global,
+    reader: Reader<'_>,
+    mut out: Writer,
+    written: &[u8],
+    ended: Result<(), RunFault>,
+) -> bool {
+    let ran = run_between(alloc, reader, &mut out);
+    out.bytes.as_slice() == written && ran == ended
+}
+
 // One byte at a read and one at a write.
 #[test]
-fn devices_may_take_their_time(rt: HostRuntime) -> Result<(), Fail> {
+fn devices_may_take_their_time(rt: HostRuntime) {
     for (read_most, write_most) in [(1, 1), (1, 9), (9, 1), (3, 2)] {
         let reader = Reader {
             rest: SCRIPT,
             most: read_most,
             reads: u64::MAX,
         };
-        let mut out = Writer::new(rt.alloc(), write_most, u64::MAX, false);
-        let ran = run_between(rt.alloc(), reader, &mut out);
+        let out = Writer::new(rt.alloc(), write_most, u64::MAX, false);
         assert!(rt;
-            out.bytes.as_slice() == ANSWERS,
+            runs(rt.alloc(), reader, out, ANSWERS, Ok(())),
             "{read_most} and {write_most} bytes at a time"
         );
-        assert!(rt; ran.is_ok());
     }
-    Ok(())
 }
 
 #[test]
@@ -72,40 +82,65 @@ fn devices_may_take_their_time_under_pins(rt: HostRuntime) -> Result<(), Fail> {
         most: 1,
         reads: u64::MAX,
     };
-    let mut out = Writer::new(rt.alloc(), 1, u64::MAX, false);
-    let ran = run_between(rt.alloc(), reader, &mut out);
-    assert!(rt; out.bytes.as_slice() == answers.as_slice());
-    assert!(rt; ran.is_ok());
+    let out = Writer::new(rt.alloc(), 1, u64::MAX, false);
+    assert!(rt; runs(rt.alloc(), reader, out, answers.as_slice(), Ok(())));
     Ok(())
 }
 
+/// Whether a run of which reads fail writes these bytes, and ends so.
+fn reads_end(alloc: Global, reader: Reader<'_>, most: usize, written: &[u8]) -> bool {
+    let out = Writer::new(alloc, most, u64::MAX, false);
+    runs(alloc, reader, out, written, Err(RunFault::Device))
+}
+
+/// The most bytes of a read, how many reads succeed, and how many bytes are then written.
+const READS: &[(usize, u64, usize)] = &[
+    (9, 0, 0),
+    (9, 1, 0),
+    (9, 2, 5),
+    (9, 3, 5),
+    (9, 4, 10),
+    (9, 5, 44),
+    (9, 6, 53),
+    (9, 7, 53),
+    (64, 0, 0),
+    (64, 1, 53),
+];
+
 // With a read that fails, all complete lines before it are answered.
 #[test]
-fn reads_fail(rt: HostRuntime) -> Result<(), Fail> {
-    for (most, reads, answered) in [
-        (9, 0, 0),
-        (9, 1, 0),
-        (9, 2, 5),
-        (9, 3, 5),
-        (9, 4, 10),
-        (9, 5, 44),
-        (9, 6, 53),
-        (9, 7, 53),
-        (64, 0, 0),
-        (64, 1, 53),
-    ] {
+fn reads_fail(rt: HostRuntime) {
+    for (most, reads, answered) in READS {
         let reader = Reader {
             rest: SCRIPT,
-            most,
-            reads,
+            most: *most,
+            reads: *reads,
         };
-        let mut out = Writer::new(rt.alloc(), 64, u64::MAX, false);
-        let ran = run_between(rt.alloc(), reader, &mut out);
+        let written = &ANSWERS[..ANSWERS.len().min(*answered)];
         assert!(rt;
-            out.bytes.as_slice() == &ANSWERS[..answered],
+            reads_end(rt.alloc(), reader, 64, written),
             "after {reads} reads"
         );
-        assert!(rt; matches!(ran, Err(RunFault::Device)));
+    }
+}
+
+/// The bytes of the line are read one by one behind those that were read, and each read fails in
+/// turn, with these bytes written before.
+fn each_read_fails(
+    rt: &impl Abort,
+    alloc: Global,
+    read: &mut Vec<u8>,
+    line: &[u8],
+    written: &[u8],
+) -> Result<(), AllocError> {
+    for byte in line {
+        let reader = Reader {
+            rest: read.as_slice(),
+            most: 1,
+            reads: read.len() as u64,
+        };
+        assert!(rt; reads_end(alloc, reader, 1, written));
+        read.push(*byte)?;
     }
     Ok(())
 }
@@ -116,72 +151,58 @@ fn reads_fail_under_pins(rt: HostRuntime) -> Result<(), Fail> {
     let mut read = Vec::new(rt.alloc());
     let mut answers = Vec::new(rt.alloc());
     for (line, answer) in PINS {
-        for byte in line {
-            let reader = Reader {
-                rest: read.as_slice(),
-                most: 1,
-                reads: read.len() as u64,
-            };
-            let mut out = Writer::new(rt.alloc(), 1, u64::MAX, false);
-            let ran = run_between(rt.alloc(), reader, &mut out);
-            assert!(rt; out.bytes.as_slice() == answers.as_slice());
-            assert!(rt; matches!(ran, Err(RunFault::Device)));
-            read.push(*byte)?;
-        }
+        each_read_fails(&rt, rt.alloc(), &mut read, line, answers.as_slice())?;
         answers.extend_from_slice(answer)?;
     }
     Ok(())
 }
 
-// With a write that fails, what was written is a beginning of the answers.
-#[test]
-fn writes_fail(rt: HostRuntime) -> Result<(), Fail> {
-    for by_zero in [false, true] {
-        for writes in 0..ANSWERS.len() as u64 {
-            let reader = Reader {
-                rest: SCRIPT,
-                most: 9,
-                reads: u64::MAX,
-            };
-            let mut out = Writer::new(rt.alloc(), 1, writes, by_zero);
-            let ran = run_between(rt.alloc(), reader, &mut out);
-            assert!(rt; out.bytes.len() as u64 == writes, "after {writes} writes");
-            assert!(rt; ANSWERS.starts_with(out.bytes.as_slice()));
-            assert!(rt; matches!(ran, Err(RunFault::Device)));
-        }
+/// Each write of the answers to a script fails in turn: what was written is a beginning of them.
+fn each_write_fails(rt: &impl Abort, alloc: Global, by_zero: bool, script: &[u8], answers: &[u8]) {
+    for writes in 0..answers.len() {
+        let reader = Reader {
+            rest: script,
+            most: 9,
+            reads: u64::MAX,
+        };
+        let out = Writer::new(alloc, 1, writes as u64, by_zero);
+        let fault = Err(RunFault::Device);
+        assert!(rt;
+            runs(alloc, reader, out, &answers[..writes], fault),
+            "after {writes} writes"
+        );
     }
-    Ok(())
+}
+
+#[test]
+fn writes_fail(rt: HostRuntime) {
+    each_write_fails(&rt, rt.alloc(), false, SCRIPT, ANSWERS);
+    each_write_fails(&rt, rt.alloc(), true, SCRIPT, ANSWERS);
 }
 
 #[test]
 fn writes_fail_under_pins(rt: HostRuntime) -> Result<(), Fail> {
     let (script, answers) = pins(rt.alloc())?;
-    for by_zero in [false, true] {
-        for writes in 0..answers.len() as u64 {
-            let reader = Reader {
-                rest: script.as_slice(),
-                most: 9,
-                reads: u64::MAX,
-            };
-            let mut out = Writer::new(rt.alloc(), 1, writes, by_zero);
-            let ran = run_between(rt.alloc(), reader, &mut out);
-            assert!(rt; out.bytes.len() as u64 == writes, "after {writes} writes");
-            assert!(rt; answers.starts_with(out.bytes.as_slice()));
-            assert!(rt; matches!(ran, Err(RunFault::Device)));
-        }
-    }
+    let (script, answers) = (script.as_slice(), answers.as_slice());
+    each_write_fails(&rt, rt.alloc(), false, script, answers);
+    each_write_fails(&rt, rt.alloc(), true, script, answers);
     Ok(())
+}
+
+/// Whether the sink of a run over the script is full behind these bytes.
+fn is_full_behind(alloc: Global, written: &[u8]) -> Result<bool, AllocError> {
+    let mut source = BytesSource::new(SCRIPT);
+    let mut sink = BytesSink::new(alloc, written.len())?;
+    let ran = run_over(alloc, alloc, SHAPE, &mut source, &mut sink);
+    Ok(ran == Err(RunFault::Device) && sink.bytes() == written)
 }
 
 // A sink that is full at its first byte, and one that is full at the end.
 #[test]
 fn sinks_are_full(rt: HostRuntime) -> Result<(), Fail> {
     for room in [0, 1, 5, 60] {
-        let mut source = BytesSource::new(SCRIPT);
-        let mut sink = BytesSink::new(rt.alloc(), room)?;
-        let ran = run_over(rt.alloc(), rt.alloc(), SHAPE, &mut source, &mut sink);
-        assert!(rt; matches!(ran, Err(RunFault::Device)));
-        assert!(rt; sink.bytes() == &ANSWERS[..room], "with room for {room}");
+        let full = is_full_behind(rt.alloc(), &ANSWERS[..room])?;
+        assert!(rt; full, "with room for {room}");
     }
     Ok(())
 }

