@@ -40,9 +40,9 @@ use Rattle.mst_store.proofs.Places.{reached_inside, place_of}
 use Rattle.mst_store.proofs.Pinning.{link_of_root, in_list, each}
 
 -- the holder of the turn may read each row
-pub reads_held : (v : View) (x : ℕ) → v.turn ≡ true → x < v.rows → content_of v x ≡ rows_in (row v.held) x
-reads_held v x turn lt = ap (λ (b : Bool). if (b && (v.turn || (is_some v.pin && list_any (eqb x) v.stood))) then rows_in (row v.held) x else None) (lt-ltb x v.rows lt)
-    ∙ ap (λ (b : Bool). if (b || (is_some v.pin && list_any (eqb x) v.stood)) then rows_in (row v.held) x else None) turn
+pub reads_held : (v : View) (x : ℕ) → v.turn ≡ true → x < v.rows → content_of v x ≡ rows_in (row v.known_words) x
+reads_held v x turn lt = ap (λ (b : Bool). if (b && (v.turn || (is_some v.pin && list_any (eqb x) v.pinned_rows))) then rows_in (row v.known_words) x else None) (lt-ltb x v.rows lt)
+    ∙ ap (λ (b : Bool). if (b || (is_some v.pin && list_any (eqb x) v.pinned_rows)) then rows_in (row v.known_words) x else None) turn
 
 all_below_true : (n : ℕ) (p : ℕ → Bool) → ((r : ℕ) → r < n → p r ≡ true) → all_below n p ≡ true
 all_below_true zero p all = refl
@@ -111,7 +111,7 @@ module _ (before taken : Seat) (p : Takes stored before taken) where
 
   -- the view, when some records were found drained and others pinned
   abbrev asked_view : List ℕ → List ℕ → ℕ → View
-  asked_view drained blocked asked = record before.0 { seen = p.log; held = p.words; turn = true; desk = p.desk; due = None; mask = 0; drained = drained; blocked = blocked; noted = None; asked = asked }
+  asked_view drained blocked asked = record before.0 { seen = p.log; known_words = p.words; turn = true; desk = p.desk; due = None; mask = 0; drained = drained; blocked = blocked; noted = None; asked = asked }
 
   abbrev asked_seat : List ℕ → List ℕ → ℕ → Seat
   asked_seat drained blocked asked = (asked_view drained blocked asked, (0, None) ∷ [])
@@ -260,23 +260,23 @@ module _ (before taken : Seat) (p : Takes stored before taken) where
   whole m is = is ∙ ap (λ (z : Seat). (record z.0 { drained = m.0.drained; blocked = m.0.blocked; asked = m.0.asked }, (0, None) ∷ [])) p.is
 
   -- the link that the current record has
-  pub link_there : (desk : State) (m : Seat) (which : ℕ) → taken.1 ≡ (0, Some desk) ∷ [] → IsAskedOf m → which ≡ desk.current → taken.0.rows ≤ 65535 → field m.0.held which 1 ≤ 65535
+  pub link_there : (desk : State) (m : Seat) (which : ℕ) → taken.1 ≡ (0, Some desk) ∷ [] → IsAskedOf m → which ≡ desk.current → taken.0.rows ≤ 65535 → field m.0.known_words which 1 ≤ 65535
   link_there desk m which slot is current few =
       let few_rows : before.0.rows ≤ 65535 = subst (λ (z : Seat). z.0.rows ≤ 65535) p.is few in
       let at : which ≡ p.desk.current = current ∙ ap (λ (d : State). d.current) (desk_there desk slot) in
       let link = link_of_root (row p.words) (field p.words p.desk.current) (after p.log) p.used before.0.rows p.stands.stands p.stands.inside in
-      let same : field m.0.held which 1 ≡ field p.words p.desk.current 1 = ap (λ (z : Seat). field z.0.held which 1) (whole m is) ∙ ap (λ (r : ℕ). field p.words r 1) at in
+      let same : field m.0.known_words which 1 ≡ field p.words p.desk.current 1 = ap (λ (z : Seat). field z.0.known_words which 1) (whole m is) ∙ ap (λ (r : ℕ). field p.words r 1) at in
       omega (arith, few_rows, link, same)
 
   pub ready : {A : Type 0} (desk swept_life : State) (a : Asked) (live : List ℕ) (root : Root) (m : Seat) (which passes kept : ℕ) → kept ≡ length a.live.items → taken.1 ≡ (0, Some desk) ∷ [] → IsAskedOf m → passes ≡ taken.0.passes
-      → HasAsked (passes + 2) desk a m → which ≡ desk.current → root ≡ root_in (field m.0.held which) → live ≡ a.live.items → swept_life ≡ swept_by live desk → HasTurn (of_turn {A = A} swept_life root a.into kept) m
+      → HasAsked (passes + 2) desk a m → which ≡ desk.current → root ≡ root_in (field m.0.known_words which) → live ≡ a.live.items → swept_life ≡ swept_by live desk → HasTurn (of_turn {A = A} swept_life root a.into kept) m
   ready {A} desk swept_life a live root m which passes kept number slot is few h current here all by =
       let d : desk ≡ state_of p.desk = desk_there desk slot in
       let w : m ≡ asked_seat m.0.drained m.0.blocked m.0.asked = whole m is in
       let n : passes ≡ before.0.passes = few ∙ ap (λ (z : Seat). z.0.passes) p.is in
       let known_asked : HasAsked (before.0.passes + 2) (state_of p.desk) a (asked_seat m.0.drained m.0.blocked m.0.asked) = subst (λ (z : Seat). HasAsked (before.0.passes + 2) (state_of p.desk) a z) w
       (subst (λ (s : State). HasAsked (before.0.passes + 2) s a m) d (subst (λ (k : ℕ). HasAsked (k + 2) desk a m) n h)) in
-      let root_is : root ≡ root_in (field p.words p.desk.current) = here ∙ ap (λ (z : Seat). root_in (field z.0.held which)) w ∙ ap (λ (r : ℕ). root_in (field p.words r)) (current ∙ ap (λ (s : State). s.current) d) in
+      let root_is : root ≡ root_in (field p.words p.desk.current) = here ∙ ap (λ (z : Seat). root_in (field z.0.known_words which)) w ∙ ap (λ (r : ℕ). root_in (field p.words r)) (current ∙ ap (λ (s : State). s.current) d) in
       let swept_is : swept_life ≡ swept_by a.live.items (state_of p.desk) = by ∙ ap (λ (l : List ℕ). swept_by l desk) all ∙ ap (λ (s : State). swept_by a.live.items s) d in
       subst (λ (s : State). HasTurn (of_turn {A = A} s root a.into kept) m) (sym swept_is)
       (subst (λ (k : ℕ). HasTurn (of_turn {A = A} (swept_by a.live.items (state_of p.desk)) root a.into k) m) (sym number)
@@ -301,7 +301,7 @@ module _ (before : Seat) (desk : State) (m : Seat) (out : TakesDesk before desk 
 
   -- the view of the holder of the turn
   abbrev holding : View
-  holding = record before.0 { seen = p.log; held = p.words; turn = true; desk = p.desk; due = None; mask = 0; drained = []; blocked = []; noted = None; asked = before.0.asked + 1 }
+  holding = record before.0 { seen = p.log; known_words = p.words; turn = true; desk = p.desk; due = None; mask = 0; drained = []; blocked = []; noted = None; asked = before.0.asked + 1 }
 
   same_desk : desk ≡ state_of p.desk
   same_desk = desk_there before out.0 p desk out.2

@@ -72,7 +72,7 @@ pinned_still number passes rows at s t h told n is p = record {
   few = p.few;
   rows_is = ap (λ (m : Seat). m.0.rows) is ∙ p.rows_is;
   few_rows = p.few_rows;
-  own = subst (λ (m : Seat). events_of number m.0.place ≡ m.0.mine) (sym is) p.own;
+  own = subst (λ (m : Seat). events_of number m.0.pinned_history ≡ m.0.mine) (sym is) p.own;
 }
 
 -- ---- the way back

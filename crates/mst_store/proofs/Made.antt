@@ -44,8 +44,8 @@ next_ages old new before now root at h e stood stands settled exact number chang
     (aged before now old new o w stood.tree.rows change written (reached_old old (used o) settled exact) stands.tree.rows made (distinct_times (used w) stands.tree.once) (ap (λ (c : ℕ). free_count new.lives + c) (sym costs) ∙ count))
 
 -- the seat is as before but for its words, of which it knows as many
-frame : (s z : Seated) → beside z ≡ beside s → (z ≡ with_words z.me.0.held s) × (length z.me.0.held ≡ length s.me.0.held)
-frame s z same = (ap (λ (b : Beside). with_words z.me.0.held b.seat) same, ap (λ (b : Beside). b.long) same)
+frame : (s z : Seated) → beside z ≡ beside s → (z ≡ with_words z.me.0.known_words s) × (length z.me.0.known_words ≡ length s.me.0.known_words)
+frame s z same = (ap (λ (b : Beside). with_words z.me.0.known_words b.seat) same, ap (λ (b : Beside). b.long) same)
 
 pub same_seat : (s z : Seated) → beside z ≡ beside s → IsSameSeat s z
 same_seat s z same = (ap (λ (b : Beside). b.seat.table) same, ap (λ (b : Beside). b.seat.id) same)
@@ -56,7 +56,7 @@ module _ {A : Type 0} (t : Turn A) (s z : Seated) (h : HasTurn t s.me) (root : R
   made_turn = record t { desk = d }
 
   abbrev now : Seat
-  now = (record s.me.0 { held = z.me.0.held }, s.me.1)
+  now = (record s.me.0 { known_words = z.me.0.known_words }, s.me.1)
 
   is_now : z.me ≡ now
   is_now = ap (λ (q : Seated). q.me) (frame s z same).0

@@ -34,11 +34,11 @@ in_list x (y ∷ ys) within = ⊎_elim (λ (is : x ≡ y). ap (λ (b : Bool). b 
     (λ (t : In x ys). ap (λ (b : Bool). eqb x y || b) (in_list x ys t) ∙ or-true (eqb x y)) within
 
 -- a pinned pass may read the rows that stand for its version
-reads_stood : (v : View) (r x : ℕ) → v.pin ≡ Some r → In x v.stood → x < v.rows → content_of v x ≡ rows_in (row v.held) x
-reads_stood v r x pin within lt = ap (λ (b : Bool). if (b && (v.turn || (is_some v.pin && list_any (eqb x) v.stood))) then rows_in (row v.held) x else None) (lt-ltb x v.rows lt)
-    ∙ ap (λ (b : Bool). if (v.turn || (b && list_any (eqb x) v.stood)) then rows_in (row v.held) x else None) (ap is_some pin)
-    ∙ ap (λ (b : Bool). if (v.turn || b) then rows_in (row v.held) x else None) (in_list x v.stood within)
-    ∙ ap (λ (b : Bool). if b then rows_in (row v.held) x else None) (or-true v.turn)
+reads_stood : (v : View) (r x : ℕ) → v.pin ≡ Some r → In x v.pinned_rows → x < v.rows → content_of v x ≡ rows_in (row v.known_words) x
+reads_stood v r x pin within lt = ap (λ (b : Bool). if (b && (v.turn || (is_some v.pin && list_any (eqb x) v.pinned_rows))) then rows_in (row v.known_words) x else None) (lt-ltb x v.rows lt)
+    ∙ ap (λ (b : Bool). if (v.turn || (b && list_any (eqb x) v.pinned_rows)) then rows_in (row v.known_words) x else None) (ap is_some pin)
+    ∙ ap (λ (b : Bool). if (v.turn || b) then rows_in (row v.known_words) x else None) (in_list x v.pinned_rows within)
+    ∙ ap (λ (b : Bool). if b then rows_in (row v.known_words) x else None) (or-true v.turn)
 
 pub each : (P : ℕ → Type 0) (xs : List ℕ) → ((x : ℕ) → In x xs → P x) → AllByRecursion P xs
 each P [] all = tt
@@ -48,16 +48,16 @@ abbrev Slot : Type 0
 Slot = Option lives.State
 
 -- the link that the pinned record has
-pub pinned_link : (m m' : Me Slot View) (found which : ℕ) (p : PinsNow stored m found m') → p.cur ≡ which → m.0.rows ≤ 65535 → field m'.0.held which 1 ≤ 65535
+pub pinned_link : (m m' : Me Slot View) (found which : ℕ) (p : PinsNow stored m found m') → p.cur ≡ which → m.0.rows ≤ 65535 → field m'.0.known_words which 1 ≤ 65535
 pinned_link m m' found which p is few = let l = link_of_root (row p.words) (field p.words p.cur) (after p.log) p.used m.0.rows p.stands p.inside in
-    let same : field m'.0.held which 1 ≡ field p.words p.cur 1 = ap (λ (z : Me Slot View). field z.0.held which 1) p.is ∙ ap (λ (r : ℕ). field p.words r 1) (sym is) in omega arith
+    let same : field m'.0.known_words which 1 ≡ field p.words p.cur 1 = ap (λ (z : Me Slot View). field z.0.known_words which 1) p.is ∙ ap (λ (r : ℕ). field p.words r 1) (sym is) in omega arith
 
 -- what the pass then knows
-pub pinned_root : (m m' : Me Slot View) (found : ℕ) (p : PinsNow stored m found m') (at : PinnedRoot) → m.0.passes ≤ 32 → p.cur ≡ at.pinned → at.version ≡ field m'.0.held at.pinned 0 → at.link ≡ field m'.0.held at.pinned 1 → Pins m at m'
-pinned_root m m' found p at few is version link = subst (λ (z : Me Slot View). at.version ≡ field z.0.held at.pinned 0 → at.link ≡ field z.0.held at.pinned 1 → Pins m at z) (sym p.is) known version link
+pub pinned_root : (m m' : Me Slot View) (found : ℕ) (p : PinsNow stored m found m') (at : PinnedRoot) → m.0.passes ≤ 32 → p.cur ≡ at.pinned → at.version ≡ field m'.0.known_words at.pinned 0 → at.link ≡ field m'.0.known_words at.pinned 1 → Pins m at m'
+pinned_root m m' found p at few is version link = subst (λ (z : Me Slot View). at.version ≡ field z.0.known_words at.pinned 0 → at.link ≡ field z.0.known_words at.pinned 1 → Pins m at z) (sym p.is) known version link
   where
     w : View
-    w = record m.0 { pin = Some p.cur; place = p.log; stood = p.used; held = p.words; asked = m.0.asked + 1 }
+    w = record m.0 { pin = Some p.cur; pinned_history = p.log; pinned_rows = p.used; known_words = p.words; asked = m.0.asked + 1 }
 
     content : AllByRecursion (λ x. content_of w x ≡ rows_in (row p.words) x) (numbers p.stands.0)
     content = subst (AllByRecursion (λ x. content_of w x ≡ rows_in (row p.words) x)) (sym p.stands.1)
@@ -82,6 +82,6 @@ pinned_root m m' found p at few is version link = subst (λ (z : Me Slot View). 
     }
 
 -- the holder of the turn may read every row
-pub reads_all : (v : View) (x : ℕ) → v.turn ≡ true → x < v.rows → content_of v x ≡ rows_in (row v.held) x
-reads_all v x on lt = ap (λ (b : Bool). if (b && (v.turn || (is_some v.pin && list_any (eqb x) v.stood))) then rows_in (row v.held) x else None) (lt-ltb x v.rows lt)
-    ∙ ap (λ (b : Bool). if (b || (is_some v.pin && list_any (eqb x) v.stood)) then rows_in (row v.held) x else None) on
+pub reads_all : (v : View) (x : ℕ) → v.turn ≡ true → x < v.rows → content_of v x ≡ rows_in (row v.known_words) x
+reads_all v x on lt = ap (λ (b : Bool). if (b && (v.turn || (is_some v.pin && list_any (eqb x) v.pinned_rows))) then rows_in (row v.known_words) x else None) (lt-ltb x v.rows lt)
+    ∙ ap (λ (b : Bool). if (b || (is_some v.pin && list_any (eqb x) v.pinned_rows)) then rows_in (row v.known_words) x else None) on

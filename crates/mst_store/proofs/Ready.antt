@@ -35,9 +35,9 @@ length_more : (l : History) (e : Event) → length (l ++ e ∷ []) ≡ length l 
 length_more [] e = refl
 length_more (x ∷ l) e = let h = length_more l e in omega arith
 
-module _ {A : Type 0} (t : Turn A) (root : Root) (e : Event) (m : Seat) (made : HasMade t root e m) (held : List ℕ) (kept : OthersKept t.into m.0.held held) (filed : field held t.into 0 ≡ version t.desk + 1) (spelt : root_in (field held t.into) ≡ root) where
+module _ {A : Type 0} (t : Turn A) (root : Root) (e : Event) (m : Seat) (made : HasMade t root e m) (held : List ℕ) (kept : OthersKept t.into m.0.known_words held) (filed : field held t.into 0 ≡ version t.desk + 1) (spelt : root_in (field held t.into) ≡ root) where
   abbrev now : View
-  now = record m.0 { held = held }
+  now = record m.0 { known_words = held }
 
   abbrev state : DeskState
   state = desk_state (advanced t.into t.desk)
@@ -51,7 +51,7 @@ module _ {A : Type 0} (t : Turn A) (root : Root) (e : Event) (m : Seat) (made : 
 
   same_content : AllByRecursion (λ x. rows_in (row held) x ≡ content_of m.0 x) (numbers made.stands)
   same_content = each (λ x. rows_in (row held) x ≡ content_of m.0 x) (numbers made.stands) (λ x within.
-      same_row (row m.0.held) (row held) x (λ k lt. kept.others (x * 16 + k + 240) (λ j l is. let i = holds.into_in in let f = holds.few in omega arith)) ∙ sym (reads_all m.0 x holds.holder.0 (within_rows x within)))
+      same_row (row m.0.known_words) (row held) x (λ k lt. kept.others (x * 16 + k + 240) (λ j l is. let i = holds.into_in in let f = holds.few in omega arith)) ∙ sym (reads_all m.0 x holds.holder.0 (within_rows x within)))
 
   numbered : length (m.0.seen ++ e ∷ []) ≡ version t.desk + 1
   numbered = length_more m.0.seen e ∙ ap (λ (n : ℕ). n + 1) (sym holds.version_is)

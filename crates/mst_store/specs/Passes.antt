@@ -51,7 +51,7 @@ abbrev pub known_at_pin : ℕ → access.Seated → Known
 known_at_pin number s = record {
   store = store_of s;
   number = number;
-  seen = s.me.0.place;
+  seen = s.me.0.pinned_history;
   mine = s.me.0.mine;
   asked = s.me.0.asked;
 }
@@ -77,7 +77,7 @@ pub record IsPinning (number passes rows : ℕ) (at : PinnedRoot) (s : access.Se
   pub few : passes ≤ 32
   pub rows_is : s.me.0.rows ≡ rows
   pub few_rows : rows ≤ 65535
-  pub own : events_of number s.me.0.place ≡ s.me.0.mine
+  pub own : events_of number s.me.0.pinned_history ≡ s.me.0.mine
 
 -- the sizes that a store may have
 abbrev pub IsShape : Shape → Type 0

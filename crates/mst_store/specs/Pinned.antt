@@ -18,22 +18,22 @@ pub record HasPinned (at : PinnedRoot) (v : View) : Type 0 where
   pub pin : v.pin ≡ Some at.pinned
   pub there : at.pinned < v.passes + 2
   pub low : at.pinned < most_records
-  pub version : at.version ≡ length v.place
-  pub stands : StandsBelow One (content_of v) at.link (after v.place)
-  pub digest : (root_in (field v.held at.pinned)).digest ≡ root One (after v.place)
+  pub version : at.version ≡ length v.pinned_history
+  pub stands : StandsBelow One (content_of v) at.link (after v.pinned_history)
+  pub digest : (root_in (field v.known_words at.pinned)).digest ≡ root One (after v.pinned_history)
 
 -- The current version was pinned. The history at the pin begins with all that the pass had seen,
 -- and its events there are its own. One step was counted, the pin. Nothing else changed
 pub record Pins {S : Type 0} (m : Me S View) (at : PinnedRoot) (m' : Me S View) : Type 0 where
-  pub later : IsPrefix m.0.seen m'.0.place
-  pub own : events_of m.0.number m'.0.place ≡ m.0.mine
+  pub later : IsPrefix m.0.seen m'.0.pinned_history
+  pub own : events_of m.0.number m'.0.pinned_history ≡ m.0.mine
   pub has : HasPinned at m'.0
   pub rest : m' ≡ (
     record m.0 {
       pin = m'.0.pin;
-      place = m'.0.place;
-      stood = m'.0.stood;
-      held = m'.0.held;
+      pinned_history = m'.0.pinned_history;
+      pinned_rows = m'.0.pinned_rows;
+      known_words = m'.0.known_words;
       asked = m.0.asked + 1;
     },
     m.1,

@@ -36,7 +36,7 @@ Seat = Me (Option State) View
 pub record HoldsDesk {A : Type 0} (t : Turn A) (m : Seat) : Type 0 where
   pub holder : IsHolder m
   pub slot : m.1 ≡ (0, None) ∷ []
-  pub known : length m.0.held ≡ table_words m.0.rows
+  pub known : length m.0.known_words ≡ table_words m.0.rows
   pub few : m.0.passes ≤ 32
   pub short : length m.0.seen ≤ last_version
   pub current : t.desk.current ≡ m.0.desk.current
@@ -53,7 +53,7 @@ pub record HoldsDesk {A : Type 0} (t : Turn A) (m : Seat) : Type 0 where
 -- the record stood for the map at a place of the history that the holder of the turn knows
 abbrev pub StoodAtAsk : ℕ → View → Type 0
 StoodAtAsk r v = (place : History) × (used : List ℕ)
-    × Standing stored v.rows v.passes v.held v.seen v.desk r place used
+    × Standing stored v.rows v.passes v.known_words v.seen v.desk r place used
 
 -- the version is that of a record that was not found drained
 abbrev pub IsKept : State → View → ℕ → Type 0
@@ -113,7 +113,7 @@ pub record Begun {A : Type 0} (m : Seat) (t : Turn A) (m' : Seat) : Type 0 where
   pub has : HasTurn t m'
   pub rest : m'.0 ≡ record m.0 {
     seen = m'.0.seen;
-    held = m'.0.held;
+    known_words = m'.0.known_words;
     turn = true;
     desk = m'.0.desk;
     due = None;
@@ -134,7 +134,7 @@ pub record Spent (m m' : Seat) : Type 0 where
   pub rest : m' ≡ (
     record m.0 {
       seen = m'.0.seen;
-      held = m'.0.held;
+      known_words = m'.0.known_words;
       turn = false;
       desk = m'.0.desk;
       due = None;

@@ -37,7 +37,7 @@ pub record Made {A : Type 0} (change : Change) (t : Turn A) (m : Seat)
   pub has : HasMade t' root (made_at_seat m change) m'
   pub answer : old ≡ reply m.0.seen (made_at_seat m change)
   pub rows : free_count t'.desk.lives + rows_taken (after m.0.seen) change ≡ free_count t.desk.lives
-  pub kept : m' ≡ (record m.0 { held = m'.0.held }, m.1)
+  pub kept : m' ≡ (record m.0 { known_words = m'.0.known_words }, m.1)
 
 -- Versions are kept that hold too many of these rows for the change. The last one is among them,
 -- none is above it, and they are at most as many as the passes

@@ -52,7 +52,7 @@ pub(crate) fn get<A: Allocator + Copy>(
     key: &Key,
 ) -> Option<Value>
     requires pinned { HasPinned at.now seat.old.me.0 }
-    ensures found { result ≡ map_get (after seat.old.me.0.place) key.now }
+    ensures found { result ≡ map_get (after seat.old.me.0.pinned_history) key.now }
     ensures same { seat.new ≡ seat.old }
 {
     mst_read::get_below(seat, at.link, key)
@@ -66,7 +66,8 @@ pub(crate) fn next<A: Allocator + Copy>(
     bound: Option<&Key>,
 ) -> Option<(Key, Value)>
     requires pinned { HasPinned at.now seat.old.me.0 }
-    ensures found { result ≡ map_next (after seat.old.me.0.place) (option_copied bound.entry) }
+    ensures found { result
+        ≡ map_next (after seat.old.me.0.pinned_history) (option_copied bound.entry) }
     ensures same { seat.new ≡ seat.old }
 {
     mst_read::next_below(seat, at.link, bound)
@@ -75,7 +76,7 @@ pub(crate) fn next<A: Allocator + Copy>(
 /// The root digest of the pinned version's map: four loads.
 pub(crate) fn root<A: Allocator + Copy>(seat: &mut PassSeat<'_, A>, at: &PinnedRoot) -> [u8; 32]
     requires pinned { HasPinned at.now seat.old.me.0 }
-    ensures found { result ≡ text.root One (after seat.old.me.0.place) }
+    ensures found { result ≡ text.root One (after seat.old.me.0.pinned_history) }
     ensures same { seat.new ≡ seat.old }
 {
     read_digest(seat, at.pinned)
@@ -94,8 +95,9 @@ pub(crate) fn range<A: Allocator + Copy, B: Allocator>(
     limit: usize,
 ) -> Result<Vec<(Key, Value), B>, Memory>
     requires pinned { HasPinned at.now seat.old.me.0 }
-    ensures found { IfOk result (λ found. found.items ≡ map_range
-        (after seat.old.me.0.place) (option_copied from.entry) (option_copied to.entry) limit) }
+    ensures found { IfOk result (λ found. found.items
+        ≡ map_range (after seat.old.me.0.pinned_history)
+        (option_copied from.entry) (option_copied to.entry) limit) }
     ensures same { seat.new ≡ seat.old }
 {
     mst_read::range_below(alloc, seat, at.link, from, to, limit)
@@ -113,7 +115,7 @@ pub(crate) fn prove<A: Allocator + Copy, B: Allocator + Copy>(
 ) -> Result<Vec<u8, B>, Memory>
     requires pinned { HasPinned at.now seat.old.me.0 }
     ensures proof { IfOk result
-        (λ proof. proof.items ≡ proof_text One (after seat.old.me.0.place) key.now) }
+        (λ proof. proof.items ≡ proof_text One (after seat.old.me.0.pinned_history) key.now) }
     ensures short { IfOk result (λ proof. length proof.items < 2 ^ 32) }
     ensures same { seat.new ≡ seat.old }
 {

@@ -18,7 +18,7 @@ fn field<A: Allocator + Copy>(seat: &mut PassSeat<'_, A>, which: u32, k: usize) 
     requires there { (which < most_records) × (k < record_words) }
     requires readable { (j : ℕ) → j < record_words
         → IsReadable seat.old.me.0 (record_word which j) }
-    ensures word { result ≡ field seat.old.me.0.held which k }
+    ensures word { result ≡ field seat.old.me.0.known_words which k }
     ensures same { seat.new ≡ seat.old }
 {
     seat.load(record_word(which, k))
@@ -29,9 +29,9 @@ pub(crate) fn read_root<A: Allocator + Copy>(seat: &mut PassSeat<'_, A>, which: 
     requires there { which < most_records }
     requires readable { (k : ℕ) → k < record_words
         → IsReadable seat.old.me.0 (record_word which k) }
-    requires link { field seat.old.me.0.held which 1 ≤ 65535 }
-    ensures version { result.0 ≡ field seat.old.me.0.held which 0 }
-    ensures root { result.1 ≡ root_in (field seat.old.me.0.held which) }
+    requires link { field seat.old.me.0.known_words which 1 ≤ 65535 }
+    ensures version { result.0 ≡ field seat.old.me.0.known_words which 0 }
+    ensures root { result.1 ≡ root_in (field seat.old.me.0.known_words which) }
     ensures same { seat.new ≡ seat.old }
 {
     let version = field(seat, which, 0);
@@ -50,9 +50,9 @@ pub(crate) fn read_link<A: Allocator + Copy>(seat: &mut PassSeat<'_, A>, which: 
     requires there { which < most_records }
     requires readable { (k : ℕ) → k < record_words
         → IsReadable seat.old.me.0 (record_word which k) }
-    requires link { field seat.old.me.0.held which 1 ≤ 65535 }
-    ensures version { result.0 ≡ field seat.old.me.0.held which 0 }
-    ensures link { result.1 ≡ field seat.old.me.0.held which 1 }
+    requires link { field seat.old.me.0.known_words which 1 ≤ 65535 }
+    ensures version { result.0 ≡ field seat.old.me.0.known_words which 0 }
+    ensures link { result.1 ≡ field seat.old.me.0.known_words which 1 }
     ensures same { seat.new ≡ seat.old }
 {
     let version = field(seat, which, 0);
@@ -65,7 +65,7 @@ pub(crate) fn read_digest<A: Allocator + Copy>(seat: &mut PassSeat<'_, A>, which
     requires there { which < most_records }
     requires readable { (k : ℕ) → k < record_words
         → IsReadable seat.old.me.0 (record_word which k) }
-    ensures digest { result ≡ (root_in (field seat.old.me.0.held which)).digest }
+    ensures digest { result ≡ (root_in (field seat.old.me.0.known_words which)).digest }
     ensures same { seat.new ≡ seat.old }
 {
     let first = field(seat, which, 2);
@@ -84,9 +84,10 @@ fn store_all<A: Allocator + Copy>(
     requires there { which < most_records }
     requires holder { IsHolder seat.old.me }
     requires drained { In which seat.old.me.0.drained }
-    requires wide { first_row ≤ length seat.old.me.0.held }
-    ensures kept { seat.new ≡ with_words seat.new.me.0.held seat.old }
-    ensures stored { IsFiled which record_words words.now seat.old.me.0.held seat.new.me.0.held }
+    requires wide { first_row ≤ length seat.old.me.0.known_words }
+    ensures kept { seat.new ≡ with_words seat.new.me.0.known_words seat.old }
+    ensures stored { IsFiled which record_words words.now
+        seat.old.me.0.known_words seat.new.me.0.known_words }
 {
     for k in 0..RECORD_WORDS {
         seat.store(record_word(which, k), words[k]);
@@ -103,11 +104,11 @@ pub(crate) fn write_root<A: Allocator + Copy>(
     requires there { which < most_records }
     requires holder { IsHolder seat.old.me }
     requires drained { In which seat.old.me.0.drained }
-    requires wide { first_row ≤ length seat.old.me.0.held }
-    ensures kept { seat.new ≡ with_words seat.new.me.0.held seat.old }
-    ensures version { field seat.new.me.0.held which 0 ≡ version }
-    ensures root { root_in (field seat.new.me.0.held which) ≡ root.now }
-    ensures others { OthersKept which seat.old.me.0.held seat.new.me.0.held }
+    requires wide { first_row ≤ length seat.old.me.0.known_words }
+    ensures kept { seat.new ≡ with_words seat.new.me.0.known_words seat.old }
+    ensures version { field seat.new.me.0.known_words which 0 ≡ version }
+    ensures root { root_in (field seat.new.me.0.known_words which) ≡ root.now }
+    ensures others { OthersKept which seat.old.me.0.known_words seat.new.me.0.known_words }
 {
     let [link, first, second, third, last] = root.words();
     store_all(seat, which, &[version, link, first, second, third, last]);

@@ -37,13 +37,13 @@ gone None h = refl
 gone (Some r) h = absurd (let c : false ≡ true = h in cc)
 
 pub readable : (v : View) (x k : ℕ) → may_read v x ≡ true → k < 16 → IsReadable v (x * 16 + k + 240)
-readable v x k may lt = let a = both (nat_lt x v.rows) (v.turn || (is_some v.pin && list_any (eqb x) v.stood)) may in ⊎_elim
+readable v x k may lt = let a = both (nat_lt x v.rows) (v.turn || (is_some v.pin && list_any (eqb x) v.pinned_rows)) may in ⊎_elim
     (λ (on : v.turn ≡ true). inl (on, omega arith))
-    (λ (pinned : (is_some v.pin && list_any (eqb x) v.stood) ≡ true). let b = both (is_some v.pin) (list_any (eqb x) v.stood) pinned in let p = there v.pin b.0 in inr (inr (p.0, x, k, p.1, in_any x v.stood b.1, lt, refl)))
-    (either_of v.turn (is_some v.pin && list_any (eqb x) v.stood) a.1)
+    (λ (pinned : (is_some v.pin && list_any (eqb x) v.pinned_rows) ≡ true). let b = both (is_some v.pin) (list_any (eqb x) v.pinned_rows) pinned in let p = there v.pin b.0 in inr (inr (p.0, x, k, p.1, in_any x v.pinned_rows b.1, lt, refl)))
+    (either_of v.turn (is_some v.pin && list_any (eqb x) v.pinned_rows) a.1)
 
 pub inside : (v : View) (x : ℕ) → may_read v x ≡ true → x < v.rows
-inside v x may = let a = (both (nat_lt x v.rows) (v.turn || (is_some v.pin && list_any (eqb x) v.stood)) may).0 in ltb-true x v.rows a
+inside v x may = let a = (both (nat_lt x v.rows) (v.turn || (is_some v.pin && list_any (eqb x) v.pinned_rows)) may).0 in ltb-true x v.rows a
 
 each_below : (n : ℕ) (p : ℕ → Bool) (r : ℕ) → all_below n p ≡ true → r < n → p r ≡ true
 each_below zero p r all lt = absurd (omega arith)
@@ -51,7 +51,7 @@ each_below (suc n) p r all lt = let a = both (p n) (all_below n p) all in dite (
 
 -- what a blank row is, read off the parts of its definition
 pub record Blank (v : View) (x : ℕ) : Type 0 where
-  pub known : row_word x 15 < length v.held
+  pub known : row_word x 15 < length v.known_words
   pub inside : x < v.rows
   pub on : v.turn ≡ true
   pub unpinned : v.pin ≡ None
@@ -59,11 +59,11 @@ pub record Blank (v : View) (x : ℕ) : Type 0 where
   pub unreached : is_unreached v x ≡ true
 
 pub blank_parts : (v : View) (x : ℕ) → is_blank v x ≡ true → Blank v x
-blank_parts v x h = let a = both (nat_lt (row_word x 15) (length v.held) && nat_lt x v.rows && v.turn && is_none v.pin && is_none v.due) (is_unreached v x) h in
-    let b = both (nat_lt (row_word x 15) (length v.held) && nat_lt x v.rows && v.turn && is_none v.pin) (is_none v.due) a.0 in
-    let c = both (nat_lt (row_word x 15) (length v.held) && nat_lt x v.rows && v.turn) (is_none v.pin) b.0 in
-    let d = both (nat_lt (row_word x 15) (length v.held) && nat_lt x v.rows) v.turn c.0 in let e = both (nat_lt (row_word x 15) (length v.held)) (nat_lt x v.rows) d.0 in record {
-      known = ltb-true (row_word x 15) (length v.held) e.0;
+blank_parts v x h = let a = both (nat_lt (row_word x 15) (length v.known_words) && nat_lt x v.rows && v.turn && is_none v.pin && is_none v.due) (is_unreached v x) h in
+    let b = both (nat_lt (row_word x 15) (length v.known_words) && nat_lt x v.rows && v.turn && is_none v.pin) (is_none v.due) a.0 in
+    let c = both (nat_lt (row_word x 15) (length v.known_words) && nat_lt x v.rows && v.turn) (is_none v.pin) b.0 in
+    let d = both (nat_lt (row_word x 15) (length v.known_words) && nat_lt x v.rows) v.turn c.0 in let e = both (nat_lt (row_word x 15) (length v.known_words)) (nat_lt x v.rows) d.0 in record {
+      known = ltb-true (row_word x 15) (length v.known_words) e.0;
       inside = ltb-true x v.rows e.1;
       on = d.1;
       unpinned = gone v.pin c.1;
@@ -73,7 +73,7 @@ blank_parts v x h = let a = both (nat_lt (row_word x 15) (length v.held) && nat_
 
 -- the holder of the turn may read a blank row
 pub blank_may : (v : View) (x : ℕ) → is_blank v x ≡ true → may_read v x ≡ true
-blank_may v x h = let b = blank_parts v x h in ap (λ (t : Bool). t && (v.turn || (is_some v.pin && list_any (eqb x) v.stood))) (lt-ltb x v.rows b.inside) ∙ ap (λ (t : Bool). t || (is_some v.pin && list_any (eqb x) v.stood)) b.on
+blank_may v x h = let b = blank_parts v x h in ap (λ (t : Bool). t && (v.turn || (is_some v.pin && list_any (eqb x) v.pinned_rows))) (lt-ltb x v.rows b.inside) ∙ ap (λ (t : Bool). t || (is_some v.pin && list_any (eqb x) v.pinned_rows)) b.on
 
 pub blank_row : (v : View) (x : ℕ) → is_blank v x ≡ true → IsBlank stored v x
 blank_row v x h = let b = blank_parts v x h in (
@@ -106,31 +106,31 @@ stored_more x n words old new s lt wide value is = let long = s.long in record {
 }
 
 -- the rows are as before but for the one that was written
-pub written : (v : View) (x : ℕ) (value : Row) (words held : List ℕ) → is_blank v x ≡ true → length words ≡ 16 → row_in words ≡ Some value → Stored x 16 words v.held held → Writes (content_of v) (content_of (record v { held = held })) x value
+pub written : (v : View) (x : ℕ) (value : Row) (words held : List ℕ) → is_blank v x ≡ true → length words ≡ 16 → row_in words ≡ Some value → Stored x 16 words v.known_words held → Writes (content_of v) (content_of (record v { known_words = held })) x value
 written v x value words held blank long spelt s = let b = blank_parts v x blank in record {
-  here = may (record v { held = held }) x b.inside b.on ∙ ap row_in (sym all) ∙ spelt;
+  here = may (record v { known_words = held }) x b.inside b.on ∙ ap row_in (sym all) ∙ spelt;
   others = λ k other. ap (λ (o : Option Row). if may_read v k then o else None) (elsewhere k other);
 }
   where
-    may : (w : View) (k : ℕ) → k < w.rows → w.turn ≡ true → content_of w k ≡ rows_in (records.row w.held) k
-    may w k lt on = ap (λ (t : Bool). if (t && (w.turn || (is_some w.pin && list_any (eqb k) w.stood))) then rows_in (records.row w.held) k else None) (lt-ltb k w.rows lt)
-        ∙ ap (λ (t : Bool). if (t || (is_some w.pin && list_any (eqb k) w.stood)) then rows_in (records.row w.held) k else None) on
+    may : (w : View) (k : ℕ) → k < w.rows → w.turn ≡ true → content_of w k ≡ rows_in (records.row w.known_words) k
+    may w k lt on = ap (λ (t : Bool). if (t && (w.turn || (is_some w.pin && list_any (eqb k) w.pinned_rows))) then rows_in (records.row w.known_words) k else None) (lt-ltb k w.rows lt)
+        ∙ ap (λ (t : Bool). if (t || (is_some w.pin && list_any (eqb k) w.pinned_rows)) then rows_in (records.row w.known_words) k else None) on
 
     all : words ≡ map (records.row held x) (range_with_len 0 16)
     all = fill_by_all (records.row held x) words 16 0 long (λ k lt. sym (s.so_far k (omega arith)))
 
-    same_word : (k j : ℕ) → k ≢ x → j < 16 → records.row held k j ≡ records.row v.held k j
+    same_word : (k j : ℕ) → k ≢ x → j < 16 → records.row held k j ≡ records.row v.known_words k j
     same_word k j other lt = s.others (k * 16 + j + 240) (λ i l e. other (omega arith))
 
-    elsewhere : (k : ℕ) → k ≢ x → rows_in (records.row held) k ≡ rows_in (records.row v.held) k
-    elsewhere k other = same_row (records.row v.held) (records.row held) k (λ j lt. same_word k j other lt)
+    elsewhere : (k : ℕ) → k ≢ x → rows_in (records.row held) k ≡ rows_in (records.row v.known_words) k
+    elsewhere k other = same_row (records.row v.known_words) (records.row held) k (λ j lt. same_word k j other lt)
 
 -- a list that is known index by index, from some number on
 pub fill_from : (f : ℕ → ℕ) (xs : List ℕ) (a n : ℕ) → length xs ≡ n → ((k : ℕ) → k < n → get_or xs k 0 ≡ f (a + k)) → xs ≡ map f (range_with_len a n)
 fill_from f xs a n long h = ext_get_or 0 xs (map f (range_with_len a n)) (long ∙ sym (length-map-range_with_len f a n)) (λ k lt. h k (omega arith) ∙ sym (get_or-map-range_with_len f a n k (a + k) 0 (omega arith) refl))
 
 -- what is blank depends on no word, but on how many are known
-pub blank_stays : (v w : View) → w ≡ record v { held = w.held } → length w.held ≡ length v.held → is_blank w ≡ is_blank v
+pub blank_stays : (v w : View) → w ≡ record v { known_words = w.known_words } → length w.known_words ≡ length v.known_words → is_blank w ≡ is_blank v
 blank_stays v w same long = ap is_blank same ∙ ap {B = ℕ → Bool} (λ (n : ℕ) (x : ℕ). nat_lt (row_word x 15) n && nat_lt x v.rows && v.turn && is_none v.pin && is_none v.due && is_unreached v x) long
 
 -- a list that is known index by index below some number
@@ -139,10 +139,10 @@ same_front n xs ys le long h = let a = length-take-le n xs le in let b = length-
     (λ i lt. let small : i < n = omega (arith, lt, b) in get_or-take n ys i 0 small ∙ h i small ∙ sym (get_or-take n xs i 0 small))
 
 -- what the seat is beside its rows depends on no word of a row
-pub beside_stays : (s t : Seated) (x : ℕ) (words : List ℕ) → t ≡ with_words t.me.0.held s → 240 ≤ length s.me.0.held → Stored x 16 words s.me.0.held t.me.0.held → beside t ≡ beside s
+pub beside_stays : (s t : Seated) (x : ℕ) (words : List ℕ) → t ≡ with_words t.me.0.known_words s → 240 ≤ length s.me.0.known_words → Stored x 16 words s.me.0.known_words t.me.0.known_words → beside t ≡ beside s
 beside_stays s t x words same wide stored =
-    let held = t.me.0.held in
-    let front : take 240 held ≡ take 240 s.me.0.held = same_front 240 s.me.0.held held wide stored.long (λ i lt. stored.others i (λ k l is. omega (arith, lt, is))) in
+    let held = t.me.0.known_words in
+    let front : take 240 held ≡ take 240 s.me.0.known_words = same_front 240 s.me.0.known_words held wide stored.long (λ i lt. stored.others i (λ k l is. omega (arith, lt, is))) in
     ap beside same
     ∙ ap (λ (f : List ℕ). record { seat = with_words [] s; front = f; long = length held }) front
-    ∙ ap (λ (n : ℕ). record { seat = with_words [] s; front = take 240 s.me.0.held; long = n }) stored.long
+    ∙ ap (λ (n : ℕ). record { seat = with_words [] s; front = take 240 s.me.0.known_words; long = n }) stored.long

@@ -37,7 +37,7 @@ module _ {S : Type 0} (T : Meaning S) (framed : IsFramed T) (R N : ℕ) where
       let only = only_one T R N _ _ _ _ _ s.views id v q.turn at on q.world.apart in let mine = known.drained into ready.drained in let held = q.rows.held id v at on in
       let upper : (k : ℕ) → 36 ≤ k → get_or ws k 0 ≡ get_or s.words k 0 = λ k l. stays s.words 1 b k (λ f. omega arith) in
       let new : Standing T R N ws longer d into longer u = subst (λ (l : History). Standing T R N ws (l ++ e ∷ []) d into (l ++ e ∷ []) u) h.2
-      (standing_same T framed R N v.held ws (v.seen ++ e ∷ []) d d into (v.seen ++ e ∷ []) u (rw (sym place.rows_is) (rw (sym place.passes_is) ready.stands)) (kept_upper v.held ws (λ k l. upper k l ∙ held.1 k l) into u) (agrees_same T framed R N d into)) in
+      (standing_same T framed R N v.known_words ws (v.seen ++ e ∷ []) d d into (v.seen ++ e ∷ []) u (rw (sym place.rows_is) (rw (sym place.passes_is) ready.stands)) (kept_upper v.known_words ws (λ k l. upper k l ∙ held.1 k l) into u) (agrees_same T framed R N d into)) in
       let cur_now : q.cur ≡ v.desk.current = sym q.rows.desk_at ∙ ap (λ (z : DeskState). z.current) (sym h.3) in let due_now : w.due ≡ Some q.cur = ap Some (sym cur_now) in
       let agree : (r : ℕ) → IsLive q.cur s.views r → Agrees T q.desk d r = λ r l. subst (λ (z : DeskState). Agrees T z d r) h.3 (ready.agrees r (subst (λ (n : ℕ). r < n + 2) (sym place.passes_is) (q.rows.live r l).numbered) (live_not_drained N q.cur q.due q.beside s.views v known r l)) in
       let rows = rows_publish T framed R N q.cur s.words q.log q.desk q.place q.used s.views id v q.rows at into ws e d u w upper (length-set s.words 1 b) ready.desk_at
@@ -134,10 +134,10 @@ module _ {S : Type 0} (T : Meaning S) (framed : IsFramed T) (R N : ℕ) where
   left s q id v u r by at on more = let h = q.turn.holder id v at on in few_left v.blocked r N (blamed_few N v.number q.cur s.views (u.number ∷ by) (r ∷ v.blocked) (let a = h.0 in let b = h.1 in omega arith) (dealt s q id v at) more)
 
   -- what a live record stands for, by what the holder of the turn knows
-  known_standing : (s : St T framed R N) (q : Parts T R N s) (id : ℕ) (v : View) → get_elem? s.views id ≡ some v → v.turn ≡ true → (r : ℕ) → IsLive q.cur s.views r → Standing T v.rows v.passes v.held v.seen v.desk r (q.place r) (q.used r)
+  known_standing : (s : St T framed R N) (q : Parts T R N s) (id : ℕ) (v : View) → get_elem? s.views id ≡ some v → v.turn ≡ true → (r : ℕ) → IsLive q.cur s.views r → Standing T v.rows v.passes v.known_words v.seen v.desk r (q.place r) (q.used r)
   known_standing s q id v at on r live = let h = q.turn.holder id v at on in let place = q.world.placed id v at in let held = q.rows.held id v at on in
-      let known : Standing T R N v.held q.log q.desk r (q.place r) (q.used r) = standing_same T framed R N s.words v.held q.log q.desk q.desk r (q.place r) (q.used r) (q.rows.live r live) (kept_upper s.words v.held (λ k l. sym (held.1 k l)) r (q.used r)) (agrees_same T framed R N q.desk r) in
-      rw place.rows_is (rw place.passes_is (subst (λ (l : History). Standing T R N v.held l v.desk r (q.place r) (q.used r)) (sym h.2) (subst (λ (d : DeskState). Standing T R N v.held q.log d r (q.place r) (q.used r)) (sym h.3) known)))
+      let known : Standing T R N v.known_words q.log q.desk r (q.place r) (q.used r) = standing_same T framed R N s.words v.known_words q.log q.desk q.desk r (q.place r) (q.used r) (q.rows.live r live) (kept_upper s.words v.known_words (λ k l. sym (held.1 k l)) r (q.used r)) (agrees_same T framed R N q.desk r) in
+      rw place.rows_is (rw place.passes_is (subst (λ (l : History). Standing T R N v.known_words l v.desk r (q.place r) (q.used r)) (sym h.2) (subst (λ (d : DeskState). Standing T R N v.known_words q.log d r (q.place r) (q.used r)) (sym h.3) known)))
 
   pub asks_allows : (slots id r : ℕ) (me : Me S View) → IsHolder me → r < me.0.passes + 2 → r ≢ me.0.desk.current → (In r me.0.blocked → ⊥) → Allows (Ruled T R N) slots id me (r + 2) (λ n. n) (asks T (step slots (r + 2) 0 0 none) me)
   asks_allows slots id r me holder there other new s whole _ at small = let q = whole.parts in let v : View = me.0 in let on = holder.0 in let free = holder.1 in let settled = holder.2 in let h = q.turn.holder id v at on in

@@ -28,6 +28,6 @@ spelt_head words h is = go (row_in words) refl is
 pub head_within : (v : View) (x : ℕ) (h : HeadLinks) → part_at head_links (content_of v) x ≡ Some h → IsHead h
 head_within v x h is = go (may_read v x) is
   where
-    go : (b : Bool) → option_and_then head_links (if b then rows_in (row v.held) x else None) ≡ Some h → IsHead h
+    go : (b : Bool) → option_and_then head_links (if b then rows_in (row v.known_words) x else None) ≡ Some h → IsHead h
     go true is = spelt_head _ h is
     go false is = absurd (let no : None ≡ Some h = is in cc)

@@ -17,11 +17,11 @@ use Rattle.mst_words.proofs.Stills.{still_same}
 
 module _ {S : Type 0} (T : Meaning S) (framed : IsFramed T) (R N : ℕ) where
   -- one view changes
-  pub view_set : (s : State S View) (q : Parts T R N s) (id : ℕ) (v w : View) → SeatAt s.views id v → w.rows ≡ v.rows → w.passes ≡ v.passes → w.number ≡ v.number → w.deals ≡ v.deals → w.pin ≡ v.pin → w.place ≡ v.place → w.stood ≡ v.stood
-      → w.held ≡ v.held → w.turn ≡ v.turn → (v.turn ≡ true → (w.seen ≡ q.log) × (w.desk ≡ v.desk)) → Fits q.log w
+  pub view_set : (s : State S View) (q : Parts T R N s) (id : ℕ) (v w : View) → SeatAt s.views id v → w.rows ≡ v.rows → w.passes ≡ v.passes → w.number ≡ v.number → w.deals ≡ v.deals → w.pin ≡ v.pin → w.pinned_history ≡ v.pinned_history → w.pinned_rows ≡ v.pinned_rows
+      → w.known_words ≡ v.known_words → w.turn ≡ v.turn → (v.turn ≡ true → (w.seen ≡ q.log) × (w.desk ≡ v.desk)) → Fits q.log w
       → (w.turn ≡ true → Drains N q.cur q.due q.beside (set s.views id w) w) → Counts N q.cur (set s.views id w) → Still N (get_or s.words 1 0) (set s.views id w)
       → Parts T R N record { words = s.words; homes = s.homes; views = set s.views id w }
-  view_set s q id v w at rows passes number deals pin place stood held turn kept fits drains counts still = record {
+  view_set s q id v w at rows passes number deals pin pinned_history pinned_rows known_words turn kept fits drains counts still = record {
     log = q.log;
     next = q.next;
     cur = q.cur;
@@ -35,8 +35,8 @@ module _ {S : Type 0} (T : Meaning S) (framed : IsFramed T) (R N : ℕ) where
     turn = turn_same T R N (get_or s.words 0 0) s.homes q.desk q.due q.log s.views id v w q.turn at number turn kept;
     pins = pins_same N q.cur q.mask q.due q.beside s.words s.words s.views id v w q.pins at refl (λ _ _. refl) number pin drains;
     rows = rows_upper T framed R N q.cur s.words q.log q.desk q.place q.used s.views id v q.rows at s.words w (λ k _. refl) refl
-        (pin_stays T framed R N q.cur s.words q.log q.desk q.place q.used s.views id v q.rows at s.words w (λ k _. refl) pin place stood held)
-        (λ on. held_upper T framed R N s.words s.words v w (λ k _. refl) refl held (q.rows.held id v at (sym turn ∙ on)));
+        (pin_stays T framed R N q.cur s.words q.log q.desk q.place q.used s.views id v q.rows at s.words w (λ k _. refl) pin pinned_history pinned_rows known_words)
+        (λ on. held_upper T framed R N s.words s.words v w (λ k _. refl) refl known_words (q.rows.held id v at (sym turn ∙ on)));
     world = world_set R N q.next q.log s.views id v w q.world at (record { number = number; deals = deals; rows = rows; passes = passes }) fits;
     clear = clear_same N q.beside q.beside s.words s.words s.views id v w q.clear at (λ r k _. refl) number pin;
     counts = counts;
@@ -45,13 +45,13 @@ module _ {S : Type 0} (T : Meaning S) (framed : IsFramed T) (R N : ℕ) where
   }
 
   -- one view changes by a load
-  pub looked : (s : State S View) (q : Parts T R N s) (id i : ℕ) (cs : List (ℕ × S)) (v w : View) → SeatAt s.views id v → w.rows ≡ v.rows → w.passes ≡ v.passes → w.number ≡ v.number → w.deals ≡ v.deals → w.pin ≡ v.pin → w.place ≡ v.place → w.stood ≡ v.stood
-      → w.held ≡ v.held → w.turn ≡ v.turn → (v.turn ≡ true → (w.seen ≡ q.log) × (w.desk ≡ v.desk)) → Fits q.log w
+  pub looked : (s : State S View) (q : Parts T R N s) (id i : ℕ) (cs : List (ℕ × S)) (v w : View) → SeatAt s.views id v → w.rows ≡ v.rows → w.passes ≡ v.passes → w.number ≡ v.number → w.deals ≡ v.deals → w.pin ≡ v.pin → w.pinned_history ≡ v.pinned_history → w.pinned_rows ≡ v.pinned_rows
+      → w.known_words ≡ v.known_words → w.turn ≡ v.turn → (v.turn ≡ true → (w.seen ≡ q.log) × (w.desk ≡ v.desk)) → Fits q.log w
       → (w.turn ≡ true → Drains N q.cur q.due q.beside (set s.views id w) w) → Counts N q.cur (set s.views id w) → Still N (get_or s.words 1 0) (set s.views id w)
       → Parts T R N (stepped s i (get_or s.words i 0) id cs w keeps)
-  looked s q id i cs v w at rows passes number deals pin place stood held turn kept fits drains counts still =
+  looked s q id i cs v w at rows passes number deals pin pinned_history pinned_rows known_words turn kept fits drains counts still =
       subst (λ (z : List ℕ). Parts T R N record { words = z; homes = s.homes; views = set s.views id w }) (sym (set-get_or s.words i 0))
-      (view_set s q id v w at rows passes number deals pin place stood held turn kept fits drains counts still)
+      (view_set s q id v w at rows passes number deals pin pinned_history pinned_rows known_words turn kept fits drains counts still)
 
   -- a step is counted, and nothing else changes
   pub counted : (s : State S View) (q : Parts T R N s) (id i : ℕ) (cs : List (ℕ × S)) (v : View) → SeatAt s.views id v → Parts T R N (stepped s i (get_or s.words i 0) id cs (record v { asked = v.asked + 1 }) keeps)

@@ -37,18 +37,18 @@ module _ {S : Type 0} (T : Meaning S) (framed : IsFramed T) (R N : ℕ) where
 
   -- ---- a pin
 
-  read_now : (s : St T framed R N) (q : Parts T R N s) (w : View) (n : ℕ) → w.place ≡ q.log → w.stood ≡ q.used q.cur → w.held ≡ s.words → Reads T R N (set s.words 1 n) q.cur (q.place q.cur) (q.used q.cur) w
-  read_now s q w n place rows held = record {
+  read_now : (s : St T framed R N) (q : Parts T R N s) (w : View) (n : ℕ) → w.pinned_history ≡ q.log → w.pinned_rows ≡ q.used q.cur → w.known_words ≡ s.words → Reads T R N (set s.words 1 n) q.cur (q.place q.cur) (q.used q.cur) w
+  read_now s q w n place rows known = record {
     place_is = place ∙ sym q.rows.now;
     rows_are = rows;
-    fields = λ k l. stays s.words 1 n (q.cur * 6 + k + 36) (λ f. omega arith) ∙ ap (λ (z : List ℕ). field z q.cur k) (sym held);
-    kept = λ x within k l. stays s.words 1 n (x * 16 + k + 240) (λ f. omega arith) ∙ ap (λ (z : List ℕ). row z x k) (sym held);
+    fields = λ k l. stays s.words 1 n (q.cur * 6 + k + 36) (λ f. omega arith) ∙ ap (λ (z : List ℕ). field z q.cur k) (sym known);
+    kept = λ x within k l. stays s.words 1 n (x * 16 + k + 240) (λ f. omega arith) ∙ ap (λ (z : List ℕ). row z x k) (sym known);
   }
 
   -- the bit k is that of the pass
   pinned_now : (s : St T framed R N) (q : Parts T R N s) (id n k : ℕ) (cs : List (ℕ × S)) (v : View) → SeatAt s.views id v → v.turn ≡ false → v.pin ≡ None → v.number ≡ k + 1 → n ≡ bit_xor (get_or s.words 1 0) (2 ^ k)
-      → Parts T R N (stepped s 1 n id cs (record v { pin = Some q.cur; place = q.log; stood = q.used q.cur; held = s.words; asked = v.asked + 1 }) keeps)
-  pinned_now s q id n k cs v at off free number word = let ws : List ℕ = set s.words 1 n in let w : View = record v { pin = Some q.cur; place = q.log; stood = q.used q.cur; held = s.words; asked = v.asked + 1 } in
+      → Parts T R N (stepped s 1 n id cs (record v { pin = Some q.cur; pinned_history = q.log; pinned_rows = q.used q.cur; known_words = s.words; asked = v.asked + 1 }) keeps)
+  pinned_now s q id n k cs v at off free number word = let ws : List ℕ = set s.words 1 n in let w : View = record v { pin = Some q.cur; pinned_history = q.log; pinned_rows = q.used q.cur; known_words = s.words; asked = v.asked + 1 } in
       let small : k < 32 = (let l = (q.pins.seats id v at).small in omega arith) in let pos : 0 < v.number = omega arith in let apart = apart_from s q id v at pos in
       let now : n ≡ q.cur * 4294967296 + bit_xor q.mask (2 ^ k) = word ∙ ap (λ (z : ℕ). bit_xor z (2 ^ k)) q.pins.current ∙ xor_low q.cur q.mask k q.pins.small small in
       let done_same : (r : ℕ) → done ws r ≡ done s.words r = λ r. stays s.words 1 n (r + 2) (λ f. omega arith) in record {
@@ -77,7 +77,7 @@ module _ {S : Type 0} (T : Meaning S) (framed : IsFramed T) (R N : ℕ) where
       }
 
   pub pins_now_allows : (slots id b number : ℕ) (me : Me S View) → b ≡ 2 ^ (number - 1) → IsFree number me → Allows (Ruled T R N) slots id me 1 (λ n. bit_xor n b) (pins_now T (step slots 1 b 0 none) me)
-  pins_now_allows slots id b number me power free s whole _ at _ = let q = whole.parts in let v : View = me.0 in let w : View = record v { pin = Some q.cur; place = q.log; stood = q.used q.cur; held = s.words; asked = v.asked + 1 } in
+  pins_now_allows slots id b number me power free s whole _ at _ = let q = whole.parts in let v : View = me.0 in let w : View = record v { pin = Some q.cur; pinned_history = q.log; pinned_rows = q.used q.cur; known_words = s.words; asked = v.asked + 1 } in
       let stood = q.rows.live q.cur (inl refl) in let place = q.world.placed id v at in let fits = q.world.fits id v at in (
         w,
         keeps,
@@ -136,7 +136,7 @@ module _ {S : Type 0} (T : Meaning S) (framed : IsFramed T) (R N : ℕ) where
 
   -- the history at the pin is seen
   pub unpins_allows : (slots id o b number : ℕ) (me : Me S View) → b ≡ 2 ^ (number - 1) → 0 < number → IsPinned number o me → Allows (Ruled T R N) slots id me (o + 2) (λ n. bit_xor n b) (unpins (step slots (o + 2) b 0 none) me)
-  unpins_allows slots id o b number me power pos pinned s whole _ at _ = let q = whole.parts in let v : View = me.0 in let w : View = record v { pin = None; seen = v.place } in let fits = q.world.fits id v at in (
+  unpins_allows slots id o b number me power pos pinned s whole _ at _ = let q = whole.parts in let v : View = me.0 in let w : View = record v { pin = None; seen = v.pinned_history } in let fits = q.world.fits id v at in (
     w,
     keeps,
     tt,

@@ -54,20 +54,20 @@ module _ {S : Type 0} (T : Meaning S) (framed : IsFramed T) (R N : ℕ) where
   pub standing_same : (ws ws' : List ℕ) (log : History) (desk desk' : DeskState) (r : ℕ) (p : History) (u : List ℕ) → Standing T R N ws log desk r p u → Kept ws ws' r u → Agrees T desk desk' r → Standing T R N ws' log desk' r p u
   standing_same ws ws' log desk desk' r p u s kept a = subst (λ (l : History). Standing T R N ws' l desk' r p u) (append_nil log) (standing_to ws ws' log [] desk desk' r p u s kept a)
 
-  pub reads_to : (ws ws' : List ℕ) (r : ℕ) (p : History) (u : List ℕ) (v w : View) → Reads T R N ws r p u v → Kept ws ws' r u → w.place ≡ v.place → w.stood ≡ v.stood → w.held ≡ v.held → Reads T R N ws' r p u w
+  pub reads_to : (ws ws' : List ℕ) (r : ℕ) (p : History) (u : List ℕ) (v w : View) → Reads T R N ws r p u v → Kept ws ws' r u → w.pinned_history ≡ v.pinned_history → w.pinned_rows ≡ v.pinned_rows → w.known_words ≡ v.known_words → Reads T R N ws' r p u w
   unfolding Kept
-  reads_to ws ws' r p u v w h kept place rows held = record {
+  reads_to ws ws' r p u v w h kept place rows known = record {
     place_is = place ∙ h.place_is;
     rows_are = rows ∙ h.rows_are;
-    fields = λ k l. kept.0 k l ∙ h.fields k l ∙ ap (λ (z : List ℕ). field z r k) (sym held);
-    kept = λ x within k l. kept.1 x within k l ∙ h.kept x within k l ∙ ap (λ (z : List ℕ). row z x k) (sym held);
+    fields = λ k l. kept.0 k l ∙ h.fields k l ∙ ap (λ (z : List ℕ). field z r k) (sym known);
+    kept = λ x within k l. kept.1 x within k l ∙ h.kept x within k l ∙ ap (λ (z : List ℕ). row z x k) (sym known);
   }
 
   -- what is in the holder's hands
   abbrev pub IsHeld : List ℕ → View → Type 0
-  IsHeld ws v = (length v.held ≡ length ws) × ((k : ℕ) → 36 ≤ k → get_or ws k 0 ≡ get_or v.held k 0)
+  IsHeld ws v = (length v.known_words ≡ length ws) × ((k : ℕ) → 36 ≤ k → get_or ws k 0 ≡ get_or v.known_words k 0)
 
-  pub held_upper : (ws ws' : List ℕ) (v w : View) → ((k : ℕ) → 36 ≤ k → get_or ws' k 0 ≡ get_or ws k 0) → length ws' ≡ length ws → w.held ≡ v.held → IsHeld ws v → IsHeld ws' w
+  pub held_upper : (ws ws' : List ℕ) (v w : View) → ((k : ℕ) → 36 ≤ k → get_or ws' k 0 ≡ get_or ws k 0) → length ws' ≡ length ws → w.known_words ≡ v.known_words → IsHeld ws v → IsHeld ws' w
   held_upper ws ws' v w upper long same h = (ap (λ (z : List ℕ). length z) same ∙ h.0 ∙ sym long, (λ k l. upper k l ∙ h.1 k l ∙ ap (λ (z : List ℕ). get_or z k 0) (sym same)))
 
   module _ (cur : ℕ) (ws : List ℕ) (log : History) (desk : DeskState) (place : ℕ → History) (used : ℕ → List ℕ) (vs : List View) (id : ℕ) (v : View) (q : Rows T R N cur ws log desk place used vs) (at : get_elem? vs id ≡ some v) where
@@ -98,7 +98,7 @@ module _ {S : Type 0} (T : Meaning S) (framed : IsFramed T) (R N : ℕ) where
         (λ i u _ e on. held_upper ws ws' u u upper long refl (q.held i u e on))
 
     -- the view's pin stays
-    pub pin_stays : (ws' : List ℕ) (w : View) → ((k : ℕ) → 36 ≤ k → get_or ws' k 0 ≡ get_or ws k 0) → w.pin ≡ v.pin → w.place ≡ v.place → w.stood ≡ v.stood → w.held ≡ v.held
+    pub pin_stays : (ws' : List ℕ) (w : View) → ((k : ℕ) → 36 ≤ k → get_or ws' k 0 ≡ get_or ws k 0) → w.pin ≡ v.pin → w.pinned_history ≡ v.pinned_history → w.pinned_rows ≡ v.pinned_rows → w.known_words ≡ v.known_words
         → (r : ℕ) → w.pin ≡ Some r → IsLive cur vs r × Reads T R N ws' r (place r) (used r) w
     pin_stays ws' w upper pin is_place is_rows is_held r e = (inr (id, v, at, sym pin ∙ e), reads_to ws ws' r (place r) (used r) v w (q.reads id v at r (sym pin ∙ e)) (kept_upper ws ws' upper r (used r)) is_place is_rows is_held)
 
@@ -115,7 +115,7 @@ module _ {S : Type 0} (T : Meaning S) (framed : IsFramed T) (R N : ℕ) where
 
     pub rows_publish : (into : ℕ) (ws' : List ℕ) (e : Event) (desk' : DeskState) (u : List ℕ) (w : View) → ((k : ℕ) → 36 ≤ k → get_or ws' k 0 ≡ get_or ws k 0) → length ws' ≡ length ws → desk'.current ≡ into
         → length log + 1 < 9223372036854775808 → ((i : ℕ) (x : View) → get_elem? vs i ≡ some x → x.pin ≢ Some into) → Standing T R N ws' (log ++ e ∷ []) desk' into (log ++ e ∷ []) u → ((r : ℕ) → IsLive cur vs r → Agrees T desk desk' r)
-        → w.pin ≡ v.pin → w.place ≡ v.place → w.stood ≡ v.stood → w.held ≡ v.held → (w.turn ≡ v.turn)
+        → w.pin ≡ v.pin → w.pinned_history ≡ v.pinned_history → w.pinned_rows ≡ v.pinned_rows → w.known_words ≡ v.known_words → (w.turn ≡ v.turn)
         → (place' : ℕ → History) × (used' : ℕ → List ℕ) × Rows T R N into ws' (log ++ e ∷ []) desk' place' used' (set vs id w)
     rows_publish into ws' e desk' u w upper long desk_at room free new agree pin is_place is_rows is_held turn = let longer : History = log ++ e ∷ [] in (
       then_for into longer place,

@@ -40,7 +40,7 @@ module _ {S : Type 0} (T : Meaning S) (R N : ℕ) where
     live = λ r l. q.live r (⊎_elim (λ (is : r ≡ cur). inl is) (λ (t : (i : ℕ) × (u : View) × SeatAt (vs ++ n ∷ []) i u × (u.pin ≡ Some r)).
         more (λ u. u.pin ≡ Some r → IsLive cur vs r) vs n (λ i u e pin. inr (i, u, e, pin)) (free_pins n r free) t.0 t.1 t.2 t.3) l);
     reads = more (λ u. (r : ℕ) → u.pin ≡ Some r → Reads T R N ws r (place r) (used r) u) vs n q.reads (λ r pin. free_pins n r free pin);
-    held = more (λ u. u.turn ≡ true → (length u.held ≡ length ws) × ((k : ℕ) → 36 ≤ k → get_or ws k 0 ≡ get_or u.held k 0)) vs n q.held (off_true n off);
+    held = more (λ u. u.turn ≡ true → (length u.known_words ≡ length ws) × ((k : ℕ) → 36 ≤ k → get_or ws k 0 ≡ get_or u.known_words k 0)) vs n q.held (off_true n off);
   }
 
 pub pins_more : (N cur mask : ℕ) (due : Option ℕ) (beside : ℕ → ℕ) (ws : List ℕ) (vs : List View) (n : View) → Pins N cur mask due beside ws vs → n.turn ≡ false → n.pin ≡ None → SeatPins N beside ws n

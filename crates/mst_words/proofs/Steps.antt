@@ -46,17 +46,17 @@ module _ {S : Type 0} (T : Meaning S) (framed : IsFramed T) (R N : ℕ) where
       refl,
       λ can. ⊎_elim
           (λ (t : (v.turn ≡ true) × (36 ≤ i)). (q.rows.held id v at t.0).1 i t.1)
-          (λ (t : ((r k : ℕ) × (v.pin ≡ Some r) × (k < 6) × (i ≡ r * 6 + k + 36)) ⊎ ((r x k : ℕ) × (v.pin ≡ Some r) × In x v.stood × (k < 16) × (i ≡ x * 16 + k + 240))). ⊎_elim
-          (λ (t : (r k : ℕ) × (v.pin ≡ Some r) × (k < 6) × (i ≡ r * 6 + k + 36)). ap (λ (z : ℕ). get_or s.words z 0) t.4 ∙ (q.rows.reads id v at t.0 t.2).fields t.1 t.3 ∙ ap (λ (z : ℕ). get_or v.held z 0) (sym t.4))
-          (λ (t : (r x k : ℕ) × (v.pin ≡ Some r) × In x v.stood × (k < 16) × (i ≡ x * 16 + k + 240)). let h = q.rows.reads id v at t.0 t.3 in
-          ap (λ (z : ℕ). get_or s.words z 0) t.6 ∙ h.kept t.1 (subst (λ (l : List ℕ). In t.1 l) h.rows_are t.4) t.2 t.5 ∙ ap (λ (z : ℕ). get_or v.held z 0) (sym t.6)) t)
+          (λ (t : ((r k : ℕ) × (v.pin ≡ Some r) × (k < 6) × (i ≡ r * 6 + k + 36)) ⊎ ((r x k : ℕ) × (v.pin ≡ Some r) × In x v.pinned_rows × (k < 16) × (i ≡ x * 16 + k + 240))). ⊎_elim
+          (λ (t : (r k : ℕ) × (v.pin ≡ Some r) × (k < 6) × (i ≡ r * 6 + k + 36)). ap (λ (z : ℕ). get_or s.words z 0) t.4 ∙ (q.rows.reads id v at t.0 t.2).fields t.1 t.3 ∙ ap (λ (z : ℕ). get_or v.known_words z 0) (sym t.4))
+          (λ (t : (r x k : ℕ) × (v.pin ≡ Some r) × In x v.pinned_rows × (k < 16) × (i ≡ x * 16 + k + 240)). let h = q.rows.reads id v at t.0 t.3 in
+          ap (λ (z : ℕ). get_or s.words z 0) t.6 ∙ h.kept t.1 (subst (λ (l : List ℕ). In t.1 l) h.rows_are t.4) t.2 t.5 ∙ ap (λ (z : ℕ). get_or v.known_words z 0) (sym t.6)) t)
           can,
     ),
   )
 
   -- ---- a word is stored
   pub writes_allows : (slots id i x : ℕ) (me : Me S View) → me.0.turn ≡ true → me.0.pin ≡ None → IsWritable T me.0 i → Allows (Ruled T R N) slots id me i (λ _. x) (λ _. writes (step slots i x 0 none) me x)
-  writes_allows slots id i x me on free can s whole _ at _ = let q = whole.parts in let v : View = me.0 in let inside = below s q at in let w : View = record v { held = set v.held i x } in let ws : List ℕ = set s.words i x in
+  writes_allows slots id i x me on free can s whole _ at _ = let q = whole.parts in let v : View = me.0 in let inside = below s q at in let w : View = record v { known_words = set v.known_words i x } in let ws : List ℕ = set s.words i x in
       let h = q.rows.held id v at on in let known = q.pins.holder id v at on in let only = only_one T R N _ _ _ _ _ s.views id v q.turn at on q.world.apart in (
         w,
         keeps,
@@ -79,10 +79,10 @@ module _ {S : Type 0} (T : Meaning S) (framed : IsFramed T) (R N : ℕ) where
           rows = rows_to T framed R N q.cur s.words q.log q.desk q.place q.used s.views id v q.rows at ws q.desk w q.rows.desk_at kept (λ r _. agrees_same T framed R N q.desk r)
               (λ r e. absurd (let f : None ≡ Some r = sym free ∙ e in cc))
               (λ _. (
-                length-set v.held i x ∙ h.0 ∙ sym (length-set s.words i x),
+                length-set v.known_words i x ∙ h.0 ∙ sym (length-set s.words i x),
                 λ k l. dite (ℕ_discrete k i)
-                    (λ is. ap (λ (z : ℕ). get_or ws z 0) is ∙ get_or-set_same s.words i x 0 (let a = q.wide in omega arith) ∙ sym (get_or-set_same v.held i x 0 (let a = q.wide in let b = h.0 in omega arith)) ∙ ap (λ (z : ℕ). get_or (set v.held i x) z 0) (sym is))
-                    (λ not. stays s.words i x k not ∙ h.1 k l ∙ sym (stays v.held i x k not)),
+                    (λ is. ap (λ (z : ℕ). get_or ws z 0) is ∙ get_or-set_same s.words i x 0 (let a = q.wide in omega arith) ∙ sym (get_or-set_same v.known_words i x 0 (let a = q.wide in let b = h.0 in omega arith)) ∙ ap (λ (z : ℕ). get_or (set v.known_words i x) z 0) (sym is))
+                    (λ not. stays s.words i x k not ∙ h.1 k l ∙ sym (stays v.known_words i x k not)),
               ))
               (λ j u other e own. absurd (other (only j u e own)));
           world = world_set R N q.next q.log s.views id v w q.world at (record { number = refl; deals = refl; rows = refl; passes = refl }) (let f = q.world.fits id v at in record { seen = f.seen; told = f.told; own = f.own; mine = f.mine; pinned = f.pinned });

@@ -16,13 +16,13 @@ use Rattle.mst_words.specs.Access.{may_read, content_of}
 -- the links of an entry are small, and the order by words chooses the way
 pub record WayAt (k : List ℕ) (v : View) (x : ℕ) : Type 0 where
   pub readable : may_read v x ≡ true
-  pub child : row v.held x 1 ≤ 65535
-  pub next : row v.held x 2 ≤ 65535
-  pub way : part_at (entry_way k) (content_of v) x ≡ Some (by_order (words_order k (row v.held x)) (Child (row v.held x 1)) Here (Next (row v.held x 2)))
+  pub child : row v.known_words x 1 ≤ 65535
+  pub next : row v.known_words x 2 ≤ 65535
+  pub way : part_at (entry_way k) (content_of v) x ≡ Some (by_order (words_order k (row v.known_words x)) (Child (row v.known_words x 1)) Here (Next (row v.known_words x 2)))
 
 pub way_of_row : (k : List ℕ) (v : View) (x : ℕ) → IsKey k → IsBytes k → IsSome (part_at entry_links (content_of v) x) → WayAt k v x
 way_of_row k v x size all some = go (may_read v x) refl some
   where
-    go : (b : Bool) → may_read v x ≡ b → IsSome (option_and_then entry_links (if b then rows_in (row v.held) x else None)) → WayAt k v x
+    go : (b : Bool) → may_read v x ≡ b → IsSome (option_and_then entry_links (if b then rows_in (row v.known_words) x else None)) → WayAt k v x
     go true e some = let w = way_in_words k _ size all some in record { readable = e; child = w.child; next = w.next; way = rw e w.way }
     go false e some = cc

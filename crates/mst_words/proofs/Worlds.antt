@@ -104,7 +104,7 @@ module _ (rows passes : ℕ) where
         told = begins_longer u.told log (e ∷ []) f.told;
         own = events_other u.number log e (λ (x : e.pass ≡ u.number). apart (sym (h.apart id i v u at s some_pass (sym of ∙ x)))) ∙ f.own;
         mine = f.mine;
-        pinned = λ r is. let b = f.pinned r is in (begins_longer u.place log (e ∷ []) b.0, b.1);
+        pinned = λ r is. let b = f.pinned r is in (begins_longer u.pinned_history log (e ∷ []) b.0, b.1);
       }
 
   at_end : {A : Type 0} → (l : List A) (a b : A) (j : ℕ) → get_elem? (l ++ a ∷ []) j ≡ some b → (get_elem? l j ≡ some b) ⊎ ((j ≡ length l) × (a ≡ b))

@@ -25,11 +25,15 @@ pub record Beside : Type 0 where
 
 -- the seat, when it knows these words
 abbrev pub with_words : List ℕ → Seated → Seated
-with_words words s = record s { me = (record s.me.0 { held = words }, s.me.1) }
+with_words words s = record s { me = (record s.me.0 { known_words = words }, s.me.1) }
 
 abbrev pub beside : Seated → Beside
 beside s =
-    record { seat = with_words [] s; front = take first_row s.me.0.held; long = length s.me.0.held }
+    record {
+      seat = with_words [] s;
+      front = take first_row s.me.0.known_words;
+      long = length s.me.0.known_words;
+    }
 
 -- the same seat of the same table
 abbrev pub IsSameSeat : Seated → Seated → Type 0
@@ -37,11 +41,11 @@ IsSameSeat p q = (q.table ≡ p.table) × (q.id ≡ p.id)
 
 -- the holder of the turn may read every row, and a pinned pass the rows that stand for its version
 abbrev pub may_read : View → ℕ → Bool
-may_read v x = nat_lt x v.rows && (v.turn || (is_some v.pin && list_any (eqb x) v.stood))
+may_read v x = nat_lt x v.rows && (v.turn || (is_some v.pin && list_any (eqb x) v.pinned_rows))
 
 -- the rows that it may read, as the words spell them
 abbrev pub content_of : View → Content
-content_of v x = if may_read v x then rows_in (row v.held) x else None
+content_of v x = if may_read v x then rows_in (row v.known_words) x else None
 
 -- for each number below n
 abbrev pub all_below : ℕ → (ℕ → Bool) → Bool
@@ -55,5 +59,5 @@ is_unreached v x = all_below (v.passes + 2) (λ r. list_any (eqb r) v.drained
 
 -- the holder of the turn, which knows the words, may write such rows, before it publishes
 abbrev pub is_blank : View → ℕ → Bool
-is_blank v x = nat_lt (row_word x 15) (length v.held) && nat_lt x v.rows && v.turn && is_none v.pin
-    && is_none v.due && is_unreached v x
+is_blank v x = nat_lt (row_word x 15) (length v.known_words) && nat_lt x v.rows && v.turn
+    && is_none v.pin && is_none v.due && is_unreached v x

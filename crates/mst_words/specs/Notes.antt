@@ -30,7 +30,7 @@ module _ {S : Type 0} where
   pub record Finds (m : Me S View) (log : History) : Type 0 where
     pub later : IsPrefix m.0.seen log
     pub told : IsPrefix m.0.told log
-    pub pinned : (r : ℕ) → m.0.pin ≡ Some r → IsPrefix m.0.place log
+    pub pinned : (r : ℕ) → m.0.pin ≡ Some r → IsPrefix m.0.pinned_history log
     pub own : events_of m.0.number log ≡ m.0.mine
     pub alone : IsOfPasses m.0.passes log
 

@@ -77,10 +77,10 @@ module _ {S : Type 0} (T : Meaning S) where
 
     -- what a pinned seat may read is as it was at the pin
     pub record Reads (ws : List ℕ) (r : ℕ) (place : History) (used : List ℕ) (v : View) : Type 0 where
-      pub place_is : v.place ≡ place
-      pub rows_are : v.stood ≡ used
-      pub fields : (k : ℕ) → k < record_words → field ws r k ≡ field v.held r k
-      pub kept : (x : ℕ) → In x used → (k : ℕ) → k < row_words → row ws x k ≡ row v.held x k
+      pub place_is : v.pinned_history ≡ place
+      pub rows_are : v.pinned_rows ≡ used
+      pub fields : (k : ℕ) → k < record_words → field ws r k ≡ field v.known_words r k
+      pub kept : (x : ℕ) → In x used → (k : ℕ) → k < row_words → row ws x k ≡ row v.known_words x k
 
     -- The current record stands for the whole history and each pinned one for its place. What a
     -- pinned seat may read is as it was. The holder of the turn knows all words of records and rows
@@ -91,5 +91,6 @@ module _ {S : Type 0} (T : Meaning S) where
       pub live : (r : ℕ) → IsLive cur views r → Standing ws log desk r (place r) (used r)
       pub reads : (i : ℕ) (v : View) → SeatAt views i v → (r : ℕ) → v.pin ≡ Some r
           → Reads ws r (place r) (used r) v
-      pub held : (i : ℕ) (v : View) → SeatAt views i v → v.turn ≡ true → (length v.held ≡ length ws)
-          × ((k : ℕ) → first_record ≤ k → slice_index ws k ≡ slice_index v.held k)
+      pub held : (i : ℕ) (v : View) → SeatAt views i v → v.turn ≡ true
+          → (length v.known_words ≡ length ws)
+          × ((k : ℕ) → first_record ≤ k → slice_index ws k ≡ slice_index v.known_words k)

@@ -20,7 +20,8 @@ no_event = record { pass = 0; change = Remove [] }
 -- a pinned seat those of its record and of the rows that stand for it
 abbrev pub IsReadable : View → ℕ → Type 0
 IsReadable v i = ((v.turn ≡ true) × (first_record ≤ i))
-    ⊎ (((r k : ℕ) × (v.pin ≡ Some r) × (k < record_words) × (i ≡ record_word r k)) ⊎ ((r x k : ℕ) × (v.pin ≡ Some r) × In x v.stood × (k < row_words) × (i ≡ row_word x k)))
+    ⊎ (((r k : ℕ) × (v.pin ≡ Some r) × (k < record_words) × (i ≡ record_word r k))
+    ⊎ ((r x k : ℕ) × (v.pin ≡ Some r) × In x v.pinned_rows × (k < row_words) × (i ≡ row_word x k)))
 
 module _ {S : Type 0} where
   -- a pass that has neither the turn nor the slot nor a pin
@@ -57,7 +58,7 @@ module _ {S : Type 0} where
 
   -- the pass has no pin, and has seen the history at its pin
   abbrev pub Unpins : Me S View → Me S View → Type 0
-  Unpins m m' = m' ≡ (record m.0 { pin = None; seen = m.0.place }, m.1)
+  Unpins m m' = m' ≡ (record m.0 { pin = None; seen = m.0.pinned_history }, m.1)
 
   abbrev pub unpins : Step S → Me S View → ℕ → Me S View → Type 0
   unpins st m r m' = Unpins m m'
@@ -73,11 +74,12 @@ module _ {S : Type 0} where
 
   -- the word is the one that is known
   abbrev pub reads : Step S → Me S View → ℕ → Me S View → Type 0
-  reads st m r m' = (m' ≡ m) × (IsReadable m.0 st.word → r ≡ slice_index m.0.held st.word)
+  reads st m r m' = (m' ≡ m) × (IsReadable m.0 st.word → r ≡ slice_index m.0.known_words st.word)
 
   -- the word is stored
   abbrev pub writes : Step S → Me S View → ℕ → Me S View → Type 0
-  writes st m r m' = m' ≡ (record m.0 { held = slice_set m.0.held st.word st.first }, m.1)
+  writes st m r m' =
+      m' ≡ (record m.0 { known_words = slice_set m.0.known_words st.word st.first }, m.1)
 
   -- ---- publication
 
@@ -162,7 +164,7 @@ module _ {S : Type 0} (T : Meaning S) where
     pub is : m' ≡ (
       record m.0 {
         seen = log;
-        held = words;
+        known_words = words;
         turn = true;
         desk = desk;
         due = None;
@@ -181,7 +183,7 @@ module _ {S : Type 0} (T : Meaning S) where
     pub fewer : length m.0.blocked + 1 < m.0.passes
     pub place : History
     pub used : List ℕ
-    pub stands : Standing T m.0.rows m.0.passes m.0.held m.0.seen m.0.desk a place used
+    pub stands : Standing T m.0.rows m.0.passes m.0.known_words m.0.seen m.0.desk a place used
     pub is : m' ≡ (record m.0 { blocked = a ∷ m.0.blocked; asked = m.0.asked + 1 }, m.1)
 
   -- the record is the one whose word DONE was loaded
@@ -221,9 +223,9 @@ module _ {S : Type 0} (T : Meaning S) where
     pub is : m' ≡ (
       record m.0 {
         pin = Some cur;
-        place = log;
-        stood = used;
-        held = words;
+        pinned_history = log;
+        pinned_rows = used;
+        known_words = words;
         asked = m.0.asked
             + 1;
       },
@@ -244,5 +246,6 @@ module _ {S : Type 0} (T : Meaning S) where
     pub mine : e.pass ≡ v.number
     pub room : length v.seen + 1 < 9223372036854775808
     pub desk_at : d.current ≡ into
-    pub stands : Standing T v.rows v.passes v.held (v.seen ++ e ∷ []) d into (v.seen ++ e ∷ []) used
+    pub stands : Standing T v.rows v.passes v.known_words (v.seen ++ e ∷ []) d into
+        (v.seen ++ e ∷ []) used
     pub agrees : (r : ℕ) → r < v.passes + 2 → (In r v.drained → ⊥) → Agrees T v.desk d r

@@ -14,15 +14,15 @@ abbrev pub SeatAt : List View → ℕ → View → Type 0
 SeatAt views i v = get_elem? views i ≡ some v
 
 -- What the seat has seen, and what it was told, begins the history, in which the events of its
--- number are its own. A pass has seen its own events; and so had a pinned one at its pin, when it
--- saw the history at its place
+-- number are its own. A pass has seen its own events; and so had a pinned one at its pin, when the
+-- history was `pinned_history`
 pub record Fits (log : History) (v : View) : Type 0 where
   pub seen : IsPrefix v.seen log
   pub told : IsPrefix v.told log
   pub own : events_of v.number log ≡ v.mine
   pub mine : 0 < v.number → events_of v.number v.seen ≡ v.mine
-  pub pinned : (r : ℕ) → v.pin ≡ Some r → IsPrefix v.place log
-      × (events_of v.number v.place ≡ v.mine)
+  pub pinned : (r : ℕ) → v.pin ≡ Some r → IsPrefix v.pinned_history log
+      × (events_of v.number v.pinned_history ≡ v.mine)
 
 -- the seat knows the size of the store. Its number is below the next one to be dealt, and only the
 -- dealer's seat, which is no pass, deals
@@ -61,9 +61,9 @@ idle rows passes number deals = record {
   mine = [];
   told = [];
   pin = None;
-  place = [];
-  stood = [];
-  held = [];
+  pinned_history = [];
+  pinned_rows = [];
+  known_words = [];
   turn = false;
   desk = no_desk;
   due = None;

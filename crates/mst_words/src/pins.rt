@@ -77,7 +77,7 @@ impl<A: Allocator + Copy> Board<A> {
         requires readable { IsReadable seat.old.me.0 word }
         ensures same { (seat.new.table_id ≡ seat.old.table_id) × (seat.new.id ≡ seat.old.id)
             × (seat.new.me ≡ seat.old.me) }
-        ensures value { result ≡ slice_index seat.old.me.0.held word }
+        ensures value { result ≡ slice_index seat.old.me.0.known_words word }
     {
         self.table.shared.load::<Read>(seat, word)
     }

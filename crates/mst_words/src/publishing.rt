@@ -21,7 +21,7 @@ impl<A: Allocator + Copy> Board<A> {
         requires writable { IsWritable stored seat.old.me.0 word }
         ensures same { (seat.new.table_id ≡ seat.old.table_id) × (seat.new.id ≡ seat.old.id) }
         ensures written { seat.new.me ≡ (
-          record seat.old.me.0 { held = slice_set seat.old.me.0.held word value },
+          record seat.old.me.0 { known_words = slice_set seat.old.me.0.known_words word value },
           seat.old.me.1,
         ) }
     {

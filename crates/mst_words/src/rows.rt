@@ -20,7 +20,7 @@ impl<'a, A: Allocator + Copy> PassSeat<'a, A> {
     fn word(&mut self, row: u32, k: usize) -> u64
         requires readable { may_read self.old.me.0 row ≡ true }
         requires there { k < row_words }
-        ensures word { result ≡ records.row self.old.me.0.held row k }
+        ensures word { result ≡ records.row self.old.me.0.known_words row k }
         ensures same { self.new ≡ self.old }
     {
         self.load(row_word(row, k))
@@ -30,7 +30,8 @@ impl<'a, A: Allocator + Copy> PassSeat<'a, A> {
     fn words<const N: usize>(&mut self, row: u32, from: usize) -> [u64; N]
         requires readable { may_read self.old.me.0 row ≡ true }
         requires there { from + N ≤ row_words }
-        ensures words { result ≡ map (records.row self.old.me.0.held row) (range_with_len from N) }
+        ensures words { result
+            ≡ map (records.row self.old.me.0.known_words row) (range_with_len from N) }
         ensures same { self.new ≡ self.old }
     {
         let mut words = [0; N];
@@ -46,7 +47,7 @@ impl<'a, A: Allocator + Copy> PassSeat<'a, A> {
         requires readable { may_read self.old.me.0 row ≡ true }
         requires there { k < row_words }
         ensures order { result ≡ ordering_then before
-            (nat_cmp number (records.row self.old.me.0.held row k)) }
+            (nat_cmp number (records.row self.old.me.0.known_words row k)) }
         ensures same { self.new ≡ self.old }
     {
         match before {
@@ -61,7 +62,7 @@ impl<'a, A: Allocator + Copy> PassSeat<'a, A> {
     fn length_order(&mut self, before: Ordering, len: u64, row: u32) -> Ordering
         requires readable { may_read self.old.me.0 row ≡ true }
         ensures order { result ≡ ordering_then before
-            (nat_cmp len (records.row self.old.me.0.held row 3 % 256)) }
+            (nat_cmp len (records.row self.old.me.0.known_words row 3 % 256)) }
         ensures same { self.new ≡ self.old }
     {
         match before {
@@ -74,7 +75,7 @@ impl<'a, A: Allocator + Copy> PassSeat<'a, A> {
     // The order of a key and that of an entry: words are loaded until two differ, mostly one.
     fn order(&mut self, row: u32, key: &Sought) -> Ordering
         requires readable { may_read self.old.me.0 row ≡ true }
-        ensures order { result ≡ words_order key.now (records.row self.old.me.0.held row) }
+        ensures order { result ≡ words_order key.now (records.row self.old.me.0.known_words row) }
         ensures limits { IsKey key.now }
         ensures range { IsBytes key.now }
         ensures same { self.new ≡ self.old }
@@ -94,11 +95,13 @@ impl<'a, A: Allocator + Copy> PassSeat<'a, A> {
         requires there { k < row_words }
         ensures stored { self.new ≡ record self.old {
           me = (
-            record self.old.me.0 { held = slice_set self.old.me.0.held (row_word row k) value },
+            record self.old.me.0 {
+              known_words = slice_set self.old.me.0.known_words (row_word row k) value;
+            },
             self.old.me.1,
           );
         } }
-        ensures wide { row_word row 15 < length self.old.me.0.held }
+        ensures wide { row_word row 15 < length self.old.me.0.known_words }
     {
         if self.word(row, k) != value {
             self.store(row_word(row, k), value);

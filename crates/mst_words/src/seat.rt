@@ -146,7 +146,7 @@ impl<'a, A: Allocator + Copy> PassSeat<'a, A> {
         requires there { word < table_words self.old.me.0.rows }
         requires readable { IsReadable self.old.me.0 word }
         ensures same { self.new ≡ self.old }
-        ensures value { result ≡ slice_index self.old.me.0.held word }
+        ensures value { result ≡ slice_index self.old.me.0.known_words word }
     {
         self.board.read(&mut self.token, word)
     }
@@ -159,8 +159,10 @@ impl<'a, A: Allocator + Copy> PassSeat<'a, A> {
         requires holder { IsHolder self.old.me }
         requires writable { IsWritable stored self.old.me.0 word }
         ensures written { self.new ≡ record self.old {
-          me =
-              (record self.old.me.0 { held = slice_set self.old.me.0.held word value }, self.old.me.1);
+          me = (
+            record self.old.me.0 { known_words = slice_set self.old.me.0.known_words word value },
+            self.old.me.1,
+          );
         } }
     {
         self.board.write(&mut self.token, word, value)

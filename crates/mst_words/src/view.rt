@@ -38,12 +38,12 @@ pub struct View {
     /// The record that the pass pins.
     pub pin: Option<u32>,
     /// The history at the pin.
-    pub place: LinkedList<Event>,
+    pub pinned_history: LinkedList<Event>,
     /// The numbers of the rows that stand for the map of the pinned version.
-    pub stood: LinkedList<u32>,
+    pub pinned_rows: LinkedList<u32>,
     /// The words of the table as they were at the pin, or when the turn was taken and with what its
     /// holder has stored since.
-    pub held: LinkedList<u64>,
+    pub known_words: LinkedList<u64>,
     /// Whether the pass has the turn.
     pub turn: bool,
     /// What the desk knew when the turn was taken, and from a publication on what it then knew.

@@ -16,5 +16,5 @@ returns-clause-later g c = let m : Seat = c.pinned.inside.seat.me in let one = c
     let told : c.hear_note.new.self.me.0.told ≡ one.log = ap (λ (z : Seat). z.0.told) c.hear_note.ensures.told ∙ note in
     let there : c.see_all-2.new.self.me.0.seen ≡ two.log = ap (λ (z : Seat). z.0.seen) two.is in
     let next : IsPrefix one.log two.log = subst (λ (h : History). IsPrefix h two.log) told two.finds.told in
-    let first : IsPrefix m.0.place one.log = one.finds.pinned c.pinned.inside.at.pinned c.pinned.invariant.pin.0 in
-    subst (λ (k : Known). IsPrefix k.seen c.see_all-2.new.self.me.0.seen) c.pinned.view_is (subst (λ (h : History). IsPrefix m.0.place h) (sym there) (IsPrefix-chain m.0.place one.log two.log first next))
+    let first : IsPrefix m.0.pinned_history one.log = one.finds.pinned c.pinned.inside.at.pinned c.pinned.invariant.pin.0 in
+    subst (λ (k : Known). IsPrefix k.seen c.see_all-2.new.self.me.0.seen) c.pinned.view_is (subst (λ (h : History). IsPrefix m.0.pinned_history h) (sym there) (IsPrefix-chain m.0.pinned_history one.log two.log first next))
