@@ -82,3 +82,69 @@ returns g t c =
           ∙ ap (λ (k : ℕ). node One k (entries_of layer (tree One) k [] m)) top
           ∙ sym (tree_some One m some);
     }
+
+pub offset_bounds-pairs-i : goal.offset_bounds-pairs-i
+offset_bounds-pairs-i g t c = search rules
+
+pub bounds-pairs-i : goal.bounds-pairs-i
+bounds-pairs-i g t c = search rules
+
+pub bounds-layers-i : goal.bounds-layers-i
+bounds-layers-i g t c = grind (arith, common_steps)
+
+pub offset_bounds-pairs-start : goal.offset_bounds-pairs-start
+offset_bounds-pairs-start g t c = search rules
+
+pub slice_bounds-subtree-count : goal.slice_bounds-subtree-count
+slice_bounds-subtree-count g t c = search rules
+
+pub slice_bounds-subtree-start : goal.slice_bounds-subtree-start
+slice_bounds-subtree-start g t c = search rules
+
+pub slice_bounds-subtree-end : goal.slice_bounds-subtree-end
+slice_bounds-subtree-end g t c = search rules
+
+pub slice_bounds-subtree-count-then-layers-i : goal.slice_bounds-subtree-count-then-layers-i
+slice_bounds-subtree-count-then-layers-i g t c = search rules
+
+pub slice_bounds-subtree-start-then-layers-i : goal.slice_bounds-subtree-start-then-layers-i
+slice_bounds-subtree-start-then-layers-i g t c = search rules
+
+pub slice_bounds-subtree-end-then-layers-i : goal.slice_bounds-subtree-end-then-layers-i
+slice_bounds-subtree-end-then-layers-i g t c = grind (arith, common_steps)
+
+pub returns-in_err-child : goal.returns-in_err-child
+returns-in_err-child g t c = search rules
+
+pub returns-in_err-push : goal.returns-in_err-push
+returns-in_err-push g t c = search rules
+
+pub loop-i-smaller : goal.loop-i-smaller
+loop-i-smaller g t c = search rules
+
+pub offset_bounds-pairs-start-2 : goal.offset_bounds-pairs-start-2
+offset_bounds-pairs-start-2 g t c = search rules
+
+pub slice_bounds-subtree-count-2 : goal.slice_bounds-subtree-count-2
+slice_bounds-subtree-count-2 g t c = search rules
+
+pub slice_bounds-subtree-start-2 : goal.slice_bounds-subtree-start-2
+slice_bounds-subtree-start-2 g t c = search rules
+
+pub slice_bounds-subtree-end-2 : goal.slice_bounds-subtree-end-2
+slice_bounds-subtree-end-2 g t c = search rules
+
+pub slice_bounds-subtree-count-3 : goal.slice_bounds-subtree-count-3
+slice_bounds-subtree-count-3 g t c = grind (arith, common_steps)
+
+pub slice_bounds-subtree-start-3 : goal.slice_bounds-subtree-start-3
+slice_bounds-subtree-start-3 g t c = grind (arith, common_steps)
+
+pub slice_bounds-subtree-end-3 : goal.slice_bounds-subtree-end-3
+slice_bounds-subtree-end-3 g t c = search rules
+
+pub returns-in_err-tail : goal.returns-in_err-tail
+returns-in_err-tail g t c = search rules
+
+pub returns-in_err-node_of : goal.returns-in_err-node_of
+returns-in_err-node_of g t c = search rules

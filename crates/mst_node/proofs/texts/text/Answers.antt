@@ -1,3 +1,4 @@
+use Rattle.std.proofs.Common.{rules}
 use Rattle.std.proofs.Common.{◌≡◌, length, ℕ, List, ap, sym, ◌∙◌, ◌++◌, arith, take}
 use Rattle.std.proofs.Math.Seq.{take-length}
 use Rattle.mst_key.specs.declared.format.Format.TheVariants.{One}
@@ -32,3 +33,39 @@ returns g c =
     let all : take c.loop-entry.entry-index n.entries.items ≡ n.entries.items = ap (λ (i : ℕ). take i n.entries.items) end ∙ take-length n.entries.items in
     let items = c.in_ok-push_child-2.ensures.ok ∙ ap (λ (xs : List ℕ). xs ++ child_text c.child_digest-2.result) c.loop-entry.invariant in
     record { text = rw (all, c.child_digest-2.ensures.digest) at items ∙ sym (text_out A One c.args.node.now) }
+
+pub returns-in_err-push : goal.returns-in_err-push
+returns-in_err-push g c = search rules
+
+pub returns-in_err-push-2 : goal.returns-in_err-push-2
+returns-in_err-push-2 g c = search rules
+
+pub as_slice-requires : goal.as_slice-requires
+as_slice-requires g c = search rules
+
+pub returns-in_err-extend_from_slice : goal.returns-in_err-extend_from_slice
+returns-in_err-extend_from_slice g c = search rules
+
+pub loop-entry-init : goal.loop-entry-init
+loop-entry-init g c = search rules
+
+pub offset_bounds-entry-items-entry-index : goal.offset_bounds-entry-items-entry-index
+offset_bounds-entry-items-entry-index g c = search rules
+
+pub returns-in_err-push_child : goal.returns-in_err-push_child
+returns-in_err-push_child g c = search rules
+
+pub push_counted-requires : goal.push_counted-requires
+push_counted-requires g c = search rules
+
+pub returns-in_err-push_counted : goal.returns-in_err-push_counted
+returns-in_err-push_counted g c = search rules
+
+pub push_counted-requires-in-loop-entry : goal.push_counted-requires-in-loop-entry
+push_counted-requires-in-loop-entry g c = search rules
+
+pub returns-in_err-push_counted-2 : goal.returns-in_err-push_counted-2
+returns-in_err-push_counted-2 g c = search rules
+
+pub returns-in_err-push_child-2 : goal.returns-in_err-push_child-2
+returns-in_err-push_child-2 g c = search rules
