@@ -1,0 +1,86 @@
+use Rattle.std.proofs.Common.{rules}
+use Rattle.mst_command.proofs.loading.run_load.Goals as goal
+
+pub returns-then-not-is_load_size-clause-ran : goal.returns-then-not-is_load_size-clause-ran
+returns-then-not-is_load_size-clause-ran g c = search rules
+
+pub returns-then-not-is_load_size-clause-done : goal.returns-then-not-is_load_size-clause-done
+returns-then-not-is_load_size-clause-done g c = search rules
+
+pub returns-then-not-is_load_size-clause-steady : goal.returns-then-not-is_load_size-clause-steady
+returns-then-not-is_load_size-clause-steady g c = search rules
+
+pub returns-then-not-is_load_size-clause-device : goal.returns-then-not-is_load_size-clause-device
+returns-then-not-is_load_size-clause-device g c = search rules
+
+pub returns-then-not-is_load_size-clause-unwritten : goal.returns-then-not-is_load_size-clause-unwritten
+returns-then-not-is_load_size-clause-unwritten g c = search rules
+
+pub returns-then-not-is_load_size-clause-ends : goal.returns-then-not-is_load_size-clause-ends
+returns-then-not-is_load_size-clause-ends g c = search rules
+
+pub returns-then-not-is_load_size-clause-shape : goal.returns-then-not-is_load_size-clause-shape
+returns-then-not-is_load_size-clause-shape g c = search rules
+
+pub returns-in_default-clause-ran : goal.returns-in_default-clause-ran
+returns-in_default-clause-ran g c = search rules
+
+pub returns-in_default-clause-done : goal.returns-in_default-clause-done
+returns-in_default-clause-done g c = search rules
+
+pub returns-in_default-clause-steady : goal.returns-in_default-clause-steady
+returns-in_default-clause-steady g c = search rules
+
+pub returns-in_default-clause-device : goal.returns-in_default-clause-device
+returns-in_default-clause-device g c = search rules
+
+pub returns-in_default-clause-unwritten : goal.returns-in_default-clause-unwritten
+returns-in_default-clause-unwritten g c = search rules
+
+pub returns-in_default-clause-ends : goal.returns-in_default-clause-ends
+returns-in_default-clause-ends g c = search rules
+
+pub returns-in_default-clause-shape : goal.returns-in_default-clause-shape
+returns-in_default-clause-shape g c = search rules
+
+pub returns-in-Ok-write_all-clause-ran : goal.returns-in-Ok-write_all-clause-ran
+returns-in-Ok-write_all-clause-ran g c = search rules
+
+pub returns-in-Ok-write_all-clause-done : goal.returns-in-Ok-write_all-clause-done
+returns-in-Ok-write_all-clause-done g c = search rules
+
+pub returns-in-Ok-write_all-clause-steady : goal.returns-in-Ok-write_all-clause-steady
+returns-in-Ok-write_all-clause-steady g c = search rules
+
+pub returns-in-Ok-write_all-clause-device : goal.returns-in-Ok-write_all-clause-device
+returns-in-Ok-write_all-clause-device g c = search rules
+
+pub returns-in-Ok-write_all-clause-unwritten : goal.returns-in-Ok-write_all-clause-unwritten
+returns-in-Ok-write_all-clause-unwritten g c = search rules
+
+pub returns-in-Ok-write_all-clause-ends : goal.returns-in-Ok-write_all-clause-ends
+returns-in-Ok-write_all-clause-ends g c = search rules
+
+pub returns-in-Ok-write_all-clause-shape : goal.returns-in-Ok-write_all-clause-shape
+returns-in-Ok-write_all-clause-shape g c = search rules
+
+pub returns-in-Err-clause-ran : goal.returns-in-Err-clause-ran
+returns-in-Err-clause-ran g c = search rules
+
+pub returns-in-Err-clause-done : goal.returns-in-Err-clause-done
+returns-in-Err-clause-done g c = search rules
+
+pub returns-in-Err-clause-steady : goal.returns-in-Err-clause-steady
+returns-in-Err-clause-steady g c = search rules
+
+pub returns-in-Err-clause-device : goal.returns-in-Err-clause-device
+returns-in-Err-clause-device g c = search rules
+
+pub returns-in-Err-clause-unwritten : goal.returns-in-Err-clause-unwritten
+returns-in-Err-clause-unwritten g c = search rules
+
+pub returns-in-Err-clause-ends : goal.returns-in-Err-clause-ends
+returns-in-Err-clause-ends g c = search rules
+
+pub returns-in-Err-clause-shape : goal.returns-in-Err-clause-shape
+returns-in-Err-clause-shape g c = search rules
