@@ -178,7 +178,8 @@ fn planted(
     })
 }
 
-/// What becomes of the root when these pairs are planted in so many rows, and how many are free then.
+/// What becomes of the root when these pairs are planted in so many rows, and how many are free
+/// then.
 fn root_and_free(
     rt: &impl Abort,
     alloc: Global,

@@ -216,8 +216,8 @@ fn twenty_thousand_pairs(rt: HostRuntime) {
     reads_a_map(&rt, rt.alloc(), 20_000, 997, 7_919);
 }
 
-/// Whether the range of all pairs is made in a heap of so many bytes. If not, nothing of it is kept,
-/// and the rows are as they were.
+/// Whether the range of all pairs is made in a heap of so many bytes. If not, nothing of it is
+/// kept, and the rows are as they were.
 fn range_fits(
     rt: &impl Abort,
     alloc: Global,

@@ -1,5 +1,5 @@
-//! Tests of the store and of its table over their public calls: opening, reads and writes of several
-//! passes, pins, room, settling, and memory that is refused.
+//! Tests of the store and of its table over their public calls: opening, reads and writes of
+//! several passes, pins, room, settling, and memory that is refused.
 #![tactic(auto)]
 
 #[cfg(test)]

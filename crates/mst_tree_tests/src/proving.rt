@@ -119,7 +119,8 @@ fn push_top(alloc: Global, proof: &mut Vec<u8>, pairs: &[(Key, Value)]) -> Resul
     Ok(true)
 }
 
-/// Adds the texts of the proof for the key, made from the lists in its gaps, and gives their number.
+/// Adds the texts of the proof for the key, made from the lists in its gaps, and gives their
+/// number.
 fn push_texts(
     alloc: Global,
     proof: &mut Vec<u8>,
@@ -220,8 +221,8 @@ fn collided_in(
     }))
 }
 
-/// Whether `collide` finds a pair of texts beside the tree of the map, in a heap of so many bytes as
-/// above. The heap keeps nothing of what was asked.
+/// Whether `collide` finds a pair of texts beside the tree of the map, in a heap of so many bytes
+/// as above. The heap keeps nothing of what was asked.
 fn collided(
     alloc: Global,
     bytes: usize,

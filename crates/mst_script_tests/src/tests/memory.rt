@@ -192,8 +192,8 @@ const PIN: &[u8] = b"1 pin\n1 get 61\n1 unpin\n1 put 61 31\n1 pin\n1 get 61\n";
 
 const OF_PIN: &[u8] = b"pinned 0\nnone\nunpinned\nnone\npinned 1\nsome 31\n";
 
-// Whether a run over these passes starts where this heap gives its memory. If not, nothing was read,
-// written or changed: the same passes then serve the same devices. If so, pins take no more.
+// Whether a run over these passes starts where this heap gives its memory. If not, nothing was
+// read, written or changed: the same passes then serve the same devices. If so, pins take no more.
 fn starts_over(
     rt: &impl Abort,
     alloc: Global,

@@ -6,8 +6,8 @@ use std::alloc::Global;
 use std::process::Abort;
 use std::test::Fail;
 
-/// Whether no texts of the proof for the key collide beside the tree of the map. Of no pairs there is
-/// none.
+/// Whether no texts of the proof for the key collide beside the tree of the map. Of no pairs there
+/// is none.
 fn is_free(alloc: Global, pairs: &[(Key, Value)], key: &[u8]) -> Result<bool, Fail> {
     let proof = proof_for(alloc, pairs, key)?;
     match collided(alloc, 524288, pairs, key, proof.as_slice(), 4096)? {

@@ -172,8 +172,8 @@ fn asks_one_node(
     Ok(())
 }
 
-/// The end of the numbers, how many pairs they give, the step in which these are compared, and their
-/// root digest by Python's hashlib.
+/// The end of the numbers, how many pairs they give, the step in which these are compared, and
+/// their root digest by Python's hashlib.
 const NODES: &[(u32, usize, usize, &str)] = &[
     (
         5_000,
