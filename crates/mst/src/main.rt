@@ -1,17 +1,10 @@
-//! The program of the map: it reads its words, and does what they ask for by `mst_command`.
+//! The program of the map: it reads its words, and does what they ask for by `mst_program`.
 #![tactic(auto)]
 
-mod command;
-mod progress;
-#[cfg(test)]
-mod tests;
-mod words;
-
-use command::command;
 use mst_command::{Refusal, complain};
 use mst_devices::{StdSink, StdSource};
 use mst_load::Open;
-use progress::Progress;
+use mst_program::{Progress, command};
 use std::alloc::Global;
 use std::io::IsTerminal;
 use std::process::ExitCode;

@@ -1,11 +1,10 @@
 //! Devices that fail, and devices that take their time.
-use crate::command::command;
 use mst_devices::{StdSink, StdSource};
 use mst_load::Open;
+use mst_program::command;
 use std::alloc::{AllocGlobal, Global};
 use std::io::{self, Read, Write};
 use std::sync::Wait;
-use std::test::Fail;
 use std::thread::Threads;
 
 const SCRIPT: &[u8] = b"1 put 61 31\n2 get 61\n1 frob\n3 put 61 -\n4 get 61";
@@ -82,15 +81,42 @@ impl Write for Writer {
     }
 }
 
-/// Runs a command between such devices, and answers the exit status.
-fn command_status<R: Threads + Wait + AllocGlobal + Sync>(
+/// How devices go: how many bytes they give or take at most at a time, after how many calls they
+/// fail, and whether a write then fails by a write of 0.
+#[derive(Clone, Copy)]
+struct Devices {
+    read_most: usize,
+    reads: u64,
+    write_most: usize,
+    writes: u64,
+    by_zero: bool,
+}
+
+/// Devices that do not fail, which give and take so many bytes at a time.
+fn steady(read_most: usize, write_most: usize) -> Devices {
+    Devices {
+        read_most,
+        reads: u64::MAX,
+        write_most,
+        writes: u64::MAX,
+        by_zero: false,
+    }
+}
+
+/// Runs a command over an input between such devices, and answers the exit status.
+fn status_between<R: Threads + Wait + AllocGlobal + Sync>(
     rt: &R,
     words: &[&str],
-    reader: Reader<'_>,
+    input: &[u8],
+    devices: Devices,
     out: &mut Writer,
     err: &mut Writer,
 ) -> u8 {
-    let mut source = StdSource::new(reader);
+    let mut source = StdSource::new(Reader {
+        rest: input,
+        most: devices.read_most,
+        reads: devices.reads,
+    });
     let mut out = StdSink::new(out);
     let mut err = StdSink::new(err);
     command(
@@ -104,38 +130,47 @@ fn command_status<R: Threads + Wait + AllocGlobal + Sync>(
     )
 }
 
-/// Runs the script between such devices, and answers the exit status.
-fn status_of<R: Threads + Wait + AllocGlobal + Sync>(
+/// Whether a command comes to this status between such devices, and writes so many bytes of these
+/// answers, and `device` on standard error where the status tells that a device failed.
+fn comes_to<R: Threads + Wait + AllocGlobal + Sync>(
     rt: &R,
-    reader: Reader<'_>,
-    out: &mut Writer,
-    err: &mut Writer,
-) -> u8 {
-    command_status(rt, &["mst", "run"], reader, out, err)
+    task: (&[&str], &[u8], &[u8]),
+    devices: Devices,
+    count: usize,
+    status: u8,
+) -> bool {
+    let (words, input, answers) = task;
+    let Devices {
+        write_most,
+        writes,
+        by_zero,
+        ..
+    } = devices;
+    let mut out = Writer::new(rt.alloc(), write_most, writes, by_zero);
+    let mut err = Writer::new(rt.alloc(), 64, u64::MAX, false);
+    let ended = status_between(rt, words, input, devices, &mut out, &mut err);
+    let told = if status == 3 { "device\n" } else { "" };
+    ended == status
+        && out.bytes.len() == count
+        && answers.starts_with(out.bytes.as_slice())
+        && err.bytes.as_slice() == told.as_bytes()
 }
+
+/// The words and the input of the script, and its answers.
+const RUN: (&[&str], &[u8], &[u8]) = (&["mst", "run"], SCRIPT, ANSWERS);
 
 // One byte at a read and one at a write.
 #[test]
-fn devices_may_take_their_time(rt: HostRuntime) -> Result<(), Fail> {
+fn devices_may_take_their_time(rt: HostRuntime) {
     for (read_most, write_most) in [(1, 1), (1, 9), (9, 1), (3, 2)] {
-        let reader = Reader {
-            rest: SCRIPT,
-            most: read_most,
-            reads: u64::MAX,
-        };
-        let mut out = Writer::new(rt.alloc(), write_most, u64::MAX, false);
-        let mut err = Writer::new(rt.alloc(), 1, u64::MAX, false);
-        let status = status_of(&rt, reader, &mut out, &mut err);
-        assert_eq!(rt; out.bytes.as_slice(), ANSWERS);
-        assert_eq!(rt; err.bytes.len(), 0);
-        assert_eq!(rt; status, 0);
+        let devices = steady(read_most, write_most);
+        assert!(rt; comes_to(&rt, RUN, devices, ANSWERS.len(), 0));
     }
-    Ok(())
 }
 
 // With a read that fails, all complete lines before it are answered.
 #[test]
-fn reads_fail(rt: HostRuntime) -> Result<(), Fail> {
+fn reads_fail(rt: HostRuntime) {
     for (most, reads, answered) in [
         (9, 0, 0),
         (9, 1, 0),
@@ -146,51 +181,41 @@ fn reads_fail(rt: HostRuntime) -> Result<(), Fail> {
         (9, 6, 30),
         (64, 1, 30),
     ] {
-        let reader = Reader {
-            rest: SCRIPT,
-            most,
+        let devices = Devices {
             reads,
+            ..steady(most, 64)
         };
-        let mut out = Writer::new(rt.alloc(), 64, u64::MAX, false);
-        let mut err = Writer::new(rt.alloc(), 64, u64::MAX, false);
-        let status = status_of(&rt, reader, &mut out, &mut err);
-        assert_eq!(rt;
-            out.bytes.as_slice(),
-            &ANSWERS[..answered],
+        assert!(rt;
+            comes_to(&rt, RUN, devices, answered, 3),
             "after {reads} reads"
         );
-        assert_eq!(rt; err.bytes.as_slice(), b"device\n".as_slice());
-        assert_eq!(rt; status, 3);
     }
-    Ok(())
 }
 
 // With a write that fails, what was written is a beginning of the answers.
 #[test]
-fn writes_fail(rt: HostRuntime) -> Result<(), Fail> {
+fn writes_fail(rt: HostRuntime) {
     for by_zero in [false, true] {
-        for writes in 0..ANSWERS.len() as u64 {
-            let reader = Reader {
-                rest: SCRIPT,
-                most: 9,
-                reads: u64::MAX,
+        for written in 0..ANSWERS.len() {
+            let devices = Devices {
+                writes: written as u64,
+                by_zero,
+                ..steady(9, 1)
             };
-            let mut out = Writer::new(rt.alloc(), 1, writes, by_zero);
-            let mut err = Writer::new(rt.alloc(), 64, u64::MAX, false);
-            let status = status_of(&rt, reader, &mut out, &mut err);
-            assert_eq!(rt; out.bytes.len() as u64, writes);
-            assert!(rt; ANSWERS.starts_with(out.bytes.as_slice()));
-            assert_eq!(rt; err.bytes.as_slice(), b"device\n".as_slice());
-            assert_eq!(rt; status, 3);
+            assert!(rt;
+                comes_to(&rt, RUN, devices, written, 3),
+                "after {written} writes"
+            );
         }
     }
-    Ok(())
 }
 
 // With a read or a write of a replay that fails, the answers before it are written.
 #[test]
-fn devices_of_a_replay_fail(rt: HostRuntime) -> Result<(), Fail> {
+fn devices_of_a_replay_fail(rt: HostRuntime) {
+    let input = b"passes 2\npin 1\ntransfer\n".as_slice();
     let answers = b"records 4\nrecord 0\nrefused\n".as_slice();
+    let words = ["mst", "replay"];
     for (reads, writes, answered, status) in [
         (0, u64::MAX, 0, 3),
         (1, u64::MAX, 0, 3),
@@ -202,30 +227,24 @@ fn devices_of_a_replay_fail(rt: HostRuntime) -> Result<(), Fail> {
         (u64::MAX, 26, 26, 3),
         (u64::MAX, 27, 27, 0),
     ] {
-        let reader = Reader {
-            rest: b"passes 2\npin 1\ntransfer\n",
-            most: 8,
+        let devices = Devices {
             reads,
+            writes,
+            ..steady(8, 1)
         };
-        let mut out = Writer::new(rt.alloc(), 1, writes, false);
-        let mut err = Writer::new(rt.alloc(), 64, u64::MAX, false);
-        assert_eq!(rt;
-            command_status(&rt, &["mst", "replay"], reader, &mut out, &mut err),
-            status
-        );
-        assert_eq!(rt;
-            out.bytes.as_slice(),
-            &answers[..answered],
+        let task = (words.as_slice(), input, answers);
+        assert!(rt;
+            comes_to(&rt, task, devices, answered, status),
             "after {reads} reads"
         );
     }
-    Ok(())
 }
 
 // With a read of a proof that fails, nothing is written, and with a write a beginning.
 #[test]
-fn devices_of_a_proof_fail(rt: HostRuntime) -> Result<(), Fail> {
+fn devices_of_a_proof_fail(rt: HostRuntime) {
     let root = "e3b0c44298fc1c149afbf4c8996fb92427ae41e4649b934ca495991b7852b855";
+    let words = ["mst", "verify", root, "61"];
     for (reads, writes, by_zero, written, status) in [
         (0, u64::MAX, false, 0, 3),
         (1, u64::MAX, false, 0, 3),
@@ -237,28 +256,25 @@ fn devices_of_a_proof_fail(rt: HostRuntime) -> Result<(), Fail> {
         (u64::MAX, 6, true, 6, 3),
         (u64::MAX, 7, false, 7, 0),
     ] {
-        let reader = Reader {
-            rest: b"0100",
-            most: 2,
+        let devices = Devices {
+            read_most: 2,
             reads,
+            write_most: 1,
+            writes,
+            by_zero,
         };
-        let mut out = Writer::new(rt.alloc(), 1, writes, by_zero);
-        let mut err = Writer::new(rt.alloc(), 64, u64::MAX, false);
-        let words = ["mst", "verify", root, "61"];
-        let got = command_status(&rt, words.as_slice(), reader, &mut out, &mut err);
-        assert_eq!(rt; got, status, "after {reads} reads");
-        assert_eq!(rt; out.bytes.as_slice(), &b"absent\n".as_slice()[..written]);
-        let said = if status == 3 { "device\n" } else { "" };
-        assert_eq!(rt; err.bytes.as_slice(), said.as_bytes());
+        let task = (words.as_slice(), b"0100".as_slice(), b"absent\n".as_slice());
+        assert!(rt;
+            comes_to(&rt, task, devices, written, status),
+            "after {reads} reads"
+        );
     }
-    Ok(())
 }
 
 // With a write that fails in any of the four lines of a load's report, what was written is a
 // beginning of them.
 #[test]
-fn devices_of_a_load_fail(rt: HostRuntime) -> Result<(), Fail> {
-    let lines = ONE_CALL_EACH.as_bytes();
+fn devices_of_a_load_fail(rt: HostRuntime) {
     let words = [
         "mst",
         "load",
@@ -271,7 +287,7 @@ fn devices_of_a_load_fail(rt: HostRuntime) -> Result<(), Fail> {
     ];
     for by_zero in [false, true] {
         // in each line, and between one and the next
-        for (writes, status) in [
+        for (written, status) in [
             (0, 3),
             (4, 3),
             (9, 3),
@@ -283,35 +299,34 @@ fn devices_of_a_load_fail(rt: HostRuntime) -> Result<(), Fail> {
             (157, 3),
             (158, 0),
         ] {
-            let reader = Reader {
-                rest: b"",
-                most: 9,
+            let devices = Devices {
+                read_most: 9,
                 reads: 0,
+                write_most: 1,
+                writes: written as u64,
+                by_zero,
             };
-            let mut out = Writer::new(rt.alloc(), 1, writes, by_zero);
-            let mut err = Writer::new(rt.alloc(), 64, u64::MAX, false);
-            let got = command_status(&rt, words.as_slice(), reader, &mut out, &mut err);
-            assert_eq!(rt; got, status, "after {writes} writes");
-            assert_eq!(rt; out.bytes.as_slice(), &lines[..writes as usize]);
-            let said = if status == 3 { "device\n" } else { "" };
-            assert_eq!(rt; err.bytes.as_slice(), said.as_bytes());
+            let task = (words.as_slice(), b"".as_slice(), ONE_CALL_EACH.as_bytes());
+            assert!(rt;
+                comes_to(&rt, task, devices, written, status),
+                "after {written} writes"
+            );
         }
     }
-    Ok(())
 }
 
 // Where standard error fails too, the status still says so.
 #[test]
-fn standard_error_fails(rt: HostRuntime) -> Result<(), Fail> {
+fn standard_error_fails(rt: HostRuntime) {
     for (reads, status) in [(0, 3), (u64::MAX, 0)] {
-        let reader = Reader {
-            rest: SCRIPT,
-            most: 9,
+        let devices = Devices {
             reads,
+            ..steady(9, 64)
         };
         let mut out = Writer::new(rt.alloc(), 64, u64::MAX, false);
         let mut err = Writer::new(rt.alloc(), 64, 0, false);
-        assert_eq!(rt; status_of(&rt, reader, &mut out, &mut err), status);
+        let (words, out, err) = (["mst", "run"], &mut out, &mut err);
+        let ended = status_between(&rt, words.as_slice(), SCRIPT, devices, out, err);
+        assert!(rt; ended == status);
     }
-    Ok(())
 }

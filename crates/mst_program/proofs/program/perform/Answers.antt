@@ -1,7 +1,7 @@
 use Rattle.std.proofs.Common.{rules}
 use Rattle.std.proofs.Common.{◌+◌}
 use Rattle.mst_command.proofs.Asked.{asked_script, asked_replay, asked_verify, asked_load, asked_others, not_verified, words_device, still_unread, still_untouched, task_comes, words_come, no_device}
-use Rattle.mst.proofs.command.perform.Goals as goal
+use Rattle.mst_program.proofs.program.perform.Goals as goal
 
 pub returns-in-Ok-clause-ran : goal.returns-in-Ok-clause-ran
 returns-in-Ok-clause-ran g c = asked_script g.S.Source.gives g.S.Source.left g.W.Sink.takes c.args.words.now c.in-Ok.task c.execute.result c.args.source.now c.execute.new.source c.args.out.now c.execute.new.out c.in-Ok.ensures.asked c.execute.ensures.did

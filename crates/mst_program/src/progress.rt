@@ -20,14 +20,15 @@ fn is_shown(count: u64) -> bool
 /// The workers write themselves, each a line by one write, so that two lines may change places. A
 /// line that cannot be written is left out.
 #[derive(Drop)]
-pub(crate) struct Progress<E: Eprint> {
-    pub(crate) errors: E,
+pub struct Progress<E: Eprint> {
+    /// Where the lines go.
+    pub errors: E,
     answered: AtomicU64,
 }
 
 impl<E: Eprint> Progress<E> {
     /// A gate that nobody has come to.
-    pub(crate) fn new(errors: E) -> Progress<E> {
+    pub fn new(errors: E) -> Progress<E> {
         Progress {
             errors,
             answered: AtomicU64::new(0),

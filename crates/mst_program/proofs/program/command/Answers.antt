@@ -1,7 +1,7 @@
 use Rattle.std.proofs.Common.{rules}
 use Rattle.std.proofs.Common.{Err, ap, ◌∙◌}
 use Rattle.mst_command.proofs.Asked.{told_early, stopped_early}
-use Rattle.mst.proofs.command.command.Goals as goal
+use Rattle.mst_program.proofs.program.command.Goals as goal
 
 pub returns-in-Err-clause-told : goal.returns-in-Err-clause-told
 returns-in-Err-clause-told g c = told_early g.E.Sink.takes g.E.Sink.failures c.args.err.now c.complain.new.err c.in-Err.why c.complain.result c.complain.ensures.failed c.complain.ensures.status c.complain.ensures.told c.args.words.now c.in-Err.ensures.comes

@@ -1,5 +1,5 @@
 //! Proofs that are verified.
-use super::outcome_of;
+use super::verify_comes_to;
 use std::alloc::AllocGlobal;
 use std::process::Abort;
 use std::sync::Wait;
@@ -29,11 +29,8 @@ fn compare<R: Abort + Threads + Wait + AllocGlobal + Sync>(
     rows: &[(&str, &str, &str, &str, u8)],
 ) -> Result<(), Fail> {
     for (root, key, proof, line, status) in rows {
-        let words = ["mst", "verify", *root, *key];
-        let outcome = outcome_of(rt, words.as_slice(), proof.as_bytes())?;
-        assert_eq!(rt; outcome.out.as_slice(), line.as_bytes(), "{key} in {proof}");
-        assert_eq!(rt; outcome.err.len(), 0);
-        assert_eq!(rt; outcome.status, *status);
+        let is_right = verify_comes_to(rt, root, key, proof.as_bytes(), *status, line, "")?;
+        assert!(rt; is_right, "{key} in {proof}");
     }
     Ok(())
 }
@@ -48,11 +45,16 @@ const OF_VERSION_2: &str = "0201000000110100000200016101310003616263017800";
 
 const OF_LAYER_1: &str = "0101000000110101000200016101310003616263017800";
 
+/// A root digest that is that of `TWO` but for its last digit.
+const OTHER_ROOT: &str = "d4a8a9fc55058427163bd8a1f09ca5ec542de1cdaf28df100be5472e47b72502";
+
+/// The root digest of the map of `a` with the empty value, and the proof of that map.
+const EMPTY_VALUE: &str = "709242a088b9aaa7b047ac1555a1adf76d12bc159c241a1ce1237eac41313955";
+
+const EMPTY_VALUE_PROOF: &str = "010100000009010000010001610000";
+
 #[test]
 fn proofs_of_one_node(rt: HostRuntime) -> Result<(), Fail> {
-    let other = "d4a8a9fc55058427163bd8a1f09ca5ec542de1cdaf28df100be5472e47b72502";
-    let empty_value = "709242a088b9aaa7b047ac1555a1adf76d12bc159c241a1ce1237eac41313955";
-    let empty_proof = "010100000009010000010001610000";
     compare(
         &rt,
         &[
@@ -61,9 +63,9 @@ fn proofs_of_one_node(rt: HostRuntime) -> Result<(), Fail> {
             (TWO, "62", CUT_SHORT, "P2\n", 1),
             (TWO, "62", LEFT_OVER, "P3\n", 1),
             (TWO, "62", OF_VERSION_2, "P1\n", 1),
-            (other, "62", TWO_PROOF, "P5\n", 1),
+            (OTHER_ROOT, "62", TWO_PROOF, "P5\n", 1),
             (TWO, "62", OF_LAYER_1, "P4\n", 1),
-            (empty_value, "61", empty_proof, "present -\n", 0),
+            (EMPTY_VALUE, "61", EMPTY_VALUE_PROOF, "present -\n", 0),
         ],
     )
 }
@@ -117,14 +119,16 @@ fn proofs_of_two_nodes(rt: HostRuntime) -> Result<(), Fail> {
     )
 }
 
+/// The root digest of the empty map in capital letters.
+const UPPER: &str = "E3B0C44298FC1C149AFBF4C8996FB92427AE41E4649B934CA495991B7852B855";
+
 // Digits in either case, and one newline behind them.
 #[test]
 fn texts_are_read(rt: HostRuntime) -> Result<(), Fail> {
-    let upper = "E3B0C44298FC1C149AFBF4C8996FB92427AE41E4649B934CA495991B7852B855";
     compare(
         &rt,
         &[
-            (upper, "6A", "0100\n", "absent\n", 0),
+            (UPPER, "6A", "0100\n", "absent\n", 0),
             (NOTHING, "61", "\n", "P2\n", 1),
             (TWO, "62", "010", "fault hex\n", 1),
             (NOTHING, "61", "0100\n\n", "fault hex\n", 1),
@@ -146,10 +150,8 @@ fn long_texts(rt: HostRuntime) -> Result<(), Fail> {
         (b'0', 33_554_433, "fault long\n"),
     ] {
         let text = vec![in rt.alloc(); byte; size]?;
-        let words = ["mst", "verify", TWO, "62"];
-        let outcome = outcome_of(&rt, words.as_slice(), text.as_slice())?;
-        assert_eq!(rt; outcome.out.as_slice(), line.as_bytes(), "{size}");
-        assert_eq!(rt; outcome.status, 1);
+        let is_right = verify_comes_to(&rt, TWO, "62", text.as_slice(), 1, line, "")?;
+        assert!(rt; is_right, "{size}");
     }
     Ok(())
 }

@@ -1,5 +1,5 @@
 use Rattle.std.proofs.Common.{rules}
-use Rattle.mst.proofs.words.answer_words.Goals as goal
+use Rattle.mst_program.proofs.words.answer_words.Goals as goal
 
 pub returns-then-eq-clause-help : goal.returns-then-eq-clause-help
 returns-then-eq-clause-help c = search rules

@@ -1,7 +1,7 @@
 //! What a load tells of its calls while they are made.
 use super::outcome_behind;
-use crate::progress::Progress;
 use mst_load::Gate;
+use mst_program::Progress;
 use std::alloc::{AllocError, Global};
 use std::fmt::Display;
 use std::io;
@@ -94,8 +94,7 @@ fn a_load_tells_its_calls(rt: HostRuntime) -> Result<(), Fail> {
         "10000",
     ];
     let outcome = outcome_behind(&rt, words.as_slice(), b"", &progress)?;
-    assert_eq!(rt; outcome.status, 0);
-    assert_eq!(rt; outcome.err.len(), 0);
-    assert_eq!(rt; progress.errors.told.load(SeqCst), 3);
+    let told = progress.errors.told.load(SeqCst);
+    assert!(rt; outcome.status == 0 && outcome.err.len() == 0 && told == 3);
     Ok(())
 }

@@ -1,0 +1,107 @@
+//! What no clause of the program says: whole scripts, the texts for the user, and devices that
+//! fail.
+mod failures;
+mod loads;
+mod progress;
+mod proofs;
+mod replays;
+mod scripts;
+mod words;
+
+use mst_devices::{BytesSink, BytesSource};
+use mst_load::{Gate, Open};
+use mst_program::command;
+use std::alloc::{AllocError, AllocGlobal};
+use std::process::Abort;
+use std::sync::Wait;
+use std::test::Fail;
+use std::thread::Threads;
+
+/// The exit status of a program, and what it wrote.
+#[derive(Drop)]
+struct Outcome {
+    status: u8,
+    out: Vec<u8>,
+    err: Vec<u8>,
+}
+
+/// Whether a program came to this status, with this text on each of the two outputs.
+fn is_outcome(outcome: &Outcome, status: u8, out: &str, err: &str) -> bool {
+    outcome.status == status
+        && outcome.out.as_slice() == out.as_bytes()
+        && outcome.err.as_slice() == err.as_bytes()
+}
+
+/// Runs the program over memory, with this gate at the calls of a load.
+fn outcome_behind<R: Threads + Wait + AllocGlobal + Sync, G: Gate + Sync>(
+    rt: &R,
+    words: &[&str],
+    input: &[u8],
+    gate: &G,
+) -> Result<Outcome, AllocError> {
+    let alloc = rt.alloc();
+    let mut source = BytesSource::new(input);
+    let mut out = BytesSink::new(alloc, 65_536)?;
+    let mut err = BytesSink::new(alloc, 65_536)?;
+    let status = command(rt, alloc, words, gate, &mut source, &mut out, &mut err);
+    Ok(Outcome {
+        status,
+        out: out.bytes().to_vec(alloc)?,
+        err: err.bytes().to_vec(alloc)?,
+    })
+}
+
+/// Runs the program over memory and judges what it came to. The words stand in one line, which is
+/// cut at each space, so that two spaces hold an empty word.
+fn comes_to<R: Threads + Wait + AllocGlobal + Sync>(
+    rt: &R,
+    line: &str,
+    input: &[u8],
+    status: u8,
+    out: &str,
+    err: &str,
+) -> Result<bool, AllocError> {
+    let words: Vec<&str> = line.split(' ').collect(rt.alloc())?;
+    let outcome = outcome_behind(rt, words.as_slice(), input, &Open)?;
+    Ok(is_outcome(&outcome, status, out, err))
+}
+
+/// Verifies a proof by these words, and judges what that came to.
+fn verify_comes_to<R: Threads + Wait + AllocGlobal + Sync>(
+    rt: &R,
+    root: &str,
+    key: &str,
+    proof: &[u8],
+    status: u8,
+    out: &str,
+    err: &str,
+) -> Result<bool, AllocError> {
+    let line = format!(in rt.alloc(); "mst verify {root} {key}")?;
+    comes_to(rt, line.as_str(), proof, status, out, err)
+}
+
+/// Runs the program on each line of words over one input, and compares the status and the two
+/// outputs.
+fn each_comes_to<R: Abort + Threads + Wait + AllocGlobal + Sync>(
+    rt: &R,
+    input: &[u8],
+    rows: &[(&str, u8, &str, &str)],
+) -> Result<(), Fail> {
+    for (line, status, out, err) in rows {
+        assert!(rt; comes_to(rt, line, input, *status, out, err)?, "in {line}");
+    }
+    Ok(())
+}
+
+/// Runs the program on each line of words over the input beside it, and compares what it wrote,
+/// which is no complaint.
+fn each_answers<R: Abort + Threads + Wait + AllocGlobal + Sync>(
+    rt: &R,
+    rows: &[(&str, &str, &str)],
+) -> Result<(), Fail> {
+    for (line, input, answers) in rows {
+        let is_right = comes_to(rt, line, input.as_bytes(), 0, answers, "")?;
+        assert!(rt; is_right, "{line} over {input}");
+    }
+    Ok(())
+}
