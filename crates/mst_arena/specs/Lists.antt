@@ -18,10 +18,14 @@ abbrev pub is_at : (Life → Bool) → Option Life → Bool
 is_at is None = false
 is_at is (Some life) = is life
 
--- how often a row stands in a list
+-- how often a number stands in a list
 abbrev pub times : ℕ → List ℕ → ℕ
 times r [] = 0
 times r (x ∷ xs) = bit (eqb r x) + times r xs
+
+-- the number stands in the list
+abbrev pub In : ℕ → List ℕ → Type 0
+In r rows = 0 < times r rows
 
 -- the list has a row once if its life is of the kind, and else not
 abbrev pub Lists : (Life → Bool) → List Life → List ℕ → Type 0
@@ -34,7 +38,7 @@ StayBut live lives rows =
 
 -- each row of the list is reached by one of these versions
 abbrev pub AllReached : List ℕ → List Life → List ℕ → Type 0
-AllReached live lives rows = (r : ℕ) (x : Life) → slice_get lives r ≡ Some x → 0 < times r rows
+AllReached live lives rows = (r : ℕ) (x : Life) → slice_get lives r ≡ Some x → In r rows
     → list_any (reaches_life x) live ≡ true
 
 -- a newer version than this is among them
@@ -43,7 +47,7 @@ is_older live v = list_any (λ w. nat_lt v w) live
 
 -- each row of the list is reached by one of these versions that is not the newest of them
 abbrev pub AllOlder : List ℕ → List Life → List ℕ → Type 0
-AllOlder live lives rows = (r : ℕ) (x : Life) → slice_get lives r ≡ Some x → 0 < times r rows
+AllOlder live lives rows = (r : ℕ) (x : Life) → slice_get lives r ≡ Some x → In r rows
     → list_any (λ v. reaches_life x v && is_older live v) live ≡ true
 
 -- what a desk keeps: the free rows; each dead row in one of two lists; and in the second of these

@@ -8,7 +8,8 @@ use Rattle.mst_node.specs.Stays.{tree_at, lasts}
 use Rattle.mst_arena.specs.Lives.{State, reaches}
 use Rattle.mst_arena.specs.declared.life.Life.{Life}
 use Rattle.mst_arena.specs.Standing.{Placed, none, head, Chain, end, cell, tree_of, used, IsDistinct}
-use Rattle.mst_path.specs.Moves.{In, IsNew}
+use Rattle.mst_arena.specs.Lists.{In}
+use Rattle.mst_path.specs.Moves.{IsNew}
 use Rattle.mst_path.specs.Reached.{ReachesExactly}
 
 -- the nodes of a placed tree, each before those below it

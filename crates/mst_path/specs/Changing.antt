@@ -5,11 +5,11 @@ use Rattle.mst_key.specs.Map.{Pair}
 use Rattle.mst_key.specs.declared.format.Format.TheVariants.{One}
 use Rattle.mst_arena.specs.Content.{Content}
 use Rattle.mst_arena.specs.Lives.{State, next}
-use Rattle.mst_arena.specs.Lists.{times}
+use Rattle.mst_arena.specs.Lists.{In, times}
 use Rattle.mst_arena.specs.declared.life.Life.TheVariants.{Free, Born}
 use Rattle.mst_arena.specs.declared.row.Root.{Root}
 use Rattle.mst_arena.specs.Standing.{Stands, numbers}
-use Rattle.mst_path.specs.Moves.{In, IsOld, IsKilled}
+use Rattle.mst_path.specs.Moves.{IsOld, IsKilled}
 
 -- each of these rows was born with the current version or an earlier one, and is not dead
 abbrev pub AreOld : State → List ℕ → Type 0

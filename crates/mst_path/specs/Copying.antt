@@ -2,9 +2,9 @@
 use Rattle.std.specs.Prelude.{◌≡◌, ◌≤◌, ◌+◌, ℕ, List, ◌++◌, length}
 use Rattle.mst_arena.specs.Content.{Content}
 use Rattle.mst_arena.specs.Lives.{State}
-use Rattle.mst_arena.specs.Lists.{times}
+use Rattle.mst_arena.specs.Lists.{In, times}
 use Rattle.mst_path.specs.Takes.{KeepsBut}
-use Rattle.mst_path.specs.Moves.{In, IsAlive, IsNew, Moves}
+use Rattle.mst_path.specs.Moves.{IsAlive, IsNew, Moves}
 use Rattle.mst_path.specs.Made.{AreMade}
 use Rattle.mst_path.specs.Runs.{Run, own, gaps_used, AreCopies}
 use Rattle.mst_path.specs.Writing.{PlacedEntry, entries_used, ahead, IsWritten}

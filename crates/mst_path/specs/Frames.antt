@@ -6,12 +6,12 @@ use Rattle.mst_node.specs.Tree.{Tree}
 use Rattle.mst_node.specs.Shape.{with_entries}
 use Rattle.mst_arena.specs.Content.{Content}
 use Rattle.mst_arena.specs.Lives.{State}
-use Rattle.mst_arena.specs.Lists.{times}
+use Rattle.mst_arena.specs.Lists.{In, times}
 use Rattle.mst_arena.specs.Standing.{Placed, used}
 use Rattle.mst_path.specs.declared.frames.Frame.{Frame}
 use Rattle.mst_change.specs.Parts.{with_first, node_of}
 use Rattle.mst_change.specs.Cost.{side_rows}
-use Rattle.mst_path.specs.Moves.{In, IsAlive, IsOld}
+use Rattle.mst_path.specs.Moves.{IsAlive, IsOld}
 use Rattle.mst_path.specs.Runs.{Run, own, gaps_used}
 use Rattle.mst_path.specs.Making.{BackRun, cells_of, entries_to, others}
 use Rattle.mst_path.specs.Writing.{PlacedEntry, ahead}

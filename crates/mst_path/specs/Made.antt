@@ -3,7 +3,8 @@
 use Rattle.std.specs.Prelude.{◌⊎◌, ℕ, List, [], ◌∷◌}
 use Rattle.mst_arena.specs.Lives.{State}
 use Rattle.mst_arena.specs.Standing.{Placed, none, head, Chain, end, cell, used}
-use Rattle.mst_path.specs.Moves.{In, IsOld, IsNew}
+use Rattle.mst_arena.specs.Lists.{In}
+use Rattle.mst_path.specs.Moves.{IsOld, IsNew}
 use Rattle.mst_path.specs.Writing.{PlacedEntry}
 
 -- A placed tree stands on rows of the current version and older ones; or its own rows, of its head

@@ -6,12 +6,12 @@ use Rattle.mst_node.specs.Tree.{Tree, node, Entries, last}
 use Rattle.mst_node.specs.Shape.{TreeEntry, with_entries}
 use Rattle.mst_arena.specs.Content.{Content}
 use Rattle.mst_arena.specs.Lives.{State}
-use Rattle.mst_arena.specs.Lists.{times}
+use Rattle.mst_arena.specs.Lists.{In, times}
 use Rattle.mst_arena.specs.declared.row.Root.{Root}
 use Rattle.mst_arena.specs.Standing.{Placed, none, tree_of, link_of, used, HasRows}
 use Rattle.mst_path.specs.declared.making.Parts.{Parts}
 use Rattle.mst_path.specs.Takes.{KeepsBut}
-use Rattle.mst_path.specs.Moves.{In, IsOld, Moves, IsNew}
+use Rattle.mst_path.specs.Moves.{IsOld, Moves, IsNew}
 use Rattle.mst_path.specs.Runs.{Piece, OldPiece, Run, own_rows, own, gaps_used, EachGap}
 use Rattle.mst_change.specs.Parts.{with_first}
 use Rattle.mst_path.specs.Writing.{PlacedEntry, link_from, entries_used, ahead, IsRootOf}

@@ -2,12 +2,8 @@
 -- that were born with an older version.
 use Rattle.std.specs.Prelude.{◌≡◌, ◌<◌, ◌≤◌, ◌+◌, ℕ, List, length, slice_get, Some}
 use Rattle.mst_arena.specs.Lives.{State, version, next, free_count}
-use Rattle.mst_arena.specs.Lists.{times}
+use Rattle.mst_arena.specs.Lists.{In, times}
 use Rattle.mst_arena.specs.declared.life.Life.TheVariants.{Free, Born, Dead}
-
--- the row stands in the list
-abbrev pub In : ℕ → List ℕ → Type 0
-In r rows = 0 < times r rows
 
 -- the row is alive
 abbrev pub IsAlive : State → ℕ → Type 0

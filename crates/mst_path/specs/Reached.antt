@@ -3,7 +3,7 @@ use Rattle.std.specs.Prelude.{◌≡◌, ◌↔◌, ℕ, true, List, map, slice_
 pub use Rattle.mst_arena.specs.Lives.{IsPast, IsSettled}
 use Rattle.mst_arena.specs.Lives.{State, next, reaches, swept_life}
 use Rattle.mst_arena.specs.declared.life.Life.{Life}
-use Rattle.mst_path.specs.Moves.{In}
+use Rattle.mst_arena.specs.Lists.{In}
 use Rattle.mst_path.specs.Changing.{AreTaken, AreKilled, OthersLive, SameVersions}
 
 -- a version reaches exactly these rows

@@ -6,7 +6,8 @@ use Rattle.mst_arena.specs.Lives.{State}
 use Rattle.mst_arena.specs.declared.row.Row.{Row}
 use Rattle.mst_arena.specs.declared.row.Row.TheVariants.{Entry}
 use Rattle.mst_arena.specs.Standing.{Placed, link_of, rows_of, used, HasRows}
-use Rattle.mst_path.specs.Moves.{In, IsOld}
+use Rattle.mst_arena.specs.Lists.{In}
+use Rattle.mst_path.specs.Moves.{IsOld}
 use Rattle.mst_path.specs.Made.{IsMade}
 use Rattle.mst_path.specs.Writing.{PlacedEntry, link_from}
 

@@ -8,7 +8,7 @@ use Rattle.mst_arena.specs.Lives.{State, version}
 use Rattle.mst_arena.specs.declared.life.Life.{Life}
 use Rattle.mst_arena.specs.declared.row.Root.{Root}
 use Rattle.mst_arena.specs.Standing.{Stands, numbers}
-use Rattle.mst_path.specs.Moves.{In}
+use Rattle.mst_arena.specs.Lists.{In}
 use Rattle.mst_path.specs.Reached.{ReachesExactly, IsSettled}
 
 -- A version has its map: it stands at a root, and the version reaches exactly the rows that stand

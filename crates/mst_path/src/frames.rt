@@ -2,10 +2,10 @@
 ghost use Rattle.std.specs.Prelude.{◌≡◌, ◌≤◌, ◌<◌, ◌+◌, ℕ, [], ◌∷◌, length};
 ghost use Rattle.mst_key.specs.declared.format.Format.TheVariants.{One};
 ghost use Rattle.mst_arena.specs.Lives.{free_count};
-ghost use Rattle.mst_arena.specs.Lists.{times};
+ghost use Rattle.mst_arena.specs.Lists.{In, times};
 ghost use Rattle.mst_arena.specs.Standing.{Placed, tree_of, used};
 ghost use Rattle.mst_path.specs.Takes.{FreeIsBlank};
-ghost use Rattle.mst_path.specs.Moves.{In, IsOld, Moves};
+ghost use Rattle.mst_path.specs.Moves.{IsOld, Moves};
 ghost use Rattle.mst_path.specs.Runs.{Piece};
 ghost use Rattle.mst_path.specs.Writing.{IsRootOf, ahead};
 ghost use Rattle.mst_change.specs.Cost.{side_rows};

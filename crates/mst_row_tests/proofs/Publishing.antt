@@ -10,13 +10,13 @@ use Rattle.mst_key.specs.Map.{Pair}
 use Rattle.mst_key.specs.declared.format.Format.TheVariants.{One}
 use Rattle.mst_arena.specs.Content.{listed}
 use Rattle.mst_arena.specs.Lives.{State, version, next, last_version, swept_life}
-use Rattle.mst_arena.specs.Lists.{times}
+use Rattle.mst_arena.specs.Lists.{In, times}
 use Rattle.mst_arena.specs.Standing.{Stands, numbers}
 use Rattle.mst_arena.specs.declared.life.Life.{Life}
 use Rattle.mst_arena.specs.declared.life.Life.TheVariants.{Free, Born}
 use Rattle.mst_arena.specs.declared.row.Root.{Root}
 use Rattle.mst_arena.specs.declared.row.Row.{Row}
-use Rattle.mst_path.specs.Moves.{In, Moves}
+use Rattle.mst_path.specs.Moves.{Moves}
 use Rattle.mst_path.specs.Takes.{Takes}
 use Rattle.mst_path.specs.Changing.{AreOld, AreTaken, AreKilled, OthersLive, SameVersions}
 use Rattle.mst_row_tests.specs.Ready.{AreWithin, IsReady, IsPublished}

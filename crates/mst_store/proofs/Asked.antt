@@ -7,7 +7,7 @@ use Rattle.std.proofs.lemmas.Bool.Decides.{nat_tests}
 use Rattle.mst_arena.specs.Lists.{bit}
 use Rattle.mst_arena.specs.Lives.{State, version}
 use Rattle.mst_arena.proofs.ListLemmas.{times-append}
-use Rattle.mst_path.specs.Moves as moves
+use Rattle.mst_arena.specs.Lists as moves
 use Rattle.mst_path.proofs.lemmas.rows.Moving.{one_row}
 use Rattle.mst_words.specs.Pins.{In}
 use Rattle.mst_words.specs.Steps.{Drained, Blocked}

@@ -14,7 +14,7 @@ use Rattle.mst_arena.specs.declared.life.Life.{Life}
 use Rattle.mst_arena.specs.declared.life.Life.TheVariants.{Free, Born, Dead}
 use Rattle.mst_arena.specs.Standing.{IsDistinct, numbers}
 use Rattle.mst_arena.specs.declared.row.Root.{Root}
-use Rattle.mst_path.specs.Moves as moves
+use Rattle.mst_arena.specs.Lists as moves
 use Rattle.mst_path.specs.Ages.{HasPlace}
 use Rattle.mst_path.specs.Reached.{TogetherReach, swept_by}
 use Rattle.mst_path.proofs.lemmas.rows.FreeCounts.{count_swept}

@@ -10,7 +10,7 @@ use Rattle.mst_arena.specs.Standing.{numbers}
 use Rattle.mst_arena.specs.declared.life.Life.{Life}
 use Rattle.mst_arena.specs.declared.life.Life.TheVariants.{Free, Born, Dead}
 use Rattle.mst_arena.specs.declared.row.Root.{Root}
-use Rattle.mst_path.specs.Moves as moves
+use Rattle.mst_arena.specs.Lists as moves
 use Rattle.mst_path.specs.Versions.{HasMap}
 use Rattle.mst_path.proofs.lemmas.rows.Moving.{one_row}
 use Rattle.mst_path.proofs.lemmas.rows.Taking.{frees, frees_is}

@@ -2,7 +2,7 @@
 -- after another.
 use Rattle.std.specs.Prelude.{◌≡◌, ◌≢◌, ◌⊎◌, ℕ, ◌+◌, ◌<◌, ◌≤◌, length, slice_index}
 use Rattle.mst_arena.specs.Lives.{State, version}
-use Rattle.mst_path.specs.Moves as moves
+use Rattle.mst_arena.specs.Lists as moves
 use Rattle.mst_words.specs.Pins.{In}
 use Rattle.mst_words.specs.Steps.{IsHolder}
 use Rattle.mst_store.specs.Turns.{Seat, StoodAtAsk}

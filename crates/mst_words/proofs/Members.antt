@@ -5,7 +5,7 @@ use Rattle.std.proofs.lemmas.Bool.{eq-eqb}
 use Rattle.std.proofs.lemmas.Bool.Decides.{nat_tests}
 use Rattle.mst_key.proofs.SpanLaws.{contains-cases, contains-nothing, contains-first, contains-later}
 use Rattle.mst_arena.specs.Lists.{times, bit}
-use Rattle.mst_path.specs.Moves as moves
+use Rattle.mst_arena.specs.Lists as moves
 use Rattle.mst_words.specs.Pins.{In}
 
 pub counted : (x : ℕ) (xs : List ℕ) → In x xs → moves.In x xs

@@ -9,7 +9,7 @@ use Rattle.std.proofs.lemmas.List.{append-nil}
 use Rattle.mst_key.specs.declared.format.Format.TheVariants.{One}
 use Rattle.mst_arena.specs.Content.{Content}
 use Rattle.mst_arena.specs.Lives.{State, version, next}
-use Rattle.mst_arena.specs.Lists.{times, bit}
+use Rattle.mst_arena.specs.Lists.{In, times, bit}
 use Rattle.mst_arena.specs.declared.row.Row.{Row}
 use Rattle.mst_arena.specs.declared.row.Row.TheVariants.{Entry}
 use Rattle.mst_arena.specs.declared.life.Life.{Life}
@@ -18,7 +18,7 @@ use Rattle.mst_arena.specs.Standing.{Placed, none as no_tree, head as tree_head,
 use Rattle.mst_arena.proofs.ListLemmas.{times-append}
 use Rattle.mst_arena.proofs.Stands.{placed_frame}
 use Rattle.mst_path.specs.Takes.{IsOut, KeepsBut, FreeIsBlank}
-use Rattle.mst_path.specs.Moves.{In, IsAlive, IsOld, Moves, IsNew}
+use Rattle.mst_path.specs.Moves.{IsAlive, IsOld, Moves, IsNew}
 use Rattle.mst_path.specs.Made.{AreMade}
 use Rattle.mst_path.specs.Runs.{OldPiece, Run, own_rows, own, gaps_used, EachGap, AreCopies}
 use Rattle.mst_path.specs.Writing.{PlacedEntry, link_from, entries_used, ahead, IsAhead, IsWritten}

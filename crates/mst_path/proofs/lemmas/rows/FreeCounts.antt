@@ -5,13 +5,12 @@ use Rattle.std.specs.List.{list_any}
 use Rattle.std.proofs.lemmas.Bool.Decides.{nat_tests}
 use Rattle.std.proofs.lemmas.Option.{slice_get-map}
 use Rattle.mst_arena.specs.Lives.{State, version, reached_at, reaches, reaches_life, free_count, swept_life}
-use Rattle.mst_arena.specs.Lists.{times, bit, is_at, Lists}
+use Rattle.mst_arena.specs.Lists.{In, times, bit, is_at, Lists}
 use Rattle.mst_arena.specs.Standing.{IsDistinct}
 use Rattle.mst_arena.specs.declared.life.Life.{Life}
 use Rattle.mst_arena.specs.declared.life.Life.TheVariants.{Free, Born, Dead}
 use Rattle.mst_arena.proofs.ListLemmas.{suc_test, there}
 use Rattle.mst_arena.proofs.DeskLemmas.{length_mapped}
-use Rattle.mst_path.specs.Moves.{In}
 use Rattle.mst_path.specs.Reached.{ReachesExactly, TogetherReach, Changes, IsPast, IsSettled, swept_by}
 use Rattle.mst_path.proofs.lemmas.rows.Taking.{frees, frees_is}
 use Rattle.mst_path.proofs.lemmas.versions.Changes.{distinct_times}

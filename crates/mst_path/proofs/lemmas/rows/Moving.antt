@@ -3,12 +3,12 @@ use Rattle.std.proofs.Common.{◌≡◌, ℕ, zero, suc, ◌+◌, ◌<◌, ◌�
 use Rattle.std.specs.Prelude.{slice_get, slice_set}
 use Rattle.std.proofs.lemmas.Bool.Decides.{nat_tests}
 use Rattle.mst_arena.specs.Lives.{State, version, next, is_free, free_count, with_life, ended_life}
-use Rattle.mst_arena.specs.Lists.{times, bit}
+use Rattle.mst_arena.specs.Lists.{In, times, bit}
 use Rattle.mst_arena.specs.declared.life.Life.{Life}
 use Rattle.mst_arena.specs.declared.life.Life.TheVariants.{Free, Born, Dead}
 use Rattle.mst_arena.proofs.ListLemmas.{get-set, times-append}
 use Rattle.mst_path.specs.Takes.{Takes, IsOut}
-use Rattle.mst_path.specs.Moves.{In, IsAlive, IsOld, IsKilled, Moves}
+use Rattle.mst_path.specs.Moves.{IsAlive, IsOld, IsKilled, Moves}
 use Rattle.mst_path.proofs.lemmas.rows.Taking.{frees, frees_is, frees_drop, still_free}
 
 -- ---- numbers in lists

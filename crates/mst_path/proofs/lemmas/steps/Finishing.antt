@@ -6,7 +6,7 @@ use Rattle.mst_node.specs.Tree.{node, Entries, last, entry}
 use Rattle.mst_node.specs.Shape.{TreeEntry, with_entries}
 use Rattle.mst_arena.specs.Content.{Content}
 use Rattle.mst_arena.specs.Lives.{State, version, next}
-use Rattle.mst_arena.specs.Lists.{times, bit}
+use Rattle.mst_arena.specs.Lists.{In, times, bit}
 use Rattle.mst_arena.specs.declared.row.Root.{Root}
 use Rattle.mst_arena.specs.declared.row.Row.TheVariants.{Entry as EntryRow}
 use Rattle.mst_arena.specs.declared.life.Life.TheVariants.{Born}
@@ -15,7 +15,7 @@ use Rattle.mst_arena.proofs.ListLemmas.{times-append}
 use Rattle.mst_arena.proofs.Stands.{placed_frame}
 use Rattle.mst_change.specs.Parts.{with_first}
 use Rattle.mst_path.specs.Takes.{IsOut, KeepsBut}
-use Rattle.mst_path.specs.Moves.{In, IsAlive, IsOld, Moves, IsNew}
+use Rattle.mst_path.specs.Moves.{IsAlive, IsOld, Moves, IsNew}
 use Rattle.mst_path.specs.Made.{IsMade}
 use Rattle.mst_path.specs.Runs.{Piece, OldPiece, own, gaps_used, EachGap, AreCopies}
 use Rattle.mst_path.specs.Writing.{PlacedEntry, chain_of, link_from, entries_used, ahead, IsAhead, IsWriter, IsWritten, IsRootOf}

@@ -8,7 +8,7 @@ use Rattle.mst_node.specs.Tree.{Tree, node, Entries, last, entry, entry_count}
 use Rattle.mst_node.specs.Shape.{TreeEntry, with_entries}
 use Rattle.mst_arena.specs.Content.{Content}
 use Rattle.mst_arena.specs.Lives.{State, next, with_life, ended_life}
-use Rattle.mst_arena.specs.Lists.{times, bit}
+use Rattle.mst_arena.specs.Lists.{In, times, bit}
 use Rattle.mst_arena.specs.declared.row.Root.{Root}
 use Rattle.mst_arena.specs.Standing.{Placed, none as no_tree, tree_of, used}
 use Rattle.mst_arena.proofs.ListLemmas.{times-append}
@@ -16,7 +16,7 @@ use Rattle.mst_arena.proofs.Stands.{placed_frame}
 use Rattle.mst_path.specs.declared.frames.Frame.{Frame}
 use Rattle.mst_change.specs.Parts.{with_first, node_of}
 use Rattle.mst_change.specs.Cost.{side_rows}
-use Rattle.mst_path.specs.Moves.{In, IsOld, Moves}
+use Rattle.mst_path.specs.Moves.{IsOld, Moves}
 use Rattle.mst_path.specs.Runs.{Piece, OldPiece, own, gaps_used, EachGap}
 use Rattle.mst_path.specs.Making.{HasTail, Grown, cell_of, cells_of, entries_to, others}
 use Rattle.mst_path.specs.Frames.{Framed, spare, frame_rows, in_entries, in_frame, tree_round}

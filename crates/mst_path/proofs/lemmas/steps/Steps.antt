@@ -5,13 +5,13 @@ use Rattle.mst_key.specs.declared.format.Format.TheVariants.{One}
 use Rattle.mst_node.specs.Tree.{Tree}
 use Rattle.mst_arena.specs.Content.{Content}
 use Rattle.mst_arena.specs.Lives.{State, next, with_life, ended_life}
-use Rattle.mst_arena.specs.Lists.{times}
+use Rattle.mst_arena.specs.Lists.{In, times}
 use Rattle.mst_arena.specs.declared.row.Root.{Root}
 use Rattle.mst_arena.specs.Standing.{Placed, used}
 use Rattle.mst_arena.proofs.ListLemmas.{times-append}
 use Rattle.mst_arena.proofs.Stands.{placed_frame}
 use Rattle.mst_path.specs.Takes.{KeepsBut}
-use Rattle.mst_path.specs.Moves.{In, IsAlive, IsOld, Moves}
+use Rattle.mst_path.specs.Moves.{IsAlive, IsOld, Moves}
 use Rattle.mst_path.specs.Runs.{Piece, OldPiece, Run, own, gaps_used, EachGap}
 use Rattle.mst_path.specs.Writing.{PlacedEntry}
 use Rattle.mst_path.specs.Making.{others, BackRun, PartsStand, in_parts, Grown, Split}

@@ -5,7 +5,7 @@ use Rattle.mst_node.specs.Tree.{node, Entries, entry}
 use Rattle.mst_node.specs.Shape.{TreeEntry, with_entries}
 use Rattle.mst_arena.specs.Content.{Content}
 use Rattle.mst_arena.specs.Lives.{State, version, next}
-use Rattle.mst_arena.specs.Lists.{times, bit}
+use Rattle.mst_arena.specs.Lists.{In, times, bit}
 use Rattle.mst_arena.specs.declared.row.Root.{Root}
 use Rattle.mst_arena.specs.declared.life.Life.TheVariants.{Born}
 use Rattle.mst_arena.specs.Standing.{Placed, tree_of, used}
@@ -13,7 +13,7 @@ use Rattle.mst_arena.proofs.ListLemmas.{times-append}
 use Rattle.mst_arena.proofs.Stands.{placed_frame}
 use Rattle.mst_change.specs.Parts.{with_first}
 use Rattle.mst_path.specs.Takes.{Takes, IsOut, KeepsBut}
-use Rattle.mst_path.specs.Moves.{In, IsAlive, IsOld, Moves, IsNew}
+use Rattle.mst_path.specs.Moves.{IsAlive, IsOld, Moves, IsNew}
 use Rattle.mst_path.specs.Runs.{Piece, OldPiece, Run, own, gaps_used, EachGap}
 use Rattle.mst_path.specs.Writing.{PlacedEntry, entries_used, ahead, IsWritten}
 use Rattle.mst_path.specs.Copying.{Going, Copying, Copied}

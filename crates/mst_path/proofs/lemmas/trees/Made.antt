@@ -3,12 +3,12 @@ use Rattle.std.proofs.Common.{◌≡◌, ℕ, ◌+◌, ◌<◌, eqb, Bool, true,
 use Rattle.std.proofs.lemmas.Bool.Decides.{nat_tests}
 use Rattle.mst_arena.specs.Content.{Content}
 use Rattle.mst_arena.specs.Lives.{State, version, next}
-use Rattle.mst_arena.specs.Lists.{times, bit}
+use Rattle.mst_arena.specs.Lists.{In, times, bit}
 use Rattle.mst_arena.specs.declared.life.Life.TheVariants.{Born}
 use Rattle.mst_arena.specs.Standing.{Placed, none, head, Chain, end, cell, used, chain_used}
 use Rattle.mst_arena.proofs.ListLemmas.{times-append}
 use Rattle.mst_path.specs.Made.{IsMade, IsMadeChain, AreMade}
-use Rattle.mst_path.specs.Moves.{In, IsAlive, IsOld, IsNew, Moves}
+use Rattle.mst_path.specs.Moves.{IsAlive, IsOld, IsNew, Moves}
 use Rattle.mst_path.specs.Runs.{Piece}
 use Rattle.mst_path.specs.Writing.{PlacedEntry, chain_of, entries_used}
 use Rattle.mst_path.proofs.lemmas.rows.Moving.{in_either, alive_out, old_stays}

@@ -10,7 +10,7 @@ use Rattle.mst_node.specs.Tree.{Tree, empty, node, Entries, last, entry, entry_c
 use Rattle.mst_node.specs.Shape.{TreeEntry, with_entries}
 use Rattle.mst_arena.specs.Content.{Content, part_at}
 use Rattle.mst_arena.specs.Lives.{State}
-use Rattle.mst_arena.specs.Lists.{times, bit}
+use Rattle.mst_arena.specs.Lists.{In, times, bit}
 use Rattle.mst_arena.specs.Row.{head_links, entry_links}
 use Rattle.mst_arena.specs.declared.row.Row.{Row}
 use Rattle.mst_arena.specs.declared.row.Row.TheVariants.{Entry}
@@ -21,7 +21,7 @@ use Rattle.mst_arena.proofs.ListLemmas.{times-append}
 use Rattle.mst_change.specs.Parts.{cells, last_child, first_child, with_first, node_of}
 use Rattle.mst_change.specs.Join.{join}
 use Rattle.mst_change.specs.Cost.{side_rows, join_rows}
-use Rattle.mst_path.specs.Moves.{In, IsAlive, IsOld}
+use Rattle.mst_path.specs.Moves.{IsAlive, IsOld}
 use Rattle.mst_path.specs.Runs.{OldPiece, Run, gaps_used, EachGap}
 use Rattle.mst_path.specs.Making.{BackRun, HasTail, cell_of, cells_of, entries_to, others}
 use Rattle.mst_path.specs.Joining.{TwoTrees, height, height_at, Met, above_right, below_right, beside_right}

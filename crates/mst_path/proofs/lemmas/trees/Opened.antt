@@ -5,7 +5,7 @@ use Rattle.mst_key.specs.declared.format.Format.TheVariants.{One}
 use Rattle.mst_node.specs.Tree.{Tree, node, entry}
 use Rattle.mst_arena.specs.Content.{Content, part_at}
 use Rattle.mst_arena.specs.Lives.{State}
-use Rattle.mst_arena.specs.Lists.{times}
+use Rattle.mst_arena.specs.Lists.{In, times}
 use Rattle.mst_arena.specs.Row.{head_links}
 use Rattle.mst_arena.specs.declared.row.Row.TheVariants.{Entry}
 use Rattle.mst_arena.specs.Standing.{Placed, none, head, Chain, end, cell, tree_of, entries_of, link_of, first_of, tail_of, rows_of, chain_rows, used, chain_used, HasRows}
@@ -13,7 +13,7 @@ use Rattle.mst_arena.proofs.ListLemmas.{times-append}
 use Rattle.mst_arena.proofs.Stands.{all-front, all-back}
 use Rattle.mst_path.specs.declared.making.Run.{Run as Entries_at}
 use Rattle.mst_change.specs.Parts.{first_child, with_first}
-use Rattle.mst_path.specs.Moves.{In, IsOld}
+use Rattle.mst_path.specs.Moves.{IsOld}
 use Rattle.mst_path.specs.Runs.{OldPiece, Run, own_rows, own, gaps_used, EachGap}
 use Rattle.mst_path.specs.Writing.{PlacedEntry, chain_of, link_from}
 use Rattle.mst_path.specs.Making.{others, HasTail, entries_to, BackRun, OldTree}

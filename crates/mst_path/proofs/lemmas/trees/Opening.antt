@@ -6,7 +6,7 @@ use Rattle.mst_node.specs.Tree.{node, entry, entry_count}
 use Rattle.mst_node.specs.Shape.{TreeEntry}
 use Rattle.mst_arena.specs.Content.{Content, part_at}
 use Rattle.mst_arena.specs.Lives.{State}
-use Rattle.mst_arena.specs.Lists.{times, bit}
+use Rattle.mst_arena.specs.Lists.{In, times, bit}
 use Rattle.mst_arena.specs.Row.{head_links}
 use Rattle.mst_arena.specs.declared.row.Row.{Row}
 use Rattle.mst_arena.specs.declared.row.Row.TheVariants.{Entry}
@@ -15,7 +15,7 @@ use Rattle.mst_arena.specs.Standing.{Placed, none as no_tree, head as tree_head,
 use Rattle.mst_arena.proofs.ListLemmas.{times-append}
 use Rattle.mst_arena.proofs.Stands.{all-front, all-back}
 use Rattle.mst_change.specs.Parts.{cells, last_child}
-use Rattle.mst_path.specs.Moves.{In, IsOld}
+use Rattle.mst_path.specs.Moves.{IsOld}
 use Rattle.mst_path.specs.Runs.{OldPiece, Run, own_rows, own, gaps_used, EachGap}
 use Rattle.mst_path.specs.Making.{cell_of, cells_of, entries_to}
 use Rattle.mst_path.specs.Writing.{PlacedEntry, link_from}

@@ -6,12 +6,12 @@ use Rattle.mst_node.specs.Tree.{Tree, Entries, entry_count, IsMst, IsMstEntries}
 use Rattle.mst_node.specs.Shape.{with_entries}
 use Rattle.mst_arena.specs.Content.{Content}
 use Rattle.mst_arena.specs.Lives.{State}
-use Rattle.mst_arena.specs.Lists.{times}
+use Rattle.mst_arena.specs.Lists.{In, times}
 use Rattle.mst_arena.specs.Standing.{Placed, none as no_tree, tree_of, link_of, used, HasRows}
 use Rattle.mst_arena.specs.declared.row.Row.TheVariants.{Entry}
 use Rattle.mst_arena.proofs.ListLemmas.{times-append}
 use Rattle.mst_change.specs.Parts.{first_child, with_first}
-use Rattle.mst_path.specs.Moves.{In, IsOld}
+use Rattle.mst_path.specs.Moves.{IsOld}
 use Rattle.mst_path.specs.Runs.{OldPiece, Run, own_rows, own, gaps_used, EachGap}
 use Rattle.mst_path.specs.Making.{BackRun, cells_of, entries_to, others, tail_behind}
 use Rattle.mst_path.specs.Cutting.{gap_before}

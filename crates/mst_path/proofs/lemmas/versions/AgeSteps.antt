@@ -17,13 +17,13 @@ use Rattle.mst_node.specs.Tree.{Tree, tree}
 use Rattle.mst_node.proofs.HeldLaws.{lasts_here, lasts_on, lasts_stands}
 use Rattle.mst_node.proofs.InTrees.{is_old}
 use Rattle.mst_arena.specs.Lives.{State, version, next, reaches, reached_at, swept_life}
-use Rattle.mst_arena.specs.Lists.{times, bit}
+use Rattle.mst_arena.specs.Lists.{In, times, bit}
 use Rattle.mst_arena.specs.declared.life.Life.{Life}
 use Rattle.mst_arena.specs.declared.life.Life.TheVariants.{Free, Born, Dead}
 use Rattle.mst_arena.specs.Standing.{Placed, none, head, Chain, end, cell, tree_of, used, chain_used}
 use Rattle.mst_arena.proofs.ListLemmas.{times-append}
 use Rattle.mst_path.specs.Ages.{placed_nodes, chain_nodes, chain_own, top_rows, IsAged, HasAge, HasAges}
-use Rattle.mst_path.specs.Moves.{In, IsNew}
+use Rattle.mst_path.specs.Moves.{IsNew}
 use Rattle.mst_path.specs.Reached.{ReachesExactly, Changes, IsSettled, swept_by}
 use Rattle.mst_path.proofs.lemmas.versions.NodeAges.{node_in}
 use Rattle.mst_path.proofs.lemmas.versions.Reached.{older, newest, has_in, some_reach}

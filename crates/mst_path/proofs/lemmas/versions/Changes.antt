@@ -12,12 +12,12 @@ use Rattle.mst_node.specs.Cost.{cost}
 use Rattle.mst_node.proofs.Unique.{pairs_tree, tree_mst}
 use Rattle.mst_arena.specs.Content.{Content}
 use Rattle.mst_arena.specs.Lives.{State, free_count}
-use Rattle.mst_arena.specs.Lists.{times, bit}
+use Rattle.mst_arena.specs.Lists.{In, times, bit}
 use Rattle.mst_arena.specs.declared.life.Life.TheVariants.{Free}
 use Rattle.mst_arena.specs.declared.row.Root.{Root}
 use Rattle.mst_arena.specs.Standing.{Placed, tree_of, used, IsDistinct, Stands, numbers}
 use Rattle.mst_arena.proofs.Stands.{one_placed}
-use Rattle.mst_path.specs.Moves.{In, IsOld, IsKilled}
+use Rattle.mst_path.specs.Moves.{IsOld, IsKilled}
 use Rattle.mst_path.specs.Made.{IsMade}
 use Rattle.mst_path.specs.Making.{Grown}
 use Rattle.mst_path.specs.Removing.{SearchTree}

@@ -11,12 +11,11 @@ use Rattle.mst_node.specs.Stays.{tree_at, lasts, is_kept, has_stayed, rows_first
 use Rattle.mst_node.specs.Tree.{Tree, tree}
 use Rattle.mst_node.proofs.HeldLaws.{weigh, weigh_is, weigh-append}
 use Rattle.mst_arena.specs.Lives.{State, version, reaches, free_count}
-use Rattle.mst_arena.specs.Lists.{times, bit}
+use Rattle.mst_arena.specs.Lists.{In, times, bit}
 use Rattle.mst_arena.specs.Standing.{Placed, none, head, Chain, end, cell, tree_of, entries_of, used, chain_used, IsDistinct}
 use Rattle.mst_arena.specs.declared.life.Life.{Life}
 use Rattle.mst_arena.proofs.ListLemmas.{times-append}
 use Rattle.mst_path.specs.Ages.{placed_nodes, chain_nodes, chain_own, top_rows, HasPlace, HasAge}
-use Rattle.mst_path.specs.Moves.{In}
 use Rattle.mst_path.specs.Reached.{TogetherReach, IsSettled, swept_by}
 use Rattle.mst_path.proofs.lemmas.versions.Changes.{distinct_times, times_distinct}
 use Rattle.mst_path.proofs.lemmas.rows.FreeCounts.{count_swept, any_in}

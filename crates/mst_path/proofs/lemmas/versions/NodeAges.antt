@@ -13,7 +13,7 @@ use Rattle.mst_node.proofs.InTrees.{InTree, InEntries, is_old}
 use Rattle.mst_change.proofs.Cost.Fresh.{fresh, fresh_in, new_rows_fresh}
 use Rattle.mst_arena.specs.Content.{Content}
 use Rattle.mst_arena.specs.Lives.{State, version, next, free_count}
-use Rattle.mst_arena.specs.Lists.{times, bit}
+use Rattle.mst_arena.specs.Lists.{In, times, bit}
 use Rattle.mst_arena.specs.declared.row.Row.TheVariants.{Head}
 use Rattle.mst_arena.specs.Standing.{Placed, none, head, Chain, end, cell, tree_of, entries_of, link_of, rows_of, chain_rows, used, chain_used, HasRows}
 use Rattle.mst_arena.proofs.ListLemmas.{times-append}
@@ -21,7 +21,7 @@ use Rattle.mst_arena.proofs.Stands.{all-append, all-front, all-back, one_placed,
 use Rattle.mst_path.specs.Ages.{placed_nodes, chain_nodes, chain_own, top_rows, IsAged}
 use Rattle.mst_path.specs.Changing.{AreOld, OnlyFreeWritten}
 use Rattle.mst_path.specs.Made.{IsMade, IsMadeChain}
-use Rattle.mst_path.specs.Moves.{In, IsOld, IsNew}
+use Rattle.mst_path.specs.Moves.{IsOld, IsNew}
 use Rattle.mst_path.specs.Reached.{Changes}
 use Rattle.mst_path.proofs.lemmas.rows.Copies.{at_self, all_in}
 use Rattle.mst_path.proofs.lemmas.rows.FreeCounts.{count_change}

@@ -7,12 +7,12 @@ use Rattle.std.proofs.lemmas.List.{get_or-set_same}
 use Rattle.std.proofs.lemmas.Option.{slice_get-map, slice_get-get_or}
 use Rattle.mst_arena.specs.Lives.{State, version, next, reaches, reached_at, reaches_life, SameReach, swept_life}
 use Rattle.mst_arena.specs.Content.{Content}
-use Rattle.mst_arena.specs.Lists.{times, bit}
+use Rattle.mst_arena.specs.Lists.{In, times, bit}
 use Rattle.mst_arena.specs.declared.life.Life.{Life}
 use Rattle.mst_arena.specs.declared.life.Life.TheVariants.{Free, Born, Dead}
 use Rattle.mst_arena.proofs.Reach.{born_later, dies_later, died, same_sweep}
 use Rattle.mst_path.specs.Takes.{Takes, KeepsBut}
-use Rattle.mst_path.specs.Moves.{In, IsKilled, Moves}
+use Rattle.mst_path.specs.Moves.{IsKilled, Moves}
 use Rattle.mst_path.specs.Changing.{AreOld, IsOnlyIn, IsTaken, OnlyFreeWritten}
 use Rattle.mst_path.proofs.lemmas.rows.Moving.{moves_takes, not_in, out_of_times}
 use Rattle.mst_path.specs.Reached.{ReachesExactly, Changes, advanced, swept_by, IsPast, IsSettled}

@@ -9,7 +9,7 @@ use Rattle.mst_node.specs.Tree.{empty}
 use Rattle.mst_node.specs.Tree as nodes
 use Rattle.mst_arena.specs.Content.{Content}
 use Rattle.mst_arena.specs.Lives.{State, version, next, reached_at, reaches, free_count}
-use Rattle.mst_arena.specs.Lists.{times, bit}
+use Rattle.mst_arena.specs.Lists.{In, times, bit}
 use Rattle.mst_arena.specs.declared.life.Life.{Life}
 use Rattle.mst_arena.specs.declared.life.Life.TheVariants.{Free}
 use Rattle.mst_arena.specs.declared.row.Root.{Root}
@@ -17,7 +17,6 @@ use Rattle.mst_arena.specs.Standing.{Placed, none, head, tree_of, used, IsDistin
 use Rattle.mst_arena.proofs.Stands.{placed_frame, all-append, all-front, all-back}
 use Rattle.mst_arena.proofs.ListLemmas.{times-append}
 use Rattle.mst_path.specs.Takes.{Takes, KeepsBut}
-use Rattle.mst_path.specs.Moves.{In}
 use Rattle.mst_path.specs.Changing.{OnlyFreeWritten}
 use Rattle.mst_path.specs.Reached.{IsReached, Changes, advanced, swept_by, IsPast, IsSettled}
 use Rattle.mst_path.specs.Versions.{HasMap, Kept, numbers_kept, AreNumbers, HaveMaps, rows_kept, Keeps}
