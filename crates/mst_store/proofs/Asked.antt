@@ -4,37 +4,27 @@ use mathlib.Core.Logic.{dite}
 use native.Mathlib.Decide.{ℕ_discrete}
 use Rattle.std.proofs.lemmas.Bool.{eq-eqb}
 use Rattle.std.proofs.lemmas.Bool.Decides.{nat_tests}
-use Rattle.mst_arena.specs.Lists.{bit}
 use Rattle.mst_arena.specs.Lives.{State, version}
 use Rattle.mst_arena.proofs.ListLemmas.{times-append}
-use Rattle.mst_arena.specs.Lists as moves
-use Rattle.mst_path.proofs.lemmas.rows.Moving.{one_row}
-use Rattle.mst_words.specs.Pins.{In}
+use Rattle.mst_arena.specs.Lists.{In}
+use Rattle.mst_path.proofs.lemmas.rows.Moving.{in_either, one_row}
 use Rattle.mst_words.specs.Steps.{Drained, Blocked}
 use Rattle.mst_words.specs.Stored.{stored}
 use Rattle.mst_store.specs.Turns.{Seat, StoodAtAsk}
 use Rattle.mst_store.specs.Asking.{KnowsRecords, HasAsked, AsksEach}
 use Rattle.mst_store.specs.declared.turn.Asked.{Asked}
-use Rattle.mst_words.proofs.Members.{counted}
+use Rattle.mst_words.proofs.Members.{in_nothing, in_first, in_later, in_cases}
 
 -- the last of a list stands in it, and so do those before it
-pub in_last : (x : ℕ) (xs : List ℕ) → moves.In x (xs ++ x ∷ [])
-in_last x xs = let own = counted x (x ∷ []) (inl refl) in omega (arith, times-append x xs (x ∷ []), own)
+pub in_last : (x : ℕ) (xs : List ℕ) → In x (xs ++ x ∷ [])
+in_last x xs = omega (arith, times-append x xs (x ∷ []), in_first x x [] refl)
 
 length-snoc : (xs : List ℕ) (x : ℕ) → length (xs ++ x ∷ []) ≡ length xs + 1
 length-snoc [] x = refl
 length-snoc (y ∷ ys) x = let more = length-snoc ys x in omega (arith, more)
 
-pub in_front : (x : ℕ) (xs ys : List ℕ) → moves.In x xs → moves.In x (xs ++ ys)
+pub in_front : (x : ℕ) (xs ys : List ℕ) → In x xs → In x (xs ++ ys)
 in_front x xs ys i = omega (arith, times-append x xs ys, i)
-
--- what stands in a list with one more stood there, or is that one
-in_snoc : (x : ℕ) (xs : List ℕ) (y : ℕ) → moves.In x (xs ++ y ∷ []) → moves.In x xs ⊎ (x ≡ y)
-in_snoc x xs y i = go (eqb x y) refl
-  where
-    go : (t : Bool) → eqb x y ≡ t → moves.In x xs ⊎ (x ≡ y)
-    go true e = inr (grind (arith, nat_tests))
-    go false e = inl (omega (arith, times-append x xs (y ∷ []), ap bit e, i))
 
 pub asked_none : (desk : State) (a : Asked) (m : Seat) → KnowsRecords desk m → m.0.drained ≡ [] → m.0.blocked ≡ [] → a.live.items ≡ version desk ∷ [] → HasAsked 0 desk a m
 asked_none desk a m k d b is =
@@ -47,13 +37,13 @@ asked_none desk a m k d b is =
       behind = λ l. absurd (omega (arith, l));
       fewer = let some = k.some in omega (arith, no_blocked, some);
       room = omega (arith, one, no_blocked);
-      blocked = λ r within. absurd (subst (λ (z : List ℕ). In r z) b within);
-      drained = λ r within. absurd (subst (λ (z : List ℕ). In r z) d within);
-      now = subst (λ (z : List ℕ). moves.In (version desk) z) (sym is) (counted (version desk) (version desk ∷ []) (inl refl));
+      blocked = λ r within. absurd (in_nothing r (subst (λ (z : List ℕ). In r z) b within));
+      drained = λ r within. absurd (in_nothing r (subst (λ (z : List ℕ). In r z) d within));
+      now = subst (λ (z : List ℕ). In (version desk) z) (sym is) (in_first (version desk) (version desk) [] refl);
       others = λ r l other out. absurd (omega (arith, l));
-      only = λ v i. inl (one_row v (version desk) (subst (λ (z : List ℕ). moves.In v z) is i));
+      only = λ v i. inl (one_row v (version desk) (subst (λ (z : List ℕ). In v z) is i));
       found = λ r l other out. absurd (omega (arith, l));
-      stood = λ r within. absurd (subst (λ (z : List ℕ). In r z) b within);
+      stood = λ r within. absurd (in_nothing r (subst (λ (z : List ℕ). In r z) b within));
       into = λ some. absurd (omega (arith, some, no_drained));
     }
 
@@ -91,17 +81,17 @@ asked_drained n desk a b m m' h other is live into = subst (λ (z : Seat). HasAs
           room = ap (λ z. length z.items) live ∙ h.room;
           blocked = λ r within. let l = h.blocked r within in omega (arith, l);
           drained = λ r within. ⊎_elim (λ (e : r ≡ n). (omega (arith, e), λ (f : r ≡ desk.current). other (sym e ∙ f)))
-              (λ (t : In r m.0.drained). let d = h.drained r t in let l = d.0 in (omega (arith, l), d.1)) within;
-          now = subst (λ z. moves.In (version desk) z.items) (sym live) h.now;
-          others = λ r l o out. subst (λ z. moves.In (slice_index desk.versions r) z.items) (sym live)
-              (h.others r (let not : (r ≡ n → ⊥) = λ e. out (inl e) in omega (arith, l, not)) o (λ t. out (inr t)));
+              (λ (t : In r m.0.drained). let d = h.drained r t in let l = d.0 in (omega (arith, l), d.1)) (in_cases r n m.0.drained within);
+          now = subst (λ z. In (version desk) z.items) (sym live) h.now;
+          others = λ r l o out. subst (λ z. In (slice_index desk.versions r) z.items) (sym live)
+              (h.others r (let not : (r ≡ n → ⊥) = λ e. out (in_first r n m.0.drained e) in omega (arith, l, not)) o (λ t. out (in_later r n m.0.drained t)));
           only = λ v i. ⊎_elim (λ e. inl e)
               (λ (t : (r : ℕ) × (r < n) × (In r m.0.drained → ⊥) × (v ≡ slice_index desk.versions r)).
-              let l = t.1 in inr (t.0, omega (arith, l), (λ within. ⊎_elim (λ (e : t.0 ≡ n). absurd (omega (arith, l, e))) t.2 within), t.3))
-              (h.only v (subst (λ z. moves.In v z.items) live i));
-          found = λ r l o out. h.found r (let not : (r ≡ n → ⊥) = λ e. out (inl e) in omega (arith, l, not)) o (λ t. out (inr t));
+              let l = t.1 in inr (t.0, omega (arith, l), (λ within. ⊎_elim (λ (e : t.0 ≡ n). absurd (omega (arith, l, e))) t.2 (in_cases t.0 n m.0.drained within)), t.3))
+              (h.only v (subst (λ z. In v z.items) live i));
+          found = λ r l o out. h.found r (let not : (r ≡ n → ⊥) = λ e. out (in_first r n m.0.drained e) in omega (arith, l, not)) o (λ t. out (in_later r n m.0.drained t));
           stood = h.stood;
-          into = λ some. inl into;
+          into = λ some. in_first b.into n m.0.drained into;
         }
 
 -- a record is pinned, and its version live
@@ -120,22 +110,22 @@ asked_blocked n desk a b m m' h other is live into = subst (λ (z : Seat). HasAs
           behind = λ l. let e = h.behind (omega (arith, l, other)) in omega (arith, e, one);
           fewer = let f = is.fewer in omega (arith, f, one);
           room = let r = h.room in omega (arith, longer, r, one);
-          blocked = λ r within. ⊎_elim (λ (e : r ≡ n). omega (arith, e)) (λ (t : In r m.0.blocked). let l = h.blocked r t in omega (arith, l)) within;
+          blocked = λ r within. ⊎_elim (λ (e : r ≡ n). omega (arith, e)) (λ (t : In r m.0.blocked). let l = h.blocked r t in omega (arith, l)) (in_cases r n m.0.blocked within);
           drained = λ r within. let d = h.drained r within in let l = d.0 in (omega (arith, l), d.1);
-          now = subst (λ (z : List ℕ). moves.In (version desk) z) (sym live) (in_front (version desk) a.live.items (slice_index desk.versions n ∷ []) h.now);
-          others = λ r l o out. subst (λ (z : List ℕ). moves.In (slice_index desk.versions r) z) (sym live) (go r l o out (eqb r n) refl);
+          now = subst (λ (z : List ℕ). In (version desk) z) (sym live) (in_front (version desk) a.live.items (slice_index desk.versions n ∷ []) h.now);
+          others = λ r l o out. subst (λ (z : List ℕ). In (slice_index desk.versions r) z) (sym live) (go r l o out (eqb r n) refl);
           only = λ v i. ⊎_elim
               (λ old. ⊎_elim (λ e. inl e) (λ t. inr (t.0, (let l = t.1 in omega (arith, l)), t.2, t.3)) (h.only v old))
-              (λ (last : v ≡ slice_index desk.versions n). inr (n, omega arith, (λ within. let l = (h.drained n within).0 in absurd (omega (arith, l))), last))
-              (in_snoc v a.live.items (slice_index desk.versions n) (subst (λ (z : List ℕ). moves.In v z) live i));
-          found = λ r l o out. dite (ℕ_discrete r n) (λ e. inl e) (λ not. inr (h.found r (omega (arith, l, not)) o out));
-          stood = λ r within. ⊎_elim (λ (e : r ≡ n). subst (λ (z : ℕ). StoodAtAsk z m.0) (sym e) (is.place, is.used, is.stands)) (λ (t : In r m.0.blocked). h.stood r t) within;
+              (λ (last : In v (slice_index desk.versions n ∷ [])). inr (n, omega arith, (λ within. let l = (h.drained n within).0 in absurd (omega (arith, l))), one_row v (slice_index desk.versions n) last))
+              (in_either v a.live.items (slice_index desk.versions n ∷ []) (subst (λ (z : List ℕ). In v z) live i));
+          found = λ r l o out. dite (ℕ_discrete r n) (λ e. in_first r n m.0.blocked e) (λ not. in_later r n m.0.blocked (h.found r (omega (arith, l, not)) o out));
+          stood = λ r within. ⊎_elim (λ (e : r ≡ n). subst (λ (z : ℕ). StoodAtAsk z m.0) (sym e) (is.place, is.used, is.stands)) (λ (t : In r m.0.blocked). h.stood r t) (in_cases r n m.0.blocked within);
           into = λ some. subst (λ (z : ℕ). In z m.0.drained) (sym into) (h.into some);
         }
       where
-        go : (r : ℕ) → r < n + 1 → (r ≡ desk.current → ⊥) → (In r m.0.drained → ⊥) → (t : Bool) → eqb r n ≡ t → moves.In (slice_index desk.versions r) (a.live.items ++ slice_index desk.versions n ∷ [])
+        go : (r : ℕ) → r < n + 1 → (r ≡ desk.current → ⊥) → (In r m.0.drained → ⊥) → (t : Bool) → eqb r n ≡ t → In (slice_index desk.versions r) (a.live.items ++ slice_index desk.versions n ∷ [])
         go r l o out true e = let same : r ≡ n = grind (arith, nat_tests) in
-            subst (λ (z : ℕ). moves.In (slice_index desk.versions z) (a.live.items ++ slice_index desk.versions n ∷ [])) (sym same) (in_last (slice_index desk.versions n) a.live.items)
+            subst (λ (z : ℕ). In (slice_index desk.versions z) (a.live.items ++ slice_index desk.versions n ∷ [])) (sym same) (in_last (slice_index desk.versions n) a.live.items)
         go r l o out false e = in_front (slice_index desk.versions r) a.live.items (slice_index desk.versions n ∷ [])
             (h.others r (let not : (r ≡ n → ⊥) = λ same. (let yes = eq-eqb r n same in cc) in omega (arith, l, not)) o out)
 

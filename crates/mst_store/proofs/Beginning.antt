@@ -14,7 +14,7 @@ use Rattle.mst_arena.specs.declared.life.Life.{Life}
 use Rattle.mst_arena.specs.declared.life.Life.TheVariants.{Free, Born, Dead}
 use Rattle.mst_arena.specs.Standing.{IsDistinct, numbers}
 use Rattle.mst_arena.specs.declared.row.Root.{Root}
-use Rattle.mst_arena.specs.Lists as moves
+use Rattle.mst_arena.specs.Lists.{In}
 use Rattle.mst_path.specs.Ages.{HasPlace}
 use Rattle.mst_path.specs.Reached.{TogetherReach, swept_by}
 use Rattle.mst_path.proofs.lemmas.rows.FreeCounts.{count_swept}
@@ -22,7 +22,6 @@ use Rattle.mst_path.proofs.lemmas.versions.KeptRoom.{held_free}
 use Rattle.mst_path.proofs.lemmas.versions.Reached.{same_swept, settled_swept, free_swept, some_reach}
 use Rattle.mst_words.specs.declared.view.View.{View}
 use Rattle.mst_words.specs.Layout.{row_word}
-use Rattle.mst_words.specs.Pins.{In}
 use Rattle.mst_words.specs.Records.{IsBlank, row, field}
 use Rattle.mst_words.specs.Steps.{IsHolder, Takes, IsGiving}
 use Rattle.mst_words.specs.Stored.{rows_in, root_in, stored, state_of, desk_state}
@@ -35,9 +34,9 @@ use Rattle.mst_store.specs.declared.turn.Turn.{Turn}
 use Rattle.mst_store.specs.Asking.{KnowsRecords, HasAsked, AsksOnly, AsksEach}
 use Rattle.mst_store.specs.Turns.{Seat, StoodAtAsk, IsKept, AreKept, LeavesFree, HoldsDesk, HasTurn, TakesDesk}
 use Rattle.mst_store.proofs.Asked.{some_drained}
-use Rattle.mst_words.proofs.Members.{counted, found}
+use Rattle.mst_words.proofs.Members.{each}
 use Rattle.mst_store.proofs.Places.{reached_inside, place_of}
-use Rattle.mst_store.proofs.Pinning.{link_of_root, in_list, each}
+use Rattle.mst_store.proofs.Pinning.{link_of_root, in_list}
 
 -- the holder of the turn may read each row
 pub reads_held : (v : View) (x : ℕ) → v.turn ≡ true → x < v.rows → content_of v x ≡ rows_in (row v.known_words) x
@@ -49,13 +48,13 @@ all_below_true zero p all = refl
 all_below_true (suc n) p all = ap (λ (b : Bool). b && all_below n p) (all n (omega arith)) ∙ all_below_true n p (λ r l. all r (omega (arith, l)))
 
 -- a row that a live version reaches keeps its life in a sweep
-kept_life : (live : List ℕ) (o : Option Life) (v : ℕ) → moves.In v live → reached_at o v ≡ true → option_map (swept_life live) o ≡ o
+kept_life : (live : List ℕ) (o : Option Life) (v : ℕ) → In v live → reached_at o v ≡ true → option_map (swept_life live) o ≡ o
 kept_life live None v i is = refl
 kept_life live (Some Free) v i is = refl
 kept_life live (Some (Born b)) v i is = refl
 kept_life live (Some (Dead b d)) v i is = ap (λ (t : Bool). Some (if t then Dead b d else Free)) (some_reach (Dead b d) live v i is)
 
-same_ages : (live : List ℕ) (lives : List Life) (v x w : ℕ) → moves.In v live → reaches lives v x ≡ true → reaches (map (swept_life live) lives) w x ≡ reaches lives w x
+same_ages : (live : List ℕ) (lives : List Life) (v x w : ℕ) → In v live → reaches lives v x ≡ true → reaches (map (swept_life live) lives) w x ≡ reaches lives w x
 same_ages live lives v x w i is = ap (λ (o : Option Life). reached_at o w) (slice_get-map (swept_life live) lives x ∙ kept_life live (slice_get lives x) v i is)
 
 is_not : (t : Bool) → (t ≡ true → ⊥) → t ≡ false
@@ -64,11 +63,11 @@ is_not false other = refl
 
 module _ (n : ℕ) (desk : State) (a : Asked) (m : Seat) (h : HasAsked n desk a m) where
   -- the version of a record that was not found drained is live
-  live_of : (r : ℕ) → r < n → (In r m.0.drained → ⊥) → moves.In (slice_index desk.versions r) a.live.items
+  live_of : (r : ℕ) → r < n → (In r m.0.drained → ⊥) → In (slice_index desk.versions r) a.live.items
   live_of r l out = go (eqb r desk.current) refl
     where
-      go : (t : Bool) → eqb r desk.current ≡ t → moves.In (slice_index desk.versions r) a.live.items
-      go true e = let same : r ≡ desk.current = grind (arith, nat_tests) in subst (λ (z : ℕ). moves.In (slice_index desk.versions z) a.live.items) (sym same) h.now
+      go : (t : Bool) → eqb r desk.current ≡ t → In (slice_index desk.versions r) a.live.items
+      go true e = let same : r ≡ desk.current = grind (arith, nat_tests) in subst (λ (z : ℕ). In (slice_index desk.versions z) a.live.items) (sym same) h.now
       go false e = let other : (r ≡ desk.current → ⊥) = grind (arith, nat_tests) in h.others r l other out
 
   -- such a version reaches the same rows after the sweep
@@ -134,13 +133,13 @@ module _ (before taken : Seat) (p : Takes stored before taken) where
 
   -- the versions that are live are those of the current record and of the records that were found
   -- pinned
-  kept_of : (drained blocked : List ℕ) (asked : ℕ) (a : Asked) → HasAsked (before.0.passes + 2) (state_of p.desk) a (asked_seat drained blocked asked) → (v : ℕ) → moves.In v a.live.items → IsKept (state_of p.desk) (asked_view drained blocked asked) v
+  kept_of : (drained blocked : List ℕ) (asked : ℕ) (a : Asked) → HasAsked (before.0.passes + 2) (state_of p.desk) a (asked_seat drained blocked asked) → (v : ℕ) → In v a.live.items → IsKept (state_of p.desk) (asked_view drained blocked asked) v
   kept_of drained blocked asked a h v i = ⊎_elim
       (λ (e : v ≡ version (state_of p.desk)). (p.desk.current, h.knows.there, (λ within. (h.drained p.desk.current within).1 refl), e))
       (λ (t : (r : ℕ) × (r < before.0.passes + 2) × (In r drained → ⊥) × (v ≡ slice_index p.desk.versions r)). t) (h.only v i)
 
-  live_kept : (drained blocked : List ℕ) (asked : ℕ) (a : Asked) → HasAsked (before.0.passes + 2) (state_of p.desk) a (asked_seat drained blocked asked) → (v : ℕ) → IsKept (state_of p.desk) (asked_view drained blocked asked) v → moves.In v a.live.items
-  live_kept drained blocked asked a h v (r, l, out, is) = subst (λ (n : ℕ). moves.In n a.live.items) (sym is) (live_of (before.0.passes + 2) (state_of p.desk) a (asked_seat drained blocked asked) h r l out)
+  live_kept : (drained blocked : List ℕ) (asked : ℕ) (a : Asked) → HasAsked (before.0.passes + 2) (state_of p.desk) a (asked_seat drained blocked asked) → (v : ℕ) → IsKept (state_of p.desk) (asked_view drained blocked asked) v → In v a.live.items
+  live_kept drained blocked asked a h v (r, l, out, is) = subst (λ (n : ℕ). In n a.live.items) (sym is) (live_of (before.0.passes + 2) (state_of p.desk) a (asked_seat drained blocked asked) h r l out)
 
   free_blank : (drained blocked : List ℕ) (asked : ℕ) (a : Asked) → HasAsked (before.0.passes + 2) (state_of p.desk) a (asked_seat drained blocked asked) → (x : ℕ)
       → is_blank (asked_view drained blocked asked) x ≡ true → slice_get (map (swept_life a.live.items) p.desk.lives) x ≡ Some Free
@@ -153,7 +152,7 @@ module _ (before taken : Seat) (p : Takes stored before taken) where
   counted_rows : (drained blocked : List ℕ) (asked : ℕ) (a : Asked) → HasAsked (before.0.passes + 2) (state_of p.desk) a (asked_seat drained blocked asked) → (live rows : List ℕ) → AreKept (swept_by a.live.items (state_of p.desk)) (asked_view drained blocked asked) live
       → IsDistinct rows → TogetherReach (map (swept_life a.live.items) p.desk.lives) live rows → free_count (map (swept_life a.live.items) p.desk.lives) + length rows ≡ before.0.rows
   counted_rows drained blocked asked a h live rows kept once together =
-      let same : (v : ℕ) → moves.In v a.live.items → (x : ℕ) → reaches (map (swept_life a.live.items) p.desk.lives) v x ≡ reaches p.desk.lives v x = λ v i x. same_swept (state_of p.desk) a.live.items v x i in
+      let same : (v : ℕ) → In v a.live.items → (x : ℕ) → reaches (map (swept_life a.live.items) p.desk.lives) v x ≡ reaches p.desk.lives v x = λ v i x. same_swept (state_of p.desk) a.live.items v x i in
       count_swept (state_of p.desk) a.live.items rows p.is_desk.settled h.now once
       (λ x. (
         (λ (v, i, is). (together x).0 (v, (kept v).1 (kept_of drained blocked asked a h v i), same v i x ∙ is)),
@@ -187,17 +186,17 @@ module _ (before taken : Seat) (p : Takes stored before taken) where
       }
 
   -- after the sweep the current version reaches exactly the rows that stand for the map
-  reached_now : (a : Asked) → moves.In (version (state_of p.desk)) a.live.items → (x : ℕ) → reaches (map (swept_life a.live.items) p.desk.lives) (version (state_of p.desk)) x ≡ true ↔ moves.In x p.used
+  reached_now : (a : Asked) → In (version (state_of p.desk)) a.live.items → (x : ℕ) → reaches (map (swept_life a.live.items) p.desk.lives) (version (state_of p.desk)) x ≡ true ↔ In x p.used
   reached_now a now x =
       let same : reaches (map (swept_life a.live.items) p.desk.lives) (version (state_of p.desk)) x ≡ reaches p.desk.lives (version (state_of p.desk)) x = same_swept (state_of p.desk) a.live.items (version (state_of p.desk)) x now in
       let number : version (state_of p.desk) ≡ length p.log = p.stands.filed in (
         λ is. let old : reaches p.desk.lives (length p.log) x ≡ true = subst (λ (v : ℕ). reaches p.desk.lives v x ≡ true) number (sym same ∙ is) in
-            counted x p.used (p.stands.exactly x (let inside = reached_inside p.desk.lives (length p.log) x old in let r = p.is_desk.rows_is in omega (arith, inside, r)) old),
-        λ i. same ∙ subst (λ (v : ℕ). reaches p.desk.lives v x ≡ true) (sym number) (p.stands.reached x (found x p.used i)),
+            p.stands.exactly x (let inside = reached_inside p.desk.lives (length p.log) x old in let r = p.is_desk.rows_is in omega (arith, inside, r)) old,
+        λ i. same ∙ subst (λ (v : ℕ). reaches p.desk.lives v x ≡ true) (sym number) (p.stands.reached x i),
       )
 
   -- each version that is live has its place in rows
-  places : (drained blocked : List ℕ) (asked : ℕ) (a : Asked) → HasAsked (before.0.passes + 2) (state_of p.desk) a (asked_seat drained blocked asked) → (v : ℕ) → moves.In v a.live.items → (v ≤ length p.log) × HasPlace p.desk.lives p.log v
+  places : (drained blocked : List ℕ) (asked : ℕ) (a : Asked) → HasAsked (before.0.passes + 2) (state_of p.desk) a (asked_seat drained blocked asked) → (v : ℕ) → In v a.live.items → (v ≤ length p.log) × HasPlace p.desk.lives p.log v
   places drained blocked asked a h v i = ⊎_elim (λ (e : v ≡ version (state_of p.desk)). current v e)
       (λ (t : (r : ℕ) × (r < before.0.passes + 2) × (In r drained → ⊥) × (v ≡ slice_index p.desk.versions r)). dite (ℕ_discrete t.0 p.desk.current)
       (λ same. current v (t.3 ∙ ap (λ (r : ℕ). slice_index p.desk.versions r) same))
@@ -210,16 +209,16 @@ module _ (before taken : Seat) (p : Takes stored before taken) where
   leaves : (drained blocked : List ℕ) (asked : ℕ) (a : Asked) → HasAsked (before.0.passes + 2) (state_of p.desk) a (asked_seat drained blocked asked) → LeavesFree (map (swept_life a.live.items) p.desk.lives) p.log (length a.live.items) before.0.rows
   leaves drained blocked asked a h = record {
     live = a.live.items;
-    now = subst (λ (v : ℕ). moves.In v a.live.items) p.stands.filed h.now;
+    now = subst (λ (v : ℕ). In v a.live.items) p.stands.filed h.now;
     below = λ v i. (places drained blocked asked a h v i).0;
     as_many = refl;
     left = held_free (state_of p.desk) p.log a.live.items p.is_desk.settled h.now (places drained blocked asked a h) ∙ p.is_desk.rows_is;
   }
 
   -- the rows of the map keep their ages in the sweep
-  swept_ages : (a : Asked) → moves.In (version (state_of p.desk)) a.live.items → SameAges p.desk.lives (map (swept_life a.live.items) p.desk.lives) p.log (numbers p.stands.aged.0.0)
+  swept_ages : (a : Asked) → In (version (state_of p.desk)) a.live.items → SameAges p.desk.lives (map (swept_life a.live.items) p.desk.lives) p.log (numbers p.stands.aged.0.0)
   swept_ages a now x v i le =
-      let within : In x p.used = subst (In x) p.stands.aged.0.1 (found x (numbers p.stands.aged.0.0) i) in
+      let within : In x p.used = subst (In x) p.stands.aged.0.1 i in
       same_ages a.live.items p.desk.lives (version (state_of p.desk)) x v now (subst (λ (n : ℕ). reaches p.desk.lives n x ≡ true) (sym p.stands.filed) (p.stands.reached x within))
 
   known : {A : Type 0} (drained blocked : List ℕ) (asked : ℕ) (a : Asked) (root : Root) → HasAsked (before.0.passes + 2) (state_of p.desk) a (asked_seat drained blocked asked) → root ≡ root_in (field p.words p.desk.current)
@@ -234,7 +233,7 @@ module _ (before taken : Seat) (p : Takes stored before taken) where
         holds = holds {A = A} drained blocked asked a root h;
         settled = settled_swept (state_of p.desk) a.live.items p.is_desk.settled;
         stands = t.0;
-        reached = λ x. subst (λ (used : List ℕ). reaches (map (swept_life a.live.items) p.desk.lives) (version (state_of p.desk)) x ≡ true ↔ moves.In x used) (sym (t.1 ∙ s.1)) (reached_now a h.now x);
+        reached = λ x. subst (λ (used : List ℕ). reaches (map (swept_life a.live.items) p.desk.lives) (version (state_of p.desk)) x ≡ true ↔ In x used) (sym (t.1 ∙ s.1)) (reached_now a h.now x);
         aged = t.2;
         blank = λ x free. blank_free drained blocked asked a h x free;
         free = λ x blank. free_blank drained blocked asked a h x blank;

@@ -11,6 +11,7 @@ use Rattle.mst_arena.specs.Content.{Content}
 use Rattle.mst_arena.specs.Lives.{State, version, reaches, free_count, last_version}
 use Rattle.mst_arena.specs.Standing.{Stands, numbers, tree_of, used}
 use Rattle.mst_arena.specs.declared.row.Root.{Root}
+use Rattle.mst_arena.specs.Lists.{In}
 use Rattle.mst_path.specs.Ages.{HasAges}
 use Rattle.mst_path.specs.Changing.{MapStands, OnlyFreeWritten}
 use Rattle.mst_path.specs.Made.{IsMade}
@@ -21,7 +22,6 @@ use Rattle.mst_path.proofs.lemmas.versions.NodeAges.{aged}
 use Rattle.mst_path.proofs.lemmas.versions.Reached.{older, newest, settled_after, reached_old}
 use Rattle.mst_path.proofs.lemmas.rows.RowCounts.{as_many}
 use Rattle.mst_words.specs.Access.{Seated, Beside, beside, with_words, content_of, IsSameSeat}
-use Rattle.mst_words.specs.Pins.{In}
 use Rattle.mst_words.specs.Records.{Agrees}
 use Rattle.mst_words.specs.Stored.{stored, desk_state, version_of}
 use Rattle.mst_store.specs.declared.turn.Turn.{Turn}

@@ -1,5 +1,5 @@
 -- What a pin tells, as the reads ask for it.
-use Rattle.std.proofs.Common.{◌+◌, ◌≡◌, ℕ, ◌<◌, ◌≤◌, inl, inr, Bool, true, ◌&&◌, ◌||◌, is_some, eqb, if◌then◌else◌, Option, Some, None, List, [], ◌∷◌, refl, sym, ap, ◌∙◌, subst, ⊎_elim, arith}
+use Rattle.std.proofs.Common.{◌+◌, ◌≡◌, ℕ, ◌<◌, ◌≤◌, Bool, true, ◌&&◌, ◌||◌, is_some, eqb, if◌then◌else◌, Option, Some, None, List, [], ◌∷◌, refl, sym, ap, ◌∙◌, subst, ⊎_elim, arith}
 use Rattle.std.specs.List.{AllByRecursion, list_any}
 use Rattle.std.proofs.lemmas.Bool.{lt-ltb, eq-eqb}
 use Rattle.std.proofs.Math.Bool.{or-true}
@@ -9,29 +9,30 @@ use Rattle.mst_key.specs.History.{after}
 use Rattle.mst_arena.specs.Lives as lives
 use Rattle.mst_key.specs.declared.format.Format.TheVariants.{One}
 use Rattle.mst_node.specs.Tree.{tree}
-use Rattle.mst_arena.specs.Standing.{Placed, none, head, link_of, used, numbers, Stands, StandsAt}
+use Rattle.mst_arena.specs.Standing.{Placed, none, head, link_of, used, chain_used, numbers, Stands, StandsAt}
+use Rattle.mst_arena.specs.Lists.{In}
 use Rattle.mst_words.specs.declared.view.View.{View}
-use Rattle.mst_words.specs.Pins.{In}
 use Rattle.mst_words.specs.Records.{row, field}
 use Rattle.mst_words.specs.Steps.{PinsNow}
 use Rattle.mst_words.specs.Stored.{rows_in, root_in, StandsOn, stored}
 use Rattle.mst_words.specs.Access.{content_of}
 use Rattle.mst_words.proofs.Framed.{stands_frame}
+use Rattle.mst_words.proofs.Members.{in_nothing, in_first, in_cases, each}
 use Rattle.mst_store.specs.declared.reading.PinnedRoot.{PinnedRoot}
 use Rattle.mst_store.specs.Pinned.{Pins}
 
 -- a tree stands at no link beyond the rows
 link_inside : (p : Placed) (n : ℕ) → ((x : ℕ) → In x (used p) → x < n) → link_of p ≤ n
 link_inside none n inside = omega arith
-link_inside (head at layer chain) n inside = let l = inside at (inl refl) in omega arith
+link_inside (head at layer chain) n inside = let l = inside at (in_first at at (chain_used chain) refl) in omega arith
 
 pub link_of_root : (word : ℕ → ℕ → ℕ) (words : ℕ → ℕ) (m : List Pair) (rows : List ℕ) (n : ℕ) → StandsOn word words m rows → ((x : ℕ) → In x rows → x < n) → words 1 ≤ n
 link_of_root word words m rows n s inside = subst (λ (l : ℕ). l ≤ n) s.0.tree.at (link_inside s.0.tree.placed n (λ x within. inside x (subst (In x) s.1 within)))
 
 pub in_list : (x : ℕ) (xs : List ℕ) → In x xs → list_any (eqb x) xs ≡ true
-in_list x [] within = absurd within
+in_list x [] within = absurd (in_nothing x within)
 in_list x (y ∷ ys) within = ⊎_elim (λ (is : x ≡ y). ap (λ (b : Bool). b || list_any (eqb x) ys) (eq-eqb x y is))
-    (λ (t : In x ys). ap (λ (b : Bool). eqb x y || b) (in_list x ys t) ∙ or-true (eqb x y)) within
+    (λ (t : In x ys). ap (λ (b : Bool). eqb x y || b) (in_list x ys t) ∙ or-true (eqb x y)) (in_cases x y ys within)
 
 -- a pinned pass may read the rows that stand for its version
 reads_stood : (v : View) (r x : ℕ) → v.pin ≡ Some r → In x v.pinned_rows → x < v.rows → content_of v x ≡ rows_in (row v.known_words) x
@@ -39,10 +40,6 @@ reads_stood v r x pin within lt = ap (λ (b : Bool). if (b && (v.turn || (is_som
     ∙ ap (λ (b : Bool). if (v.turn || (b && list_any (eqb x) v.pinned_rows)) then rows_in (row v.known_words) x else None) (ap is_some pin)
     ∙ ap (λ (b : Bool). if (v.turn || b) then rows_in (row v.known_words) x else None) (in_list x v.pinned_rows within)
     ∙ ap (λ (b : Bool). if b then rows_in (row v.known_words) x else None) (or-true v.turn)
-
-pub each : (P : ℕ → Type 0) (xs : List ℕ) → ((x : ℕ) → In x xs → P x) → AllByRecursion P xs
-each P [] all = tt
-each P (x ∷ xs) all = (all x (inl refl), each P xs (λ y within. all y (inr within)))
 
 abbrev Slot : Type 0
 Slot = Option lives.State

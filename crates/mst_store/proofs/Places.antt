@@ -7,14 +7,12 @@ use Rattle.mst_key.specs.declared.format.Format.TheVariants.{One}
 use Rattle.mst_key.specs.History.{History, after}
 use Rattle.mst_node.specs.Tree.{tree}
 use Rattle.mst_arena.specs.Lives.{reaches, reached_at}
-use Rattle.mst_arena.specs.Standing.{numbers}
 use Rattle.mst_arena.specs.declared.life.Life.{Life}
+use Rattle.mst_arena.specs.Lists.{In}
 use Rattle.mst_path.specs.Ages.{HasAges, HasPlace}
 use Rattle.mst_words.specs.declared.view.DeskState.{DeskState}
-use Rattle.mst_words.specs.Pins.{In}
 use Rattle.mst_words.specs.Records.{Standing}
 use Rattle.mst_words.specs.Stored.{stored, version_of}
-use Rattle.mst_words.proofs.Members.{counted, found}
 
 -- a row that a version reaches is one of the rows
 pub reached_inside : (lives : List Life) (v x : ℕ) → reaches lives v x ≡ true → x < length lives
@@ -48,8 +46,8 @@ module _ (R n : ℕ) (ws : List ℕ) (log : History) (d : DeskState) (r : ℕ) (
       is = u.tree.is ∙ ap (λ (g : History). tree One (after g)) (sym taken);
       once = u.tree.once;
       rows = λ x. (
-        (λ e. counted x (numbers u) (subst (In x) (sym s.aged.0.1) (reached_used x e))),
-        (λ i. used_reached x (subst (In x) s.aged.0.1 (found x (numbers u) i))),
+        (λ e. subst (In x) (sym s.aged.0.1) (reached_used x e)),
+        (λ i. used_reached x (subst (In x) s.aged.0.1 i)),
       );
       ages = subst (λ (g : History). HasAges d.lives g u.tree.placed) (sym taken) s.aged.1;
     },

@@ -11,11 +11,11 @@ use Rattle.mst_arena.specs.Lives.{State, version, next, reaches, reached_at}
 use Rattle.mst_arena.specs.Standing.{numbers}
 use Rattle.mst_arena.specs.declared.life.Life.{Life}
 use Rattle.mst_arena.specs.declared.row.Root.{Root}
+use Rattle.mst_arena.specs.Lists.{In}
 use Rattle.mst_path.specs.Reached.{advanced}
 use Rattle.mst_words.specs.declared.view.View.{View}
 use Rattle.mst_words.specs.declared.view.DeskState.{DeskState}
 use Rattle.mst_words.specs.Access.{content_of}
-use Rattle.mst_words.specs.Pins.{In}
 use Rattle.mst_words.specs.Records.{row, field, Standing, Agrees}
 use Rattle.mst_words.specs.Steps.{IsReady, IsGiving}
 use Rattle.mst_words.specs.Stored.{AgedOn, stored, desk_state, rows_in, root_in, version_of}
@@ -23,8 +23,8 @@ use Rattle.mst_words.proofs.Framed.{aged_frame, same_row}
 use Rattle.mst_store.specs.declared.turn.Turn.{Turn}
 use Rattle.mst_store.specs.Turns.{Seat, HoldsDesk, HasMade}
 use Rattle.mst_store.specs.Filing.{OthersKept}
-use Rattle.mst_words.proofs.Members.{counted, found}
-use Rattle.mst_store.proofs.Pinning.{each, reads_all}
+use Rattle.mst_words.proofs.Members.{each}
+use Rattle.mst_store.proofs.Pinning.{reads_all}
 
 -- a version reaches only rows that there are
 inside : (o : Option Life) (v : ℕ) → reached_at o v ≡ true → (x : Life) × (o ≡ Some x)
@@ -46,7 +46,7 @@ module _ {A : Type 0} (t : Turn A) (root : Root) (e : Event) (m : Seat) (made : 
   holds = made.holds
 
   within_rows : (x : ℕ) → In x (numbers made.stands) → x < m.0.rows
-  within_rows x within = let r = (made.reached x).1 (counted x (numbers made.stands) within) in let l = inside (slice_get t.desk.lives x) (next t.desk) r in
+  within_rows x within = let r = (made.reached x).1 within in let l = inside (slice_get t.desk.lives x) (next t.desk) r in
       let b = slice_get_within t.desk.lives x l.0 l.1 in let n = holds.rows_is in omega arith
 
   same_content : AllByRecursion (λ x. rows_in (row held) x ≡ content_of m.0 x) (numbers made.stands)
@@ -68,8 +68,8 @@ module _ {A : Type 0} (t : Turn A) (root : Root) (e : Event) (m : Seat) (made : 
     stands = aged.0;
     aged = aged;
     inside = within_rows;
-    reached = λ x within. subst (λ (n : ℕ). reaches t.desk.lives n x ≡ true) (sym numbered) ((made.reached x).1 (counted x (numbers made.stands) within));
-    exactly = λ x l r. found x (numbers made.stands) ((made.reached x).0 (subst (λ (n : ℕ). reaches t.desk.lives n x ≡ true) numbered r));
+    reached = λ x within. subst (λ (n : ℕ). reaches t.desk.lives n x ≡ true) (sym numbered) ((made.reached x).1 within);
+    exactly = λ x l r. (made.reached x).0 (subst (λ (n : ℕ). reaches t.desk.lives n x ≡ true) numbered r);
   }
 
   -- the versions of the other records stay, and the rows of all lives

@@ -10,15 +10,14 @@ use Rattle.mst_arena.specs.Standing.{numbers}
 use Rattle.mst_arena.specs.declared.life.Life.{Life}
 use Rattle.mst_arena.specs.declared.life.Life.TheVariants.{Free, Born, Dead}
 use Rattle.mst_arena.specs.declared.row.Root.{Root}
-use Rattle.mst_arena.specs.Lists as moves
+use Rattle.mst_arena.specs.Lists.{In}
 use Rattle.mst_path.specs.Versions.{HasMap}
 use Rattle.mst_path.proofs.lemmas.rows.Moving.{one_row}
 use Rattle.mst_path.proofs.lemmas.rows.Taking.{frees, frees_is}
 use Rattle.mst_path.proofs.lemmas.versions.Versions.{room_alone, rows_of_map}
 use Rattle.mst_words.specs.declared.view.View.{View}
 use Rattle.mst_words.specs.Access.{content_of}
-use Rattle.mst_words.specs.Pins.{In}
-use Rattle.mst_words.proofs.Members.{counted, found, contained, within}
+use Rattle.mst_words.proofs.Members.{in_nothing, contained, within}
 use Rattle.mst_store.specs.declared.turn.Turn.{Turn}
 use Rattle.mst_store.specs.declared.faults.WriteFault.TheVariants.{NoRoom}
 use Rattle.mst_store.specs.Turns.{Seat, IsKept, AreKept, HasTurn, Begun, Added}
@@ -48,7 +47,7 @@ room_left t m h =
     omega (arith, all, free_more live t.desk.lives, frees_is t.desk.lives, frees_is (map (swept_life live) t.desk.lives), h.holds.rows_is)
 
 none_of : (r : ℕ) (xs : List ℕ) → length xs < 1 → In r xs → ⊥
-none_of r [] few within = within
+none_of r [] few within = in_nothing r within
 none_of r (x ∷ xs) few within = omega (arith, few)
 
 -- where no other record was found pinned the current version alone is kept
@@ -56,7 +55,7 @@ alone_kept : {A : Type 0} (t : Turn A) (m : Seat) → HasTurn t m → length m.0
 alone_kept t m h none v = (
   (λ i. subst (IsKept t.desk m.0) (sym (one_row v (version t.desk) i)) h.now),
   (λ (r, l, out, is). dite (ℕ_discrete r t.desk.current)
-      (λ e. subst (λ (n : ℕ). moves.In n (version t.desk ∷ [])) (sym (is ∙ ap (λ (k : ℕ). slice_index t.desk.versions k) e)) (in_last (version t.desk) []))
+      (λ e. subst (λ (n : ℕ). In n (version t.desk ∷ [])) (sym (is ∙ ap (λ (k : ℕ). slice_index t.desk.versions k) e)) (in_last (version t.desk) []))
       (λ other. absurd (none_of r m.0.blocked none (h.kept r l out other)))),
 )
 
@@ -80,8 +79,8 @@ module _ {A : Type 0} (m m1 : Seat) (t : Turn A) (b : Begun m t m1) where
   lacks_kept : (change : Change) → LacksRows change t m1 → LacksKept m.0.rows m.0.passes m1.0.seen change
   lacks_kept change lacks = let l = b.has.leaves in let n = ap (λ (v : View). v.rows) b.rest in let k = ap (λ (v : View). v.passes) b.rest in record {
     live = l.live;
-    now = contained (length m1.0.seen) l.live (found (length m1.0.seen) l.live l.now);
-    below = λ v has. l.below v (counted v l.live (within v l.live has));
+    now = contained (length m1.0.seen) l.live l.now;
+    below = λ v has. l.below v (within v l.live has);
     few = (let as_many = l.as_many in let number = b.has.number in let fewer = b.has.fewer in omega (arith, as_many, number, fewer, k));
     lacks = (let left = l.left in omega (arith, left, lacks, n));
   }

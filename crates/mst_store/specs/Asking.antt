@@ -2,8 +2,7 @@
 -- after another.
 use Rattle.std.specs.Prelude.{◌≡◌, ◌≢◌, ◌⊎◌, ℕ, ◌+◌, ◌<◌, ◌≤◌, length, slice_index}
 use Rattle.mst_arena.specs.Lives.{State, version}
-use Rattle.mst_arena.specs.Lists as moves
-use Rattle.mst_words.specs.Pins.{In}
+use Rattle.mst_arena.specs.Lists.{In}
 use Rattle.mst_words.specs.Steps.{IsHolder}
 use Rattle.mst_store.specs.Turns.{Seat, StoodAtAsk}
 use Rattle.mst_store.specs.declared.turn.Asked.{Asked}
@@ -28,10 +27,10 @@ pub record HasAsked (n : ℕ) (desk : State) (a : Asked) (m : Seat) : Type 0 whe
   pub room : length a.live.items ≡ length m.0.blocked + 1
   pub blocked : (r : ℕ) → In r m.0.blocked → r < n
   pub drained : (r : ℕ) → In r m.0.drained → (r < n) × (r ≢ desk.current)
-  pub now : moves.In (version desk) a.live.items
+  pub now : In (version desk) a.live.items
   pub others : (r : ℕ) → r < n → r ≢ desk.current → (In r m.0.drained → ⊥)
-      → moves.In (slice_index desk.versions r) a.live.items
-  pub only : (v : ℕ) → moves.In v a.live.items → (v ≡ version desk)
+      → In (slice_index desk.versions r) a.live.items
+  pub only : (v : ℕ) → In v a.live.items → (v ≡ version desk)
       ⊎ ((r : ℕ) × (r < n) × (In r m.0.drained → ⊥) × (v ≡ slice_index desk.versions r))
   pub found : (r : ℕ) → r < n → r ≢ desk.current → (In r m.0.drained → ⊥) → In r m.0.blocked
   pub stood : (r : ℕ) → In r m.0.blocked → StoodAtAsk r m.0

@@ -11,14 +11,13 @@ use Rattle.mst_arena.specs.Standing.{IsDistinct, Stands, numbers}
 use Rattle.mst_arena.specs.declared.life.Life.{Life}
 use Rattle.mst_arena.specs.declared.life.Life.TheVariants.{Free}
 use Rattle.mst_arena.specs.declared.row.Root.{Root}
+use Rattle.mst_arena.specs.Lists.{In}
 use Rattle.mst_path.specs.Ages.{HasAges}
-use Rattle.mst_arena.specs.Lists as moves
 use Rattle.mst_path.specs.Takes.{FreeIsBlank}
 use Rattle.mst_path.specs.Reached.{ReachesExactly, TogetherReach, advanced}
 use Rattle.mst_words.specs.declared.view.View.{View}
 use Rattle.mst_words.specs.Access.{content_of, is_blank}
 use Rattle.mst_words.specs.Layout.{table_words}
-use Rattle.mst_words.specs.Pins.{In}
 use Rattle.mst_words.specs.Records.{Standing, Agrees}
 use Rattle.mst_words.specs.Steps.{IsHolder, Misses, Takes}
 use Rattle.mst_words.specs.Stored.{stored, desk_state}
@@ -62,14 +61,14 @@ IsKept desk v n =
 
 -- these are all versions that are kept, in any order
 abbrev pub AreKept : State → View → List ℕ → Type 0
-AreKept desk v live = (n : ℕ) → moves.In n live ↔ IsKept desk v n
+AreKept desk v live = (n : ℕ) → In n live ↔ IsKept desk v n
 
 -- Of the history so many versions are kept: the last one, and none above it. All rows are free but
 -- those that they hold
 pub record LeavesFree (lives : List Life) (log : History) (kept rows : ℕ) : Type 0 where
   pub live : List ℕ
-  pub now : moves.In (length log) live
-  pub below : (v : ℕ) → moves.In v live → v ≤ length log
+  pub now : In (length log) live
+  pub below : (v : ℕ) → In v live → v ≤ length log
   pub as_many : length live ≡ kept
   pub left : free_count lives + held One log live ≡ rows
 

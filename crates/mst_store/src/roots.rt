@@ -1,10 +1,10 @@
 //! The words of a record.
 ghost use Rattle.std.specs.Prelude.{◌≡◌, ◌<◌, ◌≤◌, ℕ, length};
+ghost use Rattle.mst_arena.specs.Lists.{In};
 ghost use Rattle.mst_words.specs.Access.{with_words};
 ghost use Rattle.mst_words.specs.Layout.{most_records, record_words, first_row, record_word};
 ghost use Rattle.mst_words.specs.Records.{field};
 ghost use Rattle.mst_words.specs.Stored.{root_in};
-ghost use Rattle.mst_words.specs.Pins.{In};
 ghost use Rattle.mst_words.specs.Steps.{IsReadable, IsHolder};
 ghost use Rattle.mst_store.specs.Filing.{IsFiled, OthersKept};
 

@@ -6,13 +6,13 @@ use Rattle.mst_key.proofs.SpanLaws.{contains-all}
 use Rattle.mst_arena.specs.Lives.{reaches}
 use Rattle.mst_arena.specs.declared.life.Life.{Life}
 use Rattle.mst_arena.specs.Standing.{Placed, used}
+use Rattle.mst_arena.specs.Lists.{In}
 use Rattle.mst_path.specs.Ages.{placed_nodes, HasAge, HasAges}
-use Rattle.mst_arena.specs.Lists as moves
 use Rattle.mst_path.proofs.lemmas.versions.AgeSteps.{all_contained, top_inside}
 
 -- two desks say of these rows that the same versions reach them, up to the last of the history
 abbrev pub SameAges : List Life → List Life → History → List ℕ → Type 0
-SameAges lives lives' h rows = (x v : ℕ) → moves.In x rows → v ≤ length h → reaches lives' v x ≡ reaches lives v x
+SameAges lives lives' h rows = (x v : ℕ) → In x rows → v ≤ length h → reaches lives' v x ≡ reaches lives v x
 
 pub ages_to : (lives lives' : List Life) (h : History) (p : Placed) → SameAges lives lives' h (used p) → HasAges lives h p → HasAges lives' h p
 ages_to lives lives' h p same ages = all_contained (HasAge lives' h) (placed_nodes p) (λ q has r v i le. same r v (top_inside p q has r i) le ∙ contains-all (HasAge lives h) (placed_nodes p) q ages has r v i le)

@@ -5,10 +5,11 @@ use lib.ListN.{get_elem?}
 use Rattle.atomic_table.specs.Table.{State}
 use Rattle.mst_key.specs.declared.history.Event.{Event}
 use Rattle.mst_key.specs.History.{History}
+use Rattle.mst_arena.specs.Lists.{In}
 use Rattle.mst_words.specs.declared.view.View.{View}
 use Rattle.mst_words.specs.declared.view.DeskState.{DeskState}
 use Rattle.mst_words.specs.World.{SeatAt, World}
-use Rattle.mst_words.specs.Pins.{In, Drains}
+use Rattle.mst_words.specs.Pins.{Drains}
 use Rattle.mst_words.specs.Records.{Meaning, IsFramed, IsLive, IsBlank}
 use Rattle.mst_words.specs.Rule.{Parts, Ruled}
 use Rattle.mst_words.proofs.Histories.{last_of, last_named, all_seen}

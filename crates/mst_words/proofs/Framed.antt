@@ -1,5 +1,5 @@
 -- What stands by the words of a record and of some rows stands by any words that agree there.
-use Rattle.std.proofs.Common.{◌≡◌, ℕ, zero, suc, ◌<◌, Bool, true, false, List, [], ◌∷◌, length, inl, inr, refl, sym, ap, ◌∙◌, subst, arith}
+use Rattle.std.proofs.Common.{◌≡◌, ℕ, zero, suc, ◌<◌, Bool, true, false, List, length, refl, sym, ap, ◌∙◌, subst, arith}
 use Rattle.std.specs.List.{AllByRecursion}
 use Rattle.mst_key.specs.declared.format.Format.TheVariants.{One}
 use Rattle.mst_key.specs.History.{History, after}
@@ -11,13 +11,13 @@ use Rattle.mst_arena.specs.Standing as standing
 use Rattle.mst_arena.specs.Standing.{Stands, numbers}
 use Rattle.mst_arena.specs.declared.row.Root.{Root}
 use Rattle.mst_arena.proofs.Stands.{placed_frame}
+use Rattle.mst_arena.specs.Lists.{In}
 use Rattle.mst_path.specs.Ages.{HasAges}
-use Rattle.mst_words.specs.Pins.{In}
 use Rattle.mst_words.specs.Records.{SameWords, Agrees, IsFramed}
 use Rattle.mst_words.specs.Stored.{rows_in, root_in, StandsOn, AgedOn, Reaches, version_of, stored}
 use Rattle.mst_words.specs.declared.view.DeskState.{DeskState}
 use Rattle.mst_words.proofs.AgeFrames.{SameAges, ages_to}
-use Rattle.mst_words.proofs.Members.{found}
+use Rattle.mst_words.proofs.Members.{each}
 
 -- words, cut at a bound
 abbrev below : ℕ → (ℕ → ℕ) → ℕ → ℕ
@@ -35,10 +35,6 @@ same_row f g x same = λ i. rows_in (λ _ k. below_same 16 (f x) (g x) same k i)
 
 same_root : (p q : ℕ → ℕ) → ((k : ℕ) → k < 6 → q k ≡ p k) → root_in q ≡ root_in p
 same_root p q same = λ i. root_in (λ k. below_same 6 p q same k i)
-
-each : (P : ℕ → Type 0) (xs : List ℕ) → ((x : ℕ) → In x xs → P x) → AllByRecursion P xs
-each P [] h = tt
-each P (x ∷ xs) h = (h x (inl refl), each P xs (λ y within. h y (inr within)))
 
 -- rows that stand do so by their own numbers, on any content and root that agree there, and by the
 -- same placing
@@ -80,7 +76,7 @@ both_ways false false there back = refl
 -- two desks that agree on a record say the same of its rows
 same_ages : (d d' : DeskState) (r : ℕ) (h : History) (rows : List ℕ) → version_of d r ≡ length h → ((x : ℕ) → In x rows → Reaches d (length h) x) → Agrees stored d d' r → SameAges d.lives d'.lives h rows
 same_ages d d' r h rows filed reached a x v i le =
-    let here : Reaches d (version_of d r) x = subst (λ (n : ℕ). Reaches d n x) (sym filed) (reached x (found x rows i)) in
+    let here : Reaches d (version_of d r) x = subst (λ (n : ℕ). Reaches d n x) (sym filed) (reached x i) in
     let both = a.ages x v (omega (arith, le, filed)) here in
     both_ways (reaches d.lives v x) (reaches d'.lives v x) both.0 both.1
 

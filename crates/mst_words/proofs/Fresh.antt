@@ -18,6 +18,7 @@ use Rattle.mst_arena.proofs.Packing.{packed, bytes_back}
 use Rattle.mst_words.specs.Records.{field, row, Standing}
 use Rattle.mst_words.specs.declared.view.DeskState.{DeskState}
 use Rattle.mst_words.specs.Stored.{AgedOn, IsDesk, stored, fresh_desk, desk_state}
+use Rattle.mst_words.proofs.Members.{in_nothing}
 
 -- ---- a digest in four words
 
@@ -88,8 +89,8 @@ fresh_standing R N ws front digest = record {
   filed = get_or-replicate (N + 2) 0 0 0 (omega arith);
   stands = (empty_stands (row ws) (field ws 0) (desk_state (fresh_desk R N)) (front 37 (omega arith)) digest).0;
   aged = empty_stands (row ws) (field ws 0) (desk_state (fresh_desk R N)) (front 37 (omega arith)) digest;
-  inside = λ x within. absurd within;
-  reached = λ x within. absurd within;
+  inside = λ x within. absurd (in_nothing x within);
+  reached = λ x within. absurd (in_nothing x within);
   exactly = λ x l e. absurd (unreached R 0 x e);
 }
 

@@ -11,7 +11,8 @@ use Rattle.mst_words.specs.declared.view.View.{View}
 use Rattle.mst_key.specs.declared.history.Event.{Event}
 use Rattle.mst_words.specs.declared.view.DeskState.{DeskState}
 use Rattle.mst_key.specs.History.{History}
-use Rattle.mst_words.specs.Pins.{In, done, pin_bit, Blamed}
+use Rattle.mst_arena.specs.Lists.{In}
+use Rattle.mst_words.specs.Pins.{done, pin_bit, Blamed}
 use Rattle.mst_words.specs.Records.{Meaning, IsFramed, IsLive, Agrees, Standing}
 use Rattle.mst_words.specs.Rule.{Turn, Parts, Ruled}
 use Rattle.mst_words.specs.Steps.{IsReady, publishes, transfers, IsHolder, asks, notes_current, asks_current}

@@ -1,14 +1,18 @@
 -- The parts Clear and Counts.
-use Rattle.std.proofs.Common.{◌≡◌, ℕ, suc, ◌||◌, ◌+◌, ◌<◌, ◌≤◌, ◌≢◌, ◌⊎◌, inl, inr, Bool, true, false, eqb, ne_eqb, List, [], ◌∷◌, Option, Some, None, length, set, sym, refl, ap, ◌∙◌, subst, ⊎_elim, arith}
+use Rattle.std.proofs.Common.{◌≡◌, ℕ, suc, ◌+◌, ◌<◌, ◌≤◌, ◌≢◌, ◌⊎◌, inl, inr, true, false, eqb, ne_eqb, List, [], ◌∷◌, Option, Some, None, length, set, sym, refl, ap, ◌∙◌, subst, ⊎_elim, arith}
 use Rattle.std.specs.List.{list_any, IsDistinct, AllByRecursion}
 use Rattle.std.proofs.lemmas.Map.Steps.{length-le_from_distinct_below}
+use Rattle.std.proofs.lemmas.Bool.{eqb-true}
 use Rattle.std.proofs.lemmas.Option.{same_Some, none-some}
 use mathlib.Core.Logic.{dite}
 use native.Mathlib.Decide.{ℕ_discrete}
 use Rattle.atomic_table.proofs.Lists.{set_here, set_else}
+use Rattle.mst_arena.specs.Lists.{In}
+use Rattle.mst_path.proofs.lemmas.rows.FreeCounts.{any_in}
 use Rattle.mst_words.specs.declared.view.View.{View}
 use Rattle.mst_words.specs.World.{SeatAt}
-use Rattle.mst_words.specs.Pins.{In, pin_bit, Clear, Blamed, Counts}
+use Rattle.mst_words.specs.Pins.{pin_bit, Clear, Blamed, Counts}
+use Rattle.mst_words.proofs.Members.{in_nothing, in_first, in_later, in_cases}
 use Rattle.mst_words.proofs.Seats.{each_seat, same_view}
 use Rattle.mst_words.proofs.Worlds.{within}
 
@@ -84,12 +88,12 @@ counts_none n cur cur' vs id w nothing only = record {
 
 -- a pass that pins another record than any that was found pinned is not blamed yet
 not_blamed : (n self cur : ℕ) (vs : List View) (i : ℕ) (u : View) (r : ℕ) → SeatAt vs i u → u.pin ≡ Some r → r ≢ cur → (ps rs : List ℕ) → Blamed n self cur vs ps rs → (In r rs → ⊥) → In u.number ps → ⊥
-not_blamed n self cur vs i u r e pins other [] rs h new within = within
+not_blamed n self cur vs i u r e pins other [] rs h new within = in_nothing u.number within
 not_blamed n self cur vs i u r e pins other (p ∷ ps) [] h new within = h
 not_blamed n self cur vs i u r e pins other (p ∷ ps) (x ∷ rs) h new within = ⊎_elim
-    (λ (is : u.number ≡ p). ⊎_elim (λ (t : u.pin ≡ Some x). new (inl (same_Some r x (sym pins ∙ t))))
+    (λ (is : u.number ≡ p). ⊎_elim (λ (t : u.pin ≡ Some x). new (in_first r x rs (same_Some r x (sym pins ∙ t))))
     (λ (t : (u.pin ≡ None) ⊎ (u.pin ≡ Some cur)). ⊎_elim (λ (z : u.pin ≡ None). none-some r (sym z ∙ pins)) (λ (z : u.pin ≡ Some cur). other (same_Some r cur (sym pins ∙ z))) t) (h.4 i u e is))
-    (λ (t : In u.number ps). not_blamed n self cur vs i u r e pins other ps rs h.5 (λ b. new (inr b)) t) within
+    (λ (t : In u.number ps). not_blamed n self cur vs i u r e pins other ps rs h.5 (λ b. new (in_later r x rs b)) t) (in_cases u.number p ps within)
 
 -- one record more is found pinned
 pub blamed_more : (n self cur : ℕ) (vs : List View) (i : ℕ) (u : View) (r : ℕ) → SeatAt vs i u → u.pin ≡ Some r → r ≢ cur → 0 < u.number → u.number < n + 1 → u.number ≢ self → ((j : ℕ) (x : View) → SeatAt vs j x → x.number ≡ u.number → j ≡ i)
@@ -106,20 +110,19 @@ blamed_more n self cur vs i u r e pins other some_pass small not_self apart ps r
 -- the passes blamed are distinct and there are 32 at most, so as many records
 none_of : (x : ℕ) (ps : List ℕ) → (In x ps → ⊥) → AllByRecursion (λ y. eqb x y ≡ false) ps
 none_of x [] not = tt
-none_of x (p ∷ ps) not = (ne_eqb x p (λ is. not (inl is)), none_of x ps (λ b. not (inr b)))
+none_of x (p ∷ ps) not = (ne_eqb x p (λ is. not (in_first x p ps is)), none_of x ps (λ b. not (in_later x p ps b)))
 
 pub in_any : (x : ℕ) (ps : List ℕ) → list_any (eqb x) ps ≡ true → In x ps
-in_any x [] e = absurd (let c : false ≡ true = e in cc)
-in_any x (p ∷ ps) e = dite (ℕ_discrete x p) (λ is. inl is) (λ not. inr (in_any x ps (sym (ap (λ (b : Bool). b || list_any (eqb x) ps) (ne_eqb x p not)) ∙ e)))
+in_any x ps e = let m = any_in (eqb x) ps e in subst (λ (z : ℕ). In z ps) (sym (eqb-true x m.0 m.2)) m.1
 
 blamed_distinct : (n self cur : ℕ) (vs : List View) (ps rs : List ℕ) → Blamed n self cur vs ps rs → IsDistinct eqb ps × ((p : ℕ) → In p ps → (0 < p) × (p < n + 1) × (p ≢ self)) × (length ps ≡ length rs)
 unfolding IsDistinct
-blamed_distinct n self cur vs [] [] h = (tt, (λ p within. absurd within), refl)
+blamed_distinct n self cur vs [] [] h = (tt, (λ p within. absurd (in_nothing p within)), refl)
 blamed_distinct n self cur vs [] (r ∷ rs) h = absurd h
 blamed_distinct n self cur vs (p ∷ ps) [] h = absurd h
 blamed_distinct n self cur vs (p ∷ ps) (r ∷ rs) h = let t = blamed_distinct n self cur vs ps rs h.5 in (
   (none_of p ps h.3, t.0),
-  (λ x within. ⊎_elim (λ (is : x ≡ p). subst (λ (z : ℕ). (0 < z) × (z < n + 1) × (z ≢ self)) (sym is) (h.0, h.1, h.2)) (λ (b : In x ps). t.1 x b) within),
+  (λ x within. ⊎_elim (λ (is : x ≡ p). subst (λ (z : ℕ). (0 < z) × (z < n + 1) × (z ≢ self)) (sym is) (h.0, h.1, h.2)) (λ (b : In x ps). t.1 x b) (in_cases x p ps within)),
   ap (λ (z : ℕ). suc z) t.2,
 )
 
@@ -128,6 +131,6 @@ pub blamed_few : (n self cur : ℕ) (vs : List View) (ps rs : List ℕ) → 0 < 
 unfolding IsDistinct
 blamed_few n self cur vs ps rs some_pass small h = let t = blamed_distinct n self cur vs ps rs h in
     let m = length-le_from_distinct_below (0 ∷ self ∷ ps) (n + 1)
-    (none_of 0 (self ∷ ps) (λ within. ⊎_elim (λ (is : 0 ≡ self). absurd (let l = some_pass in omega arith)) (λ (b : In 0 ps). let l = (t.1 0 b).0 in omega arith) within), (none_of self ps (λ within. (t.1 self within).2 refl), t.0))
-    (λ p e. ⊎_elim (λ (is : p ≡ 0). omega arith) (λ (b : (p ≡ self) ⊎ In p ps). ⊎_elim (λ (is : p ≡ self). omega arith) (λ (b : In p ps). (t.1 p b).1) b) (in_any p (0 ∷ self ∷ ps) e)) in
+    (none_of 0 (self ∷ ps) (λ within. ⊎_elim (λ (is : 0 ≡ self). absurd (let l = some_pass in omega arith)) (λ (b : In 0 ps). let l = (t.1 0 b).0 in omega arith) (in_cases 0 self ps within)), (none_of self ps (λ within. (t.1 self within).2 refl), t.0))
+    (λ p e. ⊎_elim (λ (is : p ≡ 0). omega arith) (λ (b : In p (self ∷ ps)). ⊎_elim (λ (is : p ≡ self). omega arith) (λ (b : In p ps). (t.1 p b).1) (in_cases p self ps b)) (in_cases p 0 (self ∷ ps) (in_any p (0 ∷ self ∷ ps) e))) in
     let l : suc (suc (length ps)) ≤ n + 1 = m in let same = t.2 in omega arith

@@ -1,35 +1,32 @@
--- Three ways to say that a number stands in a list: as a sum, by a count, and as the library says
--- it.
-use Rattle.std.proofs.Common.{◌≡◌, ℕ, ◌+◌, ◌<◌, ◌⊎◌, Bool, true, false, eqb, inl, inr, List, [], ◌∷◌, Contains, refl, sym, ap, ⊎_elim, arith}
+-- That a number stands in a list, taken apart and put together; and as the library says it.
+use Rattle.std.proofs.Common.{◌≡◌, ℕ, ◌⊎◌, inl, inr, List, [], ◌∷◌, Contains, sym, ap, refl, ⊎_elim, arith}
+use Rattle.std.specs.List.{AllByRecursion}
 use Rattle.std.proofs.lemmas.Bool.{eq-eqb}
-use Rattle.std.proofs.lemmas.Bool.Decides.{nat_tests}
 use Rattle.mst_key.proofs.SpanLaws.{contains-cases, contains-nothing, contains-first, contains-later}
-use Rattle.mst_arena.specs.Lists.{times, bit}
-use Rattle.mst_arena.specs.Lists as moves
-use Rattle.mst_words.specs.Pins.{In}
+use Rattle.mst_arena.specs.Lists.{In, bit}
+use Rattle.mst_path.proofs.lemmas.rows.Moving.{in_either, one_row}
 
-pub counted : (x : ℕ) (xs : List ℕ) → In x xs → moves.In x xs
-counted x [] i = absurd i
-counted x (y ∷ ys) i = ⊎_elim (λ (is : x ≡ y). omega (arith, ap bit (eq-eqb x y is)))
-    (λ (t : In x ys). omega (arith, counted x ys t)) i
+pub in_nothing : (x : ℕ) → In x [] → ⊥
+in_nothing x i = omega (arith, i)
 
-pub found : (x : ℕ) (xs : List ℕ) → moves.In x xs → In x xs
-found x [] i = absurd (omega (arith, i))
-found x (y ∷ ys) i = go (eqb x y) refl i (found x ys)
-  where
-    go : (t : Bool) → eqb x y ≡ t → 0 < bit t + times x ys → (moves.In x ys → In x ys) → In x (y ∷ ys)
-    go true e n more = inl (grind (arith, nat_tests))
-    go false e n more = inr (more (omega (arith, n)))
+pub in_first : (x y : ℕ) (ys : List ℕ) → x ≡ y → In x (y ∷ ys)
+in_first x y ys is = omega (arith, ap bit (eq-eqb x y is))
+
+pub in_later : (x y : ℕ) (ys : List ℕ) → In x ys → In x (y ∷ ys)
+in_later x y ys i = omega (arith, i)
+
+pub in_cases : (x y : ℕ) (ys : List ℕ) → In x (y ∷ ys) → (x ≡ y) ⊎ In x ys
+in_cases x y ys i = ⊎_elim (λ (here : In x (y ∷ [])). inl (one_row x y here)) (λ (t : In x ys). inr t) (in_either x (y ∷ []) ys i)
+
+-- what holds of each number of the list
+pub each : (P : ℕ → Type 0) (xs : List ℕ) → ((x : ℕ) → In x xs → P x) → AllByRecursion P xs
+each P [] all = tt
+each P (x ∷ xs) all = (all x (in_first x x xs refl), each P xs (λ y i. all y (in_later y x xs i)))
 
 pub contained : (x : ℕ) (xs : List ℕ) → In x xs → Contains xs x
-contained x [] i = absurd i
-contained x (y ∷ ys) (inl is) = contains-first y ys x (sym is)
-contained x (y ∷ ys) (inr i) = contains-later y ys x (contained x ys i)
+contained x [] i = absurd (in_nothing x i)
+contained x (y ∷ ys) i = ⊎_elim (λ (is : x ≡ y). contains-first y ys x (sym is)) (λ (t : In x ys). contains-later y ys x (contained x ys t)) (in_cases x y ys i)
 
 pub within : (x : ℕ) (xs : List ℕ) → Contains xs x → In x xs
-within x [] has = contains-nothing x has
-within x (y ∷ ys) has = go (contains-cases y ys x has) (within x ys)
-  where
-    go : (y ≡ x) ⊎ Contains ys x → (Contains ys x → In x ys) → In x (y ∷ ys)
-    go (inl is) more = inl (sym is)
-    go (inr later) more = inr (more later)
+within x [] has = absurd (contains-nothing x has)
+within x (y ∷ ys) has = ⊎_elim (λ (is : y ≡ x). in_first x y ys (sym is)) (λ (later : Contains ys x). in_later x y ys (within x ys later)) (contains-cases y ys x has)

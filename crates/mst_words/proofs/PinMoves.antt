@@ -5,10 +5,12 @@ use mathlib.Core.Logic.{dite}
 use native.Mathlib.Decide.{ℕ_discrete}
 use Rattle.std.proofs.lemmas.Nat.Bits.{bit_at-lt, bit_at-zero, bit_at_xor}
 use Rattle.std.proofs.lemmas.Option.{same_Some, none-some}
+use Rattle.mst_arena.specs.Lists.{In}
 use Rattle.mst_words.specs.declared.view.View.{View}
 use Rattle.mst_words.specs.World.{SeatAt}
-use Rattle.mst_words.specs.Pins.{In, done, pin_bit, SeatPins, Drains, Pins}
+use Rattle.mst_words.specs.Pins.{done, pin_bit, SeatPins, Drains, Pins}
 use Rattle.mst_words.proofs.Bits.{bit_other, bit_same, turn_right}
+use Rattle.mst_words.proofs.Members.{in_nothing, in_cases}
 use Rattle.mst_words.proofs.Seats.{each_seat}
 use Rattle.mst_words.proofs.PinParts.{seat_keeps, drains_keep, bits_stay}
 
@@ -101,7 +103,7 @@ module _ (N cur mask : ℕ) (due : Option ℕ) (beside : ℕ → ℕ) (ws ws' : 
         (λ _. record {
           due_is = is_due;
           mask_is = λ j e. ap beside (sym (same_Some cur j e)) ∙ q.beside_cur ∙ sym is_mask;
-          drained = λ r within. absurd (subst (λ (z : List ℕ). In r z) none_drained within);
+          drained = λ r within. absurd (in_nothing r (subst (λ (z : List ℕ). In r z) none_drained within));
         })
         (λ i u away e on. absurd (away (only i u e on)));
   }
@@ -159,7 +161,7 @@ module _ (N cur mask : ℕ) (due : Option ℕ) (beside : ℕ → ℕ) (ws ws' : 
     drained = λ j within. ⊎_elim
         (λ (same : j ≡ r). subst (λ (z : ℕ). (z < N + 2) × (z ≢ cur) × (due ≢ Some z) × ((i : ℕ) (u : View) → SeatAt (set vs id w) i u → u.pin ≢ Some z)) (sym same) (inside, not_cur, not_due, free))
         (λ (before : In j v.drained). kept.drained j before)
-        (subst (λ (z : List ℕ). In j z) more within);
+        (in_cases j r v.drained (subst (λ (z : List ℕ). In j z) more within));
   }
     where
       known : Drains N cur due beside vs v

@@ -5,9 +5,10 @@ use mathlib.Core.Logic.{dite}
 use native.Mathlib.Decide.{ℕ_discrete}
 use Rattle.std.proofs.lemmas.Nat.Bits.{bit_at-lt}
 use Rattle.std.proofs.lemmas.Option.{same_Some, none-some}
+use Rattle.mst_arena.specs.Lists.{In}
 use Rattle.mst_words.specs.declared.view.View.{View}
 use Rattle.mst_words.specs.World.{SeatAt}
-use Rattle.mst_words.specs.Pins.{In, done, pin_bit, SeatPins, Drains, Pins}
+use Rattle.mst_words.specs.Pins.{done, pin_bit, SeatPins, Drains, Pins}
 use Rattle.mst_words.proofs.Bits.{xor_small, bit_other, bit_same, turn_left}
 use Rattle.mst_words.proofs.Seats.{each_seat}
 

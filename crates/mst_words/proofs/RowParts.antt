@@ -8,7 +8,7 @@ use Rattle.mst_words.specs.declared.view.View.{View}
 use Rattle.mst_key.specs.declared.history.Event.{Event}
 use Rattle.mst_words.specs.declared.view.DeskState.{DeskState}
 use Rattle.mst_key.specs.History.{History}
-use Rattle.mst_words.specs.Pins.{In}
+use Rattle.mst_arena.specs.Lists.{In}
 use Rattle.mst_words.specs.Records.{Meaning, IsFramed, field, row, IsLive, Agrees, Standing, Reads, Rows}
 use Rattle.mst_words.proofs.Seats.{each_seat}
 use Rattle.mst_words.proofs.Histories.{begins_longer}

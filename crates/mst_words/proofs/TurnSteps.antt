@@ -8,10 +8,11 @@ use Rattle.atomic_table.proofs.Lists.{exchanged}
 use Rattle.mst_words.specs.declared.view.View.{View}
 use Rattle.mst_words.specs.declared.view.DeskState.{DeskState}
 use Rattle.mst_key.specs.History.{History}
-use Rattle.mst_words.specs.Pins.{In}
+use Rattle.mst_arena.specs.Lists.{In}
 use Rattle.mst_words.specs.Records.{Meaning, IsFramed, Agrees, Standing}
 use Rattle.mst_words.specs.Rule.{Turn, Parts, Ruled}
 use Rattle.mst_words.specs.Steps.{IsFree, takes_turn, IsGiving, gives_turn}
+use Rattle.mst_words.proofs.Members.{in_nothing}
 use Rattle.mst_words.proofs.Worlds.{world_set}
 use Rattle.mst_key.proofs.HistoryLaws.{IsPrefix-itself}
 use Rattle.mst_words.proofs.Seats.{same_view}
@@ -50,7 +51,7 @@ module _ {S : Type 0} (T : Meaning S) (framed : IsFramed T) (R N : ℕ) where
             (λ _. record {
               due_is = sym settled;
               mask_is = λ r is. absurd (let f : None ≡ Some r = sym settled ∙ is in cc);
-              drained = λ r within. absurd within;
+              drained = λ r within. absurd (in_nothing r within);
             });
         rows = rows_upper T framed R N q.cur s.words q.log q.desk q.place q.used s.views id v q.rows at ws w upper (length-set s.words 0 p)
             (λ r e. absurd (let f : None ≡ Some r = sym unpinned ∙ e in cc))

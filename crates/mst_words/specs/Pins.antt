@@ -3,13 +3,10 @@
 -- that came back from the publication, else none.
 use Rattle.std.specs.Prelude.{◌≡◌, ◌≢◌, ◌⊎◌, ℕ, ◌+◌, ◌-◌, ◌*◌, ◌%◌, ◌<◌, ◌≤◌, true, List, [], ◌∷◌, slice_index, Option, Some, None}
 use Rattle.std.specs.Int.{bit_at}
+use Rattle.mst_arena.specs.Lists.{In}
 use Rattle.mst_words.specs.declared.view.View.{View}
 use Rattle.mst_words.specs.World.{SeatAt}
 use Rattle.mst_words.specs.Layout.{most_passes, current_word, done_word}
-
-abbrev pub In : ℕ → List ℕ → Type 0
-In x [] = ⊥
-In x (y ∷ ys) = (x ≡ y) ⊎ In x ys
 
 -- the word DONE of a record
 abbrev pub done : List ℕ → ℕ → ℕ

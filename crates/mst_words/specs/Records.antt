@@ -2,11 +2,11 @@
 -- the map at its place in the history, on exactly the rows that the desk says its version reaches.
 use Rattle.std.specs.Prelude.{◌≡◌, ◌⊎◌, ◌↔◌, ℕ, ◌+◌, ◌<◌, ◌≤◌, true, List, length, slice_index, Some}
 use Rattle.mst_key.specs.History.{History, IsPrefix}
+use Rattle.mst_arena.specs.Lists.{In}
 use Rattle.mst_words.specs.declared.view.View.{View}
 use Rattle.mst_words.specs.declared.view.DeskState.{DeskState}
 use Rattle.mst_words.specs.Layout.{record_words, row_words, first_record, record_word, row_word}
 use Rattle.mst_words.specs.World.{SeatAt}
-use Rattle.mst_words.specs.Pins.{In}
 
 -- a word of a record: its version number, the link of its root, and the four words of its digest
 abbrev pub field : List ℕ → ℕ → ℕ → ℕ

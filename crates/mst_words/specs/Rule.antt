@@ -4,11 +4,12 @@ use Rattle.std.specs.Prelude.{◌≡◌, ◌⊎◌, ℕ, ◌<◌, true, List, []
 use mathlib.Core.Option.{none, some}
 use Rattle.atomic_table.specs.Table.{State}
 use Rattle.mst_key.specs.History.{History}
+use Rattle.mst_arena.specs.Lists.{In}
 use Rattle.mst_words.specs.declared.view.View.{View}
 use Rattle.mst_words.specs.declared.view.DeskState.{DeskState}
 use Rattle.mst_words.specs.Layout.{turn_word, current_word, table_words}
 use Rattle.mst_words.specs.World.{SeatAt, World}
-use Rattle.mst_words.specs.Pins.{In, Pins, Clear, Counts}
+use Rattle.mst_words.specs.Pins.{Pins, Clear, Counts}
 use Rattle.mst_words.specs.Path.{Path}
 use Rattle.mst_words.specs.Records.{Meaning, IsLive, IsBlank, Rows}
 

@@ -6,10 +6,10 @@ use Rattle.atomic_table.specs.Table.{Me, Step}
 use Rattle.mst_key.specs.declared.history.Change.TheVariants.{Remove}
 use Rattle.mst_key.specs.declared.history.Event.{Event}
 use Rattle.mst_key.specs.History.{History, events_of, IsPrefix}
+use Rattle.mst_arena.specs.Lists.{In}
 use Rattle.mst_words.specs.declared.view.View.{View}
 use Rattle.mst_words.specs.declared.view.DeskState.{DeskState}
 use Rattle.mst_words.specs.Layout.{record_words, row_words, first_record, done_word, record_word, row_word, table_words}
-use Rattle.mst_words.specs.Pins.{In}
 use Rattle.mst_words.specs.Records.{Meaning, field, row, Standing, Agrees, IsBlank}
 
 -- the event that is named where none is picked

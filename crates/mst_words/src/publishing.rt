@@ -1,8 +1,8 @@
 //! The steps of the holder of the turn between taking it and giving it back.
 ghost use Rattle.std.specs.Prelude.{◌≡◌, ◌≢◌, ◌+◌, ◌<◌, ℕ, List, [], true, false, slice_set, Some, None};
+ghost use Rattle.mst_arena.specs.Lists.{In};
 ghost use Rattle.mst_words.specs.Stored.{stored, desk_state};
 ghost use Rattle.mst_words.specs.Layout.{most_records, table_words};
-ghost use Rattle.mst_words.specs.Pins.{In};
 ghost use Rattle.mst_words.specs.Steps.{IsHolder, IsWritable, IsReady, Publishes, Transfers, Drained, Blocked, NotesCurrent, AsksCurrent};
 
 use crate::board::{Board, Token};

@@ -1,11 +1,11 @@
 //! A pass's seat at the table, with one call for each of its steps.
 ghost use Rattle.std.specs.Prelude.{◌≡◌, ◌≢◌, ◌∷◌, ◌+◌, ◌<◌, ◌≤◌, [], ℕ, List, true, false, slice_index, slice_set, Option, Some, None};
 ghost use Rattle.mst_arena.specs.Lives.{State};
+ghost use Rattle.mst_arena.specs.Lists.{In};
 ghost use Rattle.mst_key.specs.History.{IsPrefix};
 ghost use Rattle.mst_words.specs.Access.{IsSameSeat};
 ghost use Rattle.mst_words.specs.Layout.{most_passes, most_records, table_words};
 ghost use Rattle.mst_words.specs.Notes.{SeesAll, SeesTold, note_of, having_heard};
-ghost use Rattle.mst_words.specs.Pins.{In};
 ghost use Rattle.mst_words.specs.Steps.{IsDealer, IsFree, IsPinned, IsHolder, IsReadable, IsWritable, IsGiving, IsReady, Takes, Misses, Gives, PinsNow, Unpins, Forgets, Publishes, Transfers, Drained, Blocked, NotesCurrent, AsksCurrent};
 ghost use Rattle.mst_words.specs.Stored.{stored, desk_state};
 ghost use Rattle.mst_words.specs.World.{having_dealt, newcomer};

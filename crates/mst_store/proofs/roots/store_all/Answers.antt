@@ -1,6 +1,6 @@
 use Rattle.std.proofs.Common.{ℕ, ◌+◌, ◌*◌, List, inr, set, get_or, arith, sym, refl, ap, ◌∙◌, subst}
+use Rattle.mst_arena.specs.Lists.{In}
 use Rattle.mst_words.specs.Access.{Seated}
-use Rattle.mst_words.specs.Pins.{In}
 use Rattle.mst_words.specs.Steps.{IsHolder}
 use Rattle.mst_store.specs.Filing.{IsFiled}
 use Rattle.mst_store.proofs.Filing.{filed_more}
