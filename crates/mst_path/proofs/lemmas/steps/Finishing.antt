@@ -164,132 +164,6 @@ module _ (w : NodeWriter) (c c' : Content) (s : State) (parts : Parts) (r : Rest
 pub head_out : (w : NodeWriter) (c : Content) (s : State) (parts : Parts) (r : Rest w c s parts) → IsOut w.head (entries_used r.ws ++ used r.seam)
 head_out w c s parts r = out_of_times w.head (entries_used r.ws ++ used r.seam) (omega (arith, r.once w.head, at_self w.head, times-append w.head (entries_used r.ws) (used r.seam)))
 
--- ---- entries at the back
-
-module _ (w w1 : NodeWriter) (c c1 : Content) (s s1 : State) (parts : Parts) (r : Rest w c s parts) (e : PlacedEntry) (more : List PlacedEntry) (back_is : r.back ≡ e ∷ more) (r0 : ℕ) (next_is : w.next ≡ Some r0) (moves : Moves s s1 (ahead w1.next) (e.at ∷ [])) (keeps : KeepsBut (ahead w.next) c c1) (written : IsWritten w1 c1 (r.ws ++ record { at = r0; child = r.seam; key = e.key; value = e.value } ∷ [])) where
-  pub run_back : BackRun c s parts.back.first parts.back.count parts.tail (e ∷ more) r.tail
-  run_back = subst (λ (es : List PlacedEntry). BackRun c s parts.back.first parts.back.count parts.tail es r.tail) back_is r.back_run
-
-  pub all_once : (x : ℕ) → times x (w.head ∷ []) + times x (ahead w.next) + times x (entries_used r.ws) + times x (used r.seam) + times x (own (e ∷ more)) + times x (gaps_used more) + times x (used r.tail) ≤ 1
-  all_once = subst (λ (es : List PlacedEntry). (x : ℕ) → times x (w.head ∷ []) + times x (ahead w.next) + times x (entries_used r.ws) + times x (used r.seam) + times x (own es) + times x (gaps_used (others es)) + times x (used r.tail) ≤ 1) back_is r.once
-
-  abbrev seamed : PlacedEntry
-  seamed = record { at = r0; child = r.seam; key = e.key; value = e.value }
-
-  seam_once : (x : ℕ) → times x (ahead w.next) + times x (entries_used r.ws) + times x (used r.seam) ≤ 1
-  seam_once x = omega (arith, all_once x)
-
-  seam_spared : (x : ℕ) → In x (e.at ∷ []) → times x (ahead w.next) + times x (entries_used r.ws) + times x (used r.seam) ≡ 0
-  seam_spared x i = omega (arith, all_once x, i)
-
-  pub going_seam : Going w1 c1 s1 (r.ws ++ record { at = r0; child = r.seam; key = e.key; value = e.value } ∷ [])
-  going_seam = going_more w w1 c c1 s s1 r.ws r0 r.seam e.key e.value (e.at ∷ []) r.going next_is moves (piece_alive r.seam_piece) r.seam_piece.made seam_once seam_spared written
-
-  pub seam_used : (x : ℕ) → times x (entries_used (r.ws ++ record { at = r0; child = r.seam; key = e.key; value = e.value } ∷ [])) ≡ times x (ahead w.next) + times x (entries_used r.ws) + times x (used r.seam)
-  seam_used = used_more w w1 c c1 s s1 r.ws r0 r.seam e.key e.value (e.at ∷ []) r.going next_is moves (piece_alive r.seam_piece) r.seam_piece.made seam_once seam_spared
-
-  -- an old row was not written
-  pub old_kept : (x : ℕ) → IsOld s x → c1 x ≡ c x
-  old_kept x old = kept_at c c1 (ahead w.next) x keeps (not_in x (ahead w.next) (λ i. new_not_old s x (r.going.new x i) old))
-
-  pub gaps_old : (x : ℕ) (es : List PlacedEntry) → EachGap (OldPiece c s) es → In x (gaps_used es) → IsOld s x
-  gaps_old x [] each i = absurd (omega arith)
-  gaps_old x (y ∷ es) each i = elim (in_either x (used y.child) (gaps_used es) i) [
-    | inl k ↦ each.0.old x k
-    | inr k ↦ gaps_old x es each.1 k
-  ]
-
-  unfoldable pub back_copying : (link n : ℕ) → link ≡ link_from 0 more → n + 1 ≡ parts.back.count → Copying w1 c1 s1 link n
-  back_copying link n at less = record {
-    behind = 0;
-    es = more;
-    ws = r.ws ++ record { at = r0; child = r.seam; key = e.key; value = e.value } ∷ [];
-    run = record {
-      counted = omega (arith, run_back.counted, less);
-      begins = sym at;
-      rows = own_frame c c1 0 more (λ x i. old_kept x (run_back.old x (omega (arith, i)))) run_back.rows.1;
-      old = λ x i. old_stays s s1 (ahead w1.next) (e.at ∷ []) moves x (run_back.old x (omega (arith, i))) (omega (arith, i, all_once x));
-      gaps = gaps_frame c c1 s s1 more
-          (λ x i. old_kept x (gaps_old x more run_back.gaps i))
-          (λ x i old. old_stays s s1 (ahead w1.next) (e.at ∷ []) moves x old (omega (arith, i, all_once x)))
-          run_back.gaps;
-    };
-    going = going_seam;
-    once = λ x. omega (arith, seam_used x, all_once x);
-  }
-
-  module _ (w2 : NodeWriter) (c2 : Content) (s2 : State) (copied : Copied w1 w2 c1 c2 s1 s2 (r.ws ++ record { at = r0; child = r.seam; key = e.key; value = e.value } ∷ []) more) (same_head : w2.head ≡ w.head) (same_layer : w2.layer ≡ w.layer) (all : (x : ℕ) → times x (ahead w2.next) ≡ 0) where
-    abbrev entries : List PlacedEntry
-    entries = (r.ws ++ record { at = r0; child = r.seam; key = e.key; value = e.value } ∷ []) ++ copied.copies
-
-    -- a row that was alive at first was not taken
-    alive_untaken : (x : ℕ) → IsAlive s x → times x (e.at ∷ []) ≡ 0 → (times x (ahead w1.next) ≡ 0) × (times x copied.taken ≡ 0)
-    alive_untaken x alive out = (
-      alive_out s s1 (ahead w1.next) (e.at ∷ []) moves x alive,
-      alive_out s1 s2 copied.taken (own more) copied.moves x (alive_stays s s1 (ahead w1.next) (e.at ∷ []) moves x alive out),
-    )
-
-    pub tail_stays : OldPiece c2 s2 r.tail
-    tail_stays = record {
-      rows = placed_frame One c c2 r.tail (all_in (used r.tail) (λ x i.
-          let old = run_back.tail_piece.old x i in
-          let out : times x (e.at ∷ []) ≡ 0 = omega (arith, i, all_once x) in
-          let untaken = alive_untaken x (old_alive s x old) out in
-          kept_at c1 c2 (ahead w1.next ++ copied.taken) x copied.keeps (omega (arith, times-append x (ahead w1.next) copied.taken, untaken.0, untaken.1)) ∙ old_kept x old)) run_back.tail_piece.rows;
-      old = λ x i.
-          let old = run_back.tail_piece.old x i in
-          let first = old_stays s s1 (ahead w1.next) (e.at ∷ []) moves x old (omega (arith, i, all_once x)) in
-          old_stays s1 s2 copied.taken (own more) copied.moves x first (omega (arith, i, all_once x));
-    }
-
-    pub tail_piece : Piece c2 s2 r.tail
-    tail_piece = record { rows = tail_stays.rows; made = made_old s2 r.tail tail_stays.old }
-
-    head_here : times w.head (w.head ∷ []) ≡ 1
-    head_here = omega (arith, at_self w.head)
-
-    pub head_new : IsNew s2 w2.head
-    head_new =
-        let first = new_stays s s1 (ahead w1.next) (e.at ∷ []) moves w.head r.head_new (omega (arith, all_once w.head, head_here)) in
-        subst (IsNew s2) (sym same_head) (new_stays s1 s2 copied.taken (own more) copied.moves w.head first (omega (arith, all_once w.head, head_here)))
-
-    pub entries_are : (x : ℕ) → times x (entries_used ((r.ws ++ record { at = r0; child = r.seam; key = e.key; value = e.value } ∷ []) ++ copied.copies)) ≡ times x (ahead w.next) + times x (entries_used r.ws) + times x (used r.seam) + times x (own copied.copies) + times x (gaps_used more)
-    entries_are x = omega (arith, entries_used-append x (r.ws ++ record { at = r0; child = r.seam; key = e.key; value = e.value } ∷ []) copied.copies, seam_used x, used_entries x copied.copies, copies_gaps x copied.copies more copied.same)
-
-    pub back_head_out : IsOut w2.head (entries_used ((r.ws ++ record { at = r0; child = r.seam; key = e.key; value = e.value } ∷ []) ++ copied.copies) ++ used r.tail)
-    back_head_out =
-        let untaken = alive_untaken w.head (new_alive s w.head r.head_new) (omega (arith, all_once w.head, head_here)) in
-        subst (λ (h : ℕ). IsOut h (entries_used ((r.ws ++ record { at = r0; child = r.seam; key = e.key; value = e.value } ∷ []) ++ copied.copies) ++ used r.tail)) (sym same_head)
-        (out_of_times w.head _ (omega (arith, times-append w.head (entries_used ((r.ws ++ record { at = r0; child = r.seam; key = e.key; value = e.value } ∷ []) ++ copied.copies)) (used r.tail), entries_are w.head, all_once w.head, head_here, copied.rows w.head, untaken.0, untaken.1)))
-
-    module _ (c3 : Content) (at : Root) where
-      pub with_back : IsRootOf (head w2.head w2.layer (chain_of ((r.ws ++ record { at = r0; child = r.seam; key = e.key; value = e.value } ∷ []) ++ copied.copies) r.tail)) at → HasRows c3 (rows_of One (head w2.head w2.layer (chain_of ((r.ws ++ record { at = r0; child = r.seam; key = e.key; value = e.value } ∷ []) ++ copied.copies) r.tail))) → KeepsBut (w2.head ∷ []) c2 c3 → w.left ≡ parts.back.count → length (ahead w.next) ≡ 1 → length (ahead w2.next) ≡ 0 → Finished w c c3 s s2 parts r at
-      with_back root rows keeps3 left one none = record {
-        placed = head w2.head w2.layer (chain_of entries r.tail);
-        is =
-            let here : entries_of One (chain_of entries r.tail) ≡ with_entries (cells_of r.ws) (with_first (tree_of One r.seam) (entries_to (e ∷ more) r.tail)) =
-            chain_entries entries r.tail
-            ∙ ap (λ (cs : List TreeEntry). with_entries cs (last (tree_of One r.tail))) (cells-append (r.ws ++ record { at = r0; child = r.seam; key = e.key; value = e.value } ∷ []) copied.copies ∙ ap (λ (cs : List TreeEntry). cells_of (r.ws ++ record { at = r0; child = r.seam; key = e.key; value = e.value } ∷ []) ++ cs) (copies_cells copied.copies more copied.same))
-            ∙ entries-front (cells_of (r.ws ++ record { at = r0; child = r.seam; key = e.key; value = e.value } ∷ [])) (cells_of more) (last (tree_of One r.tail))
-            ∙ ap (λ (cs : List TreeEntry). with_entries cs (entries_to more r.tail)) (cells-append r.ws (record { at = r0; child = r.seam; key = e.key; value = e.value } ∷ []))
-            ∙ entries-front (cells_of r.ws) (cells_of (record { at = r0; child = r.seam; key = e.key; value = e.value } ∷ [])) (entries_to more r.tail) in
-            ap (λ (l : ℕ). node One l (entries_of One (chain_of entries r.tail))) same_layer
-            ∙ ap (λ (fs : Entries). node One w.layer fs) (here ∙ ap (λ (es : List PlacedEntry). with_entries (cells_of r.ws) (with_first (tree_of One r.seam) (entries_to es r.tail))) (sym back_is));
-        root = root;
-        piece = head_piece w2 c2 c3 s2 entries r.tail copied.going tail_piece head_new rows;
-        taken = ahead w1.next ++ copied.taken;
-        moves = subst (λ (es : List PlacedEntry). Moves s s2 (ahead w1.next ++ copied.taken) (own es)) (sym back_is) (moves_then s s1 s2 (ahead w1.next) (e.at ∷ []) copied.taken (own more) moves copied.moves);
-        keeps = λ x out.
-            let zero_times = times_of_out x (w.head ∷ ahead w.next ++ (ahead w1.next ++ copied.taken)) out in
-            let a = times-append x (ahead w.next) (ahead w1.next ++ copied.taken) in
-            let b = times-append x (ahead w1.next) copied.taken in
-            keeps3 x (out_of_times x (w2.head ∷ []) (omega (arith, zero_times, ap (λ (h : ℕ). times x (h ∷ [])) same_head)))
-            ∙ copied.keeps x (out_of_times x (ahead w1.next ++ copied.taken) (omega (arith, zero_times, a)))
-            ∙ keeps x (out_of_times x (ahead w.next) (omega (arith, zero_times, a)));
-        rows = λ x. omega (arith, all_used w2 c2 c3 s2 entries r.tail copied.going tail_piece head_new x, ap (λ (h : ℕ). times x (h ∷ [])) same_head, entries_are x, copied.rows x, all x, times-append x (ahead w1.next) copied.taken, ap (λ (es : List PlacedEntry). times x (gaps_used (others es))) back_is);
-        counted = omega (arith, length-append (ahead w1.next) copied.taken, copied.counted, run_back.counted, left, none);
-      }
-
 -- ---- the first entry at the back
 
 pub record FirstBack (w : NodeWriter) (c : Content) (s : State) (parts : Parts) (r : Rest w c s parts) : Type 0 where
@@ -317,6 +191,139 @@ first_back w c s parts r some = go r.back refl r.back_run
           row = ap c link ∙ run.rows.0;
           old = subst (IsOld s) (sym link) (run.old e.at (omega (arith, at_self e.at)));
         }
+
+-- The first entry at the back is written behind the seam, in the new row, and its old row is killed;
+-- the entries behind it are at the link.
+pub record Seamed (w w1 : NodeWriter) (c c1 : Content) (s s1 : State) (parts : Parts) (r : Rest w c s parts) (link : ℕ) : Type 0 where
+  pub back : FirstBack w c s parts r
+  pub row : ℕ
+  pub next_is : w.next ≡ Some row
+  pub moves : Moves s s1 (ahead w1.next) (back.entry.at ∷ [])
+  pub keeps : KeepsBut (ahead w.next) c c1
+  pub written : IsWritten w1 c1 (r.ws ++ record { at = row; child = r.seam; key = back.entry.key; value = back.entry.value } ∷ [])
+  pub begins : link ≡ link_from 0 back.more
+
+pub gaps_old : (c : Content) (s : State) (x : ℕ) (es : List PlacedEntry) → EachGap (OldPiece c s) es → In x (gaps_used es) → IsOld s x
+gaps_old c s x [] each i = absurd (omega arith)
+gaps_old c s x (y ∷ es) each i = elim (in_either x (used y.child) (gaps_used es) i) [
+  | inl k ↦ each.0.old x k
+  | inr k ↦ gaps_old c s x es each.1 k
+]
+
+module _ {w w1 : NodeWriter} {c c1 : Content} {s s1 : State} {parts : Parts} {r : Rest w c s parts} {link : ℕ} (m : Seamed w w1 c c1 s s1 parts r link) where
+  -- the entries that are written then
+  abbrev pub with_seam : List PlacedEntry
+  with_seam = r.ws ++ record { at = m.row; child = r.seam; key = m.back.entry.key; value = m.back.entry.value } ∷ []
+
+  pub all_once : (x : ℕ) → times x (w.head ∷ []) + times x (ahead w.next) + times x (entries_used r.ws) + times x (used r.seam) + times x (own (m.back.entry ∷ m.back.more)) + times x (gaps_used m.back.more) + times x (used r.tail) ≤ 1
+  all_once = subst (λ (es : List PlacedEntry). (x : ℕ) → times x (w.head ∷ []) + times x (ahead w.next) + times x (entries_used r.ws) + times x (used r.seam) + times x (own es) + times x (gaps_used (others es)) + times x (used r.tail) ≤ 1) m.back.is r.once
+
+  seam_once : (x : ℕ) → times x (ahead w.next) + times x (entries_used r.ws) + times x (used r.seam) ≤ 1
+  seam_once x = omega (arith, all_once x)
+
+  seam_spared : (x : ℕ) → In x (m.back.entry.at ∷ []) → times x (ahead w.next) + times x (entries_used r.ws) + times x (used r.seam) ≡ 0
+  seam_spared x i = omega (arith, all_once x, i)
+
+  pub going_seam : Going w1 c1 s1 with_seam
+  going_seam = going_more w w1 c c1 s s1 r.ws m.row r.seam m.back.entry.key m.back.entry.value (m.back.entry.at ∷ []) r.going m.next_is m.moves (piece_alive r.seam_piece) r.seam_piece.made seam_once seam_spared m.written
+
+  pub seam_used : (x : ℕ) → times x (entries_used with_seam) ≡ times x (ahead w.next) + times x (entries_used r.ws) + times x (used r.seam)
+  seam_used = used_more w w1 c c1 s s1 r.ws m.row r.seam m.back.entry.key m.back.entry.value (m.back.entry.at ∷ []) r.going m.next_is m.moves (piece_alive r.seam_piece) r.seam_piece.made seam_once seam_spared
+
+  -- an old row was not written
+  pub old_kept : (x : ℕ) → IsOld s x → c1 x ≡ c x
+  old_kept x old = kept_at c c1 (ahead w.next) x m.keeps (not_in x (ahead w.next) (λ i. new_not_old s x (r.going.new x i) old))
+
+  unfoldable pub back_copying : (n : ℕ) → n + 1 ≡ parts.back.count → Copying w1 c1 s1 link n
+  back_copying n less = record {
+    behind = 0;
+    es = m.back.more;
+    ws = with_seam;
+    run = record {
+      counted = omega (arith, m.back.run.counted, less);
+      begins = sym m.begins;
+      rows = own_frame c c1 0 m.back.more (λ x i. old_kept x (m.back.run.old x (omega (arith, i)))) m.back.run.rows.1;
+      old = λ x i. old_stays s s1 (ahead w1.next) (m.back.entry.at ∷ []) m.moves x (m.back.run.old x (omega (arith, i))) (omega (arith, i, all_once x));
+      gaps = gaps_frame c c1 s s1 m.back.more
+          (λ x i. old_kept x (gaps_old c s x m.back.more m.back.run.gaps i))
+          (λ x i old. old_stays s s1 (ahead w1.next) (m.back.entry.at ∷ []) m.moves x old (omega (arith, i, all_once x)))
+          m.back.run.gaps;
+    };
+    going = going_seam;
+    once = λ x. omega (arith, seam_used x, all_once x);
+  }
+
+  module _ {w2 : NodeWriter} {c2 : Content} {s2 : State} (copied : Copied w1 w2 c1 c2 s1 s2 with_seam m.back.more) (same_head : w2.head ≡ w.head) (same_layer : w2.layer ≡ w.layer) (all : (x : ℕ) → times x (ahead w2.next) ≡ 0) where
+    abbrev entries : List PlacedEntry
+    entries = with_seam ++ copied.copies
+
+    -- a row that was alive at first was not taken
+    alive_untaken : (x : ℕ) → IsAlive s x → times x (m.back.entry.at ∷ []) ≡ 0 → (times x (ahead w1.next) ≡ 0) × (times x copied.taken ≡ 0)
+    alive_untaken x alive out = (
+      alive_out s s1 (ahead w1.next) (m.back.entry.at ∷ []) m.moves x alive,
+      alive_out s1 s2 copied.taken (own m.back.more) copied.moves x (alive_stays s s1 (ahead w1.next) (m.back.entry.at ∷ []) m.moves x alive out),
+    )
+
+    pub tail_stays : OldPiece c2 s2 r.tail
+    tail_stays = record {
+      rows = placed_frame One c c2 r.tail (all_in (used r.tail) (λ x i.
+          let old = m.back.run.tail_piece.old x i in
+          let out : times x (m.back.entry.at ∷ []) ≡ 0 = omega (arith, i, all_once x) in
+          let untaken = alive_untaken x (old_alive s x old) out in
+          kept_at c1 c2 (ahead w1.next ++ copied.taken) x copied.keeps (omega (arith, times-append x (ahead w1.next) copied.taken, untaken.0, untaken.1)) ∙ old_kept x old)) m.back.run.tail_piece.rows;
+      old = λ x i.
+          let old = m.back.run.tail_piece.old x i in
+          let first = old_stays s s1 (ahead w1.next) (m.back.entry.at ∷ []) m.moves x old (omega (arith, i, all_once x)) in
+          old_stays s1 s2 copied.taken (own m.back.more) copied.moves x first (omega (arith, i, all_once x));
+    }
+
+    pub tail_piece : Piece c2 s2 r.tail
+    tail_piece = record { rows = tail_stays.rows; made = made_old s2 r.tail tail_stays.old }
+
+    head_here : times w.head (w.head ∷ []) ≡ 1
+    head_here = omega (arith, at_self w.head)
+
+    pub head_new : IsNew s2 w2.head
+    head_new =
+        let first = new_stays s s1 (ahead w1.next) (m.back.entry.at ∷ []) m.moves w.head r.head_new (omega (arith, all_once w.head, head_here)) in
+        subst (IsNew s2) (sym same_head) (new_stays s1 s2 copied.taken (own m.back.more) copied.moves w.head first (omega (arith, all_once w.head, head_here)))
+
+    pub entries_are : (x : ℕ) → times x (entries_used (with_seam ++ copied.copies)) ≡ times x (ahead w.next) + times x (entries_used r.ws) + times x (used r.seam) + times x (own copied.copies) + times x (gaps_used m.back.more)
+    entries_are x = omega (arith, entries_used-append x with_seam copied.copies, seam_used x, used_entries x copied.copies, copies_gaps x copied.copies m.back.more copied.same)
+
+    pub back_head_out : IsOut w2.head (entries_used (with_seam ++ copied.copies) ++ used r.tail)
+    back_head_out =
+        let untaken = alive_untaken w.head (new_alive s w.head r.head_new) (omega (arith, all_once w.head, head_here)) in
+        subst (λ (h : ℕ). IsOut h (entries_used (with_seam ++ copied.copies) ++ used r.tail)) (sym same_head)
+        (out_of_times w.head _ (omega (arith, times-append w.head (entries_used (with_seam ++ copied.copies)) (used r.tail), entries_are w.head, all_once w.head, head_here, copied.rows w.head, untaken.0, untaken.1)))
+
+    module _ (c3 : Content) (at : Root) where
+      pub with_back : IsRootOf (head w2.head w2.layer (chain_of (with_seam ++ copied.copies) r.tail)) at → HasRows c3 (rows_of One (head w2.head w2.layer (chain_of (with_seam ++ copied.copies) r.tail))) → KeepsBut (w2.head ∷ []) c2 c3 → w.left ≡ parts.back.count → length (ahead w.next) ≡ 1 → length (ahead w2.next) ≡ 0 → Finished w c c3 s s2 parts r at
+      with_back root rows keeps3 left one none = record {
+        placed = head w2.head w2.layer (chain_of entries r.tail);
+        is =
+            let here : entries_of One (chain_of entries r.tail) ≡ with_entries (cells_of r.ws) (with_first (tree_of One r.seam) (entries_to (m.back.entry ∷ m.back.more) r.tail)) =
+            chain_entries entries r.tail
+            ∙ ap (λ (cs : List TreeEntry). with_entries cs (last (tree_of One r.tail))) (cells-append with_seam copied.copies ∙ ap (λ (cs : List TreeEntry). cells_of with_seam ++ cs) (copies_cells copied.copies m.back.more copied.same))
+            ∙ entries-front (cells_of with_seam) (cells_of m.back.more) (last (tree_of One r.tail))
+            ∙ ap (λ (cs : List TreeEntry). with_entries cs (entries_to m.back.more r.tail)) (cells-append r.ws (record { at = m.row; child = r.seam; key = m.back.entry.key; value = m.back.entry.value } ∷ []))
+            ∙ entries-front (cells_of r.ws) (cells_of (record { at = m.row; child = r.seam; key = m.back.entry.key; value = m.back.entry.value } ∷ [])) (entries_to m.back.more r.tail) in
+            ap (λ (l : ℕ). node One l (entries_of One (chain_of entries r.tail))) same_layer
+            ∙ ap (λ (fs : Entries). node One w.layer fs) (here ∙ ap (λ (es : List PlacedEntry). with_entries (cells_of r.ws) (with_first (tree_of One r.seam) (entries_to es r.tail))) (sym m.back.is));
+        root = root;
+        piece = head_piece w2 c2 c3 s2 entries r.tail copied.going tail_piece head_new rows;
+        taken = ahead w1.next ++ copied.taken;
+        moves = subst (λ (es : List PlacedEntry). Moves s s2 (ahead w1.next ++ copied.taken) (own es)) (sym m.back.is) (moves_then s s1 s2 (ahead w1.next) (m.back.entry.at ∷ []) copied.taken (own m.back.more) m.moves copied.moves);
+        keeps = λ x out.
+            let zero_times = times_of_out x (w.head ∷ ahead w.next ++ (ahead w1.next ++ copied.taken)) out in
+            let a = times-append x (ahead w.next) (ahead w1.next ++ copied.taken) in
+            let b = times-append x (ahead w1.next) copied.taken in
+            keeps3 x (out_of_times x (w2.head ∷ []) (omega (arith, zero_times, ap (λ (h : ℕ). times x (h ∷ [])) same_head)))
+            ∙ copied.keeps x (out_of_times x (ahead w1.next ++ copied.taken) (omega (arith, zero_times, a)))
+            ∙ m.keeps x (out_of_times x (ahead w.next) (omega (arith, zero_times, a)));
+        rows = λ x. omega (arith, all_used w2 c2 c3 s2 entries r.tail copied.going tail_piece head_new x, ap (λ (h : ℕ). times x (h ∷ [])) same_head, entries_are x, copied.rows x, all x, times-append x (ahead w1.next) copied.taken, ap (λ (es : List PlacedEntry). times x (gaps_used (others es))) m.back.is);
+        counted = omega (arith, length-append (ahead w1.next) copied.taken, copied.counted, m.back.run.counted, left, none);
+      }
 
 -- the new row is none of those that are written, nor of the seam
 pub seam_out : (w : NodeWriter) (c : Content) (s : State) (parts : Parts) (r : Rest w c s parts) (r0 : ℕ) → w.next ≡ Some r0 → IsOut r0 (entries_used r.ws ++ used r.seam)

@@ -1,132 +1,117 @@
 use Rattle.std.proofs.Common.{◌≡◌, ◌-◌, ℕ, List, [], ◌∷◌, ◌++◌, length, Option, sym, ◌∙◌, ap, subst, arith}
 use Rattle.mst_key.specs.declared.format.Format.TheVariants.{One}
 use Rattle.mst_arena.specs.Content.{Content}
+use Rattle.mst_arena.specs.Lists.{times}
 use Rattle.mst_arena.specs.Standing.{rows_of, HasRows}
 use Rattle.mst_path.specs.Takes.{KeepsBut}
 use Rattle.mst_path.specs.Moves.{Moves}
-use Rattle.mst_path.specs.Writing.{ahead, IsWritten}
+use Rattle.mst_path.specs.Runs.{OldPiece}
+use Rattle.mst_path.specs.Writing.{ahead, IsWritten, IsRootOf}
+use Rattle.mst_path.specs.Copying.{Copied}
+use Rattle.mst_path.specs.Making.{Rest}
 use Rattle.mst_path.proofs.lemmas.rows.Copies.{small_link, old_alive, links_are, value_there, next_some}
-use Rattle.mst_path.proofs.lemmas.steps.Finishing.{first_back, none_ahead, no_length, seam_out, back_copying, tail_stays, back_head_out, with_back}
+use Rattle.mst_path.proofs.lemmas.steps.Finishing.{first_back, none_ahead, no_length, seam_out, Seamed, with_seam, back_copying, tail_stays, back_head_out, with_back}
 use Rattle.mst_path.proofs.lemmas.trees.Made.{piece_alive}
+use Rattle.mst_path.proofs.making.finish_with_back.Given.{Over}
+use Rattle.mst_path.proofs.making.finish_with_back.Goals.{After-move_entry, After-move_run, After-root_at-tail}
 use Rattle.mst_path.proofs.making.finish_with_back.Goals as goal
+
+-- ---- the first entry at the back is moved behind the seam
 
 pub move_entry-requires-clause-child : goal.move_entry-requires-clause-child
 move_entry-requires-clause-child g c =
-    let r = c.requires.rest in
-    omega (arith, r.seam_at.link, small_link c.args.desk.now r.seam (piece_alive r.seam_piece) c.requires.few)
+    omega (arith, c.requires.rest.seam_at.link, small_link c.args.desk.now c.requires.rest.seam (piece_alive c.requires.rest.seam_piece) c.requires.few)
 
 pub move_entry-requires-clause-old : goal.move_entry-requires-clause-old
-move_entry-requires-clause-old g c =
-    let r = c.requires.rest in
-    let b = first_back _ _ _ _ r c.requires.some in
-    b.old
+move_entry-requires-clause-old g c = (first_back _ _ _ _ c.requires.rest c.requires.some).old
+
+module _ (g : Over) (c : goal.After-move_entry g) (r : Rest c.args.writer (g.R.Rows.content c.args.rows.now) c.args.desk.now c.args.parts.now) where
+  seamed : Seamed c.args.writer c.move_entry.new.writer (g.R.Rows.content c.args.rows.now) (g.R.Rows.content c.move_entry.new.rows) c.args.desk.now c.move_entry.new.desk c.args.parts.now r c.entry-entry.result.next
+  seamed =
+      let b = first_back _ _ _ _ r c.requires.some in
+      let read : g.R.Rows.content c.entry-entry.new.self ≡ g.R.Rows.content c.args.rows.now = ap g.R.Rows.content c.entry-entry.ensures.same in
+      let links = links_are _ c.entry-entry.result _ _ _ _ b.row c.entry-entry.ensures.value in
+      let next = next_some c.args.writer.next c.args.writer.left c.requires.writer.reserved (omega (arith, c.requires.left, c.requires.some)) in
+      record {
+        back = b;
+        row = next.0;
+        next_is = next.1;
+        moves = subst (λ (x : ℕ). Moves c.args.desk.now c.move_entry.new.desk (ahead c.move_entry.new.writer.next) (x ∷ [])) b.link c.move_entry.ensures.moves;
+        keeps = subst (λ (x : Content). KeepsBut (ahead c.args.writer.next) x (g.R.Rows.content c.move_entry.new.rows)) read c.move_entry.ensures.keeps;
+        written = subst (λ (key : List ℕ). IsWritten c.move_entry.new.writer (g.R.Rows.content c.move_entry.new.rows) (r.ws ++ record { at = next.0; child = r.seam; key = key; value = b.entry.value } ∷ [])) links.2
+            (c.move_entry.ensures.written r.ws r.seam next.0 b.entry.value next.1
+            (value_there _ _ _ _ _ (ap (λ (x : Content). x (c.args.parts.now.back.first - 1)) read ∙ b.row))
+            (subst (λ (x : Content). IsWritten c.args.writer x r.ws) (sym read) r.going.written)
+            r.seam_at
+            (subst (λ (x : Content). HasRows x (rows_of One r.seam)) (sym read) r.seam_piece.rows)
+            (seam_out _ _ _ _ r next.0 next.1));
+        begins = links.1;
+      }
 
 pub move_run-requires-clause-copying : goal.move_run-requires-clause-copying
 move_run-requires-clause-copying g c =
-    let r = c.requires.rest in
-    let b = first_back _ _ _ _ r c.requires.some in
-    let read : g.R.Rows.content c.entry-entry.new.self ≡ g.R.Rows.content c.args.rows.now = ap g.R.Rows.content c.entry-entry.ensures.same in
-    let links = links_are _ c.entry-entry.result _ _ _ _ b.row c.entry-entry.ensures.value in
-    let next = next_some c.args.writer.next c.args.writer.left c.requires.writer.reserved (omega (arith, c.requires.left, c.requires.some)) in
-    let written = subst (λ (key : List ℕ). IsWritten c.move_entry.new.writer (g.R.Rows.content c.move_entry.new.rows) (r.ws ++ record { at = next.0; child = r.seam; key = key; value = b.entry.value } ∷ [])) links.2
-    (c.move_entry.ensures.written r.ws r.seam next.0 b.entry.value next.1
-    (value_there _ _ _ _ _ (ap (λ (x : Content). x (c.args.parts.now.back.first - 1)) read ∙ b.row))
-    (subst (λ (x : Content). IsWritten c.args.writer x r.ws) (sym read) r.going.written)
-    r.seam_at
-    (subst (λ (x : Content). HasRows x (rows_of One r.seam)) (sym read) r.seam_piece.rows)
-    (seam_out _ _ _ _ r next.0 next.1)) in
-    let moves = subst (λ (x : ℕ). Moves c.args.desk.now c.move_entry.new.desk (ahead c.move_entry.new.writer.next) (x ∷ [])) b.link c.move_entry.ensures.moves in
-    let keeps = subst (λ (x : Content). KeepsBut (ahead c.args.writer.next) x (g.R.Rows.content c.move_entry.new.rows)) read c.move_entry.ensures.keeps in
-    let copying = back_copying c.args.writer c.move_entry.new.writer _ _ _ _ c.args.parts.now r b.entry b.more b.is next.0 next.1 moves keeps written c.entry-entry.result.next (c.args.parts.now.back.count - 1) links.1 (omega (arith, c.requires.some)) in
-    copying
+    back_copying (seamed g (goal.at.move_run-requires-clause-copying g c).After-move_entry c.requires.rest) (c.args.parts.now.back.count - 1) (omega (arith, c.requires.some))
+
+-- ---- the entries behind it are moved
+
+module _ (g : Over) (c : goal.After-move_run g) where
+  same_head : c.move_run.new.writer.head ≡ c.args.writer.head
+  same_head = c.move_run.ensures.node.3 ∙ c.move_entry.ensures.node.3
+
+  same_layer : c.move_run.new.writer.layer ≡ c.args.writer.layer
+  same_layer = c.move_run.ensures.node.0 ∙ c.move_entry.ensures.node.0
+
+  none_left : c.move_run.new.writer.left ≡ 0
+  none_left = omega (arith, c.move_run.ensures.node.2, c.move_entry.ensures.node.2, c.requires.left, c.requires.some)
+
+  all_written : (x : ℕ) → times x (ahead c.move_run.new.writer.next) ≡ 0
+  all_written = none_ahead c.move_run.new.writer.next c.move_run.new.writer.left c.move_run.ensures.writer.reserved none_left
+
+  module _ (r : Rest c.args.writer (g.R.Rows.content c.args.rows.now) c.args.desk.now c.args.parts.now) (m : Seamed c.args.writer c.move_entry.new.writer (g.R.Rows.content c.args.rows.now) (g.R.Rows.content c.move_entry.new.rows) c.args.desk.now c.move_entry.new.desk c.args.parts.now r c.entry-entry.result.next) where
+    copied : Copied c.move_entry.new.writer c.move_run.new.writer (g.R.Rows.content c.move_entry.new.rows) (g.R.Rows.content c.move_run.new.rows) c.move_entry.new.desk c.move_run.new.desk (with_seam m) m.back.more
+    unfolding back_copying
+    copied = (c.move_run.ensures.copied (back_copying m (c.args.parts.now.back.count - 1) (omega (arith, c.requires.some)))).1
+
+    tail : OldPiece (g.R.Rows.content c.move_run.new.rows) c.move_run.new.desk r.tail
+    tail = tail_stays m copied same_head same_layer all_written
 
 pub root_at-tail-requires : goal.root_at-tail-requires
-unfolding back_copying
 root_at-tail-requires g c =
-    let r = c.requires.rest in
-    let b = first_back _ _ _ _ r c.requires.some in
-    let read : g.R.Rows.content c.entry-entry.new.self ≡ g.R.Rows.content c.args.rows.now = ap g.R.Rows.content c.entry-entry.ensures.same in
-    let links = links_are _ c.entry-entry.result _ _ _ _ b.row c.entry-entry.ensures.value in
-    let next = next_some c.args.writer.next c.args.writer.left c.requires.writer.reserved (omega (arith, c.requires.left, c.requires.some)) in
-    let written = subst (λ (key : List ℕ). IsWritten c.move_entry.new.writer (g.R.Rows.content c.move_entry.new.rows) (r.ws ++ record { at = next.0; child = r.seam; key = key; value = b.entry.value } ∷ [])) links.2
-    (c.move_entry.ensures.written r.ws r.seam next.0 b.entry.value next.1
-    (value_there _ _ _ _ _ (ap (λ (x : Content). x (c.args.parts.now.back.first - 1)) read ∙ b.row))
-    (subst (λ (x : Content). IsWritten c.args.writer x r.ws) (sym read) r.going.written)
-    r.seam_at
-    (subst (λ (x : Content). HasRows x (rows_of One r.seam)) (sym read) r.seam_piece.rows)
-    (seam_out _ _ _ _ r next.0 next.1)) in
-    let moves = subst (λ (x : ℕ). Moves c.args.desk.now c.move_entry.new.desk (ahead c.move_entry.new.writer.next) (x ∷ [])) b.link c.move_entry.ensures.moves in
-    let keeps = subst (λ (x : Content). KeepsBut (ahead c.args.writer.next) x (g.R.Rows.content c.move_entry.new.rows)) read c.move_entry.ensures.keeps in
-    let copying = back_copying c.args.writer c.move_entry.new.writer _ _ _ _ c.args.parts.now r b.entry b.more b.is next.0 next.1 moves keeps written c.entry-entry.result.next (c.args.parts.now.back.count - 1) links.1 (omega (arith, c.requires.some)) in
-    let copied = (c.move_run.ensures.copied copying).1 in
-    let head_same = c.move_run.ensures.node.3 ∙ c.move_entry.ensures.node.3 in
-    let layer_same = c.move_run.ensures.node.0 ∙ c.move_entry.ensures.node.0 in
-    let left_none : c.move_run.new.writer.left ≡ 0 = omega (arith, c.move_run.ensures.node.2, c.move_entry.ensures.node.2, c.requires.left, c.requires.some) in
-    let all = none_ahead c.move_run.new.writer.next c.move_run.new.writer.left c.move_run.ensures.writer.reserved left_none in
-    let tail = tail_stays c.args.writer c.move_entry.new.writer _ _ _ _ c.args.parts.now r b.entry b.more b.is next.0 next.1 moves keeps written c.move_run.new.writer (g.R.Rows.content c.move_run.new.rows) c.move_run.new.desk copied head_same layer_same all in
-    record { stands = (r.tail, b.run.tail_at, tail.rows) }
+    let at = goal.at.root_at-tail-requires g c in
+    let m = seamed g at.After-move_entry c.requires.rest in
+    record { stands = (c.requires.rest.tail, c.requires.rest.back_run.tail_at, (tail g at.After-move_run c.requires.rest m).rows) }
+
+-- ---- the head is written
+
+module _ (g : Over) (c : goal.After-root_at-tail g) (r : Rest c.args.writer (g.R.Rows.content c.args.rows.now) c.args.desk.now c.args.parts.now) where
+  root : OldPiece (g.R.Rows.content c.move_run.new.rows) c.move_run.new.desk r.tail → IsRootOf r.tail c.root_at-tail.result
+  root stays = c.root_at-tail.ensures.root r.tail r.back_run.tail_at stays.rows
 
 pub finish-requires-clause-tail : goal.finish-requires-clause-tail
-unfolding back_copying
 finish-requires-clause-tail g c =
     let r = c.requires.rest in
-    let b = first_back _ _ _ _ r c.requires.some in
-    let read : g.R.Rows.content c.entry-entry.new.self ≡ g.R.Rows.content c.args.rows.now = ap g.R.Rows.content c.entry-entry.ensures.same in
-    let links = links_are _ c.entry-entry.result _ _ _ _ b.row c.entry-entry.ensures.value in
-    let next = next_some c.args.writer.next c.args.writer.left c.requires.writer.reserved (omega (arith, c.requires.left, c.requires.some)) in
-    let written = subst (λ (key : List ℕ). IsWritten c.move_entry.new.writer (g.R.Rows.content c.move_entry.new.rows) (r.ws ++ record { at = next.0; child = r.seam; key = key; value = b.entry.value } ∷ [])) links.2
-    (c.move_entry.ensures.written r.ws r.seam next.0 b.entry.value next.1
-    (value_there _ _ _ _ _ (ap (λ (x : Content). x (c.args.parts.now.back.first - 1)) read ∙ b.row))
-    (subst (λ (x : Content). IsWritten c.args.writer x r.ws) (sym read) r.going.written)
-    r.seam_at
-    (subst (λ (x : Content). HasRows x (rows_of One r.seam)) (sym read) r.seam_piece.rows)
-    (seam_out _ _ _ _ r next.0 next.1)) in
-    let moves = subst (λ (x : ℕ). Moves c.args.desk.now c.move_entry.new.desk (ahead c.move_entry.new.writer.next) (x ∷ [])) b.link c.move_entry.ensures.moves in
-    let keeps = subst (λ (x : Content). KeepsBut (ahead c.args.writer.next) x (g.R.Rows.content c.move_entry.new.rows)) read c.move_entry.ensures.keeps in
-    let copying = back_copying c.args.writer c.move_entry.new.writer _ _ _ _ c.args.parts.now r b.entry b.more b.is next.0 next.1 moves keeps written c.entry-entry.result.next (c.args.parts.now.back.count - 1) links.1 (omega (arith, c.requires.some)) in
-    let copied = (c.move_run.ensures.copied copying).1 in
-    let head_same = c.move_run.ensures.node.3 ∙ c.move_entry.ensures.node.3 in
-    let layer_same = c.move_run.ensures.node.0 ∙ c.move_entry.ensures.node.0 in
-    let left_none : c.move_run.new.writer.left ≡ 0 = omega (arith, c.move_run.ensures.node.2, c.move_entry.ensures.node.2, c.requires.left, c.requires.some) in
-    let all = none_ahead c.move_run.new.writer.next c.move_run.new.writer.left c.move_run.ensures.writer.reserved left_none in
-    let tail = tail_stays c.args.writer c.move_entry.new.writer _ _ _ _ c.args.parts.now r b.entry b.more b.is next.0 next.1 moves keeps written c.move_run.new.writer (g.R.Rows.content c.move_run.new.rows) c.move_run.new.desk copied head_same layer_same all in
-    let root = c.root_at-tail.ensures.root r.tail b.run.tail_at tail.rows in
-    omega (arith, root.link, small_link c.move_run.new.desk r.tail (λ x i. old_alive c.move_run.new.desk x (tail.old x i)) (omega (arith, moves.rows, copied.moves.rows, c.requires.few)))
+    let at = goal.at.finish-requires-clause-tail g c in
+    let seam = seamed g at.After-move_entry r in
+    let run = copied g at.After-move_run r seam in
+    let stays = tail g at.After-move_run r seam in
+    let link = (root g at.After-root_at-tail r stays).link in
+    omega (arith, link, small_link c.move_run.new.desk r.tail (λ x i. old_alive c.move_run.new.desk x (stays.old x i)) (omega (arith, seam.moves.rows, run.moves.rows, c.requires.few)))
 
 pub returns-clause-finished : goal.returns-clause-finished
-unfolding back_copying
 returns-clause-finished g c = λ r.
-    let b = first_back _ _ _ _ r c.requires.some in
-    let read : g.R.Rows.content c.entry-entry.new.self ≡ g.R.Rows.content c.args.rows.now = ap g.R.Rows.content c.entry-entry.ensures.same in
-    let links = links_are _ c.entry-entry.result _ _ _ _ b.row c.entry-entry.ensures.value in
-    let next = next_some c.args.writer.next c.args.writer.left c.requires.writer.reserved (omega (arith, c.requires.left, c.requires.some)) in
-    let written = subst (λ (key : List ℕ). IsWritten c.move_entry.new.writer (g.R.Rows.content c.move_entry.new.rows) (r.ws ++ record { at = next.0; child = r.seam; key = key; value = b.entry.value } ∷ [])) links.2
-    (c.move_entry.ensures.written r.ws r.seam next.0 b.entry.value next.1
-    (value_there _ _ _ _ _ (ap (λ (x : Content). x (c.args.parts.now.back.first - 1)) read ∙ b.row))
-    (subst (λ (x : Content). IsWritten c.args.writer x r.ws) (sym read) r.going.written)
-    r.seam_at
-    (subst (λ (x : Content). HasRows x (rows_of One r.seam)) (sym read) r.seam_piece.rows)
-    (seam_out _ _ _ _ r next.0 next.1)) in
-    let moves = subst (λ (x : ℕ). Moves c.args.desk.now c.move_entry.new.desk (ahead c.move_entry.new.writer.next) (x ∷ [])) b.link c.move_entry.ensures.moves in
-    let keeps = subst (λ (x : Content). KeepsBut (ahead c.args.writer.next) x (g.R.Rows.content c.move_entry.new.rows)) read c.move_entry.ensures.keeps in
-    let copying = back_copying c.args.writer c.move_entry.new.writer _ _ _ _ c.args.parts.now r b.entry b.more b.is next.0 next.1 moves keeps written c.entry-entry.result.next (c.args.parts.now.back.count - 1) links.1 (omega (arith, c.requires.some)) in
-    let copied = (c.move_run.ensures.copied copying).1 in
-    let head_same = c.move_run.ensures.node.3 ∙ c.move_entry.ensures.node.3 in
-    let layer_same = c.move_run.ensures.node.0 ∙ c.move_entry.ensures.node.0 in
-    let left_none : c.move_run.new.writer.left ≡ 0 = omega (arith, c.move_run.ensures.node.2, c.move_entry.ensures.node.2, c.requires.left, c.requires.some) in
-    let all = none_ahead c.move_run.new.writer.next c.move_run.new.writer.left c.move_run.ensures.writer.reserved left_none in
-    let tail = tail_stays c.args.writer c.move_entry.new.writer _ _ _ _ c.args.parts.now r b.entry b.more b.is next.0 next.1 moves keeps written c.move_run.new.writer (g.R.Rows.content c.move_run.new.rows) c.move_run.new.desk copied head_same layer_same all in
-    let root = c.root_at-tail.ensures.root r.tail b.run.tail_at tail.rows in
-    let entries = (r.ws ++ record { at = next.0; child = r.seam; key = b.entry.key; value = b.entry.value } ∷ []) ++ copied.copies in
+    let at = goal.at.returns-clause-finished g c in
+    let run = at.After-move_run in
+    let m = seamed g at.After-move_entry r in
+    let k = copied g run r m in
+    let stays = tail g run r m in
+    let tail_root = root g at.After-root_at-tail r stays in
     let kept : g.R.Rows.content c.root_at-tail.new.rows ≡ g.R.Rows.content c.move_run.new.rows = ap g.R.Rows.content c.root_at-tail.ensures.same in
-    let all_written = subst (λ (x : Content). IsWritten c.move_run.new.writer x entries) (sym kept) copied.going.written in
-    let tail_rows = subst (λ (x : Content). HasRows x (rows_of One r.tail)) (sym kept) tail.rows in
-    let out = back_head_out c.args.writer c.move_entry.new.writer _ _ _ _ c.args.parts.now r b.entry b.more b.is next.0 next.1 moves keeps written c.move_run.new.writer (g.R.Rows.content c.move_run.new.rows) c.move_run.new.desk copied head_same layer_same all in
-    with_back c.args.writer c.move_entry.new.writer _ _ _ _ c.args.parts.now r b.entry b.more b.is next.0 next.1 moves keeps written c.move_run.new.writer (g.R.Rows.content c.move_run.new.rows) c.move_run.new.desk copied head_same layer_same all
-    (g.R.Rows.content c.finish.new.rows) c.finish.result
-    (c.finish.ensures.root entries r.tail all_written root)
-    (c.finish.ensures.stands entries r.tail all_written root tail_rows out)
+    let written = subst (λ (x : Content). IsWritten c.move_run.new.writer x (with_seam m ++ k.copies)) (sym kept) k.going.written in
+    let tail_rows = subst (λ (x : Content). HasRows x (rows_of One r.tail)) (sym kept) stays.rows in
+    with_back m k (same_head g run) (same_layer g run) (all_written g run) (g.R.Rows.content c.finish.new.rows) c.finish.result
+    (c.finish.ensures.root (with_seam m ++ k.copies) r.tail written tail_root)
+    (c.finish.ensures.stands (with_seam m ++ k.copies) r.tail written tail_root tail_rows (back_head_out m k (same_head g run) (same_layer g run) (all_written g run)))
     (subst (λ (x : Content). KeepsBut (c.move_run.new.writer.head ∷ []) x (g.R.Rows.content c.finish.new.rows)) kept c.finish.ensures.keeps)
     c.requires.left
-    (ap (λ (o : Option ℕ). length (ahead o)) next.1)
-    (no_length c.move_run.new.writer.next c.move_run.new.writer.left c.move_run.ensures.writer.reserved left_none)
+    (ap (λ (o : Option ℕ). length (ahead o)) m.next_is)
+    (no_length c.move_run.new.writer.next c.move_run.new.writer.left c.move_run.ensures.writer.reserved (none_left g run))
