@@ -1,17 +1,20 @@
-use Rattle.std.proofs.Common.{◌≡◌, ◌∙◌, ◌<◌, List, Some, IsSome, sym, ap, subst, arith, rules}
+use Rattle.std.proofs.Common.{◌≡◌, ◌∙◌, ◌<◌, ℕ, List, Some, IsSome, sym, ap, subst, arith, rules}
 use Rattle.mst_key.specs.Map.{IsAscending, map_get}
 use Rattle.mst_key.specs.declared.format.Format.TheVariants.{One}
 use Rattle.mst_node.specs.Tree.{pairs}
 use Rattle.mst_arena.specs.Content.{Content, part_at}
 use Rattle.mst_arena.specs.Lives.{State}
 use Rattle.mst_arena.specs.Row.{entry_value}
-use Rattle.mst_arena.specs.Standing.{Placed, tree_of, link_of}
-use Rattle.mst_path.specs.Cutting.{EntriesLie, IsCut, CutGap, CutHeld}
+use Rattle.mst_arena.specs.Standing.{tree_of}
+use Rattle.mst_path.specs.Cutting.{EntriesLie}
 use Rattle.mst_path.specs.Joining.{height_at}
 use Rattle.mst_path.specs.Removing.{SearchTree}
 use Rattle.mst_path.specs.Writing.{PlacedEntry}
 use Rattle.mst_path.proofs.lemmas.steps.Removals.{top}
-use Rattle.mst_path.proofs.lemmas.trees.Lookups.{lies, finds_below, finds_here, some_value}
+use Rattle.mst_path.proofs.lemmas.steps.Splitting.{positive}
+use Rattle.mst_path.proofs.lemmas.trees.Lookups.{FindsBelow, FindsHere, lies, cut_top, finds_below, finds_here, some_value}
+use Rattle.mst_path.proofs.finding.+find.Given.{Over}
+use Rattle.mst_path.proofs.finding.+find.Goals.{In-Gap, In-Held}
 use Rattle.mst_path.proofs.finding.+find.Goals as goal
 
 pub cut_at-requires : goal.cut_at-requires
@@ -19,71 +22,58 @@ cut_at-requires g t c =
     let content = g.R.Rows.content c.args.rows.now in
     let s = c.requires.tree.0 in
     let z = c.requires.tree.1 in
-    let some : 0 < c.args.link = omega (arith, c.if-link-eq0.false) in
+    let some = positive c.args.link c.if-link-eq0.false in
     let o = top content s c.args.link z c.args.key.now c.head-head.result some c.head-head.ensures.value in
     record { lies = subst (λ (x : Content). (es : List PlacedEntry) × EntriesLie x c.head-head.result es) (sym (ap g.R.Rows.content c.head-head.ensures.same)) (o.entries, lies content s c.args.link z c.args.key.now c.head-head.result some c.head-head.ensures.value) }
 
+-- ---- the key falls into a gap
+
+module _ (g : Over) (n : ℕ) (c : goal.In-Gap g n) where
+  gap_rows : g.R.Rows.content c.cut_at.new.rows ≡ g.R.Rows.content c.args.rows.now
+  gap_rows = ap g.R.Rows.content (c.cut_at.ensures.same ∙ c.head-head.ensures.same)
+
+  below : (s : State) (z : SearchTree (g.R.Rows.content c.args.rows.now) s c.args.link) → IsAscending (pairs (tree_of One z.placed)) → FindsBelow (g.R.Rows.content c.args.rows.now) s c.args.link z c.args.key.now c.in-Gap.child
+  below s z rise =
+      finds_below (g.R.Rows.content c.args.rows.now) s c.args.link z c.args.key.now c.head-head.result (positive c.args.link c.if-link-eq0.false) c.head-head.ensures.value rise c.in-Gap.front c.in-Gap.back c.in-Gap.child
+      (cut_top (g.R.Rows.content c.args.rows.now) s c.args.link z c.args.key.now c.head-head.result (positive c.args.link c.if-link-eq0.false) c.head-head.ensures.value (ap g.R.Rows.content c.head-head.ensures.same) c.cut_at.ensures.cut c.in-Gap.is)
+
 pub find-requires : goal.find-requires
 find-requires g t c κs within =
-    let content = g.R.Rows.content c.args.rows.now in
-    let s = c.requires.tree.0 in
-    let z = c.requires.tree.1 in
-    let k = c.args.key.now in
-    let h = c.head-head.result in
-    let some : 0 < c.args.link = omega (arith, c.if-link-eq0.false) in
-    let o = top content s c.args.link z k h some c.head-head.ensures.value in
-    let lie = lies content s c.args.link z k h some c.head-head.ensures.value in
-    let cut = subst (λ (x : Content). (es : List PlacedEntry) (tail : Placed) → EntriesLie x h es → link_of tail ≡ h.tail → IsCut k es tail c.cut_at.result) (ap g.R.Rows.content c.head-head.ensures.same) c.cut_at.ensures.cut o.entries o.tail lie o.tail_at in
-    let gap : CutGap k o.entries o.tail c.in-Gap.front c.in-Gap.child c.in-Gap.back = subst (IsCut k o.entries o.tail) c.in-Gap.is cut in
-    let below = finds_below content s c.args.link z k h some c.head-head.ensures.value c.requires.tree.2 c.in-Gap.front c.in-Gap.back c.in-Gap.child gap in
-    let same = ap g.R.Rows.content (c.cut_at.ensures.same ∙ c.head-head.ensures.same) in
-    let falls = subst (λ (x : Content). height_at x c.in-Gap.child < height_at content c.args.link) (sym same) below.falls in (
+    let at = (goal.at.find-requires g t c).In-Gap in
+    let lower = below g t at c.requires.tree.0 c.requires.tree.1 c.requires.tree.2 in
+    let same = gap_rows g t at in
+    let falls = subst (λ (x : Content). height_at x c.in-Gap.child < height_at (g.R.Rows.content c.args.rows.now) c.args.link) (sym same) lower.falls in (
       omega (arith, c.decreases, falls),
-      (search rules, subst (λ (x : Content). (q : State) × (y : SearchTree x q c.in-Gap.child) × IsAscending (pairs (tree_of One y.placed))) (sym same) (s, below.inner, below.rise)),
+      (search rules, subst (λ (x : Content). (q : State) × (y : SearchTree x q c.in-Gap.child) × IsAscending (pairs (tree_of One y.placed))) (sym same) (c.requires.tree.0, lower.inner, lower.rise)),
     )
-
-pub value-requires : goal.value-requires
-value-requires g t c =
-    let content = g.R.Rows.content c.args.rows.now in
-    let s = c.requires.tree.0 in
-    let z = c.requires.tree.1 in
-    let k = c.args.key.now in
-    let h = c.head-head.result in
-    let some : 0 < c.args.link = omega (arith, c.if-link-eq0.false) in
-    let o = top content s c.args.link z k h some c.head-head.ensures.value in
-    let lie = lies content s c.args.link z k h some c.head-head.ensures.value in
-    let cut = subst (λ (x : Content). (es : List PlacedEntry) (tail : Placed) → EntriesLie x h es → link_of tail ≡ h.tail → IsCut k es tail c.cut_at.result) (ap g.R.Rows.content c.head-head.ensures.same) c.cut_at.ensures.cut o.entries o.tail lie o.tail_at in
-    let held : CutHeld k o.entries o.tail c.in-Held.front c.in-Held.row c.in-Held.child c.in-Held.back = subst (IsCut k o.entries o.tail) c.in-Held.is cut in
-    let here = finds_here content s c.args.link z k h some c.head-head.ensures.value c.requires.tree.2 c.in-Held.front c.in-Held.back c.in-Held.row c.in-Held.child held in
-    let same = ap g.R.Rows.content (c.cut_at.ensures.same ∙ c.head-head.ensures.same) in
-    record { there = subst (λ (x : Content). IsSome (part_at entry_value x c.in-Held.row)) (sym same) (some_value content c.in-Held.row here.value here.there) }
 
 pub returns-in-Gap-clause-found : goal.returns-in-Gap-clause-found
 returns-in-Gap-clause-found g t c = λ s z rise.
-    let content = g.R.Rows.content c.args.rows.now in
-    let k = c.args.key.now in
-    let h = c.head-head.result in
-    let some : 0 < c.args.link = omega (arith, c.if-link-eq0.false) in
-    let o = top content s c.args.link z k h some c.head-head.ensures.value in
-    let lie = lies content s c.args.link z k h some c.head-head.ensures.value in
-    let cut = subst (λ (x : Content). (es : List PlacedEntry) (tail : Placed) → EntriesLie x h es → link_of tail ≡ h.tail → IsCut k es tail c.cut_at.result) (ap g.R.Rows.content c.head-head.ensures.same) c.cut_at.ensures.cut o.entries o.tail lie o.tail_at in
-    let gap : CutGap k o.entries o.tail c.in-Gap.front c.in-Gap.child c.in-Gap.back = subst (IsCut k o.entries o.tail) c.in-Gap.is cut in
-    let below = finds_below content s c.args.link z k h some c.head-head.ensures.value rise c.in-Gap.front c.in-Gap.back c.in-Gap.child gap in
-    let same = ap g.R.Rows.content (c.cut_at.ensures.same ∙ c.head-head.ensures.same) in
-    let found = subst (λ (x : Content). (q : State) (y : SearchTree x q c.in-Gap.child) → IsAscending (pairs (tree_of One y.placed)) → c.find.result ≡ map_get (pairs (tree_of One y.placed)) k) same c.find.ensures.found s below.inner below.rise in
-    found ∙ sym below.same
+    let at = (goal.at.returns-in-Gap-clause-found g t c).In-Gap in
+    let lower = below g t at s z rise in
+    let found = subst (λ (x : Content). (q : State) (y : SearchTree x q c.in-Gap.child) → IsAscending (pairs (tree_of One y.placed)) → c.find.result ≡ map_get (pairs (tree_of One y.placed)) c.args.key.now) (gap_rows g t at) c.find.ensures.found s lower.inner lower.rise in
+    found ∙ sym lower.same
+
+-- ---- the key's entry is held
+
+module _ (g : Over) (n : ℕ) (c : goal.In-Held g n) where
+  held_rows : g.R.Rows.content c.cut_at.new.rows ≡ g.R.Rows.content c.args.rows.now
+  held_rows = ap g.R.Rows.content (c.cut_at.ensures.same ∙ c.head-head.ensures.same)
+
+  here : (s : State) (z : SearchTree (g.R.Rows.content c.args.rows.now) s c.args.link) → IsAscending (pairs (tree_of One z.placed)) → FindsHere (g.R.Rows.content c.args.rows.now) s c.args.link z c.args.key.now c.in-Held.row
+  here s z rise =
+      finds_here (g.R.Rows.content c.args.rows.now) s c.args.link z c.args.key.now c.head-head.result (positive c.args.link c.if-link-eq0.false) c.head-head.ensures.value rise c.in-Held.front c.in-Held.back c.in-Held.row c.in-Held.child
+      (cut_top (g.R.Rows.content c.args.rows.now) s c.args.link z c.args.key.now c.head-head.result (positive c.args.link c.if-link-eq0.false) c.head-head.ensures.value (ap g.R.Rows.content c.head-head.ensures.same) c.cut_at.ensures.cut c.in-Held.is)
+
+pub value-requires : goal.value-requires
+value-requires g t c =
+    let at = (goal.at.value-requires g t c).In-Held in
+    let found = here g t at c.requires.tree.0 c.requires.tree.1 c.requires.tree.2 in
+    record { there = subst (λ (x : Content). IsSome (part_at entry_value x c.in-Held.row)) (sym (held_rows g t at)) (some_value (g.R.Rows.content c.args.rows.now) c.in-Held.row found.value found.there) }
 
 pub returns-in-Held-clause-found : goal.returns-in-Held-clause-found
 returns-in-Held-clause-found g t c = λ s z rise.
-    let content = g.R.Rows.content c.args.rows.now in
-    let k = c.args.key.now in
-    let h = c.head-head.result in
-    let some : 0 < c.args.link = omega (arith, c.if-link-eq0.false) in
-    let o = top content s c.args.link z k h some c.head-head.ensures.value in
-    let lie = lies content s c.args.link z k h some c.head-head.ensures.value in
-    let cut = subst (λ (x : Content). (es : List PlacedEntry) (tail : Placed) → EntriesLie x h es → link_of tail ≡ h.tail → IsCut k es tail c.cut_at.result) (ap g.R.Rows.content c.head-head.ensures.same) c.cut_at.ensures.cut o.entries o.tail lie o.tail_at in
-    let held : CutHeld k o.entries o.tail c.in-Held.front c.in-Held.row c.in-Held.child c.in-Held.back = subst (IsCut k o.entries o.tail) c.in-Held.is cut in
-    let here = finds_here content s c.args.link z k h some c.head-head.ensures.value rise c.in-Held.front c.in-Held.back c.in-Held.row c.in-Held.child held in
-    let same = ap g.R.Rows.content (c.cut_at.ensures.same ∙ c.head-head.ensures.same) in
-    let read : part_at entry_value content c.in-Held.row ≡ Some c.value.result = ap (λ (x : Content). part_at entry_value x c.in-Held.row) (sym same) ∙ c.value.ensures.value in
-    sym read ∙ here.there ∙ sym here.same
+    let at = (goal.at.returns-in-Held-clause-found g t c).In-Held in
+    let found = here g t at s z rise in
+    let read : part_at entry_value (g.R.Rows.content c.args.rows.now) c.in-Held.row ≡ Some c.value.result = ap (λ (x : Content). part_at entry_value x c.in-Held.row) (sym (held_rows g t at)) ∙ c.value.ensures.value in
+    sym read ∙ found.there ∙ sym found.same

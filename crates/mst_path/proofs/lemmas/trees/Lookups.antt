@@ -15,10 +15,11 @@ use Rattle.mst_arena.specs.declared.row.Row.TheVariants.{Entry}
 use Rattle.mst_arena.specs.declared.row.HeadLinks.{HeadLinks}
 use Rattle.mst_arena.specs.Standing.{Placed, tree_of, link_of}
 use Rattle.mst_path.specs.declared.making.Run.{Run as RunOf}
+use Rattle.mst_path.specs.declared.cut.Cut.{Cut}
 use Rattle.mst_change.specs.Parts.{first_child}
 use Rattle.mst_change.specs.Gap.{CellsBelow, FallsFirst, IsGap, IsAt}
 use Rattle.mst_path.specs.Making.{cells_of, entries_to}
-use Rattle.mst_path.specs.Cutting.{EntriesLie, gap_before, CutGap, CutHeld}
+use Rattle.mst_path.specs.Cutting.{EntriesLie, gap_before, IsCut, CutGap, CutHeld}
 use Rattle.mst_path.specs.Joining.{height_at}
 use Rattle.mst_path.specs.Removing.{SearchTree}
 use Rattle.mst_path.specs.Writing.{PlacedEntry, link_from}
@@ -89,6 +90,12 @@ some_value c row v is = let There : Option (List ℕ) → Type 0 = λ o. IsSome 
 module _ (c : Content) (s : State) (link : ℕ) (t : SearchTree c s link) (k : List ℕ) (h : HeadLinks) (some : 0 < link) (read : part_at head_links c (link - 1) ≡ Some h) where
   pub lies : EntriesLie c h (top c s link t k h some read).entries
   lies = let o = top c s link t k h some read in record { first = o.run.begins; count = o.run.counted; rows = o.run.rows }
+
+  -- the entries are cut, in rows that are the same
+  pub cut_top : {d : Content} {cut seen : Cut} → d ≡ c → ((es : List PlacedEntry) (tail : Placed) → EntriesLie d h es → link_of tail ≡ h.tail → IsCut k es tail cut) → cut ≡ seen → IsCut k (top c s link t k h some read).entries (top c s link t k h some read).tail seen
+  cut_top {cut = cut} same cuts is =
+      let o = top c s link t k h some read in
+      subst (IsCut k o.entries o.tail) is (subst (λ (x : Content). (es : List PlacedEntry) (tail : Placed) → EntriesLie x h es → link_of tail ≡ h.tail → IsCut k es tail cut) same cuts o.entries o.tail lies o.tail_at)
 
   module _ (rise : IsAscending (pairs (tree_of One t.placed))) where
     all_rise : IsAscending (entries_pairs (entries_to (top c s link t k h some read).entries (top c s link t k h some read).tail))
