@@ -1,24 +1,32 @@
-use Rattle.std.proofs.Common.{◌∙◌, ◌≤◌, ◌<◌, ◌+◌, sym, ap, subst, arith, rules}
+use Rattle.std.proofs.Common.{◌∙◌, ◌≤◌, ◌<◌, ◌+◌, ℕ, sym, ap, subst, arith, rules}
 use Rattle.mst_arena.specs.Content.{Content}
 use Rattle.mst_arena.specs.Lives.{free_count}
+use Rattle.mst_arena.specs.Lists.{times}
+use Rattle.mst_arena.specs.Standing.{used}
 use Rattle.mst_path.specs.Takes.{FreeIsBlank}
 use Rattle.mst_path.specs.Making.{Grown}
-use Rattle.mst_path.specs.Joining.{TwoTrees, in_both, both_joined, both_rows, height_at}
+use Rattle.mst_path.specs.Frames.{Framed, in_frame, tree_round, frame_rows}
+use Rattle.mst_path.specs.Joining.{TwoTrees, in_both, both_joined, both_rows, height_at, Met}
 use Rattle.mst_path.proofs.lemmas.rows.Copies.{blank_free}
-use Rattle.mst_path.proofs.lemmas.trees.Joined.{left_none, right_none, lower_trees, frame_now, room_now, few_now, joined_round}
+use Rattle.mst_path.proofs.lemmas.steps.Rounds.{regrown, frame_after, room_after, few_after, closed_round}
+use Rattle.mst_path.proofs.lemmas.trees.Joined.{left_none, right_none, lower_trees}
+use Rattle.mst_path.proofs.joining.+join.Given.{Over}
+use Rattle.mst_path.proofs.joining.+join.Goals.{After-join-seam}
 use Rattle.mst_path.proofs.joining.+join.Goals as goal
+
+-- ---- one of the trees is empty
 
 pub returns-then-left-eq0-clause-joined : goal.returns-then-left-eq0-clause-joined
 returns-then-left-eq0-clause-joined g t c = λ z.
-    let same = ap g.R.Rows.content c.root_at.ensures.same in
-    subst (λ (x : Content). Grown (g.R.Rows.content c.args.rows.now) x c.args.desk.now c.args.desk.now (both_joined z) c.root_at.result (in_both z) (both_rows z)) (sym same)
+    subst (λ (x : Content). Grown (g.R.Rows.content c.args.rows.now) x c.args.desk.now c.args.desk.now (both_joined z) c.root_at.result (in_both z) (both_rows z)) (sym (ap g.R.Rows.content c.root_at.ensures.same))
     (left_none (g.R.Rows.content c.args.rows.now) c.args.desk.now c.args.left c.args.right z c.if-left-eq0.true c.root_at.result (c.root_at.ensures.root z.b z.b_at z.b_piece.rows))
 
 pub returns-then-right-eq0-clause-joined : goal.returns-then-right-eq0-clause-joined
 returns-then-right-eq0-clause-joined g t c = λ z.
-    let same = ap g.R.Rows.content c.root_at-then-right-eq0.ensures.same in
-    subst (λ (x : Content). Grown (g.R.Rows.content c.args.rows.now) x c.args.desk.now c.args.desk.now (both_joined z) c.root_at-then-right-eq0.result (in_both z) (both_rows z)) (sym same)
+    subst (λ (x : Content). Grown (g.R.Rows.content c.args.rows.now) x c.args.desk.now c.args.desk.now (both_joined z) c.root_at-then-right-eq0.result (in_both z) (both_rows z)) (sym (ap g.R.Rows.content c.root_at-then-right-eq0.ensures.same))
     (right_none (g.R.Rows.content c.args.rows.now) c.args.desk.now c.args.left c.args.right z c.if-right-eq0.true c.root_at-then-right-eq0.result (c.root_at-then-right-eq0.ensures.root z.a z.a_at z.a_piece.rows))
+
+-- ---- the trees meet
 
 pub join-seam-requires : goal.join-seam-requires
 join-seam-requires g t c κs within =
@@ -44,46 +52,48 @@ join-seam-requires g t c κs within =
       ),
     )
 
+-- ---- the trees that meet are joined
+
+module _ (g : Over) (n : ℕ) (c : goal.After-join-seam g n) (z : TwoTrees (g.R.Rows.content c.args.rows.now) c.args.desk.now c.args.left c.args.right) where
+  abbrev met : Met (g.R.Rows.content c.args.rows.now) c.args.desk.now c.args.left c.args.right z c.meet-meeting.result
+  met = c.meet-meeting.ensures.met c.args.desk.now z
+
+  grown : Grown (g.R.Rows.content c.args.rows.now) (g.R.Rows.content c.join-seam.new.rows) c.args.desk.now c.join-seam.new.desk (both_joined met.inner) c.join-seam.result (in_both met.inner) (both_rows met.inner)
+  grown = subst (λ (x : Content). (y : TwoTrees x c.args.desk.now c.meet-meeting.result.left c.meet-meeting.result.right) → Grown x (g.R.Rows.content c.join-seam.new.rows) c.args.desk.now c.join-seam.new.desk (both_joined y) c.join-seam.result (in_both y) (both_rows y)) (ap g.R.Rows.content c.meet-meeting.ensures.same) c.join-seam.ensures.joined met.inner
+
+  abbrev framed : Framed (g.R.Rows.content c.join-seam.new.rows) c.join-seam.new.desk c.meet-meeting.result.frame (λ x. times x (used grown.placed))
+  framed = frame_after grown met.framed
+
 pub close-requires-clause-frame : goal.close-requires-clause-frame
 close-requires-clause-frame g t c =
-    let z = c.requires.trees.0 in
-    let m = c.meet-meeting.result in
-    let met = c.meet-meeting.ensures.met c.args.desk.now z in
-    let done = subst (λ (x : Content). (y : TwoTrees x c.args.desk.now m.left m.right) → Grown x (g.R.Rows.content c.join-seam.new.rows) c.args.desk.now c.join-seam.new.desk (both_joined y) c.join-seam.result (in_both y) (both_rows y)) (ap g.R.Rows.content c.meet-meeting.ensures.same) c.join-seam.ensures.joined met.inner in
-    (done.placed, done.root, done.piece, frame_now (g.R.Rows.content c.args.rows.now) c.args.desk.now c.args.left c.args.right z m met (g.R.Rows.content c.join-seam.new.rows) c.join-seam.new.desk c.join-seam.result done)
+    let at = (goal.at.close-requires-clause-frame g t c).After-join-seam in
+    let done = grown g t at c.requires.trees.0 in
+    (done.placed, done.root, done.piece, framed g t at c.requires.trees.0)
 
 pub close-requires-clause-low : goal.close-requires-clause-low
 close-requires-clause-low g t c = (c.meet-meeting.ensures.met c.args.desk.now c.requires.trees.0).low
 
 pub close-requires-clause-room : goal.close-requires-clause-room
 close-requires-clause-room g t c =
-    let z = c.requires.trees.0 in
-    let m = c.meet-meeting.result in
-    let met = c.meet-meeting.ensures.met c.args.desk.now z in
-    let done = subst (λ (x : Content). (y : TwoTrees x c.args.desk.now m.left m.right) → Grown x (g.R.Rows.content c.join-seam.new.rows) c.args.desk.now c.join-seam.new.desk (both_joined y) c.join-seam.result (in_both y) (both_rows y)) (ap g.R.Rows.content c.meet-meeting.ensures.same) c.join-seam.ensures.joined met.inner in
-    room_now (g.R.Rows.content c.args.rows.now) c.args.desk.now c.args.left c.args.right z m met (g.R.Rows.content c.join-seam.new.rows) c.join-seam.new.desk c.join-seam.result done c.requires.trees.1
+    let at = (goal.at.close-requires-clause-room g t c).After-join-seam in
+    let where_met = met g t at c.requires.trees.0 in
+    room_after (grown g t at c.requires.trees.0) where_met.framed (omega (arith, c.requires.trees.1, where_met.rows))
 
 pub close-requires-clause-few : goal.close-requires-clause-few
 close-requires-clause-few g t c =
-    let z = c.requires.trees.0 in
-    let m = c.meet-meeting.result in
-    let met = c.meet-meeting.ensures.met c.args.desk.now z in
-    let done = subst (λ (x : Content). (y : TwoTrees x c.args.desk.now m.left m.right) → Grown x (g.R.Rows.content c.join-seam.new.rows) c.args.desk.now c.join-seam.new.desk (both_joined y) c.join-seam.result (in_both y) (both_rows y)) (ap g.R.Rows.content c.meet-meeting.ensures.same) c.join-seam.ensures.joined met.inner in
-    few_now (g.R.Rows.content c.args.rows.now) c.args.desk.now c.args.left c.args.right z m met (g.R.Rows.content c.join-seam.new.rows) c.join-seam.new.desk c.join-seam.result done c.requires.few
+    let at = (goal.at.close-requires-clause-few g t c).After-join-seam in
+    few_after (grown g t at c.requires.trees.0) (met g t at c.requires.trees.0).framed c.requires.few
 
 pub close-requires-clause-free : goal.close-requires-clause-free
 close-requires-clause-free g t c =
-    let z = c.requires.trees.0 in
-    let m = c.meet-meeting.result in
-    let met = c.meet-meeting.ensures.met c.args.desk.now z in
-    let done = subst (λ (x : Content). (y : TwoTrees x c.args.desk.now m.left m.right) → Grown x (g.R.Rows.content c.join-seam.new.rows) c.args.desk.now c.join-seam.new.desk (both_joined y) c.join-seam.result (in_both y) (both_rows y)) (ap g.R.Rows.content c.meet-meeting.ensures.same) c.join-seam.ensures.joined met.inner in
+    let made = grown g t (goal.at.close-requires-clause-free g t c).After-join-seam c.requires.trees.0 in
     let same = c.join-seam.ensures.blank ∙ ap g.R.Rows.blank c.meet-meeting.ensures.same in
-    subst (FreeIsBlank c.join-seam.new.desk.lives) (sym same) (blank_free c.args.desk.now c.join-seam.new.desk done.taken done.killed done.moves (g.R.Rows.blank c.args.rows.now) c.requires.free)
+    subst (FreeIsBlank c.join-seam.new.desk.lives) (sym same) (blank_free c.args.desk.now c.join-seam.new.desk made.taken made.killed made.moves (g.R.Rows.blank c.args.rows.now) c.requires.free)
 
 pub returns-clause-joined : goal.returns-clause-joined
 returns-clause-joined g t c = λ z.
-    let m = c.meet-meeting.result in
-    let met = c.meet-meeting.ensures.met c.args.desk.now z in
-    let done = subst (λ (x : Content). (y : TwoTrees x c.args.desk.now m.left m.right) → Grown x (g.R.Rows.content c.join-seam.new.rows) c.args.desk.now c.join-seam.new.desk (both_joined y) c.join-seam.result (in_both y) (both_rows y)) (ap g.R.Rows.content c.meet-meeting.ensures.same) c.join-seam.ensures.joined met.inner in
-    let frame = frame_now (g.R.Rows.content c.args.rows.now) c.args.desk.now c.args.left c.args.right z m met (g.R.Rows.content c.join-seam.new.rows) c.join-seam.new.desk c.join-seam.result done in
-    joined_round (g.R.Rows.content c.args.rows.now) c.args.desk.now c.args.left c.args.right z m met (g.R.Rows.content c.join-seam.new.rows) c.join-seam.new.desk c.join-seam.result done (g.R.Rows.content c.close.new.rows) c.close.new.desk c.close.result (c.close.ensures.made done.placed done.root done.piece frame)
+    let at = (goal.at.returns-clause-joined g t c).After-join-seam in
+    let here = met g t at z in
+    let made = grown g t at z in
+    let all = closed_round made here.framed (c.close.ensures.made made.placed made.root made.piece (framed g t at z)) in
+    regrown _ _ _ _ (tree_round here.framed (both_joined here.inner)) (both_joined z) _ (λ x. in_both here.inner x + in_frame here.framed x) (in_both z) (both_rows here.inner + frame_rows c.meet-meeting.result.frame) (both_rows z) all here.is here.given here.rows
