@@ -1,5 +1,6 @@
 -- How many rows a tree takes, and what is known of the children of a node.
 use Rattle.std.proofs.Common.{◌≡◌, ℕ, zero, suc, ◌+◌, ◌*◌, ◌<◌, ◌≤◌, ◌==◌, Bool, true, false, cond, List, [], ◌∷◌, ◌++◌, length, map, take, get_or, refl, sym, ◌∙◌, ap, subst, arith, length-append}
+use Rattle.std.proofs.Math.Seq.{take-length}
 use Rattle.std.proofs.lemmas.List.{length-map, map_more}
 use Rattle.sha2.specs.Sha256.{sha256}
 use Rattle.sha2.proofs.Facts256.{length-sha256}
@@ -143,3 +144,14 @@ module _ (A : Type 0) (n : Node A) where
       ap entries_needed (entries_more i e h is)
       ∙ needed_append (map (tree_entry One) (take i items)) (record { child = tree_of_child One (out-Entry A e).child; key = (out-Entry A e).key; value = (out-Entry A e).value } ∷ [])
       ∙ omega arith
+
+  -- they and those of the next entry are among the node's
+  pub needed_ahead : (i : ℕ) (e : Entry A) → i < length items → e ≡ get_or items i e → entries_needed (map (tree_entry One) (take i items)) + rows_needed (tree_of_child One (out-Entry A e).child) + length items + 1 ≤ rows_needed (tree_of_node One n) + i
+  needed_ahead i e h is = omega (arith, node_needed, needed_more i e h is, needed_take _ (tree_entry One) items (i + 1) (omega arith))
+
+  pub needed_least : length items + 1 ≤ rows_needed (tree_of_node One n)
+  needed_least = omega (arith, node_needed, needed_take _ (tree_entry One) items 0 (omega arith))
+
+  -- all entries
+  pub take_all : (i : ℕ) → i ≡ length items → map (tree_entry One) (take i items) ≡ map (tree_entry One) items
+  take_all i all = ap (λ (xs : List (Entry A)). map (tree_entry One) xs) (ap (λ (k : ℕ). take k items) all ∙ take-length items)

@@ -1,21 +1,23 @@
-use Rattle.std.proofs.Common.{◌≡◌, ◌+◌, ◌<◌, [], ℕ, Bool, IsTrue, List, length, get_or, map, take, ap, refl, sym, subst, ◌∙◌, arith, rules}
-use Rattle.std.proofs.Math.Seq.{take-length}
+use Rattle.std.proofs.Common.{◌≡◌, ◌+◌, ◌<◌, ◌≤◌, [], ℕ, Bool, IsTrue, List, length, get_or, map, take, ap, refl, sym, subst, ◌∙◌, arith, rules}
 use Rattle.std.proofs.lemmas.Grind.{common_steps}
 use Rattle.std.proofs.lemmas.List.Sums.{count_by-le-length}
 use Rattle.mst_key.specs.declared.format.Format.TheVariants.{One}
-use Rattle.mst_node.specs.Shape.{TreeEntry, with_entries, tree_of_child, tree_entry}
+use Rattle.mst_node.specs.Shape.{TreeEntry, with_entries, tree_of, tree_of_child, tree_entry}
 use Rattle.mst_node.specs.Tree.{Tree, node, last}
 use Rattle.mst_node.specs.declared.node.Node.{out-Node}
+use Rattle.mst_node.specs.declared.node.Entry.{out-Entry}
 use Rattle.mst_node.specs.declared.node.Entry.TheViews.{the_lemmas}
 use Rattle.mst_arena.specs.Lives.{is_free}
 use Rattle.mst_arena.specs.Standing.{none}
 use Rattle.mst_arena.proofs.Stands.{all-back}
 use Rattle.mst_path.specs.Takes.{FreeIsBlank}
 use Rattle.mst_path.specs.Writing.{ahead, entries_used}
-use Rattle.mst_path.specs.Planting.{Planted}
+use Rattle.mst_path.specs.Planting.{rows_needed, Planted}
 use Rattle.mst_path.proofs.lemmas.rows.Taking.{takes_none, takes_length, takes_blank, taken_blank}
-use Rattle.mst_path.proofs.lemmas.trees.Nodes.{items, tail, entries_needed, needed_take, needed_more, node_out, node_needed, node_some, node_layer, node_child, node_last, entries_more}
+use Rattle.mst_path.proofs.lemmas.trees.Nodes.{items, tail, entries_needed, needed_ahead, needed_least, take_all, node_out, node_needed, node_some, node_layer, node_child, node_last, entries_more}
 use Rattle.mst_path.proofs.lemmas.trees.Growing.{PlantedSoFar, ahead_count, ahead_none, ahead_some, ahead_all, root_small, free_now, free_beside, entry_more, node_whole}
+use Rattle.mst_path.proofs.whole_tree.+plant.Given.{Over}
+use Rattle.mst_path.proofs.whole_tree.+plant.Goals.{plant_node-After-len, plant_node-After-entry-item, plant_node-After-loop-entry}
 use Rattle.mst_path.proofs.whole_tree.+plant.Goals as goal
 
 pub plant_child-returns-in-None-clause-planted : goal.plant_child-returns-in-None-clause-planted
@@ -28,11 +30,14 @@ plant_child-returns-in-None-clause-planted g t c = record {
   keeps = λ k out. refl;
 }
 
+-- ---- the node is begun
+
+module _ (g : Over) (t : ℕ) (c : goal.plant_node-After-len g t) where
+  few_entries : c.len.result ≤ 65534
+  few_entries = omega (arith, c.len.ensures, (out-Node g.row.B.Denot c.args.node.now).entries.ok.0, needed_least g.row.B.Denot c.args.node.now, c.requires.room, c.requires.few, count_by-le-length is_free c.args.desk.now.lives)
+
 pub plant_node-overflow_cast-len : goal.plant_node-overflow_cast-len
-plant_node-overflow_cast-len g t c =
-    let A = g.row.B.Denot in
-    let n = c.args.node.now in
-    omega (arith, c.len.ensures, (out-Node g.row.B.Denot c.args.node.now).entries.ok.0, node_needed A n, needed_take _ (tree_entry One) (items A n) 0 (omega arith), c.requires.room, c.requires.few, count_by-le-length is_free c.args.desk.now.lives)
+plant_node-overflow_cast-len g t c = omega (arith, few_entries g t (goal.at.plant_node-overflow_cast-len g t c).After-len)
 
 pub plant_node-begin-writer-requires-clause-low : goal.plant_node-begin-writer-requires-clause-low
 plant_node-begin-writer-requires-clause-low g t c = node_layer g.row.B.Denot c.args.node.now c.requires.tree
@@ -41,16 +46,11 @@ pub plant_node-begin-writer-requires-clause-some : goal.plant_node-begin-writer-
 plant_node-begin-writer-requires-clause-some g t c = omega (arith, c.len.ensures, (out-Node g.row.B.Denot c.args.node.now).entries.ok.0, node_some g.row.B.Denot c.args.node.now c.requires.tree)
 
 pub plant_node-begin-writer-requires-clause-few : goal.plant_node-begin-writer-requires-clause-few
-plant_node-begin-writer-requires-clause-few g t c =
-    let A = g.row.B.Denot in
-    let n = c.args.node.now in
-    omega (arith, c.len.ensures, (out-Node g.row.B.Denot c.args.node.now).entries.ok.0, node_needed A n, needed_take _ (tree_entry One) (items A n) 0 (omega arith), c.requires.room, c.requires.few, count_by-le-length is_free c.args.desk.now.lives)
+plant_node-begin-writer-requires-clause-few g t c = omega (arith, few_entries g t (goal.at.plant_node-begin-writer-requires-clause-few g t c).After-len)
 
 pub plant_node-begin-writer-requires-clause-room : goal.plant_node-begin-writer-requires-clause-room
 plant_node-begin-writer-requires-clause-room g t c =
-    let A = g.row.B.Denot in
-    let n = c.args.node.now in
-    omega (arith, node_some A n c.requires.tree, node_needed A n, needed_take _ (tree_entry One) (items A n) 0 (omega arith), c.requires.room)
+    omega (arith, node_some g.row.B.Denot c.args.node.now c.requires.tree, needed_least g.row.B.Denot c.args.node.now, c.requires.room)
 
 pub plant_node-loop-entry-init : goal.plant_node-loop-entry-init
 plant_node-loop-entry-init g t c =
@@ -64,17 +64,22 @@ plant_node-loop-entry-init g t c =
       so_far = record { es = []; is = refl; written = made.written _; takes = made.takes; keeps = λ k out. refl };
     }
 
+-- ---- the next entry
+
+module _ (g : Over) (t : ℕ) (c : goal.plant_node-After-entry-item g t) where
+  inside : c.loop-entry.entry-index < length (items g.row.B.Denot c.args.node.now)
+  inside = subst (λ xs. c.loop-entry.entry-index < length xs) c.deref-entry-items.ensures.value c.loop-entry-test.true
+
+  item_is : c.entry-item.result ≡ get_or (items g.row.B.Denot c.args.node.now) c.loop-entry.entry-index c.entry-item.result
+  item_is = subst (λ xs. c.entry-item.result ≡ get_or xs c.loop-entry.entry-index c.entry-item.result) c.deref-entry-items.ensures.value c.entry-item.is
+
+  rows_ahead : entries_needed (map (tree_entry One) (take c.loop-entry.entry-index (items g.row.B.Denot c.args.node.now))) + rows_needed (tree_of_child One (out-Entry g.row.B.Denot c.entry-item.result).child) + length (items g.row.B.Denot c.args.node.now) + 1 ≤ rows_needed (tree_of One c.args.node.now) + c.loop-entry.entry-index
+  rows_ahead = needed_ahead g.row.B.Denot c.args.node.now c.loop-entry.entry-index c.entry-item.result inside item_is
+
 pub plant_node-plant_child-child-requires : goal.plant_node-plant_child-child-requires
 plant_node-plant_child-child-requires g t c κs within =
-    let A = g.row.B.Denot in
-    let n = c.args.node.now in
-    let i = c.loop-entry.entry-index in
-    let e = c.entry-item.result in
-    let w = c.loop-entry.writer in
     let s = c.loop-entry.invariant.so_far in
-    let all = c.deref-entry-items.ensures.value in
-    let inside : i < length (items A n) = subst (λ xs. i < length xs) all c.loop-entry-test.true in
-    let at : e ≡ get_or (items A n) i e = subst (λ xs. e ≡ get_or xs i e) all c.entry-item.is in (
+    let here = (goal.at.plant_node-plant_child-child-requires g t c).After-entry-item in (
       grind (arith, common_steps, the_lemmas),
       (
         search rules,
@@ -83,9 +88,9 @@ plant_node-plant_child-child-requires g t c κs within =
           (
             search rules,
             (
-              node_child A n i e c.requires.tree inside at,
+              node_child g.row.B.Denot c.args.node.now c.loop-entry.entry-index c.entry-item.result c.requires.tree (inside g t here) (item_is g t here),
               (
-                omega (arith, c.requires.room, free_now _ _ _ _ w _ s, ahead_count w.next w.left c.loop-entry.invariant.writer.reserved, node_needed A n, needed_more A n i e inside at, needed_take _ (tree_entry One) (items A n) (i + 1) (omega arith)),
+                omega (arith, c.requires.room, free_now _ _ _ _ c.loop-entry.writer _ s, ahead_count c.loop-entry.writer.next c.loop-entry.writer.left c.loop-entry.invariant.writer.reserved, inside g t here, rows_ahead g t here),
                 (
                   omega (arith, c.requires.few, takes_length _ _ _ s.takes),
                   subst (FreeIsBlank c.loop-entry.desk.lives) (sym c.loop-entry.invariant.blank) (takes_blank _ _ _ _ s.takes c.requires.blank),
@@ -99,16 +104,8 @@ plant_node-plant_child-child-requires g t c κs within =
 
 pub plant_node-entry-requires-clause-room : goal.plant_node-entry-requires-clause-room
 plant_node-entry-requires-clause-room g t c more =
-    let A = g.row.B.Denot in
-    let n = c.args.node.now in
-    let i = c.loop-entry.entry-index in
-    let e = c.entry-item.result in
-    let w = c.loop-entry.writer in
-    let s = c.loop-entry.invariant.so_far in
-    let all = c.deref-entry-items.ensures.value in
-    let inside : i < length (items A n) = subst (λ xs. i < length xs) all c.loop-entry-test.true in
-    let at : e ≡ get_or (items A n) i e = subst (λ xs. e ≡ get_or xs i e) all c.entry-item.is in
-    omega (arith, more, c.loop-entry.invariant.left, c.requires.room, free_beside _ _ _ _ w _ s _ _ _ _ c.plant_child-child.ensures.planted, ahead_count w.next w.left c.loop-entry.invariant.writer.reserved, node_needed A n, needed_more A n i e inside at, needed_take _ (tree_entry One) (items A n) (i + 1) (omega arith))
+    let here = (goal.at.plant_node-entry-requires-clause-room g t c).After-entry-item in
+    omega (arith, more, c.loop-entry.invariant.left, c.requires.room, free_beside _ _ _ _ c.loop-entry.writer _ c.loop-entry.invariant.so_far _ _ _ _ c.plant_child-child.ensures.planted, ahead_count c.loop-entry.writer.next c.loop-entry.writer.left c.loop-entry.invariant.writer.reserved, inside g t here, rows_ahead g t here)
 
 pub plant_node-entry-requires-clause-few : goal.plant_node-entry-requires-clause-few
 plant_node-entry-requires-clause-few g t c =
@@ -116,12 +113,11 @@ plant_node-entry-requires-clause-few g t c =
 
 pub plant_node-entry-requires-clause-blank : goal.plant_node-entry-requires-clause-blank
 plant_node-entry-requires-clause-blank g t c =
-    let w = c.loop-entry.writer in
-    let s = c.loop-entry.invariant.so_far in
+    let next = c.loop-entry.writer.next in
     let blank = g.R.Rows.blank c.args.rows.now in
-    let old = taken_blank _ _ _ blank s.takes c.requires.blank in
+    let old = taken_blank _ _ _ blank c.loop-entry.invariant.so_far.takes c.requires.blank in
     let same = c.plant_child-child.ensures.blank ∙ c.loop-entry.invariant.blank in
-    subst (λ (b : ℕ → Bool). Rattle.std.specs.Prelude.IfSome w.next (λ r. IsTrue (b r))) (sym same) (ahead_all (λ r. IsTrue (blank r)) w.next (all-back (λ r. IsTrue (blank r)) (entries_used s.es) (ahead w.next) old.1))
+    subst (λ (b : ℕ → Bool). Rattle.std.specs.Prelude.IfSome next (λ r. IsTrue (b r))) (sym same) (ahead_all (λ r. IsTrue (blank r)) next (all-back (λ r. IsTrue (blank r)) (entries_used c.loop-entry.invariant.so_far.es) (ahead next) old.1))
 
 pub plant_node-entry-requires-clause-child : goal.plant_node-entry-requires-clause-child
 plant_node-entry-requires-clause-child g t c =
@@ -129,35 +125,35 @@ plant_node-entry-requires-clause-child g t c =
 
 pub plant_node-loop-entry-preserved : goal.plant_node-loop-entry-preserved
 plant_node-loop-entry-preserved g t c =
-    let A = g.row.B.Denot in
-    let n = c.args.node.now in
-    let i = c.loop-entry.entry-index in
-    let e = c.entry-item.result in
-    let w = c.loop-entry.writer in
-    let s = c.loop-entry.invariant.so_far in
-    let all = c.deref-entry-items.ensures.value in
-    let inside : i < length (items A n) = subst (λ xs. i < length xs) all c.loop-entry-test.true in
-    let at : e ≡ get_or (items A n) i e = subst (λ xs. e ≡ get_or xs i e) all c.entry-item.is in
-    let next = ahead_some w.next w.left c.loop-entry.invariant.writer.reserved (omega (arith, c.loop-entry.invariant.left, inside)) in
+    let here = (goal.at.plant_node-loop-entry-preserved g t c).After-entry-item in
+    let row = ahead_some c.loop-entry.writer.next c.loop-entry.writer.left c.loop-entry.invariant.writer.reserved (omega (arith, c.loop-entry.invariant.left, inside g t here)) in
     record {
       writer = c.entry.ensures.writer;
       layer = c.entry.ensures.node.0 ∙ c.loop-entry.invariant.layer;
       left = omega (arith, c.entry.ensures.node.2, c.loop-entry.invariant.left);
       blank = c.entry.ensures.blank ∙ c.plant_child-child.ensures.blank ∙ c.loop-entry.invariant.blank;
       kept = c.entry.ensures.kept ∙ c.plant_child-child.ensures.kept ∙ c.loop-entry.invariant.kept;
-      so_far = subst (λ (xs : List TreeEntry). PlantedSoFar c.args.desk.now c.entry.new.desk (g.R.Rows.content c.args.rows.now) (g.R.Rows.content c.entry.new.rows) c.entry.new.self xs) (sym (entries_more A n i e inside at))
-          (entry_more _ _ _ _ w _ s _ _ _ _ c.plant_child-child.ensures.planted c.entry.new.desk (g.R.Rows.content c.entry.new.rows) c.entry.new.self next.0 _ _ next.1 c.entry.ensures.node.3 c.entry.ensures.written c.entry.ensures.takes c.entry.ensures.keeps);
+      so_far = subst (λ (xs : List TreeEntry). PlantedSoFar c.args.desk.now c.entry.new.desk (g.R.Rows.content c.args.rows.now) (g.R.Rows.content c.entry.new.rows) c.entry.new.self xs) (sym (entries_more g.row.B.Denot c.args.node.now c.loop-entry.entry-index c.entry-item.result (inside g t here) (item_is g t here)))
+          (entry_more _ _ _ _ c.loop-entry.writer _ c.loop-entry.invariant.so_far _ _ _ _ c.plant_child-child.ensures.planted c.entry.new.desk (g.R.Rows.content c.entry.new.rows) c.entry.new.self row.0 _ _ row.1 c.entry.ensures.node.3 c.entry.ensures.written c.entry.ensures.takes c.entry.ensures.keeps);
     }
+
+-- ---- all entries are planted
+
+module _ (g : Over) (t : ℕ) (c : goal.plant_node-After-loop-entry g t) where
+  at_end : c.loop-entry.entry-index ≡ length (items g.row.B.Denot c.args.node.now)
+  at_end = omega (arith, ap length c.deref-entry-items.ensures.value)
+
+  whole : map (tree_entry One) (take c.loop-entry.entry-index (items g.row.B.Denot c.args.node.now)) ≡ map (tree_entry One) (items g.row.B.Denot c.args.node.now)
+  whole = take_all g.row.B.Denot c.args.node.now c.loop-entry.entry-index at_end
+
+  none_left : c.loop-entry.writer.left ≡ 0
+  none_left = omega (arith, at_end, c.loop-entry.invariant.left)
 
 pub plant_node-plant_child-tail-requires : goal.plant_node-plant_child-tail-requires
 plant_node-plant_child-tail-requires g t c κs within =
-    let A = g.row.B.Denot in
-    let n = c.args.node.now in
-    let i = c.loop-entry.entry-index in
-    let w = c.loop-entry.writer in
-    let s = c.loop-entry.invariant.so_far in
-    let end : i ≡ length (items A n) = omega (arith, ap length c.deref-entry-items.ensures.value) in
-    let whole : map (tree_entry One) (take i (items A n)) ≡ map (tree_entry One) (items A n) = ap (λ xs. map (tree_entry One) xs) (ap (λ (k : ℕ). take k (items A n)) end ∙ take-length (items A n)) in (
+    let so_far = c.loop-entry.invariant.so_far in
+    let behind = (goal.at.plant_node-plant_child-tail-requires g t c).After-loop-entry in
+    let none_ahead = ahead_none c.loop-entry.writer.next c.loop-entry.writer.left c.loop-entry.invariant.writer.reserved (none_left g t behind) in (
       search (rules, the_lemmas),
       (
         search rules,
@@ -166,12 +162,12 @@ plant_node-plant_child-tail-requires g t c κs within =
           (
             search rules,
             (
-              node_last A n c.requires.tree,
+              node_last g.row.B.Denot c.args.node.now c.requires.tree,
               (
-                omega (arith, c.requires.room, free_now _ _ _ _ w _ s, ap length (ahead_none w.next w.left c.loop-entry.invariant.writer.reserved (omega (arith, end, c.loop-entry.invariant.left))), node_needed A n, ap entries_needed whole),
+                omega (arith, c.requires.room, free_now _ _ _ _ c.loop-entry.writer _ so_far, ap length none_ahead, node_needed g.row.B.Denot c.args.node.now, ap entries_needed (whole g t behind)),
                 (
-                  omega (arith, c.requires.few, takes_length _ _ _ s.takes),
-                  subst (FreeIsBlank c.loop-entry.desk.lives) (sym c.loop-entry.invariant.blank) (takes_blank _ _ _ _ s.takes c.requires.blank),
+                  omega (arith, c.requires.few, takes_length _ _ _ so_far.takes),
+                  subst (FreeIsBlank c.loop-entry.desk.lives) (sym c.loop-entry.invariant.blank) (takes_blank _ _ _ _ so_far.takes c.requires.blank),
                 ),
               ),
             ),
@@ -188,11 +184,7 @@ pub plant_node-returns-clause-planted : goal.plant_node-returns-clause-planted
 plant_node-returns-clause-planted g t c =
     let A = g.row.B.Denot in
     let n = c.args.node.now in
-    let i = c.loop-entry.entry-index in
-    let w = c.loop-entry.writer in
-    let s = c.loop-entry.invariant.so_far in
-    let end : i ≡ length (items A n) = omega (arith, ap length c.deref-entry-items.ensures.value) in
-    let whole : map (tree_entry One) (take i (items A n)) ≡ map (tree_entry One) (items A n) = ap (λ xs. map (tree_entry One) xs) (ap (λ (k : ℕ). take k (items A n)) end ∙ take-length (items A n)) in
+    let behind = (goal.at.plant_node-returns-clause-planted g t c).After-loop-entry in
     let planted : (u : Tree) → Type 0 = λ u. Planted c.args.desk.now c.plant_child-tail.new.desk (g.R.Rows.content c.args.rows.now) (g.R.Rows.content c.finish.new.rows) u c.finish.result in
-    let made = node_whole _ _ _ _ w _ s _ _ _ _ c.plant_child-tail.ensures.planted (g.R.Rows.content c.finish.new.rows) (out-Node A n).layer c.finish.result (sym c.loop-entry.invariant.layer) c.loop-entry.invariant.writer.reserved (omega (arith, end, c.loop-entry.invariant.left)) c.finish.ensures.root c.finish.ensures.stands c.finish.ensures.keeps in
-    subst planted (ap (λ xs. node One (out-Node A n).layer (with_entries xs (last (tail A n)))) whole ∙ sym (node_out A n)) made
+    let made = node_whole _ _ _ _ c.loop-entry.writer _ c.loop-entry.invariant.so_far _ _ _ _ c.plant_child-tail.ensures.planted (g.R.Rows.content c.finish.new.rows) (out-Node A n).layer c.finish.result (sym c.loop-entry.invariant.layer) c.loop-entry.invariant.writer.reserved (none_left g t behind) c.finish.ensures.root c.finish.ensures.stands c.finish.ensures.keeps in
+    subst planted (ap (λ xs. node One (out-Node A n).layer (with_entries xs (last (tail A n)))) (whole g t behind) ∙ sym (node_out A n)) made
