@@ -1,132 +1,115 @@
-use Rattle.std.proofs.Common.{rules}
-use Rattle.std.proofs.Common.{◌≡◌, ◌∙◌, ◌≤◌, List, ℕ, true≢false, sym, ap, subst, arith}
+use Rattle.std.proofs.Common.{◌≡◌, ◌∙◌, ◌≤◌, List, ℕ, true≢false, sym, ap, subst, arith, rules}
+use Rattle.mst_key.specs.Map.{Pair, map_get}
+use Rattle.mst_key.specs.declared.format.Format.TheVariants.{One}
 use Rattle.mst_arena.specs.Content.{Content}
 use Rattle.mst_arena.specs.Lives.{State, free_count}
+use Rattle.mst_arena.specs.Standing.{Stands, numbers}
 use Rattle.mst_path.specs.Making.{Grown}
 use Rattle.mst_path.specs.Putting.{RisingTree, in_rising, with_pair, pair_rows}
+use Rattle.mst_path.specs.Changing.{AreOld}
 use Rattle.mst_path.proofs.lemmas.versions.Changes.{any_old, search_at, rises, says}
 use Rattle.mst_path.proofs.lemmas.versions.Inserted.{is_same, same_found, rising_at, few_new, cost_other, AfterPut, after_other, after_same}
 use Rattle.mst_path.proofs.insertion.put.Given.{Over}
+use Rattle.mst_path.proofs.insertion.put.Goals.{After-find-old, After-result-1, After-put_cost, After-put_at-new}
 use Rattle.mst_path.proofs.insertion.put.Goals as goal
 
 pub find-old-requires : goal.find-old-requires
 find-old-requires g c =
-    let content = g.R.Rows.content c.args.rows.now in
-    let s = c.args.desk.now in
-    let one = c.requires.stands in
-    record { tree = (s, search_at content s c.args.root.now one.0 one.1 one.2, rises content c.args.root.now one.0 one.1) }
+    record { tree = (c.args.desk.now, search_at (g.R.Rows.content c.args.rows.now) c.args.desk.now c.args.root.now c.requires.stands.0 c.requires.stands.1 c.requires.stands.2, rises (g.R.Rows.content c.args.rows.now) c.args.root.now c.requires.stands.0 c.requires.stands.1) }
+
+-- ---- the value that the key had
+
+module _ (g : Over) (c : goal.After-find-old g) where
+  found : (m : List Pair) → Stands One (g.R.Rows.content c.args.rows.now) c.args.root.now m → map_get m c.args.key.now ≡ c.find-old.result
+  found = says (g.R.Rows.content c.args.rows.now) c.args.desk.now c.args.root.now c.args.key.now c.requires.stands c.find-old.result (rw c.new-sought.ensures.key at c.find-old.ensures.found)
+
+pub returns-then-is_same-clause-value : goal.returns-then-is_same-clause-value
+returns-then-is_same-clause-value g c m st = sym (found g (goal.at.returns-then-is_same-clause-value g c).After-find-old m st)
+
+pub returns-clause-value : goal.returns-clause-value
+returns-clause-value g c m st = sym (found g (goal.at.returns-clause-value g c).After-find-old m st)
+
+pub returns-clause-same_value : goal.returns-clause-same_value
+returns-clause-same_value g c m st same =
+    let had = found g (goal.at.returns-clause-same_value g c).After-find-old m st in
+    absurd (true≢false (sym (ap (λ o. is_same o c.args.value.now) (sym had ∙ same) ∙ same_found c.args.value.now) ∙ sym c.is_same.ensures.same ∙ c.if-is_same.false))
 
 -- ---- the key has this value
 
-nothing : (g : Over) (c : goal.After-result-1 g) → AfterPut (g.R.Rows.content c.args.rows.now) (g.R.Rows.content c.find-old.new.rows) c.args.desk.now c.args.desk.now c.args.root.now c.args.root.now c.args.key.now c.args.value.now
-nothing g c =
-    let content = g.R.Rows.content c.args.rows.now in
-    let s = c.args.desk.now in
-    let root = c.args.root.now in
-    let k = c.args.key.now in
-    let v = c.args.value.now in
-    let old = c.find-old.result in
-    let all = after_same content s root k v c.within_limits.ensures.key c.within_limits.ensures.value c.requires.stands old (says content s root k c.requires.stands old (rw c.new-sought.ensures.key at c.find-old.ensures.found)) (sym c.is_same.ensures.same ∙ c.if-is_same.true) in
-    subst (λ (x : Content). AfterPut content x s s root root k v) (sym (ap g.R.Rows.content c.find-old.ensures.same)) all
+module _ (g : Over) (c : goal.After-result-1 g) (had : (m : List Pair) → Stands One (g.R.Rows.content c.args.rows.now) c.args.root.now m → map_get m c.args.key.now ≡ c.find-old.result) where
+  nothing : AfterPut (g.R.Rows.content c.args.rows.now) (g.R.Rows.content c.find-old.new.rows) c.args.desk.now c.args.desk.now c.args.root.now c.args.root.now c.args.key.now c.args.value.now
+  nothing =
+      subst (λ (x : Content). AfterPut (g.R.Rows.content c.args.rows.now) x c.args.desk.now c.args.desk.now c.args.root.now c.args.root.now c.args.key.now c.args.value.now) (sym (ap g.R.Rows.content c.find-old.ensures.same))
+      (after_same (g.R.Rows.content c.args.rows.now) c.args.desk.now c.args.root.now c.args.key.now c.args.value.now c.within_limits.ensures.key c.within_limits.ensures.value c.requires.stands c.find-old.result had (sym c.is_same.ensures.same ∙ c.if-is_same.true))
 
 pub returns-then-is_same-clause-stands : goal.returns-then-is_same-clause-stands
-returns-then-is_same-clause-stands g c = (nothing g c).stands
-
-pub returns-then-is_same-clause-value : goal.returns-then-is_same-clause-value
-returns-then-is_same-clause-value g c m st =
-    sym (says (g.R.Rows.content c.args.rows.now) c.args.desk.now c.args.root.now c.args.key.now c.requires.stands c.find-old.result (rw c.new-sought.ensures.key at c.find-old.ensures.found) m st)
+returns-then-is_same-clause-stands g c = (nothing g c (found g (goal.at.returns-then-is_same-clause-stands g c).After-find-old)).stands
 
 pub returns-then-is_same-clause-cost : goal.returns-then-is_same-clause-cost
-returns-then-is_same-clause-cost g c = (nothing g c).counted
+returns-then-is_same-clause-cost g c = (nothing g c (found g (goal.at.returns-then-is_same-clause-cost g c).After-find-old)).counted
 
 pub returns-then-is_same-clause-changes : goal.returns-then-is_same-clause-changes
-returns-then-is_same-clause-changes g c = (nothing g c).changes
+returns-then-is_same-clause-changes g c = (nothing g c (found g (goal.at.returns-then-is_same-clause-changes g c).After-find-old)).changes
 
 pub returns-then-is_same-clause-made : goal.returns-then-is_same-clause-made
-returns-then-is_same-clause-made g c = (nothing g c).made
+returns-then-is_same-clause-made g c = (nothing g c (found g (goal.at.returns-then-is_same-clause-made g c).After-find-old)).made
 
 -- ---- the room
 
 pub put_cost-requires-clause-tree : goal.put_cost-requires-clause-tree
 put_cost-requires-clause-tree g c =
-    let content = g.R.Rows.content c.args.rows.now in
-    let s = c.args.desk.now in
-    let root = c.args.root.now in
     let one = c.requires.stands in
-    let k = c.args.key.now in
-    let v = c.args.value.now in
-    let l = c.layer-layer.result in
-    let few = few_new content s root one.0 one.1 k v one.2 l c.free-free.ensures.few in
-    rw (sym c.new-sought.ensures.key) at (subst (λ (x : Content). (q : State) × (t : RisingTree x q root.link) × (w : List ℕ) × (pair_rows t l k w ≤ 4294967295)) (sym (ap g.R.Rows.content c.find-old.ensures.same)) (s, rising_at content s root one.0 one.1 k v one.2, v, omega (arith, few)))
+    let few = few_new (g.R.Rows.content c.args.rows.now) c.args.desk.now c.args.root.now one.0 one.1 c.args.key.now c.args.value.now one.2 c.layer-layer.result c.free-free.ensures.few in
+    rw (sym c.new-sought.ensures.key) at (subst (λ (x : Content). (q : State) × (t : RisingTree x q c.args.root.now.link) × (w : List ℕ) × (pair_rows t c.layer-layer.result c.args.key.now w ≤ 4294967295)) (sym (ap g.R.Rows.content c.find-old.ensures.same)) (c.args.desk.now, rising_at (g.R.Rows.content c.args.rows.now) c.args.desk.now c.args.root.now one.0 one.1 c.args.key.now c.args.value.now one.2, c.args.value.now, omega (arith, few)))
+
+module _ (g : Over) (c : goal.After-put_cost g) (m : List Pair) (st : Stands One (g.R.Rows.content c.args.rows.now) c.args.root.now m) (old : AreOld c.args.desk.now (numbers st)) where
+  abbrev tree : RisingTree (g.R.Rows.content c.args.rows.now) c.args.desk.now c.args.root.now.link
+  tree = rising_at (g.R.Rows.content c.args.rows.now) c.args.desk.now c.args.root.now m st c.args.key.now c.args.value.now old
+
+  counted : c.put_cost.result ≡ pair_rows tree c.layer-layer.result c.args.key.now c.args.value.now
+  counted = subst (λ (x : Content). (q : State) (t : RisingTree x q c.args.root.now.link) (w : List ℕ) → c.put_cost.result ≡ pair_rows t c.layer-layer.result c.args.key.now w) (ap g.R.Rows.content c.find-old.ensures.same) (rw c.new-sought.ensures.key at c.put_cost.ensures.cost) c.args.desk.now tree c.args.value.now
 
 pub returns-then-put_cost-free-clause-no_room :
     goal.returns-then-put_cost-free-clause-no_room
 returns-then-put_cost-free-clause-no_room g c m st =
-    let content = g.R.Rows.content c.args.rows.now in
-    let s = c.args.desk.now in
-    let root = c.args.root.now in
-    let k = c.args.key.now in
-    let v = c.args.value.now in
-    let l = c.layer-layer.result in
-    let old = any_old content s root c.requires.stands m st in
-    let found = says content s root k c.requires.stands c.find-old.result (rw c.new-sought.ensures.key at c.find-old.ensures.found) m st in
-    let counted = subst (λ (x : Content). (q : State) (t : RisingTree x q root.link) (w : List ℕ) → c.put_cost.result ≡ pair_rows t l k w) (ap g.R.Rows.content c.find-old.ensures.same) (rw c.new-sought.ensures.key at c.put_cost.ensures.cost) s (rising_at content s root m st k v old) v in
-    let is = ap (λ (n : ℕ). pair_rows (rising_at content s root m st k v old) n k v) c.layer-layer.ensures.layer in
-    omega (arith, counted, is, cost_other content s root m st k v c.find-old.result found (sym c.is_same.ensures.same ∙ c.if-is_same.false), c.free-free.ensures.count, c.if-put_cost-free.true)
+    let at = goal.at.returns-then-put_cost-free-clause-no_room g c in
+    let old = any_old (g.R.Rows.content c.args.rows.now) c.args.desk.now c.args.root.now c.requires.stands m st in
+    let layer = ap (λ (n : ℕ). pair_rows (tree g at.After-put_cost m st old) n c.args.key.now c.args.value.now) c.layer-layer.ensures.layer in
+    let cost = cost_other (g.R.Rows.content c.args.rows.now) c.args.desk.now c.args.root.now m st c.args.key.now c.args.value.now c.find-old.result (found g at.After-find-old m st) (sym c.is_same.ensures.same ∙ c.if-is_same.false) in
+    omega (arith, counted g at.After-put_cost m st old, layer, cost, c.free-free.ensures.count, c.if-put_cost-free.true)
 
 pub put_at-new-requires-clause-tree : goal.put_at-new-requires-clause-tree
 put_at-new-requires-clause-tree g c =
-    let content = g.R.Rows.content c.args.rows.now in
-    let s = c.args.desk.now in
-    let root = c.args.root.now in
-    let one = c.requires.stands in
-    let k = c.args.key.now in
-    let v = c.args.value.now in
-    let l = c.layer-layer.result in
-    let z = rising_at content s root one.0 one.1 k v one.2 in
-    let counted = subst (λ (x : Content). (q : State) (t : RisingTree x q root.link) (w : List ℕ) → c.put_cost.result ≡ pair_rows t l k w) (ap g.R.Rows.content c.find-old.ensures.same) (rw c.new-sought.ensures.key at c.put_cost.ensures.cost) s z v in
-    rw (sym c.new-sought.ensures.key) at (subst (λ (x : Content). (t : RisingTree x s root.link) × (pair_rows t l k v ≤ free_count s.lives)) (sym (ap g.R.Rows.content (c.put_cost.ensures.same ∙ c.find-old.ensures.same))) (z, omega (arith, counted, c.free-free.ensures.count, c.if-put_cost-free.false)))
+    let at = (goal.at.put_at-new-requires-clause-tree g c).After-put_cost in
+    rw (sym c.new-sought.ensures.key) at (subst (λ (x : Content). (t : RisingTree x c.args.desk.now c.args.root.now.link) × (pair_rows t c.layer-layer.result c.args.key.now c.args.value.now ≤ free_count c.args.desk.now.lives)) (sym (ap g.R.Rows.content (c.put_cost.ensures.same ∙ c.find-old.ensures.same))) (tree g at c.requires.stands.0 c.requires.stands.1 c.requires.stands.2, omega (arith, counted g at c.requires.stands.0 c.requires.stands.1 c.requires.stands.2, c.free-free.ensures.count, c.if-put_cost-free.false)))
 
 -- ---- the pair is put
 
-inserted : (g : Over) (c : goal.After-put_at-new g) → AfterPut (g.R.Rows.content c.args.rows.now) (g.R.Rows.content c.put_at-new.new.rows) c.args.desk.now c.put_at-new.new.desk c.args.root.now c.put_at-new.result c.args.key.now c.args.value.now
-inserted g c =
-    let content = g.R.Rows.content c.args.rows.now in
-    let s = c.args.desk.now in
-    let root = c.args.root.now in
-    let k = c.args.key.now in
-    let v = c.args.value.now in
-    let l = c.layer-layer.result in
-    let old = c.find-old.result in
-    let done = subst (λ (x : Content). (t : RisingTree x s root.link) → Grown x (g.R.Rows.content c.put_at-new.new.rows) s c.put_at-new.new.desk (with_pair t l k v) c.put_at-new.result (in_rising t) (pair_rows t l k v)) (ap g.R.Rows.content (c.put_cost.ensures.same ∙ c.find-old.ensures.same)) (rw c.new-sought.ensures.key at c.put_at-new.ensures.put) in
-    after_other content s root k v c.within_limits.ensures.key c.within_limits.ensures.value c.requires.stands old (says content s root k c.requires.stands old (rw c.new-sought.ensures.key at c.find-old.ensures.found)) (g.R.Rows.content c.put_at-new.new.rows) c.put_at-new.new.desk c.put_at-new.result l c.layer-layer.ensures.layer (sym c.is_same.ensures.same ∙ c.if-is_same.false) done
+module _ (g : Over) (c : goal.After-put_at-new g) (had : (m : List Pair) → Stands One (g.R.Rows.content c.args.rows.now) c.args.root.now m → map_get m c.args.key.now ≡ c.find-old.result) where
+  inserted : AfterPut (g.R.Rows.content c.args.rows.now) (g.R.Rows.content c.put_at-new.new.rows) c.args.desk.now c.put_at-new.new.desk c.args.root.now c.put_at-new.result c.args.key.now c.args.value.now
+  inserted =
+      let done = subst (λ (x : Content). (t : RisingTree x c.args.desk.now c.args.root.now.link) → Grown x (g.R.Rows.content c.put_at-new.new.rows) c.args.desk.now c.put_at-new.new.desk (with_pair t c.layer-layer.result c.args.key.now c.args.value.now) c.put_at-new.result (in_rising t) (pair_rows t c.layer-layer.result c.args.key.now c.args.value.now)) (ap g.R.Rows.content (c.put_cost.ensures.same ∙ c.find-old.ensures.same)) (rw c.new-sought.ensures.key at c.put_at-new.ensures.put) in
+      after_other (g.R.Rows.content c.args.rows.now) c.args.desk.now c.args.root.now c.args.key.now c.args.value.now c.within_limits.ensures.key c.within_limits.ensures.value c.requires.stands c.find-old.result had (g.R.Rows.content c.put_at-new.new.rows) c.put_at-new.new.desk c.put_at-new.result c.layer-layer.result c.layer-layer.ensures.layer (sym c.is_same.ensures.same ∙ c.if-is_same.false) done
 
 pub returns-clause-stands : goal.returns-clause-stands
-returns-clause-stands g c = (inserted g c).stands
-
-pub returns-clause-value : goal.returns-clause-value
-returns-clause-value g c m st =
-    sym (says (g.R.Rows.content c.args.rows.now) c.args.desk.now c.args.root.now c.args.key.now c.requires.stands c.find-old.result (rw c.new-sought.ensures.key at c.find-old.ensures.found) m st)
+returns-clause-stands g c = (inserted g c (found g (goal.at.returns-clause-stands g c).After-find-old)).stands
 
 pub returns-clause-written : goal.returns-clause-written
-returns-clause-written g c = (inserted g c).written
+returns-clause-written g c = (inserted g c (found g (goal.at.returns-clause-written g c).After-find-old)).written
 
 pub returns-clause-cost : goal.returns-clause-cost
-returns-clause-cost g c = (inserted g c).counted
+returns-clause-cost g c = (inserted g c (found g (goal.at.returns-clause-cost g c).After-find-old)).counted
 
 pub returns-clause-changes : goal.returns-clause-changes
-returns-clause-changes g c = (inserted g c).changes
+returns-clause-changes g c = (inserted g c (found g (goal.at.returns-clause-changes g c).After-find-old)).changes
 
 pub returns-clause-versions : goal.returns-clause-versions
-returns-clause-versions g c = (inserted g c).versions
+returns-clause-versions g c = (inserted g c (found g (goal.at.returns-clause-versions g c).After-find-old)).versions
 
 pub returns-clause-made : goal.returns-clause-made
-returns-clause-made g c = (inserted g c).made
+returns-clause-made g c = (inserted g c (found g (goal.at.returns-clause-made g c).After-find-old)).made
 
-pub returns-clause-same_value : goal.returns-clause-same_value
-returns-clause-same_value g c m st same =
-    let found = says (g.R.Rows.content c.args.rows.now) c.args.desk.now c.args.root.now c.args.key.now c.requires.stands c.find-old.result (rw c.new-sought.ensures.key at c.find-old.ensures.found) m st in
-    absurd (true≢false (sym (ap (λ o. is_same o c.args.value.now) (sym found ∙ same) ∙ same_found c.args.value.now) ∙ sym c.is_same.ensures.same ∙ c.if-is_same.false))
+-- ---- what a search finds
 
 pub returns-then-is_same-clause-written : goal.returns-then-is_same-clause-written
 returns-then-is_same-clause-written g c = search rules
