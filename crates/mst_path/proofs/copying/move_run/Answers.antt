@@ -1,12 +1,14 @@
-use Rattle.std.proofs.Common.{rules}
-use Rattle.std.proofs.Common.{◌≡◌, ◌+◌, ◌-◌, ℕ, Bool, List, [], ◌∷◌, ◌++◌, IfSome, IsTrue, refl, sym, ◌∙◌, ap, subst, arith}
+use Rattle.std.proofs.Common.{◌≡◌, ◌+◌, ◌-◌, ℕ, Bool, List, [], ◌∷◌, ◌++◌, IfSome, IsTrue, refl, sym, ◌∙◌, ap, subst, arith, rules}
 use Rattle.mst_key.specs.declared.format.Format.TheVariants.{One}
 use Rattle.mst_arena.specs.Content.{Content}
-use Rattle.mst_arena.specs.Standing.{rows_of, HasRows}
+use Rattle.mst_arena.specs.Standing.{link_of, rows_of, HasRows}
 use Rattle.mst_path.specs.Takes.{KeepsBut, FreeIsBlank}
 use Rattle.mst_path.specs.Moves.{Moves}
-use Rattle.mst_path.specs.Writing.{ahead, IsWritten}
-use Rattle.mst_path.proofs.lemmas.rows.Copies.{Progress, starts, ends, some_left, steps, next_run, link_is, link_less, row_there, row_old, links_there, links_are, value_there, next_some, one_ahead, row_out, small_link, old_alive, blank_free, blank_taken, blank_ahead}
+use Rattle.mst_path.specs.Writing.{ahead, link_from, IsWritten, IsRootOf}
+use Rattle.mst_path.specs.Copying.{Copying}
+use Rattle.mst_path.proofs.lemmas.rows.Copies.{Progress, Next, starts, ends, some_left, steps, next_run, link_is, link_less, row_there, row_old, links_there, links_are, value_there, next_some, one_ahead, row_out, small_link, old_alive, blank_free, blank_taken, blank_ahead}
+use Rattle.mst_path.proofs.copying.move_run.Given.{Over}
+use Rattle.mst_path.proofs.copying.move_run.Goals.{In-loop, After-entry-entry, After-root_at-child}
 use Rattle.mst_path.proofs.copying.move_run.Goals as goal
 
 pub loop-init : goal.loop-init
@@ -20,33 +22,40 @@ loop-init g c = record {
   kept = refl;
   next = c.requires.blank;
   free = c.requires.free;
-  progress = λ k. starts _ _ _ _ _ k;
+  progress = λ k. starts k;
 }
 
+-- ---- the next entry
+
+module _ (g : Over) (c : goal.In-loop g) (k : Copying c.args.writer.now (g.R.Rows.content c.args.rows.now) c.args.desk.now c.args.from c.args.count) where
+  next : Next k c.loop.counter c.loop.writer (g.R.Rows.content c.loop.rows) c.loop.desk c.loop.link (c.loop.invariant.progress k)
+  next = some_left k (c.loop.invariant.progress k) c.loop-test.true
+
 pub overflow_sub-row : goal.overflow_sub-row
-overflow_sub-row g c =
-    let k = c.requires.copying in
-    let p = c.loop.invariant.progress k in
-    let n = some_left _ _ _ _ _ k _ _ _ _ _ p c.loop-test.true in
-    omega (arith, link_is _ _ _ _ _ k _ _ _ _ _ p n)
+overflow_sub-row g c = omega (arith, link_is c.requires.copying (next g (goal.at.overflow_sub-row g c).In-loop c.requires.copying))
 
 pub entry-entry-requires : goal.entry-entry-requires
 entry-entry-requires g c =
-    let k = c.requires.copying in
-    let p = c.loop.invariant.progress k in
-    let n = some_left _ _ _ _ _ k _ _ _ _ _ p c.loop-test.true in
-    let there = row_there _ _ _ _ _ k _ _ _ _ _ p n in
-    record { there = links_there _ _ _ _ _ there }
+    record { there = links_there _ _ _ _ _ (row_there c.requires.copying (next g (goal.at.entry-entry-requires g c).In-loop c.requires.copying)) }
+
+-- ---- it is read
+
+module _ (g : Over) (c : goal.After-entry-entry g) (k : Copying c.args.writer.now (g.R.Rows.content c.args.rows.now) c.args.desk.now c.args.from c.args.count) (n : Next k c.loop.counter c.loop.writer (g.R.Rows.content c.loop.rows) c.loop.desk c.loop.link (c.loop.invariant.progress k)) where
+  links : (c.entry-entry.result.child ≡ link_of n.entry.child) × (c.entry-entry.result.next ≡ link_from k.behind n.more) × (c.entry-entry.result.key ≡ n.entry.key)
+  links = links_are _ c.entry-entry.result _ _ _ _ (row_there k n) c.entry-entry.ensures.value
+
+  child_there : HasRows (g.R.Rows.content c.entry-entry.new.self) (rows_of One n.entry.child)
+  child_there = subst (λ (x : Content). HasRows x (rows_of One n.entry.child)) (sym (ap g.R.Rows.content c.entry-entry.ensures.same)) (next_run k n).gaps.0.rows
 
 pub root_at-child-requires : goal.root_at-child-requires
 root_at-child-requires g c =
-    let k = c.requires.copying in
-    let p = c.loop.invariant.progress k in
-    let n = some_left _ _ _ _ _ k _ _ _ _ _ p c.loop-test.true in
-    let there = row_there _ _ _ _ _ k _ _ _ _ _ p n in
-    let run = next_run _ _ _ _ _ k _ _ _ _ _ p n in
-    let links = links_are _ c.entry-entry.result _ _ _ _ there c.entry-entry.ensures.value in
-    record { stands = (n.entry.child, sym links.0, subst (λ (x : Content). HasRows x (rows_of One n.entry.child)) (sym (ap g.R.Rows.content c.entry-entry.ensures.same)) run.gaps.0.rows) }
+    let at = goal.at.root_at-child-requires g c in
+    let n = next g at.In-loop c.requires.copying in
+    record { stands = (n.entry.child, sym (links g at.After-entry-entry c.requires.copying n).0, child_there g at.After-entry-entry c.requires.copying n) }
+
+module _ (g : Over) (c : goal.After-root_at-child g) (k : Copying c.args.writer.now (g.R.Rows.content c.args.rows.now) c.args.desk.now c.args.from c.args.count) (n : Next k c.loop.counter c.loop.writer (g.R.Rows.content c.loop.rows) c.loop.desk c.loop.link (c.loop.invariant.progress k)) where
+  child_root : c.entry-entry.result.child ≡ link_of n.entry.child → HasRows (g.R.Rows.content c.entry-entry.new.self) (rows_of One n.entry.child) → IsRootOf n.entry.child c.root_at-child.result
+  child_root link there = c.root_at-child.ensures.root n.entry.child (sym link) there
 
 pub move_entry-requires-clause-writer : goal.move_entry-requires-clause-writer
 move_entry-requires-clause-writer g c = c.loop.invariant.writer
@@ -66,27 +75,20 @@ move_entry-requires-clause-blank g c = subst (λ (b : ℕ → Bool). IfSome c.lo
 pub move_entry-requires-clause-child : goal.move_entry-requires-clause-child
 move_entry-requires-clause-child g c =
     let k = c.requires.copying in
-    let p = c.loop.invariant.progress k in
-    let n = some_left _ _ _ _ _ k _ _ _ _ _ p c.loop-test.true in
-    let there = row_there _ _ _ _ _ k _ _ _ _ _ p n in
-    let run = next_run _ _ _ _ _ k _ _ _ _ _ p n in
-    let links = links_are _ c.entry-entry.result _ _ _ _ there c.entry-entry.ensures.value in
-    let root = c.root_at-child.ensures.root n.entry.child (sym links.0) (subst (λ (x : Content). HasRows x (rows_of One n.entry.child)) (sym (ap g.R.Rows.content c.entry-entry.ensures.same)) run.gaps.0.rows) in
-    omega (arith, root.link, small_link c.loop.desk n.entry.child (λ r i. old_alive c.loop.desk r (run.gaps.0.old r i)) c.loop.invariant.few)
+    let at = goal.at.move_entry-requires-clause-child g c in
+    let child = next g at.In-loop k in
+    let root = child_root g at.After-root_at-child k child (links g at.After-entry-entry k child).0 (child_there g at.After-entry-entry k child) in
+    omega (arith, root.link, small_link c.loop.desk child.entry.child (λ r i. old_alive c.loop.desk r ((next_run k child).gaps.0.old r i)) c.loop.invariant.few)
 
 pub move_entry-requires-clause-old : goal.move_entry-requires-clause-old
-move_entry-requires-clause-old g c =
-    let k = c.requires.copying in
-    let p = c.loop.invariant.progress k in
-    let n = some_left _ _ _ _ _ k _ _ _ _ _ p c.loop-test.true in
-    row_old _ _ _ _ _ k _ _ _ _ _ p n
+move_entry-requires-clause-old g c = row_old c.requires.copying (next g (goal.at.move_entry-requires-clause-old g c).In-loop c.requires.copying)
 
 pub loop-preserved : goal.loop-preserved
 loop-preserved g c =
-    let read = c.root_at-child.ensures.same ∙ c.entry-entry.ensures.same in
-    let content : g.R.Rows.content c.root_at-child.new.rows ≡ g.R.Rows.content c.loop.rows = ap g.R.Rows.content read in
+    let same = c.root_at-child.ensures.same ∙ c.entry-entry.ensures.same in
+    let content : g.R.Rows.content c.root_at-child.new.rows ≡ g.R.Rows.content c.loop.rows = ap g.R.Rows.content same in
     let moves = c.move_entry.ensures.moves in
-    let blank : g.R.Rows.blank c.move_entry.new.rows ≡ g.R.Rows.blank c.loop.rows = c.move_entry.ensures.blank ∙ ap g.R.Rows.blank read in
+    let blank : g.R.Rows.blank c.move_entry.new.rows ≡ g.R.Rows.blank c.loop.rows = c.move_entry.ensures.blank ∙ ap g.R.Rows.blank same in
     record {
       writer = c.move_entry.ensures.writer;
       left = omega (arith, c.move_entry.ensures.node.2, c.loop.invariant.left);
@@ -94,39 +96,39 @@ loop-preserved g c =
       room = omega (arith, moves.room, c.move_entry.ensures.node.2, c.loop.invariant.room, one_ahead c.move_entry.new.writer.next);
       few = omega (arith, moves.rows, c.loop.invariant.few);
       same = blank ∙ c.loop.invariant.same;
-      kept = c.move_entry.ensures.kept ∙ ap g.R.Rows.kept read ∙ c.loop.invariant.kept;
+      kept = c.move_entry.ensures.kept ∙ ap g.R.Rows.kept same ∙ c.loop.invariant.kept;
       next = subst (λ (b : ℕ → Bool). IfSome c.move_entry.new.writer.next (λ r. IsTrue (b r))) (sym blank)
           (blank_ahead c.move_entry.new.writer (g.R.Rows.blank c.loop.rows) (blank_taken c.loop.desk c.move_entry.new.desk (ahead c.move_entry.new.writer.next) _ moves (g.R.Rows.blank c.loop.rows) c.loop.invariant.free));
       free = subst (FreeIsBlank c.move_entry.new.desk.lives) (sym blank) (blank_free c.loop.desk c.move_entry.new.desk (ahead c.move_entry.new.writer.next) _ moves (g.R.Rows.blank c.loop.rows) c.loop.invariant.free);
       progress = λ k.
-          let p = c.loop.invariant.progress k in
-          let n = some_left _ _ _ _ _ k _ _ _ _ _ p c.loop-test.true in
-          let there = row_there _ _ _ _ _ k _ _ _ _ _ p n in
-          let run = next_run _ _ _ _ _ k _ _ _ _ _ p n in
-          let links = links_are _ c.entry-entry.result _ _ _ _ there c.entry-entry.ensures.value in
-          let next = next_some c.loop.writer.next c.loop.writer.left c.loop.invariant.writer.reserved (omega (arith, c.loop.invariant.left, c.requires.left, c.loop-test.true)) in
-          let child : HasRows (g.R.Rows.content c.entry-entry.new.self) (rows_of One n.entry.child) = subst (λ (x : Content). HasRows x (rows_of One n.entry.child)) (sym (ap g.R.Rows.content c.entry-entry.ensures.same)) run.gaps.0.rows in
-          let root = c.root_at-child.ensures.root n.entry.child (sym links.0) child in
-          let ws = k.ws ++ p.copied.copies in
-          let written = c.move_entry.ensures.written ws n.entry.child next.0 n.entry.value next.1
-          (value_there _ _ _ _ _ (ap (λ (x : Content). x (c.loop.link - 1)) content ∙ there))
-          (subst (λ (x : Content). IsWritten c.loop.writer x ws) (sym content) p.copied.going.written)
+          let at = goal.at.loop-preserved g c in
+          let n = next g at.In-loop k in
+          let read = links g at.After-entry-entry k n in
+          let root = child_root g at.After-root_at-child k n read.0 (child_there g at.After-entry-entry k n) in
+          let row = next_some c.loop.writer.next c.loop.writer.left c.loop.invariant.writer.reserved (omega (arith, c.loop.invariant.left, c.requires.left, c.loop-test.true)) in
+          let before = (c.loop.invariant.progress k).copied in
+          let child = (next_run k n).gaps.0 in
+          let ws = k.ws ++ before.copies in
+          let written = c.move_entry.ensures.written ws n.entry.child row.0 n.entry.value row.1
+          (value_there _ _ _ _ _ (ap (λ (x : Content). x (c.loop.link - 1)) content ∙ row_there k n))
+          (subst (λ (x : Content). IsWritten c.loop.writer x ws) (sym content) before.going.written)
           root
-          (subst (λ (x : Content). HasRows x (rows_of One n.entry.child)) (sym content) run.gaps.0.rows)
-          (row_out c.loop.writer (g.R.Rows.content c.loop.rows) c.loop.desk ws n.entry.child next.0 p.copied.going next.1 run.gaps.0.old) in
-          let less = link_less _ _ _ _ _ k _ _ _ _ _ p n in
-          let stepped = steps _ _ _ _ _ k _ _ _ _ _ p n c.move_entry.new.writer (g.R.Rows.content c.move_entry.new.rows) c.move_entry.new.desk next.0 next.1
-          (subst (λ (r : ℕ). Moves c.loop.desk c.move_entry.new.desk (ahead c.move_entry.new.writer.next) (r ∷ [])) less moves)
+          (subst (λ (x : Content). HasRows x (rows_of One n.entry.child)) (sym content) child.rows)
+          (row_out c.loop.writer (g.R.Rows.content c.loop.rows) c.loop.desk ws n.entry.child row.0 before.going row.1 child.old) in
+          let stepped = steps k n c.move_entry.new.writer (g.R.Rows.content c.move_entry.new.rows) c.move_entry.new.desk row.0 row.1
+          (subst (λ (r : ℕ). Moves c.loop.desk c.move_entry.new.desk (ahead c.move_entry.new.writer.next) (r ∷ [])) (link_less k n) moves)
           (subst (λ (x : Content). KeepsBut (ahead c.loop.writer.next) x (g.R.Rows.content c.move_entry.new.rows)) content c.move_entry.ensures.keeps)
-          (subst (λ (key : List ℕ). IsWritten c.move_entry.new.writer (g.R.Rows.content c.move_entry.new.rows) (ws ++ record { at = next.0; child = n.entry.child; key = key; value = n.entry.value } ∷ [])) links.2 written) in
-          subst (λ (l : ℕ). Progress _ _ _ _ _ k (c.loop.counter + 1) c.move_entry.new.writer (g.R.Rows.content c.move_entry.new.rows) c.move_entry.new.desk l) (sym links.1) stepped;
+          (subst (λ (key : List ℕ). IsWritten c.move_entry.new.writer (g.R.Rows.content c.move_entry.new.rows) (ws ++ record { at = row.0; child = n.entry.child; key = key; value = n.entry.value } ∷ [])) read.2 written) in
+          subst (λ (l : ℕ). Progress k (c.loop.counter + 1) c.move_entry.new.writer (g.R.Rows.content c.move_entry.new.rows) c.move_entry.new.desk l) (sym read.1) stepped;
     }
+
+-- ---- all are copied
 
 pub returns-clause-writer : goal.returns-clause-writer
 returns-clause-writer g c = c.loop.invariant.writer
 
 pub returns-clause-copied : goal.returns-clause-copied
-returns-clause-copied g c = λ k. ends _ _ _ _ _ k _ _ _ _ _ (c.loop.invariant.progress k) (omega (arith, c.loop-test.false, c.loop.auto.counter-end))
+returns-clause-copied g c = λ k. ends k (c.loop.invariant.progress k) (omega (arith, c.loop-test.false, c.loop.auto.counter-end))
 
 pub returns-clause-node : goal.returns-clause-node
 returns-clause-node g c = (c.loop.invariant.node.0, c.loop.invariant.node.1, omega (arith, c.loop.invariant.left, c.loop-test.false, c.loop.auto.counter-end), c.loop.invariant.node.2)

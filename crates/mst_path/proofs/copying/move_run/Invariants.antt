@@ -17,5 +17,5 @@ invariant-loop g l = record {
   kept : g.R.Rows.kept l.rows ≡ g.R.Rows.kept l.fn.rows;
   next : IfSome l.writer.next (λ r. IsTrue (g.R.Rows.blank l.rows r));
   free : FreeIsBlank l.desk.lives (g.R.Rows.blank l.rows);
-  progress : (k : Copying l.fn.writer (g.R.Rows.content l.fn.rows) l.fn.desk l.fn.from l.fn.count) → Progress l.fn.writer (g.R.Rows.content l.fn.rows) l.fn.desk l.fn.from l.fn.count k l.counter l.writer (g.R.Rows.content l.rows) l.desk l.link;
+  progress : (k : Copying l.fn.writer (g.R.Rows.content l.fn.rows) l.fn.desk l.fn.from l.fn.count) → Progress k l.counter l.writer (g.R.Rows.content l.rows) l.desk l.link;
 }

@@ -260,7 +260,7 @@ module _ (w0 w1 w2 : NodeWriter) (c0 c1 c2 : Content) (s0 s1 s2 : State) (ws es 
 
 -- ---- so many of them
 
-module _ (w0 : NodeWriter) (c0 : Content) (s0 : State) (from count : ℕ) (k : Copying w0 c0 s0 from count) where
+module _ {w0 : NodeWriter} {c0 : Content} {s0 : State} {from count : ℕ} (k : Copying w0 c0 s0 from count) where
   -- the first i entries are copied
   pub record Progress (i : ℕ) (w : NodeWriter) (c : Content) (s : State) (link : ℕ) : Type 0 where
     pub first : List PlacedEntry
@@ -290,14 +290,14 @@ module _ (w0 : NodeWriter) (c0 : Content) (s0 : State) (from count : ℕ) (k : C
     pub more : List PlacedEntry
     pub is : p.rest ≡ entry ∷ more
 
-  pub some_left : (i : ℕ) (w : NodeWriter) (c : Content) (s : State) (link : ℕ) (p : Progress i w c s link) → i < count → Next i w c s link p
-  some_left i w c s link p lt = go p.rest refl
+  pub some_left : {i : ℕ} {w : NodeWriter} {c : Content} {s : State} {link : ℕ} (p : Progress i w c s link) → i < count → Next i w c s link p
+  some_left {i = i} {w = w} {c = c} {s = s} {link = link} p lt = go p.rest refl
     where
       go : (l : List PlacedEntry) → p.rest ≡ l → Next i w c s link p
       go [] e = absurd (omega (arith, lt, p.adds, p.run.counted, ap (λ (l : List PlacedEntry). length l) e))
       go (x ∷ xs) e = record { entry = x; more = xs; is = e }
 
-  module _ (i : ℕ) (w : NodeWriter) (c : Content) (s : State) (link : ℕ) (p : Progress i w c s link) (n : Next i w c s link p) where
+  module _ {i : ℕ} {w : NodeWriter} {c : Content} {s : State} {link : ℕ} {p : Progress i w c s link} (n : Next i w c s link p) where
     pub next_run : Run c s link p.left k.behind (n.entry ∷ n.more)
     next_run = subst (Run c s link p.left k.behind) n.is p.run
 
@@ -333,8 +333,8 @@ module _ (w0 : NodeWriter) (c0 : Content) (s0 : State) (from count : ℕ) (k : C
           once = λ x. omega (arith, rest_once w w' c c' s s' n.entry n.more ws k.behind link p.left r next_run p.copied.going once_more is moves keeps x, ap (λ (l : List PlacedEntry). times x (entries_used l)) (append_assoc k.ws p.copied.copies (copy_in r n.entry ∷ [])));
         }
 
-  pub ends : (i : ℕ) (w : NodeWriter) (c : Content) (s : State) (link : ℕ) → Progress i w c s link → i ≡ count → (link ≡ k.behind) × Copied w0 w c0 c s0 s k.ws k.es
-  ends i w c s link p all = go p.rest refl
+  pub ends : {i : ℕ} {w : NodeWriter} {c : Content} {s : State} {link : ℕ} → Progress i w c s link → i ≡ count → (link ≡ k.behind) × Copied w0 w c0 c s0 s k.ws k.es
+  ends {w = w} {c = c} {s = s} {link = link} p all = go p.rest refl
     where
       go : (l : List PlacedEntry) → p.rest ≡ l → (link ≡ k.behind) × Copied w0 w c0 c s0 s k.ws k.es
       go [] e = (sym p.run.begins ∙ ap (link_from k.behind) e, subst (Copied w0 w c0 c s0 s k.ws) (sym (p.split ∙ ap (λ (l : List PlacedEntry). p.first ++ l) e ∙ append-nil p.first)) p.copied)
