@@ -5,7 +5,6 @@ use mst_command::{Refusal, complain};
 use mst_devices::{StdSink, StdSource};
 use mst_load::Open;
 use mst_program::{Progress, command};
-use std::alloc::Global;
 use std::io::IsTerminal;
 use std::process::ExitCode;
 use std::{env, io};

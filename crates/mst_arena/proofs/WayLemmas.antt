@@ -1,5 +1,5 @@
 -- The way to a key from an entry, by its links and by its words.
-use Rattle.std.proofs.Common.{◌≡◌, ℕ, ◌*◌, ◌+◌, ◌%◌, ◌≤◌, List, length, Option, Some, None, Ordering, Less, Equal, Greater, refl, sym, ◌∙◌, ap, arith}
+use Rattle.std.proofs.Common.{◌≡◌, ℕ, ◌*◌, ◌+◌, ◌≤◌, List, length, Option, Some, None, Ordering, Less, Equal, Greater, refl, sym, ◌∙◌, ap, arith}
 use Rattle.std.specs.Prelude.{slice_index, option_and_then, IsSome}
 use Rattle.mst_key.specs.Bytes.{IsKey, IsBytes}
 use Rattle.mst_key.specs.Map.{key_cmp}

@@ -3,7 +3,7 @@ use Rattle.std.proofs.Common.{◌≡◌, ℕ, zero, suc, ◌+◌, ◌*◌, ◌%�
 use Rattle.std.specs.Prelude.{slice_index}
 use Rattle.std.specs.Ordering.{ordering_then}
 use Rattle.std.specs.Int.{w64, from_be_bytes}
-use Rattle.std.proofs.lemmas.Bool.{cond-true, cond-false, lt-ltb}
+use Rattle.std.proofs.lemmas.Bool.{cond-true, lt-ltb}
 use Rattle.std.proofs.lemmas.Cmp.{nat_cmp_total, tied_itself}
 use Rattle.mst_key.specs.Bytes.{IsBytes}
 use Rattle.mst_key.specs.Map.{key_cmp}

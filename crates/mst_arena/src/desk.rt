@@ -1,7 +1,7 @@
 //! The desk: births and deaths of rows, and the version of each record.
 ghost use Rattle.std.specs.Prelude.{◌≡◌, ◌≢◌, ◌≤◌, ◌<◌, ◌+◌, ℕ, [], length, map, replicate, vec_capacity, IfOk, IfSome, IfNone, MatchResult, Some, slice_get, slice_set, slice_index};
 ghost use Rattle.mst_arena.specs.Lives.{State, version, next, last_version, free_count, swept_life, ended_life, with_life};
-ghost use Rattle.mst_arena.specs.declared.life.Life.TheVariants.{Free, Born, Dead};
+ghost use Rattle.mst_arena.specs.declared.life.Life.TheVariants.{Free, Born};
 
 use crate::free_rows::FreeRows;
 use crate::life::Life;

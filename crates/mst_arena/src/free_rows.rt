@@ -1,5 +1,5 @@
 //! The free rows: a bitmap of two levels, from which rows are handed out upwards.
-ghost use Rattle.std.specs.Prelude.{◌≡◌, ◌≢◌, ◌≤◌, ◌<◌, ◌*◌, ◌^◌, ℕ, true, false, Some, length, replicate, slice_get, slice_set, slice_index, IfOk, IfSome, IfNone};
+ghost use Rattle.std.specs.Prelude.{◌≡◌, ◌≤◌, ◌<◌, true, false, Some, replicate, slice_get, slice_set, IfOk, IfSome, IfNone};
 ghost use Rattle.mst_arena.specs.Bits.{count_true};
 
 use crate::bits::{bit_in_use, put_bit, take_bit};

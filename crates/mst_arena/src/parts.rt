@@ -1,12 +1,11 @@
 //! The parts of a row, each from the words that it stands in. The sixteen words are counted from 0.
-ghost use Rattle.std.specs.Prelude.{◌≡◌, ◌≤◌, ◌<◌, ◌*◌, ℕ, List, length, map, slice_index, slice_range, Some, IsSome};
+ghost use Rattle.std.specs.Prelude.{◌≡◌, ◌<◌, ◌*◌, ℕ, List, map, slice_index, slice_range, Some, IsSome};
 ghost use Rattle.std.specs.List.{range_with_len};
 ghost use Rattle.mst_arena.specs.Row.{head_links, head_digest, entry_links, entry_value};
 ghost use Rattle.mst_arena.specs.Words.{byte_of_words, part_in};
 
 use crate::row::{EntryLinks, HeadLinks, Row};
 use mst_key::{Key, Value};
-use std::array;
 
 /// The 32 bytes of four words, the highest byte of each word first.
 ///

@@ -1,9 +1,8 @@
 //! The sixteen words of a row.
-ghost use Rattle.std.specs.Prelude.{[], ◌∷◌, ◌≡◌, ◌≢◌, ◌↔◌, ◌<◌, ◌≤◌, ◌+◌, ◌*◌, length, slice_index, map, Some, IsSome, IfSome, IfNone};
-ghost use Rattle.std.specs.List.{range_with_len};
+ghost use Rattle.std.specs.Prelude.{[], ◌∷◌, ◌≡◌, ◌≢◌, ◌<◌, ◌≤◌, ◌+◌, ◌*◌, length, slice_index, Some, IsSome, IfSome, IfNone};
 ghost use Rattle.mst_arena.specs.declared.row.Row.{Row};
 ghost use Rattle.mst_arena.specs.Row.{IsRow, HasBytes};
-ghost use Rattle.mst_arena.specs.Words.{word_from, words_of, byte_of_words, bytes_in, row_in, root_in};
+ghost use Rattle.mst_arena.specs.Words.{word_from, words_of, bytes_in, row_in, root_in};
 
 use crate::parts::bytes_of_four;
 use crate::row::{EntryLinks, HeadLinks, Root, Row};

@@ -1,5 +1,5 @@
 //! The programs, over a source and a sink.
-ghost use Rattle.std.specs.Prelude.{◌≡◌, ◌<◌, ◌≤◌, ◌-◌, ◌+◌, ◌^◌, ◌↔◌, OnOk, IfOk, IfErr, IsErrOf, [], None, string_bytes};
+ghost use Rattle.std.specs.Prelude.{◌≡◌, ◌<◌, ◌-◌, ◌+◌, ◌^◌, ◌↔◌, OnOk, IfOk, IfErr, IsErrOf, [], None};
 ghost use Rattle.mst_devices.specs.Device.{Breaks};
 ghost use Rattle.mst_store.specs.Passes.{IsShape};
 ghost use Rattle.mst_command.specs.Programs.{RanScript, BrokeScript, RanReplay, BrokeReplay, Did, Broke, HasBadShape, HasBadRoot, HasBadKey};

@@ -1,6 +1,6 @@
 //! The layer of a key.
 ghost use Rattle.std.specs.Prelude.{◌≡◌, ◌≤◌};
-ghost use Rattle.mst_key.specs.Layer.{layer, layer_in, byte_digits, digits, zeros_in_front};
+ghost use Rattle.mst_key.specs.Layer.{layer, byte_digits, digits, zeros_in_front};
 ghost use Rattle.mst_key.specs.declared.format.Format.TheVariants.{One};
 
 use crate::key::Key;

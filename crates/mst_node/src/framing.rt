@@ -1,5 +1,5 @@
 //! The texts that a proof frames.
-ghost use Rattle.std.specs.Prelude.{◌≡◌, List, ℕ, IfSome, IfNone};
+ghost use Rattle.std.specs.Prelude.{List, ℕ, IfSome, IfNone};
 ghost use Rattle.mst_node.specs.Frame.{FramesFirst};
 ghost use Rattle.mst_node.specs.Reading.{Gives, first_text_at};
 

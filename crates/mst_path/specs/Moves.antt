@@ -1,6 +1,6 @@
 -- What a change of the tree does to the lives of rows: it takes rows that are free, and kills rows
 -- that were born with an older version.
-use Rattle.std.specs.Prelude.{◌≡◌, ◌<◌, ◌≤◌, ◌+◌, ℕ, List, length, slice_get, Some}
+use Rattle.std.specs.Prelude.{◌≡◌, ◌≤◌, ◌+◌, ℕ, List, length, slice_get, Some}
 use Rattle.mst_arena.specs.Lives.{State, version, next, free_count}
 use Rattle.mst_arena.specs.Lists.{In, times}
 use Rattle.mst_arena.specs.declared.life.Life.TheVariants.{Free, Born, Dead}

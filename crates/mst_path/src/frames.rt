@@ -8,7 +8,6 @@ ghost use Rattle.mst_path.specs.Takes.{FreeIsBlank};
 ghost use Rattle.mst_path.specs.Moves.{IsOld, Moves};
 ghost use Rattle.mst_path.specs.Runs.{Piece};
 ghost use Rattle.mst_path.specs.Writing.{IsRootOf, ahead};
-ghost use Rattle.mst_change.specs.Cost.{side_rows};
 ghost use Rattle.mst_path.specs.Making.{Grown};
 ghost use Rattle.mst_path.specs.Frames.{Framed, in_entries, in_frame, tree_round, frame_rows};
 

@@ -7,7 +7,7 @@ ghost use Rattle.mst_key.specs.Map.{Pair};
 ghost use Rattle.mst_key.specs.declared.format.Format.TheVariants.{One};
 ghost use Rattle.mst_node.specs.Cost.{cost};
 ghost use Rattle.mst_node.specs.Stays.{held};
-ghost use Rattle.mst_node.specs.Tree.{empty, node, tree, pairs};
+ghost use Rattle.mst_node.specs.Tree.{node, tree, pairs};
 ghost use Rattle.mst_arena.specs.Content.{Content};
 ghost use Rattle.mst_arena.specs.Lives.{State, version, next, reaches, SameReach, free_count};
 ghost use Rattle.mst_arena.specs.Lists.{In, times};

@@ -1,6 +1,6 @@
 //! The tree after a put: along the path to the key's place each node is made anew, and where the
 //! pair comes to stand the tree below it is split.
-ghost use Rattle.std.specs.Prelude.{◌≡◌, ◌≤◌, ◌<◌, ◌+◌, ℕ, List, length, true, false};
+ghost use Rattle.std.specs.Prelude.{◌≡◌, ◌≤◌, ◌<◌, ◌+◌, length, true, false};
 ghost use Rattle.mst_key.specs.declared.format.Format.TheVariants.{One};
 ghost use Rattle.mst_key.specs.Layer.{layer_in};
 ghost use Rattle.mst_node.specs.Tree.{node, entry, last};

@@ -18,7 +18,7 @@ use crate::cut::{Cut, cut_at};
 use crate::frames::{Frame, close};
 use crate::joining::{Meeting, join, join_cost};
 use crate::making::{Run, kept_tail};
-use mst_arena::{Desk, HeadLinks, Root, Rows, Sought};
+use mst_arena::{Desk, Root, Rows, Sought};
 use std::alloc::Allocator;
 
 /// What becomes of a node whose tree loses a key.

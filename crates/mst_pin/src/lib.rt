@@ -11,7 +11,7 @@
 //!
 //! `Core` keeps those words as the shared store does, and takes events one at a time.
 
-ghost use Rattle.std.specs.Prelude.{◌≡◌, ◌≤◌, ◌<◌, ◌+◌, ◌↔◌, IsSome, IfSome, IfOk, OnErr};
+ghost use Rattle.std.specs.Prelude.{◌≡◌, ◌≤◌, ◌<◌, ◌↔◌, IsSome, IfSome, IfOk, OnErr};
 ghost use Rattle.mst_pin.specs.Words.{IsKept};
 
 mod event;

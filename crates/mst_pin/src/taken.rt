@@ -1,6 +1,5 @@
 //! Which events are taken: each question about the state, answered from the words.
-
-ghost use Rattle.std.specs.Prelude.{◌≡◌, ◌≢◌, ◌+◌, ◌<◌, ◌≤◌, ◌↔◌, ℕ, true, IsTrue, IsNone, IsSome, Some};
+ghost use Rattle.std.specs.Prelude.{◌≡◌, ◌≢◌, ◌+◌, ◌<◌, ◌↔◌, ℕ, true, IsTrue, IsNone, IsSome, Some};
 ghost use Rattle.std.specs.Bool.{OnFalse};
 
 use crate::{Core, Event};

@@ -1,7 +1,6 @@
 //! The words that passes and writer share, and what the writer holds between a publish and its
 //! transfer.
-
-ghost use Rattle.std.specs.Prelude.{◌≡◌, ◌+◌, ◌*◌, ◌<◌, ◌≤◌, ◌^◌, ◌-◌, ◌↔◌, None, IsTrue, slice_index, slice_set, replicate, bit_xor};
+ghost use Rattle.std.specs.Prelude.{◌≡◌, ◌<◌, ◌≤◌, ◌^◌, ◌-◌, None, slice_index, slice_set, replicate, bit_xor};
 ghost use Rattle.mst_pin.specs.WordParts.{record_of, mask_of};
 
 use crate::RECORDS;

@@ -1,5 +1,5 @@
 //! The fields of a line, and what they spell.
-ghost use Rattle.std.specs.Prelude.{◌≡◌, ◌≢◌, ◌≤◌, ◌∷◌, ◌++◌, [], List, ℕ, true, false, length, take, MatchOption, MatchResult, IfSome, IfOk, None, Some};
+ghost use Rattle.std.specs.Prelude.{◌≡◌, ◌≢◌, ◌≤◌, ◌∷◌, [], List, ℕ, true, false, length, take, MatchOption, MatchResult, IfSome, IfOk, None, Some};
 ghost use Rattle.mst_requests.specs.declared.request.Fault.TheVariants.{FieldCount};
 ghost use Rattle.mst_requests.specs.Grammar.{fields_of, fields_behind, bytes_of as spelt_bytes, number_up_to, pass_in, count_in, has_key_size, has_value_size, has_bound_size, bound_of};
 

@@ -1,5 +1,5 @@
 //! A script: the lines of a source, asked of the passes of a store, and answered into a sink.
-ghost use Rattle.std.specs.Prelude.{◌≡◌, ◌<◌, ◌≤◌, ◌-◌, ◌+◌, ◌^◌, [], OnOk, OnErr};
+ghost use Rattle.std.specs.Prelude.{◌≡◌, ◌<◌, ◌-◌, ◌+◌, ◌^◌, [], OnOk, OnErr};
 ghost use Rattle.mst_lines.specs.Runs.{Ran, Stopped};
 ghost use Rattle.mst_lines.specs.Driving.{Answered, Lost, Closed, NotClosed};
 ghost use Rattle.mst_script.specs.Serving.{AreAllOf, everyone, Serves};

@@ -3,9 +3,7 @@ use crate::calls::Call::{
     Get, InTurnInVain, Number, Pin, Put, PutInTurn, RemoveInTurn, Root, Rows, Unpin, Version,
 };
 use crate::calls::{Step, run, script};
-use crate::fixtures::{
-    ROOT_OF_NONE, SMALL, both_passes, dealt_in, fill, heap_of, key, opened, opened_in,
-};
+use crate::fixtures::{ROOT_OF_NONE, both_passes, dealt_in, fill, heap_of, key, opened, opened_in};
 use mst_key::{Key, Value};
 use mst_store::{Pass, Shape};
 use std::alloc::Global;

@@ -1,5 +1,5 @@
 -- Texts of an even number of digits.
-use Rattle.std.proofs.Common.{◌≡◌, ◌∙◌, ◌%◌, ℕ, List, length, true, sym, refl, arith}
+use Rattle.std.proofs.Common.{◌≡◌, ◌∙◌, ◌%◌, ℕ, List, length, true, sym, refl}
 use Rattle.std.specs.Prelude.{Result, Ok, Err, IsOk, IsTrue, Bool, ◌↔◌}
 use Rattle.std.specs.List.{AllPass, list_all}
 use Rattle.std.proofs.lemmas.List.Sums.{AllPass-from_list_all, list_all-from_AllPass}

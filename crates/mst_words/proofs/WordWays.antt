@@ -7,7 +7,7 @@ use Rattle.mst_arena.specs.Content.{part_at}
 use Rattle.mst_arena.specs.Row.{entry_links}
 use Rattle.mst_arena.specs.Ways.{entry_way, words_order}
 use Rattle.mst_arena.specs.declared.sought.Way.TheVariants.{Child, Here, Next}
-use Rattle.mst_arena.proofs.WayLemmas.{WayIn, way_in_words}
+use Rattle.mst_arena.proofs.WayLemmas.{way_in_words}
 use Rattle.mst_words.specs.declared.view.View.{View}
 use Rattle.mst_words.specs.Records.{row}
 use Rattle.mst_words.specs.Stored.{rows_in}

@@ -1,5 +1,5 @@
 //! The steps of a pass that pins: the pin, the loads of words, and the end of the pin.
-ghost use Rattle.std.specs.Prelude.{◌≡◌, ◌≢◌, ◌%◌, ◌^◌, ◌<◌, ◌≤◌, ◌-◌, ℕ, [], true, false, slice_index, Some, None};
+ghost use Rattle.std.specs.Prelude.{◌≡◌, ◌%◌, ◌^◌, ◌<◌, ◌≤◌, ◌-◌, ℕ, slice_index};
 ghost use Rattle.mst_words.specs.Layout.{most_passes, most_records, first_row, table_words};
 ghost use Rattle.mst_words.specs.Stored.{stored};
 ghost use Rattle.mst_words.specs.Steps.{IsFree, IsPinned, PinsNow, Unpins, Forgets, IsReadable};

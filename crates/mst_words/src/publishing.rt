@@ -1,5 +1,5 @@
 //! The steps of the holder of the turn between taking it and giving it back.
-ghost use Rattle.std.specs.Prelude.{◌≡◌, ◌≢◌, ◌+◌, ◌<◌, ℕ, List, [], true, false, slice_set, Some, None};
+ghost use Rattle.std.specs.Prelude.{◌≡◌, ◌≢◌, ◌+◌, ◌<◌, ℕ, List, true, false, slice_set, Some};
 ghost use Rattle.mst_arena.specs.Lists.{In};
 ghost use Rattle.mst_words.specs.Stored.{stored, desk_state};
 ghost use Rattle.mst_words.specs.Layout.{most_records, table_words};

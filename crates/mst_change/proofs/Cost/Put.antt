@@ -5,7 +5,7 @@ use Rattle.std.specs.Option.{option_map_or}
 use Rattle.std.proofs.lemmas.Bool.{cond_both}
 use Rattle.mst_key.specs.declared.format.Format.{Format}
 use Rattle.mst_key.specs.Layer.{layer_in}
-use Rattle.mst_key.specs.Map.{Pair, key_cmp, map_get, IsAscending}
+use Rattle.mst_key.specs.Map.{Pair, map_get, IsAscending}
 use Rattle.mst_key.specs.Map as map
 use Rattle.mst_key.proofs.Alls.{alls-back, alls-weaker}
 use Rattle.mst_key.proofs.KeyOrder.{same_from_test, test_of_same}

@@ -1,7 +1,7 @@
 -- The tree after a remove: it is a search tree, with the pairs of the new map.
 use Rattle.std.proofs.Common.{◌≡◌, ℕ, List, [], ◌∷◌, ◌++◌, refl, sym, ap, subst, ◌∙◌}
 use Rattle.mst_key.specs.declared.format.Format.{Format}
-use Rattle.mst_key.specs.Map.{Pair, key_cmp, IsAscending}
+use Rattle.mst_key.specs.Map.{Pair, IsAscending}
 use Rattle.mst_key.specs.Map as map
 use Rattle.mst_key.proofs.Splits.{remove-left, remove-right, remove-at}
 use Rattle.mst_node.specs.Tree.{Tree, empty, node, Entries, last, entry, pairs, entries_pairs, IsUnder, IsMst, IsMstEntries, tree}

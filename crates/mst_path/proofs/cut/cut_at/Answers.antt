@@ -3,7 +3,7 @@ use Rattle.mst_arena.specs.Content.{Content, part_at}
 use Rattle.mst_arena.specs.Row.{entry_links}
 use Rattle.mst_arena.specs.Ways.{entry_way, way_at}
 use Rattle.mst_arena.specs.declared.row.EntryLinks.{EntryLinks}
-use Rattle.mst_arena.specs.declared.sought.Way.TheVariants.{Child, Here, Next}
+use Rattle.mst_arena.specs.declared.sought.Way.TheVariants.{Here}
 use Rattle.mst_arena.proofs.WayLemmas.{way_is, to_child, is_here, to_next}
 use Rattle.mst_path.specs.declared.making.Run.{Run}
 use Rattle.mst_path.specs.Cutting.{EntriesLie, CutGap}

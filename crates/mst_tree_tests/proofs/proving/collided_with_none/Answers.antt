@@ -1,4 +1,4 @@
-use Rattle.std.proofs.Common.{◌≡◌, [], sym, refl, arith}
+use Rattle.std.proofs.Common.{[], sym, refl, arith}
 use Rattle.mst_key.specs.declared.format.Format.TheVariants.{One}
 use Rattle.mst_key.proofs.MapLaws.{IsMap-nil}
 use Rattle.mst_node.proofs.Trees.{tree-no_pairs}
