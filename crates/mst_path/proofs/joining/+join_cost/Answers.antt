@@ -1,8 +1,10 @@
-use Rattle.std.proofs.Common.{◌≡◌, ◌≤◌, ◌<◌, ◌+◌, sym, ap, subst, arith, rules}
+use Rattle.std.proofs.Common.{◌≡◌, ◌≤◌, ◌<◌, ◌+◌, ℕ, sym, ap, subst, arith, rules}
 use Rattle.mst_arena.specs.Content.{Content}
 use Rattle.mst_arena.specs.Lives.{State}
 use Rattle.mst_path.specs.Joining.{TwoTrees, both_rows, height_at}
 use Rattle.mst_path.proofs.lemmas.trees.Joined.{lower_trees}
+use Rattle.mst_path.proofs.joining.+join_cost.Given.{Over}
+use Rattle.mst_path.proofs.joining.+join_cost.Goals.{After-join_cost-inner}
 use Rattle.mst_path.proofs.joining.+join_cost.Goals as goal
 
 pub join_cost-inner-requires : goal.join_cost-inner-requires
@@ -21,18 +23,14 @@ join_cost-inner-requires g t c κs within =
 pub rows-requires : goal.rows-requires
 rows-requires g t c = record { few = omega (arith, c.requires.trees.2, (c.meet-meeting.ensures.met c.requires.trees.0 c.requires.trees.1).rows) }
 
+module _ (g : Over) (n : ℕ) (c : goal.After-join_cost-inner g n) (s : State) (z : TwoTrees (g.R.Rows.content c.args.rows.now) s c.args.left c.args.right) where
+  cost_inside : c.join_cost-inner.result ≡ both_rows (c.meet-meeting.ensures.met s z).inner
+  cost_inside = subst (λ (x : Content). (q : State) (y : TwoTrees x q c.meet-meeting.result.left c.meet-meeting.result.right) → c.join_cost-inner.result ≡ both_rows y) (ap g.R.Rows.content c.meet-meeting.ensures.same) c.join_cost-inner.ensures.cost s (c.meet-meeting.ensures.met s z).inner
+
 pub returns-clause-cost : goal.returns-clause-cost
 returns-clause-cost g t c = λ s z.
-    let m = c.meet-meeting.result in
-    let met = c.meet-meeting.ensures.met s z in
-    let inner = subst (λ (x : Content). (q : State) (y : TwoTrees x q m.left m.right) → c.join_cost-inner.result ≡ both_rows y) (ap g.R.Rows.content c.meet-meeting.ensures.same) c.join_cost-inner.ensures.cost s met.inner in
-    omega (arith, inner, c.rows.ensures.rows, met.rows)
+    omega (arith, cost_inside g t (goal.at.returns-clause-cost g t c).After-join_cost-inner s z, c.rows.ensures.rows, (c.meet-meeting.ensures.met s z).rows)
 
 pub overflow_add-result : goal.overflow_add-result
 overflow_add-result g t c =
-    let s = c.requires.trees.0 in
-    let z = c.requires.trees.1 in
-    let m = c.meet-meeting.result in
-    let met = c.meet-meeting.ensures.met s z in
-    let inner = subst (λ (x : Content). (q : State) (y : TwoTrees x q m.left m.right) → c.join_cost-inner.result ≡ both_rows y) (ap g.R.Rows.content c.meet-meeting.ensures.same) c.join_cost-inner.ensures.cost s met.inner in
-    omega (arith, inner, c.rows.ensures.rows, met.rows, c.requires.trees.2)
+    omega (arith, cost_inside g t (goal.at.overflow_add-result g t c).After-join_cost-inner c.requires.trees.0 c.requires.trees.1, c.rows.ensures.rows, (c.meet-meeting.ensures.met c.requires.trees.0 c.requires.trees.1).rows, c.requires.trees.2)
