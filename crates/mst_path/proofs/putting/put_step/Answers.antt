@@ -1,10 +1,11 @@
-use Rattle.std.proofs.Common.{rules}
-use Rattle.std.proofs.Common.{sym, ap, subst}
+use Rattle.std.proofs.Common.{sym, ap, subst, rules}
 use Rattle.mst_arena.specs.Content.{Content}
 use Rattle.mst_arena.specs.Lives.{State}
 use Rattle.mst_path.specs.Gaps.{IsOpened, OpensGap, OpensEntry}
 use Rattle.mst_path.specs.Removing.{SearchTree}
 use Rattle.mst_path.proofs.lemmas.steps.PutGaps.{some_link, puts_down, puts_between, puts_anew}
+use Rattle.mst_path.proofs.putting.put_step.Given.{Over}
+use Rattle.mst_path.proofs.putting.put_step.Goals.{After-top_step, In-Down}
 use Rattle.mst_path.proofs.putting.put_step.Goals as goal
 
 pub is_lower-requires : goal.is_lower-requires
@@ -22,26 +23,33 @@ top_step-requires-clause-some g c =
     let t = c.requires.tree.1.tree in
     some_link t.placed c.args.link c.args.layer t.at (c.is_lower.ensures.higher c.if-is_lower.false c.requires.tree.0 t)
 
+-- ---- the top node is opened
+
+module _ (g : Over) (c : goal.After-top_step g) where
+  opened : (s : State) (z : SearchTree (g.R.Rows.content c.args.rows.now) s c.args.link) → IsOpened (g.R.Rows.content c.args.rows.now) s c.args.link z c.args.key.now c.top_step.result
+  opened = subst (λ (x : Content). (q : State) (y : SearchTree x q c.args.link) → IsOpened x q c.args.link y c.args.key.now c.top_step.result) (ap g.R.Rows.content c.is_lower.ensures.same) c.top_step.ensures.opened
+
+module _ (g : Over) (c : goal.In-Down g) (s : State) (z : SearchTree (g.R.Rows.content c.args.rows.now) s c.args.link) where
+  gap : IsOpened (g.R.Rows.content c.args.rows.now) s c.args.link z c.args.key.now c.top_step.result → OpensGap (g.R.Rows.content c.args.rows.now) s c.args.link z c.args.key.now c.in-Down.child c.in-Down.frame
+  gap is = subst (IsOpened (g.R.Rows.content c.args.rows.now) s c.args.link z c.args.key.now) c.in-Down.is is
+
 pub returns-then-frame-layer-clause-step : goal.returns-then-frame-layer-clause-step
 returns-then-frame-layer-clause-step g c = λ s t.
-    let C = g.R.Rows.content c.args.rows.now in
-    let opened = subst (λ (x : Content). (q : State) (y : SearchTree x q c.args.link) → IsOpened x q c.args.link y c.args.key.now c.top_step.result) (ap g.R.Rows.content c.is_lower.ensures.same) c.top_step.ensures.opened s t.tree in
-    let gap : OpensGap C s c.args.link t.tree c.args.key.now c.in-Down.child c.in-Down.frame = subst (IsOpened C s c.args.link t.tree c.args.key.now) c.in-Down.is opened in
-    puts_between C s c.args.link t c.args.layer c.args.key.now c.requires.layer c.in-Down.child c.in-Down.frame gap c.if-frame-layer.true
+    let at = goal.at.returns-then-frame-layer-clause-step g c in
+    puts_between (g.R.Rows.content c.args.rows.now) s c.args.link t c.args.layer c.args.key.now c.requires.layer c.in-Down.child c.in-Down.frame (gap g at.In-Down s t.tree (opened g at.After-top_step s t.tree)) c.if-frame-layer.true
 
 pub returns-else-frame-layer-clause-step : goal.returns-else-frame-layer-clause-step
 returns-else-frame-layer-clause-step g c = λ s t.
-    let C = g.R.Rows.content c.args.rows.now in
-    let opened = subst (λ (x : Content). (q : State) (y : SearchTree x q c.args.link) → IsOpened x q c.args.link y c.args.key.now c.top_step.result) (ap g.R.Rows.content c.is_lower.ensures.same) c.top_step.ensures.opened s t.tree in
-    let gap : OpensGap C s c.args.link t.tree c.args.key.now c.in-Down.child c.in-Down.frame = subst (IsOpened C s c.args.link t.tree c.args.key.now) c.in-Down.is opened in
-    puts_down C s c.args.link t c.args.layer c.args.key.now c.requires.layer c.in-Down.child c.in-Down.frame gap (c.is_lower.ensures.higher c.if-is_lower.false s t.tree) c.if-frame-layer.false
+    let at = goal.at.returns-else-frame-layer-clause-step g c in
+    puts_down (g.R.Rows.content c.args.rows.now) s c.args.link t c.args.layer c.args.key.now c.requires.layer c.in-Down.child c.in-Down.frame (gap g at.In-Down s t.tree (opened g at.After-top_step s t.tree)) (c.is_lower.ensures.higher c.if-is_lower.false s t.tree) c.if-frame-layer.false
 
 pub returns-in-Here-clause-step : goal.returns-in-Here-clause-step
 returns-in-Here-clause-step g c = λ s t.
     let C = g.R.Rows.content c.args.rows.now in
-    let opened = subst (λ (x : Content). (q : State) (y : SearchTree x q c.args.link) → IsOpened x q c.args.link y c.args.key.now c.top_step.result) (ap g.R.Rows.content c.is_lower.ensures.same) c.top_step.ensures.opened s t.tree in
-    let here : OpensEntry C s c.args.link t.tree c.args.key.now c.in-Here.meeting = subst (IsOpened C s c.args.link t.tree c.args.key.now) c.in-Here.is opened in
+    let here : OpensEntry C s c.args.link t.tree c.args.key.now c.in-Here.meeting = subst (IsOpened C s c.args.link t.tree c.args.key.now) c.in-Here.is (opened g (goal.at.returns-in-Here-clause-step g c).After-top_step s t.tree) in
     puts_anew C s c.args.link t c.args.layer c.args.key.now c.requires.layer c.in-Here.meeting here
+
+-- ---- what a search finds
 
 pub returns-then-is_lower-clause-same : goal.returns-then-is_lower-clause-same
 returns-then-is_lower-clause-same g c = search rules

@@ -6,8 +6,11 @@ use Rattle.mst_path.specs.Takes.{FreeIsBlank}
 use Rattle.mst_path.specs.Writing.{IsRootOf}
 use Rattle.mst_path.specs.Making.{Grown}
 use Rattle.mst_path.specs.Frames.{Framed, in_frame}
+use Rattle.mst_path.specs.Joining.{TwoTrees}
 use Rattle.mst_path.specs.Putting.{TwoStand, in_two, tree_with, with_rows}
 use Rattle.mst_path.proofs.lemmas.steps.PutFrames.{beside}
+use Rattle.mst_path.proofs.putting.put_value.Given.{Over}
+use Rattle.mst_path.proofs.putting.put_value.Goals.{After-root_at-upper}
 use Rattle.mst_path.proofs.putting.put_value.Goals as goal
 
 pub root_at-lower-requires : goal.root_at-lower-requires
@@ -17,28 +20,33 @@ root_at-lower-requires g c =
 
 pub root_at-upper-requires : goal.root_at-upper-requires
 root_at-upper-requires g c =
-    let t = c.requires.met.0 in
-    record { stands = subst (λ (x : Content). (p : Placed) × (link_of p ≡ c.args.meeting.now.right) × HasRows x (rows_of One p)) (sym (ap g.R.Rows.content c.root_at-lower.ensures.same)) (t.b, t.b_at, t.b_piece.rows) }
+    let b = c.requires.met.0 in
+    record { stands = subst (λ (x : Content). (p : Placed) × (link_of p ≡ c.args.meeting.now.right) × HasRows x (rows_of One p)) (sym (ap g.R.Rows.content c.root_at-lower.ensures.same)) (b.b, b.b_at, b.b_piece.rows) }
+
+-- ---- both roots are read
+
+module _ (g : Over) (c : goal.After-root_at-upper g) where
+  same_rows : g.R.Rows.content c.root_at-upper.new.rows ≡ g.R.Rows.content c.args.rows.now
+  same_rows = ap g.R.Rows.content (c.root_at-upper.ensures.same ∙ c.root_at-lower.ensures.same)
+
+  abbrev both : (t : TwoTrees (g.R.Rows.content c.args.rows.now) c.args.desk.now c.args.meeting.now.left c.args.meeting.now.right) → TwoStand (g.R.Rows.content c.args.rows.now) c.args.desk.now c.root_at-lower.result c.root_at-upper.result
+  both t =
+      beside (g.R.Rows.content c.args.rows.now) c.args.desk.now c.args.meeting.now.left c.args.meeting.now.right t c.root_at-lower.result c.root_at-upper.result (c.root_at-lower.ensures.root t.a t.a_at t.a_piece.rows)
+      (subst (λ (x : Content). (p : Placed) → link_of p ≡ c.args.meeting.now.right → HasRows x (rows_of One p) → IsRootOf p c.root_at-upper.result) (ap g.R.Rows.content c.root_at-lower.ensures.same) c.root_at-upper.ensures.root t.b t.b_at t.b_piece.rows)
 
 pub close_with-requires-clause-frame : goal.close_with-requires-clause-frame
 close_with-requires-clause-frame g c =
-    let t = c.requires.met.0 in
-    let m = c.args.meeting.now in
-    let same = ap g.R.Rows.content (c.root_at-upper.ensures.same ∙ c.root_at-lower.ensures.same) in
-    let upper = subst (λ (x : Content). (p : Placed) → link_of p ≡ m.right → HasRows x (rows_of One p) → IsRootOf p c.root_at-upper.result) (ap g.R.Rows.content c.root_at-lower.ensures.same) c.root_at-upper.ensures.root t.b t.b_at t.b_piece.rows in
-    let two = beside (g.R.Rows.content c.args.rows.now) c.args.desk.now m.left m.right t c.root_at-lower.result c.root_at-upper.result (c.root_at-lower.ensures.root t.a t.a_at t.a_piece.rows) upper in
-    subst (λ (x : Content). (y : TwoStand x c.args.desk.now c.root_at-lower.result c.root_at-upper.result) × Framed x c.args.desk.now m.frame (in_two y)) (sym same) (two, c.requires.met.1)
+    let at = (goal.at.close_with-requires-clause-frame g c).After-root_at-upper in
+    subst (λ (x : Content). (y : TwoStand x c.args.desk.now c.root_at-lower.result c.root_at-upper.result) × Framed x c.args.desk.now c.args.meeting.now.frame (in_two y)) (sym (same_rows g at)) (both g at c.requires.met.0, c.requires.met.1)
 
 pub close_with-requires-clause-free : goal.close_with-requires-clause-free
 close_with-requires-clause-free g c = subst (FreeIsBlank c.args.desk.now.lives) (sym (ap g.R.Rows.blank (c.root_at-upper.ensures.same ∙ c.root_at-lower.ensures.same))) c.requires.free
 
 pub returns-clause-made : goal.returns-clause-made
 returns-clause-made g c = λ t f.
-    let m = c.args.meeting.now in
+    let at = (goal.at.returns-clause-made g c).After-root_at-upper in
+    let frame = c.args.meeting.now.frame in
     let s = c.args.desk.now in
     let k = c.args.key.now in
     let v = c.args.value.now in
-    let same = ap g.R.Rows.content (c.root_at-upper.ensures.same ∙ c.root_at-lower.ensures.same) in
-    let upper = subst (λ (x : Content). (p : Placed) → link_of p ≡ m.right → HasRows x (rows_of One p) → IsRootOf p c.root_at-upper.result) (ap g.R.Rows.content c.root_at-lower.ensures.same) c.root_at-upper.ensures.root t.b t.b_at t.b_piece.rows in
-    let two = beside (g.R.Rows.content c.args.rows.now) s m.left m.right t c.root_at-lower.result c.root_at-upper.result (c.root_at-lower.ensures.root t.a t.a_at t.a_piece.rows) upper in
-    subst (λ (x : Content). (y : TwoStand x s c.root_at-lower.result c.root_at-upper.result) (h : Framed x s m.frame (in_two y)) → Grown x (g.R.Rows.content c.close_with.new.rows) s c.close_with.new.desk (tree_with h k v (tree_of One y.lower) (tree_of One y.upper)) c.close_with.result (λ r. in_two y r + in_frame h r) (with_rows m.frame)) same c.close_with.ensures.made two f
+    subst (λ (x : Content). (y : TwoStand x s c.root_at-lower.result c.root_at-upper.result) (h : Framed x s frame (in_two y)) → Grown x (g.R.Rows.content c.close_with.new.rows) s c.close_with.new.desk (tree_with h k v (tree_of One y.lower) (tree_of One y.upper)) c.close_with.result (λ r. in_two y r + in_frame h r) (with_rows frame)) (same_rows g at) c.close_with.ensures.made (both g at t) f
