@@ -73,6 +73,14 @@ gaps_frame c d s t (e ∷ es) same old each =
       gaps_frame c d s t es (λ r is. same r (back r is)) (λ r is. old r (back r is)) each.1,
     )
 
+-- the trees in gaps stand on old rows
+pub gaps_old : (c : Content) (s : State) (x : ℕ) (es : List PlacedEntry) → EachGap (OldPiece c s) es → In x (gaps_used es) → IsOld s x
+gaps_old c s x [] each i = absurd (omega arith)
+gaps_old c s x (y ∷ es) each i = elim (in_either x (used y.child) (gaps_used es) i) [
+  | inl k ↦ each.0.old x k
+  | inr k ↦ gaps_old c s x es each.1 k
+]
+
 -- ---- one entry
 
 -- the entry in another row
@@ -185,28 +193,14 @@ module _ (w w' : NodeWriter) (c c' : Content) (s s' : State) (e : PlacedEntry) (
         rows = own_frame c c' behind rest own_kept run.rows.1;
         old = λ x i. old_stays s s' (ahead w'.next) (e.at ∷ []) moves x (run.old x (omega (arith, i))) (omega (arith, i, once x));
         gaps = gaps_frame c c' s s' rest
-            (λ x i. kept_at c c' (ahead w.next) x keeps (old_out x (gaps_old x rest run.gaps.1 i)))
+            (λ x i. kept_at c c' (ahead w.next) x keeps (old_out x (gaps_old c s x rest run.gaps.1 i)))
             (λ x i old. old_stays s s' (ahead w'.next) (e.at ∷ []) moves x old (omega (arith, gap_in x i, once x)))
             run.gaps.1;
       }
-    where
-      gaps_old : (x : ℕ) (es : List PlacedEntry) → EachGap (OldPiece c s) es → In x (gaps_used es) → IsOld s x
-      gaps_old x [] each i = absurd (omega arith)
-      gaps_old x (y ∷ es) each i = elim (in_either x (used y.child) (gaps_used es) i) [
-        | inl k ↦ each.0.old x k
-        | inr k ↦ gaps_old x es each.1 k
-      ]
 
   pub rest_once : (x : ℕ) → times x (entries_used (ws ++ copy_in r e ∷ [])) + times x (own rest) + times x (gaps_used rest) ≤ 1
   rest_once x = go (eqb x r) refl
     where
-      gaps_old : (es : List PlacedEntry) → EachGap (OldPiece c s) es → In x (gaps_used es) → IsOld s x
-      gaps_old [] each i = absurd (omega arith)
-      gaps_old (y ∷ es) each i = elim (in_either x (used y.child) (gaps_used es) i) [
-        | inl k ↦ each.0.old x k
-        | inr k ↦ gaps_old es each.1 k
-      ]
-
       go : (t : Bool) → eqb x r ≡ t → times x (entries_used (ws ++ copy_in r e ∷ [])) + times x (own rest) + times x (gaps_used rest) ≤ 1
       go true same =
           let x_is : x ≡ r = grind (arith, nat_tests) in
@@ -214,7 +208,7 @@ module _ (w w' : NodeWriter) (c c' : Content) (s s' : State) (e : PlacedEntry) (
           let one : bit (eqb x r) ≡ 1 = ap bit same in
           let no_child : times x (used e.child) ≡ 0 = not_in x (used e.child) (λ i. new_not_old s x new (gap_old x i)) in
           let no_own : times x (own rest) ≡ 0 = not_in x (own rest) (λ i. new_not_old s x new (run.old x (omega (arith, i)))) in
-          let no_gaps : times x (gaps_used rest) ≡ 0 = not_in x (gaps_used rest) (λ i. new_not_old s x new (gaps_old rest run.gaps.1 i)) in
+          let no_gaps : times x (gaps_used rest) ≡ 0 = not_in x (gaps_used rest) (λ i. new_not_old s x new (gaps_old c s x rest run.gaps.1 i)) in
           omega (arith, used_push x, going.once x, row_ahead x, one, no_child, no_own, no_gaps)
       go false other =
           let zero_bit : bit (eqb x r) ≡ 0 = ap bit other in

@@ -26,7 +26,7 @@ use Rattle.mst_path.specs.declared.node_writer.NodeWriter.{NodeWriter}
 use Rattle.mst_path.proofs.lemmas.rows.Entries.{entries_used-push, used_chain}
 use Rattle.mst_path.proofs.lemmas.rows.Moving.{in_either, not_in, out_of_times, times_of_out, moves_none, moves_then, alive_stays, alive_out, old_stays}
 use Rattle.mst_path.proofs.lemmas.trees.Made.{made_old, made_chain, made-append, new_stays, made_stays, entries_stay, piece_alive}
-use Rattle.mst_path.proofs.lemmas.rows.Copies.{at_self, kept_at, all_in, new_not_old, new_alive, old_alive, own_frame, gaps_frame}
+use Rattle.mst_path.proofs.lemmas.rows.Copies.{at_self, kept_at, all_in, new_not_old, new_alive, old_alive, own_frame, gaps_frame, gaps_old}
 
 -- ---- one more entry, with any tree before it
 
@@ -202,13 +202,6 @@ pub record Seamed (w w1 : NodeWriter) (c c1 : Content) (s s1 : State) (parts : P
   pub keeps : KeepsBut (ahead w.next) c c1
   pub written : IsWritten w1 c1 (r.ws ++ record { at = row; child = r.seam; key = back.entry.key; value = back.entry.value } ∷ [])
   pub begins : link ≡ link_from 0 back.more
-
-pub gaps_old : (c : Content) (s : State) (x : ℕ) (es : List PlacedEntry) → EachGap (OldPiece c s) es → In x (gaps_used es) → IsOld s x
-gaps_old c s x [] each i = absurd (omega arith)
-gaps_old c s x (y ∷ es) each i = elim (in_either x (used y.child) (gaps_used es) i) [
-  | inl k ↦ each.0.old x k
-  | inr k ↦ gaps_old c s x es each.1 k
-]
 
 module _ {w w1 : NodeWriter} {c c1 : Content} {s s1 : State} {parts : Parts} {r : Rest w c s parts} {link : ℕ} (m : Seamed w w1 c c1 s s1 parts r link) where
   -- the entries that are written then

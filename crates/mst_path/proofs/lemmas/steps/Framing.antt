@@ -23,7 +23,7 @@ use Rattle.mst_path.specs.Frames.{Framed, spare, frame_rows, in_entries, in_fram
 use Rattle.mst_path.specs.Writing.{PlacedEntry, IsRootOf, ahead}
 use Rattle.mst_path.proofs.lemmas.rows.Moving.{in_either, times_of_out, moves_none, moves_kill, moves_then, old_stays, alive_out}
 use Rattle.mst_path.proofs.lemmas.trees.Made.{made_stays, piece_alive}
-use Rattle.mst_path.proofs.lemmas.rows.Copies.{all_in, kept_at, old_alive, own_frame, gaps_frame, at_self}
+use Rattle.mst_path.proofs.lemmas.rows.Copies.{all_in, kept_at, old_alive, own_frame, gaps_frame, gaps_old, at_self}
 use Rattle.mst_change.proofs.Parts.{with_first_count, with_entries_count}
 
 -- ---- two rows die
@@ -52,13 +52,6 @@ one_dies s s1 r other is old dead = subst (λ (o : Option ℕ). Moves s s1 [] (r
 some_of : (a b : ℕ) → 0 < a + b → (0 < a) ⊎ (0 < b)
 some_of zero b h = inr (omega (arith, h))
 some_of (suc a) b h = inl (omega arith)
-
-pub gaps_old : (c : Content) (s : State) (x : ℕ) (es : List PlacedEntry) → EachGap (OldPiece c s) es → In x (gaps_used es) → IsOld s x
-gaps_old c s x [] each i = absurd (omega arith)
-gaps_old c s x (y ∷ es) each i = elim (in_either x (used y.child) (gaps_used es) i) [
-  | inl k ↦ each.0.old x k
-  | inr k ↦ gaps_old c s x es each.1 k
-]
 
 module _ (c : Content) (s : State) (frame : Frame) (given : ℕ → ℕ) (f : Framed c s frame given) where
   pub entries_old : (x : ℕ) → 0 < in_entries f x → IsOld s x
