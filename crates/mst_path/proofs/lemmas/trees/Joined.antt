@@ -70,30 +70,3 @@ module _ (c : Content) (s : State) (left right : ℕ) (t : TwoTrees c s left rig
       height_there c t.a left t.a_at t.a_piece.rows,
       height_there c t.b right t.b_at t.b_piece.rows,
     )
-
-    -- the trees that meet are joined
-    module _ (c1 : Content) (s1 : State) (seam : Root) (g : Grown c c1 s s1 (both_joined met.inner) seam (in_both met.inner) (both_rows met.inner)) where
-      abbrev pub frame_now : Framed c1 s1 m.frame (λ x. times x (used g.placed))
-      frame_now = framed_after c c1 s s1 (both_joined met.inner) seam (in_both met.inner) (both_rows met.inner) g m.frame met.framed
-
-      pub room_now : both_rows t ≤ free_count s.lives → frame_rows m.frame ≤ free_count s1.lives
-      room_now room = omega (arith, room, met.rows, g.moves.room, g.counted)
-
-      pub few_now : length s.lives ≤ 65535 → length s1.lives ≤ 65535
-      few_now few = omega (arith, few, g.moves.rows)
-
-      pub joined_round : (c2 : Content) (s2 : State) (at : Root) → Grown c1 c2 s1 s2 (tree_round frame_now (tree_of One g.placed)) at (λ x. times x (used g.placed) + in_frame frame_now x) (frame_rows m.frame) → Grown c c2 s s2 (both_joined t) at (in_both t) (both_rows t)
-      joined_round c2 s2 at h =
-          let all = grown_round c c1 s s1 (both_joined met.inner) seam (in_both met.inner) (both_rows met.inner) g m.frame met.framed c2 s2 (tree_round frame_now (tree_of One g.placed)) at (frame_rows m.frame) h in
-          record {
-            placed = all.placed;
-            is = all.is ∙ ap (tree_round met.framed) g.is ∙ sym met.is;
-            root = all.root;
-            piece = all.piece;
-            taken = all.taken;
-            killed = all.killed;
-            moves = all.moves;
-            keeps = all.keeps;
-            rows = λ x. omega (arith, all.rows x, met.given x);
-            counted = omega (arith, all.counted, met.rows);
-          }
