@@ -1,5 +1,5 @@
 -- A node whose front is written, up to its head.
-use Rattle.std.proofs.Common.{◌≡◌, ℕ, zero, suc, ◌+◌, ◌-◌, ◌<◌, ◌≤◌, min, eqb, List, [], ◌∷◌, ◌++◌, length, Option, Some, None, refl, sym, ◌∙◌, ap, subst, arith, inl, inr, length-append}
+use Rattle.std.proofs.Common.{◌≡◌, ℕ, zero, suc, ◌+◌, ◌-◌, ◌<◌, ◌≤◌, min, eqb, List, [], ◌∷◌, ◌++◌, length, Option, Some, None, refl, sym, ◌∙◌, ap, subst, arith, inr, length-append}
 use Rattle.std.proofs.lemmas.List.{map-append}
 use Rattle.mst_key.specs.declared.format.Format.TheVariants.{One}
 use Rattle.mst_node.specs.Tree.{node, Entries, last, entry}
@@ -17,14 +17,14 @@ use Rattle.mst_change.specs.Parts.{with_first}
 use Rattle.mst_path.specs.Takes.{IsOut, KeepsBut}
 use Rattle.mst_path.specs.Moves.{IsAlive, IsOld, Moves, IsNew}
 use Rattle.mst_path.specs.Made.{IsMade}
-use Rattle.mst_path.specs.Runs.{Piece, OldPiece, own, gaps_used, EachGap, AreCopies}
+use Rattle.mst_path.specs.Runs.{Piece, OldPiece, own, gaps_used, AreCopies}
 use Rattle.mst_path.specs.Writing.{PlacedEntry, chain_of, link_from, entries_used, ahead, IsAhead, IsWriter, IsWritten, IsRootOf}
 use Rattle.mst_path.specs.Copying.{Going, Copying, Copied}
 use Rattle.mst_path.specs.Making.{cell_of, cells_of, entries_to, others, HasTail, BackRun, Rest, Finished}
 use Rattle.mst_path.specs.declared.making.Parts.{Parts}
 use Rattle.mst_path.specs.declared.node_writer.NodeWriter.{NodeWriter}
 use Rattle.mst_path.proofs.lemmas.rows.Entries.{entries_used-push, used_chain}
-use Rattle.mst_path.proofs.lemmas.rows.Moving.{in_either, not_in, out_of_times, times_of_out, moves_none, moves_then, alive_stays, alive_out, old_stays}
+use Rattle.mst_path.proofs.lemmas.rows.Moving.{not_in, out_of_times, times_of_out, moves_none, moves_then, alive_stays, alive_out, old_stays}
 use Rattle.mst_path.proofs.lemmas.trees.Made.{made_old, made_chain, made-append, new_stays, made_stays, entries_stay, piece_alive}
 use Rattle.mst_path.proofs.lemmas.rows.Copies.{at_self, kept_at, all_in, new_not_old, new_alive, old_alive, own_frame, gaps_frame, gaps_old}
 

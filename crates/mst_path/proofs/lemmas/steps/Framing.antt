@@ -17,11 +17,11 @@ use Rattle.mst_path.specs.declared.frames.Frame.{Frame}
 use Rattle.mst_change.specs.Parts.{with_first, node_of}
 use Rattle.mst_change.specs.Cost.{side_rows}
 use Rattle.mst_path.specs.Moves.{IsOld, Moves}
-use Rattle.mst_path.specs.Runs.{Piece, OldPiece, own, gaps_used, EachGap}
+use Rattle.mst_path.specs.Runs.{Piece, own, gaps_used}
 use Rattle.mst_path.specs.Making.{HasTail, Grown, cell_of, cells_of, entries_to, others}
 use Rattle.mst_path.specs.Frames.{Framed, spare, frame_rows, in_entries, in_frame, tree_round}
 use Rattle.mst_path.specs.Writing.{PlacedEntry, IsRootOf, ahead}
-use Rattle.mst_path.proofs.lemmas.rows.Moving.{in_either, times_of_out, moves_none, moves_kill, moves_then, old_stays, alive_out}
+use Rattle.mst_path.proofs.lemmas.rows.Moving.{times_of_out, moves_none, moves_kill, moves_then, old_stays, alive_out}
 use Rattle.mst_path.proofs.lemmas.trees.Made.{made_stays, piece_alive}
 use Rattle.mst_path.proofs.lemmas.rows.Copies.{all_in, kept_at, old_alive, own_frame, gaps_frame, gaps_old, at_self}
 use Rattle.mst_change.proofs.Parts.{with_first_count, with_entries_count}

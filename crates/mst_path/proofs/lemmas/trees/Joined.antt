@@ -1,10 +1,10 @@
 -- Two trees that are joined: where one of them is empty, and where the trees that meet are joined
 -- already.
-use Rattle.std.proofs.Common.{◌≡◌, ℕ, ◌+◌, ◌<◌, ◌≤◌, [], length, refl, sym, ◌∙◌, ap, arith}
+use Rattle.std.proofs.Common.{◌≡◌, ℕ, ◌+◌, ◌<◌, [], refl, sym, ◌∙◌, ap, arith}
 use Rattle.mst_key.specs.declared.format.Format.TheVariants.{One}
 use Rattle.mst_node.specs.Tree.{Tree, empty}
 use Rattle.mst_arena.specs.Content.{Content}
-use Rattle.mst_arena.specs.Lives.{State, free_count}
+use Rattle.mst_arena.specs.Lives.{State}
 use Rattle.mst_arena.specs.Lists.{times}
 use Rattle.mst_arena.specs.declared.row.Root.{Root}
 use Rattle.mst_arena.specs.Standing.{Placed, none as no_tree, head as tree_head, tree_of, link_of, used}
@@ -14,12 +14,10 @@ use Rattle.mst_change.specs.Cost.{join_rows}
 use Rattle.mst_path.specs.Making.{Grown}
 use Rattle.mst_path.specs.Runs.{Piece, OldPiece}
 use Rattle.mst_path.specs.Writing.{IsRootOf}
-use Rattle.mst_path.specs.Frames.{Framed, in_frame, tree_round, frame_rows}
 use Rattle.mst_path.specs.Joining.{TwoTrees, in_both, both_joined, both_rows, height_at, Met}
 use Rattle.mst_path.proofs.lemmas.rows.Moving.{moves_none}
 use Rattle.mst_path.proofs.lemmas.trees.Made.{made_old}
 use Rattle.mst_change.proofs.Join.Steps.{join_empty}
-use Rattle.mst_path.proofs.lemmas.steps.Framing.{framed_after, grown_round}
 use Rattle.mst_path.proofs.lemmas.trees.Meetings.{height_there}
 
 pub placed_none : (p : Placed) (link : ℕ) → link_of p ≡ link → link ≡ 0 → p ≡ no_tree
