@@ -7,7 +7,7 @@ use Rattle.std.proofs.lemmas.Map.Steps.{length-le_from_distinct_below}
 use Rattle.mst_arena.specs.declared.life.Life.{Life}
 use Rattle.mst_arena.specs.declared.life.Life.TheVariants.{Free, Born, Dead}
 use Rattle.mst_arena.specs.Lives.{swept_life, reaches_life}
-use Rattle.mst_arena.specs.Lists.{bit, is_at, times, Lists}
+use Rattle.mst_arena.specs.Lists.{In, bit, is_at, times, Lists}
 
 pub suc_test : (k r : ℕ) → eqb (suc k) (suc r) ≡ eqb k r
 suc_test k r = grind (arith, nat_tests)
@@ -101,7 +101,7 @@ distinct_of (x ∷ xs) once =
     let one : bit (eqb x x) ≡ 1 = ap bit (same_test x) in
     (none_of x xs (omega arith), distinct_of xs (λ r. let more : bit (eqb r x) + times r xs ≤ 1 = once r in omega arith))
 
-any_times : (r : ℕ) (xs : List ℕ) → list_any (eqb r) xs ≡ true → 0 < times r xs
+pub any_times : (r : ℕ) (xs : List ℕ) → list_any (eqb r) xs ≡ true → In r xs
 any_times r [] has = cc
 any_times r (x ∷ xs) has = go (eqb r x) refl has (any_times r xs)
   where

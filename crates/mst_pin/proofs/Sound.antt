@@ -97,33 +97,32 @@ name_once s r u q sound a b = ⊎_elim
     (λ (t : (q ≡ 0) × (r ≡ s.current)). ⊎_elim (λ (v : (q ≡ 0) × (u ≡ s.current)). t.1 ∙ sym v.1) (λ (e : s.pins q ≡ Some u). absurd (let l = (sound.pinner_in q u e).0 in omega arith)) b)
     (λ (d : s.pins q ≡ Some r). ⊎_elim (λ (v : (q ≡ 0) × (u ≡ s.current)). absurd (let l = (sound.pinner_in q r d).0 in omega arith)) (λ (e : s.pins q ≡ Some u). let f : Some r ≡ Some u = sym d ∙ e in cc) b) a
 
-abbrev In : ℕ → List ℕ → Type 0
-In x [] = ⊥
-In x (y ∷ ys) = (x ≡ y) ⊎ In x ys
-
-none_of : (x : ℕ) (ps : List ℕ) → (In x ps → ⊥) → AllByRecursion (λ y. eqb x y ≡ false) ps
+none_of : (x : ℕ) (ps : List ℕ) → (list_any (eqb x) ps ≡ true → ⊥) → AllByRecursion (λ y. eqb x y ≡ false) ps
 none_of x [] not = tt
-none_of x (p ∷ ps) not = (ne_eqb x p (λ is. not (inl is)), none_of x ps (λ b. not (inr b)))
+none_of x (p ∷ ps) not = go (eqb x p) refl not (none_of x ps)
+  where
+    go : (t : Bool) → eqb x p ≡ t → ((t || list_any (eqb x) ps) ≡ true → ⊥) → ((list_any (eqb x) ps ≡ true → ⊥) → AllByRecursion (λ y. eqb x y ≡ false) ps) → AllByRecursion (λ y. eqb x y ≡ false) (p ∷ ps)
+    go true e none more = absurd (none refl)
+    go false e none more = (e, more none)
 
-in_any : (x : ℕ) (ps : List ℕ) → list_any (eqb x) ps ≡ true → In x ps
-in_any x [] e = absurd (let c : false ≡ true = e in cc)
-in_any x (p ∷ ps) e = dite (ℕ_discrete x p) (λ is. inl is) (λ not. inr (in_any x ps (sym (ap (λ (b : Bool). b || list_any (eqb x) ps) (ne_eqb x p not)) ∙ e)))
+later : (x p : ℕ) (ps : List ℕ) → x ≢ p → list_any (eqb x) (p ∷ ps) ≡ true → list_any (eqb x) ps ≡ true
+later x p ps other e = sym (ap (λ (b : Bool). b || list_any (eqb x) ps) (ne_eqb x p other)) ∙ e
 
 -- the names of the records below m, all different
 names_below : (s : State) (m : ℕ) → IsSound s → ((r : ℕ) → r < m → IsLive s r)
-    → (qs : List ℕ) × (length qs ≡ m) × IsDistinct eqb qs × ((q : ℕ) → In q qs → (r : ℕ) × (r < m) × Names s r q)
+    → (qs : List ℕ) × (length qs ≡ m) × IsDistinct eqb qs × ((q : ℕ) → list_any (eqb q) qs ≡ true → (r : ℕ) × (r < m) × Names s r q)
 unfolding IsDistinct
-names_below s zero sound live = ([], refl, tt, λ q within. absurd within)
+names_below s zero sound live = ([], refl, tt, λ q within. cc)
 names_below s (suc m) sound live = let h = names_below s m sound (λ r l. live r (omega arith)) in let n = named s m (live m (omega arith)) in (
   n.0 ∷ h.0,
   ap (λ (z : ℕ). suc z) h.1,
   (none_of n.0 h.0 (λ within. let o = h.3 n.0 within in let e = name_once s o.0 m n.0 sound o.2 n.1 in let l = o.1 in omega arith), h.2),
-  (λ q within. ⊎_elim (λ (is : q ≡ n.0). (m, omega arith, subst (Names s m) (sym is) n.1)) (λ (t : In q h.0). let o = h.3 q t in (o.0, let l = o.1 in omega arith, o.2)) within),
+  (λ q within. dite (ℕ_discrete q n.0) (λ is. (m, omega arith, subst (Names s m) (sym is) n.1)) (λ other. let o = h.3 q (later q n.0 h.0 other within) in (o.0, let l = o.1 in omega arith, o.2))),
 )
 
 pub free_record : (s : State) → IsSound s → (r : ℕ) × IsFree s r
 free_record s sound = ⊎_elim (λ (found : (r : ℕ) × IsFree s r). found)
     (λ (live : (r : ℕ) → r < s.passes + 2 → IsLive s r). let h = names_below s (s.passes + 2) sound live in
-    let few = length-le_from_distinct_below h.0 (s.passes + 1) h.2 (λ q e. let o = h.3 q (in_any q h.0 e) in name_in s o.0 q sound o.2) in
+    let few = length-le_from_distinct_below h.0 (s.passes + 1) h.2 (λ q e. let o = h.3 q e in name_in s o.0 q sound o.2) in
     let long = h.1 in absurd (omega arith))
     (free_or_live s (s.passes + 2) (omega arith) sound)

@@ -10,6 +10,7 @@ use Rattle.mst_arena.specs.Lives as lives
 use Rattle.mst_arena.specs.Content.{Writes}
 use Rattle.mst_arena.specs.Words.{row_in}
 use Rattle.mst_arena.specs.declared.row.Row.{Row}
+use Rattle.mst_arena.proofs.ListLemmas.{any_times}
 use Rattle.mst_words.specs.declared.view.View.{View}
 use Rattle.mst_words.specs.Layout.{row_word}
 use Rattle.mst_words.specs.Records as records
@@ -18,7 +19,6 @@ use Rattle.mst_words.specs.Steps.{IsReadable, IsWritable}
 use Rattle.mst_words.specs.Stored.{stored, rows_in, version_of}
 use Rattle.mst_words.specs.Access.{Seated, with_words, beside, may_read, content_of, all_below, is_unreached, is_blank}
 use Rattle.mst_words.proofs.Framed.{same_row}
-use Rattle.mst_words.proofs.Marks.{in_any}
 
 both : (a b : Bool) → (a && b) ≡ true → (a ≡ true) × (b ≡ true)
 both true b h = (refl, h)
@@ -39,7 +39,7 @@ gone (Some r) h = absurd (let c : false ≡ true = h in cc)
 pub readable : (v : View) (x k : ℕ) → may_read v x ≡ true → k < 16 → IsReadable v (x * 16 + k + 240)
 readable v x k may lt = let a = both (nat_lt x v.rows) (v.turn || (is_some v.pin && list_any (eqb x) v.pinned_rows)) may in ⊎_elim
     (λ (on : v.turn ≡ true). inl (on, omega arith))
-    (λ (pinned : (is_some v.pin && list_any (eqb x) v.pinned_rows) ≡ true). let b = both (is_some v.pin) (list_any (eqb x) v.pinned_rows) pinned in let p = there v.pin b.0 in inr (inr (p.0, x, k, p.1, in_any x v.pinned_rows b.1, lt, refl)))
+    (λ (pinned : (is_some v.pin && list_any (eqb x) v.pinned_rows) ≡ true). let b = both (is_some v.pin) (list_any (eqb x) v.pinned_rows) pinned in let p = there v.pin b.0 in inr (inr (p.0, x, k, p.1, any_times x v.pinned_rows b.1, lt, refl)))
     (either_of v.turn (is_some v.pin && list_any (eqb x) v.pinned_rows) a.1)
 
 pub inside : (v : View) (x : ℕ) → may_read v x ≡ true → x < v.rows
@@ -78,7 +78,7 @@ blank_may v x h = let b = blank_parts v x h in ap (λ (t : Bool). t && (v.turn |
 pub blank_row : (v : View) (x : ℕ) → is_blank v x ≡ true → IsBlank stored v x
 blank_row v x h = let b = blank_parts v x h in (
   b.inside,
-  (λ r small kept reached. ⊎_elim (λ (found : list_any (eqb r) v.drained ≡ true). kept (in_any r v.drained found))
+  (λ r small kept reached. ⊎_elim (λ (found : list_any (eqb r) v.drained ≡ true). kept (any_times r v.drained found))
       (λ (none_reaches : not (lives.reaches v.desk.lives (version_of v.desk r) x) ≡ true). let c : not true ≡ true = sym (ap not reached) ∙ none_reaches in absurd (let d : false ≡ true = c in cc))
       (either_of (list_any (eqb r) v.drained) (not (lives.reaches v.desk.lives (version_of v.desk r) x)) (each_below (v.passes + 2) (λ r. list_any (eqb r) v.drained || not (lives.reaches v.desk.lives (version_of v.desk r) x)) r b.unreached small))),
 )

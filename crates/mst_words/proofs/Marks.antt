@@ -1,14 +1,13 @@
 -- The parts Clear and Counts.
 use Rattle.std.proofs.Common.{◌≡◌, ℕ, suc, ◌+◌, ◌<◌, ◌≤◌, ◌≢◌, ◌⊎◌, inl, inr, true, false, eqb, ne_eqb, List, [], ◌∷◌, Option, Some, None, length, set, sym, refl, ap, ◌∙◌, subst, ⊎_elim, arith}
-use Rattle.std.specs.List.{list_any, IsDistinct, AllByRecursion}
+use Rattle.std.specs.List.{IsDistinct, AllByRecursion}
 use Rattle.std.proofs.lemmas.Map.Steps.{length-le_from_distinct_below}
-use Rattle.std.proofs.lemmas.Bool.{eqb-true}
 use Rattle.std.proofs.lemmas.Option.{same_Some, none-some}
 use mathlib.Core.Logic.{dite}
 use native.Mathlib.Decide.{ℕ_discrete}
 use Rattle.atomic_table.proofs.Lists.{set_here, set_else}
 use Rattle.mst_arena.specs.Lists.{In}
-use Rattle.mst_path.proofs.lemmas.rows.FreeCounts.{any_in}
+use Rattle.mst_arena.proofs.ListLemmas.{any_times}
 use Rattle.mst_words.specs.declared.view.View.{View}
 use Rattle.mst_words.specs.World.{SeatAt}
 use Rattle.mst_words.specs.Pins.{pin_bit, Clear, Blamed, Counts}
@@ -112,9 +111,6 @@ none_of : (x : ℕ) (ps : List ℕ) → (In x ps → ⊥) → AllByRecursion (λ
 none_of x [] not = tt
 none_of x (p ∷ ps) not = (ne_eqb x p (λ is. not (in_first x p ps is)), none_of x ps (λ b. not (in_later x p ps b)))
 
-pub in_any : (x : ℕ) (ps : List ℕ) → list_any (eqb x) ps ≡ true → In x ps
-in_any x ps e = let m = any_in (eqb x) ps e in subst (λ (z : ℕ). In z ps) (sym (eqb-true x m.0 m.2)) m.1
-
 blamed_distinct : (n self cur : ℕ) (vs : List View) (ps rs : List ℕ) → Blamed n self cur vs ps rs → IsDistinct eqb ps × ((p : ℕ) → In p ps → (0 < p) × (p < n + 1) × (p ≢ self)) × (length ps ≡ length rs)
 unfolding IsDistinct
 blamed_distinct n self cur vs [] [] h = (tt, (λ p within. absurd (in_nothing p within)), refl)
@@ -132,5 +128,5 @@ unfolding IsDistinct
 blamed_few n self cur vs ps rs some_pass small h = let t = blamed_distinct n self cur vs ps rs h in
     let m = length-le_from_distinct_below (0 ∷ self ∷ ps) (n + 1)
     (none_of 0 (self ∷ ps) (λ within. ⊎_elim (λ (is : 0 ≡ self). absurd (let l = some_pass in omega arith)) (λ (b : In 0 ps). let l = (t.1 0 b).0 in omega arith) (in_cases 0 self ps within)), (none_of self ps (λ within. (t.1 self within).2 refl), t.0))
-    (λ p e. ⊎_elim (λ (is : p ≡ 0). omega arith) (λ (b : In p (self ∷ ps)). ⊎_elim (λ (is : p ≡ self). omega arith) (λ (b : In p ps). (t.1 p b).1) (in_cases p self ps b)) (in_cases p 0 (self ∷ ps) (in_any p (0 ∷ self ∷ ps) e))) in
+    (λ p e. ⊎_elim (λ (is : p ≡ 0). omega arith) (λ (b : In p (self ∷ ps)). ⊎_elim (λ (is : p ≡ self). omega arith) (λ (b : In p ps). (t.1 p b).1) (in_cases p self ps b)) (in_cases p 0 (self ∷ ps) (any_times p (0 ∷ self ∷ ps) e))) in
     let l : suc (suc (length ps)) ≤ n + 1 = m in let same = t.2 in omega arith
