@@ -95,12 +95,6 @@ module _ (c c1 : Content) (s s1 : State) (t u : Tree) (left right : Root) (p : P
   abbrev pub level_frame : Framed c1 s1 frame (in_two two)
   level_frame = frame_step c c1 s s1 (λ x. times x (used p)) (λ x. times x (used r.lower) + times x (used r.upper)) n halves frame f two_alive
 
-  pub level_room : n + with_rows frame ≤ free_count s.lives → with_rows frame ≤ free_count s1.lives
-  level_room room = omega (arith, room, r.moves.room, r.counted)
-
-  pub level_few : length s.lives ≤ 65535 → length s1.lives ≤ 65535
-  level_few few = omega (arith, few, r.moves.rows)
-
   pub level_made : (c2 : Content) (s2 : State) (k v : List ℕ) (at : Root) → Grown c1 c2 s1 s2 (tree_with level_frame k v (tree_of One r.lower) (tree_of One r.upper)) at (λ x. in_two two x + in_frame level_frame x) (with_rows frame) → Grown c c2 s s2 (tree_with f k v t u) at (λ x. times x (used p) + in_frame f x) (n + with_rows frame)
   level_made c2 s2 k v at g =
       let whole = frame_then c c1 s s1 (λ x. times x (used p)) (λ x. times x (used r.lower) + times x (used r.upper)) n halves frame f two_alive c2 s2 (tree_with f k v (tree_of One r.lower) (tree_of One r.upper)) at (with_rows frame) g in

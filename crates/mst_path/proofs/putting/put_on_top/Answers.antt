@@ -22,8 +22,7 @@ put_between-requires-clause-few g c = omega (arith, c.requires.few, (c.split.ens
 
 pub put_between-requires-clause-free : goal.put_between-requires-clause-free
 put_between-requires-clause-free g c =
-    let r = c.split.ensures.split c.requires.tree.0 in
-    subst (FreeIsBlank c.split.new.desk.lives) (sym c.split.ensures.blank) (blank_free _ _ _ _ r.moves (g.R.Rows.blank c.args.rows.now) c.requires.free)
+    subst (FreeIsBlank c.split.new.desk.lives) (sym c.split.ensures.blank) (blank_free _ _ _ _ (c.split.ensures.split c.requires.tree.0).moves (g.R.Rows.blank c.args.rows.now) c.requires.free)
 
 pub returns-clause-made : goal.returns-clause-made
 returns-clause-made g c t =
