@@ -7,8 +7,7 @@ join-seam-requires-clause-trees g c = (c.requires.met.0, omega (arith, c.require
 
 pub close-requires-clause-frame : goal.close-requires-clause-frame
 close-requires-clause-frame g c =
-    let z = c.requires.met.0 in
-    let done = c.join-seam.ensures.joined z in
+    let done = c.join-seam.ensures.joined c.requires.met.0 in
     (done.placed, done.root, done.piece, frame_after done c.requires.met.1)
 
 pub returns-clause-made : goal.returns-clause-made

@@ -119,8 +119,7 @@ module _ (g : Over) (n : ℕ) (c : goal.After-split g n) (t : ToSplit (g.R.Rows.
 pub root_at-requires : goal.root_at-requires
 root_at-requires g n c =
     let at = (goal.at.root_at-requires g n c).After-split in
-    let t = c.requires.tree.0 in
-    record { stands = (t.tree.placed, t.tree.at, stands g n at t (kept_under g n at t (sym c.is_none.ensures.none ∙ c.if-is_none.true)).0) }
+    record { stands = (c.requires.tree.0.tree.placed, c.requires.tree.0.tree.at, stands g n at c.requires.tree.0 (kept_under g n at c.requires.tree.0 (sym c.is_none.ensures.none ∙ c.if-is_none.true)).0) }
 
 pub returns-then-is_none-clause-split : goal.returns-then-is_none-clause-split
 returns-then-is_none-clause-split g n c t =
@@ -144,8 +143,7 @@ returns-then-is_none-clause-shared_above g n c t given =
 pub root_at-requires-then-is_none-2 : goal.root_at-requires-then-is_none-2
 root_at-requires-then-is_none-2 g n c =
     let at = (goal.at.root_at-requires-then-is_none-2 g n c).After-split in
-    let t = c.requires.tree.0 in
-    record { stands = (t.tree.placed, t.tree.at, stands g n at t (kept_over g n at t (sym c.is_none-2.ensures.none ∙ c.if-is_none-2.true)).0) }
+    record { stands = (c.requires.tree.0.tree.placed, c.requires.tree.0.tree.at, stands g n at c.requires.tree.0 (kept_over g n at c.requires.tree.0 (sym c.is_none-2.ensures.none ∙ c.if-is_none-2.true)).0) }
 
 pub returns-then-is_none-2-clause-split : goal.returns-then-is_none-2-clause-split
 returns-then-is_none-2-clause-split g n c t =
@@ -169,8 +167,7 @@ returns-then-is_none-2-clause-shared_above g n c t given =
 pub both_sides-requires-clause-parts : goal.both_sides-requires-clause-parts
 both_sides-requires-clause-parts g n c =
     let at = (goal.at.both_sides-requires-clause-parts g n c).After-split in
-    let t = c.requires.tree.0 in
-    both (here g n at t) (cut g n at t) (parted g n at t) c.no_run.ensures.none c.no_run-2.ensures.none c.kept_tail.ensures.tail
+    both (here g n at c.requires.tree.0) (cut g n at c.requires.tree.0) (parted g n at c.requires.tree.0) c.no_run.ensures.none c.no_run-2.ensures.none c.kept_tail.ensures.tail
 
 pub both_sides-requires-clause-low : goal.both_sides-requires-clause-low
 both_sides-requires-clause-low g n c =

@@ -1,28 +1,34 @@
 use Rattle.std.proofs.Common.{refl, sym, subst}
 use Rattle.mst_path.specs.Takes.{FreeIsBlank}
+use Rattle.mst_path.specs.Making.{PartsStand}
+use Rattle.mst_path.specs.Splitting.{BothStand}
 use Rattle.mst_path.proofs.lemmas.rows.Copies.{blank_free}
 use Rattle.mst_path.proofs.lemmas.steps.Sides.{upper_stands, row_still_old, both_made}
+use Rattle.mst_path.proofs.split.both_sides.Given.{Over}
+use Rattle.mst_path.proofs.split.both_sides.Goals.{After-side-lower}
 use Rattle.mst_path.proofs.split.both_sides.Goals as goal
 
+-- ---- the lower side is made
+
+module _ (g : Over) (c : goal.After-side-lower g) (b : BothStand (g.R.Rows.content c.args.rows.now) c.args.desk.now c.args.row c.args.left.now c.args.right.now) where
+  abbrev upper_parts : PartsStand (g.R.Rows.content c.side-lower.new.rows) c.side-lower.new.desk c.args.right.now
+  upper_parts = upper_stands _ _ _ _ _ _ _ b _ _ (c.side-lower.ensures.made b.lower)
+
 pub side-upper-requires-clause-parts : goal.side-upper-requires-clause-parts
-side-upper-requires-clause-parts g c =
-    let b = c.requires.parts in
-    upper_stands _ _ _ _ _ _ _ b _ _ (c.side-lower.ensures.made b.lower)
+side-upper-requires-clause-parts g c = upper_parts g (goal.at.side-upper-requires-clause-parts g c).After-side-lower c.requires.parts
 
 pub side-upper-requires-clause-free : goal.side-upper-requires-clause-free
 side-upper-requires-clause-free g c =
     let one = c.side-lower.ensures.made c.requires.parts.lower in
     subst (FreeIsBlank c.side-lower.new.desk.lives) (sym c.side-lower.ensures.blank) (blank_free _ _ _ _ one.moves (g.R.Rows.blank c.args.rows.now) c.requires.free)
 
+-- ---- both are made
+
 pub kill-requires : goal.kill-requires
 kill-requires g c =
     let b = c.requires.parts in
-    let one = c.side-lower.ensures.made b.lower in
-    let two = c.side-upper.ensures.made (upper_stands _ _ _ _ _ _ _ b _ _ one) in
-    record { born = row_still_old _ _ _ _ _ _ _ b _ _ one _ _ _ _ two }
+    record { born = row_still_old _ _ _ _ _ _ _ b _ _ (c.side-lower.ensures.made b.lower) _ _ _ _ (c.side-upper.ensures.made (upper_parts g (goal.at.kill-requires g c).After-side-lower b)) }
 
 pub returns-clause-made : goal.returns-clause-made
 returns-clause-made g c b =
-    let one = c.side-lower.ensures.made b.lower in
-    let two = c.side-upper.ensures.made (upper_stands _ _ _ _ _ _ _ b _ _ one) in
-    both_made _ _ _ _ _ _ _ b _ _ one _ _ _ _ two _ c.kill.ensures.dead _ refl
+    both_made _ _ _ _ _ _ _ b _ _ (c.side-lower.ensures.made b.lower) _ _ _ _ (c.side-upper.ensures.made (upper_parts g (goal.at.returns-clause-made g c).After-side-lower b)) _ c.kill.ensures.dead _ refl
