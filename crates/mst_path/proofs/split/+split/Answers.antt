@@ -177,9 +177,8 @@ both_sides-requires-clause-low g n c =
 pub both_sides-requires-clause-room : goal.both_sides-requires-clause-room
 both_sides-requires-clause-room g n c =
     let at = (goal.at.both_sides-requires-clause-room g n c).After-split in
-    let t = c.requires.tree.0 in
-    let r = parted g n at t in
-    omega (arith, c.requires.tree.1, r.moves.room, r.counted, count_is (here g n at t) (cut g n at t) r c.no_run.ensures.none c.no_run-2.ensures.none c.kept_tail.ensures.tail (sym c.is_none.ensures.none ∙ c.if-is_none.false) (sym c.is_none-2.ensures.none ∙ c.if-is_none-2.false))
+    let r = parted g n at c.requires.tree.0 in
+    omega (arith, c.requires.tree.1, r.moves.room, r.counted, count_is (here g n at c.requires.tree.0) (cut g n at c.requires.tree.0) r c.no_run.ensures.none c.no_run-2.ensures.none c.kept_tail.ensures.tail (sym c.is_none.ensures.none ∙ c.if-is_none.false) (sym c.is_none-2.ensures.none ∙ c.if-is_none-2.false))
 
 pub both_sides-requires-clause-few : goal.both_sides-requires-clause-few
 both_sides-requires-clause-few g n c =

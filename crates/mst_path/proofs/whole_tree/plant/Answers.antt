@@ -1,8 +1,8 @@
-use Rattle.std.proofs.Common.{rules}
-use Rattle.std.proofs.Common.{◌≡◌, ◌≤◌, ◌+◌, List, length, option_copied, refl, sym, subst, ap, ◌∙◌, arith}
+use Rattle.std.proofs.Common.{◌≡◌, ◌≤◌, ◌+◌, List, length, option_copied, refl, sym, subst, ap, ◌∙◌, arith, rules}
 use Rattle.mst_key.specs.Map.{Pair}
 use Rattle.mst_key.specs.declared.format.Format.TheVariants.{One}
 use Rattle.mst_node.specs.Tree.{Tree, empty, pairs, IsMst, tree as tree_of_map}
+use Rattle.mst_node.specs.Shape.{tree_of}
 use Rattle.mst_node.specs.Text.{digest as digest_of}
 use Rattle.mst_node.proofs.Unique.{pairs_tree, tree_mst}
 use Rattle.mst_arena.specs.Content.{Content}
@@ -14,6 +14,8 @@ use Rattle.mst_path.specs.Takes.{Takes, KeepsBut}
 use Rattle.mst_path.specs.Planting.{rows_needed, node_count, tree_at, IsTreeOf, Planted}
 use Rattle.mst_path.proofs.lemmas.rows.Taking.{takes_count}
 use Rattle.mst_path.proofs.lemmas.trees.Nodes.{used_count}
+use Rattle.mst_path.proofs.whole_tree.plant.Given.{Over}
+use Rattle.mst_path.proofs.whole_tree.plant.Goals.{In-Some}
 use Rattle.mst_path.proofs.whole_tree.plant.Goals as goal
 
 -- ---- the tree of a map
@@ -47,25 +49,25 @@ returns-in_default-clause-count g c m is =
     let gone = ap (λ o. rows_needed (tree_at (option_copied o))) c.in_default.is in
     omega (arith, gone, needed _ m is)
 
+-- ---- there is a node
+
+module _ (g : Over) (c : goal.In-Some g) where
+  is_tree : (m : List Pair) → IsTreeOf (tree_at (option_copied c.args.tree)) m → IsTreeOf (tree_of One c.in-Some.node.now) m
+  is_tree m is = subst (λ o. IsTreeOf (tree_at (option_copied o)) m) c.in-Some.is is
+
 pub rows_of_node-requires-clause-few : goal.rows_of_node-requires-clause-few
-rows_of_node-requires-clause-few g c =
-    let is = c.requires.tree in
-    few_pairs _ is.0 (subst (λ o. IsTreeOf (tree_at (option_copied o)) is.0) c.in-Some.is is.1)
+rows_of_node-requires-clause-few g c = few_pairs _ c.requires.tree.0 (is_tree g (goal.at.rows_of_node-requires-clause-few g c).In-Some c.requires.tree.0 c.requires.tree.1)
 
 pub rows_of_node-requires-clause-tree : goal.rows_of_node-requires-clause-tree
-rows_of_node-requires-clause-tree g c =
-    let is = c.requires.tree in
-    is_mst _ is.0 (subst (λ o. IsTreeOf (tree_at (option_copied o)) is.0) c.in-Some.is is.1)
+rows_of_node-requires-clause-tree g c = is_mst _ c.requires.tree.0 (is_tree g (goal.at.rows_of_node-requires-clause-tree g c).In-Some c.requires.tree.0 c.requires.tree.1)
 
 pub returns-then-rows_of_node-free-clause-no_room : goal.returns-then-rows_of_node-free-clause-no_room
 returns-then-rows_of_node-free-clause-no_room g c m is =
-    let same = subst (λ o. IsTreeOf (tree_at (option_copied o)) m) c.in-Some.is is in
+    let same = is_tree g (goal.at.returns-then-rows_of_node-free-clause-no_room g c).In-Some m is in
     omega (arith, needed _ m same, c.rows_of_node.ensures.rows, c.free.ensures.count)
 
 pub plant_node-requires-clause-tree : goal.plant_node-requires-clause-tree
-plant_node-requires-clause-tree g c =
-    let is = c.requires.tree in
-    is_mst _ is.0 (subst (λ o. IsTreeOf (tree_at (option_copied o)) is.0) c.in-Some.is is.1)
+plant_node-requires-clause-tree g c = is_mst _ c.requires.tree.0 (is_tree g (goal.at.plant_node-requires-clause-tree g c).In-Some c.requires.tree.0 c.requires.tree.1)
 
 pub returns-clause-takes : goal.returns-clause-takes
 returns-clause-takes g c m s =
@@ -77,7 +79,7 @@ returns-clause-keeps g c m s =
 
 pub returns-clause-count : goal.returns-clause-count
 returns-clause-count g c m is =
-    let same = subst (λ o. IsTreeOf (tree_at (option_copied o)) m) c.in-Some.is is in
+    let same = is_tree g (goal.at.returns-clause-count g c).In-Some m is in
     let p = c.plant_node.ensures.planted in
     omega (arith, takes_count _ _ _ p.takes, used_count p.placed, ap rows_needed p.is, needed _ m same)
 
