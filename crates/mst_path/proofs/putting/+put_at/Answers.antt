@@ -1,4 +1,4 @@
-use Rattle.std.proofs.Common.{◌∙◌, ◌≤◌, ◌<◌, ◌+◌, ℕ, sym, ap, subst, arith, rules}
+use Rattle.std.proofs.Common.{◌∙◌, ◌≤◌, ◌<◌, ◌+◌, ℕ, length, sym, ap, subst, arith, rules}
 use Rattle.mst_key.specs.declared.format.Format.TheVariants.{One}
 use Rattle.mst_arena.specs.Content.{Content}
 use Rattle.mst_arena.specs.Lives.{free_count}
@@ -57,6 +57,15 @@ module _ (g : Over) (n : ℕ) (c : goal.After-put_at-seam g n) (z : RisingTree (
   abbrev framed : Framed (g.R.Rows.content c.put_at-seam.new.rows) c.put_at-seam.new.desk c.in-Down.frame (λ x. times x (used grown.placed))
   framed = frame_after grown d.framed
 
+  room : pair_rows z c.args.layer c.args.key.now c.args.value.now ≤ free_count c.args.desk.now.lives → frame_rows c.in-Down.frame ≤ free_count c.put_at-seam.new.desk.lives
+  room enough = room_after grown d.framed (omega (arith, enough, d.rows c.args.value.now))
+
+  few : length c.put_at-seam.new.desk.lives ≤ 65535
+  few = few_after grown d.framed c.requires.few
+
+  free : FreeIsBlank c.put_at-seam.new.desk.lives (g.R.Rows.blank c.put_at-seam.new.rows)
+  free = subst (FreeIsBlank c.put_at-seam.new.desk.lives) (sym (c.put_at-seam.ensures.blank ∙ ap g.R.Rows.blank c.put_step.ensures.same)) (blank_free c.args.desk.now c.put_at-seam.new.desk grown.taken grown.killed grown.moves (g.R.Rows.blank c.args.rows.now) c.requires.free)
+
 pub put_at-seam-requires : goal.put_at-seam-requires
 put_at-seam-requires g t c κs within =
     let z = c.requires.tree.0 in
@@ -99,20 +108,17 @@ close-requires-clause-low g t c = (down g t (goal.at.close-requires-clause-low g
 pub close-requires-clause-room : goal.close-requires-clause-room
 close-requires-clause-room g t c =
     let at = goal.at.close-requires-clause-room g t c in
-    let d = down g t at.In-Down c.requires.tree.0 in
-    room_after (grown g t at.After-put_at-seam c.requires.tree.0 d) d.framed (omega (arith, c.requires.tree.1, d.rows c.args.value.now))
+    room g t at.After-put_at-seam c.requires.tree.0 (down g t at.In-Down c.requires.tree.0) c.requires.tree.1
 
 pub close-requires-clause-few : goal.close-requires-clause-few
 close-requires-clause-few g t c =
     let at = goal.at.close-requires-clause-few g t c in
-    let d = down g t at.In-Down c.requires.tree.0 in
-    few_after (grown g t at.After-put_at-seam c.requires.tree.0 d) d.framed c.requires.few
+    few g t at.After-put_at-seam c.requires.tree.0 (down g t at.In-Down c.requires.tree.0)
 
 pub close-requires-clause-free : goal.close-requires-clause-free
 close-requires-clause-free g t c =
     let at = goal.at.close-requires-clause-free g t c in
-    let made = grown g t at.After-put_at-seam c.requires.tree.0 (down g t at.In-Down c.requires.tree.0) in
-    subst (FreeIsBlank c.put_at-seam.new.desk.lives) (sym (c.put_at-seam.ensures.blank ∙ ap g.R.Rows.blank c.put_step.ensures.same)) (blank_free c.args.desk.now c.put_at-seam.new.desk made.taken made.killed made.moves (g.R.Rows.blank c.args.rows.now) c.requires.free)
+    free g t at.After-put_at-seam c.requires.tree.0 (down g t at.In-Down c.requires.tree.0)
 
 pub returns-in-Down-clause-put : goal.returns-in-Down-clause-put
 returns-in-Down-clause-put g t c = λ z.
