@@ -10,17 +10,21 @@ use Rattle.mst_arena.specs.declared.row.Root.{Root}
 use Rattle.mst_arena.specs.declared.row.HeadLinks.{HeadLinks}
 use Rattle.mst_arena.specs.Row.{IsHead}
 use Rattle.mst_arena.specs.Standing.{Placed, none, head, Chain, tree_of, entries_of, first_of, tail_of, count_of, rows_of, HasRows, Stands}
-use Rattle.mst_read.specs.Search.{Lies, LiesBehind, TreeLies, StandsBelow, head_of}
+use Rattle.mst_read.specs.Search.{Lies, LiesBehind, TreeLies, ChainLies, StandsBelow, head_of}
+use Rattle.mst_read.specs.Span.{HeadStands}
+use Rattle.mst_read.proofs.Still.{lies_still, behind_still}
 
--- a Merkle search tree whose keys rise lies at the link, and something holds of its pairs
-pub record Ahead (format : Format) (content : Content) (link : ℕ) (P : List Pair → Type 0) : Type 0 where
+-- a Merkle search tree under a layer, whose keys rise, lies at the link, and something holds of its
+-- pairs
+pub record Ahead (format : Format) (content : Content) (layer link : ℕ) (P : List Pair → Type 0) : Type 0 where
   pub placed : Placed
   pub lies : Lies format content link placed
+  pub under : IsUnder layer (tree_of format placed)
   pub mst : IsMst format (tree_of format placed)
   pub rise : IsAscending (pairs (tree_of format placed))
   pub holds : P (pairs (tree_of format placed))
 
--- and its head was read
+-- a Merkle search tree whose keys rise has the head that was read, and something holds of its pairs
 pub record Reached (format : Format) (content : Content) (top : Option HeadLinks) (P : List Pair → Type 0) : Type 0 where
   pub placed : Placed
   pub head_is : head_of placed ≡ top
@@ -42,37 +46,70 @@ abbrev pub depth : Option HeadLinks → ℕ
 depth None = 0
 depth (Some links) = links.layer + 1
 
+pub depth_is : {top : Option HeadLinks} {links : HeadLinks} → top ≡ Some links → depth top ≡ links.layer + 1
+depth_is some = ap depth some
+
 -- no layer is above 64
 pub depth_small : (top : Option HeadLinks) → IfSome top IsHead → depth top ≤ 65
 depth_small None is = omega arith
 depth_small (Some links) is = omega (arith, is.0)
 
-module _ (format : Format) (content : Content) where
-  pub tree_lies : (link : ℕ) (P : List Pair → Type 0) → Ahead format content link P → TreeLies content link
-  tree_lies link P a = (format, a.placed, a.lies)
+-- layers fall
+pub falls : (format : Format) (l : ℕ) (p : Placed) (top : Option HeadLinks) → IsUnder l (tree_of format p) → top ≡ head_of p → depth top < l + 1
+falls format l none top under is = let e : depth top ≡ 0 = ap depth is in omega arith
+falls format l (head at k c) top under is = let e : depth top ≡ k + 1 = ap depth is in omega (arith, under)
 
-  -- what stands at a root
-  pub from_root : (at : Root) (m : List Pair) (P : List Pair → Type 0) → Stands format content at m → P m → Ahead format content at.link P
-  from_root at m P s holds =
-      let same : pairs (tree_of format s.tree.placed) ≡ m = ap pairs s.tree.is ∙ pairs_tree format m in
-      record {
-        placed = s.tree.placed;
-        lies = record { at = s.tree.at; rows = s.tree.rows };
-        mst = let Mst : Tree → Type 0 = IsMst format in subst Mst (sym s.tree.is) (tree_mst format m);
-        rise = subst IsAscending (sym same) s.map.ascending;
-        holds = subst P (sym same) holds;
-      }
+-- what stands at a root
+module _ {format : Format} {content : Content} {at : Root} {m : List Pair} (s : Stands format content at m) where
+  -- at its link, whatever digest is kept beside it
+  pub at_link : StandsBelow format content at.link m
+  at_link = record { map = s.map; digest = refl; tree = s.tree }
 
-  -- and at its link, whatever digest is kept beside it
-  pub at_link : (at : Root) (m : List Pair) → Stands format content at m → StandsBelow format content at.link m
-  at_link at m s = record { map = s.map; digest = refl; tree = s.tree }
+  pub lies_at : Lies format content at.link s.tree.placed
+  lies_at = record { at = s.tree.at; rows = s.tree.rows }
 
-  -- the head of the tree ahead is read, and what follows from what holds of it
-  pub reach : (link : ℕ) (P Q : List Pair → Type 0) → ((ps : List Pair) → P ps → Q ps) → (a : Ahead format content link P) (top : Option HeadLinks) → top ≡ head_of a.placed → Reached format content top Q
-  reach link P Q f a top is = record { placed = a.placed; head_is = sym is; rows = a.lies.rows; mst = a.mst; rise = a.rise; holds = f (pairs (tree_of format a.placed)) a.holds }
+  pub there_at : TreeLies content at.link
+  there_at = (format, s.tree.placed, lies_at)
 
-  pub inside : (links : HeadLinks) (top : Option HeadLinks) (P : List Pair → Type 0) → top ≡ Some links → Reached format content top P → Inside format content links P
-  inside links top P some r = go r.placed (r.head_is ∙ some) r.rows r.mst r.rise r.holds
+  pub pairs_at : pairs (tree_of format s.tree.placed) ≡ m
+  pairs_at = ap pairs s.tree.is ∙ pairs_tree format m
+
+  -- and its head was read
+  pub head_stands : {top : Option HeadLinks} → ((f : Format) (p : Placed) → Lies f content at.link p → top ≡ head_of p) → HeadStands format content top s.tree.placed
+  head_stands read = record {
+    head_is = sym (read format s.tree.placed lies_at);
+    rows = s.tree.rows;
+    mst = let Mst : Tree → Type 0 = IsMst format in subst Mst (sym s.tree.is) (tree_mst format m);
+    rise = subst IsAscending (sym pairs_at) s.map.ascending;
+  }
+
+  pub reached_at : (P : List Pair → Type 0) → P m → {top : Option HeadLinks} → ((f : Format) (p : Placed) → Lies f content at.link p → top ≡ head_of p) → Reached format content top P
+  reached_at P holds read =
+      let h = head_stands read in
+      record { placed = s.tree.placed; head_is = h.head_is; rows = h.rows; mst = h.mst; rise = h.rise; holds = subst P (sym pairs_at) holds }
+
+module _ {format : Format} {content : Content} {layer link : ℕ} {P : List Pair → Type 0} (a : Ahead format content layer link P) where
+  pub ahead_there : {after : Content} → after ≡ content → TreeLies after link
+  ahead_there same = (format, a.placed, lies_still same a.lies)
+
+  -- what follows from what holds of its pairs
+  pub holding : (Q : List Pair → Type 0) → ((ps : List Pair) → P ps → Q ps) → Ahead format content layer link Q
+  holding Q f = record { placed = a.placed; lies = a.lies; under = a.under; mst = a.mst; rise = a.rise; holds = f (pairs (tree_of format a.placed)) a.holds }
+
+  -- the head of the tree ahead is read, while the rows are the same
+  module _ {after : Content} {top : Option HeadLinks} (same : after ≡ content) (read : (f : Format) (p : Placed) → Lies f after link p → top ≡ head_of p) where
+    top_is : top ≡ head_of a.placed
+    top_is = read format a.placed (lies_still same a.lies)
+
+    pub reach : Reached format content top P
+    reach = record { placed = a.placed; head_is = sym top_is; rows = a.lies.rows; mst = a.mst; rise = a.rise; holds = a.holds }
+
+    pub lower : depth top < layer + 1
+    lower = falls format layer a.placed top a.under top_is
+
+module _ {format : Format} {content : Content} {top : Option HeadLinks} {P : List Pair → Type 0} (r : Reached format content top P) where
+  pub inside : {links : HeadLinks} → top ≡ Some links → Inside format content links P
+  inside {links} some = go r.placed (r.head_is ∙ some) r.rows r.mst r.rise r.holds
     where
       go : (p : Placed) → head_of p ≡ Some links → HasRows content (rows_of format p) → IsMst format (tree_of format p) → IsAscending (pairs (tree_of format p)) → P (pairs (tree_of format p)) → Inside format content links P
       go none is rows mst rise holds = let no : None ≡ Some links = is in cc
@@ -93,15 +130,13 @@ module _ (format : Format) (content : Content) where
           }
 
   -- the empty tree has no pairs
-  pub at_nothing : (top : Option HeadLinks) (P : List Pair → Type 0) → top ≡ None → Reached format content top P → P []
-  at_nothing top P nothing r = go r.placed (r.head_is ∙ nothing) r.holds
+  pub at_nothing : top ≡ None → P []
+  at_nothing nothing = go r.placed (r.head_is ∙ nothing) r.holds
     where
       go : (p : Placed) → head_of p ≡ None → P (pairs (tree_of format p)) → P []
       go none is holds = holds
       go (head at l c) is holds =
           let no : ◌≡◌ {A = Option HeadLinks} (Some (record { layer = l; count = count_of c; first = first_of c; tail = tail_of c })) None = is in cc
 
-  -- layers fall
-  pub falls : (l : ℕ) (p : Placed) (top : Option HeadLinks) → IsUnder l (tree_of format p) → top ≡ head_of p → depth top < l + 1
-  falls l none top under is = let e : depth top ≡ 0 = ap depth is in omega arith
-  falls l (head at k c) top under is = let e : depth top ≡ k + 1 = ap depth is in omega (arith, under)
+pub node_there : {format : Format} {content : Content} {links : HeadLinks} {P : List Pair → Type 0} (d : Inside format content links P) {after : Content} → after ≡ content → ChainLies after links
+node_there {format} d same = (format, d.chain, behind_still same d.lies)

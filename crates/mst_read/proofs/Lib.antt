@@ -1,4 +1,6 @@
+pub mod Still
 pub mod Walk
+pub mod Ways
 pub mod Descend
 pub mod Look
 pub mod Successor

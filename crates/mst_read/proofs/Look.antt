@@ -7,17 +7,20 @@ use Rattle.mst_key.specs.Map.{Pair, key_cmp, IsAscending, AllBelow, map_get}
 use Rattle.mst_key.proofs.KeyOrder.{same_from_equal, less_from_greater, other_from_less}
 use Rattle.mst_key.proofs.MapLaws.{map_get-here, map_get-past, AllAbove-less, AllBelow-less}
 use Rattle.mst_key.proofs.Splits.{map_get-left, map_get-right, IsAscending-front, IsAscending-back, IsAscending-below, IsAscending-above}
-use Rattle.mst_node.specs.Tree.{pairs, entries_pairs, IsMstEntries, IsUnder}
+use Rattle.mst_node.specs.Tree.{pairs, entries_pairs, IsMstEntries}
 use Rattle.mst_arena.specs.Content.{Content, part_at}
 use Rattle.mst_arena.specs.Row.{entry_value}
+use Rattle.mst_arena.specs.declared.row.HeadLinks.{HeadLinks}
 use Rattle.mst_arena.specs.declared.row.Row.{Row}
 use Rattle.mst_arena.specs.declared.row.Row.TheVariants.{Entry}
 use Rattle.mst_arena.specs.Standing.{Chain, end, cell, tree_of, entries_of, link_of, first_of, rows_of, chain_rows, HasRows}
 use Rattle.mst_arena.proofs.Stands.{all-front, all-back}
 use Rattle.mst_node.specs.Trail.{by_order}
-use Rattle.mst_read.specs.Search.{Lies, place}
+use Rattle.mst_read.specs.Search.{Lies, LiesBehind, place}
+use Rattle.mst_read.specs.declared.lookup.Place.{Place}
 use Rattle.mst_read.specs.declared.lookup.Place.TheVariants.{Held, Gap}
-use Rattle.mst_read.proofs.Descend.{Ahead}
+use Rattle.mst_read.proofs.Still.{behind_still}
+use Rattle.mst_read.proofs.Descend.{Ahead, Inside, holding}
 
 -- a list round a pair of its own, looked at for a key below the pair's, for that key, and for one
 -- above it
@@ -38,16 +41,15 @@ map_get-behind front back k key v rise greater =
     let below : AllBelow front k = AllBelow-less front key k (IsAscending-below front back (key, v) rise) less in
     sym (map_get-right front ((key, v) ∷ back) k below ∙ map_get-past (key, v) back k (other_from_less key k less))
 
-module _ (format : Format) (content : Content) (k : List ℕ) where
-  -- the tree in a gap, under the layer, in which the search goes on
-  pub record InGap (l link : ℕ) (m : List Pair) : Type 0 where
-    pub ahead : Ahead format content link (λ ps. map_get ps k ≡ map_get m k)
-    pub under : IsUnder l (tree_of format ahead.placed)
+-- the lists in which the key has the value that it has in the map
+abbrev pub Finds : List ℕ → List Pair → List Pair → Type 0
+Finds k m ps = map_get ps k ≡ map_get m k
 
-  pub gap : (l link : ℕ) (c : Chain) → HasRows content (chain_rows format c) → IsMstEntries format l (entries_of format c) → IsAscending (entries_pairs (entries_of format c)) → place k c ≡ Gap link → InGap l link (entries_pairs (entries_of format c))
+module _ (format : Format) (content : Content) (k : List ℕ) where
+  gap : (l link : ℕ) (c : Chain) → HasRows content (chain_rows format c) → IsMstEntries format l (entries_of format c) → IsAscending (entries_pairs (entries_of format c)) → place k c ≡ Gap link → Ahead format content l link (Finds k (entries_pairs (entries_of format c)))
   gap l link (end p) rows mst rise is =
       let at : link_of p ≡ link = cc in
-      record { ahead = record { placed = p; lies = record { at = at; rows = rows }; mst = mst.1; rise = rise; holds = refl }; under = mst.0 }
+      record { placed = p; lies = record { at = at; rows = rows }; under = mst.0; mst = mst.1; rise = rise; holds = refl }
   gap l link (cell at p key v c) rows mst rise is =
       go (key_cmp k key) refl is
       (gap l link c (all-back _ (rows_of format p) (chain_rows format c) rows.1) mst.3 (IsAscending-back front ((key, v) ∷ back) rise).1)
@@ -58,25 +60,17 @@ module _ (format : Format) (content : Content) (k : List ℕ) where
       back : List Pair
       back = entries_pairs (entries_of format c)
 
-      go : (o : Ordering) → key_cmp k key ≡ o → by_order o (Gap (link_of p)) (Held at) (place k c) ≡ Gap link → (place k c ≡ Gap link → InGap l link back) → InGap l link (front ++ (key, v) ∷ back)
+      go : (o : Ordering) → key_cmp k key ≡ o → by_order o (Gap (link_of p)) (Held at) (place k c) ≡ Gap link → (place k c ≡ Gap link → Ahead format content l link (Finds k back)) → Ahead format content l link (Finds k (front ++ (key, v) ∷ back))
       go Less e is further =
           let here : link_of p ≡ link = cc in
           let lies : Lies format content link p = record { at = here; rows = all-front _ (rows_of format p) (chain_rows format c) rows.1 } in
-          record {
-            ahead = record { placed = p; lies = lies; mst = mst.1; rise = IsAscending-front front ((key, v) ∷ back) rise; holds = map_get-before front back k key v rise e };
-            under = mst.0;
-          }
+          record { placed = p; lies = lies; under = mst.0; mst = mst.1; rise = IsAscending-front front ((key, v) ∷ back) rise; holds = map_get-before front back k key v rise e }
       go Equal e is further = let no : Held at ≡ Gap link = is in cc
       go Greater e is further =
-          let r = further is in
-          let a = r.ahead in
-          record {
-            ahead = record { placed = a.placed; lies = a.lies; mst = a.mst; rise = a.rise; holds = a.holds ∙ map_get-behind front back k key v rise e };
-            under = r.under;
-          }
+          let a = further is in
+          record { placed = a.placed; lies = a.lies; under = a.under; mst = a.mst; rise = a.rise; holds = a.holds ∙ map_get-behind front back k key v rise e }
 
-  -- the row that has the key has its value
-  pub held : (row : ℕ) (c : Chain) → HasRows content (chain_rows format c) → IsAscending (entries_pairs (entries_of format c)) → place k c ≡ Held row → part_at entry_value content row ≡ map_get (entries_pairs (entries_of format c)) k
+  held : (row : ℕ) (c : Chain) → HasRows content (chain_rows format c) → IsAscending (entries_pairs (entries_of format c)) → place k c ≡ Held row → part_at entry_value content row ≡ map_get (entries_pairs (entries_of format c)) k
   held row (end p) rows rise is = let no : Gap (link_of p) ≡ Held row = is in cc
   held row (cell at p key v c) rows rise is =
       go (key_cmp k key) refl is (held row c (all-back _ (rows_of format p) (chain_rows format c) rows.1) (IsAscending-back front ((key, v) ∷ back) rise).1)
@@ -96,7 +90,7 @@ module _ (format : Format) (content : Content) (k : List ℕ) where
           value ∙ map_get-there front back k key v rise e
       go Greater e is further = further is ∙ map_get-behind front back k key v rise e
 
-  pub held_there : (row : ℕ) (c : Chain) → HasRows content (chain_rows format c) → place k c ≡ Held row → IsSome (part_at entry_value content row)
+  held_there : (row : ℕ) (c : Chain) → HasRows content (chain_rows format c) → place k c ≡ Held row → IsSome (part_at entry_value content row)
   held_there row (end p) rows is = let no : Gap (link_of p) ≡ Held row = is in cc
   held_there row (cell at p key v c) rows is =
       go (key_cmp k key) is (held_there row c (all-back _ (rows_of format p) (chain_rows format c) rows.1))
@@ -109,3 +103,19 @@ module _ (format : Format) (content : Content) (k : List ℕ) where
           let There : Option Row → Type 0 = λ r. IsSome (option_and_then entry_value r) in
           subst There (sym there) refl
       go Greater is further = further is
+
+-- what the place that the search comes to says in a node, while the rows are the same
+module _ {format : Format} {content : Content} {links : HeadLinks} (k : List ℕ) (m : List Pair) (d : Inside format content links (Finds k m)) {after : Content} {found : Place} (same : after ≡ content) (answer : (f : Format) (c : Chain) → LiesBehind f after links c → found ≡ place k c) where
+  place_is : place k d.chain ≡ found
+  place_is = sym (answer format d.chain (behind_still same d.lies))
+
+  -- the tree in the gap, in which the search goes on
+  pub in_gap : {link : ℕ} → found ≡ Gap link → Ahead format content links.layer link (Finds k m)
+  in_gap {link} is = holding (gap format content k links.layer link d.chain d.lies.rows d.mst d.rise (place_is ∙ is)) (Finds k m) (λ ps e. e ∙ d.holds)
+
+  -- the row that has the key has its value
+  pub value_held : {row : ℕ} → found ≡ Held row → part_at entry_value content row ≡ map_get m k
+  value_held {row} is = held format content k row d.chain d.lies.rows d.rise (place_is ∙ is) ∙ d.holds
+
+  pub value_there : {row : ℕ} → found ≡ Held row → IsSome (part_at entry_value content row)
+  value_there {row} is = held_there format content k row d.chain d.lies.rows (place_is ∙ is)

@@ -5,23 +5,30 @@ use Rattle.std.specs.List.{flat_map}
 use Rattle.mst_key.specs.declared.format.Format.TheVariants.{One}
 use Rattle.mst_node.specs.Tree.{node}
 use Rattle.mst_node.specs.Text.{text, entry_text, child_text, counted, child_digest, flat_entries, tail_digest}
+use Rattle.mst_arena.specs.Content.{Content}
+use Rattle.mst_arena.specs.declared.row.EntryLinks.{EntryLinks}
 use Rattle.mst_arena.specs.Standing.{Placed, Chain, end, cell, tree_of, entries_of, count_of}
+use Rattle.mst_read.proofs.Walk.{Onward, AtCell, AtEnd, further}
 
 -- the entries of the rest of a node and its last child, as they stand in its text
 abbrev pub rest_text : Chain → List ℕ
 rest_text rest = flat_map (entry_text One) (flat_entries One (entries_of One rest)) ++ child_text (tail_digest (entries_of One rest))
 
+-- what is written, with the text of the rest, is the whole text
+abbrev pub Completes : List ℕ → List ℕ → Chain → Type 0
+Completes out whole rest = out ++ rest_text rest ≡ whole
+
 entries_count : (c : Chain) → length (flat_entries One (entries_of One c)) ≡ count_of c
 entries_count (end p) = refl
 entries_count (cell at p k v c) = omega (arith, entries_count c)
 
-pub text_starts : (layer : ℕ) (c : Chain) (out : List ℕ) → out ≡ 1 ∷ layer ∷ to_be_bytes w16 (count_of c) → out ++ rest_text c ≡ text (node One layer (entries_of One c))
-text_starts layer c out is =
+pub text_starts : (layer count : ℕ) (c : Chain) (out : List ℕ) → count_of c ≡ count → out ≡ 1 ∷ layer ∷ to_be_bytes w16 count → Completes out (text (node One layer (entries_of One c))) c
+text_starts layer count c out counted is =
     ap (λ (o : List ℕ). o ++ rest_text c) is
-    ∙ ap (λ (n : ℕ). 1 ∷ layer ∷ to_be_bytes w16 n ++ rest_text c) (sym (entries_count c))
+    ∙ ap (λ (n : ℕ). 1 ∷ layer ∷ to_be_bytes w16 n ++ rest_text c) (sym (entries_count c ∙ counted))
 
-pub text_goes_on : (at : ℕ) (p : Placed) (key value : List ℕ) (rest : Chain) (out next whole : List ℕ) → out ++ rest_text (cell at p key value rest) ≡ whole → next ≡ ((out ++ child_text (child_digest (tree_of One p))) ++ counted key) ++ counted value → next ++ rest_text rest ≡ whole
-text_goes_on at p key value rest out next whole before is =
+goes_on : (at : ℕ) (p : Placed) (key value : List ℕ) (rest : Chain) (out next whole : List ℕ) → Completes out whole (cell at p key value rest) → next ≡ ((out ++ child_text (child_digest (tree_of One p))) ++ counted key) ++ counted value → Completes next whole rest
+goes_on at p key value rest out next whole before is =
     let a = child_text (child_digest (tree_of One p)) in
     let b = counted key in
     let v = counted value in
@@ -33,10 +40,13 @@ text_goes_on at p key value rest out next whole before is =
     joined : (o a b v f t : List ℕ) → (((o ++ a) ++ b) ++ v) ++ (f ++ t) ≡ o ++ ((((a ++ b) ++ v) ++ f) ++ t)
     joined o a b v f t = simp append_assoc refl
 
+pub text_goes_on : (out : List ℕ) {content : Content} {tail row done all : ℕ} {e : EntryLinks} {whole : List ℕ} (a : AtCell One content tail row done all e (Completes out whole)) {next : List ℕ} → next ≡ ((out ++ child_text (child_digest (tree_of One a.child))) ++ counted e.key) ++ counted a.value → Onward One content tail e.next (done + 1) all (Completes next whole)
+text_goes_on out {row = row} {e = e} {whole = whole} a {next} is = further a (Completes next whole) (goes_on row a.child e.key a.value a.rest out next whole a.holds is)
+
 -- two strings, each behind its length
 pub counted_twice : (out next last x y : List ℕ) → next ≡ out ++ counted x → last ≡ next ++ counted y → length last ≡ length out + (1 + length x) + (1 + length y)
 counted_twice out next last x y first second =
     omega (arith, ap (λ (l : List ℕ). length l) first, ap (λ (l : List ℕ). length l) second, length-append out (counted x), length-append next (counted y))
 
-pub text_ends : (p : Placed) (out last whole : List ℕ) → out ++ rest_text (end p) ≡ whole → last ≡ out ++ child_text (child_digest (tree_of One p)) → last ≡ whole
-text_ends p out last whole before is = is ∙ before
+pub text_ends : (out : List ℕ) {content : Content} {tail : ℕ} {whole : List ℕ} (a : AtEnd One content tail (Completes out whole)) {last : List ℕ} → last ≡ out ++ child_text (child_digest (tree_of One a.child)) → last ≡ whole
+text_ends out a is = is ∙ a.holds

@@ -8,7 +8,7 @@ use Rattle.mst_key.specs.declared.format.Format.{Format}
 use Rattle.mst_key.specs.Map.{Pair, key_cmp, IsAscending, AllBelow, above, map_next}
 use Rattle.mst_key.proofs.KeyOrder.{by_order, less_chain, greater_from_less}
 use Rattle.mst_key.proofs.Splits.{IsAscending-front, IsAscending-back, IsAscending-below}
-use Rattle.mst_node.specs.Tree.{pairs, entries_pairs, IsMstEntries, IsUnder}
+use Rattle.mst_node.specs.Tree.{pairs, entries_pairs, IsMstEntries}
 use Rattle.mst_arena.specs.Content.{Content, part_at}
 use Rattle.mst_arena.specs.Row.{entry_value}
 use Rattle.mst_arena.specs.declared.row.EntryLinks.{EntryLinks}
@@ -17,7 +17,8 @@ use Rattle.mst_arena.specs.declared.row.Row.TheVariants.{Entry}
 use Rattle.mst_arena.specs.Standing.{Chain, end, cell, tree_of, entries_of, link_of, first_of, tail_of, rows_of, chain_rows, HasRows}
 use Rattle.mst_arena.proofs.Stands.{all-front, all-back}
 use Rattle.mst_read.specs.Search.{LiesBehind, entry_above}
-use Rattle.mst_read.proofs.Descend.{Ahead}
+use Rattle.mst_read.proofs.Still.{behind_still}
+use Rattle.mst_read.proofs.Descend.{Ahead, Inside, holding}
 
 -- a key below one that is not above the bound is not above it
 below_not_above : (bound : Option (List ℕ)) (k key : List ℕ) → key_cmp k key ≡ Less → above bound key ≡ false → above bound k ≡ false
@@ -54,22 +55,27 @@ abbrev pub HasValue : Content → Option (ℕ × List ℕ) → Type 0
 HasValue content None = Unit {0}
 HasValue content (Some e) = IsSome (part_at entry_value content e.0)
 
+-- the least key above the bound is in the tree under the search, or else it is that of the entry to
+-- the right
+abbrev pub Answers : Content → Option (List ℕ) → Option (ℕ × List ℕ) → List Pair → List Pair → Type 0
+Answers content bound right m ps = option_or (map_next ps bound) (pair_at content right) ≡ map_next m bound
+
+or_none : (x : Option Pair) → option_or x None ≡ x
+or_none None = refl
+or_none (Some x) = refl
+
+or_some : (x : Option Pair) (y : Pair) (w : Option Pair) → option_or (option_or x (Some y)) w ≡ option_or x (Some y)
+or_some None y w = refl
+or_some (Some x) y w = refl
+
+pub at_start : (content : Content) (bound : Option (List ℕ)) (m : List Pair) → Answers content bound None m m
+at_start content bound m = or_none (map_next m bound)
+
 module _ (format : Format) (content : Content) (bound : Option (List ℕ)) where
   -- the tree in the last gap, where no key of the node is above the bound
-  pub record InTail (l link : ℕ) (m : List Pair) : Type 0 where
-    pub ahead : Ahead format content link (λ ps. map_next ps bound ≡ map_next m bound)
-    pub under : IsUnder l (tree_of format ahead.placed)
-
-  -- the tree in the gap before the first entry whose key is
-  pub record BeforeEntry (l row : ℕ) (e : EntryLinks) (m : List Pair) : Type 0 where
-    pub value : List ℕ
-    pub there : part_at entry_value content row ≡ Some value
-    pub ahead : Ahead format content e.child (λ ps. option_or (map_next ps bound) (Some (e.key, value)) ≡ map_next m bound)
-    pub under : IsUnder l (tree_of format ahead.placed)
-
-  in_tail_of : (l : ℕ) (c : Chain) → HasRows content (chain_rows format c) → IsMstEntries format l (entries_of format c) → IsAscending (entries_pairs (entries_of format c)) → entry_above bound c ≡ None → InTail l (tail_of c) (entries_pairs (entries_of format c))
+  in_tail_of : (l : ℕ) (c : Chain) → HasRows content (chain_rows format c) → IsMstEntries format l (entries_of format c) → IsAscending (entries_pairs (entries_of format c)) → entry_above bound c ≡ None → Ahead format content l (tail_of c) (λ ps. map_next ps bound ≡ map_next (entries_pairs (entries_of format c)) bound)
   in_tail_of l (end p) rows mst rise is =
-      record { ahead = record { placed = p; lies = record { at = refl; rows = rows }; mst = mst.1; rise = rise; holds = refl }; under = mst.0 }
+      record { placed = p; lies = record { at = refl; rows = rows }; under = mst.0; mst = mst.1; rise = rise; holds = refl }
   in_tail_of l (cell at p key v c) rows mst rise is =
       go (above bound key) refl is
       (in_tail_of l c (all-back _ (rows_of format p) (chain_rows format c) rows.1) mst.3 (IsAscending-back front ((key, v) ∷ back) rise).1)
@@ -80,24 +86,23 @@ module _ (format : Format) (content : Content) (bound : Option (List ℕ)) where
       back : List Pair
       back = entries_pairs (entries_of format c)
 
-      go : (t : Bool) → above bound key ≡ t → cond t (Some (at, record { child = link_of p; next = first_of c; key = key })) (entry_above bound c) ≡ None → (entry_above bound c ≡ None → InTail l (tail_of c) back) → InTail l (tail_of c) (front ++ (key, v) ∷ back)
+      go : (t : Bool) → above bound key ≡ t → cond t (Some (at, record { child = link_of p; next = first_of c; key = key })) (entry_above bound c) ≡ None → (entry_above bound c ≡ None → Ahead format content l (tail_of c) (λ ps. map_next ps bound ≡ map_next back bound)) → Ahead format content l (tail_of c) (λ ps. map_next ps bound ≡ map_next (front ++ (key, v) ∷ back) bound)
       go true e is further = let no : ◌≡◌ {A = Option (ℕ × EntryLinks)} (Some (at, record { child = link_of p; next = first_of c; key = key })) None = is in cc
       go false e is further =
-          let r = further is in
-          let a = r.ahead in
-          record {
-            ahead = record { placed = a.placed; lies = a.lies; mst = a.mst; rise = a.rise; holds = a.holds ∙ skipped bound front back key v rise e };
-            under = r.under;
-          }
+          let a = further is in
+          record { placed = a.placed; lies = a.lies; under = a.under; mst = a.mst; rise = a.rise; holds = a.holds ∙ skipped bound front back key v rise e }
 
-  pub in_tail : (links : HeadLinks) (c : Chain) → LiesBehind format content links c → IsMstEntries format links.layer (entries_of format c) → IsAscending (entries_pairs (entries_of format c)) → entry_above bound c ≡ None → InTail links.layer links.tail (entries_pairs (entries_of format c))
-  in_tail links c lies mst rise is = subst (λ (link : ℕ). InTail links.layer link (entries_pairs (entries_of format c))) lies.tail (in_tail_of links.layer c lies.rows mst rise is)
+  -- the tree in the gap before the first entry whose key is
+  record EntryMet (l row : ℕ) (e : EntryLinks) (m : List Pair) : Type 0 where
+    value : List ℕ
+    there : part_at entry_value content row ≡ Some value
+    ahead : Ahead format content l e.child (λ ps. option_or (map_next ps bound) (Some (e.key, value)) ≡ map_next m bound)
 
-  pub before_entry : (l row : ℕ) (e : EntryLinks) (c : Chain) → HasRows content (chain_rows format c) → IsMstEntries format l (entries_of format c) → IsAscending (entries_pairs (entries_of format c)) → entry_above bound c ≡ Some (row, e) → BeforeEntry l row e (entries_pairs (entries_of format c))
-  before_entry l row e (end p) rows mst rise is = let no : ◌≡◌ {A = Option (ℕ × EntryLinks)} None (Some (row, e)) = is in cc
-  before_entry l row e (cell at p key v c) rows mst rise is =
+  entry_met : (l row : ℕ) (e : EntryLinks) (c : Chain) → HasRows content (chain_rows format c) → IsMstEntries format l (entries_of format c) → IsAscending (entries_pairs (entries_of format c)) → entry_above bound c ≡ Some (row, e) → EntryMet l row e (entries_pairs (entries_of format c))
+  entry_met l row e (end p) rows mst rise is = let no : ◌≡◌ {A = Option (ℕ × EntryLinks)} None (Some (row, e)) = is in cc
+  entry_met l row e (cell at p key v c) rows mst rise is =
       go (above bound key) refl is
-      (before_entry l row e c (all-back _ (rows_of format p) (chain_rows format c) rows.1) mst.3 (IsAscending-back front ((key, v) ∷ back) rise).1)
+      (entry_met l row e c (all-back _ (rows_of format p) (chain_rows format c) rows.1) mst.3 (IsAscending-back front ((key, v) ∷ back) rise).1)
     where
       front : List Pair
       front = pairs (tree_of format p)
@@ -108,7 +113,7 @@ module _ (format : Format) (content : Content) (bound : Option (List ℕ)) where
       links : EntryLinks
       links = record { child = link_of p; next = first_of c; key = key }
 
-      go : (t : Bool) → above bound key ≡ t → cond t (Some (at, links)) (entry_above bound c) ≡ Some (row, e) → (entry_above bound c ≡ Some (row, e) → BeforeEntry l row e back) → BeforeEntry l row e (front ++ (key, v) ∷ back)
+      go : (t : Bool) → above bound key ≡ t → cond t (Some (at, links)) (entry_above bound c) ≡ Some (row, e) → (entry_above bound c ≡ Some (row, e) → EntryMet l row e back) → EntryMet l row e (front ++ (key, v) ∷ back)
       go true t is further =
           let both : ◌≡◌ {A = ℕ × EntryLinks} (at, links) (row, e) = cc in
           let same : at ≡ row = ap (λ (x : ℕ × EntryLinks). x.0) both in
@@ -121,11 +126,11 @@ module _ (format : Format) (content : Content) (bound : Option (List ℕ)) where
             ahead = record {
               placed = p;
               lies = record { at = ap (λ (x : EntryLinks). x.child) fields; rows = all-front _ (rows_of format p) (chain_rows format c) rows.1 };
+              under = mst.0;
               mst = mst.1;
               rise = IsAscending-front front ((key, v) ∷ back) rise;
               holds = subst (λ (x : EntryLinks). option_or (map_next front bound) (Some (x.key, v)) ≡ map_next (front ++ (key, v) ∷ back) bound) fields holds;
             };
-            under = mst.0;
           }
       go false t is further =
           let r = further is in
@@ -133,34 +138,34 @@ module _ (format : Format) (content : Content) (bound : Option (List ℕ)) where
           record {
             value = r.value;
             there = r.there;
-            ahead = record { placed = a.placed; lies = a.lies; mst = a.mst; rise = a.rise; holds = a.holds ∙ skipped bound front back key v rise t };
-            under = r.under;
+            ahead = record { placed = a.placed; lies = a.lies; under = a.under; mst = a.mst; rise = a.rise; holds = a.holds ∙ skipped bound front back key v rise t };
           }
 
-  -- the least key above the bound is in the tree under the search, or else it is that of the entry
-  -- to the right
-  abbrev pub Answers : Option (ℕ × List ℕ) → List Pair → List Pair → Type 0
-  Answers right m ps = option_or (map_next ps bound) (pair_at content right) ≡ map_next m bound
+-- a node in which the answer is, or else it is the pair to the right; its first entry above the
+-- bound was looked for, while the rows are the same
+module _ {format : Format} {content : Content} {links : HeadLinks} (bound : Option (List ℕ)) (right : Option (ℕ × List ℕ)) (m : List Pair) (d : Inside format content links (Answers content bound right m)) {after : Content} {found : Option (ℕ × EntryLinks)} (same : after ≡ content) (answer : (f : Format) (c : Chain) → LiesBehind f after links c → found ≡ entry_above bound c) where
+  first_is : entry_above bound d.chain ≡ found
+  first_is = sym (answer format d.chain (behind_still same d.lies))
 
-  or_none : (x : Option Pair) → option_or x None ≡ x
-  or_none None = refl
-  or_none (Some x) = refl
+  -- where no key of the node is above the bound, its last gap has the answer
+  pub in_tail : found ≡ None → Ahead format content links.layer links.tail (Answers content bound right m)
+  in_tail is = subst (λ (link : ℕ). Ahead format content links.layer link (Answers content bound right m)) d.lies.tail
+      (holding (in_tail_of format content bound links.layer d.chain d.lies.rows d.mst d.rise (first_is ∙ is)) (Answers content bound right m) (λ ps e. ap (λ (o : Option Pair). option_or o (pair_at content right)) e ∙ d.holds))
 
-  pub at_start : (m ps : List Pair) → ps ≡ m → Answers None m ps
-  at_start m ps e = or_none (map_next ps bound) ∙ ap (λ (l : List Pair). map_next l bound) e
+  -- else the gap before the first key above it, or it is the pair of this key
+  met_at : {row : ℕ} {e : EntryLinks} → found ≡ Some (row, e) → EntryMet format content bound links.layer row e (entries_pairs (entries_of format d.chain))
+  met_at {row} {e} is = entry_met format content bound links.layer row e d.chain d.lies.rows d.mst d.rise (first_is ∙ is)
 
-  -- the pairs of a tree have the answer that those of the node have
-  pub on_tail : (right : Option (ℕ × List ℕ)) (m node ps : List Pair) → Answers right m node → map_next ps bound ≡ map_next node bound → Answers right m ps
-  on_tail right m node ps holds e = ap (λ (o : Option Pair). option_or o (pair_at content right)) e ∙ holds
-
-  or_some : (x : Option Pair) (y : Pair) (w : Option Pair) → option_or (option_or x (Some y)) w ≡ option_or x (Some y)
-  or_some None y w = refl
-  or_some (Some x) y w = refl
-
-  pub on_entry : (right : Option (ℕ × List ℕ)) (m node : List Pair) (row : ℕ) (key v : List ℕ) → part_at entry_value content row ≡ Some v → (ps : List Pair) → Answers right m node → option_or (map_next ps bound) (Some (key, v)) ≡ map_next node bound → Answers (Some (row, key)) m ps
-  on_entry right m node row key v there ps holds e =
-      let pair : pair_at content (Some (row, key)) ≡ Some (key, v) = ap (option_and_then (λ (x : List ℕ). Some (key, x))) there in
+  pub before_entry : {row : ℕ} {e : EntryLinks} → found ≡ Some (row, e) → Ahead format content links.layer e.child (Answers content bound (Some (row, e.key)) m)
+  before_entry {row} {e} is = holding (met_at is).ahead (Answers content bound (Some (row, e.key)) m) (λ ps here.
+      let v = (met_at is).value in
+      let pair : pair_at content (Some (row, e.key)) ≡ Some (e.key, v) = ap (option_and_then (λ (x : List ℕ). Some (e.key, x))) (met_at is).there in
       ap (option_or (map_next ps bound)) pair
-      ∙ sym (or_some (map_next ps bound) (key, v) (pair_at content right))
-      ∙ ap (λ (o : Option Pair). option_or o (pair_at content right)) e
-      ∙ holds
+      ∙ sym (or_some (map_next ps bound) (e.key, v) (pair_at content right))
+      ∙ ap (λ (o : Option Pair). option_or o (pair_at content right)) here
+      ∙ d.holds)
+
+  pub value_met : {row : ℕ} {e : EntryLinks} → found ≡ Some (row, e) → IsSome (part_at entry_value content row)
+  value_met is =
+      let Is : Option (List ℕ) → Type 0 = IsSome in
+      subst Is (sym (met_at is).there) refl

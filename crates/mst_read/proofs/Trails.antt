@@ -18,7 +18,7 @@ use Rattle.mst_arena.specs.Standing.{Placed, none, head, Chain, end, cell, tree_
 use Rattle.mst_arena.proofs.Stands.{all-front, all-back}
 use Rattle.mst_read.specs.Search.{Lies, LiesBehind, head_of, place, gap_placed}
 use Rattle.mst_read.specs.declared.lookup.Place.TheVariants.{Held, Gap}
-use Rattle.mst_read.proofs.Descend.{falls, depth}
+use Rattle.mst_read.proofs.Descend.{lies_at, falls, depth}
 
 -- ---- the tree in the gap for a key
 
@@ -81,19 +81,24 @@ pub record MetNode (content : Content) (links : HeadLinks) (k texts : List ℕ) 
   pub holds : texts ++ framed (map text (node One links.layer (entries_of One chain) ∷ met_in_gap k (entries_of One chain))) ≡ framed (map text whole)
   pub counts : count + (length (met_in_gap k (entries_of One chain)) + 1) ≡ length whole
 
-module _ (content : Content) (k : List ℕ) where
-  pub begins : (at : Root) (m : List Pair) (s : Stands One content at m) (top : Option HeadLinks) → top ≡ head_of s.tree.placed → Met content top k [] 0 (trail One m k)
-  begins at m s top is = record {
-    placed = s.tree.placed;
-    head_is = sym is;
-    rows = s.tree.rows;
-    mst = let Mst : Tree → Type 0 = IsMst One in subst Mst (sym s.tree.is) (tree_mst One m);
-    holds = ap (λ (t : Tree). framed (map text (nodes_met k t))) s.tree.is;
-    counts = omega (arith, ap (λ (t : Tree). length (nodes_met k t)) s.tree.is);
-  }
+-- at the end of the trail
+pub record Whole (texts : List ℕ) (count : ℕ) (whole : List Tree) : Type 0 where
+  pub texts_are : texts ≡ framed (map text whole)
+  pub count_is : count ≡ length whole
 
-  pub opens : (links : HeadLinks) (top : Option HeadLinks) (texts : List ℕ) (count : ℕ) (whole : List Tree) → top ≡ Some links → Met content top k texts count whole → MetNode content links k texts count whole
-  opens links top texts count whole some r = go r.placed (r.head_is ∙ some) r.rows r.mst r.holds r.counts
+pub begins : {content : Content} {at : Root} {m : List Pair} (s : Stands One content at m) (k : List ℕ) {texts : List ℕ} {top : Option HeadLinks} → ((f : Format) (p : Placed) → Lies f content at.link p → top ≡ head_of p) → texts ≡ [] → Met content top k texts 0 (trail One m k)
+begins {m = m} s k read empty = record {
+  placed = s.tree.placed;
+  head_is = sym (read One s.tree.placed (lies_at s));
+  rows = s.tree.rows;
+  mst = let Mst : Tree → Type 0 = IsMst One in subst Mst (sym s.tree.is) (tree_mst One m);
+  holds = ap (λ (texts : List ℕ). texts ++ framed (map text (nodes_met k (tree_of One s.tree.placed)))) empty ∙ ap (λ (t : Tree). framed (map text (nodes_met k t))) s.tree.is;
+  counts = omega (arith, ap (λ (t : Tree). length (nodes_met k t)) s.tree.is);
+}
+
+module _ {content : Content} {top : Option HeadLinks} {k texts : List ℕ} {count : ℕ} {whole : List Tree} (r : Met content top k texts count whole) where
+  pub opens : {links : HeadLinks} → top ≡ Some links → MetNode content links k texts count whole
+  opens {links} some = go r.placed (r.head_is ∙ some) r.rows r.mst r.holds r.counts
     where
       go : (p : Placed) → head_of p ≡ Some links → HasRows content (rows_of One p) → IsMst One (tree_of One p) → texts ++ framed (map text (nodes_met k (tree_of One p))) ≡ framed (map text whole) → count + length (nodes_met k (tree_of One p)) ≡ length whole → MetNode content links k texts count whole
       go none is rows mst holds counts = let no : ◌≡◌ {A = Option HeadLinks} None (Some links) = is in cc
@@ -113,8 +118,16 @@ module _ (content : Content) (k : List ℕ) where
             counts = omega (arith, counts);
           }
 
-  pub goes_on : (links : HeadLinks) (texts next t : List ℕ) (count : ℕ) (whole : List Tree) (d : MetNode content links k texts count whole) (top : Option HeadLinks) → top ≡ head_of (gap_placed k d.chain) → t ≡ text (node One links.layer (entries_of One d.chain)) → next ≡ texts ++ (to_be_bytes w32 (length t) ++ t) → Met content top k next (count + 1) whole
-  goes_on links texts next t count whole d top is text_is next_is =
+  pub ends : top ≡ None → Whole texts count whole
+  ends nothing = go r.placed (r.head_is ∙ nothing) r.holds r.counts
+    where
+      go : (p : Placed) → head_of p ≡ None → texts ++ framed (map text (nodes_met k (tree_of One p))) ≡ framed (map text whole) → count + length (nodes_met k (tree_of One p)) ≡ length whole → Whole texts count whole
+      go none is holds counts = record { texts_are = sym (append-nil texts) ∙ holds; count_is = omega (arith, counts) }
+      go (head at l c) is holds counts = let no : ◌≡◌ {A = Option HeadLinks} (Some (record { layer = l; count = count_of c; first = first_of c; tail = tail_of c })) None = is in cc
+
+module _ {content : Content} {links : HeadLinks} {k texts : List ℕ} {count : ℕ} {whole : List Tree} (d : MetNode content links k texts count whole) where
+  pub goes_on : {t next : List ℕ} {top : Option HeadLinks} → top ≡ head_of (gap_placed k d.chain) → t ≡ text (node One links.layer (entries_of One d.chain)) → next ≡ texts ++ (to_be_bytes w32 (length t) ++ t) → Met content top k next (count + 1) whole
+  goes_on is text_is next_is =
       let g = in_gap content k links.layer d.chain d.lies.rows d.mst in
       record {
         placed = gap_placed k d.chain;
@@ -128,17 +141,5 @@ module _ (content : Content) (k : List ℕ) where
         counts = omega (arith, d.counts, ap length g.trail);
       }
 
-  pub goes_down : (links : HeadLinks) (texts : List ℕ) (count : ℕ) (whole : List Tree) (d : MetNode content links k texts count whole) (top : Option HeadLinks) → top ≡ head_of (gap_placed k d.chain) → depth top < links.layer + 1
-  goes_down links texts count whole d top is = falls One content links.layer (gap_placed k d.chain) top (in_gap content k links.layer d.chain d.lies.rows d.mst).under is
-
-  -- at the end of the trail
-  pub record Whole (texts : List ℕ) (count : ℕ) (whole : List Tree) : Type 0 where
-    pub texts_are : texts ≡ framed (map text whole)
-    pub count_is : count ≡ length whole
-
-  pub ends : (top : Option HeadLinks) (texts : List ℕ) (count : ℕ) (whole : List Tree) → top ≡ None → Met content top k texts count whole → Whole texts count whole
-  ends top texts count whole nothing r = go r.placed (r.head_is ∙ nothing) r.holds r.counts
-    where
-      go : (p : Placed) → head_of p ≡ None → texts ++ framed (map text (nodes_met k (tree_of One p))) ≡ framed (map text whole) → count + length (nodes_met k (tree_of One p)) ≡ length whole → Whole texts count whole
-      go none is holds counts = record { texts_are = sym (append-nil texts) ∙ holds; count_is = omega (arith, counts) }
-      go (head at l c) is holds counts = let no : ◌≡◌ {A = Option HeadLinks} (Some (record { layer = l; count = count_of c; first = first_of c; tail = tail_of c })) None = is in cc
+  pub goes_down : {top : Option HeadLinks} → top ≡ head_of (gap_placed k d.chain) → depth top < links.layer + 1
+  goes_down {top} is = falls One links.layer (gap_placed k d.chain) top (in_gap content k links.layer d.chain d.lies.rows d.mst).under is

@@ -1,5 +1,5 @@
 -- A walk along the entries of a node.
-use Rattle.std.proofs.Common.{◌≡◌, ℕ, ◌+◌, ◌-◌, ◌<◌, List, Some, refl, sym, ◌∙◌, ap, subst, arith}
+use Rattle.std.proofs.Common.{◌≡◌, ℕ, ◌+◌, ◌-◌, ◌<◌, List, Some, sym, ◌∙◌, ap, subst, arith}
 use Rattle.std.specs.Prelude.{option_and_then}
 use Rattle.mst_key.specs.declared.format.Format.{Format}
 use Rattle.mst_arena.specs.Content.{Content, part_at}
@@ -8,6 +8,8 @@ use Rattle.mst_arena.specs.declared.row.Row.TheVariants.{Entry}
 use Rattle.mst_arena.specs.declared.row.EntryLinks.{EntryLinks}
 use Rattle.mst_arena.specs.Standing.{Placed, Chain, end, cell, link_of, first_of, tail_of, count_of, rows_of, chain_rows, HasRows}
 use Rattle.mst_arena.proofs.Stands.{all-front, all-back}
+use Rattle.mst_read.specs.Search.{Lies}
+use Rattle.mst_read.proofs.Still.{lies_still, read_before}
 
 -- the rest of a chain behind as many entries as are done: it begins at the link, and something
 -- holds of it
@@ -41,9 +43,16 @@ pub record AtEnd (format : Format) (content : Content) (tail : ℕ) (P : Chain �
   pub rows : HasRows content (rows_of format child)
   pub holds : P (end child)
 
-module _ (format : Format) (content : Content) where
-  pub at_cell : (tail next done all : ℕ) (P : Chain → Type 0) → Onward format content tail next done all P → done < all → (e : EntryLinks) → part_at entry_links content (next - 1) ≡ Some e → AtCell format content tail (next - 1) done all e P
-  at_cell tail next done all P o lt e part = go o.rest o.first_is o.tail_is o.left o.rows o.holds
+-- the trees of the gap before the entry and of the last gap, while the rows are the same
+pub child_lies : {format : Format} {content : Content} {tail row done all : ℕ} {e : EntryLinks} {P : Chain → Type 0} (a : AtCell format content tail row done all e P) {after : Content} → after ≡ content → Lies format after e.child a.child
+child_lies a same = lies_still same (record { at = a.child_is; rows = a.child_rows })
+
+pub tail_lies : {format : Format} {content : Content} {tail : ℕ} {P : Chain → Type 0} (a : AtEnd format content tail P) {after : Content} → after ≡ content → Lies format after tail a.child
+tail_lies a same = lies_still same (record { at = a.child_is; rows = a.rows })
+
+module _ {format : Format} {content : Content} {tail next done all : ℕ} {P : Chain → Type 0} (o : Onward format content tail next done all P) where
+  cell_at : done < all → (e : EntryLinks) → part_at entry_links content (next - 1) ≡ Some e → AtCell format content tail (next - 1) done all e P
+  cell_at lt e part = go o.rest o.first_is o.tail_is o.left o.rows o.holds
     where
       go : (c : Chain) → first_of c ≡ next → tail_of c ≡ tail → count_of c + done ≡ all → HasRows content (chain_rows format c) → P c → AtCell format content tail (next - 1) done all e P
       go (end p) first tail_is left rows holds = absurd (omega arith)
@@ -70,20 +79,20 @@ module _ (format : Format) (content : Content) where
             holds = subst (λ (k : List ℕ). P (cell (next - 1) p k v c)) key_is (subst (λ (n : ℕ). P (cell n p key v c)) is holds);
           }
 
-  pub further : (tail row done all : ℕ) (e : EntryLinks) (P Q : Chain → Type 0) (a : AtCell format content tail row done all e P) → Q a.rest → Onward format content tail e.next (done + 1) all Q
-  further tail row done all e P Q a holds =
-      record { rest = a.rest; first_is = a.first_is; tail_is = a.tail_is; left = a.left; rows = a.rows; holds = holds }
+  -- the entry was read while the rows are the same
+  pub at_cell : done < all → {after : Content} {e : EntryLinks} → after ≡ content → part_at entry_links after (next - 1) ≡ Some e → AtCell format content tail (next - 1) done all e P
+  at_cell lt {e = e} same read = cell_at lt e (read_before same entry_links (next - 1) read)
 
-  pub at_end : (tail next done all : ℕ) (P : Chain → Type 0) → Onward format content tail next done all P → all ≡ done → AtEnd format content tail P
-  at_end tail next done all P o is = go o.rest o.tail_is o.left o.rows o.holds
+  pub at_end : all ≡ done → AtEnd format content tail P
+  at_end is = go o.rest o.tail_is o.left o.rows o.holds
     where
       go : (c : Chain) → tail_of c ≡ tail → count_of c + done ≡ all → HasRows content (chain_rows format c) → P c → AtEnd format content tail P
       go (end p) tail_is left rows holds = record { child = p; child_is = tail_is; rows = rows; holds = holds }
       go (cell at p key v c) tail_is left rows holds = absurd (omega arith)
 
   -- where entries are left, there is one at the link
-  pub entry_left : (tail next done all : ℕ) (P : Chain → Type 0) → Onward format content tail next done all P → done < all → (e : EntryLinks) × (part_at entry_links content (next - 1) ≡ Some e)
-  entry_left tail next done all P o lt = go o.rest o.first_is o.left o.rows
+  pub entry_left : done < all → (e : EntryLinks) × (part_at entry_links content (next - 1) ≡ Some e)
+  entry_left lt = go o.rest o.first_is o.left o.rows
     where
       go : (c : Chain) → first_of c ≡ next → count_of c + done ≡ all → HasRows content (chain_rows format c) → (e : EntryLinks) × (part_at entry_links content (next - 1) ≡ Some e)
       go (end p) first left rows = absurd (omega arith)
@@ -91,3 +100,7 @@ module _ (format : Format) (content : Content) where
           let is : at ≡ next - 1 = omega arith in
           let row : content (next - 1) ≡ Some (Entry (link_of p) (first_of c) key v) = ap content (sym is) ∙ rows.0 in
           (record { child = link_of p; next = first_of c; key = key }, ap (option_and_then entry_links) row)
+
+pub further : {format : Format} {content : Content} {tail row done all : ℕ} {e : EntryLinks} {P : Chain → Type 0} (a : AtCell format content tail row done all e P) (Q : Chain → Type 0) → Q a.rest → Onward format content tail e.next (done + 1) all Q
+further a Q holds =
+    record { rest = a.rest; first_is = a.first_is; tail_is = a.tail_is; left = a.left; rows = a.rows; holds = holds }

@@ -2,8 +2,9 @@ use Rattle.std.proofs.Common.{◌≡◌}
 use Rattle.std.specs.Option.{option_copied}
 use Rattle.mst_key.specs.declared.format.Format.{Format}
 use Rattle.mst_arena.specs.Standing.{Chain}
-use Rattle.mst_read.specs.Search.{LiesBehind, entry_above}
+use Rattle.mst_read.specs.Search.{LiesBehind}
 use Rattle.mst_read.proofs.Walk.{Onward}
+use Rattle.mst_read.proofs.Ways.{BeginsAbove}
 use Rattle.mst_read.proofs.following.first_above.Given as goal
 
 -- the first such entry of the rest is the first of all
@@ -11,5 +12,5 @@ abbrev pub invariant-loop : goal.invariant-loop
 invariant-loop g l = record {
   same : l.rows ≡ l.initial.rows;
   onward : (f : Format) (c : Chain) → LiesBehind f (g.R.Rows.content l.initial.rows) l.initial.head c
-      → Onward f (g.R.Rows.content l.initial.rows) l.head.tail l.link l.counter l.end (λ rest. entry_above (option_copied l.bound) rest ≡ entry_above (option_copied l.bound) c);
+      → Onward f (g.R.Rows.content l.initial.rows) l.head.tail l.link l.counter l.end (BeginsAbove (option_copied l.bound) c);
 }

@@ -1,8 +1,6 @@
-use Rattle.std.proofs.Common.{◌≡◌, List}
+use Rattle.std.proofs.Common.{◌≡◌}
 use Rattle.std.specs.Option.{option_copied}
-use Rattle.mst_key.specs.declared.format.Format.{Format}
-use Rattle.mst_key.specs.Map.{Pair}
-use Rattle.mst_read.specs.Search.{StandsBelow}
+use Rattle.mst_read.specs.Search.{LinkStands}
 use Rattle.mst_read.proofs.Descend.{Reached, depth}
 use Rattle.mst_read.proofs.Successor.{Answers, HasValue}
 use Rattle.mst_read.proofs.following.next_below.Given as goal
@@ -12,8 +10,8 @@ abbrev pub invariant-loop-top : goal.invariant-loop-top
 invariant-loop-top g l = record {
   same : l.rows ≡ l.fn.rows;
   value : HasValue (g.R.Rows.content l.fn.rows) l.right;
-  reached : (f : Format) (m : List Pair) → StandsBelow f (g.R.Rows.content l.fn.rows) l.link m
-      → Reached f (g.R.Rows.content l.fn.rows) l.top (Answers f (g.R.Rows.content l.fn.rows) (option_copied l.after) l.right m);
+  reached : (s : LinkStands (g.R.Rows.content l.fn.rows) l.link)
+      → Reached s.0 (g.R.Rows.content l.fn.rows) l.top (Answers (g.R.Rows.content l.fn.rows) (option_copied l.after) l.right s.1);
 }
 
 -- layers fall

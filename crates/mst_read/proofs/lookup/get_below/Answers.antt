@@ -1,110 +1,56 @@
-use Rattle.std.proofs.Common.{◌≡◌, ℕ, ◌<◌, ◌+◌, List, Some, IsSome, refl, ◌∙◌, sym, ap, subst, arith}
-use Rattle.mst_key.specs.Map.{Pair, map_get}
-use Rattle.mst_arena.specs.Content.{Content, part_at}
+use Rattle.std.proofs.Common.{refl, ◌∙◌, sym, ap, arith}
 use Rattle.mst_arena.specs.Row.{entry_value}
-use Rattle.mst_read.specs.Search.{place, TreeLies, ChainLies, LiesBehind, Lies}
-use Rattle.mst_read.specs.declared.lookup.Place.TheVariants.{Held, Gap}
-use Rattle.mst_read.proofs.Descend.{from_root, tree_lies, reach, inside, at_nothing, falls, depth}
-use Rattle.mst_read.proofs.Look.{held, held_there, gap}
+use Rattle.mst_read.specs.Search.{LinkStands}
+use Rattle.mst_read.proofs.Still.{there_still, read_before}
+use Rattle.mst_read.proofs.Descend.{Ahead, there_at, reached_at, node_there, ahead_there, reach, lower, inside, at_nothing, depth_is}
+use Rattle.mst_read.proofs.Look.{Finds, in_gap, value_held, value_there}
+use Rattle.mst_read.proofs.lookup.get_below.Given.{Over}
+use Rattle.mst_read.proofs.lookup.get_below.Goals.{After-head_at-top-in-Gap}
 use Rattle.mst_read.proofs.lookup.get_below.Goals as goal
 
 pub head_at-top-requires : goal.head_at-top-requires
-head_at-top-requires g c =
-    let s = c.requires.stands in
-    let P = λ (ps : List Pair). ps ≡ s.1 in
-    record { lies = tree_lies s.0 _ _ P (from_root s.0 _ _ s.1 P s.2 refl) }
+head_at-top-requires g c = record { lies = there_at c.requires.stands.2 }
 
 pub loop-top-init : goal.loop-top-init
 loop-top-init g c = record {
   same = c.head_at-top.ensures.same;
-  reached = λ f m s.
-      let k = c.args.key.now in
-      let P = λ (ps : List Pair). map_get ps k ≡ map_get m k in
-      let a = from_root f (g.R.Rows.content c.args.rows.now) _ m P s refl in
-      reach f _ _ P P (λ ps e. e) a c.head_at-top.result (c.head_at-top.ensures.head f a.placed a.lies);
+  reached = λ s. reached_at s.2 (Finds c.args.key.now s.1) refl c.head_at-top.ensures.head;
 }
 
 pub seek-requires : goal.seek-requires
-seek-requires g c =
-    let s = c.requires.stands in
-    let k = c.args.key.now in
-    let links = c.in-Some.head in
-    let content = g.R.Rows.content c.args.rows.now in
-    let P = λ (ps : List Pair). map_get ps k ≡ map_get s.1 k in
-    let d = inside s.0 content links c.loop-top.top P c.in-Some.is (c.loop-top.invariant.reached s.0 s.1 s.2) in
-    record { lies = subst (λ (x : Content). ChainLies x links) (sym (ap g.R.Rows.content c.loop-top.invariant.same)) (s.0, d.chain, d.lies) }
+seek-requires g c = record { lies = node_there (inside (c.loop-top.invariant.reached c.requires.stands) c.in-Some.is) (ap g.R.Rows.content c.loop-top.invariant.same) }
+
+-- ---- the node has the key
 
 pub value-requires : goal.value-requires
 value-requires g c =
-    let s = c.requires.stands in
-    let k = c.args.key.now in
-    let links = c.in-Some.head in
-    let content = g.R.Rows.content c.args.rows.now in
-    let now : content ≡ g.R.Rows.content c.loop-top.rows = sym (ap g.R.Rows.content c.loop-top.invariant.same) in
-    let P = λ (ps : List Pair). map_get ps k ≡ map_get s.1 k in
-    let d = inside s.0 content links c.loop-top.top P c.in-Some.is (c.loop-top.invariant.reached s.0 s.1 s.2) in
-    let at : place k d.chain ≡ Held c.in-Held.row = ap (λ (x : List ℕ). place x d.chain) (sym c.new-sought.ensures.key) ∙ sym (c.seek.ensures.place s.0 d.chain (subst (λ (x : Content). LiesBehind s.0 x links d.chain) now d.lies)) ∙ c.in-Held.is in
-    record { there = subst (λ (x : Content). IsSome (part_at entry_value x c.in-Held.row)) (now ∙ sym (ap g.R.Rows.content c.seek.ensures.same)) (held_there s.0 content k c.in-Held.row d.chain d.lies.rows at) }
+    let there = value_there c.args.key.now c.requires.stands.1 (inside (c.loop-top.invariant.reached c.requires.stands) c.in-Some.is) (ap g.R.Rows.content c.loop-top.invariant.same) (rw c.new-sought.ensures.key at c.seek.ensures.place) c.in-Held.is in
+    record { there = there_still (ap g.R.Rows.content (c.seek.ensures.same ∙ c.loop-top.invariant.same)) entry_value c.in-Held.row there }
 
 pub returns-in-Held-clause-found : goal.returns-in-Held-clause-found
 returns-in-Held-clause-found g c f m s =
-    let k = c.args.key.now in
-    let links = c.in-Some.head in
-    let content = g.R.Rows.content c.args.rows.now in
-    let now : content ≡ g.R.Rows.content c.loop-top.rows = sym (ap g.R.Rows.content c.loop-top.invariant.same) in
-    let P = λ (ps : List Pair). map_get ps k ≡ map_get m k in
-    let d = inside f content links c.loop-top.top P c.in-Some.is (c.loop-top.invariant.reached f m s) in
-    let at : place k d.chain ≡ Held c.in-Held.row = ap (λ (x : List ℕ). place x d.chain) (sym c.new-sought.ensures.key) ∙ sym (c.seek.ensures.place f d.chain (subst (λ (x : Content). LiesBehind f x links d.chain) now d.lies)) ∙ c.in-Held.is in
-    let value : part_at entry_value content c.in-Held.row ≡ Some c.value.result = ap (λ (x : Content). part_at entry_value x c.in-Held.row) (now ∙ sym (ap g.R.Rows.content c.seek.ensures.same)) ∙ c.value.ensures.value in
-    sym value ∙ held f content k c.in-Held.row d.chain d.lies.rows d.rise at ∙ d.holds
+    sym (read_before (ap g.R.Rows.content (c.seek.ensures.same ∙ c.loop-top.invariant.same)) entry_value c.in-Held.row c.value.ensures.value)
+    ∙ value_held c.args.key.now m (inside (c.loop-top.invariant.reached (f, m, s)) c.in-Some.is) (ap g.R.Rows.content c.loop-top.invariant.same) (rw c.new-sought.ensures.key at c.seek.ensures.place) c.in-Held.is
+
+-- ---- the search goes on in a gap
 
 pub head_at-top-requires-in-Gap : goal.head_at-top-requires-in-Gap
 head_at-top-requires-in-Gap g c =
-    let s = c.requires.stands in
-    let k = c.args.key.now in
-    let links = c.in-Some.head in
-    let content = g.R.Rows.content c.args.rows.now in
-    let now : content ≡ g.R.Rows.content c.loop-top.rows = sym (ap g.R.Rows.content c.loop-top.invariant.same) in
-    let P = λ (ps : List Pair). map_get ps k ≡ map_get s.1 k in
-    let d = inside s.0 content links c.loop-top.top P c.in-Some.is (c.loop-top.invariant.reached s.0 s.1 s.2) in
-    let at : place k d.chain ≡ Gap c.in-Gap.link = ap (λ (x : List ℕ). place x d.chain) (sym c.new-sought.ensures.key) ∙ sym (c.seek.ensures.place s.0 d.chain (subst (λ (x : Content). LiesBehind s.0 x links d.chain) now d.lies)) ∙ c.in-Gap.is in
-    let b = gap s.0 content k links.layer c.in-Gap.link d.chain d.lies.rows d.mst d.rise at in
-    record { lies = subst (λ (x : Content). TreeLies x c.in-Gap.link) (now ∙ sym (ap g.R.Rows.content c.seek.ensures.same)) (s.0, b.ahead.placed, b.ahead.lies) }
+    let gap = in_gap c.args.key.now c.requires.stands.1 (inside (c.loop-top.invariant.reached c.requires.stands) c.in-Some.is) (ap g.R.Rows.content c.loop-top.invariant.same) (rw c.new-sought.ensures.key at c.seek.ensures.place) c.in-Gap.is in
+    record { lies = ahead_there gap (ap g.R.Rows.content (c.seek.ensures.same ∙ c.loop-top.invariant.same)) }
+
+module _ (g : Over) (c : goal.After-head_at-top-in-Gap g) (s : LinkStands (g.R.Rows.content c.args.rows.now) c.args.link) where
+  ahead : Ahead s.0 (g.R.Rows.content c.args.rows.now) c.in-Some.head.layer c.in-Gap.link (Finds c.args.key.now s.1)
+  ahead = in_gap c.args.key.now s.1 (inside (c.loop-top.invariant.reached s) c.in-Some.is) (ap g.R.Rows.content c.loop-top.invariant.same) (rw c.new-sought.ensures.key at c.seek.ensures.place) c.in-Gap.is
 
 pub loop-top-smaller : goal.loop-top-smaller
-loop-top-smaller g c =
-    let s = c.requires.stands in
-    let k = c.args.key.now in
-    let links = c.in-Some.head in
-    let content = g.R.Rows.content c.args.rows.now in
-    let now : content ≡ g.R.Rows.content c.loop-top.rows = sym (ap g.R.Rows.content c.loop-top.invariant.same) in
-    let P = λ (ps : List Pair). map_get ps k ≡ map_get s.1 k in
-    let d = inside s.0 content links c.loop-top.top P c.in-Some.is (c.loop-top.invariant.reached s.0 s.1 s.2) in
-    let at : place k d.chain ≡ Gap c.in-Gap.link = ap (λ (x : List ℕ). place x d.chain) (sym c.new-sought.ensures.key) ∙ sym (c.seek.ensures.place s.0 d.chain (subst (λ (x : Content). LiesBehind s.0 x links d.chain) now d.lies)) ∙ c.in-Gap.is in
-    let b = gap s.0 content k links.layer c.in-Gap.link d.chain d.lies.rows d.mst d.rise at in
-    let top = c.head_at-top-in-Gap.ensures.head s.0 b.ahead.placed (subst (λ (x : Content). Lies s.0 x c.in-Gap.link b.ahead.placed) (now ∙ sym (ap g.R.Rows.content c.seek.ensures.same)) b.ahead.lies) in
-    let old : depth c.loop-top.top ≡ links.layer + 1 = ap depth c.in-Some.is in
-    let new : depth c.head_at-top-in-Gap.result < links.layer + 1 = falls s.0 content links.layer b.ahead.placed c.head_at-top-in-Gap.result b.under top in
-    omega (arith, old, new)
+loop-top-smaller g c = omega (arith, depth_is c.in-Some.is, lower (ahead g c c.requires.stands) (ap g.R.Rows.content (c.seek.ensures.same ∙ c.loop-top.invariant.same)) c.head_at-top-in-Gap.ensures.head)
 
 pub loop-top-preserved : goal.loop-top-preserved
 loop-top-preserved g c = record {
   same = c.head_at-top-in-Gap.ensures.same ∙ c.seek.ensures.same ∙ c.loop-top.invariant.same;
-  reached = λ f m s.
-      let k = c.args.key.now in
-      let links = c.in-Some.head in
-      let content = g.R.Rows.content c.args.rows.now in
-      let now : content ≡ g.R.Rows.content c.loop-top.rows = sym (ap g.R.Rows.content c.loop-top.invariant.same) in
-      let P = λ (ps : List Pair). map_get ps k ≡ map_get m k in
-      let d = inside f content links c.loop-top.top P c.in-Some.is (c.loop-top.invariant.reached f m s) in
-      let at : place k d.chain ≡ Gap c.in-Gap.link = ap (λ (x : List ℕ). place x d.chain) (sym c.new-sought.ensures.key) ∙ sym (c.seek.ensures.place f d.chain (subst (λ (x : Content). LiesBehind f x links d.chain) now d.lies)) ∙ c.in-Gap.is in
-      let b = gap f content k links.layer c.in-Gap.link d.chain d.lies.rows d.mst d.rise at in
-      let top = c.head_at-top-in-Gap.ensures.head f b.ahead.placed (subst (λ (x : Content). Lies f x c.in-Gap.link b.ahead.placed) (now ∙ sym (ap g.R.Rows.content c.seek.ensures.same)) b.ahead.lies) in
-      reach f content c.in-Gap.link _ P (λ ps e. e ∙ d.holds) b.ahead c.head_at-top-in-Gap.result top;
+  reached = λ s. reach (ahead g c s) (ap g.R.Rows.content (c.seek.ensures.same ∙ c.loop-top.invariant.same)) c.head_at-top-in-Gap.ensures.head;
 }
 
 pub returns-clause-found : goal.returns-clause-found
-returns-clause-found g c f m s =
-    let k = c.args.key.now in
-    let P = λ (ps : List Pair). map_get ps k ≡ map_get m k in
-    at_nothing f (g.R.Rows.content c.args.rows.now) c.loop-top.top P c.in_default.is (c.loop-top.invariant.reached f m s)
+returns-clause-found g c f m s = at_nothing (c.loop-top.invariant.reached (f, m, s)) c.in_default.is

@@ -1,16 +1,15 @@
-use Rattle.std.proofs.Common.{◌≡◌, List}
-use Rattle.mst_key.specs.declared.format.Format.{Format}
-use Rattle.mst_key.specs.Map.{Pair, map_get}
-use Rattle.mst_read.specs.Search.{StandsBelow}
+use Rattle.std.proofs.Common.{◌≡◌}
+use Rattle.mst_read.specs.Search.{LinkStands}
 use Rattle.mst_read.proofs.Descend.{Reached, depth}
+use Rattle.mst_read.proofs.Look.{Finds}
 use Rattle.mst_read.proofs.lookup.get_below.Given as goal
 
 -- the key has in the tree under the search the value that it has in the map
 abbrev pub invariant-loop-top : goal.invariant-loop-top
 invariant-loop-top g l = record {
   same : l.rows ≡ l.fn.rows;
-  reached : (f : Format) (m : List Pair) → StandsBelow f (g.R.Rows.content l.fn.rows) l.link m
-      → Reached f (g.R.Rows.content l.fn.rows) l.top (λ ps. map_get ps l.key ≡ map_get m l.key);
+  reached : (s : LinkStands (g.R.Rows.content l.fn.rows) l.link)
+      → Reached s.0 (g.R.Rows.content l.fn.rows) l.top (Finds l.key s.1);
 }
 
 -- layers fall

@@ -1,27 +1,20 @@
-use Rattle.std.proofs.Common.{◌≡◌, ◌∙◌, sym, ap, subst}
-use Rattle.mst_arena.specs.Content.{Content}
-use Rattle.mst_read.specs.Search.{Lies, TreeLies, head_of, place, gap_placed}
-use Rattle.mst_read.specs.declared.lookup.Place.TheVariants.{Held, Gap}
+use Rattle.std.proofs.Common.{◌∙◌, sym, ap}
+use Rattle.mst_read.specs.Search.{head_of, gap_placed}
+use Rattle.mst_read.proofs.Still.{lies_still}
 use Rattle.mst_read.proofs.Trails.{gap_held, gap_lies}
 use Rattle.mst_read.proofs.proving.gap_met.Goals as goal
 
 pub head_at-requires : goal.head_at-requires
 head_at-requires g c =
     let s = c.requires.lies in
-    let k = c.args.key.now in
-    let at : place k s.1 ≡ Gap c.in-Gap.link = sym (c.seek.ensures.place s.0 s.1 s.2) ∙ c.in-Gap.is in
-    let lies = gap_lies s.0 (g.R.Rows.content c.args.rows.now) k c.in-Gap.link s.1 s.2.rows at in
-    record { lies = subst (λ (x : Content). TreeLies x c.in-Gap.link) (sym (ap g.R.Rows.content c.seek.ensures.same)) (s.0, gap_placed k s.1, lies) }
+    let lies = gap_lies s.0 (g.R.Rows.content c.args.rows.now) c.args.key.now c.in-Gap.link s.1 s.2.rows (sym (c.seek.ensures.place s.0 s.1 s.2) ∙ c.in-Gap.is) in
+    record { lies = (s.0, gap_placed c.args.key.now s.1, lies_still (ap g.R.Rows.content c.seek.ensures.same) lies) }
 
 pub returns-in-Held-clause-head : goal.returns-in-Held-clause-head
 returns-in-Held-clause-head g c f chain lies =
-    let k = c.args.key.now in
-    let at : place k chain ≡ Held c.in-Held._row = sym (c.seek.ensures.place f chain lies) ∙ c.in-Held.is in
-    sym (ap head_of (gap_held k c.in-Held._row chain at))
+    sym (ap head_of (gap_held c.args.key.now c.in-Held._row chain (sym (c.seek.ensures.place f chain lies) ∙ c.in-Held.is)))
 
 pub returns-in-Gap-clause-head : goal.returns-in-Gap-clause-head
-returns-in-Gap-clause-head g c f chain lies =
-    let k = c.args.key.now in
-    let at : place k chain ≡ Gap c.in-Gap.link = sym (c.seek.ensures.place f chain lies) ∙ c.in-Gap.is in
-    let here = gap_lies f (g.R.Rows.content c.args.rows.now) k c.in-Gap.link chain lies.rows at in
-    c.head_at.ensures.head f (gap_placed k chain) (subst (λ (x : Content). Lies f x c.in-Gap.link (gap_placed k chain)) (sym (ap g.R.Rows.content c.seek.ensures.same)) here)
+returns-in-Gap-clause-head g c f chain behind =
+    let here = gap_lies f (g.R.Rows.content c.args.rows.now) c.args.key.now c.in-Gap.link chain behind.rows (sym (c.seek.ensures.place f chain behind) ∙ c.in-Gap.is) in
+    c.head_at.ensures.head f (gap_placed c.args.key.now chain) (lies_still (ap g.R.Rows.content c.seek.ensures.same) here)

@@ -1,11 +1,11 @@
-use Rattle.std.proofs.Common.{◌≡◌, ◌≤◌, ◌+◌, ◌*◌, ◌++◌, length}
+use Rattle.std.proofs.Common.{◌≡◌, ◌≤◌, ◌+◌, ◌*◌, length}
 use Rattle.mst_key.specs.declared.format.Format.TheVariants.{One}
 use Rattle.mst_node.specs.Tree.{node}
 use Rattle.mst_node.specs.Text.{text}
 use Rattle.mst_arena.specs.Standing.{Chain, entries_of}
 use Rattle.mst_read.specs.Search.{LiesBehind}
 use Rattle.mst_read.proofs.Walk.{Onward}
-use Rattle.mst_read.proofs.NodeTexts.{rest_text}
+use Rattle.mst_read.proofs.NodeTexts.{Completes}
 use Rattle.mst_read.proofs.proving.node_text.Given as goal
 
 -- what is written, with the text of the rest, is the text of the whole node; each entry takes at
@@ -15,5 +15,5 @@ invariant-loop g l = record {
   same : l.rows ≡ l.initial.rows;
   short : length l.out.items ≤ 4 + 131 * l.counter;
   onward : (c : Chain) → LiesBehind One (g.R.Rows.content l.initial.rows) l.head c
-      → Onward One (g.R.Rows.content l.initial.rows) l.head.tail l.link l.counter l.end (λ rest. l.out.items ++ rest_text rest ≡ text (node One l.head.layer (entries_of One c)));
+      → Onward One (g.R.Rows.content l.initial.rows) l.head.tail l.link l.counter l.end (Completes l.out.items (text (node One l.head.layer (entries_of One c))));
 }
