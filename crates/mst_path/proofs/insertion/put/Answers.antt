@@ -1,4 +1,4 @@
-use Rattle.std.proofs.Common.{◌≡◌, ◌∙◌, ◌≤◌, List, ℕ, true≢false, sym, ap, subst, arith, rules}
+use Rattle.std.proofs.Common.{◌≡◌, ◌∙◌, ◌≤◌, List, ℕ, true, true≢false, sym, ap, subst, arith, rules}
 use Rattle.mst_key.specs.Map.{Pair, map_get}
 use Rattle.mst_key.specs.declared.format.Format.TheVariants.{One}
 use Rattle.mst_arena.specs.Content.{Content}
@@ -10,7 +10,7 @@ use Rattle.mst_path.specs.Changing.{AreOld}
 use Rattle.mst_path.proofs.lemmas.versions.Changes.{any_old, search_at, rises, says}
 use Rattle.mst_path.proofs.lemmas.versions.Inserted.{is_same, same_found, rising_at, few_new, cost_other, AfterPut, after_other, after_same}
 use Rattle.mst_path.proofs.insertion.put.Given.{Over}
-use Rattle.mst_path.proofs.insertion.put.Goals.{After-find-old, After-result-1, After-put_cost, After-put_at-new}
+use Rattle.mst_path.proofs.insertion.put.Goals.{After-find-old, After-put_cost, After-put_at-new}
 use Rattle.mst_path.proofs.insertion.put.Goals as goal
 
 pub find-old-requires : goal.find-old-requires
@@ -36,23 +36,23 @@ returns-clause-same_value g c m st same =
 
 -- ---- the key has this value
 
-module _ (g : Over) (c : goal.After-result-1 g) (had : (m : List Pair) → Stands One (g.R.Rows.content c.args.rows.now) c.args.root.now m → map_get m c.args.key.now ≡ c.find-old.result) where
+module _ (g : Over) (c : goal.After-find-old g) (same : is_same c.find-old.result c.args.value.now ≡ true) where
   nothing : AfterPut (g.R.Rows.content c.args.rows.now) (g.R.Rows.content c.find-old.new.rows) c.args.desk.now c.args.desk.now c.args.root.now c.args.root.now c.args.key.now c.args.value.now
   nothing =
       subst (λ (x : Content). AfterPut (g.R.Rows.content c.args.rows.now) x c.args.desk.now c.args.desk.now c.args.root.now c.args.root.now c.args.key.now c.args.value.now) (sym (ap g.R.Rows.content c.find-old.ensures.same))
-      (after_same (g.R.Rows.content c.args.rows.now) c.args.desk.now c.args.root.now c.args.key.now c.args.value.now c.within_limits.ensures.key c.within_limits.ensures.value c.requires.stands c.find-old.result had (sym c.is_same.ensures.same ∙ c.if-is_same.true))
+      (after_same (g.R.Rows.content c.args.rows.now) c.args.desk.now c.args.root.now c.args.key.now c.args.value.now c.within_limits.ensures.key c.within_limits.ensures.value c.requires.stands c.find-old.result (found g c) same)
 
 pub returns-then-is_same-clause-stands : goal.returns-then-is_same-clause-stands
-returns-then-is_same-clause-stands g c = (nothing g c (found g (goal.at.returns-then-is_same-clause-stands g c).After-find-old)).stands
+returns-then-is_same-clause-stands g c = (nothing g (goal.at.returns-then-is_same-clause-stands g c).After-find-old (sym c.is_same.ensures.same ∙ c.if-is_same.true)).stands
 
 pub returns-then-is_same-clause-cost : goal.returns-then-is_same-clause-cost
-returns-then-is_same-clause-cost g c = (nothing g c (found g (goal.at.returns-then-is_same-clause-cost g c).After-find-old)).counted
+returns-then-is_same-clause-cost g c = (nothing g (goal.at.returns-then-is_same-clause-cost g c).After-find-old (sym c.is_same.ensures.same ∙ c.if-is_same.true)).counted
 
 pub returns-then-is_same-clause-changes : goal.returns-then-is_same-clause-changes
-returns-then-is_same-clause-changes g c = (nothing g c (found g (goal.at.returns-then-is_same-clause-changes g c).After-find-old)).changes
+returns-then-is_same-clause-changes g c = (nothing g (goal.at.returns-then-is_same-clause-changes g c).After-find-old (sym c.is_same.ensures.same ∙ c.if-is_same.true)).changes
 
 pub returns-then-is_same-clause-made : goal.returns-then-is_same-clause-made
-returns-then-is_same-clause-made g c = (nothing g c (found g (goal.at.returns-then-is_same-clause-made g c).After-find-old)).made
+returns-then-is_same-clause-made g c = (nothing g (goal.at.returns-then-is_same-clause-made g c).After-find-old (sym c.is_same.ensures.same ∙ c.if-is_same.true)).made
 
 -- ---- the room
 

@@ -10,7 +10,7 @@ use Rattle.mst_path.specs.Changing.{AreOld}
 use Rattle.mst_path.proofs.lemmas.versions.Changes.{any_old, search_at, rises, says}
 use Rattle.mst_path.proofs.lemmas.versions.Removed.{few_new, cost_found, AfterRemove, after_found, after_none}
 use Rattle.mst_path.proofs.removal.remove.Given.{Over}
-use Rattle.mst_path.proofs.removal.remove.Goals.{After-find, After-result-1, After-remove_cost, After-remove_at-new}
+use Rattle.mst_path.proofs.removal.remove.Goals.{After-find, After-remove_cost, After-remove_at-new}
 use Rattle.mst_path.proofs.removal.remove.Goals as goal
 
 pub find-requires : goal.find-requires
@@ -36,23 +36,23 @@ returns-clause-absent g c m st none =
 
 -- ---- the key has no value
 
-module _ (g : Over) (c : goal.After-result-1 g) (had : (m : List Pair) → Stands One (g.R.Rows.content c.args.rows.now) c.args.root.now m → map_get m c.args.key.now ≡ c.find.result) where
+module _ (g : Over) (c : goal.After-find g) (none : c.find.result ≡ None) where
   nothing : AfterRemove (g.R.Rows.content c.args.rows.now) (g.R.Rows.content c.find.new.rows) c.args.desk.now c.args.desk.now c.args.root.now c.args.root.now c.args.key.now
   nothing =
       subst (λ (x : Content). AfterRemove (g.R.Rows.content c.args.rows.now) x c.args.desk.now c.args.desk.now c.args.root.now c.args.root.now c.args.key.now) (sym (ap g.R.Rows.content c.find.ensures.same))
-      (after_none (g.R.Rows.content c.args.rows.now) c.args.desk.now c.args.root.now c.args.key.now c.requires.stands (λ m st. had m st ∙ c.in_default.is))
+      (after_none (g.R.Rows.content c.args.rows.now) c.args.desk.now c.args.root.now c.args.key.now c.requires.stands (λ m st. found g c m st ∙ none))
 
 pub returns-in_default-clause-stands : goal.returns-in_default-clause-stands
-returns-in_default-clause-stands g c = (nothing g c (found g (goal.at.returns-in_default-clause-stands g c).After-find)).stands
+returns-in_default-clause-stands g c = (nothing g (goal.at.returns-in_default-clause-stands g c).After-find c.in_default.is).stands
 
 pub returns-in_default-clause-cost : goal.returns-in_default-clause-cost
-returns-in_default-clause-cost g c = (nothing g c (found g (goal.at.returns-in_default-clause-cost g c).After-find)).counted
+returns-in_default-clause-cost g c = (nothing g (goal.at.returns-in_default-clause-cost g c).After-find c.in_default.is).counted
 
 pub returns-in_default-clause-changes : goal.returns-in_default-clause-changes
-returns-in_default-clause-changes g c = (nothing g c (found g (goal.at.returns-in_default-clause-changes g c).After-find)).changes
+returns-in_default-clause-changes g c = (nothing g (goal.at.returns-in_default-clause-changes g c).After-find c.in_default.is).changes
 
 pub returns-in_default-clause-made : goal.returns-in_default-clause-made
-returns-in_default-clause-made g c = (nothing g c (found g (goal.at.returns-in_default-clause-made g c).After-find)).made
+returns-in_default-clause-made g c = (nothing g (goal.at.returns-in_default-clause-made g c).After-find c.in_default.is).made
 
 -- ---- the room
 
