@@ -1,9 +1,9 @@
 -- The frame of a gap stays while the tree in the gap is split, and is closed round a new entry.
-use Rattle.std.proofs.Common.{ℕ, ◌+◌, ◌<◌, ◌≤◌, List, length, refl, ◌∙◌, ap, arith, inl, inr}
+use Rattle.std.proofs.Common.{ℕ, ◌+◌, ◌<◌, ◌≤◌, List, refl, ◌∙◌, ap, arith, inl, inr}
 use Rattle.mst_key.specs.declared.format.Format.TheVariants.{One}
 use Rattle.mst_node.specs.Tree.{Tree}
 use Rattle.mst_arena.specs.Content.{Content}
-use Rattle.mst_arena.specs.Lives.{State, free_count}
+use Rattle.mst_arena.specs.Lives.{State}
 use Rattle.mst_arena.specs.Lists.{times}
 use Rattle.mst_arena.specs.declared.row.Root.{Root}
 use Rattle.mst_arena.specs.Standing.{Placed, tree_of, used}
