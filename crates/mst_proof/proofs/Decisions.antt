@@ -6,7 +6,7 @@ use Rattle.std.specs.List.{list_all, AllByRecursion}
 use Rattle.std.specs.Ordering.{is_lt, is_gt}
 use Rattle.std.specs.declared.cmp.Ordering.{Ordering}
 use Rattle.std.specs.declared.cmp.Ordering.TheVariants.{Less, Equal, Greater}
-use Rattle.std.proofs.lemmas.Bool.Decides.{Decides-and, Decides-eqb, Decides-ltb}
+use Rattle.std.proofs.lemmas.Bool.Decides.{Decides-and, Decides-eqb, Decides-ltb, same_from_decides}
 use Rattle.mst_key.specs.declared.format.Format.TheVariants.{One}
 use Rattle.mst_key.specs.Bytes.{IsBytes}
 use Rattle.mst_key.specs.Layer.{layer_in}
@@ -90,3 +90,6 @@ inside-Decides span k =
 
 pub within-Decides : (span : Span) (n : FlatNode) → Decides (list_all (λ e. is_inside span e.key) n.entries) (LiesWithin span n)
 within-Decides span n = all-Decides (λ (e : FlatEntry). is_inside span e.key) (λ (e : FlatEntry). IsBetween span.low span.high e.key) (λ e. inside-Decides span e.key) n.entries
+
+pub keys_inside : (span : Span) (n : FlatNode) (r : Bool) → Decides r (LiesWithin span n) → list_all (λ e. is_inside span e.key) n.entries ≡ r
+keys_inside span n r = same_from_decides (list_all (λ e. is_inside span e.key) n.entries) r (within-Decides span n)

@@ -1,5 +1,4 @@
-use Rattle.std.proofs.Common.{rules}
-use Rattle.std.proofs.Common.{◌≡◌, ◌∙◌, sym, ap, subst, arith, length}
+use Rattle.std.proofs.Common.{◌≡◌, ◌∙◌, sym, ap, subst, arith, length, rules}
 use Rattle.std.specs.Option.{option_copied}
 use Rattle.std.proofs.lemmas.Bool.Decides.{nat_tests}
 use Rattle.mst_key.specs.declared.format.Format.TheVariants.{One}
@@ -9,56 +8,63 @@ use Rattle.mst_node.specs.Tree.{Tree, nodes}
 use Rattle.std.specs.List.{Contains}
 use Rattle.mst_proof.specs.Beside.{top_of, IsSmall}
 use Rattle.mst_proof.proofs.Walks.{small_of_map, has_itself, none_of_empty, some_of_empty, none_of_no_text, some_of_no_text, none_of_walk, some_of_walk}
+use Rattle.mst_proof.proofs.collision.collide.Given.{Over}
+use Rattle.mst_proof.proofs.collision.collide.Goals.{After-pair_of-then-is_empty, Else-is_empty}
 use Rattle.mst_proof.proofs.collision.collide.Goals as goal
+
+-- ---- there is no tree
 
 pub returns-in-Some-next-clause-none : goal.returns-in-Some-next-clause-none
 returns-in-Some-next-clause-none g c =
-    let t = top_of (option_copied c.args.tree) in
-    none_of_empty c.pair_of.result c.args.key.now c.args.proof.now c.in-Some-next.found.now c.new.result.items c.in-Ok.texts t c.in-Ok.ensures.frame c.next.new.self (ap (λ o. top_of (option_copied o)) c.in_default-tree.is) c.in-Some-next.ensures.next c.in-Some-next.ensures.bytes c.new.ensures.items c.pair_of.ensures.none
+    none_of_empty c.pair_of.result c.args.key.now c.args.proof.now c.in-Some-next.found.now c.new.result.items c.in-Ok.texts (top_of (option_copied c.args.tree)) c.in-Ok.ensures.frame c.next.new.self (ap (λ o. top_of (option_copied o)) c.in_default-tree.is) c.in-Some-next.ensures.next c.in-Some-next.ensures.bytes c.new.ensures.items c.pair_of.ensures.none
 
 pub returns-in-Some-next-clause-some : goal.returns-in-Some-next-clause-some
 returns-in-Some-next-clause-some g c =
-    let t = top_of (option_copied c.args.tree) in
-    some_of_empty c.pair_of.result c.args.key.now c.args.proof.now c.in-Some-next.found.now c.new.result.items c.in-Ok.texts t c.in-Ok.ensures.frame c.next.new.self c.in-Some-next.ensures.next c.new.ensures.items c.pair_of.ensures.some
+    some_of_empty c.pair_of.result c.args.key.now c.args.proof.now c.in-Some-next.found.now c.new.result.items c.in-Ok.texts (top_of (option_copied c.args.tree)) c.in-Ok.ensures.frame c.next.new.self c.in-Some-next.ensures.next c.new.ensures.items c.pair_of.ensures.some
+
+-- ---- there is no text
 
 pub text-requires : goal.text-requires
 text-requires g c =
-    let t = top_of (option_copied c.args.tree) in
-    let is : t ≡ tree_of One c.in-Some.node.now = ap (λ o. top_of (option_copied o)) c.in-Some.is in
-    let small = subst IsSmall is (small_of_map t c.requires.map) in
+    let is : top_of (option_copied c.args.tree) ≡ tree_of One c.in-Some.node.now = ap (λ o. top_of (option_copied o)) c.in-Some.is in
+    let small = subst IsSmall is (small_of_map _ c.requires.map) in
     record { few = small.few }
+
+module _ (g : Over) (c : goal.After-pair_of-then-is_empty g) where
+  top_is : top_of (option_copied c.args.tree) ≡ tree_of One c.in-Some.node.now
+  top_is = ap (λ o. top_of (option_copied o)) c.in-Some.is
+
+  text_is : c.in_ok-text.field-0.items ≡ text (top_of (option_copied c.args.tree))
+  text_is = c.in_ok-text.ensures.text ∙ ap text (sym top_is)
 
 pub returns-then-is_empty-clause-none : goal.returns-then-is_empty-clause-none
 returns-then-is_empty-clause-none g c =
-    let t = top_of (option_copied c.args.tree) in
-    let is : t ≡ tree_of One c.in-Some.node.now = ap (λ o. top_of (option_copied o)) c.in-Some.is in
     let none : length c.in-Ok.texts ≡ 0 = grind (arith, nat_tests, c.if-is_empty.ensures.empty) in
-    none_of_no_text c.pair_of-then-is_empty.result c.args.key.now c.args.proof.now c.as_slice.result.now c.in_ok-text.field-0.items c.in-Ok.texts t c.in-Ok.ensures.frame none c.as_slice.ensures (c.in_ok-text.ensures.text ∙ ap text (sym is)) c.pair_of-then-is_empty.ensures.none
+    none_of_no_text c.pair_of-then-is_empty.result c.args.key.now c.args.proof.now c.as_slice.result.now c.in_ok-text.field-0.items c.in-Ok.texts (top_of (option_copied c.args.tree)) c.in-Ok.ensures.frame none c.as_slice.ensures (text_is g c) c.pair_of-then-is_empty.ensures.none
 
 pub returns-then-is_empty-clause-some : goal.returns-then-is_empty-clause-some
 returns-then-is_empty-clause-some g c =
-    let t = top_of (option_copied c.args.tree) in
-    let is : t ≡ tree_of One c.in-Some.node.now = ap (λ o. top_of (option_copied o)) c.in-Some.is in
-    let itself : Contains (nodes t) t = subst (λ (x : Tree). Contains (nodes x) x) (sym is) (has_itself g.row.A.Denot c.in-Some.node.now) in
-    some_of_no_text c.pair_of-then-is_empty.result c.args.key.now c.args.proof.now c.as_slice.result.now c.in_ok-text.field-0.items c.in-Ok.texts t c.in-Ok.ensures.frame c.as_slice.ensures (c.in_ok-text.ensures.text ∙ ap text (sym is)) itself c.pair_of-then-is_empty.ensures.some
+    let itself = subst (λ (x : Tree). Contains (nodes x) x) (sym (top_is g c)) (has_itself g.row.A.Denot c.in-Some.node.now) in
+    some_of_no_text c.pair_of-then-is_empty.result c.args.key.now c.args.proof.now c.as_slice.result.now c.in_ok-text.field-0.items c.in-Ok.texts (top_of (option_copied c.args.tree)) c.in-Ok.ensures.frame c.as_slice.ensures (text_is g c) itself c.pair_of-then-is_empty.ensures.some
+
+-- ---- the texts are walked beside the tree
+
+module _ (g : Over) (c : goal.Else-is_empty g) where
+  tree_is : top_of (option_copied c.args.tree) ≡ tree_of One c.in-Some.node.now
+  tree_is = ap (λ o. top_of (option_copied o)) c.in-Some.is
 
 pub walk-requires : goal.walk-requires
-walk-requires g c =
-    let t = top_of (option_copied c.args.tree) in
-    let is : t ≡ tree_of One c.in-Some.node.now = ap (λ o. top_of (option_copied o)) c.in-Some.is in
-    record { small = subst IsSmall is (small_of_map t c.requires.map) }
+walk-requires g c = record { small = subst IsSmall (tree_is g c) (small_of_map (top_of (option_copied c.args.tree)) c.requires.map) }
 
 pub returns-clause-none : goal.returns-clause-none
 returns-clause-none g c =
-    let t = top_of (option_copied c.args.tree) in
-    let is : t ≡ tree_of One c.in-Some.node.now = ap (λ o. top_of (option_copied o)) c.in-Some.is in
-    none_of_walk c.walk.result c.args.key.now c.args.proof.now c.in-Ok.texts t (tree_of One c.in-Some.node.now) c.in-Ok.ensures.frame is (λ z. grind (arith, nat_tests, c.if-is_empty.ensures.empty, z)) c.walk.ensures.none
+    none_of_walk c.walk.result c.args.key.now c.args.proof.now c.in-Ok.texts (top_of (option_copied c.args.tree)) (tree_of One c.in-Some.node.now) c.in-Ok.ensures.frame (tree_is g (goal.at.returns-clause-none g c).Else-is_empty) (λ z. grind (arith, nat_tests, c.if-is_empty.ensures.empty, z)) c.walk.ensures.none
 
 pub returns-clause-some : goal.returns-clause-some
 returns-clause-some g c =
-    let t = top_of (option_copied c.args.tree) in
-    let is : t ≡ tree_of One c.in-Some.node.now = ap (λ o. top_of (option_copied o)) c.in-Some.is in
-    some_of_walk c.walk.result c.args.key.now c.args.proof.now c.in-Ok.texts t (tree_of One c.in-Some.node.now) c.in-Ok.ensures.frame is c.walk.ensures.some
+    some_of_walk c.walk.result c.args.key.now c.args.proof.now c.in-Ok.texts (top_of (option_copied c.args.tree)) (tree_of One c.in-Some.node.now) c.in-Ok.ensures.frame (tree_is g (goal.at.returns-clause-some g c).Else-is_empty) c.walk.ensures.some
+
+-- ---- the other clauses
 
 pub returns-in_default-clause-none : goal.returns-in_default-clause-none
 returns-in_default-clause-none g c = search rules
