@@ -1,5 +1,5 @@
 -- The way to a key from a row that a pass may read, by the row's words.
-use Rattle.std.proofs.Common.{◌≡◌, ℕ, ◌≤◌, List, Bool, true, false, refl, Some, None, if◌then◌else◌}
+use Rattle.std.proofs.Common.{◌≡◌, ℕ, ◌≤◌, List, Bool, true, false, Ordering, Less, Equal, Greater, refl, sym, ◌∙◌, ap, Some, None, if◌then◌else◌}
 use Rattle.std.specs.Prelude.{option_and_then, IsSome}
 use Rattle.mst_key.specs.Bytes.{IsKey, IsBytes}
 use Rattle.mst_node.specs.Trail.{by_order}
@@ -26,3 +26,17 @@ way_of_row k v x size all some = go (may_read v x) refl some
     go : (b : Bool) → may_read v x ≡ b → IsSome (option_and_then entry_links (if b then rows_in (row v.known_words) x else None)) → WayAt k v x
     go true e some = let w = way_in_words k _ size all some in record { readable = e; child = w.child; next = w.next; way = rw e w.way }
     go false e some = cc
+
+-- the way, where the order by words and the link are known
+module _ {k : List ℕ} {v : View} {x : ℕ} (w : WayAt k v x) {o : Ordering} (order : o ≡ words_order k (row v.known_words x)) where
+  by_words : part_at (entry_way k) (content_of v) x ≡ Some (by_order o (Child (row v.known_words x 1)) Here (Next (row v.known_words x 2)))
+  by_words = w.way ∙ ap (λ (r : Ordering). Some (by_order r (Child (row v.known_words x 1)) Here (Next (row v.known_words x 2)))) (sym order)
+
+  pub way_to_child : {n : ℕ} → o ≡ Less → n ≡ row v.known_words x 1 → part_at (entry_way k) (content_of v) x ≡ Some (Child n)
+  way_to_child is word = by_words ∙ ap (λ (r : Ordering). Some (by_order r (Child (row v.known_words x 1)) Here (Next (row v.known_words x 2)))) is ∙ ap (λ (l : ℕ). Some (Child l)) (sym word)
+
+  pub way_here : o ≡ Equal → part_at (entry_way k) (content_of v) x ≡ Some Here
+  way_here is = by_words ∙ ap (λ (r : Ordering). Some (by_order r (Child (row v.known_words x 1)) Here (Next (row v.known_words x 2)))) is
+
+  pub way_to_next : {n : ℕ} → o ≡ Greater → n ≡ row v.known_words x 2 → part_at (entry_way k) (content_of v) x ≡ Some (Next n)
+  way_to_next is word = by_words ∙ ap (λ (r : Ordering). Some (by_order r (Child (row v.known_words x 1)) Here (Next (row v.known_words x 2)))) is ∙ ap (λ (l : ℕ). Some (Next l)) (sym word)
