@@ -84,3 +84,27 @@ returns-in-Err-clause-ends g c = search rules
 
 pub returns-in-Err-clause-shape : goal.returns-in-Err-clause-shape
 returns-in-Err-clause-shape g c = search rules
+
+pub returns-then-not-is_load_size-clause-stopped : goal.returns-then-not-is_load_size-clause-stopped
+returns-then-not-is_load_size-clause-stopped g c = search rules
+
+pub load-requires-clause-readers : goal.load-requires-clause-readers
+load-requires-clause-readers g c = search rules
+
+pub load-requires-clause-writers : goal.load-requires-clause-writers
+load-requires-clause-writers g c = search rules
+
+pub load-requires-clause-calls : goal.load-requires-clause-calls
+load-requires-clause-calls g c = search rules
+
+pub returns-in_default-clause-stopped : goal.returns-in_default-clause-stopped
+returns-in_default-clause-stopped g c = search rules
+
+pub write_all-requires : goal.write_all-requires
+write_all-requires g c = search rules
+
+pub returns-in-Ok-write_all-clause-stopped : goal.returns-in-Ok-write_all-clause-stopped
+returns-in-Ok-write_all-clause-stopped g c = search rules
+
+pub returns-in-Err-clause-stopped : goal.returns-in-Err-clause-stopped
+returns-in-Err-clause-stopped g c = search rules

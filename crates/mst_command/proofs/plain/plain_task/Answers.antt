@@ -1,3 +1,4 @@
+use Rattle.std.proofs.Common.{rules}
 use Rattle.mst_command.proofs.PlainWords.{run_asked, other_plain}
 use Rattle.std.proofs.Common.{◌∙◌, sym}
 use Rattle.std.proofs.lemmas.Option.{none-some}
@@ -8,3 +9,9 @@ returns-in-Some-clause-asked c = run_asked c.args.words.now c.in-Some.shape c.pl
 
 pub returns-in-None-clause-plain : goal.returns-in-None-clause-plain
 returns-in-None-clause-plain c = other_plain c.args.words.now c.plain_other.result (λ shape of. none-some shape (sym c.in-None.is ∙ c.plain_run.ensures.only shape of)) c.plain_other.ensures.plain
+
+pub returns-in-Some-clause-plain : goal.returns-in-Some-clause-plain
+returns-in-Some-clause-plain c = search rules
+
+pub returns-in-None-clause-asked : goal.returns-in-None-clause-asked
+returns-in-None-clause-asked c = search rules

@@ -1,3 +1,4 @@
+use Rattle.std.proofs.Common.{rules}
 use Rattle.std.proofs.Common.{◌∙◌, sym}
 use Rattle.std.proofs.lemmas.Option.{none-some}
 use Rattle.mst_command.proofs.PlainWords.{found}
@@ -12,3 +13,12 @@ returns-in_err-passes-clause-only c = λ shape is. absurd (none-some shape.passe
 pub returns-clause-only : goal.returns-clause-only
 returns-clause-only c = λ shape is. found c.number.result c.number-2.result c.in_ok-rows.rows c.in_ok-passes.passes shape c.in_ok-rows.was c.in_ok-passes.was
     (c.number.ensures.only shape.rows is.rows_fit is.rows) (c.number-2.ensures.only shape.passes is.passes_fit is.passes)
+
+pub returns-in_err-rows-clause-some : goal.returns-in_err-rows-clause-some
+returns-in_err-rows-clause-some c = search rules
+
+pub returns-in_err-passes-clause-some : goal.returns-in_err-passes-clause-some
+returns-in_err-passes-clause-some c = search rules
+
+pub returns-clause-some : goal.returns-clause-some
+returns-clause-some c = search rules

@@ -154,3 +154,42 @@ returns-in-Help-clause-unwritten g c = search rules
 
 pub returns-in-Help-clause-ends : goal.returns-in-Help-clause-ends
 returns-in-Help-clause-ends g c = search rules
+
+pub returns-in-Run-clause-stopped : goal.returns-in-Run-clause-stopped
+returns-in-Run-clause-stopped g c = search rules
+
+pub returns-in-Verify-clause-stopped : goal.returns-in-Verify-clause-stopped
+returns-in-Verify-clause-stopped g c = search rules
+
+pub returns-in-Replay-clause-stopped : goal.returns-in-Replay-clause-stopped
+returns-in-Replay-clause-stopped g c = search rules
+
+pub returns-in-Load-clause-did : goal.returns-in-Load-clause-did
+returns-in-Load-clause-did g c = search rules
+
+pub returns-in-Load-clause-steady : goal.returns-in-Load-clause-steady
+returns-in-Load-clause-steady g c = search rules
+
+pub returns-in-Load-clause-device : goal.returns-in-Load-clause-device
+returns-in-Load-clause-device g c = search rules
+
+pub returns-in-Load-clause-unread : goal.returns-in-Load-clause-unread
+returns-in-Load-clause-unread g c = search rules
+
+pub returns-in-Load-clause-untouched : goal.returns-in-Load-clause-untouched
+returns-in-Load-clause-untouched g c = search rules
+
+pub returns-in-Load-clause-unwritten : goal.returns-in-Load-clause-unwritten
+returns-in-Load-clause-unwritten g c = search rules
+
+pub returns-in-Load-clause-shape : goal.returns-in-Load-clause-shape
+returns-in-Load-clause-shape g c = search rules
+
+pub returns-in-Load-clause-ends : goal.returns-in-Load-clause-ends
+returns-in-Load-clause-ends g c = search rules
+
+pub returns-in-Load-clause-stopped : goal.returns-in-Load-clause-stopped
+returns-in-Load-clause-stopped g c = search rules
+
+pub returns-in-Help-clause-stopped : goal.returns-in-Help-clause-stopped
+returns-in-Help-clause-stopped g c = search rules

@@ -183,3 +183,18 @@ pub returns-in-Err-Device-clause-stopped : goal.returns-in-Err-Device-clause-sto
 returns-in-Err-Device-clause-stopped g c = λ is.
     fresh_stop g.S.Source.gives g.W.Sink.takes g.W.Sink.failures c.args.shape c.in-Ok.opened.0 c.args.source.now c.run.new.source c.args.out.now c.run.new.sink c.in-Ok-deal.passes.items c.run.new.passes.items
     c.in-Ok.ensures.store c.in-Ok-deal.ensures.ok (c.run.ensures.stopped (search rules))
+
+pub returns-in-Err-Shape-clause-stopped : goal.returns-in-Err-Shape-clause-stopped
+returns-in-Err-Shape-clause-stopped g c = search rules
+
+pub returns-in-Err-Memory-clause-stopped : goal.returns-in-Err-Memory-clause-stopped
+returns-in-Err-Memory-clause-stopped g c = search rules
+
+pub returns-in_default-clause-stopped : goal.returns-in_default-clause-stopped
+returns-in_default-clause-stopped g c = search rules
+
+pub returns-in-Ok-run-clause-stopped : goal.returns-in-Ok-run-clause-stopped
+returns-in-Ok-run-clause-stopped g c = search rules
+
+pub returns-clause-stopped : goal.returns-clause-stopped
+returns-clause-stopped g c = search rules
