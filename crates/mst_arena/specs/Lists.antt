@@ -52,7 +52,8 @@ AllOlder live lives rows = (r : ℕ) (x : Life) → slice_get lives r ≡ Some x
 
 -- what a desk keeps: the free rows; each dead row in one of two lists; and in the second of these
 -- only rows that a version reaches which the last sweep remembered
-pub record IsDesk (current : ℕ) (versions : List ℕ) (lives : List Life) (free : List Bool) (dead held last : List ℕ) (dead_cap held_cap : ℕ) : Type 0 where
+pub record IsDesk (current : ℕ) (versions : List ℕ) (lives : List Life) (free : List Bool)
+    (dead held last : List ℕ) (dead_cap held_cap : ℕ) : Type 0 where
   pub there : current < length versions
   pub small : slice_index versions current < 2 ^ 63
   pub few : length lives ≤ 65535

@@ -31,7 +31,8 @@ abbrev mutual
 
   pub entries_of : Format → Chain → tree.Entries
   entries_of format (end child) = tree.last (tree_of format child)
-  entries_of format (cell at child key value rest) = tree.entry (tree_of format child) key value (entries_of format rest)
+  entries_of format (cell at child key value rest) =
+      tree.entry (tree_of format child) key value (entries_of format rest)
 
 -- the link of a tree, of the first entry of a chain, and of the tree in its last gap
 abbrev pub link_of : Placed → ℕ
@@ -64,7 +65,8 @@ abbrev mutual
   pub chain_rows : Format → Chain → List (ℕ × Row)
   chain_rows format (end child) = rows_of format child
   chain_rows format (cell at child key value rest) =
-      (at, Entry (link_of child) (first_of rest) key value) ∷ rows_of format child ++ chain_rows format rest
+      (at, Entry (link_of child) (first_of rest) key value)
+      ∷ rows_of format child ++ chain_rows format rest
 
 -- their numbers
 abbrev mutual
@@ -101,5 +103,6 @@ pub record Stands (format : Format) (content : Content) (at : Root) (m : List Pa
   pub tree : StandsAt format content at.link (tree.tree format m)
 
 -- the numbers of the rows that stand
-abbrev pub numbers : {format : Format} {content : Content} {at : Root} {m : List Pair} → Stands format content at m → List ℕ
+abbrev pub numbers : {format : Format} {content : Content} {at : Root} {m : List Pair}
+    → Stands format content at m → List ℕ
 numbers s = used s.tree.placed

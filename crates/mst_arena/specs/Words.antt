@@ -9,8 +9,10 @@ use Rattle.mst_arena.specs.declared.row.Row.TheVariants.{Entry, Head}
 -- eight bytes from an index on; a byte past the end is 0
 abbrev pub eight_from : List ℕ → ℕ → List ℕ
 eight_from bytes i =
-    slice_index bytes i ∷ slice_index bytes (i + 1) ∷ slice_index bytes (i + 2) ∷ slice_index bytes (i + 3)
-    ∷ slice_index bytes (i + 4) ∷ slice_index bytes (i + 5) ∷ slice_index bytes (i + 6) ∷ slice_index bytes (i + 7) ∷ []
+    slice_index bytes i ∷ slice_index bytes (i + 1)
+    ∷ slice_index bytes (i + 2) ∷ slice_index bytes (i + 3)
+    ∷ slice_index bytes (i + 4) ∷ slice_index bytes (i + 5)
+    ∷ slice_index bytes (i + 6) ∷ slice_index bytes (i + 7) ∷ []
 
 -- the word of these eight bytes, the first of them highest
 unfoldable pub word_from : List ℕ → ℕ → ℕ
@@ -63,9 +65,11 @@ candidate words = if slice_index words 0 == 1 then entry_in words else head_in w
 -- of a digest
 abbrev pub has_limits : Row → Bool
 has_limits (Entry child next key value) =
-    nat_le child 65535 && nat_le next 65535 && nat_lt 0 (length key) && nat_le (length key) 32 && nat_le (length value) 64
+    nat_le child 65535 && nat_le next 65535
+    && nat_lt 0 (length key) && nat_le (length key) 32 && nat_le (length value) 64
 has_limits (Head layer count first tail digest) =
-    nat_le layer 64 && nat_lt 0 count && nat_le count 65534 && nat_lt 0 first && nat_le first 65535 && nat_le tail 65535 && length digest == 32
+    nat_le layer 64 && nat_lt 0 count && nat_le count 65534
+    && nat_lt 0 first && nat_le first 65535 && nat_le tail 65535 && length digest == 32
 
 -- the row that sixteen words spell: the only one that they may be of, where it is within its limits
 -- and has exactly these words

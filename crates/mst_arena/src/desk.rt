@@ -50,9 +50,14 @@ impl<A: Allocator> Model for Desk<A> {
 
     ghost Value = { State };
 
-    ghost view = { λ d. record { current = d.current; versions = d.versions.items; lives = d.lives.items } };
+    ghost view = { λ d. record {
+      current = d.current;
+      versions = d.versions.items;
+      lives = d.lives.items;
+    } };
 
-    ghost invariant = { λ d. IsDesk d.current d.versions.items d.lives.items d.free d.dead.items d.held.items d.live.items (vec_capacity d.dead) (vec_capacity d.held) };
+    ghost invariant = { λ d. IsDesk d.current d.versions.items d.lives.items d.free
+        d.dead.items d.held.items d.live.items (vec_capacity d.dead) (vec_capacity d.held) };
 }
 
 /// So many copies of a value.

@@ -6,14 +6,14 @@
 //! the rows. [`Desk`] knows which rows are free, and which versions reach the others.
 //!
 //! ```
-//! let mut desk = Desk::new(alloc, 16, 3, 0)?;     // 16 rows, 3 records, of which record 0 holds version 0
-//! let Some(row) = desk.take() else { .. };        // born with version 1
-//! desk.advance(1);                                // version 1 is the current one, in record 1
-//! desk.kill(row);                                 // dies with version 2
+//! let mut desk = Desk::new(alloc, 16, 3, 0)?;  // 16 rows, 3 records; record 0 holds version 0
+//! let Some(row) = desk.take() else { .. };     // born with version 1
+//! desk.advance(1);                             // version 1 is the current one, in record 1
+//! desk.kill(row);                              // dies with version 2
 //! desk.advance(2);
-//! desk.sweep(&[1, 2]);                            // version 1 is live and reaches the row: it stays
+//! desk.sweep(&[1, 2]);                         // version 1 is live and reaches the row: it stays
 //! desk.sweep(&[2]);
-//! desk.free()                                     // 16
+//! desk.free()                                  // 16
 //! ```
 //!
 //! `specs/` defines what the contracts speak of; `words_laws`, `life_laws` and `standing_laws`

@@ -27,7 +27,8 @@ impl Model for Sought {
     ghost view = { λ s. s.key };
 
     ghost invariant = { λ s. IsKey s.key × IsBytes s.key
-        × (s.words ≡ word_from s.key 0 ∷ word_from s.key 8 ∷ word_from s.key 16 ∷ word_from s.key 24 ∷ []) };
+        × (s.words ≡ word_from s.key 0 ∷ word_from s.key 8
+        ∷ word_from s.key 16 ∷ word_from s.key 24 ∷ []) };
 }
 
 /// Where a search goes on from an entry.

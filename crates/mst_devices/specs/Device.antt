@@ -2,29 +2,37 @@
 use Rattle.std.specs.Prelude.{◌≡◌, ℕ, ◌+◌, ◌<◌, ◌≤◌, Bool, true, false, if◌then◌else◌, List, [], ◌++◌, length, take, Option}
 use Rattle.std.specs.Io.KnownBytes.{Consumes, IsAtEnd}
 
+-- which bytes a source gave, or a sink took, from the one state to the other
+abbrev pub Flow : Type 0 → Type 1
+Flow S = S → List ℕ → S → Type 0
+
 -- n bytes at the front of the buffer were given; none only at the end
-pub record Gave {S : Type 0} (gives : S → List ℕ → S → Type 0) (left : S → ℕ) (s : S) (buffer : List ℕ) (n : ℕ) (t : S) : Type 0 where
+pub record Gave {S : Type 0} (gives : Flow S) (left : S → ℕ)
+    (s : S) (buffer : List ℕ) (n : ℕ) (t : S) : Type 0 where
   pub within : n ≤ length buffer
   pub given : gives s (take n buffer) t
   pub fewer : n + left t ≤ left s
   pub end : n ≡ 0 → left t ≡ 0
 
 -- the first n bytes were taken, at least one
-pub record Took {S : Type 0} (takes : S → List ℕ → S → Type 0) (s : S) (bytes : List ℕ) (n : ℕ) (t : S) : Type 0 where
+pub record Took {S : Type 0} (takes : Flow S)
+    (s : S) (bytes : List ℕ) (n : ℕ) (t : S) : Type 0 where
   pub some : 0 < n
   pub within : n ≤ length bytes
   pub taken : takes s (take n bytes) t
 
 -- Where p waited before the sink, the text was put behind it: the sink took a front of both, and q
 -- waits now.
-pub record Puts {S : Type 0} (takes : S → List ℕ → S → Type 0) (s : S) (p text : List ℕ) (t : S) (q : List ℕ) : Type 0 where
+pub record Puts {S : Type 0} (takes : Flow S)
+    (s : S) (p text : List ℕ) (t : S) (q : List ℕ) : Type 0 where
   pub taken : List ℕ
   pub takes_them : takes s taken t
   pub rest : p ++ text ≡ taken ++ q
 
 -- Where p waited before the sink, the sink failed: it took a beginning of what waited and of the
 -- text.
-pub record Breaks {S : Type 0} (takes : S → List ℕ → S → Type 0) (s : S) (p text : List ℕ) (t : S) : Type 0 where
+pub record Breaks {S : Type 0} (takes : Flow S)
+    (s : S) (p text : List ℕ) (t : S) : Type 0 where
   pub taken : List ℕ
   pub takes_them : takes s taken t
   pub lost : List ℕ

@@ -55,7 +55,8 @@ pub trait Source {
 
     ghost gives_none: { (s : Self) → gives s [] s };
 
-    ghost gives_more: { (s t u : Self) (xs ys : List ℕ) → gives s xs t → gives t ys u → gives s (xs ++ ys) u };
+    ghost gives_more: { (s t u : Self) (xs ys : List ℕ)
+        → gives s xs t → gives t ys u → gives s (xs ++ ys) u };
 
     // What it gives is of what it had left.
     ghost gives_within: { (s t : Self) (xs : List ℕ) → gives s xs t → length xs + left t ≤ left s };
@@ -81,5 +82,6 @@ pub trait Sink {
 
     ghost takes_none: { (s : Self) → takes s [] s };
 
-    ghost takes_more: { (s t u : Self) (xs ys : List ℕ) → takes s xs t → takes t ys u → takes s (xs ++ ys) u };
+    ghost takes_more: { (s t u : Self) (xs ys : List ℕ)
+        → takes s xs t → takes t ys u → takes s (xs ++ ys) u };
 }

@@ -24,7 +24,12 @@ impl<R: Read> Model for StdSource<R> {
 
     ghost Value = { Counted };
 
-    ghost view = { λ s. record { left = s.left; has_ended = s.has_ended; failures = s.failures; known = R.remaining s.input } };
+    ghost view = { λ s. record {
+      left = s.left;
+      has_ended = s.has_ended;
+      failures = s.failures;
+      known = R.remaining s.input;
+    } };
 }
 
 impl<R: Read> StdSource<R> {

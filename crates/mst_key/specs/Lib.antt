@@ -2,3 +2,4 @@ pub mod Bytes
 pub mod Map
 pub mod History
 pub mod Layer
+pub mod Digits

@@ -1,11 +1,13 @@
 -- How a line is cut from what was read, while what waits before a sink is put.
 use Rattle.std.specs.Prelude.{◌≡◌, ℕ, List, [], ◌∷◌, ◌++◌, Option}
-use Rattle.mst_devices.specs.Device.{Puts, Breaks}
+use Rattle.mst_devices.specs.Device.{Flow, Puts, Breaks}
 use Rattle.mst_lines.specs.Lines.{IsWithout, kept}
 
 -- Of the bytes that were left, and those that the source gave, the first line is kept up to its
 -- newline, and the others are left.
-pub record Cuts {S W : Type 0} (gives : S → List ℕ → S → Type 0) (takes : W → List ℕ → W → Type 0) (left : List ℕ) (s : S) (w : W) (p : List ℕ) (k : Option (List ℕ)) (others : List ℕ) (t : S) (x : W) (q : List ℕ) : Type 0 where
+pub record Cuts {S W : Type 0} (gives : Flow S) (takes : Flow W)
+    (left : List ℕ) (s : S) (w : W) (p : List ℕ)
+    (k : Option (List ℕ)) (others : List ℕ) (t : S) (x : W) (q : List ℕ) : Type 0 where
   pub input : List ℕ
   pub given : gives s input t
   pub line : List ℕ
@@ -16,7 +18,9 @@ pub record Cuts {S W : Type 0} (gives : S → List ℕ → S → Type 0) (takes 
 
 -- The source ended. The bytes that were left, and those that it gave, have no newline, and are
 -- kept; all that waited was taken.
-pub record Ends {S W : Type 0} (gives : S → List ℕ → S → Type 0) (takes : W → List ℕ → W → Type 0) (left : List ℕ) (s : S) (w : W) (p : List ℕ) (k : Option (List ℕ)) (t : S) (x : W) : Type 0 where
+pub record Ends {S W : Type 0} (gives : Flow S) (takes : Flow W)
+    (left : List ℕ) (s : S) (w : W) (p : List ℕ)
+    (k : Option (List ℕ)) (t : S) (x : W) : Type 0 where
   pub input : List ℕ
   pub given : gives s input t
   pub without : IsWithout 10 (left ++ input)
@@ -25,7 +29,8 @@ pub record Ends {S W : Type 0} (gives : S → List ℕ → S → Type 0) (takes 
 
 -- A device failed. The bytes that were left, and those that the source gave, have no newline; where
 -- the sink did not fail, all that waited was taken.
-pub record Fails {S W : Type 0} (gives : S → List ℕ → S → Type 0) (takes : W → List ℕ → W → Type 0) (failures : W → ℕ) (left : List ℕ) (s : S) (w : W) (p : List ℕ) (t : S) (x : W) : Type 0 where
+pub record Fails {S W : Type 0} (gives : Flow S) (takes : Flow W) (failures : W → ℕ)
+    (left : List ℕ) (s : S) (w : W) (p : List ℕ) (t : S) (x : W) : Type 0 where
   pub input : List ℕ
   pub given : gives s input t
   pub without : IsWithout 10 (left ++ input)
@@ -34,7 +39,9 @@ pub record Fails {S W : Type 0} (gives : S → List ℕ → S → Type 0) (takes
 
 -- Of the bytes that were left, and those that the source gave, the first are kept, and the others
 -- are left. There is no newline among the first.
-pub record Goes {S W : Type 0} (gives : S → List ℕ → S → Type 0) (takes : W → List ℕ → W → Type 0) (left : List ℕ) (s : S) (w : W) (p : List ℕ) (k : Option (List ℕ)) (others : List ℕ) (t : S) (x : W) (q : List ℕ) : Type 0 where
+pub record Goes {S W : Type 0} (gives : Flow S) (takes : Flow W)
+    (left : List ℕ) (s : S) (w : W) (p : List ℕ)
+    (k : Option (List ℕ)) (others : List ℕ) (t : S) (x : W) (q : List ℕ) : Type 0 where
   pub input : List ℕ
   pub given : gives s input t
   pub line : List ℕ

@@ -29,7 +29,8 @@ impl<A: Allocator> Model for Reader<A> {
 
     ghost view = { λ r. take (r.end - r.at) (drop r.at r.piece.items) };
 
-    ghost invariant = { λ r. (r.at ≤ r.end) × (r.end ≤ length r.piece.items) × (0 < length r.piece.items) };
+    ghost invariant = { λ r.
+        (r.at ≤ r.end) × (r.end ≤ length r.piece.items) × (0 < length r.piece.items) };
 }
 
 // The memory that is read into, a piece at a time.

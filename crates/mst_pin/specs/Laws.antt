@@ -15,7 +15,8 @@ WritesAreBlank = (passes : ℕ) (events : List Event) (answers : List Answer) (s
 -- where nothing is due, some record can be published, whatever is pinned: with any rows that are
 -- usable
 abbrev pub SomeRecordIsFree : Type 0
-SomeRecordIsFree = (passes : ℕ) (events : List Event) (answers : List Answer) (s : State) → Runs (opening passes) events answers s → s.due ≡ None
+SomeRecordIsFree = (passes : ℕ) (events : List Event) (answers : List Answer) (s : State)
+    → Runs (opening passes) events answers s → s.due ≡ None
     → (r : ℕ) × ((rows : ℕ) → AreUsable s (row_set rows) → IsTaken s (Publish r rows))
 
 -- none of the events is the pass's unpin

@@ -13,7 +13,8 @@ use Rattle.mst_node.specs.Trail.{framing}
 
 -- the text of a flat node has this digest, its layer lies below an upper one, and its keys between
 -- two bounds; the upper layer and the bounds need not be there
-pub record IsExpected (d : List ℕ) (upper : Option ℕ) (low high : Option (List ℕ)) (n : FlatNode) : Type 0 where
+pub record IsExpected (d : List ℕ) (upper : Option ℕ) (low high : Option (List ℕ))
+    (n : FlatNode) : Type 0 where
   pub digest : digest_of (spelling n) ≡ d
   pub layer : IfSome upper (λ u. n.layer < u)
   pub keys : AllByRecursion (λ e. IsBetween low high e.key) n.entries
@@ -61,17 +62,21 @@ ShowsAbsence k n ns a = (before : List FlatEntry) × (behind : List FlatEntry)
 
 -- the key's gap has a child: its digest, the node's layer and the gap's bounds are expected of the
 -- nodes that follow
-abbrev pub LeadsOn : List ℕ → Option (List ℕ) → Option (List ℕ) → FlatNode → (List ℕ → Option ℕ → Option (List ℕ) → Option (List ℕ) → Type 0) → Type 0
+abbrev pub LeadsOn : List ℕ → Option (List ℕ) → Option (List ℕ) → FlatNode
+    → (List ℕ → Option ℕ → Option (List ℕ) → Option (List ℕ) → Type 0) → Type 0
 LeadsOn k low high n rest = (before : List FlatEntry) × (behind : List FlatEntry) × (d : List ℕ)
     × IsInGap n k before behind × (gap_child behind n.tail ≡ Some d)
     × rest d (Some n.layer) (gap_low low before) (gap_high behind high)
 
 -- the flat nodes lead to the answer, where this digest, upper layer and bounds are expected of the
 -- first
-abbrev pub Leads : List ℕ → List ℕ → Option ℕ → Option (List ℕ) → Option (List ℕ) → List FlatNode → Option (List ℕ) → Type 0
+abbrev pub Leads : List ℕ → List ℕ → Option ℕ → Option (List ℕ) → Option (List ℕ)
+    → List FlatNode → Option (List ℕ) → Type 0
 Leads k digest upper low high [] a = ⊥
 Leads k digest upper low high (n ∷ ns) a =
-    IsExpected digest upper low high n × (ShowsValue k n ns a ⊎ ShowsAbsence k n ns a ⊎ LeadsOn k low high n (λ d u l h. Leads k d u l h ns a))
+    IsExpected digest upper low high n
+    × (ShowsValue k n ns a ⊎ ShowsAbsence k n ns a ⊎ LeadsOn k low high n
+    (λ d u l h. Leads k d u l h ns a))
 
 -- of no nodes the root is that of the empty map; of the first node only the digest is expected
 abbrev pub LeadsFrom : List ℕ → List ℕ → List FlatNode → Option (List ℕ) → Type 0

@@ -35,7 +35,8 @@ pub record IsSmall (t : Tree) : Type 0 where
 -- for a tree's digest the proof shows no answer but that of the tree's pairs
 abbrev pub ShowsNoOther : Tree → List ℕ → List ℕ → Type 0
 ShowsNoOther t k proof =
-    (answer : Option (List ℕ)) → verdict (digest t) k proof ≡ Ok answer → answer ≡ map_get (pairs t) k
+    (answer : Option (List ℕ)) → verdict (digest t) k proof ≡ Ok answer
+    → answer ≡ map_get (pairs t) k
 
 -- so do these texts, whatever is expected of the first beside that digest
 abbrev pub NoOther : Tree → List ℕ → List (List ℕ) → Type 0

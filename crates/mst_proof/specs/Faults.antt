@@ -23,7 +23,9 @@ Frames bytes texts rest = bytes ≡ 1 ∷ length texts ∷ framed texts ++ rest
 abbrev pub FrameFails : List ℕ → ProofFault → Type 0
 FrameFails bytes Version = (v : ℕ) × (rest : List ℕ) × (bytes ≡ v ∷ rest) × (v ≢ 1)
 FrameFails bytes CutShort =
-    ((v : ℕ) (rest : List ℕ) → bytes ≡ v ∷ rest → v ≡ 1) × ((texts : List (List ℕ)) (rest : List ℕ) → AllByRecursion (λ t. length t < 2 ^ 32) texts → Frames bytes texts rest → ⊥)
+    ((v : ℕ) (rest : List ℕ) → bytes ≡ v ∷ rest → v ≡ 1)
+    × ((texts : List (List ℕ)) (rest : List ℕ)
+    → AllByRecursion (λ t. length t < 2 ^ 32) texts → Frames bytes texts rest → ⊥)
 FrameFails bytes LeftOver =
     (texts : List (List ℕ)) × (b : ℕ) × (rest : List ℕ) × Frames bytes texts (b ∷ rest)
 FrameFails bytes NoNode = ⊥
@@ -40,13 +42,15 @@ abbrev pub Spells : List ℕ → FlatNode → Type 0
 Spells text n = (n.format ≡ One) × IsFlatNode n × (text ≡ spelling n)
 
 -- the text has passed the tests that come before the one of the fault, and fails that one
-abbrev pub FailsBy : List ℕ → Option ℕ → Option (List ℕ) → Option (List ℕ) → List ℕ → ProofFault → Type 0
+abbrev pub FailsBy : List ℕ → Option ℕ → Option (List ℕ) → Option (List ℕ)
+    → List ℕ → ProofFault → Type 0
 FailsBy d upper low high text NoNode = InGrammar One text → ⊥
 FailsBy d upper low high text OtherDigest = InGrammar One text × (digest_of text ≢ d)
 FailsBy d upper low high text LayerNotBelow =
     (n : FlatNode) × Spells text n × (digest_of text ≡ d) × (IfSome upper (λ u. n.layer < u) → ⊥)
 FailsBy d upper low high text KeyOutside =
-    (n : FlatNode) × Spells text n × (digest_of text ≡ d) × IfSome upper (λ u. n.layer < u) × (AllByRecursion (λ e. IsBetween low high e.key) n.entries → ⊥)
+    (n : FlatNode) × Spells text n × (digest_of text ≡ d) × IfSome upper (λ u. n.layer < u)
+    × (AllByRecursion (λ e. IsBetween low high e.key) n.entries → ⊥)
 FailsBy d upper low high text Version = ⊥
 FailsBy d upper low high text CutShort = ⊥
 FailsBy d upper low high text LeftOver = ⊥
@@ -63,11 +67,14 @@ Decides k n = ((v : List ℕ) × Holds n k v)
 
 -- No text is left although one is expected; or the first text fails a test; or it decides the key
 -- and another text follows; or it leads on, and what is left fails.
-abbrev pub FailAt : List ℕ → List ℕ → Option ℕ → Option (List ℕ) → Option (List ℕ) → List (List ℕ) → ProofFault → Type 0
+abbrev pub FailAt : List ℕ → List ℕ → Option ℕ → Option (List ℕ) → Option (List ℕ)
+    → List (List ℕ) → ProofFault → Type 0
 FailAt k d upper low high [] fault = fault ≡ Unfinished
 FailAt k d upper low high (t ∷ ts) fault =
     FailsBy d upper low high t fault
-    ⊎ ((n : FlatNode) × Spells t n × IsExpected d upper low high n × ((Decides k n × (ts ≢ []) × (fault ≡ TextBehind)) ⊎ LeadsOn k low high n (λ d u l h. FailAt k d u l h ts fault)))
+    ⊎ ((n : FlatNode) × Spells t n × IsExpected d upper low high n
+    × ((Decides k n × (ts ≢ []) × (fault ≡ TextBehind)) ⊎ LeadsOn k low high n
+    (λ d u l h. FailAt k d u l h ts fault)))
 
 -- where there are no texts the root is not that of the empty map
 abbrev pub TextsFail : List ℕ → List ℕ → List (List ℕ) → ProofFault → Type 0

@@ -9,7 +9,8 @@ use Rattle.mst_proof.specs.declared.fault.ProofFault.TheVariants.{Version, CutSh
 
 -- what comes of a result, where it is no fault
 infixl 10 ◌>>◌
-abbrev pub ◌>>◌ : {A B : Type 0} → Result A ProofFault → (A → Result B ProofFault) → Result B ProofFault
+abbrev pub ◌>>◌ : {A B : Type 0} → Result A ProofFault → (A → Result B ProofFault)
+    → Result B ProofFault
 (Err f) >> g = Err f
 (Ok x) >> g = g x
 

@@ -8,11 +8,13 @@ use Rattle.mst_proof.specs.Verdict.{is_inside}
 abbrev mutual
   pub spans : Option (List ℕ) → Option (List ℕ) → Tree → List (Span × Tree)
   spans low high empty = []
-  spans low high (node format l es) = (record { low = low; high = high }, node format l es) ∷ spans_in low high es
+  spans low high (node format l es) =
+      (record { low = low; high = high }, node format l es) ∷ spans_in low high es
 
   pub spans_in : Option (List ℕ) → Option (List ℕ) → Entries → List (Span × Tree)
   spans_in low high (last child) = spans low high child
-  spans_in low high (entry child key value rest) = spans low (Some key) child ++ spans_in (Some key) high rest
+  spans_in low high (entry child key value rest) =
+      spans low (Some key) child ++ spans_in (Some key) high rest
 
 -- the nodes in whose span the key falls, from the top down
 abbrev pub nodes_around : List ℕ → Tree → List Tree

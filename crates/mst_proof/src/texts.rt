@@ -24,7 +24,8 @@ impl<'a> Model for Texts<'a> {
 
     ghost view = { λ t. texts_or_none t.count t.bytes.now };
 
-    ghost invariant = { λ t. texts_at t.count t.bytes.now ≡ Some (texts_or_none t.count t.bytes.now, []) };
+    ghost invariant = { λ t.
+        texts_at t.count t.bytes.now ≡ Some (texts_or_none t.count t.bytes.now, []) };
 }
 
 /// The first text, and the bytes behind it.

@@ -1,9 +1,10 @@
 -- Answers as the code keeps them, and their text.
 use Rattle.std.specs.Prelude.{ℕ, List, [], ◌++◌, codes}
 use Rattle.hex.specs.Hex.{encode_lower}
+use Rattle.mst_key.specs.Digits.{digits_of}
 use Rattle.mst_requests.specs.declared.answer.Answer.{Answer}
 use Rattle.mst_requests.specs.declared.answer.Answer.TheVariants.{Refused, Value, Pair, Pairs, Root, Pinned, Unpinned, Rows, Bytes, NoNode, Busy, Spent, NoRoom, Memory}
-use Rattle.mst_requests.specs.Texts.{line_of, fault_words, digits_of, value_words, found_words, count_words, pair_lines, pinned_words, rows_words}
+use Rattle.mst_requests.specs.Texts.{line_of, fault_words, value_words, found_words, count_words, pair_lines, pinned_words, rows_words}
 
 -- the words of the first line, without the digits of bytes, which may be many
 abbrev pub first_words : {A : Type 0} → Answer A → List ℕ

@@ -77,7 +77,8 @@ bound_of (b ∷ bs) = Some (b ∷ bs)
 
 abbrev pub put_of : Option (List ℕ) → Option (List ℕ) → Result Command Fault
 put_of (Some k) (Some v) =
-    if has_key_size k then (if has_value_size v then Ok (Put k v) else Err ValueSize) else Err KeySize
+    if has_key_size k then (if has_value_size v then Ok (Put k v) else Err ValueSize)
+    else Err KeySize
 put_of _ _ = Err BadField
 
 abbrev pub put_fields : List (List ℕ) → Result Command Fault

@@ -1,7 +1,7 @@
 -- Answers as they are written.
 use Rattle.std.specs.Prelude.{ℕ, List, [], ◌∷◌, ◌++◌, length, Option, Some, None, codes, decimal}
-use Rattle.hex.specs.Hex.{encode_lower}
 use Rattle.mst_key.specs.Map.{Pair}
+use Rattle.mst_key.specs.Digits.{digits_of}
 use Rattle.mst_requests.specs.declared.request.Fault.{Fault}
 use Rattle.mst_requests.specs.declared.request.Fault.TheVariants.{LongLine, NoPass, NoCommand, FieldCount, BadField, KeySize, ValueSize, Pinning}
 
@@ -18,11 +18,6 @@ fault_words BadField = codes "fault L5"
 fault_words KeySize = codes "keysize"
 fault_words ValueSize = codes "valuesize"
 fault_words Pinning = codes "fault L6"
-
--- lower case, and `-` for no bytes
-abbrev pub digits_of : List ℕ → List ℕ
-digits_of [] = codes "-"
-digits_of (b ∷ bs) = encode_lower (b ∷ bs)
 
 -- the value that a key has, or had
 abbrev pub value_words : Option (List ℕ) → List ℕ

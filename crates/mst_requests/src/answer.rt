@@ -2,7 +2,8 @@
 ghost use Rattle.std.specs.Prelude.{◌≡◌, ◌≤◌, ◌<◌, ◌*◌, ◌+◌, ◌-◌, ◌^◌, ◌++◌, length, codes, decimal, OnOk, OnErr};
 ghost use Rattle.mst_devices.specs.Device.{Puts, Breaks};
 ghost use Rattle.hex.specs.Hex.{encode_lower};
-ghost use Rattle.mst_requests.specs.Texts.{fault_words as words_of_fault, digits_of, line_of, pair_words, pair_lines, pinned_words, rows_words};
+ghost use Rattle.mst_key.specs.Digits.{digits_of};
+ghost use Rattle.mst_requests.specs.Texts.{fault_words as words_of_fault, line_of, pair_words, pair_lines, pinned_words, rows_words};
 ghost use Rattle.mst_requests.specs.Answers.{first_words, text_of};
 
 use crate::request::Fault;

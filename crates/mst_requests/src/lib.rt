@@ -1,8 +1,8 @@
 //! What a line of a script asks for, and how its answer is written.
 //!
 //! ```
-//! request_in(&line, 4)                            // of "2 get 616263": Ok, pass 2 is asked for the key abc
-//! put_answer(&mut sink, &mut pending, &answer)?   // of Answer::Value(Some(..)): "some 78\n"
+//! request_in(&line, 4)                           // of "2 get 616263": Ok, pass 2 is asked for abc
+//! put_answer(&mut sink, &mut pending, &answer)?  // of Answer::Value(Some(..)): "some 78\n"
 //! ```
 //!
 //! `specs/Grammar.antt` has the lines with their faults in their order, `specs/Texts.antt` the

@@ -8,6 +8,7 @@ use Rattle.mst_key.specs.declared.history.Change.TheVariants as change
 use Rattle.mst_key.specs.declared.history.Event.{Event}
 use Rattle.mst_key.specs.Map.{Pair, map_get, map_next, map_range}
 use Rattle.mst_key.specs.History.{History, after, reply}
+use Rattle.mst_key.specs.Digits.{digits_of}
 use Rattle.mst_node.specs.Text.{root, text as text_of_node}
 use Rattle.mst_node.specs.Tree.{Tree, empty, node, tree}
 use Rattle.mst_node.specs.Trail.{proof_text}
@@ -20,7 +21,7 @@ use Rattle.mst_requests.specs.declared.request.Command.{Command}
 use Rattle.mst_requests.specs.declared.request.Command.TheVariants.{Put, Remove, Get, Next, Range, Root, Node, Prove, Pin, Unpin, Rows}
 use Rattle.mst_requests.specs.declared.request.Request.{Request}
 use Rattle.mst_requests.specs.Grammar.{asked}
-use Rattle.mst_requests.specs.Texts.{line_of, fault_words, digits_of, value_words, found_words, count_words, pair_lines, pinned_words, rows_words}
+use Rattle.mst_requests.specs.Texts.{line_of, fault_words, value_words, found_words, count_words, pair_lines, pinned_words, rows_words}
 
 -- The history so far, and which version each pass pins, if it pins one: the version is that of so
 -- many first events.

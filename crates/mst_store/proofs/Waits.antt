@@ -28,3 +28,6 @@ wrote_then change p q old r had wrote = record { tries = had.tries; vain = had.v
 -- one that was refused
 pub refused_then : (fault : ChangeFault) (change : Change) (p q r : Known) → HasTried p q → Refuses (as_tried fault) change q r → RefusesAfter fault change p r
 refused_then fault change p q r had refused = record { tries = had.tries; vain = had.vain; refused = subst (λ (s : Known). Refuses (as_tried fault) change s r) had.now refused }
+
+-- all four, for a loop of tries
+pub ruleset all_tries = (not_tried, tried_again, wrote_then, refused_then)

@@ -117,7 +117,8 @@ pub record Looks (p q : Known) : Type 0 where
   pub own : events_of q.number q.seen ≡ q.mine
 
 -- A read answered what this question asks of the map of the history that the pass has now seen
-pub record Answers {R : Type 0} (question : List Pair → R) (p : Known) (answer : R) (q : Known) : Type 0 where
+pub record Answers {R : Type 0} (question : List Pair → R)
+    (p : Known) (answer : R) (q : Known) : Type 0 where
   pub looks : Looks p q
   pub answer_is : answer ≡ question (after q.seen)
 

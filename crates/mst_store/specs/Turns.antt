@@ -100,8 +100,8 @@ pub record HasTurn {A : Type 0} (t : Turn A) (m : Seat) : Type 0 where
 
 -- the turn was taken, and the desk out of the slot
 abbrev pub TakesDesk : Seat → State → Seat → Type 0
-TakesDesk before desk m = (taken : Seat) × Takes stored before taken × (taken.1 ≡ (0, Some desk) ∷ [])
-    × (m ≡ (taken.0, (0, None) ∷ []))
+TakesDesk before desk m = (taken : Seat) × Takes stored before taken
+    × (taken.1 ≡ (0, Some desk) ∷ []) × (m ≡ (taken.0, (0, None) ∷ []))
 
 -- The turn was taken, by one try, and each record but the current one was asked once. The whole
 -- history begins with all that the pass had seen, and its events there are its own. Nothing else
@@ -169,4 +169,5 @@ pub record Added (e : Event) (m m' : Seat) : Type 0 where
   pub mine : m'.0.mine ≡ m.0.mine ++ e ∷ []
   pub asked : m'.0.asked ≡ m.0.asked + 1
   pub free : (m'.1 ≡ []) × (m'.0.turn ≡ false) × (m'.0.pin ≡ None)
-      × (m'.0.number ≡ m.0.number) × (m'.0.rows ≡ m.0.rows) × (m'.0.passes ≡ m.0.passes) × (m'.0.told ≡ m.0.told)
+      × (m'.0.number ≡ m.0.number) × (m'.0.rows ≡ m.0.rows) × (m'.0.passes ≡ m.0.passes)
+      × (m'.0.told ≡ m.0.told)

@@ -45,7 +45,11 @@ impl<A: Allocator + Copy> Model for Seats<A> {
 
     ghost Value = { StoreId };
 
-    ghost view = { λ s. record { table = s.token.table_id; rows = s.token.me.0.rows; passes = s.token.me.0.passes } };
+    ghost view = { λ s. record {
+      table = s.token.table_id;
+      rows = s.token.me.0.rows;
+      passes = s.token.me.0.passes;
+    } };
 
     ghost invariant = { λ s. s.token.me ≡ (dealer s.token.me.0.rows s.token.me.0.passes 1, []) };
 }

@@ -17,7 +17,7 @@ impl<'a, A: Allocator + Copy> Pass<'a, A> {
     ///
     /// It may wait forever: nothing is said of whether or when the turn comes. If it returns, it is
     /// as a `try_put` that got the turn. In a store of one pass it never tries twice.
-    #[tactic(auto, using(crate::proofs::Waits::not_tried, crate::proofs::Waits::tried_again, crate::proofs::Waits::wrote_then, crate::proofs::Waits::refused_then))]
+    #[tactic(auto, using(crate::proofs::Waits::all_tries))]
     pub fn put<R: Wait>(
         &mut self,
         rt: &R,
@@ -43,7 +43,7 @@ impl<'a, A: Allocator + Copy> Pass<'a, A> {
 
     /// Takes the key out of the map as [`Pass::try_remove`] does, and waits for the turn as
     /// [`Pass::put`] does.
-    #[tactic(auto, using(crate::proofs::Waits::not_tried, crate::proofs::Waits::tried_again, crate::proofs::Waits::wrote_then, crate::proofs::Waits::refused_then))]
+    #[tactic(auto, using(crate::proofs::Waits::all_tries))]
     pub fn remove<R: Wait>(&mut self, rt: &R, key: &Key) -> Result<Option<Value>, ChangeFault>
         ensures ok { IfOk result
             (λ old. WroteAfter (made_by self.old (Remove key.now)) self.old old self.new) }

@@ -1,7 +1,8 @@
 -- What is said of a proof that is spelt in hexadecimal digits.
 use Rattle.std.specs.Prelude.{ℕ, ◌-◌, ◌==◌, nat_lt, Bool, true, false, if◌then◌else◌, List, [], ◌∷◌, ◌++◌, length, take, slice_index, codes, Option, Some, None, Result, Ok, Err}
-use Rattle.hex.specs.Hex.{decode_of, encode_lower}
+use Rattle.hex.specs.Hex.{decode_of}
 use Rattle.hex.specs.declared.error.FromHexError.{FromHexError}
+use Rattle.mst_key.specs.Digits.{digits_of}
 use Rattle.mst_proof.specs.declared.fault.ProofFault.{ProofFault}
 use Rattle.mst_proof.specs.declared.fault.ProofFault.TheVariants.{Version, CutShort, LeftOver, NoNode, OtherDigest, LayerNotBelow, KeyOutside, Unfinished, TextBehind}
 use Rattle.mst_proof.specs.Verdict.{verdict}
@@ -44,11 +45,6 @@ fault_words LayerNotBelow = codes "P6"
 fault_words KeyOutside = codes "P7"
 fault_words Unfinished = codes "P8"
 fault_words TextBehind = codes "P9"
-
--- lower case, and `-` for no bytes
-abbrev pub digits_of : List ℕ → List ℕ
-digits_of [] = codes "-"
-digits_of (b ∷ bs) = encode_lower (b ∷ bs)
 
 abbrev pub words_of : Report → List ℕ
 words_of (Present v) = codes "present " ++ digits_of v

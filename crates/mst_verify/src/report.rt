@@ -2,7 +2,8 @@
 ghost use Rattle.std.specs.Prelude.{◌≡◌, ◌≤◌, ◌<◌, ◌+◌, ◌*◌, ◌++◌, ◌↔◌, length, IfOk, IsOk, IsTrue, OnErr};
 ghost use Rattle.std.specs.List.{list_all};
 ghost use Rattle.hex.specs.Hex.{decode_of, is_hex_digit};
-ghost use Rattle.mst_verify.specs.Report.{limit, without_newline as up_to_newline, report_of, fault_words as words_of_fault, digits_of, line_of, is_refusal};
+ghost use Rattle.mst_key.specs.Digits.{digits_of};
+ghost use Rattle.mst_verify.specs.Report.{limit, without_newline as up_to_newline, report_of, fault_words as words_of_fault, line_of, is_refusal};
 
 use arrayvec::ArrayVec;
 use hex::FromHexError;

@@ -27,14 +27,16 @@ pub record SeatPins (n : ℕ) (beside : ℕ → ℕ) (ws : List ℕ) (v : View) 
 
 -- what the holder of the turn knows of pins: the record whose transfer waits with its mask, and
 -- records that nobody pins
-pub record Drains (n cur : ℕ) (due : Option ℕ) (beside : ℕ → ℕ) (views : List View) (v : View) : Type 0 where
+pub record Drains (n cur : ℕ) (due : Option ℕ) (beside : ℕ → ℕ)
+    (views : List View) (v : View) : Type 0 where
   pub due_is : v.due ≡ due
   pub mask_is : (r : ℕ) → due ≡ Some r → beside r ≡ v.mask
   pub drained : (r : ℕ) → In r v.drained → (r < n + 2) × (r ≢ cur) × (due ≢ Some r)
       × ((i : ℕ) (u : View) → SeatAt views i u → u.pin ≢ Some r)
 
 -- n passes have n + 2 records, of which one is current
-pub record Pins (n cur mask : ℕ) (due : Option ℕ) (beside : ℕ → ℕ) (ws : List ℕ) (views : List View) : Type 0 where
+pub record Pins (n cur mask : ℕ) (due : Option ℕ) (beside : ℕ → ℕ)
+    (ws : List ℕ) (views : List View) : Type 0 where
   pub few : n ≤ most_passes
   pub current : slice_index ws current_word ≡ cur * 4294967296 + mask
   pub small : mask < 4294967296
@@ -57,7 +59,9 @@ pub record Clear (n : ℕ) (beside : ℕ → ℕ) (ws : List ℕ) (views : List 
 abbrev pub Blamed : ℕ → ℕ → ℕ → List View → List ℕ → List ℕ → Type 0
 Blamed n self cur views [] [] = Unit {0}
 Blamed n self cur views (p ∷ ps) (r ∷ rs) = (0 < p) × (p < n + 1) × (p ≢ self) × (In p ps → ⊥)
-    × ((i : ℕ) (u : View) → SeatAt views i u → u.number ≡ p → (u.pin ≡ Some r) ⊎ ((u.pin ≡ None) ⊎ (u.pin ≡ Some cur))) × Blamed n self cur views ps rs
+    × ((i : ℕ) (u : View) → SeatAt views i u → u.number ≡ p
+    → (u.pin ≡ Some r) ⊎ ((u.pin ≡ None) ⊎ (u.pin ≡ Some cur)))
+    × Blamed n self cur views ps rs
 Blamed n self cur views [] (r ∷ rs) = ⊥
 Blamed n self cur views (p ∷ ps) [] = ⊥
 

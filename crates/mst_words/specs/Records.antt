@@ -41,7 +41,8 @@ module _ {S : Type 0} (T : Meaning S) where
   -- a row that no version reaches whose record was not found drained, by what the holder of the
   -- turn knows
   abbrev pub IsBlank : View → ℕ → Type 0
-  IsBlank v x = (x < v.rows) × ((r : ℕ) → r < v.passes + 2 → (In r v.drained → ⊥) → T.Reaches v.desk (T.version v.desk r) x → ⊥)
+  IsBlank v x = (x < v.rows) × ((r : ℕ) → r < v.passes + 2 → (In r v.drained → ⊥)
+      → T.Reaches v.desk (T.version v.desk r) x → ⊥)
 
   -- Two desks have one version in a record, and say of the same rows that it reaches them. Of such
   -- a row they say that the same versions up to that one reach it
@@ -59,12 +60,14 @@ module _ {S : Type 0} (T : Meaning S) where
         → T.Stands f p m used → T.Stands g q m used
     pub aged : (f g : ℕ → ℕ → ℕ) (p q : ℕ → ℕ) (h : History) (used : List ℕ) (d d' : DeskState)
         (r : ℕ) → SameWords f g p q used → T.version d r ≡ length h
-        → ((x : ℕ) → In x used → T.Reaches d (length h) x) → Agrees d d' r → T.Aged f p d h used → T.Aged g q d' h used
+        → ((x : ℕ) → In x used → T.Reaches d (length h) x) → Agrees d d' r
+        → T.Aged f p d h used → T.Aged g q d' h used
 
   module _ (R n : ℕ) where
     -- a record stands for the map at a place of the history, by these rows, which are those that
     -- its version reaches; and the desk knows how old they are
-    pub record Standing (ws : List ℕ) (log : History) (desk : DeskState) (r : ℕ) (place : History) (used : List ℕ) : Type 0 where
+    pub record Standing (ws : List ℕ) (log : History) (desk : DeskState)
+        (r : ℕ) (place : History) (used : List ℕ) : Type 0 where
       pub numbered : r < n + 2
       pub begins : IsPrefix place log
       pub version : field ws r 0 ≡ length place
@@ -76,7 +79,8 @@ module _ {S : Type 0} (T : Meaning S) where
       pub exactly : (x : ℕ) → x < R → T.Reaches desk (length place) x → In x used
 
     -- what a pinned seat may read is as it was at the pin
-    pub record Reads (ws : List ℕ) (r : ℕ) (place : History) (used : List ℕ) (v : View) : Type 0 where
+    pub record Reads (ws : List ℕ) (r : ℕ) (place : History) (used : List ℕ)
+        (v : View) : Type 0 where
       pub place_is : v.pinned_history ≡ place
       pub rows_are : v.pinned_rows ≡ used
       pub fields : (k : ℕ) → k < record_words → field ws r k ≡ field v.known_words r k
@@ -84,7 +88,8 @@ module _ {S : Type 0} (T : Meaning S) where
 
     -- The current record stands for the whole history and each pinned one for its place. What a
     -- pinned seat may read is as it was. The holder of the turn knows all words of records and rows
-    pub record Rows (cur : ℕ) (ws : List ℕ) (log : History) (desk : DeskState) (place : ℕ → History) (used : ℕ → List ℕ) (views : List View) : Type 0 where
+    pub record Rows (cur : ℕ) (ws : List ℕ) (log : History) (desk : DeskState)
+        (place : ℕ → History) (used : ℕ → List ℕ) (views : List View) : Type 0 where
       pub now : place cur ≡ log
       pub desk_at : desk.current ≡ cur
       pub short : length log < 9223372036854775808

@@ -26,7 +26,8 @@ IsReadable v i = ((v.turn ≡ true) × (first_record ≤ i))
 module _ {S : Type 0} where
   -- a pass that has neither the turn nor the slot nor a pin
   abbrev pub IsFree : ℕ → Me S View → Type 0
-  IsFree number m = (m.1 ≡ []) × (m.0.turn ≡ false) × (m.0.pin ≡ None) × (m.0.number ≡ number) × (0 < number)
+  IsFree number m = (m.1 ≡ []) × (m.0.turn ≡ false) × (m.0.pin ≡ None)
+      × (m.0.number ≡ number) × (0 < number)
 
   -- a pass that pins a record
   abbrev pub IsPinned : ℕ → ℕ → Me S View → Type 0
@@ -34,7 +35,8 @@ module _ {S : Type 0} where
 
   -- the dealer's seat, with a pass left to deal
   abbrev pub IsDealer : Me S View → Type 0
-  IsDealer m = (m.1 ≡ []) × (m.0.turn ≡ false) × (m.0.pin ≡ None) × (0 < m.0.deals) × (m.0.deals ≤ m.0.passes)
+  IsDealer m = (m.1 ≡ []) × (m.0.turn ≡ false) × (m.0.pin ≡ None)
+      × (0 < m.0.deals) × (m.0.deals ≤ m.0.passes)
 
   -- the holder of the turn, with no transfer to make
   abbrev pub IsHolder : Me S View → Type 0
@@ -85,7 +87,8 @@ module _ {S : Type 0} where
 
   -- The history has one event more. The record that was current and the mask of its pins came back,
   -- for the transfer
-  pub record Publishes (e : Event) (d : DeskState) (m : Me S View) (r : ℕ) (m' : Me S View) : Type 0 where
+  pub record Publishes (e : Event) (d : DeskState)
+      (m : Me S View) (r : ℕ) (m' : Me S View) : Type 0 where
     pub mask : ℕ
     pub small : mask < 4294967296
     pub returned : r ≡ m.0.desk.current * 4294967296 + mask
@@ -144,7 +147,8 @@ module _ {S : Type 0} where
 module _ {S : Type 0} (T : Meaning S) where
   -- a word of a blank row, or of a record that was found drained
   abbrev pub IsWritable : View → ℕ → Type 0
-  IsWritable v i = ((x k : ℕ) × IsBlank T v x × (k < row_words) × (i ≡ row_word x k)) ⊎ ((r k : ℕ) × In r v.drained × (k < record_words) × (i ≡ record_word r k))
+  IsWritable v i = ((x k : ℕ) × IsBlank T v x × (k < row_words) × (i ≡ row_word x k))
+      ⊎ ((r k : ℕ) × In r v.drained × (k < record_words) × (i ≡ record_word r k))
 
   -- The pass, one of the store's, has the turn and the slot with its desk, and has seen the whole
   -- history. The words of the table are known; in them the current record stands for the history
@@ -188,7 +192,8 @@ module _ {S : Type 0} (T : Meaning S) where
 
   -- the record is the one whose word DONE was loaded
   abbrev pub asks : Step S → Me S View → ℕ → Me S View → Type 0
-  asks st m r m' = (a : ℕ) × (st.word ≡ done_word a) × (r ≡ 0 → Drained a m m') × (r ≢ 0 → Blocked a m m')
+  asks st m r m' = (a : ℕ) × (st.word ≡ done_word a)
+      × (r ≡ 0 → Drained a m m') × (r ≢ 0 → Blocked a m m')
 
   abbrev pub takes_turn : Step S → Me S View → ℕ → Me S View → Type 0
   takes_turn st m r m' = (r ≡ 0 → Takes m m') × (r ≢ 0 → Misses m m')
@@ -238,7 +243,8 @@ module _ {S : Type 0} (T : Meaning S) where
   -- what the holder of the turn has to know to publish a drained record, of an event, after which
   -- the desk is d: the record stands for the longer history, and for each record that it did not
   -- find drained, its version reaches the same rows as before
-  pub record IsReady (into : ℕ) (e : Event) (d : DeskState) (used : List ℕ) (v : View) : Type 0 where
+  pub record IsReady (into : ℕ) (e : Event) (d : DeskState) (used : List ℕ)
+      (v : View) : Type 0 where
     pub on : v.turn ≡ true
     pub unpinned : v.pin ≡ None
     pub settled : v.due ≡ None

@@ -17,8 +17,10 @@ use Rattle.mst_words.specs.Records.{Meaning}
 
 -- the rows that words spell, sixteen words a row
 abbrev pub rows_in : (ℕ → ℕ → ℕ) → Content
-rows_in word x = row_in (word x 0 ∷ word x 1 ∷ word x 2 ∷ word x 3 ∷ word x 4 ∷ word x 5 ∷ word x 6 ∷ word x 7
-    ∷ word x 8 ∷ word x 9 ∷ word x 10 ∷ word x 11 ∷ word x 12 ∷ word x 13 ∷ word x 14 ∷ word x 15 ∷ [])
+rows_in word x = row_in (word x 0 ∷ word x 1 ∷ word x 2 ∷ word x 3
+    ∷ word x 4 ∷ word x 5 ∷ word x 6 ∷ word x 7
+    ∷ word x 8 ∷ word x 9 ∷ word x 10 ∷ word x 11
+    ∷ word x 12 ∷ word x 13 ∷ word x 14 ∷ word x 15 ∷ [])
 
 -- the root that the words of a record spell, behind its version number
 abbrev pub root_in : (ℕ → ℕ) → Root

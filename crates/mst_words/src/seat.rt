@@ -40,7 +40,8 @@ impl<'a, A: Allocator + Copy> Model for PassSeat<'a, A> {
 
     ghost view = { λ s. record { table = s.token.table_id; id = s.token.id; me = s.token.me } };
 
-    ghost invariant = { λ s. (s.token.table_id ≡ s.board.now) × (s.board.now.words ≡ table_words s.token.me.0.rows) };
+    ghost invariant = { λ s. (s.token.table_id ≡ s.board.now)
+        × (s.board.now.words ≡ table_words s.token.me.0.rows) };
 }
 
 impl<A: Allocator + Copy> Board<A> {

@@ -6,7 +6,8 @@ use Rattle.mst_requests.specs.declared.request.Fault.TheVariants.{Pinning}
 use Rattle.mst_key.specs.Map.{map_get, map_next}
 use Rattle.mst_key.specs.declared.format.Format.TheVariants.{One}
 use Rattle.mst_node.specs.Text.{root}
-use Rattle.mst_requests.specs.Texts.{line_of, fault_words, digits_of, value_words, found_words}
+use Rattle.mst_key.specs.Digits.{digits_of}
+use Rattle.mst_requests.specs.Texts.{line_of, fault_words, value_words, found_words}
 use Rattle.mst_requests.specs.Answers.{text_of}
 use Rattle.mst_script.proofs.Calling.{asked, unmoved, written, read_found, counted}
 use Rattle.std.proofs.lemmas.Bool.{false≢true}
