@@ -1,3 +1,4 @@
+use Rattle.std.proofs.Common.{rules}
 use Rattle.std.proofs.Common.{◌≡◌, length, ℕ, List, [], ◌++◌, subst, ap, sym, ◌∙◌, arith, take}
 use Rattle.std.specs.Prelude.{IfSome}
 use Rattle.std.specs.List.{flat_map}
@@ -42,3 +43,12 @@ returns g c =
     let took = c.child.ensures.child _ c.loop-entry.invariant in
     let whole = ap (λ xs. (heading One n.layer (length n.entries.items) ++ flat_map (text_of_entry One) xs) ++ child_text c.child_digest-2.result) all ∙ ap (λ d. (heading One n.layer (length n.entries.items) ++ flat_map (text_of_entry One) n.entries.items) ++ child_text d) c.child_digest-2.ensures.digest ∙ sym (text_out A One c.args.node.now) in
     record { text = gives_taken (λ t. t.items) _ _ c.finish.result c.finish.ensures.bytes (subst (λ (m : List ℕ). IfSome c.child.new.self (λ bytes. bytes ≡ m)) whole took) }
+
+pub offset_bounds-entry-items-entry-index : goal.offset_bounds-entry-items-entry-index
+offset_bounds-entry-items-entry-index g c = search rules
+
+pub entry-requires-clause-key : goal.entry-requires-clause-key
+entry-requires-clause-key g c = search rules
+
+pub entry-requires-clause-value : goal.entry-requires-clause-value
+entry-requires-clause-value g c = search rules
