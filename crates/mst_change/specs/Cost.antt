@@ -31,7 +31,8 @@ abbrev mutual
   -- the child of the gap that the key falls in
   pub gap_rows : List ℕ → Entries → ℕ
   gap_rows k (last child) = split_rows k child
-  gap_rows k (entry child key value rest) = by_order (key_cmp k key) (split_rows k child) 0 (gap_rows k rest)
+  gap_rows k (entry child key value rest) =
+      by_order (key_cmp k key) (split_rows k child) 0 (gap_rows k rest)
 
 -- ---- put
 
@@ -48,7 +49,8 @@ abbrev mutual
 
   pub put_gap_rows : ℕ → List ℕ → List ℕ → Entries → ℕ
   put_gap_rows l k v (last child) = put_rows l k v child
-  put_gap_rows l k v (entry child key value rest) = by_order (key_cmp k key) (put_rows l k v child) 0 (put_gap_rows l k v rest)
+  put_gap_rows l k v (entry child key value rest) =
+      by_order (key_cmp k key) (put_rows l k v child) 0 (put_gap_rows l k v rest)
 
 -- a put that changes nothing makes nothing new
 abbrev pub put_cost : Format → Tree → List ℕ → List ℕ → ℕ
@@ -84,12 +86,14 @@ abbrev mutual
 abbrev mutual
   pub remove_rows : Tree → List ℕ → ℕ
   remove_rows empty k = 0
-  remove_rows (node format l es) k = side_rows (entry_count (entries_remove es k)) false + entries_remove_rows es k
+  remove_rows (node format l es) k =
+      side_rows (entry_count (entries_remove es k)) false + entries_remove_rows es k
 
   pub entries_remove_rows : Entries → List ℕ → ℕ
   entries_remove_rows (last child) k = remove_rows child k
   entries_remove_rows (entry child key value rest) k =
-      by_order (key_cmp k key) (remove_rows child k) (join_rows child (first_child rest)) (entries_remove_rows rest k)
+      by_order (key_cmp k key) (remove_rows child k) (join_rows child (first_child rest))
+      (entries_remove_rows rest k)
 
 -- a remove of a key that is not there makes nothing new
 abbrev pub remove_cost : Tree → List ℕ → ℕ

@@ -16,12 +16,14 @@ FallsFirst k (last child) = Unit {0}
 FallsFirst k (entry child key value rest) = key_cmp k key ≡ Less
 
 -- The key falls into the gap between these cells and these entries, whose first child stands there.
-pub record IsGap (k : List ℕ) (es : Entries) (front : List TreeEntry) (back : Entries) : Type 0 where
+pub record IsGap (k : List ℕ) (es : Entries) (front : List TreeEntry)
+    (back : Entries) : Type 0 where
   pub whole : es ≡ with_entries front back
   pub low : CellsBelow k front
   pub high : FallsFirst k back
 
 -- The key's entry stands behind these cells, between this child and these entries.
-pub record IsAt (k : List ℕ) (es : Entries) (front : List TreeEntry) (child : Tree) (value : List ℕ) (back : Entries) : Type 0 where
+pub record IsAt (k : List ℕ) (es : Entries) (front : List TreeEntry) (child : Tree) (value : List ℕ)
+    (back : Entries) : Type 0 where
   pub whole : es ≡ with_entries front (entry child k value back)
   pub low : CellsBelow k front

@@ -11,12 +11,14 @@ abbrev mutual
   join_node format l es inner empty = node format l es
   join_node format l es inner (node g j fs) =
       if nat_lt j l then node format l (with_entries (cells es) (last (inner (node g j fs))))
-      else if j == l then node format l (with_entries (cells es) (with_first (inner (first_child fs)) fs))
+      else if j == l
+      then node format l (with_entries (cells es) (with_first (inner (first_child fs)) fs))
       else node g j (join_first format l es inner fs)
 
   pub join_first : Format → ℕ → Entries → (Tree → Tree) → Entries → Entries
   join_first format l es inner (last child) = last (join_node format l es inner child)
-  join_first format l es inner (entry child key value rest) = entry (join_node format l es inner child) key value rest
+  join_first format l es inner (entry child key value rest) =
+      entry (join_node format l es inner child) key value rest
 
 -- The node of the greater layer stays on top, and the other tree is joined with its child at that
 -- end. Two nodes of one layer become one, and the children that meet are joined.

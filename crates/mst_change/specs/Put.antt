@@ -28,7 +28,8 @@ abbrev mutual
   pub put_in_gap : Format → ℕ → List ℕ → List ℕ → Entries → Entries
   put_in_gap format l k v (last child) = last (put_at format l k v child)
   put_in_gap format l k v (entry child key value rest) =
-      by_order (key_cmp k key) (entry (put_at format l k v child) key value rest) (entry child k v rest) (entry child key value (put_in_gap format l k v rest))
+      by_order (key_cmp k key) (entry (put_at format l k v child) key value rest)
+      (entry child k v rest) (entry child key value (put_in_gap format l k v rest))
 
 abbrev pub tree_put : Format → Tree → List ℕ → List ℕ → Tree
 tree_put format t k v = put_at format (layer_in format k) k v t

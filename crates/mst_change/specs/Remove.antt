@@ -15,4 +15,6 @@ abbrev mutual
   pub entries_remove : Entries → List ℕ → Entries
   entries_remove (last child) k = last (tree_remove child k)
   entries_remove (entry child key value rest) k =
-      by_order (key_cmp k key) (entry (tree_remove child k) key value rest) (with_first (join child (first_child rest)) rest) (entry child key value (entries_remove rest k))
+      by_order (key_cmp k key) (entry (tree_remove child k) key value rest)
+      (with_first (join child (first_child rest)) rest)
+      (entry child key value (entries_remove rest k))

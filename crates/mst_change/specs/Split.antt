@@ -14,7 +14,8 @@ abbrev mutual
   pub entries_below : List ℕ → Entries → Entries
   entries_below k (last child) = last (below k child)
   entries_below k (entry child key value rest) =
-      by_order (key_cmp k key) (last (below k child)) (last child) (entry child key value (entries_below k rest))
+      by_order (key_cmp k key) (last (below k child)) (last child)
+      (entry child key value (entries_below k rest))
 
 abbrev mutual
   pub above : List ℕ → Tree → Tree

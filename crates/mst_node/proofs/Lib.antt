@@ -4,6 +4,7 @@ pub mod Unique
 pub mod Layers
 pub mod Shapes
 pub mod Tops
+pub mod Buffers
 pub mod Takes
 pub mod Again
 pub mod Behind

@@ -1,6 +1,5 @@
 -- A node of the program as a tree, one level at a time.
 use Rattle.std.proofs.Common.{◌≡◌, ℕ, zero, suc, ◌+◌, ◌<◌, ◌≤◌, List, [], ◌∷◌, ◌++◌, length, map, get_or, take, Option, Some, refl, sym, ◌∙◌, ap, subst, arith, rules, length-append, append_assoc}
-use Rattle.std.specs.Int.{w16, to_be_bytes}
 use Rattle.std.specs.List.{flat_map}
 use Rattle.std.proofs.lemmas.List.{length-map, take_more, append-nil}
 use Rattle.std.proofs.lemmas.List.Folds.{flat_map-map}
@@ -12,7 +11,7 @@ use Rattle.mst_node.specs.declared.node.Entry.TheViews.{the_lemmas}
 use Rattle.mst_node.specs.declared.node.Entry.TheFolds.{fold_out-Node, fold_out-Entry}
 use Rattle.mst_node.specs.Tree.{Tree, node, Entries, last, pairs, entries_pairs}
 use Rattle.mst_node.specs.Shape.{TreeEntry, with_entries, tree_of, tree_of_child, tree_entry, entry_step, node_step}
-use Rattle.mst_node.specs.Text.{FlatEntry, entry_text, spelling, child_digest, child_text, counted, held_of, held_text, flat_entries, tail_digest, text, digest, version}
+use Rattle.mst_node.specs.Text.{FlatEntry, entry_text, spelling, child_digest, child_text, counted, held_of, held_text, flat_entries, tail_digest, text, digest, heading}
 
 -- ---- the tree of a node, from its fields
 
@@ -80,10 +79,6 @@ tail_digest_with (x ∷ xs) t = tail_digest_with xs t
 -- the bytes of an entry in its node's text
 abbrev pub text_of_entry : {A : Type 0} → Format → Entry A → List ℕ
 text_of_entry format e = entry_text format (flat_entry format (tree_entry format e))
-
--- the text before the entries
-abbrev pub heading : Format → ℕ → ℕ → List ℕ
-heading format layer count = version format ∷ layer ∷ to_be_bytes w16 count
 
 -- the text up to an entry's end is the text up to the entry, and the entry's
 pub text-more : (A : Type 0) (format : Format) (es items : List (Entry A)) (i : ℕ) (e : Entry A) (front : List ℕ) (d : Option (List ℕ)) (k v : List ℕ) → items ≡ es → i < length items → e ≡ get_or items i e → d ≡ child_digest (tree_of_child format (out-Entry A e).child) → k ≡ (out-Entry A e).key → v ≡ held_text format (held_of format (out-Entry A e).value) → ((front ++ flat_map (text_of_entry format) (take i es)) ++ child_text d) ++ counted k ++ v ≡ front ++ flat_map (text_of_entry format) (take (i + 1) es)

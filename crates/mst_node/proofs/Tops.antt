@@ -7,10 +7,9 @@ use Rattle.mst_key.specs.declared.format.Format.{Format}
 use Rattle.mst_key.specs.Layer.{layer, layer_in}
 use Rattle.mst_key.specs.Map.{Pair}
 use Rattle.mst_node.specs.Tree.{Tree, node, Entries, entry, layers, greatest, entries_of, tree}
-use Rattle.mst_node.specs.Text.{entry_text, child_text, counted, child_digest, flat_entries, tail_digest, held_of, held_text, text, digest}
+use Rattle.mst_node.specs.Text.{entry_text, child_text, counted, child_digest, flat_entries, tail_digest, held_of, held_text, text, digest, heading}
 use Rattle.mst_node.specs.Top.{IsTop}
 use Rattle.mst_node.specs.declared.root.Top.{Top}
-use Rattle.mst_node.proofs.Shapes.{heading}
 use Rattle.mst_node.proofs.Trees.{tree_some, step_at, step_other, last_gap}
 
 -- ---- one pair more

@@ -40,7 +40,8 @@ abbrev mutual
   same_entries (last c) (last d) = same_tree c d
   same_entries (last c) (entry d j w fs) = false
   same_entries (entry c k v es) (last d) = false
-  same_entries (entry c k v es) (entry d j w fs) = same_tree c d && same_bytes k j && same_bytes v w && same_entries es fs
+  same_entries (entry c k v es) (entry d j w fs) =
+      same_tree c d && same_bytes k j && same_bytes v w && same_entries es fs
 
 -- whether the tree stands in another
 abbrev pub is_subtree : Tree → Tree → Bool

@@ -12,7 +12,8 @@ abbrev mutual
 
   pub LayersFallIn : ℕ → Entries → Type 0
   LayersFallIn l (last child) = IsUnder l child × LayersFall child
-  LayersFallIn l (entry child key value rest) = IsUnder l child × LayersFall child × LayersFallIn l rest
+  LayersFallIn l (entry child key value rest) =
+      IsUnder l child × LayersFall child × LayersFallIn l rest
 
 -- the key lies strictly between two bounds, each of which need not be there
 pub record IsBetween (low high : Option (List ℕ)) (key : List ℕ) : Type 0 where
@@ -28,4 +29,5 @@ abbrev mutual
   pub EntriesLieBetween : Option (List ℕ) → Option (List ℕ) → Entries → Type 0
   EntriesLieBetween low high (last child) = LiesBetween low high child
   EntriesLieBetween low high (entry child key value rest) =
-      IsBetween low high key × LiesBetween low (Some key) child × EntriesLieBetween (Some key) high rest
+      IsBetween low high key × LiesBetween low (Some key) child
+      × EntriesLieBetween (Some key) high rest

@@ -11,10 +11,12 @@ use Rattle.mst_node.specs.declared.place.Span.{Span}
 
 -- the place of a key among entries with rising keys, between two bounds: at the entry that has the
 -- key, or in the gap between the nearest keys on each side, with the child there
-abbrev pub place_among : List ℕ → Option (List ℕ) → Option (List ℕ) → List FlatEntry → Option (List ℕ) → Place
+abbrev pub place_among : List ℕ → Option (List ℕ) → Option (List ℕ) → List FlatEntry
+    → Option (List ℕ) → Place
 place_among k low high [] tail = Gap tail (record { low = low; high = high })
 place_among k low high (e ∷ es) tail =
-    by_order (key_cmp k e.key) (Gap e.child (record { low = low; high = Some e.key })) (Held e.held) (place_among k (Some e.key) high es tail)
+    by_order (key_cmp k e.key) (Gap e.child (record { low = low; high = Some e.key })) (Held e.held)
+    (place_among k (Some e.key) high es tail)
 
 -- the place of a key in a flat node of a span
 abbrev pub place_of : List ℕ → Span → FlatNode → Place

@@ -85,7 +85,9 @@ node_at format (v ∷ l ∷ []) = None
 node_at format (v ∷ l ∷ h ∷ []) = None
 node_at format (v ∷ l ∷ h ∷ k ∷ bytes) =
     let n = from_be_bytes w16 (h ∷ k ∷ []) in
-    if v == version format then (if n == 0 then None else (body_at format n bytes >>= λ body. Some (node_of format l body))) else None
+    if v == version format
+    then (if n == 0 then None else (body_at format n bytes >>= λ b. Some (node_of format l b)))
+    else None
 
 -- the body that is read, or an empty one where none is
 abbrev pub body_or_empty : Format → ℕ → List ℕ → List FlatEntry × Option (List ℕ)

@@ -29,7 +29,8 @@ has_stayed format h live w t = list_any (λ u. nat_lt u w && lasts format h u w 
 -- for the node
 abbrev pub rows_first_at : Format → History → List ℕ → ℕ → ℕ
 rows_first_at format h live w =
-    sum_by (λ t. top_entries t + 1) (filter (λ t. not (has_stayed format h live w t)) (subtrees (tree_at format h w)))
+    sum_by (λ t. top_entries t + 1)
+    (filter (λ t. not (has_stayed format h live w t)) (subtrees (tree_at format h w)))
 
 -- what the kept versions below n hold
 abbrev pub held_below : Format → History → List ℕ → ℕ → ℕ

@@ -49,8 +49,12 @@ held_text Two held = held
 abbrev pub entry_text : Format → FlatEntry → List ℕ
 entry_text format e = child_text e.child ++ counted e.key ++ held_text format e.held
 
--- the version, the layer, the number of entries in two bytes, the high one first, the entries, and
--- the last child
+-- what stands in front of the entries: the version, the layer, and the number of entries in two
+-- bytes, the high one first
+abbrev pub heading : Format → ℕ → ℕ → List ℕ
+heading format layer count = version format ∷ layer ∷ to_be_bytes w16 count
+
+-- the heading, the entries, and the last child
 abbrev pub spelling : FlatNode → List ℕ
 spelling n = version n.format ∷ n.layer ∷ to_be_bytes w16 (length n.entries) ++ flat_map
     (entry_text n.format) n.entries ++ child_text n.tail
@@ -67,12 +71,18 @@ abbrev mutual
   pub child_digest : Tree → Option (List ℕ)
   child_digest empty = None
   child_digest (node format l es) =
-      Some (sha256 (spelling (record { format = format; layer = l; entries = flat_entries format es; tail = tail_digest es })))
+      Some (sha256 (spelling (record {
+        format = format;
+        layer = l;
+        entries = flat_entries format es;
+        tail = tail_digest es;
+      })))
 
   pub flat_entries : Format → Entries → List FlatEntry
   flat_entries format (last child) = []
   flat_entries format (entry child key value rest) =
-      record { child = child_digest child; key = key; held = held_of format value } ∷ flat_entries format rest
+      record { child = child_digest child; key = key; held = held_of format value }
+      ∷ flat_entries format rest
 
   pub tail_digest : Entries → Option (List ℕ)
   tail_digest (last child) = child_digest child

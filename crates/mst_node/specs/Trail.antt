@@ -26,7 +26,8 @@ abbrev mutual
 
   pub met_in_gap : List ℕ → Entries → List Tree
   met_in_gap k (last child) = nodes_met k child
-  met_in_gap k (entry child key value rest) = by_order (key_cmp k key) (nodes_met k child) [] (met_in_gap k rest)
+  met_in_gap k (entry child key value rest) =
+      by_order (key_cmp k key) (nodes_met k child) [] (met_in_gap k rest)
 
 -- the trail of a key in a map's tree
 abbrev pub trail : Format → List Pair → List ℕ → List Tree

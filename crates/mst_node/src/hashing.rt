@@ -1,8 +1,6 @@
-//! Digests of texts, and the parts of a text fed to a hasher.
-ghost use Rattle.std.specs.Prelude.{◌≡◌, ◌≤◌, ℕ, List, [], ◌++◌, length};
+//! Digests of texts.
+ghost use Rattle.std.specs.Prelude.{◌≡◌, []};
 ghost use Rattle.sha2.specs.Sha256.{sha256};
-ghost use Rattle.sha2.specs.Hashers.{Holds256};
-ghost use Rattle.mst_node.specs.Text.{child_text, counted};
 
 use sha2::{Digest, Sha256};
 
@@ -23,32 +21,4 @@ pub fn empty_digest() -> [u8; 32]
         0x24, 0x27, 0xae, 0x41, 0xe4, 0x64, 0x9b, 0x93, 0x4c, 0xa4, 0x95, 0x99, 0x1b, 0x78, 0x52,
         0xb8, 0x55,
     ]
-}
-
-/// Feeds a hasher a byte 1 and the digest of a child, or a byte 0 where there is none, as a child
-/// stands in a node's text.
-pub fn feed_child(hasher: &mut Sha256, child: Option<[u8; 32]>)
-    ensures fed { (m : List ℕ) → Holds256 hasher.old m
-        → Holds256 hasher.new (m ++ child_text child) }
-{
-    match child {
-        None => {
-            hasher.update([0u8].as_slice());
-        }
-        Some(digest) => {
-            hasher.update([1u8].as_slice());
-            hasher.update(digest.as_slice());
-        }
-    }
-}
-
-/// Feeds a hasher bytes behind their number, at most 255, as a key and a value stand in a node's
-/// text.
-pub fn feed_counted(hasher: &mut Sha256, bytes: &[u8])
-    requires few { length bytes.now ≤ 255 }
-    ensures fed { (m : List ℕ) → Holds256 hasher.old m
-        → Holds256 hasher.new (m ++ counted bytes.now) }
-{
-    hasher.update([bytes.len() as u8].as_slice());
-    hasher.update(bytes);
 }

@@ -38,12 +38,13 @@ mod order;
 mod place;
 mod reading;
 mod root;
+mod sinks;
 mod texts;
 
 pub use flat::Flat;
 pub use framing::top_text;
 pub use grammar::{NodeFault, read_text};
-pub use hashing::{digest, empty_digest, feed_child, feed_counted};
+pub use hashing::{digest, empty_digest};
 pub use laws::{
     collision_of_two, held_laws, one_text, one_tree, order_of_tree, text_by_grammar, tree_by_gaps,
 };
@@ -52,4 +53,5 @@ pub use node::{Entry, Node};
 pub use order::{ascending, is_map};
 pub use place::{Place, Span};
 pub use root::root_of;
-pub use texts::{push_child, push_counted, text};
+pub use sinks::{TextBuffer, TextSink};
+pub use texts::text;

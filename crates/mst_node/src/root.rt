@@ -7,7 +7,8 @@ ghost use Rattle.mst_node.specs.Tree.{tree};
 ghost use Rattle.mst_node.specs.Text.{digest, child_digest as digest_of_child, root as root_digest};
 ghost use Rattle.mst_node.specs.Top.{IsTop};
 
-use crate::hashing::{empty_digest, feed_child, feed_counted};
+use crate::hashing::empty_digest;
+use crate::sinks::TextSink;
 use mst_key::{Key, Value};
 use sha2::{Digest, Sha256};
 
@@ -81,24 +82,21 @@ fn digest_of(pairs: &[(Key, Value)], top: Top) -> [u8; 32]
     ensures digest { result ≡ digest (tree One pairs.now) }
 {
     let mut hasher = Sha256::new();
-    hasher.update([1, top.layer].as_slice());
-    let count = top.count as u16;
-    hasher.update(count.to_be_bytes().as_slice());
+    hasher.heading(top.layer, top.count as u16);
     let mut start = 0;
     let mut gap = Top::none();
     for (i, pair) in pairs.iter().enumerate() {
         let layer = pair.0.layer();
         if layer == top.layer {
-            feed_child(&mut hasher, gap_digest(&pairs[start..i], gap));
-            feed_counted(&mut hasher, pair.0.bytes());
-            feed_counted(&mut hasher, pair.1.bytes());
+            let child = gap_digest(&pairs[start..i], gap);
+            hasher.entry(child, pair.0.bytes(), pair.1.bytes());
             start = i + 1;
             gap = Top::none();
         } else {
             gap = gap.with(layer);
         }
     }
-    feed_child(&mut hasher, gap_digest(&pairs[start..], gap));
+    hasher.child(gap_digest(&pairs[start..], gap));
     hasher.finalize()
 }
 

@@ -12,7 +12,8 @@ use Rattle.mst_path.specs.declared.node_writer.NodeWriter.{NodeWriter}
 
 -- These entries are written, in new rows: their rows and those of the trees before them are alive,
 -- no row twice, and the row for the next entry is a new one and none of them.
-pub record Going (w : NodeWriter) (content : Content) (s : State) (ws : List PlacedEntry) : Type 0 where
+pub record Going (w : NodeWriter) (content : Content) (s : State)
+    (ws : List PlacedEntry) : Type 0 where
   pub written : IsWritten w content ws
   pub once : (r : ℕ) → times r (ahead w.next) + times r (entries_used ws) ≤ 1
   pub alive : (r : ℕ) → In r (entries_used ws) → IsAlive s r
@@ -31,7 +32,8 @@ pub record Copying (w : NodeWriter) (content : Content) (s : State) (link count 
 
 -- The entries are copied: their rows were killed, and the copies were written into rows that were
 -- taken.
-pub record Copied (w w' : NodeWriter) (c c' : Content) (s s' : State) (ws es : List PlacedEntry) : Type 0 where
+pub record Copied (w w' : NodeWriter) (c c' : Content) (s s' : State)
+    (ws es : List PlacedEntry) : Type 0 where
   pub copies : List PlacedEntry
   pub same : AreCopies copies es
   pub going : Going w' c' s' (ws ++ copies)

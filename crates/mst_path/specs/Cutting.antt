@@ -29,7 +29,8 @@ pub record IsRunOf (run : Run) (behind : ℕ) (es : List PlacedEntry) : Type 0 w
   pub begins : link_from behind es ≡ run.first
 
 -- the key falls into the gap between two parts of the entries, in which the tree at the link stands
-pub record CutGap (k : List ℕ) (es : List PlacedEntry) (tail : Placed) (front : Run) (child : ℕ) (back : Run) : Type 0 where
+pub record CutGap (k : List ℕ) (es : List PlacedEntry) (tail : Placed) (front : Run) (child : ℕ)
+    (back : Run) : Type 0 where
   pub before : List PlacedEntry
   pub behind : List PlacedEntry
   pub whole : es ≡ before ++ behind
@@ -39,7 +40,8 @@ pub record CutGap (k : List ℕ) (es : List PlacedEntry) (tail : Placed) (front 
   pub gap : IsGap k (entries_to es tail) (cells_of before) (entries_to behind tail)
 
 -- the key's entry stands in the row between two parts of the entries, behind the tree at the link
-pub record CutHeld (k : List ℕ) (es : List PlacedEntry) (tail : Placed) (front : Run) (row child : ℕ) (back : Run) : Type 0 where
+pub record CutHeld (k : List ℕ) (es : List PlacedEntry) (tail : Placed) (front : Run)
+    (row child : ℕ) (back : Run) : Type 0 where
   pub before : List PlacedEntry
   pub here : PlacedEntry
   pub behind : List PlacedEntry

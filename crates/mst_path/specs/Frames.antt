@@ -41,14 +41,17 @@ pub record Framed (content : Content) (s : State) (frame : Frame) (given : ℕ �
       (gaps_used (others back)) + times x (used tail) + times x (spare frame) ≤ 1
 
 -- how often a row stands in the entries, with the trees in their gaps, and in all of the frame
-abbrev pub in_entries : {content : Content} {s : State} {frame : Frame} {given : ℕ → ℕ} → Framed content s frame given → ℕ → ℕ
+abbrev pub in_entries : {content : Content} {s : State} {frame : Frame} {given : ℕ → ℕ}
+    → Framed content s frame given → ℕ → ℕ
 in_entries f x = times x (own f.front) + times x (gaps_used f.front) + times x (own f.back)
     + times x (gaps_used (others f.back)) + times x (used f.tail)
 
-abbrev pub in_frame : {content : Content} {s : State} {frame : Frame} {given : ℕ → ℕ} → Framed content s frame given → ℕ → ℕ
+abbrev pub in_frame : {content : Content} {s : State} {frame : Frame} {given : ℕ → ℕ}
+    → Framed content s frame given → ℕ → ℕ
 in_frame {content} {s} {frame} f x = in_entries f x + times x (spare frame)
 
 -- the tree with this one in the gap
-abbrev pub tree_round : {content : Content} {s : State} {frame : Frame} {given : ℕ → ℕ} → Framed content s frame given → Tree → Tree
+abbrev pub tree_round : {content : Content} {s : State} {frame : Frame} {given : ℕ → ℕ}
+    → Framed content s frame given → Tree → Tree
 tree_round {content} {s} {frame} f t = node_of One frame.layer
     (with_entries (cells_of f.front) (with_first t (entries_to f.back f.tail)))

@@ -18,7 +18,8 @@ use Rattle.mst_path.specs.Joining.{TwoTrees, in_both, height}
 use Rattle.mst_path.specs.Removing.{SearchTree, in_tree}
 
 -- The key falls into a gap of the node: the tree there, and the frame round it.
-pub record OpensGap (content : Content) (s : State) (link : ℕ) (t : SearchTree content s link) (k : List ℕ) (child : ℕ) (frame : Frame) : Type 0 where
+pub record OpensGap (content : Content) (s : State) (link : ℕ) (t : SearchTree content s link)
+    (k : List ℕ) (child : ℕ) (frame : Frame) : Type 0 where
   pub inner : SearchTree content s child
   pub framed : Framed content s frame (in_tree inner)
   pub entries : Entries
@@ -34,7 +35,8 @@ pub record OpensGap (content : Content) (s : State) (link : ℕ) (t : SearchTree
   pub low : frame.layer ≤ 64
 
 -- The key has an entry in the node: the trees beside it, and the frame round it.
-pub record OpensEntry (content : Content) (s : State) (link : ℕ) (t : SearchTree content s link) (k : List ℕ) (m : Meeting) : Type 0 where
+pub record OpensEntry (content : Content) (s : State) (link : ℕ) (t : SearchTree content s link)
+    (k : List ℕ) (m : Meeting) : Type 0 where
   pub inner : TwoTrees content s m.left m.right
   pub framed : Framed content s m.frame (in_both inner)
   pub value : List ℕ
@@ -48,6 +50,7 @@ pub record OpensEntry (content : Content) (s : State) (link : ℕ) (t : SearchTr
   pub given : (x : ℕ) → in_tree t x ≡ in_both inner x + in_frame framed x
   pub low : m.frame.layer ≤ 64
 
-abbrev pub IsOpened : (content : Content) (s : State) (link : ℕ) → SearchTree content s link → List ℕ → Step → Type 0
+abbrev pub IsOpened : (content : Content) (s : State) (link : ℕ)
+    → SearchTree content s link → List ℕ → Step → Type 0
 IsOpened content s link t k (Down child frame) = OpensGap content s link t k child frame
 IsOpened content s link t k (Here meeting) = OpensEntry content s link t k meeting

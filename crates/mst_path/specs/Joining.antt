@@ -30,14 +30,17 @@ pub record TwoTrees (content : Content) (s : State) (left right : ℕ) : Type 0 
   pub once : (x : ℕ) → times x (used a) + times x (used b) ≤ 1
 
 -- how often a row stands in them
-abbrev pub in_both : {content : Content} {s : State} {left right : ℕ} → TwoTrees content s left right → ℕ → ℕ
+abbrev pub in_both : {content : Content} {s : State} {left right : ℕ}
+    → TwoTrees content s left right → ℕ → ℕ
 in_both t x = times x (used t.a) + times x (used t.b)
 
 -- the tree of both, and the rows of the nodes that are made new
-abbrev pub both_joined : {content : Content} {s : State} {left right : ℕ} → TwoTrees content s left right → Tree
+abbrev pub both_joined : {content : Content} {s : State} {left right : ℕ}
+    → TwoTrees content s left right → Tree
 both_joined t = join (tree_of One t.a) (tree_of One t.b)
 
-abbrev pub both_rows : {content : Content} {s : State} {left right : ℕ} → TwoTrees content s left right → ℕ
+abbrev pub both_rows : {content : Content} {s : State} {left right : ℕ}
+    → TwoTrees content s left right → ℕ
 both_rows t = join_rows (tree_of One t.a) (tree_of One t.b)
 
 -- how many layers there may be in a tree, and in the one at a link by its head
@@ -51,7 +54,8 @@ height_at content (suc row) = option_map_or (λ h. h.layer + 1) (part_at head_li
 
 -- The trees that meet, and the frame round them: their join in the frame's gap makes the join of
 -- the two.
-pub record Met (content : Content) (s : State) (left right : ℕ) (t : TwoTrees content s left right) (m : Meeting) : Type 0 where
+pub record Met (content : Content) (s : State) (left right : ℕ) (t : TwoTrees content s left right)
+    (m : Meeting) : Type 0 where
   pub inner : TwoTrees content s m.left m.right
   pub framed : Framed content s m.frame (in_both inner)
   pub is : both_joined t ≡ tree_round framed (both_joined inner)
@@ -67,19 +71,40 @@ abbrev pub above_right : ℕ → ℕ → HeadLinks → Meeting
 above_right left right low = record {
   left = low.tail;
   right = right;
-  frame = record { layer = low.layer; front = record { first = low.first; count = low.count }; back = record { first = 0; count = 0 }; tail = 0; head = left - 1; other = None };
+  frame = record {
+    layer = low.layer;
+    front = record { first = low.first; count = low.count };
+    back = record { first = 0; count = 0 };
+    tail = 0;
+    head = left - 1;
+    other = None;
+  };
 }
 
 abbrev pub below_right : ℕ → ℕ → HeadLinks → ℕ → Meeting
 below_right left right high child = record {
   left = left;
   right = child;
-  frame = record { layer = high.layer; front = record { first = 0; count = 0 }; back = record { first = high.first; count = high.count }; tail = high.tail; head = right - 1; other = None };
+  frame = record {
+    layer = high.layer;
+    front = record { first = 0; count = 0 };
+    back = record { first = high.first; count = high.count };
+    tail = high.tail;
+    head = right - 1;
+    other = None;
+  };
 }
 
 abbrev pub beside_right : ℕ → ℕ → HeadLinks → HeadLinks → ℕ → Meeting
 beside_right left right low high child = record {
   left = low.tail;
   right = child;
-  frame = record { layer = low.layer; front = record { first = low.first; count = low.count }; back = record { first = high.first; count = high.count }; tail = high.tail; head = left - 1; other = Some (right - 1) };
+  frame = record {
+    layer = low.layer;
+    front = record { first = low.first; count = low.count };
+    back = record { first = high.first; count = high.count };
+    tail = high.tail;
+    head = left - 1;
+    other = Some (right - 1);
+  };
 }

@@ -13,7 +13,9 @@ use Rattle.mst_path.specs.Writing.{PlacedEntry}
 abbrev mutual
   pub IsMade : State → Placed → Type 0
   IsMade s none = Unit {0}
-  IsMade s (head at layer chain) = ((r : ℕ) → In r (used (head at layer chain)) → IsOld s r) ⊎ (IsNew s at × IsMadeChain s chain)
+  IsMade s (head at layer chain) =
+      ((r : ℕ) → In r (used (head at layer chain)) → IsOld s r)
+      ⊎ (IsNew s at × IsMadeChain s chain)
 
   pub IsMadeChain : State → Chain → Type 0
   IsMadeChain s (end child) = IsMade s child

@@ -46,7 +46,8 @@ HasTail (e ∷ es) tail = Unit {0}
 
 -- The entries at the back of a node stand from a link on, with the tree in the last gap. The tree
 -- before the first of them does not matter.
-pub record BackRun (content : Content) (s : State) (link count tail_link : ℕ) (es : List PlacedEntry) (tail : Placed) : Type 0 where
+pub record BackRun (content : Content) (s : State) (link count tail_link : ℕ)
+    (es : List PlacedEntry) (tail : Placed) : Type 0 where
   pub counted : length es ≡ count
   pub begins : link_from 0 es ≡ link
   pub rows : HasRows content (own_rows 0 es)
@@ -72,14 +73,16 @@ pub record PartsStand (content : Content) (s : State) (parts : Parts) : Type 0 w
       + times x (gaps_used (others back)) + times x (used tail) ≤ 1
 
 -- how often a row stands in the parts
-abbrev pub in_parts : {content : Content} {s : State} {parts : Parts} → PartsStand content s parts → ℕ → ℕ
+abbrev pub in_parts : {content : Content} {s : State} {parts : Parts}
+    → PartsStand content s parts → ℕ → ℕ
 in_parts p x = times x (own p.front) + times x (gaps_used p.front) + times x (used p.seam) + times x
     (own p.back) + times x (gaps_used (others p.back)) + times x (used p.tail)
 
 -- The tree stands at the root, on rows of what was given and rows that were taken, so many of
 -- these; what was given and is not of the new tree was killed, and only rows that were taken were
 -- written.
-pub record Grown (c c' : Content) (s s' : State) (t : Tree) (at : Root) (given : ℕ → ℕ) (count : ℕ) : Type 0 where
+pub record Grown (c c' : Content) (s s' : State) (t : Tree) (at : Root) (given : ℕ → ℕ)
+    (count : ℕ) : Type 0 where
   pub placed : Placed
   pub is : tree_of One placed ≡ t
   pub root : IsRootOf placed at
@@ -92,7 +95,8 @@ pub record Grown (c c' : Content) (s s' : State) (t : Tree) (at : Root) (given :
   pub counted : length taken ≡ count
 
 -- The same for two trees, below and above a key.
-pub record Split (c c' : Content) (s s' : State) (t u : Tree) (left right : Root) (given : ℕ → ℕ) (count : ℕ) : Type 0 where
+pub record Split (c c' : Content) (s s' : State) (t u : Tree) (left right : Root) (given : ℕ → ℕ)
+    (count : ℕ) : Type 0 where
   pub lower : Placed
   pub upper : Placed
   pub lower_is : tree_of One lower ≡ t
@@ -135,7 +139,8 @@ pub record Rest (w : NodeWriter) (content : Content) (s : State) (parts : Parts)
       (used seam) + times x (own back) + times x (gaps_used (others back)) + times x (used tail) ≤ 1
 
 -- the node is written
-pub record Finished (w : NodeWriter) (c c' : Content) (s s' : State) (parts : Parts) (r : Rest w c s parts) (at : Root) : Type 0 where
+pub record Finished (w : NodeWriter) (c c' : Content) (s s' : State) (parts : Parts)
+    (r : Rest w c s parts) (at : Root) : Type 0 where
   pub placed : Placed
   pub is : tree_of One placed ≡ node One w.layer
       (with_entries (cells_of r.ws) (with_first (tree_of One r.seam) (entries_to r.back r.tail)))

@@ -37,11 +37,13 @@ pub record TwoStand (content : Content) (s : State) (left right : Root) : Type 0
   pub once : (x : ℕ) → times x (used lower) + times x (used upper) ≤ 1
 
 -- how often a row stands in them
-abbrev pub in_two : {content : Content} {s : State} {left right : Root} → TwoStand content s left right → ℕ → ℕ
+abbrev pub in_two : {content : Content} {s : State} {left right : Root}
+    → TwoStand content s left right → ℕ → ℕ
 in_two t x = times x (used t.lower) + times x (used t.upper)
 
 -- the tree with a new entry in the gap, between these two
-abbrev pub tree_with : {content : Content} {s : State} {frame : Frame} {given : ℕ → ℕ} → Framed content s frame given → List ℕ → List ℕ → Tree → Tree → Tree
+abbrev pub tree_with : {content : Content} {s : State} {frame : Frame} {given : ℕ → ℕ}
+    → Framed content s frame given → List ℕ → List ℕ → Tree → Tree → Tree
 tree_with {content} {s} {frame} f k v t u = node One frame.layer
     (with_entries (cells_of f.front) (entry t k v (with_first u (entries_to f.back f.tail))))
 
@@ -55,19 +57,23 @@ pub record RisingTree (content : Content) (s : State) (link : ℕ) : Type 0 wher
   pub rises : IsAscending (pairs (tree_of One tree.placed))
 
 -- how often a row stands in it, the tree with the pair, and the rows of the nodes that are made new
-abbrev pub in_rising : {content : Content} {s : State} {link : ℕ} → RisingTree content s link → ℕ → ℕ
+abbrev pub in_rising : {content : Content} {s : State} {link : ℕ}
+    → RisingTree content s link → ℕ → ℕ
 in_rising t x = times x (used t.tree.placed)
 
-abbrev pub with_pair : {content : Content} {s : State} {link : ℕ} → RisingTree content s link → ℕ → List ℕ → List ℕ → Tree
+abbrev pub with_pair : {content : Content} {s : State} {link : ℕ}
+    → RisingTree content s link → ℕ → List ℕ → List ℕ → Tree
 with_pair t l k v = put_at One l k v (tree_of One t.tree.placed)
 
-abbrev pub pair_rows : {content : Content} {s : State} {link : ℕ} → RisingTree content s link → ℕ → List ℕ → List ℕ → ℕ
+abbrev pub pair_rows : {content : Content} {s : State} {link : ℕ}
+    → RisingTree content s link → ℕ → List ℕ → List ℕ → ℕ
 pair_rows t l k v = put_rows l k v (tree_of One t.tree.placed)
 
 -- ---- what becomes of the top node
 
 -- The key falls into a gap of a node of a higher layer: the pair is put into the tree there.
-pub record PutsDown (content : Content) (s : State) (link : ℕ) (t : RisingTree content s link) (l : ℕ) (k : List ℕ) (child : ℕ) (frame : Frame) : Type 0 where
+pub record PutsDown (content : Content) (s : State) (link : ℕ) (t : RisingTree content s link)
+    (l : ℕ) (k : List ℕ) (child : ℕ) (frame : Frame) : Type 0 where
   pub inner : RisingTree content s child
   pub framed : Framed content s frame (in_rising inner)
   pub is : (v : List ℕ) → with_pair t l k v ≡ tree_round framed (with_pair inner l k v)
@@ -78,7 +84,8 @@ pub record PutsDown (content : Content) (s : State) (link : ℕ) (t : RisingTree
 
 -- The key falls into a gap of a node of its layer: the tree there is split, and the pair stands
 -- between its sides.
-pub record PutsBetween (content : Content) (s : State) (link : ℕ) (t : RisingTree content s link) (l : ℕ) (k : List ℕ) (child : ℕ) (frame : Frame) : Type 0 where
+pub record PutsBetween (content : Content) (s : State) (link : ℕ) (t : RisingTree content s link)
+    (l : ℕ) (k : List ℕ) (child : ℕ) (frame : Frame) : Type 0 where
   pub inner : ToSplit content s child k
   pub framed : Framed content s frame (λ x. times x (used inner.tree.placed))
   pub is : (v : List ℕ)
@@ -91,7 +98,8 @@ pub record PutsBetween (content : Content) (s : State) (link : ℕ) (t : RisingT
 
 -- The key has an entry in the node: it is written anew, with the value, between the trees beside
 -- it.
-pub record PutsAnew (content : Content) (s : State) (link : ℕ) (t : RisingTree content s link) (l : ℕ) (k : List ℕ) (m : Meeting) : Type 0 where
+pub record PutsAnew (content : Content) (s : State) (link : ℕ) (t : RisingTree content s link)
+    (l : ℕ) (k : List ℕ) (m : Meeting) : Type 0 where
   pub inner : TwoTrees content s m.left m.right
   pub framed : Framed content s m.frame (in_both inner)
   pub is : (v : List ℕ)
@@ -101,7 +109,8 @@ pub record PutsAnew (content : Content) (s : State) (link : ℕ) (t : RisingTree
   pub low : m.frame.layer ≤ 64
 
 -- where the pair stands on top, all keys are of lower layers
-abbrev pub IsPutStep : (content : Content) (s : State) (link : ℕ) → RisingTree content s link → ℕ → List ℕ → PutStep → Type 0
+abbrev pub IsPutStep : (content : Content) (s : State) (link : ℕ)
+    → RisingTree content s link → ℕ → List ℕ → PutStep → Type 0
 IsPutStep content s link t l k OnTop = height (tree_of One t.tree.placed) ≤ l
 IsPutStep content s link t l k (Down child frame) = PutsDown content s link t l k child frame
 IsPutStep content s link t l k (Between child frame) = PutsBetween content s link t l k child frame

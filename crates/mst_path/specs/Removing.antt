@@ -30,14 +30,17 @@ abbrev pub in_tree : {content : Content} {s : State} {link : ℕ} → SearchTree
 in_tree t x = times x (used t.placed)
 
 -- the tree without the key, and the rows of the nodes that are made new
-abbrev pub without : {content : Content} {s : State} {link : ℕ} → SearchTree content s link → List ℕ → Tree
+abbrev pub without : {content : Content} {s : State} {link : ℕ}
+    → SearchTree content s link → List ℕ → Tree
 without t k = tree_remove (tree_of One t.placed) k
 
-abbrev pub without_rows : {content : Content} {s : State} {link : ℕ} → SearchTree content s link → List ℕ → ℕ
+abbrev pub without_rows : {content : Content} {s : State} {link : ℕ}
+    → SearchTree content s link → List ℕ → ℕ
 without_rows t k = remove_rows (tree_of One t.placed) k
 
 -- The key falls into a gap of the top node: the tree in it loses the key.
-pub record StepsDown (content : Content) (s : State) (link : ℕ) (t : SearchTree content s link) (k : List ℕ) (child : ℕ) (frame : Frame) : Type 0 where
+pub record StepsDown (content : Content) (s : State) (link : ℕ) (t : SearchTree content s link)
+    (k : List ℕ) (child : ℕ) (frame : Frame) : Type 0 where
   pub inner : SearchTree content s child
   pub framed : Framed content s frame (in_tree inner)
   pub is : without t k ≡ tree_round framed (without inner k)
@@ -47,7 +50,8 @@ pub record StepsDown (content : Content) (s : State) (link : ℕ) (t : SearchTre
   pub low : frame.layer ≤ 64
 
 -- The key has an entry in the top node: it goes, and the trees beside it are joined.
-pub record StepsHere (content : Content) (s : State) (link : ℕ) (t : SearchTree content s link) (k : List ℕ) (m : Meeting) : Type 0 where
+pub record StepsHere (content : Content) (s : State) (link : ℕ) (t : SearchTree content s link)
+    (k : List ℕ) (m : Meeting) : Type 0 where
   pub inner : TwoTrees content s m.left m.right
   pub framed : Framed content s m.frame (in_both inner)
   pub is : without t k ≡ tree_round framed (both_joined inner)
@@ -55,6 +59,7 @@ pub record StepsHere (content : Content) (s : State) (link : ℕ) (t : SearchTre
   pub given : (x : ℕ) → in_tree t x ≡ in_both inner x + in_frame framed x
   pub low : m.frame.layer ≤ 64
 
-abbrev pub IsStep : (content : Content) (s : State) (link : ℕ) → SearchTree content s link → List ℕ → Step → Type 0
+abbrev pub IsStep : (content : Content) (s : State) (link : ℕ)
+    → SearchTree content s link → List ℕ → Step → Type 0
 IsStep content s link t k (Down child frame) = StepsDown content s link t k child frame
 IsStep content s link t k (Here meeting) = StepsHere content s link t k meeting

@@ -26,7 +26,8 @@ abbrev pub ToSplit : Content → State → ℕ → List ℕ → Type 0
 ToSplit content s link k = SearchUnder content s link (layer_in One k)
 
 -- what a side is made of parts: a node, or the tree in the seam where there are no entries
-abbrev pub side_of : {content : Content} {s : State} {parts : Parts} → PartsStand content s parts → Tree
+abbrev pub side_of : {content : Content} {s : State} {parts : Parts}
+    → PartsStand content s parts → Tree
 side_of {parts = parts} p = node_of One parts.layer
     (with_entries (cells_of p.front) (with_first (tree_of One p.seam) (entries_to p.back p.tail)))
 
@@ -38,5 +39,6 @@ pub record BothStand (content : Content) (s : State) (row : ℕ) (left right : P
   pub once : (x : ℕ) → times x (row ∷ []) + in_parts lower x + in_parts upper x ≤ 1
 
 -- how often a row stands in both sides and the head
-abbrev pub in_both : {content : Content} {s : State} {row : ℕ} {left right : Parts} → BothStand content s row left right → ℕ → ℕ
+abbrev pub in_both : {content : Content} {s : State} {row : ℕ} {left right : Parts}
+    → BothStand content s row left right → ℕ → ℕ
 in_both {row = row} b x = times x (row ∷ []) + in_parts b.lower x + in_parts b.upper x

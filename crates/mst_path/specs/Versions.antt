@@ -13,7 +13,8 @@ use Rattle.mst_path.specs.Reached.{ReachesExactly, IsSettled}
 
 -- A version has its map: it stands at a root, and the version reaches exactly the rows that stand
 -- for it.
-pub record HasMap (content : Content) (lives : List Life) (v : ℕ) (at : Root) (m : List Pair) : Type 0 where
+pub record HasMap (content : Content) (lives : List Life) (v : ℕ) (at : Root)
+    (m : List Pair) : Type 0 where
   pub stands : Stands One content at m
   pub rows : ReachesExactly lives v (numbers stands)
 
@@ -36,7 +37,8 @@ HaveMaps content lives kept =
     AllByRecursion (λ k. HasMap content lives k.number k.root k.pairs) kept
 
 -- the numbers of the rows that stand for their maps
-abbrev pub rows_kept : (content : Content) (lives : List Life) (kept : List Kept) → HaveMaps content lives kept → List ℕ
+abbrev pub rows_kept : (content : Content) (lives : List Life) (kept : List Kept)
+    → HaveMaps content lives kept → List ℕ
 rows_kept content lives [] have = []
 rows_kept content lives (k ∷ ks) have = numbers have.0.stands ++ rows_kept content lives ks have.1
 

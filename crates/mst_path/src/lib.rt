@@ -9,10 +9,10 @@
 //! let mut desk = Desk::new(alloc, 64, 2, 0)?;
 //! let mut rows = PlainRows::new(alloc, 64)?;
 //! let root = plant(&mut rows, &mut desk, build(alloc, &pairs)?.as_deref())?;
-//! desk.advance(1);                                  // the planted map is version 1
+//! desk.advance(1);                                // the planted map is version 1
 //! let (root, old) = put(&mut rows, &mut desk, &root, &apple, &Value::new(b"35")?)?;
-//! desk.advance(0);                                  // version 2 has the new price,
-//! desk.sweep(&[2]);                                 // and what only version 1 reached is free again
+//! desk.advance(0);                                // version 2 has the new price,
+//! desk.sweep(&[2]);                               // and what only version 1 reached is free again
 //! ```
 //!
 //! The calls write rows for the version to come and publish nothing: their caller advances the

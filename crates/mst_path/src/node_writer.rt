@@ -1,7 +1,6 @@
 //! One node, written into rows entry by entry.
 ghost use Rattle.std.specs.Prelude.{◌≡◌, ◌≤◌, ◌<◌, ◌+◌, ℕ, List, [], ◌∷◌, ◌++◌, length, Some, IfSome, IsTrue};
-ghost use Rattle.sha2.specs.Hashers.{Holds256};
-ghost use Rattle.mst_node.specs.Text.{child_text, child_digest};
+ghost use Rattle.mst_node.specs.Text.{child_digest};
 ghost use Rattle.mst_key.specs.declared.format.Format.TheVariants.{One};
 ghost use Rattle.mst_arena.specs.Lives.{free_count};
 ghost use Rattle.mst_arena.specs.Content.{Content};
@@ -11,7 +10,7 @@ ghost use Rattle.mst_path.specs.Writing.{PlacedEntry, chain_of, entries_used, Is
 
 use mst_arena::{Desk, Root, Row, Rows};
 use mst_key::{Key, Value};
-use mst_node::{feed_child, feed_counted};
+use mst_node::TextSink;
 use sha2::{Digest, Sha256};
 use std::alloc::Allocator;
 
@@ -39,15 +38,15 @@ fn take_next<A: Allocator>(desk: &mut Desk<A>, left: u32) -> Option<u32>
     }
 }
 
-/// Feeds a hasher a child as it stands in its node's text.
-fn feed_root(hasher: &mut Sha256, child: &Root)
-    ensures fed { (p : Placed) (m : List ℕ) → IsRootOf p child.now → Holds256 hasher.old m
-        → Holds256 hasher.new (m ++ child_text (child_digest (tree_of One p))) }
+/// The digest of the tree at a root, as it stands in the text of the node above; none for the empty
+/// tree.
+fn digest_at(root: &Root) -> Option<[u8; 32]>
+    ensures digest { (p : Placed) → IsRootOf p root.now → result ≡ child_digest (tree_of One p) }
 {
-    if child.link == 0 {
-        feed_child(hasher, None);
+    if root.link == 0 {
+        None
     } else {
-        feed_child(hasher, Some(child.digest));
+        Some(root.digest)
     }
 }
 
@@ -87,9 +86,7 @@ impl NodeWriter {
         let head = take_row(desk);
         let first = take_row(desk);
         let mut hasher = Sha256::new();
-        hasher.update([1, layer].as_slice());
-        let shown = count as u16;
-        hasher.update(shown.to_be_bytes().as_slice());
+        hasher.heading(layer, count as u16);
         NodeWriter {
             hasher,
             layer,
@@ -146,9 +143,8 @@ impl NodeWriter {
             value: value.copy(),
         };
         rows.write(row, &entry);
-        feed_root(&mut self.hasher, child);
-        feed_counted(&mut self.hasher, key.bytes());
-        feed_counted(&mut self.hasher, value.bytes());
+        self.hasher
+            .entry(digest_at(child), key.bytes(), value.bytes());
     }
 
     /// Writes the head, once all entries are written, with the tree at `tail` in the last gap. It
@@ -172,7 +168,7 @@ impl NodeWriter {
         ensures blank { R.blank rows.new ≡ R.blank rows.old }
         ensures kept { R.kept rows.new ≡ R.kept rows.old }
     {
-        feed_root(&mut self.hasher, tail);
+        self.hasher.child(digest_at(tail));
         let digest = self.hasher.finalize();
         let head = Row::Head {
             layer: self.layer,

@@ -43,10 +43,10 @@ goes_on at p key value rest out next whole before is =
 pub text_goes_on : (out : List ℕ) {content : Content} {tail row done all : ℕ} {e : EntryLinks} {whole : List ℕ} (a : AtCell One content tail row done all e (Completes out whole)) {next : List ℕ} → next ≡ ((out ++ child_text (child_digest (tree_of One a.child))) ++ counted e.key) ++ counted a.value → Onward One content tail e.next (done + 1) all (Completes next whole)
 text_goes_on out {row = row} {e = e} {whole = whole} a {next} is = further a (Completes next whole) (goes_on row a.child e.key a.value a.rest out next whole a.holds is)
 
--- two strings, each behind its length
-pub counted_twice : (out next last x y : List ℕ) → next ≡ out ++ counted x → last ≡ next ++ counted y → length last ≡ length out + (1 + length x) + (1 + length y)
-counted_twice out next last x y first second =
-    omega (arith, ap (λ (l : List ℕ). length l) first, ap (λ (l : List ℕ). length l) second, length-append out (counted x), length-append next (counted y))
+-- an entry: a child, and two strings, each behind its length
+pub entry_length : (out d x y : List ℕ) → length (((out ++ d) ++ counted x) ++ counted y) ≡ length out + length d + (1 + length x) + (1 + length y)
+entry_length out d x y =
+    omega (arith, length-append out d, length-append (out ++ d) (counted x), length-append ((out ++ d) ++ counted x) (counted y))
 
 pub text_ends : (out : List ℕ) {content : Content} {tail : ℕ} {whole : List ℕ} (a : AtEnd One content tail (Completes out whole)) {last : List ℕ} → last ≡ out ++ child_text (child_digest (tree_of One a.child)) → last ≡ whole
 text_ends out a is = is ∙ a.holds

@@ -33,7 +33,8 @@ pub record Lies (format : Format) (content : Content) (link : ℕ) (p : Placed) 
   pub rows : HasRows content (rows_of format p)
 
 -- the rows of the chain are in the content, and these are the links of its head
-pub record LiesBehind (format : Format) (content : Content) (links : HeadLinks) (chain : Chain) : Type 0 where
+pub record LiesBehind (format : Format) (content : Content) (links : HeadLinks)
+    (chain : Chain) : Type 0 where
   pub first : first_of chain ≡ links.first
   pub tail : tail_of chain ≡ links.tail
   pub count : count_of chain ≡ links.count
@@ -68,7 +69,8 @@ place k (cell at child key value rest) =
 abbrev pub entry_above : Option (List ℕ) → Chain → Option (ℕ × EntryLinks)
 entry_above bound (end child) = None
 entry_above bound (cell at child key value rest) =
-    if above bound key then Some (at, record { child = link_of child; next = first_of rest; key = key })
+    if above bound key
+    then Some (at, record { child = link_of child; next = first_of rest; key = key })
     else entry_above bound rest
 
 -- the tree in the gap in which the key would lie; the empty tree where an entry has the key

@@ -19,7 +19,8 @@ filled from to limit found m = found ++ take (limit - length found) (filter (wit
 
 -- a Merkle search tree whose keys rise stands in rows of the content, and this is what a search
 -- reads of its head
-pub record HeadStands (format : Format) (content : Content) (top : Option HeadLinks) (p : Placed) : Type 0 where
+pub record HeadStands (format : Format) (content : Content) (top : Option HeadLinks)
+    (p : Placed) : Type 0 where
   pub head_is : head_of p ≡ top
   pub rows : HasRows content (rows_of format p)
   pub mst : IsMst format (tree_of format p)

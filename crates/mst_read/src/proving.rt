@@ -15,27 +15,23 @@ use crate::descent::head_at;
 use crate::lookup::{Place, seek};
 use mst_arena::{HeadLinks, Root, Rows, Sought};
 use mst_key::{Key, Memory};
-use mst_node::{push_child, push_counted};
+use mst_node::{TextBuffer, TextSink};
 use std::alloc::Allocator;
 
-/// Appends a byte 1 and the digest of the tree at the link, or a byte 0 for the empty tree.
-fn push_gap<R: Rows, A: Allocator>(
-    rows: &mut R,
-    link: u32,
-    out: &mut Vec<u8, A>,
-) -> Result<(), Memory>
+/// The digest of the tree at the link, as it stands in the text of the node above; none for the
+/// empty tree.
+fn digest_at<R: Rows>(rows: &mut R, link: u32) -> Option<[u8; 32]>
     requires lies { (p : Placed) × Lies One (R.content rows.old) link p }
-    ensures ok { (p : Placed) → Lies One (R.content rows.old) link p
-        → OnOk result (out.new.items ≡ out.old.items ++ child_text (child_digest (tree_of One p))) }
-    ensures short { OnOk result (length out.new.items ≤ length out.old.items + 33) }
+    ensures digest { (p : Placed) → Lies One (R.content rows.old) link p
+        → result ≡ child_digest (tree_of One p) }
+    ensures short { length (child_text result) ≤ 33 }
     ensures same { rows.new ≡ rows.old }
 {
-    let child = if link == 0 {
+    if link == 0 {
         None
     } else {
         Some(rows.digest(link - 1))
-    };
-    push_child(out, child)
+    }
 }
 
 /// The text of the node behind the head: 37 bytes, and at most 131 for each entry.
@@ -51,22 +47,19 @@ fn node_text<R: Rows, A: Allocator>(
     ensures short { IfOk result (λ t. length t.items ≤ 8584991) }
     ensures same { rows.new ≡ rows.old }
 {
-    let mut out = Vec::new(alloc);
-    out.push(1)?;
-    out.push(head.layer)?;
-    out.extend_from_slice((head.count as u16).to_be_bytes().as_slice())?;
+    let mut out = TextBuffer::new(alloc);
+    out.heading(head.layer, head.count as u16);
     let mut link = head.first;
     for _ in 0..head.count {
         let row = link - 1;
         let entry = rows.entry(row);
         let value = rows.value(row);
-        push_gap(rows, entry.child, &mut out)?;
-        push_counted(&mut out, entry.key.bytes())?;
-        push_counted(&mut out, value.bytes())?;
+        let child = digest_at(rows, entry.child);
+        out.entry(child, entry.key.bytes(), value.bytes());
         link = entry.next;
     }
-    push_gap(rows, head.tail, &mut out)?;
-    Ok(out)
+    out.child(digest_at(rows, head.tail));
+    out.finish()
 }
 
 /// Appends a text, of fewer than 2^32 bytes, behind its length in four bytes, the high one first.

@@ -5,24 +5,22 @@ use Rattle.std.specs.Prelude.{slice_range}
 use Rattle.sha2.specs.Sha256.{sha256}
 use Rattle.mst_key.specs.declared.format.Format.TheVariants.{One}
 use Rattle.mst_key.specs.Layer.{layer}
-use Rattle.mst_node.specs.Text.{child_digest, counted}
-use Rattle.mst_node.proofs.Shapes.{heading}
+use Rattle.mst_node.specs.Text.{child_digest, counted, heading}
 use Rattle.mst_node.proofs.Trees.{tree-no_pairs, has_some, some_other, gap_more, gap_none}
 use Rattle.mst_node.proofs.Tops.{at_layer-le, text_some, text_at, text_other, text_end, child_digest_some}
 use Rattle.mst_node.proofs.root.+root.Goals as goal
 use Rattle.mst_node.proofs.root.+root.Goals.{digest_of-then-layer-top, digest_of-else-layer-top}
 
-pub digest_of-overflow_cast-count : goal.digest_of-overflow_cast-count
-digest_of-overflow_cast-count t c = omega (arith, c.requires.few, c.requires.top.count, at_layer-le layer c.args.top.layer c.args.pairs.now)
+pub digest_of-overflow_cast-top : goal.digest_of-overflow_cast-top
+digest_of-overflow_cast-top t c = omega (arith, c.requires.few, c.requires.top.count, at_layer-le layer c.args.top.layer c.args.pairs.now)
 
 pub digest_of-loop-i-init : goal.digest_of-loop-i-init
 digest_of-loop-i-init t c =
-    let held = c.update-2.ensures _ (c.update.ensures [] c.new-hasher.ensures) in
     record {
       within = omega arith;
       some = λ _. rw c.requires.top.layer (has_some layer c.args.pairs.now c.requires.some);
       gap_top = c.none-gap.ensures.top;
-      fed = (heading One c.args.top.layer c.args.top.count, rw (c.as_slice.ensures, c.as_slice-2.ensures, c.to_be_bytes.ensures) at held, sym (text_some One c.args.pairs.now c.args.top.layer c.args.top.count c.requires.some c.requires.top.layer c.requires.top.count));
+      fed = (heading One c.args.top.layer c.args.top.count, c.heading.ensures.heading [] c.new-hasher.ensures, sym (text_some One c.args.pairs.now c.args.top.layer c.args.top.count c.requires.some c.requires.top.layer c.requires.top.count));
     }
 
 pub digest_of-with-gap-requires : goal.digest_of-with-gap-requires
@@ -43,12 +41,12 @@ digest_of-loop-i-preserved t c =
     elim c.if-layer-top.branch [
       | digest_of-then-layer-top w ↦
           let at : layer x.0 ≡ c.args.top.layer = sym c.layer-layer.ensures.layer ∙ w.if-layer-top.true in
-          let held = w.feed_counted-then-layer-top.ensures.fed _ (w.feed_counted.ensures.fed _ (w.feed_child.ensures.fed front c.loop-i.invariant.fed.1)) in
+          let held = w.entry.ensures.entry front c.loop-i.invariant.fed.1 in
           record {
             within = omega (arith, w.start-is);
             some = λ z. absurd (omega (arith, z, w.start-is));
             gap_top = rw (w.start-is, w.gap-is, gap_none m (i + 1)) w.none-gap-then-layer-top.ensures.top;
-            fed = rw (w.start-is, w.hasher-is) (_, held, text_at One m x start i c.args.top.layer front _ w.gap_digest.result _ _ within c.index-pairs-i.is at w.gap_digest.ensures.digest (ap counted w.bytes.ensures.bytes) (ap counted w.bytes-then-layer-top.ensures.bytes) c.loop-i.invariant.fed.2);
+            fed = rw (w.start-is, w.hasher-is) (_, held, text_at One m x start i c.args.top.layer front _ w.gap_digest-child.result _ _ within c.index-pairs-i.is at w.gap_digest-child.ensures.digest (ap counted w.bytes.ensures.bytes) (ap counted w.bytes-then-layer-top.ensures.bytes) c.loop-i.invariant.fed.2);
           }
       | digest_of-else-layer-top w ↦
           let other : layer x.0 ≢ c.args.top.layer = λ e. w.if-layer-top.false (c.layer-layer.ensures.layer ∙ e) in
@@ -65,8 +63,8 @@ digest_of-returns t c =
     let m = c.args.pairs.now in
     let end : c.loop-i.i ≡ length m = omega arith in
     let front = c.loop-i.invariant.fed.0 in
-    let sum = c.finalize.ensures _ (c.feed_child-2.ensures.fed front c.loop-i.invariant.fed.1) in
-    record { digest = sum ∙ ap sha256 (text_end One m c.loop-i.start c.loop-i.i c.args.top.layer front _ c.gap_digest-2.result end c.gap_digest-2.ensures.digest c.loop-i.invariant.fed.2) }
+    let sum = c.finalize.ensures _ (c.child.ensures.child front c.loop-i.invariant.fed.1) in
+    record { digest = sum ∙ ap sha256 (text_end One m c.loop-i.start c.loop-i.i c.args.top.layer front _ c.gap_digest.result end c.gap_digest.ensures.digest c.loop-i.invariant.fed.2) }
 
 pub gap_digest-returns-then-is_empty : goal.gap_digest-returns-then-is_empty
 gap_digest-returns-then-is_empty t c =

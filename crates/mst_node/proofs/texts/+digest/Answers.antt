@@ -4,14 +4,14 @@ use Rattle.std.proofs.lemmas.Grind.{common_steps}
 use Rattle.sha2.specs.Sha256.{sha256}
 use Rattle.sha2.specs.Hashers.{Holds256}
 use Rattle.mst_key.specs.declared.format.Format.TheVariants.{One}
-use Rattle.mst_node.specs.Text.{counted}
+use Rattle.mst_node.specs.Text.{counted, heading}
 use Rattle.mst_node.specs.declared.node.Node.{out-Node}
 use Rattle.mst_node.specs.declared.node.Entry.TheViews.{the_lemmas}
-use Rattle.mst_node.proofs.Shapes.{entries-fit, child-fits, tail-fits, text-more, text_out, heading}
+use Rattle.mst_node.proofs.Shapes.{entries-fit, child-fits, tail-fits, text-more, text_out}
 use Rattle.mst_node.proofs.texts.+digest.Goals as goal
 
-pub node_digest-overflow_cast-count : goal.node_digest-overflow_cast-count
-node_digest-overflow_cast-count g t c = omega (arith, c.len-count.ensures, (out-Node g.row.A.Denot c.args.node.now).entries.ok.0, entries-fit g.row.A.Denot One c.args.node.now)
+pub node_digest-overflow_cast-len : goal.node_digest-overflow_cast-len
+node_digest-overflow_cast-len g t c = omega (arith, c.len.ensures, (out-Node g.row.A.Denot c.args.node.now).entries.ok.0, entries-fit g.row.A.Denot One c.args.node.now)
 
 pub node_digest-child_digest-requires : goal.node_digest-child_digest-requires
 node_digest-child_digest-requires g t c κs within =
@@ -21,10 +21,10 @@ pub node_digest-loop-entry-preserved : goal.node_digest-loop-entry-preserved
 node_digest-loop-entry-preserved g t c =
     let A = g.row.A.Denot in
     let n = out-Node A c.args.node.now in
-    let held = c.feed_counted-in-loop-entry.ensures.fed _ (c.feed_counted.ensures.fed _ (c.feed_child.ensures.fed _ c.loop-entry.invariant)) in
+    let held = c.entry.ensures.entry _ c.loop-entry.invariant in
     let more = text-more A One n.entries.items c.deref-entry-items.result.now c.loop-entry.entry-index c.entry-item.result (heading One n.layer (length n.entries.items)) c.child_digest.result c.bytes.result.now (counted c.bytes-in-loop-entry.result.now)
     c.deref-entry-items.ensures.value c.loop-entry-test.true c.entry-item.is c.child_digest.ensures.digest c.bytes.ensures.bytes (ap counted c.bytes-in-loop-entry.ensures.bytes) in
-    subst (Holds256 c.feed_counted-in-loop-entry.new.hasher) more held
+    subst (Holds256 c.entry.new.self) more held
 
 pub node_digest-child_digest-requires-2 : goal.node_digest-child_digest-requires-2
 node_digest-child_digest-requires-2 g t c κs within =
@@ -34,7 +34,7 @@ pub node_digest-returns : goal.node_digest-returns
 node_digest-returns g t c =
     let A = g.row.A.Denot in
     let n = out-Node A c.args.node.now in
-    let sum = c.finalize.ensures _ (c.feed_child-2.ensures.fed _ c.loop-entry.invariant) in
+    let sum = c.finalize.ensures _ (c.child.ensures.child _ c.loop-entry.invariant) in
     let end : c.loop-entry.entry-index ≡ length n.entries.items = omega (arith, ap length c.deref-entry-items.ensures.value) in
     let all : take c.loop-entry.entry-index n.entries.items ≡ n.entries.items = ap (λ (i : ℕ). take i n.entries.items) end ∙ take-length n.entries.items in
     record { digest = rw (all, c.child_digest-2.ensures.digest) at sum ∙ ap sha256 (sym (text_out A One c.args.node.now)) }

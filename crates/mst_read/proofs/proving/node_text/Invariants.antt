@@ -1,4 +1,5 @@
-use Rattle.std.proofs.Common.{◌≡◌, ◌≤◌, ◌+◌, ◌*◌, length}
+use Rattle.std.proofs.Common.{◌≡◌, ◌≤◌, ◌+◌, ◌*◌, ℕ, List, length}
+use Rattle.std.specs.Prelude.{IfSome}
 use Rattle.mst_key.specs.declared.format.Format.TheVariants.{One}
 use Rattle.mst_node.specs.Tree.{node}
 use Rattle.mst_node.specs.Text.{text}
@@ -13,7 +14,7 @@ use Rattle.mst_read.proofs.proving.node_text.Given as goal
 abbrev pub invariant-loop : goal.invariant-loop
 invariant-loop g l = record {
   same : l.rows ≡ l.initial.rows;
-  short : length l.out.items ≤ 4 + 131 * l.counter;
-  onward : (c : Chain) → LiesBehind One (g.R.Rows.content l.initial.rows) l.head c
-      → Onward One (g.R.Rows.content l.initial.rows) l.head.tail l.link l.counter l.end (Completes l.out.items (text (node One l.head.layer (entries_of One c))));
+  written : (m : List ℕ) × IfSome l.out (λ bytes. bytes ≡ m) × (length m ≤ 4 + 131 * l.counter)
+      × ((c : Chain) → LiesBehind One (g.R.Rows.content l.initial.rows) l.head c
+      → Onward One (g.R.Rows.content l.initial.rows) l.head.tail l.link l.counter l.end (Completes m (text (node One l.head.layer (entries_of One c)))));
 }

@@ -24,14 +24,8 @@ returns-clause-takes g c = takes_append _ _ _ _ _ c.take_row-head.ensures.takes 
 pub take_row-head-requires : goal.take_row-head-requires
 take_row-head-requires g c = search rules
 
-pub as_slice-requires : goal.as_slice-requires
-as_slice-requires g c = search rules
-
-pub overflow_cast-shown : goal.overflow_cast-shown
-overflow_cast-shown g c = search rules
-
-pub as_slice-requires-2 : goal.as_slice-requires-2
-as_slice-requires-2 g c = search rules
+pub overflow_cast-count : goal.overflow_cast-count
+overflow_cast-count g c = search rules
 
 pub returns-clause-written : goal.returns-clause-written
 returns-clause-written g c = search rules

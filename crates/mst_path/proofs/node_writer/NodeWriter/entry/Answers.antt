@@ -34,11 +34,11 @@ returns-clause-written g c es p r next w root has out =
     let before : HasRows old (entry_rows (r + 1) es) = subst (λ (o : Option ℕ). HasRows old (entry_rows (link_to o) es)) next w.rows in
     let other : (ns : List ℕ) → _ → _ = λ ns o. same_of_write old new c.in-Some.row _ c.write.ensures.writes ns (subst (λ (n : ℕ). AllByRecursion (λ x. x ≢ n) ns) (sym row) (out_flip r ns o)) in
     let here : new r ≡ Some (Entry (link_of p) (link_to c.take_next-self.result) k v) = ap new (sym row) ∙ c.write.ensures.writes.here ∙ same_entry _ _ _ _ _ _ _ _ root.link link c.copy.ensures.same c.copy-2.ensures.same in
-    let fed = c.feed_counted-2.ensures.fed _ (c.feed_counted.ensures.fed _ (c.feed_root.ensures.fed p _ root w.fed)) in
+    let fed = c.entry.ensures.entry _ w.fed in
     record {
       counted = omega (arith, w.counted, length-append es (e ∷ []), c.requires.some);
       begins = link_from-push (link_to c.take_next-self.result) es e ∙ begins;
-      fed = subst (Holds256 c.feed_counted-2.new.hasher) (sym (text_up_to-push layer count es e)) (rw (c.bytes.ensures.bytes, c.bytes-2.ensures.bytes) at fed);
+      fed = subst (Holds256 c.entry.new.self) (sym (text_up_to-push layer count es e)) (rw (c.digest_at.ensures.digest p root, c.bytes.ensures.bytes, c.bytes-2.ensures.bytes) at fed);
       rows = subst (HasRows new) (sym (entry_rows-push (link_to c.take_next-self.result) es e))
           (all-append _ (entry_rows (r + 1) es) ((r, Entry (link_of p) (link_to c.take_next-self.result) k v) ∷ rows_of One p)
           (entries_frame old new (r + 1) es (other (entries_used es) (out_front r (entries_used es) (used p) out)) before)
@@ -60,11 +60,8 @@ write-requires-clause-blank g c = search rules
 pub write-requires-clause-limits : goal.write-requires-clause-limits
 write-requires-clause-limits g c = grind (arith, elements)
 
-pub feed_counted-requires : goal.feed_counted-requires
-feed_counted-requires g c = search rules
-
-pub feed_counted-requires-2 : goal.feed_counted-requires-2
-feed_counted-requires-2 g c = search rules
+pub entry-requires : goal.entry-requires
+entry-requires g c = search rules
 
 pub returns-clause-writer : goal.returns-clause-writer
 returns-clause-writer g c = grind (arith, elements)

@@ -23,7 +23,7 @@ pub returns-clause-root : goal.returns-clause-root
 returns-clause-root g c es p w root =
     let layer = c.args.self.layer in
     let count : c.args.self.count ≡ length es = omega (arith, w.counted, c.requires.all) in
-    let fed = c.feed_root.ensures.fed p _ root w.fed in
+    let fed = rw (c.digest_at.ensures.digest p root) at c.child.ensures.child _ w.fed in
     record {
       link = refl;
       sum = c.finalize-digest.ensures _ fed ∙ ap (λ (n : ℕ). sha256 (text_up_to layer n es ++ child_text (child_digest (tree_of One p)))) count ∙ sym (ap sha256 (text_chain layer es p));

@@ -1,12 +1,12 @@
 use Rattle.std.proofs.Common.{arith, rules}
 use Rattle.std.proofs.lemmas.Grind.{common_steps}
-use Rattle.mst_node.proofs.hashing.feed_counted.Goals as goal
+use Rattle.mst_node.proofs.sinks.take_counted.Goals as goal
 
 pub overflow_cast-bytes : goal.overflow_cast-bytes
-overflow_cast-bytes c = search rules
+overflow_cast-bytes g c = search rules
 
 pub as_slice-requires : goal.as_slice-requires
-as_slice-requires c = search rules
+as_slice-requires g c = search rules
 
 pub returns : goal.returns
-returns c = grind (arith, common_steps)
+returns g c = grind (arith, common_steps)

@@ -1,0 +1,13 @@
+-- A text in memory, from the bytes that it took to those that it gives.
+use Rattle.std.proofs.Common.{◌≡◌, ℕ, List, [], Option, Some, refl, sym, subst}
+use Rattle.std.specs.Prelude.{IfSome, IfOk, Result}
+use Rattle.std.proofs.lemmas.Result.{IfOk-weaker}
+
+-- it begins with no bytes
+pub took_none : {text : Option (List ℕ)} → text ≡ Some [] → IfSome text (λ bytes. bytes ≡ [])
+took_none is = subst (λ (t : Option (List ℕ)). IfSome t (λ bytes. bytes ≡ [])) (sym is) refl
+
+-- what it gives at the end are the bytes that it took
+pub gives_taken : {V E : Type 0} (items : V → List ℕ) (text : Option (List ℕ)) (m : List ℕ) (r : Result V E) → IfOk r (λ v. text ≡ Some (items v)) → IfSome text (λ bytes. bytes ≡ m) → IfOk r (λ v. items v ≡ m)
+gives_taken items text m r told took =
+    IfOk-weaker r _ (λ v. items v ≡ m) (λ v is. subst (λ (t : Option (List ℕ)). IfSome t (λ bytes. bytes ≡ m)) is took) told

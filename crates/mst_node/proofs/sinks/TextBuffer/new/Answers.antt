@@ -1,0 +1,5 @@
+use Rattle.std.proofs.Common.{rules}
+use Rattle.mst_node.proofs.sinks.TextBuffer.new.Goals as goal
+
+pub returns : goal.returns
+returns g c = search rules

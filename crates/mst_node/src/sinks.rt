@@ -1,0 +1,126 @@
+//! What takes the text of a node, and the pieces that such a text is made of.
+ghost use Rattle.std.specs.Prelude.{◌≡◌, ◌≤◌, ℕ, List, [], ◌++◌, length, Option, Some, None, IfSome, IfOk, OnErr};
+ghost use Rattle.sha2.specs.Hashers.{Holds256};
+ghost use Rattle.mst_key.specs.declared.format.Format.TheVariants.{One};
+ghost use Rattle.mst_node.specs.Text.{heading, child_text, counted};
+
+use mst_key::Memory;
+use sha2::{Digest, Sha256};
+use std::alloc::Allocator;
+use std::marker::Model;
+
+/// What takes the text of a node piece by piece: a hasher, or a text in memory. How a piece is
+/// spelt stands here and nowhere else.
+pub trait TextSink: Drop {
+    // These are the bytes that it took.
+    ghost took: { Self → List ℕ → Type 0 };
+
+    /// Takes bytes behind those that it took.
+    fn take(&mut self, bytes: &[u8])
+        ensures took { (m : List ℕ) → took self.old m → took self.new (m ++ bytes.now) };
+
+    /// Takes what stands in front of the entries: the format 1, the layer, and the number of
+    /// entries in two bytes, the high one first.
+    final fn heading(&mut self, layer: u8, count: u16)
+        ensures heading { (m : List ℕ) → took self.old m
+            → took self.new (m ++ heading One layer count) }
+    {
+        self.take([1, layer].as_slice());
+        self.take(count.to_be_bytes().as_slice());
+    }
+
+    /// Takes an entry: the child before it, its key and its value.
+    final fn entry(&mut self, child: Option<[u8; 32]>, key: &[u8], value: &[u8])
+        requires key { length key.now ≤ 255 }
+        requires value { length value.now ≤ 255 }
+        ensures entry { (m : List ℕ) → took self.old m
+            → took self.new (m ++ child_text child ++ counted key.now ++ counted value.now) }
+    {
+        self.child(child);
+        take_counted(self, key);
+        take_counted(self, value);
+    }
+
+    /// Takes a child, also the last one: a byte 1 and its digest, or a byte 0 for none.
+    final fn child(&mut self, child: Option<[u8; 32]>)
+        ensures child { (m : List ℕ) → took self.old m → took self.new (m ++ child_text child) }
+    {
+        match child {
+            None => self.take([0].as_slice()),
+            Some(digest) => {
+                self.take([1].as_slice());
+                self.take(digest.as_slice());
+            }
+        }
+    }
+}
+
+/// Hands over bytes behind their number, at most 255.
+fn take_counted<S: TextSink>(sink: &mut S, bytes: &[u8])
+    requires few { length bytes.now ≤ 255 }
+    ensures counted { (m : List ℕ) → S.took sink.old m → S.took sink.new (m ++ counted bytes.now) }
+{
+    sink.take([bytes.len() as u8].as_slice());
+    sink.take(bytes);
+}
+
+impl TextSink for Sha256 {
+    ghost took = { λ s m. Holds256 s m };
+
+    fn take(&mut self, bytes: &[u8]) {
+        self.update(bytes);
+    }
+}
+
+/// A text that grows in memory. A refused growth ends it, and is told by `finish`.
+#[derive(Drop)]
+pub struct TextBuffer<A: Allocator> {
+    bytes: Vec<u8, A>,
+    is_refused: bool,
+}
+
+/// Contracts see the bytes; none once a growth was refused.
+impl<A: Allocator> Model for TextBuffer<A> {
+    ghost use Rattle.std.specs.Prelude.{List, ℕ, Option, Some, None, cond};
+
+    ghost Value = { Option (List ℕ) };
+
+    ghost view = { λ s. cond s.is_refused None (Some s.bytes.items) };
+}
+
+impl<A: Allocator> TextBuffer<A> {
+    /// A text of no bytes.
+    pub fn new(alloc: A) -> TextBuffer<A>
+        ensures empty { result ≡ Some [] }
+    {
+        TextBuffer {
+            bytes: Vec::new(alloc),
+            is_refused: false,
+        }
+    }
+
+    /// The bytes. `Memory` comes only where a growth was refused.
+    pub fn finish(self) -> Result<Vec<u8, A>, Memory>
+        ensures bytes { IfOk result (λ bytes. self ≡ Some bytes.items) }
+        ensures refused { OnErr result (self ≡ None) }
+    {
+        if self.is_refused {
+            Err(Memory)
+        } else {
+            Ok(self.bytes)
+        }
+    }
+}
+
+impl<A: Allocator> TextSink for TextBuffer<A> {
+    ghost took = { λ s m. IfSome s (λ bytes. bytes ≡ m) };
+
+    fn take(&mut self, bytes: &[u8]) {
+        if !self.is_refused {
+            match self.bytes.extend_from_slice(bytes) {
+                Ok(()) => {}
+                Err(_) => self.is_refused = true,
+            }
+        }
+    }
+}
