@@ -19,7 +19,8 @@
 //! ```
 //!
 //! `build` makes the tree, `text` a node's text, and `read_text` reads one. `root_of` gives the
-//! root digest with no tree and no memory. The definitions that the contracts cite stand in
+//! root digest with no tree and no memory. Crates that keep nodes in another form spell their texts
+//! by [`TextSink`], for a hasher or in memory. The definitions that the contracts cite stand in
 //! `specs/`: `Tree`, `Gaps`, `Text`, `Grammar`, `Frame`; `Cost` says what a change of the map makes
 //! anew, and `Stays` what kept versions of a history hold.
 //!

@@ -1,4 +1,4 @@
-use Rattle.std.proofs.Common.{◌≡◌, ◌≤◌, ◌+◌, ◌-◌, ◌++◌, length, ℕ, List, [], Some, ◌∙◌, sym, ap, subst, refl, arith, rules, length-append}
+use Rattle.std.proofs.Common.{◌≡◌, ◌-◌, ◌++◌, length, ℕ, List, [], Some, ◌∙◌, sym, ap, subst, refl, arith, length-append}
 use Rattle.std.specs.Prelude.{IfSome}
 use Rattle.std.proofs.lemmas.Result.{IfOk-weaker}
 use Rattle.mst_key.specs.declared.format.Format.TheVariants.{One}
@@ -70,7 +70,7 @@ pub returns-clause-ok : goal.returns-clause-ok
 returns-clause-ok g c chain behind =
     let m = c.loop.invariant.written.0 in
     let last = at_end (c.loop.invariant.written.3 chain behind) (omega (arith, c.loop-test.false)) in
-    let tail = c.digest_at.ensures.digest last.child (tail_lies last (ap g.R.Rows.content c.loop.invariant.same)) in
+    let tail : c.digest_at.result ≡ child_digest (tree_of One last.child) = c.digest_at.ensures.digest last.child (tail_lies last (ap g.R.Rows.content c.loop.invariant.same)) in
     let whole = text_ends m last (ap (λ d. m ++ child_text d) tail) in
     gives_taken (λ t. t.items) _ _ c.finish.result c.finish.ensures.bytes (subst (λ (xs : List ℕ). IfSome c.child.new.self (λ bytes. bytes ≡ xs)) whole (c.child.ensures.child m c.loop.invariant.written.1))
 
