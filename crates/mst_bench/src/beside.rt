@@ -2,9 +2,10 @@
 ghost use Rattle.std.specs.Prelude.{◌<◌, ◌≤◌, ◌^◌, length};
 
 use crate::calls::{self, FIRST_NEW_VALUE};
+use crate::stores::{dealt, opened};
 use crate::timing::tell;
 use mst_key::Key;
-use mst_store::{Pass, Pinned, Shape, Store};
+use mst_store::{Pass, Pinned, Shape};
 use std::alloc::Global;
 use std::io;
 use std::time::Instant;
@@ -118,17 +119,12 @@ pub fn run(rt: &HostRuntime, keys: &[Key], calls: u32, map_rows: u32) -> io::Res
     requires some { 0 < length keys.now }
     requires few { length keys.now ≤ 65535 }
 {
-    let alloc = rt.alloc();
     let rows = map_rows
         .saturating_mul(2)
         .saturating_add(PATH_ROWS)
         .min(65_535);
-    let Ok((store, seats)) = Store::open(alloc, Shape { rows, passes: 2 }) else {
-        return Err(io::ErrorKind::OutOfMemory.into());
-    };
-    let Ok(mut passes) = store.deal(alloc, seats) else {
-        return Err(io::ErrorKind::OutOfMemory.into());
-    };
+    let (store, seats) = opened(rt.alloc(), Shape { rows, passes: 2 })?;
+    let mut passes = dealt(rt.alloc(), &store, seats)?;
     let (Some(reader), Some(mut writer)) = (passes.pop(), passes.pop()) else {
         return Err(io::ErrorKind::Other.into());
     };

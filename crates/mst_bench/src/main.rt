@@ -17,13 +17,15 @@ ghost use Rattle.std.specs.Prelude.{◌<◌, ◌≤◌, length};
 mod beside;
 mod calls;
 mod keys;
+mod stores;
 mod timing;
 
 use mst_key::Key;
-use mst_store::{Pass, Shape, Store};
+use mst_store::{Pass, Shape};
 use std::alloc::Global;
 use std::time::Instant;
 use std::{env, io};
+use stores::{dealt, opened};
 use timing::tell;
 
 /// How many keys the stores have.
@@ -46,6 +48,60 @@ fn asked_calls(rt: &HostRuntime) -> io::Result<Option<u32>> {
     }
 }
 
+// A kind of call.
+#[derive(Clone, Copy)]
+enum Kind {
+    FirstPut,
+    Put,
+    Get,
+    Prove,
+    RemoveAndPutBack,
+}
+
+// The kinds that are timed, one after the other, with what their lines call them.
+const KINDS: &[(Kind, &str)] = &[
+    (Kind::FirstPut, "first put"),
+    (Kind::Put, "put"),
+    (Kind::Get, "get"),
+    (Kind::Prove, "prove"),
+    (Kind::RemoveAndPutBack, "remove and put back"),
+];
+
+// Makes so many calls of a kind; of first puts one for each key. True where each went through.
+fn made(alloc: Global, pass: &mut Pass<'_, Global>, keys: &[Key], calls: u32, kind: Kind) -> bool
+    requires some { 0 < length keys.now }
+{
+    match kind {
+        Kind::FirstPut => calls::fill(pass, keys),
+        Kind::Put => calls::put(pass, keys, calls, calls::FIRST_NEW_VALUE),
+        Kind::Get => calls::get(pass, keys, calls),
+        Kind::Prove => calls::prove(alloc, pass, keys, calls),
+        Kind::RemoveAndPutBack => calls::remove_and_put_back(pass, keys, calls),
+    }
+}
+
+// Times the calls of a kind.
+fn time_kind(
+    rt: &HostRuntime,
+    pass: &mut Pass<'_, Global>,
+    keys: &[Key],
+    calls: u32,
+    kind: Kind,
+    name: &str,
+) -> io::Result<()>
+    requires some { 0 < length keys.now }
+    requires few { length keys.now ≤ 65535 }
+{
+    let count = keys.len() as u32;
+    let calls = match kind {
+        Kind::FirstPut => count,
+        _ => calls,
+    };
+    let start = Instant::now(rt)?;
+    let done = made(rt.alloc(), pass, keys, calls, kind);
+    tell(rt, name, count, calls, start, done)
+}
+
 // Times each kind of call of a pass at a store that has no pair yet.
 fn time_calls(
     rt: &HostRuntime,
@@ -56,22 +112,10 @@ fn time_calls(
     requires some { 0 < length keys.now }
     requires few { length keys.now ≤ 65535 }
 {
-    let count = keys.len() as u32;
-    let start = Instant::now(rt)?;
-    let done = calls::fill(pass, keys);
-    tell(rt, "first put", count, count, start, done)?;
-    let start = Instant::now(rt)?;
-    let done = calls::put(pass, keys, calls, calls::FIRST_NEW_VALUE);
-    tell(rt, "put", count, calls, start, done)?;
-    let start = Instant::now(rt)?;
-    let done = calls::get(pass, keys, calls);
-    tell(rt, "get", count, calls, start, done)?;
-    let start = Instant::now(rt)?;
-    let done = calls::prove(rt.alloc(), pass, keys, calls);
-    tell(rt, "prove", count, calls, start, done)?;
-    let start = Instant::now(rt)?;
-    let done = calls::remove_and_put_back(pass, keys, calls);
-    tell(rt, "remove and put back", count, calls, start, done)
+    for (kind, name) in KINDS {
+        time_kind(rt, pass, keys, calls, *kind, name)?;
+    }
+    Ok(())
 }
 
 // Times the calls of a pass, and answers how many rows the map takes.
@@ -79,13 +123,8 @@ fn time_alone(rt: &HostRuntime, keys: &[Key], calls: u32) -> io::Result<u32>
     requires some { 0 < length keys.now }
     requires few { length keys.now ≤ 65535 }
 {
-    let alloc = rt.alloc();
-    let Ok((store, seats)) = Store::open(alloc, SHAPE) else {
-        return Err(io::ErrorKind::OutOfMemory.into());
-    };
-    let Ok(mut passes) = store.deal(alloc, seats) else {
-        return Err(io::ErrorKind::OutOfMemory.into());
-    };
+    let (store, seats) = opened(rt.alloc(), SHAPE)?;
+    let mut passes = dealt(rt.alloc(), &store, seats)?;
     let Some(mut pass) = passes.pop() else {
         return Err(io::ErrorKind::Other.into());
     };

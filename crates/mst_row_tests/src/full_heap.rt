@@ -3,8 +3,8 @@
 ghost use Rattle.std.specs.Prelude.{◌≡◌, length, replicate};
 ghost use Rattle.mst_arena.specs.declared.life.Life.TheVariants.{Free};
 
-use crate::pairs::{heap_of, pair, three_pairs};
-use crate::rows::free_after;
+use crate::pairs::{entry_of, heap_of, key_of, pair, three_pairs, value_of};
+use crate::rows::{entry_is, free_after, head_is, row_is};
 use crate::standing::StandingMap;
 use linked_list_allocator::LocalHeap;
 use mst_arena::{Desk, HeadLinks, PlainRows, Row, Rows};
@@ -74,38 +74,32 @@ fn a_desk_goes_on_over_a_full_heap(rt: HostRuntime) {
     assert!(rt; is_full(&heap));
 }
 
+const HEAD: Row = Row::Head {
+    layer: 1,
+    count: 2,
+    first: 3,
+    tail: 4,
+    digest: [5; 32],
+};
+
+/// The links of that head.
+const HEAD_LINKS: HeadLinks = HeadLinks {
+    layer: 1,
+    count: 2,
+    first: 3,
+    tail: 4,
+};
+
 /// Writes an entry and a head, and reads them part by part and whole.
 fn rows_go_on(rt: &impl Abort, rows: &mut PlainRows<&LocalHeap>)
     requires two { length rows.old ≡ 2 }
 {
-    let (key, value) = pair(rt, b"ab", b"xyz");
-    let row = Row::Entry {
-        child: 7,
-        next: 9,
-        key,
-        value,
-    };
-    let head = Row::Head {
-        layer: 1,
-        count: 2,
-        first: 3,
-        tail: 4,
-        digest: [5; 32],
-    };
-    rows.write(1, &head);
+    let row = entry_of(rt, 7, 9, b"ab", b"xyz");
+    rows.write(1, &HEAD);
     rows.write(0, &row);
-    let links = HeadLinks {
-        layer: 1,
-        count: 2,
-        first: 3,
-        tail: 4,
-    };
-    assert!(rt; rows.entry(0).child == 7);
-    assert!(rt; rows.head(1) == links);
-    assert!(rt; rows.value(0).bytes() == b"xyz".as_slice());
-    assert!(rt; rows.digest(1) == [5; 32]);
-    assert!(rt; rows.read(1) == head);
-    assert!(rt; rows.read(0) == row);
+    assert!(rt; entry_is(rows, 0, (7, 9), b"ab", b"xyz"));
+    assert!(rt; head_is(rows, 1, &HEAD_LINKS, &[5; 32]));
+    assert!(rt; row_is(rows, 1, &HEAD) && row_is(rows, 0, &row));
 }
 
 #[test]
@@ -121,7 +115,7 @@ fn plain_rows_go_on_over_a_full_heap(rt: HostRuntime) {
 }
 
 /// Whether the map has this value at the key and this pair behind it, by its root and by its link.
-fn reads(
+fn has_both(
     map: &mut StandingMap<&LocalHeap>,
     key: &Key,
     value: Option<&Value>,
@@ -132,39 +126,64 @@ fn reads(
     below && map.has(key, value) && map.has_next(Some(key), next)
 }
 
-/// Whether a put answers this old value, or a remove where no value is given.
-fn changes(
+/// The same of the key 1 and of a value and a pair of these texts.
+fn reads(
+    rt: &impl Abort,
     map: &mut StandingMap<&LocalHeap>,
-    key: &Key,
-    value: Option<&Value>,
-    old: Option<&Value>,
+    value: Option<&str>,
+    next: (&str, &str),
 ) -> bool {
-    let done = match value {
-        Some(value) => map.put(key, value),
-        None => map.remove(key),
-    };
-    match done {
-        Ok(Ok(found)) => found.as_ref() == old,
+    let key = key_of(rt, b"1");
+    let next = pair(rt, next.0.as_bytes(), next.1.as_bytes());
+    match value {
+        Some(text) => has_both(map, &key, Some(&value_of(rt, text.as_bytes())), Some(&next)),
+        None => has_both(map, &key, None, Some(&next)),
+    }
+}
+
+/// Whether what was found is the value of this text, or nothing where there is none.
+fn is_value(found: &Option<Value>, wanted: Option<&str>) -> bool {
+    match (found, wanted) {
+        (Some(value), Some(text)) => value.bytes() == text.as_bytes(),
+        (None, None) => true,
         _ => false,
     }
 }
 
-/// Puts, removes and reads of the map of 1, 39 and a; then it has a alone.
-fn goes_on(rt: &impl Abort, map: &mut StandingMap<&LocalHeap>, pairs: &[(Key, Value)]) {
-    let [first, second, third] = pairs else {
-        panic!(rt; "three pairs")
+/// Whether a put answers this old value, or a remove where no value is given.
+fn changes(
+    rt: &impl Abort,
+    map: &mut StandingMap<&LocalHeap>,
+    key: &str,
+    value: Option<&str>,
+    old: Option<&str>,
+) -> bool {
+    let key = key_of(rt, key.as_bytes());
+    let done = match value {
+        Some(text) => map.put(&key, &value_of(rt, text.as_bytes())),
+        None => map.remove(&key),
     };
-    let (one, middle) = (&first.0, &second.0);
-    assert!(rt; reads(map, one, Some(&first.1), Some(second)));
-    for (key, value, old) in [
-        (one, Some(&third.1), Some(&first.1)),
-        (middle, None, Some(&second.1)),
-        (middle, None, None),
-        (one, None, Some(&third.1)),
-    ] {
-        assert!(rt; changes(map, key, value, old));
+    match done {
+        Ok(Ok(found)) => is_value(&found, old),
+        _ => false,
     }
-    assert!(rt; reads(map, one, None, Some(third)));
+}
+
+/// A key, its new value or none, and the value that it had.
+const CHANGES: &[(&str, Option<&str>, Option<&str>)] = &[
+    ("1", Some("z"), Some("x")),
+    ("39", None, Some("y")),
+    ("39", None, None),
+    ("1", None, Some("z")),
+];
+
+/// Puts, removes and reads of the map of 1, 39 and a; then it has a alone.
+fn goes_on(rt: &impl Abort, map: &mut StandingMap<&LocalHeap>) {
+    assert!(rt; reads(rt, map, Some("x"), ("39", "y")));
+    for (key, value, old) in CHANGES {
+        assert!(rt; changes(rt, map, key, *value, *old), "{key}");
+    }
+    assert!(rt; reads(rt, map, None, ("a", "z")));
 }
 
 /// The map of 1, 39 and a that was planted with no byte left goes on.
@@ -177,7 +196,7 @@ fn goes_on_in(
     assert!(rt; is_full(heap));
     assert!(rt; pairs.len() == 3);
     assert!(rt; map.root() == root_of(pairs));
-    goes_on(rt, map, pairs);
+    goes_on(rt, map);
     assert!(rt; matches!(map.range(heap, None, None, 1), Err(Memory)));
     assert!(rt; is_full(heap));
     assert!(rt; map.free() == 10);

@@ -1,5 +1,9 @@
 //! Keys, values, pairs and heaps for the tests. Where memory is refused for them, the test ends.
+ghost use Rattle.std.specs.Prelude.{◌≤◌, IsSome};
+ghost use Rattle.mst_arena.specs.Row.{IsRow, entry_links, entry_value};
+
 use linked_list_allocator::LocalHeap;
+use mst_arena::Row;
 use mst_key::{Key, Value};
 use std::alloc::Global;
 use std::process::Abort;
@@ -14,6 +18,23 @@ pub fn value_of(rt: &impl Abort, bytes: &[u8]) -> Value {
 
 pub fn pair(rt: &impl Abort, key: &[u8], value: &[u8]) -> (Key, Value) {
     (key_of(rt, key), value_of(rt, value))
+}
+
+/// The entry of these bytes with these links.
+pub fn entry_of(rt: &impl Abort, child: u32, next: u32, key: &[u8], value: &[u8]) -> Row
+    requires child { child ≤ 65535 }
+    requires next { next ≤ 65535 }
+    ensures limits { IsRow result }
+    ensures links { IsSome (entry_links result) }
+    ensures value { IsSome (entry_value result) }
+{
+    let (key, value) = pair(rt, key, value);
+    Row::Entry {
+        child,
+        next,
+        key,
+        value,
+    }
 }
 
 /// The key of a number: its three low bytes.

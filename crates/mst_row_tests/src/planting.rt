@@ -196,23 +196,31 @@ fn prints_no_room(rt: &impl Abort, alloc: Global, text: &str) -> bool {
     printed.as_str() == text
 }
 
+/// A number of rows, whether three pairs find room in them, and how many are free then.
+const ROOMS: &[(u32, bool, u32)] = &[(9, true, 3), (6, true, 0), (5, false, 5)];
+
+/// Whether three pairs are planted so.
+fn are_planted(rt: &impl Abort, alloc: Global, size: u32, fits: bool, free: u32) -> bool {
+    let pairs = three_pairs(rt, alloc);
+    let pairs = pairs.as_slice();
+    assert!(rt; pairs.len() == 3);
+    let digest = root_of(pairs);
+    let wanted = if fits {
+        Ok(Root { link: 1, digest })
+    } else {
+        Err(NoRoom)
+    };
+    root_and_free(rt, alloc, pairs, size) == (wanted, free)
+}
+
 #[test]
 fn three_pairs_take_six_rows(rt: HostRuntime) {
-    let alloc = rt.alloc();
-    assert!(rt; prints_no_room(&rt, alloc, "no room"));
-    let pairs = three_pairs(&rt, alloc);
-    assert!(rt; pairs.len() == 3);
-    let root = Root {
-        link: 1,
-        digest: root_of(pairs.as_slice()),
-    };
-    for (size, wanted) in [
-        (9, (Ok(root), 3)),
-        (6, (Ok(root), 0)),
-        (5, (Err(NoRoom), 5)),
-    ] {
-        let found = root_and_free(&rt, alloc, pairs.as_slice(), size);
-        assert!(rt; found == wanted, "{size} rows");
+    assert!(rt; prints_no_room(&rt, rt.alloc(), "no room"));
+    for (size, fits, free) in ROOMS {
+        assert!(rt;
+            are_planted(&rt, rt.alloc(), *size, *fits, *free),
+            "{size} rows"
+        );
     }
 }
 

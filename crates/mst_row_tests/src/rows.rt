@@ -1,10 +1,11 @@
 //! What no clause says: worked rows, printed text, and each growth refused in turn.
-ghost use Rattle.std.specs.Prelude.{◌≡◌, map, replicate};
+ghost use Rattle.std.specs.Prelude.{◌≡◌, IsSome, map, replicate};
+ghost use Rattle.mst_arena.specs.Content.{part_at};
 ghost use Rattle.mst_arena.specs.Lives.{swept_life};
-ghost use Rattle.mst_arena.specs.Row.{IsRow};
+ghost use Rattle.mst_arena.specs.Row.{IsRow, entry_links, entry_value, head_digest, head_links};
 ghost use Rattle.mst_arena.specs.declared.life.Life.TheVariants.{Free};
 
-use crate::pairs::{heap_of, key_of, pair};
+use crate::pairs::{entry_of, heap_of, key_of};
 use linked_list_allocator::LocalHeap;
 use mst_arena::{Desk, HeadLinks, PlainRows, Row, Rows, Sought, VersionsSpent, Way};
 use mst_key::Memory;
@@ -26,34 +27,59 @@ fn comes_back(row: &Row) -> bool
     Row::read(&row.words()).as_ref() == Some(row)
 }
 
+/// Whether the entry at this number has these links, this key and this value.
+pub(crate) fn entry_is<R: Rows>(
+    rows: &mut R,
+    row: u32,
+    links: (u32, u32),
+    key: &[u8],
+    value: &[u8],
+) -> bool
+    requires links { IsSome (part_at entry_links (R.content rows.old) row) }
+    requires value { IsSome (part_at entry_value (R.content rows.old) row) }
+    ensures same { rows.new ≡ rows.old }
+{
+    let entry = rows.entry(row);
+    let found = rows.value(row);
+    (entry.child, entry.next) == links && entry.key.bytes() == key && found.bytes() == value
+}
+
+/// Whether the head at this number has these links and this digest.
+pub(crate) fn head_is<R: Rows>(rows: &mut R, row: u32, links: &HeadLinks, digest: &[u8; 32]) -> bool
+    requires links { IsSome (part_at head_links (R.content rows.old) row) }
+    requires digest { IsSome (part_at head_digest (R.content rows.old) row) }
+    ensures same { rows.new ≡ rows.old }
+{
+    rows.head(row) == *links && rows.digest(row) == *digest
+}
+
+/// Whether this is the row at this number.
+pub(crate) fn row_is<R: Rows>(rows: &mut R, row: u32, wanted: &Row) -> bool
+    requires there { IsSome (R.content rows.old row) }
+    ensures same { rows.new ≡ rows.old }
+{
+    rows.read(row) == *wanted
+}
+
+/// The links of that head.
+const HEAD_LINKS: HeadLinks = HeadLinks {
+    layer: 64,
+    count: 65_534,
+    first: 65_535,
+    tail: 0,
+};
+
 #[test]
 fn plain_rows_are_read_as_written(rt: HostRuntime) {
-    let (key, value) = pair(&rt, &[0x6b; 32], &[0x76; 64]);
-    let row = Row::Entry {
-        child: 65_535,
-        next: 0,
-        key,
-        value,
-    };
+    let row = entry_of(&rt, 65_535, 0, &[0x6b; 32], &[0x76; 64]);
     let Ok(mut rows) = PlainRows::new(rt.alloc(), 2) else {
         panic!(rt; "no memory")
     };
     rows.write(1, &HEAD);
     rows.write(0, &row);
-    let links = rows.entry(0);
-    assert!(rt; (links.child, links.next) == (65_535, 0));
-    assert!(rt; links.key.bytes() == [0x6b; 32].as_slice());
-    assert!(rt; rows.value(0).bytes() == [0x76; 64].as_slice());
-    let head = HeadLinks {
-        layer: 64,
-        count: 65_534,
-        first: 65_535,
-        tail: 0,
-    };
-    assert!(rt; rows.head(1) == head);
-    assert!(rt; rows.digest(1) == [0xd1; 32]);
-    assert!(rt; rows.read(1) == HEAD);
-    assert!(rt; rows.read(0) == row);
+    assert!(rt; entry_is(&mut rows, 0, (65_535, 0), &[0x6b; 32], &[0x76; 64]));
+    assert!(rt; head_is(&mut rows, 1, &HEAD_LINKS, &[0xd1; 32]));
+    assert!(rt; row_is(&mut rows, 1, &HEAD) && row_is(&mut rows, 0, &row));
     assert!(rt;
         comes_back(&HEAD) && comes_back(&row),
         "rows at their limits"
@@ -87,50 +113,38 @@ impl Rows for WholeRows {
 
 #[test]
 fn parts_by_default_are_those_of_the_row(rt: HostRuntime) {
-    let (key, value) = pair(&rt, b"ab", b"xyz");
+    let row = entry_of(&rt, 7, 9, b"ab", b"xyz");
     let Ok(rows) = PlainRows::new(rt.alloc(), 1) else {
         panic!(rt; "no memory")
     };
     let mut rows = WholeRows { rows };
     rows.write(0, &HEAD);
-    let head = rows.head(0);
-    assert!(rt; (head.layer, head.count) == (64, 65_534));
-    assert!(rt; (head.first, head.tail) == (65_535, 0));
-    assert!(rt; rows.digest(0) == [0xd1; 32]);
-    let row = Row::Entry {
-        child: 7,
-        next: 9,
-        key,
-        value,
-    };
+    assert!(rt; head_is(&mut rows, 0, &HEAD_LINKS, &[0xd1; 32]));
     rows.write(0, &row);
-    let links = rows.entry(0);
-    assert!(rt; (links.child, links.next) == (7, 9));
-    assert!(rt; links.key.bytes() == b"ab".as_slice());
-    assert!(rt; rows.value(0).bytes() == b"xyz".as_slice());
+    assert!(rt; entry_is(&mut rows, 0, (7, 9), b"ab", b"xyz"));
+}
+
+/// Whether this is the way from the entry at number 0 to a key.
+fn way_is<R: Rows>(rt: &impl Abort, rows: &mut R, key: &[u8], wanted: Way) -> bool
+    requires links { IsSome (part_at entry_links (R.content rows.old) 0) }
+    ensures same { rows.new ≡ rows.old }
+{
+    rows.way(0, &Sought::new(&key_of(rt, key))) == wanted
 }
 
 // A key that is a front of the entry's is below it, also where the bytes behind it are 0.
 #[test]
 fn the_way_from_an_entry_is_by_the_order_of_keys(rt: HostRuntime) {
-    let (held, value) = pair(&rt, b"ab\0", b"xyz");
-    let (front, longer) = (key_of(&rt, b"ab"), key_of(&rt, b"ab\0\0"));
+    let row = entry_of(&rt, 7, 9, b"ab\0", b"xyz");
     let Ok(rows) = PlainRows::new(rt.alloc(), 1) else {
         panic!(rt; "no memory")
     };
     let mut rows = WholeRows { rows };
-    let same = Sought::new(&held);
-    let row = Row::Entry {
-        child: 7,
-        next: 9,
-        key: held,
-        value,
-    };
     rows.write(0, &row);
-    assert!(rt; rows.way(0, &Sought::new(&front)) == Way::Child(7));
-    assert!(rt; rows.way(0, &same) == Way::Here);
-    assert!(rt; rows.way(0, &Sought::new(&longer)) == Way::Next(9));
-    assert!(rt; rows.rows.way(0, &Sought::new(&longer)) == Way::Next(9));
+    assert!(rt; way_is(&rt, &mut rows, b"ab", Way::Child(7)));
+    assert!(rt; way_is(&rt, &mut rows, b"ab\0", Way::Here));
+    assert!(rt; way_is(&rt, &mut rows, b"ab\0\0", Way::Next(9)));
+    assert!(rt; way_is(&rt, &mut rows.rows, b"ab\0\0", Way::Next(9)));
 }
 
 /// How many rows of a desk are free after a sweep with these live versions.

@@ -1,5 +1,5 @@
 //! Calls that take no memory, over a text and a proof that lie in a heap with no byte left.
-use crate::heaps::{fill, is_full};
+use crate::heaps::{fill, heap_of, is_full};
 use crate::nodes::is_node_of_39;
 use crate::pairs::{THREE_PAIRS, spelt, top};
 use linked_list_allocator::LocalHeap;
@@ -9,7 +9,7 @@ use mst_node::{
 };
 use mst_proof::{ProofFault, verify};
 use std::alloc::Global;
-use std::test::Fail;
+use std::process::Abort;
 
 /// The proof for the key 1 in the map of 1, 39 and a, with the values x, y and z.
 const PROOF: &str =
@@ -83,31 +83,30 @@ fn are_read(text: &[u8], proof: &[u8], pairs: &[(Key, Value)]) -> bool {
 
 /// Whether the text and the proof are read once the heap that they lie in is full.
 fn are_read_full(
+    rt: &impl Abort,
     alloc: Global,
     heap: &LocalHeap,
-    text: &[u8],
-    proof: &[u8],
+    (text, proof): (&[u8], &[u8]),
     pairs: &[(Key, Value)],
-) -> Result<bool, Fail> {
-    let blocks = fill(alloc, heap)?;
+) -> bool {
+    let blocks = fill(rt, alloc, heap);
     let full = is_full(heap) && !blocks.is_empty();
-    Ok(full && are_read(text, proof, pairs) && is_full(heap))
+    full && are_read(text, proof, pairs) && is_full(heap)
 }
 
 /// Whether the text and the proof are read once they and other blocks fill the heap.
-fn are_read_over(alloc: Global, heap: &LocalHeap, pairs: &[(Key, Value)]) -> Result<bool, Fail> {
-    if pairs.len() != 3 {
-        return Ok(false);
-    }
-    let text = top(heap, pairs)?.ok_or("no node")?;
-    let proof = hex::decode(heap, PROOF)?;
-    are_read_full(alloc, heap, text.as_slice(), proof.as_slice(), pairs)
+fn are_read_over(rt: &impl Abort, alloc: Global, heap: &LocalHeap, pairs: &[(Key, Value)]) -> bool {
+    assert!(rt; pairs.len() == 3);
+    let text = top(heap, pairs)
+        .expect(rt, "an ample heap")
+        .expect(rt, "a node");
+    let proof = hex::decode(heap, PROOF).expect(rt, "an ample heap");
+    are_read_full(rt, alloc, heap, (text.as_slice(), proof.as_slice()), pairs)
 }
 
 #[test]
-fn texts_and_proofs_are_read_over_a_full_heap(rt: HostRuntime) -> Result<(), Fail> {
-    let pairs = spelt(rt.alloc(), THREE_PAIRS)?;
-    let heap = LocalHeap::new(rt.alloc(), 4_096)?;
-    assert!(rt; are_read_over(rt.alloc(), &heap, pairs.as_slice())?);
-    Ok(())
+fn texts_and_proofs_are_read_over_a_full_heap(rt: HostRuntime) {
+    let pairs = spelt(&rt, rt.alloc(), THREE_PAIRS);
+    let heap = heap_of(&rt, rt.alloc(), 4_096);
+    assert!(rt; are_read_over(&rt, rt.alloc(), &heap, pairs.as_slice()));
 }

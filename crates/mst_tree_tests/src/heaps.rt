@@ -1,21 +1,32 @@
 //! Heaps with little or no memory left.
 use linked_list_allocator::LocalHeap;
 use std::alloc::Global;
-use std::test::Fail;
+use std::process::Abort;
 
 /// Takes what is left of the heap, in blocks of the least size.
-pub fn fill<'h>(alloc: Global, heap: &'h LocalHeap) -> Result<Vec<Vec<u8, &'h LocalHeap>>, Fail> {
+pub fn fill<'h>(
+    rt: &impl Abort,
+    alloc: Global,
+    heap: &'h LocalHeap,
+) -> Vec<Vec<u8, &'h LocalHeap>> {
     let mut blocks = Vec::new(alloc);
     for _ in 0..4096u32 {
-        match Vec::with_capacity(heap, 16) {
-            Ok(block) => blocks.push(block)?,
-            Err(_) => return Ok(blocks),
+        let Ok(block) = Vec::with_capacity(heap, 16) else {
+            return blocks;
+        };
+        if blocks.push(block).is_err() {
+            panic!(rt; "no memory")
         }
     }
-    Ok(blocks)
+    blocks
 }
 
 /// Whether the heap has no byte left.
 pub fn is_full(heap: &LocalHeap) -> bool {
     Vec::<u8, &LocalHeap>::with_capacity(heap, 1).is_err()
+}
+
+/// A heap of so many bytes.
+pub fn heap_of(rt: &impl Abort, alloc: Global, bytes: usize) -> LocalHeap {
+    LocalHeap::new(alloc, bytes).expect(rt, "memory")
 }

@@ -4,12 +4,12 @@ ghost use Rattle.std.specs.Prelude.{◌≡◌, ◌↔◌, IsTrue, OnOk, IsSorted
 ghost use Rattle.std.specs.declared.cmp.Ordering.TheVariants.{Less};
 ghost use Rattle.mst_key.specs.Map.{key_cmp};
 
-use crate::pairs::prints;
-use mst_key::{Change, Event, Key, KeySize, Memory, Value, ValueSize};
+use crate::cases::{Case, ask};
+use crate::pairs::{key_of, value_of};
+use mst_key::{Change, Event, Key, Value};
 use std::alloc::{AllocError, Allocator, Global};
 use std::cmp::Ordering;
 use std::process::Abort;
-use std::test::Fail;
 
 /// A caller that knows no more of its keys than that they have a total order.
 fn order_of<K: Ord>(one: &K, other: &K) -> Ordering
@@ -63,38 +63,36 @@ fn sort_keys<A: Allocator>(alloc: A, keys: &mut [Key]) -> Result<(), AllocError>
     keys.sort(alloc)
 }
 
-#[test]
-fn refusals_print_their_causes(rt: HostRuntime) -> Result<(), Fail> {
-    assert!(rt; prints(rt.alloc(), &KeySize, "a key has 1 to 32 bytes")?);
-    assert!(rt; prints(rt.alloc(), &ValueSize, "a value has at most 64 bytes")?);
-    assert!(rt; prints(rt.alloc(), &Memory, "no memory")?);
-    Ok(())
-}
-
-/// A number of bytes, and whether a key and a value can have so many.
-const SIZES: &[(usize, bool, bool)] = &[
-    (0, false, true),
-    (1, true, true),
-    (32, true, true),
-    (33, false, true),
-    (64, false, true),
-    (65, false, false),
+const CAUSES: &[Case] = &[
+    Case::KeySizePrints("a key has 1 to 32 bytes"),
+    Case::ValueSizePrints("a value has at most 64 bytes"),
+    Case::MemoryPrints("no memory"),
 ];
 
-/// Whether so many bytes are a key, and whether they are a value.
-fn are_sizes(len: usize) -> (bool, bool) {
+#[test]
+fn refusals_print_their_causes(rt: HostRuntime) {
+    ask(&rt, CAUSES);
+}
+
+/// Whether so many bytes can be a key, and whether they can be a value.
+pub fn has_sizes(len: usize, is_key: bool, is_value: bool) -> bool {
     let bytes = [0x61; 65];
     let bytes = &bytes[..len.min(65)];
-    (Key::new(bytes).is_ok(), Value::new(bytes).is_ok())
+    Key::new(bytes).is_ok() == is_key && Value::new(bytes).is_ok() == is_value
 }
+
+const SIZES: &[Case] = &[
+    Case::Sizes(0, false, true),
+    Case::Sizes(1, true, true),
+    Case::Sizes(32, true, true),
+    Case::Sizes(33, false, true),
+    Case::Sizes(64, false, true),
+    Case::Sizes(65, false, false),
+];
 
 #[test]
 fn sizes_at_the_limits(rt: HostRuntime) {
-    for (len, is_key, is_value) in SIZES {
-        let (key, value) = are_sizes(*len);
-        assert!(rt; key == *is_key, "a key of {len} bytes");
-        assert!(rt; value == *is_value, "a value of {len} bytes");
-    }
+    ask(&rt, SIZES);
 }
 
 const RISING: &[&[u8]] = &[
@@ -108,93 +106,92 @@ const RISING: &[&[u8]] = &[
 ];
 
 /// Whether the key of the least bytes comes first when the two are sorted.
-fn comes_first(alloc: Global, one: &[u8], other: &[u8], least: &[u8]) -> Result<bool, Fail> {
-    let mut pair = [Key::new(other)?, Key::new(one)?];
-    sort_keys(alloc, &mut pair)?;
-    Ok(pair[0].bytes() == least)
+fn comes_first(rt: &impl Abort, alloc: Global, one: &[u8], other: &[u8], least: &[u8]) -> bool {
+    let mut pair = [key_of(rt, other), key_of(rt, one)];
+    sort_keys(alloc, &mut pair).expect(rt, "memory");
+    pair[0].bytes() == least
 }
 
 /// Whether keys of these bytes stand in this order, and are sorted by it.
-fn is_order(alloc: Global, one: &[u8], other: &[u8], order: Ordering) -> Result<bool, Fail> {
+fn is_order(rt: &impl Abort, alloc: Global, one: &[u8], other: &[u8], order: Ordering) -> bool {
     let least = if order == Ordering::Less { one } else { other };
-    Ok(
-        stand_so(&Key::new(one)?, &Key::new(other)?, order)
-            && comes_first(alloc, one, other, least)?,
-    )
+    stand_so(&key_of(rt, one), &key_of(rt, other), order)
+        && comes_first(rt, alloc, one, other, least)
 }
 
 /// Compares the key at a place among the rising ones with each of them.
-fn compare_with_each(rt: &impl Abort, alloc: Global, i: usize, one: &[u8]) -> Result<(), Fail> {
+fn compare_with_each(rt: &impl Abort, alloc: Global, i: usize, one: &[u8]) {
     for (j, other) in RISING.iter().enumerate() {
-        assert!(rt; is_order(alloc, one, other, i.cmp(&j))?, "{i} and {j}");
+        assert!(rt; is_order(rt, alloc, one, other, i.cmp(&j)), "{i} and {j}");
     }
-    Ok(())
 }
 
 #[test]
-fn keys_in_ascending_order(rt: HostRuntime) -> Result<(), Fail> {
+fn keys_in_ascending_order(rt: HostRuntime) {
     for (i, one) in RISING.iter().enumerate() {
-        compare_with_each(&rt, rt.alloc(), i, one)?;
+        compare_with_each(&rt, rt.alloc(), i, one);
     }
-    Ok(())
 }
 
-fn key_is_cloned(bytes: &[u8]) -> Result<bool, Fail> {
-    let key = Key::new(bytes)?;
-    Ok(key.clone()?.bytes() == bytes && same_key(&key, &key.copy()))
+pub fn key_is_cloned(rt: &impl Abort, bytes: &[u8]) -> bool {
+    let key = key_of(rt, bytes);
+    let clone = key.clone().expect(rt, "memory");
+    clone.bytes() == bytes && same_key(&key, &key.copy())
 }
 
-fn value_is_cloned(bytes: &[u8]) -> Result<bool, Fail> {
-    let value = Value::new(bytes)?;
-    Ok(value.clone()?.bytes() == bytes && same_value(&value, &value.copy()))
+pub fn value_is_cloned(rt: &impl Abort, bytes: &[u8]) -> bool {
+    let value = value_of(rt, bytes);
+    let clone = value.clone().expect(rt, "memory");
+    clone.bytes() == bytes && same_value(&value, &value.copy())
 }
 
 /// Whether a put is the same event as itself, and another than the removal of its key.
-fn events_are_compared(key: &[u8], value: &[u8]) -> Result<bool, Fail> {
-    let key = Key::new(key)?;
-    let change = Change::Put(key.copy(), Value::new(value)?);
+pub fn events_are_compared(rt: &impl Abort, key: &[u8], value: &[u8]) -> bool {
+    let key = key_of(rt, key);
+    let change = Change::Put(key.copy(), value_of(rt, value));
     let put = Event { pass: 1, change };
     let change = Change::Remove(key);
     let remove = Event { pass: 1, change };
-    Ok(same_event(&put, &put) && !same_event(&put, &remove))
+    same_event(&put, &put) && !same_event(&put, &remove)
 }
 
+const CLONES: &[Case] = &[
+    Case::KeyClone(&[0xff; 32]),
+    Case::ValueClone(&[0x00; 64]),
+    Case::Events(&[0xff; 32], &[0x00; 64]),
+];
+
 #[test]
-fn clones_are_the_same(rt: HostRuntime) -> Result<(), Fail> {
-    assert!(rt; key_is_cloned(&[0xff; 32])?);
-    assert!(rt; value_is_cloned(&[0x00; 64])?);
-    assert!(rt; events_are_compared(&[0xff; 32], &[0x00; 64])?);
-    Ok(())
+fn clones_are_the_same(rt: HostRuntime) {
+    ask(&rt, CLONES);
 }
 
 /// Layers by another SHA-256 (Python's hashlib).
-const LAYERS: &[(&str, u8)] = &[
-    ("1", 0),
-    ("a", 0),
-    ("abc", 0),
-    ("0", 0),
-    ("hello", 0),
-    ("merkle search tree keys 32 bytes", 0),
-    ("39", 1),
-    ("49", 1),
-    ("286", 2),
-    ("671", 2),
-    ("886", 3),
-    ("1039", 3),
-    ("88484", 4),
-    ("172608", 4),
-    ("596138", 5),
-    ("665782", 7),
+const LAYERS: &[Case] = &[
+    Case::Layer("1", 0),
+    Case::Layer("a", 0),
+    Case::Layer("abc", 0),
+    Case::Layer("0", 0),
+    Case::Layer("hello", 0),
+    Case::Layer("merkle search tree keys 32 bytes", 0),
+    Case::Layer("39", 1),
+    Case::Layer("49", 1),
+    Case::Layer("286", 2),
+    Case::Layer("671", 2),
+    Case::Layer("886", 3),
+    Case::Layer("1039", 3),
+    Case::Layer("88484", 4),
+    Case::Layer("172608", 4),
+    Case::Layer("596138", 5),
+    Case::Layer("665782", 7),
 ];
 
-fn layer_of(key: &str) -> Result<u8, KeySize> {
-    Ok(Key::new(key.as_bytes())?.layer())
+/// Whether the key has this layer.
+pub fn has_layer(rt: &impl Abort, key: &str, layer: u8) -> bool {
+    key_of(rt, key.as_bytes()).layer() == layer
 }
 
 #[test]
-fn layers(rt: HostRuntime) -> Result<(), Fail> {
-    for (key, layer) in LAYERS {
-        assert!(rt; layer_of(key)? == *layer, "{key}");
-    }
-    Ok(())
+fn layers(rt: HostRuntime) {
+    ask(&rt, LAYERS);
 }

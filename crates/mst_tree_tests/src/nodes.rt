@@ -1,75 +1,97 @@
 //! Values from another program (Python's hashlib), large lists, texts outside the grammar, and
 //! refused growths.
-use crate::pairs::{THREE_PAIRS, TWO_PAIRS, numbered, pair, prints, roots_agree, spelt, top};
+use crate::cases::{Case, ask};
+use crate::heaps::heap_of;
+use crate::pairs::{
+    THREE_PAIRS, TWO_PAIRS, are_digits, bytes_of, numbered, pair, root, roots_agree, spelt,
+    text_of, top,
+};
 use linked_list_allocator::LocalHeap;
 use mst_key::{Key, Memory, Value};
-use mst_node::{NodeFault, ascending, digest, is_map, read_text, root_of, top_text};
+use mst_node::{NodeFault, ascending, digest, is_map, read_text, top_text};
 use std::alloc::Global;
 use std::process::Abort;
-use std::test::Fail;
 
 /// Whether the list has this root digest, which is also that of its tree's text.
-fn has_root(alloc: Global, pairs: &[(Key, Value)], digits: &str) -> Result<bool, Fail> {
-    if pairs.len() > 65535 || !ascending(pairs) || !is_map(pairs) {
-        return Ok(false);
-    }
-    let found = hex::encode(alloc, root_of(pairs).as_slice())?;
-    Ok(found.as_str() == digits && roots_agree(alloc, pairs)?)
+pub fn has_root(rt: &impl Abort, alloc: Global, pairs: &[(Key, Value)], digits: &str) -> bool {
+    are_digits(rt, alloc, root(rt, pairs).as_slice(), digits) && roots_agree(rt, alloc, pairs)
 }
 
-/// Whether the list has so many pairs, and this root digest.
+/// Whether the same holds of a list of so many pairs, which are a map's.
 fn is_rooted(
+    rt: &impl Abort,
     alloc: Global,
-    pairs: Vec<(Key, Value)>,
+    pairs: &[(Key, Value)],
     count: usize,
     digits: &str,
-) -> Result<bool, Fail> {
-    Ok(pairs.len() == count && has_root(alloc, pairs.as_slice(), digits)?)
+) -> bool {
+    pairs.len() == count && ascending(pairs) && is_map(pairs) && has_root(rt, alloc, pairs, digits)
 }
+
+/// Whether so many numbers have this root digest.
+pub fn numbers_are_rooted(rt: &impl Abort, alloc: Global, count: u32, digits: &str) -> bool {
+    let pairs = numbered(rt, alloc, count);
+    is_rooted(rt, alloc, pairs.as_slice(), count as usize, digits)
+}
+
+/// Whether the keys `a` and `abc` have this root digest.
+pub fn two_are_rooted(rt: &impl Abort, alloc: Global, digits: &str) -> bool {
+    let pairs = spelt(rt, alloc, TWO_PAIRS);
+    is_rooted(rt, alloc, pairs.as_slice(), 2, digits)
+}
+
+const ROOTS: &[Case] = &[
+    Case::NumbersRoot(
+        0,
+        "e3b0c44298fc1c149afbf4c8996fb92427ae41e4649b934ca495991b7852b855",
+    ),
+    Case::TwoRoot("d4a8a9fc55058427163bd8a1f09ca5ec542de1cdaf28df100be5472e47b72503"),
+    Case::NumbersRoot(
+        1_000,
+        "e3ebf19010993996db63103ea8ed08a6d671d540853375cce026e9dfe3fdff56",
+    ),
+];
 
 #[test]
-fn roots(rt: HostRuntime) -> Result<(), Fail> {
-    let alloc = rt.alloc();
-    let none = "e3b0c44298fc1c149afbf4c8996fb92427ae41e4649b934ca495991b7852b855";
-    assert!(rt; is_rooted(alloc, numbered(alloc, 0)?, 0, none)?);
-    let two = "d4a8a9fc55058427163bd8a1f09ca5ec542de1cdaf28df100be5472e47b72503";
-    assert!(rt; is_rooted(alloc, spelt(alloc, TWO_PAIRS)?, 2, two)?);
-    let thousand = "e3ebf19010993996db63103ea8ed08a6d671d540853375cce026e9dfe3fdff56";
-    assert!(rt; is_rooted(alloc, numbered(alloc, 1000)?, 1000, thousand)?);
-    Ok(())
+fn roots(rt: HostRuntime) {
+    ask(&rt, ROOTS);
 }
 
-/// Keys that but for the last are of layer 0, and lie in the one gap before it.
-fn pairs_in_one_gap(alloc: Global) -> Result<Vec<(Key, Value)>, Fail> {
+/// The pairs of keys of layer 0 alone, of the numbers below the end in three bytes.
+fn pairs_of_layer_0(rt: &impl Abort, alloc: Global, end: u32) -> Vec<(Key, Value)> {
     let mut pairs = Vec::new(alloc);
-    for (key, value) in numbered(alloc, 69815)? {
+    for (key, value) in numbered(rt, alloc, end) {
         if key.layer() == 0 {
-            pairs.push((key, value))?;
+            pairs.push((key, value)).expect(rt, "memory");
         }
     }
-    pairs.push(pair(b"39", b"y")?)?;
-    Ok(pairs)
+    pairs
 }
+
+/// Whether keys that but for the last are of layer 0, and lie in the one gap before it, have this
+/// root digest.
+pub fn one_gap_is_rooted(rt: &impl Abort, alloc: Global, digits: &str) -> bool {
+    let mut pairs = pairs_of_layer_0(rt, alloc, 69_815);
+    pairs.push(pair(rt, b"39", b"y")).expect(rt, "memory");
+    is_rooted(rt, alloc, pairs.as_slice(), 65_535, digits)
+}
+
+const ROOTS_OF_65535: &[Case] = &[
+    Case::NumbersRoot(
+        65_535,
+        "88ccfa716643f985a7f35ecd029a20c7c6f96f8bc477c66a4ce70dbc3c992dc0",
+    ),
+    Case::OneGapRoot("9be706c821953b0ec4f84db405a1e2f9beb1b587aa46c204748eaec439db35dd"),
+];
 
 #[test]
-fn roots_of_65535_pairs(rt: HostRuntime) -> Result<(), Fail> {
-    let alloc = rt.alloc();
-    let all = "88ccfa716643f985a7f35ecd029a20c7c6f96f8bc477c66a4ce70dbc3c992dc0";
-    assert!(rt; is_rooted(alloc, numbered(alloc, 65535)?, 65535, all)?);
-    let one_gap = "9be706c821953b0ec4f84db405a1e2f9beb1b587aa46c204748eaec439db35dd";
-    assert!(rt; is_rooted(alloc, pairs_in_one_gap(alloc)?, 65535, one_gap)?);
-    Ok(())
-}
-
-/// The bytes of a hexadecimal text.
-fn bytes_of(alloc: Global, text: &str) -> Result<Vec<u8>, Fail> {
-    Ok(hex::decode(alloc, text)?)
+fn roots_of_65535_pairs(rt: HostRuntime) {
+    ask(&rt, ROOTS_OF_65535);
 }
 
 /// The digest of the bytes of a hexadecimal text.
-pub fn digest_of(alloc: Global, text: &str) -> Result<[u8; 32], Fail> {
-    let bytes = bytes_of(alloc, text)?;
-    Ok(digest(bytes.as_slice()))
+pub fn digest_of(rt: &impl Abort, alloc: Global, text: &str) -> [u8; 32] {
+    digest(bytes_of(rt, alloc, text).as_slice())
 }
 
 /// Whether a text is that of a node of layer 1 that has the one key `39`, with the value `y`,
@@ -88,97 +110,92 @@ pub fn is_node_of_39(text: &[u8], left: [u8; 32], right: [u8; 32]) -> bool {
 }
 
 /// Whether the text of the top node of those three pairs is this one.
-fn has_text(alloc: Global, digits: &str) -> Result<bool, Fail> {
-    let pairs = spelt(alloc, THREE_PAIRS)?;
-    if pairs.len() != 3 {
-        return Ok(false);
-    }
-    let text = top(alloc, pairs.as_slice())?.ok_or("no node")?;
-    let found = hex::encode(alloc, text.as_slice())?;
-    Ok(found.as_str() == digits)
+pub fn has_text(rt: &impl Abort, alloc: Global, digits: &str) -> bool {
+    let pairs = spelt(rt, alloc, THREE_PAIRS);
+    let text = text_of(rt, alloc, pairs.as_slice());
+    pairs.len() == 3 && are_digits(rt, alloc, text.as_slice(), digits)
 }
 
 /// Whether this is the text of a node of 39 between the nodes of the two other pairs.
-fn is_text_of_39(alloc: Global, digits: &str) -> Result<bool, Fail> {
-    let left = digest_of(alloc, "01000001000131017800")?;
-    let right = digest_of(alloc, "01000001000161017a00")?;
-    let text = bytes_of(alloc, digits)?;
-    Ok(is_node_of_39(text.as_slice(), left, right))
+pub fn is_text_of_39(rt: &impl Abort, alloc: Global, digits: &str) -> bool {
+    let left = digest_of(rt, alloc, "01000001000131017800");
+    let right = digest_of(rt, alloc, "01000001000161017a00");
+    is_node_of_39(bytes_of(rt, alloc, digits).as_slice(), left, right)
 }
 
-#[test]
-fn text_of_three(rt: HostRuntime) -> Result<(), Fail> {
-    let digits =
-        "01010001017dfdf041db1f9c4de0e5e646a376510cfb7c4e47760ef8f74cb3181b74c061e6023339017901d2c0950048c47bae86f8557f6e7357048963954bbb6f1328ea6cc19d8898c5d8";
-    assert!(rt; has_text(rt.alloc(), digits)?);
-    assert!(rt; is_text_of_39(rt.alloc(), digits)?);
-    Ok(())
-}
+const TEXT_OF_THREE: &str =
+    "01010001017dfdf041db1f9c4de0e5e646a376510cfb7c4e47760ef8f74cb3181b74c061e6023339017901d2c0950048c47bae86f8557f6e7357048963954bbb6f1328ea6cc19d8898c5d8";
 
-const OUTSIDE: &[&str] = &[
-    "",
-    "0100000000",
-    "01000001000361626301780000",
-    "014100010003616263017800",
-    "0100000200036162630178000161013100",
-    "010000020001610131000161013100",
-    "0100000100023339017900",
-    "010000010203616263017800",
-    "020000010003616263017800",
-    "010000010000017800",
-    "0100000100036162630178",
+const TEXTS_OF_THREE: &[Case] = &[
+    Case::ThreeText(TEXT_OF_THREE),
+    Case::NodeOf39(TEXT_OF_THREE),
 ];
 
-/// The number of entries of the node of a hexadecimal text; none where that is no text of a node.
-fn entries_of(alloc: Global, text: &str) -> Result<Option<usize>, Fail> {
-    let bytes = bytes_of(alloc, text)?;
+#[test]
+fn text_of_three(rt: HostRuntime) {
+    ask(&rt, TEXTS_OF_THREE);
+}
+
+/// A text of one entry, and texts that are none.
+const OUTSIDE: &[Case] = &[
+    Case::Entries("010000010003616263017800", Some(1)),
+    Case::Entries("", None),
+    Case::Entries("0100000000", None),
+    Case::Entries("01000001000361626301780000", None),
+    Case::Entries("014100010003616263017800", None),
+    Case::Entries("0100000200036162630178000161013100", None),
+    Case::Entries("010000020001610131000161013100", None),
+    Case::Entries("0100000100023339017900", None),
+    Case::Entries("010000010203616263017800", None),
+    Case::Entries("020000010003616263017800", None),
+    Case::Entries("010000010000017800", None),
+    Case::Entries("0100000100036162630178", None),
+];
+
+/// Whether the node of a hexadecimal text has so many entries; none where that is no text of a node.
+pub fn has_entries(rt: &impl Abort, alloc: Global, text: &str, count: Option<usize>) -> bool {
+    let bytes = bytes_of(rt, alloc, text);
     match read_text(bytes.as_slice()) {
-        Ok(flat) => Ok(Some(flat.len())),
-        Err(NodeFault) => Ok(None),
+        Ok(flat) => count == Some(flat.len()),
+        Err(NodeFault) => count.is_none(),
     }
 }
 
 #[test]
-fn texts_outside_the_grammar(rt: HostRuntime) -> Result<(), Fail> {
-    assert!(rt; entries_of(rt.alloc(), "010000010003616263017800")? == Some(1));
-    for text in OUTSIDE {
-        assert!(rt; entries_of(rt.alloc(), text)?.is_none(), "{text}");
-    }
-    Ok(())
+fn texts_outside_the_grammar(rt: HostRuntime) {
+    ask(&rt, OUTSIDE);
 }
 
+const CAUSE: &[Case] = &[Case::NodeFaultPrints("not a node text")];
+
 #[test]
-fn the_fault_of_a_text_prints_its_cause(rt: HostRuntime) -> Result<(), Fail> {
-    assert!(rt; prints(rt.alloc(), &NodeFault, "not a node text")?);
-    Ok(())
+fn the_fault_of_a_text_prints_its_cause(rt: HostRuntime) {
+    ask(&rt, CAUSE);
 }
 
 /// Proofs, with the first of their texts.
-const FIRST: &[(&str, Option<&str>)] = &[
-    ("0102000000020a0b000000010c", Some("0a0b")),
-    ("ff0100000000", Some("")),
-    ("010000000001aa", None),
-    ("0101000000020a", None),
-    ("01010000", None),
-    ("", None),
+const FIRST: &[Case] = &[
+    Case::First("0102000000020a0b000000010c", Some("0a0b")),
+    Case::First("ff0100000000", Some("")),
+    Case::First("010000000001aa", None),
+    Case::First("0101000000020a", None),
+    Case::First("01010000", None),
+    Case::First("", None),
 ];
 
 /// Whether this is the first text of a proof.
-fn is_first(alloc: Global, proof: &str, want: Option<&str>) -> Result<bool, Fail> {
-    let bytes = bytes_of(alloc, proof)?;
+pub fn is_first(rt: &impl Abort, alloc: Global, proof: &str, want: Option<&str>) -> bool {
+    let bytes = bytes_of(rt, alloc, proof);
     match (top_text(bytes.as_slice()), want) {
-        (None, None) => Ok(true),
-        (Some(text), Some(want)) => Ok(hex::encode(alloc, text)?.as_str() == want),
-        _ => Ok(false),
+        (None, None) => true,
+        (Some(text), Some(want)) => are_digits(rt, alloc, text, want),
+        _ => false,
     }
 }
 
 #[test]
-fn first_texts(rt: HostRuntime) -> Result<(), Fail> {
-    for (proof, want) in FIRST {
-        assert!(rt; is_first(rt.alloc(), proof, *want)?, "{proof}");
-    }
-    Ok(())
+fn first_texts(rt: HostRuntime) {
+    ask(&rt, FIRST);
 }
 
 /// Whether the text that is made in the heap is this one; none where memory is refused.
@@ -200,40 +217,30 @@ fn are_enough(
     bytes: usize,
     pairs: &[(Key, Value)],
     want: &[u8],
-) -> Result<bool, Fail> {
-    let heap = LocalHeap::new(alloc, bytes)?;
+) -> bool {
+    let heap = heap_of(rt, alloc, bytes);
     let found = text_in(&heap, pairs, want);
     assert!(rt; found != Some(false));
     assert!(rt; heap.used() == 0, "nothing is kept");
-    Ok(found.is_some())
+    found.is_some()
 }
 
-/// The least number of units of 16 bytes that are enough for the text.
-fn least_units(
-    rt: &impl Abort,
-    alloc: Global,
-    pairs: &[(Key, Value)],
-    want: &[u8],
-) -> Result<usize, Fail> {
+/// The least number of units of 16 bytes that are enough for the text of these pairs: 2,048 where
+/// each heap refused it.
+fn least_units(rt: &impl Abort, alloc: Global, pairs: &[(Key, Value)]) -> usize {
+    let want = text_of(rt, alloc, pairs);
     for units in 1..2048usize {
-        if are_enough(rt, alloc, units * 16, pairs, want)? {
-            return Ok(units);
+        if are_enough(rt, alloc, units * 16, pairs, want.as_slice()) {
+            return units;
         }
     }
-    Err("refused with ample memory".into())
-}
-
-/// The same for the text of these pairs.
-fn least_for(rt: &impl Abort, alloc: Global, pairs: &[(Key, Value)]) -> Result<usize, Fail> {
-    assert!(rt; pairs.len() <= 65535);
-    let want = top(alloc, pairs)?.ok_or("no node")?;
-    least_units(rt, alloc, pairs, want.as_slice())
+    2048
 }
 
 #[test]
-fn each_growth_is_refused(rt: HostRuntime) -> Result<(), Fail> {
-    let pairs = numbered(rt.alloc(), 40)?;
-    let least = least_for(&rt, rt.alloc(), pairs.as_slice())?;
+fn each_growth_is_refused(rt: HostRuntime) {
+    let pairs = numbered(&rt, rt.alloc(), 40);
+    let least = least_units(&rt, rt.alloc(), pairs.as_slice());
     assert!(rt; least > 16, "refused before");
-    Ok(())
+    assert!(rt; least < 2048, "refused with ample memory");
 }

@@ -1,122 +1,155 @@
 //! What is said of the text of a proof: words, texts and lines that are written out, and a growth
 //! that is refused.
-use linked_list_allocator::LocalHeap;
-use mst_key::{Key, Memory};
+use crate::cases::{Case, ask};
+use crate::heaps::heap_of;
+use mst_key::Memory;
 use mst_verify::{LIMIT, Report, key_in, report_on, root_in};
-use std::alloc::Global;
-use std::test::Fail;
+use std::alloc::{Allocator, Global};
+use std::process::Abort;
 
 /// The root digest of the map of `a` and `abc`, with the values `1` and `x`.
 const TWO: &str = "d4a8a9fc55058427163bd8a1f09ca5ec542de1cdaf28df100be5472e47b72503";
 
 const TWO_PROOF: &[u8] = b"0101000000110100000200016101310003616263017800\n";
 
-/// Whether this line is said of a text, as a refusal or not.
-fn is_said(alloc: Global, key: &str, text: &[u8], line: &str, refused: bool) -> Result<bool, Fail> {
-    let root = root_in(TWO).ok_or("no root")?;
-    let key = key_in(key).ok_or("no key")?;
-    let report = report_on(alloc, &root, &key, text)?;
-    Ok(report.line().as_slice() == line.as_bytes() && report.is_refusal() == refused)
+/// What is said of a text for the key of this word, in the map of those two.
+fn report_in<A: Allocator>(
+    rt: &impl Abort,
+    alloc: A,
+    key: &str,
+    text: &[u8],
+) -> Result<Report, Memory> {
+    let root = root_in(TWO).expect(rt, "a root");
+    let key = key_in(key).expect(rt, "a key");
+    report_on(alloc, &root, &key, text)
 }
 
-const TEXTS: &[(&str, &[u8], &str, bool)] = &[
-    ("61", TWO_PROOF, "present 31\n", false),
-    ("616263", TWO_PROOF, "present 78\n", false),
-    ("62", TWO_PROOF, "absent\n", false),
-    ("62", b"0100", "P5\n", true),
-    ("62", b"", "P2\n", true),
-    ("62", b"\n", "P2\n", true),
-    ("62", b"\n\n", "fault hex\n", true),
-    ("62", b"0", "fault hex\n", true),
-    ("62", b"0g", "fault hex\n", true),
+/// Whether this line is said of a text, as a refusal or not.
+pub fn is_said(
+    rt: &impl Abort,
+    alloc: Global,
+    key: &str,
+    text: &[u8],
+    line: &str,
+    refused: bool,
+) -> bool {
+    let report = report_in(rt, alloc, key, text).expect(rt, "memory");
+    report.line().as_slice() == line.as_bytes() && report.is_refusal() == refused
+}
+
+const TEXTS: &[Case] = &[
+    Case::Said("61", TWO_PROOF, "present 31\n", false),
+    Case::Said("616263", TWO_PROOF, "present 78\n", false),
+    Case::Said("62", TWO_PROOF, "absent\n", false),
+    Case::Said("62", b"0100", "P5\n", true),
+    Case::Said("62", b"", "P2\n", true),
+    Case::Said("62", b"\n", "P2\n", true),
+    Case::Said("62", b"\n\n", "fault hex\n", true),
+    Case::Said("62", b"0", "fault hex\n", true),
+    Case::Said("62", b"0g", "fault hex\n", true),
 ];
 
 #[test]
-fn texts_and_lines(rt: HostRuntime) -> Result<(), Fail> {
-    for (key, text, line, refused) in TEXTS {
-        assert!(rt; is_said(rt.alloc(), key, text, line, *refused)?, "{line}");
-    }
-    Ok(())
+fn texts_and_lines(rt: HostRuntime) {
+    ask(&rt, TEXTS);
 }
 
 /// So many times this byte, and what stands behind it.
-fn text_of(alloc: Global, byte: u8, count: usize, more: &[u8]) -> Result<Vec<u8>, Fail> {
+fn text_of(rt: &impl Abort, alloc: Global, byte: u8, count: usize, more: &[u8]) -> Vec<u8> {
     let mut text = Vec::new(alloc);
-    text.resize(count, byte)?;
-    text.extend_from_slice(more)?;
-    Ok(text)
+    text.resize(count, byte).expect(rt, "memory");
+    text.extend_from_slice(more).expect(rt, "memory");
+    text
 }
+
+/// Whether this line is said, as a refusal, of a text of the largest size and what stands behind
+/// it.
+pub fn is_said_behind(rt: &impl Abort, alloc: Global, more: &[u8], line: &str) -> bool {
+    let text = text_of(rt, alloc, b'x', LIMIT, more);
+    is_said(rt, alloc, "62", text.as_slice(), line, true)
+}
+
+const LARGEST: &[Case] = &[
+    Case::SaidBehind(b"", "fault hex\n"),
+    Case::SaidBehind(b"\n", "fault long\n"),
+];
 
 #[test]
-fn texts_of_the_largest_size(rt: HostRuntime) -> Result<(), Fail> {
-    let text = text_of(rt.alloc(), b'x', LIMIT, b"")?;
-    assert!(rt; is_said(rt.alloc(), "62", text.as_slice(), "fault hex\n", true)?);
-    let longer = text_of(rt.alloc(), b'x', LIMIT, b"\n")?;
-    assert!(rt; is_said(rt.alloc(), "62", longer.as_slice(), "fault long\n", true)?);
-    Ok(())
+fn texts_of_the_largest_size(rt: HostRuntime) {
+    ask(&rt, LARGEST);
 }
 
-const NO_ROOTS: &[&str] = &[
-    "4a8a9fc55058427163bd8a1f09ca5ec542de1cdaf28df100be5472e47b72503",
-    "a8a9fc55058427163bd8a1f09ca5ec542de1cdaf28df100be5472e47b72503",
-];
-
-const NO_KEYS: &[&str] = &[
-    "",
-    "-",
-    "6",
-    "6g",
-    " 6",
-    "0x61",
-    "616",
-    "d4a8a9fc55058427163bd8a1f09ca5ec542de1cdaf28df100be5472e47b7250300",
-];
-
-fn is_root(word: &str) -> bool {
+/// Whether the word names a root digest.
+pub fn is_root(word: &str) -> bool {
     root_in(word).is_some()
 }
 
-fn is_key(word: &str) -> bool {
-    key_in(word).is_some()
+/// Whether the word names the key of these bytes, or none where none are given.
+pub fn is_key(word: &str, bytes: Option<&[u8]>) -> bool {
+    match (key_in(word), bytes) {
+        (Some(key), Some(bytes)) => key.bytes() == bytes,
+        (None, None) => true,
+        _ => false,
+    }
 }
+
+/// The bytes of `TWO`.
+const TWO_BYTES: &[u8] = &[
+    0xd4, 0xa8, 0xa9, 0xfc, 0x55, 0x05, 0x84, 0x27, 0x16, 0x3b, 0xd8, 0xa1, 0xf0, 0x9c, 0xa5, 0xec,
+    0x54, 0x2d, 0xe1, 0xcd, 0xaf, 0x28, 0xdf, 0x10, 0x0b, 0xe5, 0x47, 0x2e, 0x47, 0xb7, 0x25, 0x03,
+];
+
+const WORDS: &[Case] = &[
+    Case::Root(TWO, true),
+    Case::Root(
+        "4a8a9fc55058427163bd8a1f09ca5ec542de1cdaf28df100be5472e47b72503",
+        false,
+    ),
+    Case::Root(
+        "a8a9fc55058427163bd8a1f09ca5ec542de1cdaf28df100be5472e47b72503",
+        false,
+    ),
+    Case::Key(TWO, Some(TWO_BYTES)),
+    Case::Key("", None),
+    Case::Key("-", None),
+    Case::Key("6", None),
+    Case::Key("6g", None),
+    Case::Key(" 6", None),
+    Case::Key("0x61", None),
+    Case::Key("616", None),
+    Case::Key(
+        "d4a8a9fc55058427163bd8a1f09ca5ec542de1cdaf28df100be5472e47b7250300",
+        None,
+    ),
+    Case::Key("6A6a", Some(b"jj")),
+];
 
 #[test]
-fn words(rt: HostRuntime) -> Result<(), Fail> {
-    assert!(rt; is_root(TWO) && is_key(TWO));
-    for word in NO_ROOTS {
-        assert!(rt; !is_root(word), "{word}");
-    }
-    for word in NO_KEYS {
-        assert!(rt; !is_key(word), "{word}");
-    }
-    assert!(rt; key_in("6A6a") == Some(Key::new(b"jj")?));
-    Ok(())
+fn words(rt: HostRuntime) {
+    ask(&rt, WORDS);
 }
 
-/// Whether a text is said to be no hexadecimal one in a heap of 64 bytes; none where memory is
-/// refused.
-fn answer_in_64(alloc: Global, text: &[u8]) -> Result<Option<bool>, Fail> {
-    let root = root_in(TWO).ok_or("no root")?;
-    let heap = LocalHeap::new(alloc, 64)?;
-    match report_on(&heap, &root, &Key::new(b"b")?, text) {
-        Ok(Report::NotHex) => Ok(Some(true)),
-        Ok(_) => Ok(Some(false)),
-        Err(Memory) => Ok(None),
+/// Whether so many zeros, and what stands behind them, are said to be no hexadecimal text in a heap
+/// of 64 bytes; none where memory is refused.
+pub fn is_not_hex(rt: &impl Abort, alloc: Global, zeros: usize, more: &[u8]) -> Option<bool> {
+    let text = text_of(rt, alloc, b'0', zeros, more);
+    let heap = heap_of(rt, alloc, 64);
+    match report_in(rt, &heap, "62", text.as_slice()) {
+        Ok(Report::NotHex) => Some(true),
+        Ok(_) => Some(false),
+        Err(Memory) => None,
     }
 }
 
-/// The same of so many zeros and what stands behind them.
-fn is_not_hex(alloc: Global, zeros: usize, more: &[u8]) -> Result<Option<bool>, Fail> {
-    let text = text_of(alloc, b'0', zeros, more)?;
-    answer_in_64(alloc, text.as_slice())
-}
-
-#[test]
-fn room_is_refused(rt: HostRuntime) -> Result<(), Fail> {
-    assert!(rt; is_not_hex(rt.alloc(), 8_000, b"")?.is_none());
+const IN_64_BYTES: &[Case] = &[
+    Case::NotHex(8_000, b"", None),
     // what is no even number of digits takes no room
-    assert!(rt; is_not_hex(rt.alloc(), 0, b"0")? == Some(true));
-    assert!(rt; is_not_hex(rt.alloc(), 8_000, b"0")? == Some(true));
-    assert!(rt; is_not_hex(rt.alloc(), 8_000, b"0g")? == Some(true));
-    Ok(())
+    Case::NotHex(0, b"0", Some(true)),
+    Case::NotHex(8_000, b"0", Some(true)),
+    Case::NotHex(8_000, b"0g", Some(true)),
+];
+
+#[test]
+fn room_is_refused(rt: HostRuntime) {
+    ask(&rt, IN_64_BYTES);
 }

@@ -92,17 +92,27 @@ fn pairs_of_one_node(rt: &impl Abort, alloc: Global, end: u32) -> Vec<(Key, Valu
     pairs
 }
 
+/// How many pairs a map that is generated has, and its seed.
+const GENERATED: &[(u32, u64)] = &[(4_096, 5), (30_001, 6), (60_000, 7)];
+
+/// Asks the map that is generated so.
+fn asks_generated(rt: &impl Abort, alloc: Global, count: u32, seed: u64) {
+    let pairs = generated(rt, alloc, count, seed);
+    asks_all(rt, alloc, pairs.as_slice(), 65_535);
+}
+
+/// Asks the map whose pairs stand in one node.
+fn asks_one_node(rt: &impl Abort, alloc: Global, end: u32) {
+    let pairs = pairs_of_one_node(rt, alloc, end);
+    asks_all(rt, alloc, pairs.as_slice(), 65_535);
+}
+
 // 65,534 entries in one node, and its head, take all rows that there can be.
 #[test]
 fn large_maps_and_nodes(rt: HostRuntime) {
-    let alloc = rt.alloc();
-    for pairs in [
-        generated(&rt, alloc, 4_096, 5),
-        generated(&rt, alloc, 30_001, 6),
-        generated(&rt, alloc, 60_000, 7),
-        pairs_of_one_node(&rt, alloc, 8_750),
-        pairs_of_one_node(&rt, alloc, 69_815),
-    ] {
-        asks_all(&rt, alloc, pairs.as_slice(), 65_535);
+    for (count, seed) in GENERATED {
+        asks_generated(&rt, rt.alloc(), *count, *seed);
     }
+    asks_one_node(&rt, rt.alloc(), 8_750);
+    asks_one_node(&rt, rt.alloc(), 69_815);
 }

@@ -3,20 +3,20 @@
 ghost use Rattle.std.specs.Prelude.{◌≤◌, length};
 ghost use Rattle.mst_key.specs.Map.{IsMap};
 
-use super::{proof_for, proves, root_in};
-use crate::pairs::{numbered, pair, roots_agree, top};
+use super::{proof_for, proves};
+use crate::nodes::has_root;
+use crate::pairs::{key_of, numbered, pair, roots_agree, text_of};
 use mst_key::{Key, Memory, Value};
-use mst_node::{Flat, build, is_map, read_text, root_of};
+use mst_node::{Flat, build, is_map, read_text};
 use mst_proof::collide;
 use std::alloc::Global;
 use std::process::Abort;
-use std::test::Fail;
 
 /// Whether the roots of so many of the pairs agree.
-fn front_agrees(alloc: Global, pairs: &[(Key, Value)], count: usize) -> Result<bool, Fail> {
+fn front_agrees(rt: &impl Abort, alloc: Global, pairs: &[(Key, Value)], count: usize) -> bool {
     match pairs.get(..count) {
-        Some(front) => roots_agree(alloc, front),
-        None => Ok(false),
+        Some(front) => roots_agree(rt, alloc, front),
+        None => false,
     }
 }
 
@@ -26,40 +26,38 @@ const ABOVE: &[usize] = &[
 ];
 
 /// Compares the roots of the first pairs, up to 300.
-fn compare_up_to_300(rt: &impl Abort, alloc: Global, pairs: &[(Key, Value)]) -> Result<(), Fail> {
+fn compare_up_to_300(rt: &impl Abort, alloc: Global, pairs: &[(Key, Value)]) {
     for count in 0..=300 {
-        assert!(rt; front_agrees(alloc, pairs, count)?, "{count}");
+        assert!(rt; front_agrees(rt, alloc, pairs, count), "{count}");
     }
-    Ok(())
 }
 
 /// Compares those of the sizes above.
-fn compare_above(rt: &impl Abort, alloc: Global, pairs: &[(Key, Value)]) -> Result<(), Fail> {
+fn compare_above(rt: &impl Abort, alloc: Global, pairs: &[(Key, Value)]) {
     for count in ABOVE {
-        assert!(rt; front_agrees(alloc, pairs, *count)?, "{count}");
+        assert!(rt; front_agrees(rt, alloc, pairs, *count), "{count}");
     }
-    Ok(())
 }
 
 #[test]
-fn each_size_up_to_300_and_some_above(rt: HostRuntime) -> Result<(), Fail> {
-    let pairs = numbered(rt.alloc(), 65_535)?;
-    compare_up_to_300(&rt, rt.alloc(), pairs.as_slice())?;
-    compare_above(&rt, rt.alloc(), pairs.as_slice())
+fn each_size_up_to_300_and_some_above(rt: HostRuntime) {
+    let pairs = numbered(&rt, rt.alloc(), 65_535);
+    compare_up_to_300(&rt, rt.alloc(), pairs.as_slice());
+    compare_above(&rt, rt.alloc(), pairs.as_slice());
 }
 
 /// Pairs of keys of layer 0 alone, which stand in one node, with values of 64 bytes: the numbers
 /// below the end in three bytes that have this layer.
-fn pairs_of_one_node(alloc: Global, end: u32) -> Result<Vec<(Key, Value)>, Fail> {
+fn pairs_of_one_node(rt: &impl Abort, alloc: Global, end: u32) -> Vec<(Key, Value)> {
     let mut pairs = Vec::new(alloc);
     for i in 0..end {
         let bytes = i.to_be_bytes();
-        let (key, value) = pair(&bytes[1..], &[bytes[3]; 64])?;
+        let (key, value) = pair(rt, &bytes[1..], &[bytes[3]; 64]);
         if key.layer() == 0 {
-            pairs.push((key, value))?;
+            pairs.push((key, value)).expect(rt, "memory");
         }
     }
-    Ok(pairs)
+    pairs
 }
 
 /// Whether a node of layer 0 without children has as many entries as there are pairs, and each so
@@ -95,67 +93,38 @@ fn collides(alloc: Global, pairs: &[(Key, Value)], key: &Key, proof: &[u8]) -> R
     Ok(pair.is_some())
 }
 
-/// Whether the map has this root digest, which is also that of its node's text.
-fn has_root(alloc: Global, pairs: &[(Key, Value)], digits: &str) -> Result<bool, Fail> {
-    if pairs.len() > 65_535 {
-        return Ok(false);
-    }
-    Ok(root_of(pairs) == root_in(alloc, digits)? && roots_agree(alloc, pairs)?)
-}
-
 /// Whether the text of the map's node has the pairs.
-fn text_has_pairs(alloc: Global, pairs: &[(Key, Value)], step: usize) -> Result<bool, Fail> {
-    if pairs.len() > 65_535 {
-        return Ok(false);
-    }
-    let text = top(alloc, pairs)?.ok_or("no node")?;
-    let flat = read_text(text.as_slice())?;
-    Ok(has_pairs(&flat, pairs, step))
-}
-
-/// Whether the pair in the middle is proved, and the absence of a key behind all.
-fn middle_is_proved(alloc: Global, pairs: &[(Key, Value)]) -> Result<bool, Fail> {
-    let (held, value) = pairs.get(pairs.len() / 2).ok_or("no pair")?;
-    Ok(
-        proves(alloc, pairs, held.bytes(), Some(value.bytes()))?
-            && proves(alloc, pairs, ABSENT, None)?,
-    )
+fn text_has_pairs(rt: &impl Abort, alloc: Global, pairs: &[(Key, Value)], step: usize) -> bool {
+    let text = text_of(rt, alloc, pairs);
+    let flat = read_text(text.as_slice()).expect(rt, "a node's text");
+    has_pairs(&flat, pairs, step)
 }
 
 /// A key behind all.
 const ABSENT: &[u8] = &[0xff];
 
+/// Whether the pair in the middle is proved, and the absence of a key behind all.
+fn middle_is_proved(rt: &impl Abort, alloc: Global, pairs: &[(Key, Value)]) -> bool {
+    let (held, value) = pairs.get(pairs.len() / 2).expect(rt, "a pair");
+    proves(rt, alloc, pairs, held.bytes(), Some(value.bytes()))
+        && proves(rt, alloc, pairs, ABSENT, None)
+}
+
 /// Whether no texts of this proof and of the map's tree collide.
-fn is_free(alloc: Global, pairs: &[(Key, Value)], proof: &[u8]) -> Result<bool, Fail> {
-    if pairs.len() > 65_535 || !is_map(pairs) {
-        return Ok(false);
-    }
-    Ok(!collides(alloc, pairs, &Key::new(ABSENT)?, proof)?)
+fn is_free(rt: &impl Abort, alloc: Global, pairs: &[(Key, Value)], proof: &[u8]) -> bool {
+    assert!(rt; pairs.len() <= 65_535);
+    assert!(rt; is_map(pairs));
+    collides(alloc, pairs, &key_of(rt, ABSENT), proof) == Ok(false)
 }
 
 /// Whether neither its own proof nor another collides with the map's tree.
-fn proofs_are_free(alloc: Global, pairs: &[(Key, Value)]) -> Result<bool, Fail> {
-    let mut proof = proof_for(alloc, pairs, ABSENT)?;
-    let own = is_free(alloc, pairs, proof.as_slice())?;
+fn proofs_are_free(rt: &impl Abort, alloc: Global, pairs: &[(Key, Value)]) -> bool {
+    let mut proof = proof_for(rt, alloc, pairs, ABSENT);
+    let own = is_free(rt, alloc, pairs, proof.as_slice());
     // the last byte says that no child stands behind the last entry
     let none = proof.pop() == Some(0);
-    proof.push(1)?;
-    Ok(own && none && is_free(alloc, pairs, proof.as_slice())?)
-}
-
-/// Whether the map has this root digest, and the text of its node its pairs.
-fn is_whole(
-    alloc: Global,
-    pairs: &[(Key, Value)],
-    digits: &str,
-    step: usize,
-) -> Result<bool, Fail> {
-    Ok(has_root(alloc, pairs, digits)? && text_has_pairs(alloc, pairs, step)?)
-}
-
-/// Whether the map is proved, and no proof collides with its tree.
-fn is_proved(alloc: Global, pairs: &[(Key, Value)]) -> Result<bool, Fail> {
-    Ok(middle_is_proved(alloc, pairs)? && proofs_are_free(alloc, pairs)?)
+    proof.push(1).expect(rt, "memory");
+    own && none && is_free(rt, alloc, pairs, proof.as_slice())
 }
 
 /// Asks a map whose pairs stand in one node for its root digest, its text, proofs, and a collision
@@ -166,10 +135,11 @@ fn asks_one_node(
     pairs: &[(Key, Value)],
     digits: &str,
     step: usize,
-) -> Result<(), Fail> {
-    assert!(rt; is_whole(alloc, pairs, digits, step)?);
-    assert!(rt; is_proved(alloc, pairs)?);
-    Ok(())
+) {
+    assert!(rt; has_root(rt, alloc, pairs, digits), "the root digest");
+    assert!(rt; text_has_pairs(rt, alloc, pairs, step), "the text");
+    assert!(rt; middle_is_proved(rt, alloc, pairs), "the proofs");
+    assert!(rt; proofs_are_free(rt, alloc, pairs), "the collisions");
 }
 
 /// The end of the numbers, how many pairs they give, the step in which these are compared, and
@@ -190,20 +160,15 @@ const NODES: &[(u32, usize, usize, &str)] = &[
 ];
 
 /// Asks such a node.
-fn ask(
-    rt: &impl Abort,
-    alloc: Global,
-    (end, count, step, digits): (u32, usize, usize, &str),
-) -> Result<(), Fail> {
-    let pairs = pairs_of_one_node(alloc, end)?;
+fn ask(rt: &impl Abort, alloc: Global, (end, count, step, digits): (u32, usize, usize, &str)) {
+    let pairs = pairs_of_one_node(rt, alloc, end);
     assert!(rt; pairs.len() == count);
-    asks_one_node(rt, alloc, pairs.as_slice(), digits, step)
+    asks_one_node(rt, alloc, pairs.as_slice(), digits, step);
 }
 
 #[test]
-fn nodes_of_long_values(rt: HostRuntime) -> Result<(), Fail> {
+fn nodes_of_long_values(rt: HostRuntime) {
     for node in NODES {
-        ask(&rt, rt.alloc(), *node)?;
+        ask(&rt, rt.alloc(), *node);
     }
-    Ok(())
 }

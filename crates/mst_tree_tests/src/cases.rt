@@ -1,0 +1,134 @@
+//! Questions as data, each with what it is to answer, so that a test is a table of them.
+//!
+//! A table that is a constant costs its test's proof next to nothing, and the runner is paid once.
+use crate::keys::{events_are_compared, has_layer, has_sizes, key_is_cloned, value_is_cloned};
+use crate::nodes::{
+    has_entries, has_text, is_first, is_text_of_39, numbers_are_rooted, one_gap_is_rooted,
+    two_are_rooted,
+};
+use crate::pairs::prints;
+use crate::proving::forged::is_forged;
+use crate::proving::verdicts::{is_verdict_alone, is_verdict_in};
+use crate::reports::{is_key, is_not_hex, is_root, is_said, is_said_behind};
+use mst_key::{KeySize, Memory, ValueSize};
+use mst_node::NodeFault;
+use mst_proof::ProofFault;
+use std::alloc::Global;
+use std::process::Abort;
+
+type Bytes = &'static [u8];
+
+type Text = &'static str;
+
+/// A question, and what it is to answer.
+#[derive(Clone, Copy)]
+pub enum Case {
+    /// Whether so many bytes are a key, and whether they are a value.
+    Sizes(usize, bool, bool),
+    /// The layer of a key.
+    Layer(Text, u8),
+    /// A key whose clone and copy are the same.
+    KeyClone(Bytes),
+    /// A value whose clone and copy are the same.
+    ValueClone(Bytes),
+    /// A key and a value whose put is another event than the key's removal.
+    Events(Bytes, Bytes),
+    /// What a key of no right size prints, a value, refused memory, and a text of no node.
+    KeySizePrints(Text),
+    ValueSizePrints(Text),
+    MemoryPrints(Text),
+    NodeFaultPrints(Text),
+    /// What a fault of a proof prints.
+    FaultPrints(ProofFault, Text),
+    /// The root digest of the first numbers, so many of them.
+    NumbersRoot(u32, Text),
+    /// The root digest of a and abc.
+    TwoRoot(Text),
+    /// The root digest of 65,535 pairs of which all but one lie in one gap.
+    OneGapRoot(Text),
+    /// The text of the top node of 1, 39 and a.
+    ThreeText(Text),
+    /// A text of a node of 39 between those of 1 and of a.
+    NodeOf39(Text),
+    /// How many entries a text's node has; none where it is no text of a node.
+    Entries(Text, Option<usize>),
+    /// The first text of a proof.
+    First(Text, Option<Text>),
+    /// The verdict on a proof: the root digest, the key, the proof and the verdict in words.
+    Verdict(Text, Text, Text, Text),
+    /// The verdict for a key on the first text alone of a proof of two.
+    VerdictAlone(Bytes, Text),
+    /// The verdict for a key on a proof of these texts, whose root is the first one's digest.
+    Forged(Text, &'static [Text], Text),
+    /// What is said of a text for a key, and whether it is a refusal.
+    Said(Text, Bytes, Text, bool),
+    /// What is said, as a refusal, of a text of the largest size and what stands behind it.
+    SaidBehind(Bytes, Text),
+    /// Whether a word names a root digest.
+    Root(Text, bool),
+    /// The key that a word names.
+    Key(Text, Option<Bytes>),
+    /// Whether so many zeros and what stands behind them are said to be no hexadecimal text in a
+    /// heap of 64 bytes; none where memory is refused.
+    NotHex(usize, Bytes, Option<bool>),
+}
+
+/// Whether a question of a proof, or of what is said of one, has its answer.
+fn proofs_hold(rt: &impl Abort, alloc: Global, case: Case) -> bool {
+    match case {
+        Case::Verdict(root, key, proof, words) => is_verdict_in(rt, alloc, root, key, proof, words),
+        Case::VerdictAlone(key, words) => is_verdict_alone(rt, alloc, key, words),
+        Case::Forged(key, texts, words) => is_forged(rt, alloc, key, texts, words),
+        Case::Said(key, text, line, refused) => is_said(rt, alloc, key, text, line, refused),
+        Case::SaidBehind(more, line) => is_said_behind(rt, alloc, more, line),
+        Case::Root(word, named) => is_root(word) == named,
+        Case::Key(word, key) => is_key(word, key),
+        Case::NotHex(zeros, more, said) => is_not_hex(rt, alloc, zeros, more) == said,
+        _ => false,
+    }
+}
+
+/// Whether a question of a list or of a text has its answer, or else one of a proof.
+fn nodes_hold(rt: &impl Abort, alloc: Global, case: Case) -> bool {
+    match case {
+        Case::NumbersRoot(count, digits) => numbers_are_rooted(rt, alloc, count, digits),
+        Case::TwoRoot(digits) => two_are_rooted(rt, alloc, digits),
+        Case::OneGapRoot(digits) => one_gap_is_rooted(rt, alloc, digits),
+        Case::ThreeText(digits) => has_text(rt, alloc, digits),
+        Case::NodeOf39(digits) => is_text_of_39(rt, alloc, digits),
+        Case::Entries(text, count) => has_entries(rt, alloc, text, count),
+        Case::First(proof, text) => is_first(rt, alloc, proof, text),
+        other => proofs_hold(rt, alloc, other),
+    }
+}
+
+/// Whether something prints so, or else a question of a list has its answer.
+fn prints_hold(rt: &impl Abort, alloc: Global, case: Case) -> bool {
+    match case {
+        Case::KeySizePrints(text) => prints(rt, alloc, &KeySize, text),
+        Case::ValueSizePrints(text) => prints(rt, alloc, &ValueSize, text),
+        Case::MemoryPrints(text) => prints(rt, alloc, &Memory, text),
+        Case::NodeFaultPrints(text) => prints(rt, alloc, &NodeFault, text),
+        Case::FaultPrints(fault, text) => prints(rt, alloc, &fault, text),
+        other => nodes_hold(rt, alloc, other),
+    }
+}
+
+/// Whether a question of keys and values has its answer, or else one of what is printed.
+fn holds(rt: &impl Abort, alloc: Global, case: Case) -> bool {
+    match case {
+        Case::Sizes(len, is_key, is_value) => has_sizes(len, is_key, is_value),
+        Case::Layer(key, layer) => has_layer(rt, key, layer),
+        Case::KeyClone(bytes) => key_is_cloned(rt, bytes),
+        Case::ValueClone(bytes) => value_is_cloned(rt, bytes),
+        Case::Events(key, value) => events_are_compared(rt, key, value),
+        other => prints_hold(rt, alloc, other),
+    }
+}
+
+/// Asks each question.
+pub fn ask(rt: &(impl Abort + AllocGlobal), cases: &[Case]) {
+    for (place, case) in cases.iter().enumerate() {
+        assert!(rt; holds(rt, rt.alloc(), *case), "case {place}");
+    }
+}
