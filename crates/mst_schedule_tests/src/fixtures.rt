@@ -16,31 +16,49 @@ pub(crate) fn heap_of(rt: &(impl Abort + AllocGlobal), bytes: usize) -> LocalHea
 }
 
 /// A store of this size.
-pub(crate) fn opened(
-    rt: &(impl Abort + AllocGlobal),
+pub(crate) fn opened<A: Allocator + Copy>(
+    rt: &impl Abort,
+    alloc: A,
     rows: u32,
     passes: u32,
-) -> (Store<Global>, Seats<Global>)
+) -> (Store<A>, Seats<A>)
     ensures own { result.1 ≡ result.0 }
 {
-    let Ok(opened) = Store::open(rt.alloc(), Shape { rows, passes }) else {
+    let Ok(opened) = Store::open(alloc, Shape { rows, passes }) else {
         panic!(rt; "no memory")
     };
     opened
 }
 
-/// A store of this size with its passes.
-pub(crate) fn dealt<'a>(
-    rt: &(impl Abort + AllocGlobal),
-    store: &'a Store<Global>,
-    seats: Seats<Global>,
-) -> Vec<Pass<'a, Global>>
+/// The passes of a store.
+pub(crate) fn dealt<'a, A: Allocator + Copy>(
+    rt: &impl Abort,
+    alloc: A,
+    store: &'a Store<A>,
+    seats: Seats<A>,
+) -> Vec<Pass<'a, A>, A>
     requires own { seats ≡ store.now }
 {
-    let Ok(passes) = store.deal(rt.alloc(), seats) else {
+    let Ok(passes) = store.deal(alloc, seats) else {
         panic!(rt; "no memory")
     };
     passes
+}
+
+/// The passes of a store of two.
+pub(crate) fn both_passes<'a, A: Allocator + Copy>(
+    rt: &impl Abort,
+    alloc: A,
+    store: &'a Store<A>,
+    seats: Seats<A>,
+) -> (Pass<'a, A>, Pass<'a, A>)
+    requires own { seats ≡ store.now }
+{
+    let mut passes = dealt(rt, alloc, store, seats);
+    match (passes.pop(), passes.pop()) {
+        (Some(second), Some(first)) => (first, second),
+        _ => panic!(rt; "two passes"),
+    }
 }
 
 /// Whether what was found is a value of these bytes, or nothing where none are given.

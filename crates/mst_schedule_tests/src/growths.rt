@@ -1,10 +1,10 @@
 //! Memory that is refused: to the dealing of passes, and to the reads of a pinned pass.
 ghost use Rattle.std.specs.Prelude.{◌≡◌};
 
-use crate::fixtures::{counts, dealt, gets, heap_of, opened, puts, still_gets};
+use crate::fixtures::{both_passes, counts, gets, heap_of, opened, puts, still_gets};
 use linked_list_allocator::LocalHeap;
 use mst_key::Key;
-use mst_store::{Memory, Pass, Pinned, Seats, Shape, Store};
+use mst_store::{Memory, Pass, Pinned, Seats, Store};
 use std::alloc::Global;
 use std::process::Abort;
 
@@ -46,7 +46,7 @@ fn refused_heaps(
 
 #[test]
 fn each_growth_of_deal_is_refused(rt: HostRuntime) {
-    let (store, seats) = opened(&rt, 4, 32);
+    let (store, seats) = opened(&rt, rt.alloc(), 4, 32);
     let refused = refused_heaps(&rt, &store, seats);
     assert!(rt; 16 <= refused, "{refused} heaps were too small");
 }
@@ -138,11 +138,8 @@ fn reads_pinned<'a>(
 
 #[test]
 fn each_growth_of_a_pinned_read_is_refused(rt: HostRuntime) {
-    let (store, seats) = opened(&rt, 8, 2);
-    let mut passes = dealt(&rt, &store, seats);
-    let (Some(mut second), Some(mut first)) = (passes.pop(), passes.pop()) else {
-        panic!(rt; "two passes")
-    };
+    let (store, seats) = opened(&rt, rt.alloc(), 8, 2);
+    let (mut first, mut second) = both_passes(&rt, rt.alloc(), &store, seats);
     assert!(rt; puts(&mut first, b"a", b"1", None) && puts(&mut second, b"abc", b"x", None));
     let (mut second, right) = reads_pinned(rt.alloc(), second, &mut first);
     assert!(rt; right);
@@ -162,6 +159,11 @@ fn fill<'h>(rt: &(impl Abort + AllocGlobal), heap: &'h LocalHeap) -> Vec<Vec<u8,
         }
     }
     blocks
+}
+
+// Whether not the least block fits into the heap.
+fn is_full(heap: &LocalHeap) -> bool {
+    Vec::<u8, &LocalHeap>::with_capacity(heap, 1).is_err()
 }
 
 // Whether each call of the pinned pass that takes no memory goes on: its version has the key a
@@ -194,17 +196,10 @@ fn goes_on<'a, 'h>(
 #[test]
 fn a_pinned_pass_goes_on_over_a_full_heap(rt: HostRuntime) {
     let heap = heap_of(&rt, 16_384);
-    let Ok((store, seats)) = Store::open(&heap, Shape { rows: 8, passes: 2 }) else {
-        panic!(rt; "an ample heap")
-    };
-    let Ok(mut passes) = store.deal(&heap, seats) else {
-        panic!(rt; "an ample heap")
-    };
-    let (Some(second), Some(mut first)) = (passes.pop(), passes.pop()) else {
-        panic!(rt; "two passes")
-    };
+    let (store, seats) = opened(&rt, &heap, 8, 2);
+    let (mut first, second) = both_passes(&rt, &heap, &store, seats);
     let blocks = fill(&rt, &heap);
-    assert!(rt; Vec::<u8, &LocalHeap>::with_capacity(&heap, 1).is_err() && !blocks.is_empty());
+    assert!(rt; is_full(&heap) && !blocks.is_empty());
     let (mut second, right) = goes_on(second, &mut first, &heap);
     assert!(rt; right);
     assert!(rt; second.version() == 2 && gets(&mut second, b"a", Some(b"2")));

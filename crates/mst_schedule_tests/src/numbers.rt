@@ -36,8 +36,8 @@ fn each_reads_the_last(passes: &mut [Pass<'_, Global>], last: u8) -> bool {
 
 // Whether a store of so many passes deals them all, and each puts and reads.
 fn serves_all(rt: &(impl Abort + AllocGlobal), number: u8) -> bool {
-    let (store, seats) = opened(rt, 4, u32::from(number));
-    let mut passes = dealt(rt, &store, seats);
+    let (store, seats) = opened(rt, rt.alloc(), 4, u32::from(number));
+    let mut passes = dealt(rt, rt.alloc(), &store, seats);
     passes.len() == usize::from(number)
         && each_puts_and_gets(&mut passes)
         && each_reads_the_last(&mut passes, number)
