@@ -5,6 +5,7 @@ use mst_key::{Key, Value};
 use mst_node::root_of;
 use mst_path::NoRoom;
 use std::alloc::Global;
+use std::cmp::Ordering;
 use std::process::Abort;
 
 /// The value of a key in a list.
@@ -17,6 +18,22 @@ fn value_in<'a>(pairs: &'a [(Key, Value)], key: &Key) -> Option<&'a Value> {
     None
 }
 
+/// Appends the pairs on this side of the key.
+fn push_side(
+    rt: &impl Abort,
+    new: &mut Vec<(Key, Value)>,
+    pairs: &[(Key, Value)],
+    side: Ordering,
+    key: &Key,
+) {
+    for pair in pairs {
+        if pair.0.cmp(key) == side {
+            new.push((pair.0.copy(), pair.1.copy()))
+                .expect(rt, "memory");
+        }
+    }
+}
+
 /// The list in which a key has this value, or none.
 fn changed(
     rt: &impl Abort,
@@ -26,22 +43,51 @@ fn changed(
     value: Option<&Value>,
 ) -> Vec<(Key, Value)> {
     let mut new = Vec::new(alloc);
-    for pair in pairs {
-        if pair.0 < *key {
-            new.push((pair.0.copy(), pair.1.copy()))
-                .expect(rt, "memory");
-        }
-    }
+    push_side(rt, &mut new, pairs, Ordering::Less, key);
     if let Some(value) = value {
         new.push((key.copy(), value.copy())).expect(rt, "memory");
     }
-    for pair in pairs {
-        if pair.0 > *key {
-            new.push((pair.0.copy(), pair.1.copy()))
-                .expect(rt, "memory");
+    push_side(rt, &mut new, pairs, Ordering::Greater, key);
+    new
+}
+
+/// Gives a key of the map this value, or none, and compares the old value with that of the list. It
+/// answers whether there was room for that.
+fn is_changed(
+    rt: &impl Abort,
+    map: &mut StandingMap,
+    pairs: &[(Key, Value)],
+    key: &Key,
+    value: Option<&Value>,
+) -> bool {
+    let free = map.free();
+    match map.change(key, value).expect(rt, "a version to come") {
+        Ok(old) => {
+            assert!(rt; old.as_ref() == value_in(pairs, key));
+            true
+        }
+        Err(NoRoom) => {
+            assert!(rt; map.free() == free, "no row was taken");
+            false
         }
     }
-    new
+}
+
+/// Compares the root digest of the map with that of the list, and the value of each key.
+fn agrees(rt: &impl Abort, map: &mut StandingMap, pairs: &[(Key, Value)]) {
+    assert!(rt; pairs.len() <= 65_535);
+    assert!(rt; map.root() == root_of(pairs));
+    for pair in pairs {
+        assert!(rt; map.has(&pair.0, Some(&pair.1)));
+    }
+}
+
+/// Compares what follows on each key with the list, and which pair is the first.
+fn follow(rt: &impl Abort, map: &mut StandingMap, pairs: &[(Key, Value)]) {
+    assert!(rt; map.has_next(None, pairs.first()));
+    for (i, pair) in pairs.iter().enumerate() {
+        assert!(rt; map.has_next(Some(&pair.0), pairs.get(i.wrapping_add(1))));
+    }
 }
 
 /// A map in rows, and the list that it is to stand for.
@@ -82,23 +128,11 @@ impl Both {
         key: &Key,
         value: Option<&Value>,
     ) -> bool {
-        let free = self.map.free();
-        let done = match value {
-            Some(value) => self.map.put(key, value),
-            None => self.map.remove(key),
-        };
-        let fits = match done.expect(rt, "a version to come") {
-            Ok(old) => {
-                assert!(rt; old.as_ref() == value_in(self.list.as_slice(), key));
-                self.list = changed(rt, alloc, self.list.as_slice(), key, value);
-                true
-            }
-            Err(NoRoom) => {
-                assert!(rt; self.map.free() == free, "no row was taken");
-                false
-            }
-        };
-        self.agrees(rt);
+        let fits = is_changed(rt, &mut self.map, self.list.as_slice(), key, value);
+        if fits {
+            self.list = changed(rt, alloc, self.list.as_slice(), key, value);
+        }
+        agrees(rt, &mut self.map, self.list.as_slice());
         fits
     }
 
@@ -120,22 +154,8 @@ impl Both {
         }
     }
 
-    /// Compares the root digest, and the value of each key.
-    pub fn agrees(&mut self, rt: &impl Abort) {
-        assert!(rt; self.list.len() <= 65_535);
-        assert!(rt; self.map.root() == root_of(self.list.as_slice()));
-        for pair in self.list.as_slice() {
-            assert!(rt; self.map.has(&pair.0, Some(&pair.1)));
-        }
-    }
-
     /// Compares the pairs in their order, from the least key on.
     pub fn agrees_in_order(&mut self, rt: &impl Abort) {
-        let mut last = None;
-        for pair in self.list.as_slice() {
-            assert!(rt; self.map.has_next(last, Some(pair)));
-            last = Some(&pair.0);
-        }
-        assert!(rt; self.map.has_next(last, None), "a pair too many");
+        follow(rt, &mut self.map, self.list.as_slice());
     }
 }

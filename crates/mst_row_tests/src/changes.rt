@@ -1,16 +1,13 @@
 //! Puts and removes over rows, each compared with the plain list.
 use crate::both::Both;
-use crate::pairs::{key_of, next_random, numbered_key, pair, three_pairs, value_of};
+use crate::pairs::{key_of, next_random, numbered_key, spelt, three_pairs, value_of};
 use mst_key::{Key, Value};
 use std::alloc::Global;
 use std::process::Abort;
 
 /// The key 1 and the key a, which share a node.
 fn two_pairs(rt: &impl Abort, alloc: Global) -> Vec<(Key, Value)> {
-    let mut pairs = Vec::new(alloc);
-    pairs.push(pair(rt, b"1", b"x")).expect(rt, "memory");
-    pairs.push(pair(rt, b"a", b"z")).expect(rt, "memory");
-    pairs
+    spelt(rt, alloc, &[("1", "x"), ("a", "z")])
 }
 
 /// Gives the key 39 this value, or none, in the map of these pairs, where so many rows of all are
@@ -29,38 +26,71 @@ fn changed_in(
     (fits, both.free())
 }
 
+/// What comes of a put in the map of two pairs beside so many free rows.
+fn put_beside(rt: &impl Abort, alloc: Global, free: u32) -> (bool, u32) {
+    let pairs = two_pairs(rt, alloc);
+    changed_in(
+        rt,
+        alloc,
+        pairs,
+        (3_u32.saturating_add(free), free),
+        Some("y"),
+    )
+}
+
+/// What comes of a remove in the map of three pairs beside so many free rows.
+fn remove_beside(rt: &impl Abort, alloc: Global, free: u32) -> (bool, u32) {
+    let pairs = three_pairs(rt, alloc);
+    changed_in(rt, alloc, pairs, (6_u32.saturating_add(free), free), None)
+}
+
 #[test]
 fn a_put_takes_exactly_six_rows(rt: HostRuntime) {
-    let alloc = rt.alloc();
-    for free in 0..7 {
-        let pairs = two_pairs(&rt, alloc);
-        // the three rows that two pairs took are free again
-        let wanted = if free == 6 { (true, 3) } else { (false, free) };
-        assert!(rt; changed_in(&rt, alloc, pairs, (3 + free, free), Some("y")) == wanted);
+    for free in 0..6 {
+        assert!(rt;
+            put_beside(&rt, rt.alloc(), free) == (false, free),
+            "{free}"
+        );
     }
+    // the three rows that two pairs took are free again
+    assert!(rt; put_beside(&rt, rt.alloc(), 6) == (true, 3));
 }
 
 #[test]
 fn a_remove_takes_exactly_three_rows(rt: HostRuntime) {
-    let alloc = rt.alloc();
-    for free in 0..4 {
-        let pairs = three_pairs(&rt, alloc);
-        let wanted = if free == 3 { (true, 6) } else { (false, free) };
-        assert!(rt; changed_in(&rt, alloc, pairs, (6 + free, free), None) == wanted);
+    for free in 0..3 {
+        assert!(rt;
+            remove_beside(&rt, rt.alloc(), free) == (false, free),
+            "{free}"
+        );
+    }
+    assert!(rt; remove_beside(&rt, rt.alloc(), 3) == (true, 6));
+}
+
+/// A key, its value to be or none, and whether there is room for that in full rows.
+const IN_FULL_ROWS: &[(&str, Option<&str>, bool)] = &[
+    // the value that it has
+    ("a", Some("z"), true),
+    // a key that is not there
+    ("39", None, true),
+    // another value
+    ("a", Some("y"), false),
+];
+
+/// Makes each of these changes of full rows.
+fn change_full(rt: &impl Abort, alloc: Global, both: &mut Both) {
+    for (key, value, fits) in IN_FULL_ROWS {
+        assert!(rt;
+            both.change_text(rt, alloc, key, *value) == *fits,
+            "{key} {fits}"
+        );
     }
 }
 
 #[test]
 fn what_changes_nothing_takes_no_row(rt: HostRuntime) {
-    let alloc = rt.alloc();
-    let mut both = Both::new(&rt, alloc, two_pairs(&rt, alloc), 3);
-    for (key, value, fits, what) in [
-        ("a", Some("z"), true, "the value that it has"),
-        ("39", None, true, "a key that is not there"),
-        ("a", Some("y"), false, "another value"),
-    ] {
-        assert!(rt; both.change_text(&rt, alloc, key, value) == fits, "{what}");
-    }
+    let mut both = Both::new(&rt, rt.alloc(), two_pairs(&rt, rt.alloc()), 3);
+    change_full(&rt, rt.alloc(), &mut both);
     assert!(rt; both.free() == 0);
 }
 

@@ -43,6 +43,15 @@ fn borrows_a_row<A: Allocator>(desk: &mut Desk<A>) -> bool {
     }
 }
 
+/// Whether sweeps free the dead row once no version reaches it, and the desk of version 2 goes on.
+fn frees_and_goes_on(desk: &mut Desk<&LocalHeap>) -> bool {
+    free_after(desk, &[2, 1]) == 2
+        && free_after(desk, &[2]) == 3
+        && desk.current() == (2, 2)
+        && desk.next_version() == Ok(3)
+        && borrows_a_row(desk)
+}
+
 /// Takes rows of a new desk, lets one die, and frees it.
 fn desk_goes_on(rt: &impl Abort, desk: &mut Desk<&LocalHeap>)
     requires new { desk.old
@@ -55,11 +64,7 @@ fn desk_goes_on(rt: &impl Abort, desk: &mut Desk<&LocalHeap>)
     assert!(rt; desk.version_of(1) == 1);
     desk.kill(a);
     desk.advance(2);
-    assert!(rt; free_after(desk, &[2, 1]) == 2);
-    assert!(rt; free_after(desk, &[2]) == 3);
-    assert!(rt; desk.current() == (2, 2));
-    assert!(rt; desk.next_version() == Ok(3));
-    assert!(rt; borrows_a_row(desk));
+    assert!(rt; frees_and_goes_on(desk));
 }
 
 #[test]
@@ -126,6 +131,14 @@ fn has_both(
     below && map.has(key, value) && map.has_next(Some(key), next)
 }
 
+/// The value of this text, if there is one.
+fn spelt(rt: &impl Abort, text: Option<&str>) -> Option<Value> {
+    match text {
+        Some(text) => Some(value_of(rt, text.as_bytes())),
+        None => None,
+    }
+}
+
 /// The same of the key 1 and of a value and a pair of these texts.
 fn reads(
     rt: &impl Abort,
@@ -135,10 +148,7 @@ fn reads(
 ) -> bool {
     let key = key_of(rt, b"1");
     let next = pair(rt, next.0.as_bytes(), next.1.as_bytes());
-    match value {
-        Some(text) => has_both(map, &key, Some(&value_of(rt, text.as_bytes())), Some(&next)),
-        None => has_both(map, &key, None, Some(&next)),
-    }
+    has_both(map, &key, spelt(rt, value).as_ref(), Some(&next))
 }
 
 /// Whether what was found is the value of this text, or nothing where there is none.
@@ -159,11 +169,7 @@ fn changes(
     old: Option<&str>,
 ) -> bool {
     let key = key_of(rt, key.as_bytes());
-    let done = match value {
-        Some(text) => map.put(&key, &value_of(rt, text.as_bytes())),
-        None => map.remove(&key),
-    };
-    match done {
+    match map.change(&key, spelt(rt, value).as_ref()) {
         Ok(Ok(found)) => is_value(&found, old),
         _ => false,
     }
@@ -177,13 +183,23 @@ const CHANGES: &[(&str, Option<&str>, Option<&str>)] = &[
     ("1", None, Some("z")),
 ];
 
-/// Puts, removes and reads of the map of 1, 39 and a; then it has a alone.
+/// Puts and removes, after which the map has a alone.
+fn change_each(rt: &impl Abort, map: &mut StandingMap<&LocalHeap>) {
+    for (place, (key, value, old)) in CHANGES.iter().enumerate() {
+        assert!(rt; changes(rt, map, key, *value, *old), "change {place}");
+    }
+}
+
+/// Reads, puts and removes of the map of 1, 39 and a.
 fn goes_on(rt: &impl Abort, map: &mut StandingMap<&LocalHeap>) {
     assert!(rt; reads(rt, map, Some("x"), ("39", "y")));
-    for (key, value, old) in CHANGES {
-        assert!(rt; changes(rt, map, key, *value, *old), "{key}");
-    }
+    change_each(rt, map);
     assert!(rt; reads(rt, map, None, ("a", "z")));
+}
+
+/// Whether a range finds no memory.
+fn range_is_refused(heap: &LocalHeap, map: &mut StandingMap<&LocalHeap>) -> bool {
+    matches!(map.range(heap, None, None, 1), Err(Memory))
 }
 
 /// The map of 1, 39 and a that was planted with no byte left goes on.
@@ -197,7 +213,7 @@ fn goes_on_in(
     assert!(rt; pairs.len() == 3);
     assert!(rt; map.root() == root_of(pairs));
     goes_on(rt, map);
-    assert!(rt; matches!(map.range(heap, None, None, 1), Err(Memory)));
+    assert!(rt; range_is_refused(heap, map));
     assert!(rt; is_full(heap));
     assert!(rt; map.free() == 10);
 }

@@ -6,6 +6,7 @@ use linked_list_allocator::LocalHeap;
 use mst_arena::Row;
 use mst_key::{Key, Value};
 use std::alloc::Global;
+use std::fmt::Display;
 use std::process::Abort;
 
 pub fn key_of(rt: &impl Abort, bytes: &[u8]) -> Key {
@@ -43,19 +44,38 @@ pub fn numbered_key(rt: &impl Abort, number: u32) -> Key {
     key_of(rt, &bytes[1..])
 }
 
-/// The keys 1 and a, which share a node, and the key 39 of the layer above between them.
-pub fn three_pairs(rt: &impl Abort, alloc: Global) -> Vec<(Key, Value)> {
+/// The pairs that are spelt so.
+pub fn spelt(rt: &impl Abort, alloc: Global, rows: &[(&str, &str)]) -> Vec<(Key, Value)> {
     let mut pairs = Vec::new(alloc);
-    for (key, value) in [("1", "x"), ("39", "y"), ("a", "z")] {
+    for (key, value) in rows {
         let pair = pair(rt, key.as_bytes(), value.as_bytes());
         pairs.push(pair).expect(rt, "memory");
     }
     pairs
 }
 
+/// The keys 1 and a, which share a node, and the key 39 of the layer above between them.
+pub fn three_pairs(rt: &impl Abort, alloc: Global) -> Vec<(Key, Value)> {
+    spelt(rt, alloc, &[("1", "x"), ("39", "y"), ("a", "z")])
+}
+
+/// Whether a value prints this text.
+pub fn prints<T: Display>(rt: &impl Abort, alloc: Global, shown: &T, text: &str) -> bool {
+    let printed = format!(in alloc; "{shown}").expect(rt, "memory");
+    printed.as_str() == text
+}
+
 /// A heap of so many bytes.
 pub fn heap_of(rt: &impl Abort, alloc: Global, bytes: usize) -> LocalHeap {
     LocalHeap::new(alloc, bytes).expect(rt, "memory")
+}
+
+/// Whether something was made in the heap, and rightly: what was found is none where memory was
+/// refused for it. The heap keeps nothing of it.
+pub fn is_made(rt: &impl Abort, heap: &LocalHeap, found: Option<bool>) -> bool {
+    assert!(rt; found != Some(false), "made wrongly");
+    assert!(rt; heap.used() == 0, "nothing is kept");
+    found.is_some()
 }
 
 /// The next of a row of random numbers.

@@ -1,7 +1,7 @@
 //! Planted maps, read back row by row.
 ghost use Rattle.std.specs.Prelude.{◌≡◌, IfOk, length};
 
-use crate::pairs::{numbered_key, three_pairs, value_of};
+use crate::pairs::{numbered_key, prints, three_pairs, value_of};
 use mst_arena::{Desk, EntryLinks, HeadLinks, Root, Row, Rows};
 use mst_key::{Key, Memory, Value};
 use mst_node::{build, root_of};
@@ -190,12 +190,6 @@ fn root_and_free(
     (outcome.root, outcome.free)
 }
 
-/// Whether `NoRoom` is printed so.
-fn prints_no_room(rt: &impl Abort, alloc: Global, text: &str) -> bool {
-    let printed = format!(in alloc; "{NoRoom}").expect(rt, "memory");
-    printed.as_str() == text
-}
-
 /// A number of rows, whether three pairs find room in them, and how many are free then.
 const ROOMS: &[(u32, bool, u32)] = &[(9, true, 3), (6, true, 0), (5, false, 5)];
 
@@ -215,7 +209,7 @@ fn are_planted(rt: &impl Abort, alloc: Global, size: u32, fits: bool, free: u32)
 
 #[test]
 fn three_pairs_take_six_rows(rt: HostRuntime) {
-    assert!(rt; prints_no_room(&rt, rt.alloc(), "no room"));
+    assert!(rt; prints(&rt, rt.alloc(), &NoRoom, "no room"));
     for (size, fits, free) in ROOMS {
         assert!(rt;
             are_planted(&rt, rt.alloc(), *size, *fits, *free),

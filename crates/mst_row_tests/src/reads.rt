@@ -3,8 +3,9 @@ mod counts;
 mod proofs;
 mod sizes;
 
-use crate::pairs::{heap_of, key_of, next_random, value_of};
+use crate::pairs::{heap_of, is_made, key_of, next_random, value_of};
 use crate::standing::StandingMap;
+use linked_list_allocator::LocalHeap;
 use mst_key::{Key, Memory, Value};
 use mst_node::root_of;
 use mst_proof::verify;
@@ -47,6 +48,19 @@ fn just_above(rt: &impl Abort, alloc: Global, key: &Key) -> Key {
     key_of(rt, bytes.as_slice())
 }
 
+/// Whether the key has this value, or none, which is also proved, and this pair follows on it.
+fn reads_key(
+    rt: &impl Abort,
+    alloc: Global,
+    planted: &mut StandingMap,
+    (key, value): (&Key, Option<&Value>),
+    following: Option<&(Key, Value)>,
+) -> bool {
+    planted.has(key, value)
+        && proves(rt, alloc, planted, key, value)
+        && planted.has_next(Some(key), following)
+}
+
 /// Looks up the key, the key just above it, which the map lacks, and what follows on each.
 fn reads_at(
     rt: &impl Abort,
@@ -55,13 +69,9 @@ fn reads_at(
     pair: &(Key, Value),
     following: Option<&(Key, Value)>,
 ) {
+    assert!(rt; reads_key(rt, alloc, planted, (&pair.0, Some(&pair.1)), following));
     let above = just_above(rt, alloc, &pair.0);
-    assert!(rt; planted.has(&pair.0, Some(&pair.1)));
-    assert!(rt; planted.has(&above, None));
-    assert!(rt; proves(rt, alloc, planted, &pair.0, Some(&pair.1)));
-    assert!(rt; proves(rt, alloc, planted, &above, None));
-    assert!(rt; planted.has_next(Some(&pair.0), following));
-    assert!(rt; planted.has_next(Some(&above), following));
+    assert!(rt; reads_key(rt, alloc, planted, (&above, None), following));
 }
 
 /// Whether the proof of the key's answer is accepted with this value, or with none.
@@ -121,6 +131,19 @@ fn part<'a>(
         .expect(rt, "a part of the list")
 }
 
+/// Whether the range between two bounds is this.
+fn range_is(
+    rt: &impl Abort,
+    alloc: Global,
+    planted: &mut StandingMap,
+    (from, to): (Option<&Key>, Option<&Key>),
+    limit: usize,
+    wanted: &[(Key, Value)],
+) -> bool {
+    let found = planted.range(alloc, from, to, limit).expect(rt, "memory");
+    found.as_slice() == wanted
+}
+
 /// Compares a range between two places with the same part of the list.
 fn ranges_at(
     rt: &impl Abort,
@@ -130,13 +153,18 @@ fn ranges_at(
     places: (Option<usize>, Option<usize>),
     limit: usize,
 ) {
+    let wanted = part(rt, pairs, places, limit);
     let from = key_at(rt, alloc, pairs, places.0);
     let to = key_at(rt, alloc, pairs, places.1);
-    let found = planted
-        .range(alloc, from.as_ref(), to.as_ref(), limit)
-        .expect(rt, "memory");
     assert!(rt;
-        found.as_slice() == part(rt, pairs, places, limit),
+        range_is(
+            rt,
+            alloc,
+            planted,
+            (from.as_ref(), to.as_ref()),
+            limit,
+            wanted
+        ),
         "{places:?} {limit}"
     );
 }
@@ -216,8 +244,22 @@ fn twenty_thousand_pairs(rt: HostRuntime) {
     reads_a_map(&rt, rt.alloc(), 20_000, 997, 7_919);
 }
 
-/// Whether the range of all pairs is made in a heap of so many bytes. If not, nothing of it is
-/// kept, and the rows are as they were.
+/// Whether the range of all pairs that is made in this heap is the list; none where memory is
+/// refused.
+fn range_in(heap: &LocalHeap, planted: &mut StandingMap, pairs: &[(Key, Value)]) -> Option<bool> {
+    match planted.range(heap, None, None, usize::MAX) {
+        Ok(found) => Some(found.as_slice() == pairs),
+        Err(Memory) => None,
+    }
+}
+
+/// The first three of the pairs.
+fn first_of<'a>(rt: &impl Abort, pairs: &'a [(Key, Value)]) -> &'a [(Key, Value)] {
+    pairs.get(..3).expect(rt, "three pairs")
+}
+
+/// Whether the range of all pairs is made in a heap of so many bytes. If not, the rows are as they
+/// were.
 fn range_fits(
     rt: &impl Abort,
     alloc: Global,
@@ -226,16 +268,14 @@ fn range_fits(
     bytes: usize,
 ) -> bool {
     let heap = heap_of(rt, alloc, bytes);
-    match planted.range(&heap, None, None, usize::MAX) {
-        Ok(found) => {
-            assert!(rt; found.as_slice() == pairs);
-            return true;
-        }
-        Err(Memory) => assert!(rt; heap.used() == 0, "nothing is kept"),
-    }
-    let found = planted.range(alloc, None, None, 3).expect(rt, "memory");
-    assert!(rt; found.len() == 3, "and the rows are as they were");
-    false
+    let found = range_in(&heap, planted, pairs);
+    let fits = is_made(rt, &heap, found);
+    let three = first_of(rt, pairs);
+    assert!(rt;
+        fits || range_is(rt, alloc, planted, (None, None), 3, three),
+        "the rows are as they were"
+    );
+    fits
 }
 
 /// How many units of 256 bytes the least heap has in which the range of all pairs is made: 256

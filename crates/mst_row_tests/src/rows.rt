@@ -5,7 +5,7 @@ ghost use Rattle.mst_arena.specs.Lives.{swept_life};
 ghost use Rattle.mst_arena.specs.Row.{IsRow, entry_links, entry_value, head_digest, head_links};
 ghost use Rattle.mst_arena.specs.declared.life.Life.TheVariants.{Free};
 
-use crate::pairs::{entry_of, heap_of, key_of};
+use crate::pairs::{entry_of, heap_of, is_made, key_of, prints};
 use linked_list_allocator::LocalHeap;
 use mst_arena::{Desk, HeadLinks, PlainRows, Row, Rows, Sought, VersionsSpent, Way};
 use mst_key::Memory;
@@ -194,19 +194,21 @@ fn rows_between_two_live_versions_stay(rt: HostRuntime) {
     assert!(rt; desk.current() == (0, 3));
 }
 
+/// The version that follows on this one.
+fn next_from(rt: &impl Abort, alloc: Global, first: u64) -> Result<u64, VersionsSpent> {
+    assert!(rt; first <= 9_223_372_036_854_775_807);
+    let Ok(desk) = Desk::new(alloc, 4, 3, first) else {
+        panic!(rt; "no memory")
+    };
+    desk.next_version()
+}
+
 #[test]
 fn versions_at_the_limit(rt: HostRuntime) {
-    for (first, next) in [
-        (9_223_372_036_854_775_807, Err(VersionsSpent)),
-        (9_223_372_036_854_775_806, Ok(9_223_372_036_854_775_807)),
-    ] {
-        let Ok(desk) = Desk::new(rt.alloc(), 4, 3, first) else {
-            panic!(rt; "no memory")
-        };
-        assert!(rt; desk.next_version() == next, "{first}");
-    }
-    let text = format!(in rt.alloc(); "{}", VersionsSpent).expect(&rt, "memory");
-    assert!(rt; text.as_str() == "version numbers are spent");
+    let last = 9_223_372_036_854_775_807;
+    assert!(rt; next_from(&rt, rt.alloc(), last) == Err(VersionsSpent));
+    assert!(rt; next_from(&rt, rt.alloc(), last - 1) == Ok(last));
+    assert!(rt; prints(&rt, rt.alloc(), &VersionsSpent, "version numbers are spent"));
 }
 
 // Whether sweeps take no memory, also with more live versions than the desk has records.
@@ -217,34 +219,34 @@ fn sweeps_in_place(desk: &mut Desk<&LocalHeap>, heap: &LocalHeap) -> bool {
     heap.used() == used
 }
 
-// Whether a desk of 100 rows is made in a heap of so many bytes. If not, nothing of it is kept.
-fn desk_fits<R: Abort + AllocGlobal>(rt: &R, bytes: usize) -> bool {
-    let heap = heap_of(rt, rt.alloc(), bytes);
-    match Desk::new(&heap, 100, 3, 0) {
-        Ok(mut desk) => {
-            assert!(rt;
-                sweeps_in_place(&mut desk, &heap),
-                "a sweep takes no memory"
-            );
-            true
-        }
-        Err(Memory) => {
-            assert!(rt; heap.used() == 0);
-            false
-        }
+// Whether sweeps of a desk of 100 rows in this heap take no memory; none where it is not made.
+fn desk_in(heap: &LocalHeap) -> Option<bool> {
+    match Desk::new(heap, 100, 3, 0) {
+        Ok(mut desk) => Some(sweeps_in_place(&mut desk, heap)),
+        Err(Memory) => None,
     }
 }
 
-// Whether three plain rows are made in a heap of so many bytes.
-fn rows_fit<R: Abort + AllocGlobal>(rt: &R, bytes: usize) -> bool {
-    let heap = heap_of(rt, rt.alloc(), bytes);
-    match PlainRows::new(&heap, 3) {
-        Ok(_) => true,
-        Err(Memory) => {
-            assert!(rt; heap.used() == 0);
-            false
-        }
+// Whether that desk is made in a heap of so many bytes.
+fn desk_fits(rt: &impl Abort, alloc: Global, bytes: usize) -> bool {
+    let heap = heap_of(rt, alloc, bytes);
+    let found = desk_in(&heap);
+    is_made(rt, &heap, found)
+}
+
+// True where three plain rows are made in this heap, else none.
+fn rows_in(heap: &LocalHeap) -> Option<bool> {
+    match PlainRows::new(heap, 3) {
+        Ok(_) => Some(true),
+        Err(Memory) => None,
     }
+}
+
+// Whether they are made in a heap of so many bytes.
+fn rows_fit(rt: &impl Abort, alloc: Global, bytes: usize) -> bool {
+    let heap = heap_of(rt, alloc, bytes);
+    let found = rows_in(&heap);
+    is_made(rt, &heap, found)
 }
 
 #[test]
@@ -253,7 +255,7 @@ fn each_growth_is_refused_in_turn(rt: HostRuntime) {
     // beside
     let mut refused = 0u32;
     for step in 1..300usize {
-        if !desk_fits(&rt, step * 16) {
+        if !desk_fits(&rt, rt.alloc(), step * 16) {
             assert!(rt;
                 refused as usize == step - 1,
                 "once made, a larger heap serves too"
@@ -262,7 +264,7 @@ fn each_growth_is_refused_in_turn(rt: HostRuntime) {
         }
     }
     assert!(rt; 200 <= refused && refused < 299);
-    assert!(rt; !rows_fit(&rt, 64) && rows_fit(&rt, 1024));
+    assert!(rt; !rows_fit(&rt, rt.alloc(), 64) && rows_fit(&rt, rt.alloc(), 1024));
 }
 
 #[test]

@@ -97,7 +97,7 @@ impl<A: Allocator + Copy> StandingMap<A> {
     }
 
     /// Puts a pair, and answers the value that the key had.
-    pub fn put(
+    fn put(
         &mut self,
         key: &Key,
         value: &Value,
@@ -113,7 +113,7 @@ impl<A: Allocator + Copy> StandingMap<A> {
     }
 
     /// Removes a key, and answers the value that it had.
-    pub fn remove(&mut self, key: &Key) -> Result<Result<Option<Value>, NoRoom>, VersionsSpent> {
+    fn remove(&mut self, key: &Key) -> Result<Result<Option<Value>, NoRoom>, VersionsSpent> {
         self.desk.next_version()?;
         let (root, old) = match remove(&mut self.rows, &mut self.desk, &self.root, key) {
             Ok(done) => done,
@@ -122,6 +122,18 @@ impl<A: Allocator + Copy> StandingMap<A> {
         self.root = root;
         publish(&mut self.desk);
         Ok(Ok(old))
+    }
+
+    /// Puts the value at the key, or removes the key where no value is given.
+    pub fn change(
+        &mut self,
+        key: &Key,
+        value: Option<&Value>,
+    ) -> Result<Result<Option<Value>, NoRoom>, VersionsSpent> {
+        match value {
+            Some(value) => self.put(key, value),
+            None => self.remove(key),
+        }
     }
 
     /// The value of a key.

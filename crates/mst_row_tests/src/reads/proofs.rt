@@ -1,7 +1,8 @@
 //! Proofs that planted rows give, judged by the verifier.
 use super::{generated, just_above, proves};
-use crate::pairs::{heap_of, key_of};
+use crate::pairs::{heap_of, is_made, key_of};
 use crate::standing::StandingMap;
+use linked_list_allocator::LocalHeap;
 use mst_key::{Key, Memory, Value};
 use mst_node::root_of;
 use std::alloc::Global;
@@ -62,7 +63,16 @@ fn ten_thousand_pairs(rt: HostRuntime) {
     assert!(rt; proves_ends(&rt, alloc, &mut planted));
 }
 
-/// Whether this proof is made in a heap of so many bytes. If not, nothing of it is kept.
+/// Whether the proof for the key that is made in this heap is the wanted one; none where memory is
+/// refused.
+fn proof_in(heap: &LocalHeap, planted: &mut StandingMap, key: &Key, wanted: &[u8]) -> Option<bool> {
+    match planted.prove(heap, key) {
+        Ok(proof) => Some(proof.as_slice() == wanted),
+        Err(Memory) => None,
+    }
+}
+
+/// Whether that proof is made in a heap of so many bytes.
 fn proof_fits(
     rt: &impl Abort,
     alloc: Global,
@@ -71,16 +81,8 @@ fn proof_fits(
     bytes: usize,
 ) -> bool {
     let heap = heap_of(rt, alloc, bytes);
-    match planted.prove(&heap, key) {
-        Ok(proof) => {
-            assert!(rt; proof.as_slice() == wanted);
-            true
-        }
-        Err(Memory) => {
-            assert!(rt; heap.used() == 0, "nothing is kept");
-            false
-        }
-    }
+    let found = proof_in(&heap, planted, key, wanted);
+    is_made(rt, &heap, found)
 }
 
 /// How many units of 64 bytes the least heap has in which the proof for a key is made: 256 where
