@@ -10,5 +10,7 @@ line_of name words = name ++ words ++ 10 ∷ []
 -- the four lines
 unfoldable pub lines_of : Report → List ℕ
 lines_of report =
-    line_of (codes "events ") (decimal report.events) ++ line_of (codes "falls ") (decimal report.falls)
-    ++ line_of (codes "root ") (encode_lower report.root) ++ line_of (codes "built ") (encode_lower report.built)
+    line_of (codes "events ") (decimal report.events)
+    ++ line_of (codes "falls ") (decimal report.falls)
+    ++ line_of (codes "root ") (encode_lower report.root)
+    ++ line_of (codes "built ") (encode_lower report.built)

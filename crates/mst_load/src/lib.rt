@@ -2,7 +2,8 @@
 //! leave.
 //!
 //! ```
-//! let report = load(&rt, rt.alloc(), 4, 2, 1000, &Open)?;    // 4 readers and 2 writers, of 1,000 calls each
+//! // 4 readers and 2 writers, of 1,000 calls each
+//! let report = load(&rt, rt.alloc(), 4, 2, 1000, &Open)?;
 //! report.falls                    // 0: no reader read an older version after a newer one
 //! report.events                   // 2000, where no put was refused
 //! report.root == report.built     // true then: the map is the one that the calls leave

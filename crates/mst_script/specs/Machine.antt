@@ -68,13 +68,15 @@ IsSpent h text = (text ≡ line_of (codes "spent")) × (length h ≡ last_versio
 -- the map leaves over are too few
 abbrev pub HasNoRoom : StoreId → Change → History → List ℕ → Type 0
 HasNoRoom store change h text = (text ≡ line_of (codes "noroom")) × (length h < last_version)
-    × (store.passes ≡ 1 → LacksRoom store.rows (after h) change) × LacksKept store.rows store.passes h change
+    × (store.passes ≡ 1 → LacksRoom store.rows (after h) change)
+    × LacksKept store.rows store.passes h change
 
 -- ---- writes and counts
 
 -- The event is added, and the answer is the value that its key had. There is a next version, and
 -- room.
-pub record Adds (store : StoreId) (e : Event) (h : History) (text : List ℕ) (new : History) : Type 0 where
+pub record Adds (store : StoreId) (e : Event) (h : History) (text : List ℕ)
+    (new : History) : Type 0 where
   pub answer : text ≡ line_of (value_words (reply h e))
   pub added : new ≡ h ++ e ∷ []
   pub numbered : length h < last_version
@@ -97,7 +99,8 @@ Counts store h text new = ((text ≡ line_of (rows_words (Some (rows_of (after h
 abbrev pub Finds : Command → List Pair → List ℕ → Type 0
 Finds (Get k) m text = text ≡ line_of (value_words (map_get m k))
 Finds (Next bound) m text = text ≡ line_of (found_words (map_next m bound))
-Finds (Range from to n) m text = (text ≡ line_of (count_words (map_range m from to n)) ++ pair_lines (map_range m from to n))
+Finds (Range from to n) m text =
+    (text ≡ line_of (count_words (map_range m from to n)) ++ pair_lines (map_range m from to n))
     ⊎ LacksMemory text
 Finds Root m text = text ≡ line_of (digits_of (root One m))
 Finds Node m text = (text ≡ line_of (top_words (tree One m))) ⊎ LacksMemory text

@@ -13,8 +13,9 @@ HasFailed reads writes s w t x = reads s + writes w < reads t + writes x
 -- The source gave a script, and the sink took what the machine answers its lines, from a history on
 -- that the passes had made and with nothing pinned; all passes have then seen the machine's last
 -- history.
-pub record RanScript {S W : Type 0} (gives : S → List ℕ → S → Type 0) (takes : W → List ℕ → W → Type 0)
-    (store : StoreId) (s : S) (w : W) (ps : List Known) (t : S) (x : W) (qs : List Known) : Type 0 where
+pub record RanScript {S W : Type 0} (gives : S → List ℕ → S → Type 0)
+    (takes : W → List ℕ → W → Type 0) (store : StoreId)
+    (s : S) (w : W) (ps : List Known) (t : S) (x : W) (qs : List Known) : Type 0 where
   pub start : History
   pub begun : Gathers start ps
   pub last : Machine
@@ -22,8 +23,9 @@ pub record RanScript {S W : Type 0} (gives : S → List ℕ → S → Type 0) (t
   pub seen : AllSaw last.history qs
 
 -- The same, where a device failed.
-pub record StoppedScript {S W : Type 0} (gives : S → List ℕ → S → Type 0) (takes : W → List ℕ → W → Type 0)
-    (failures : W → ℕ) (store : StoreId) (s : S) (w : W) (ps : List Known) (t : S) (x : W) (qs : List Known) : Type 0 where
+pub record StoppedScript {S W : Type 0} (gives : S → List ℕ → S → Type 0)
+    (takes : W → List ℕ → W → Type 0) (failures : W → ℕ) (store : StoreId)
+    (s : S) (w : W) (ps : List Known) (t : S) (x : W) (qs : List Known) : Type 0 where
   pub start : History
   pub begun : Gathers start ps
   pub last : Machine

@@ -111,7 +111,8 @@ Serves store r line text s =
 
 -- the same for what the pass p is asked for, once the passes have settled that come of it
 abbrev pub Does : StoreId → ℕ → Command → Roster → List ℕ → Roster → Type 0
-Does store p command r text s = (m : Machine) → Shows m r → (t : Roster) → Settled s.free s.held t.free t.held
+Does store p command r text s =
+    (m : Machine) → Shows m r → (t : Roster) → Settled s.free s.held t.free t.held
     → (new : Machine) × Step store p command m text new × Shows new t
 
 -- at this place stands the pass with this number
@@ -126,7 +127,8 @@ IsFound r number (Held place) = IsPlace r.held number place
 IsFound r number (Free place) = IsPlace r.free number place × IsNowhere r.held number
 
 -- the free pass at this place did what it was asked for
-pub record AsksFree (command : Command) (r : Roster) (place : ℕ) (text : List ℕ) (s : Roster) : Type 0 where
+pub record AsksFree (command : Command) (r : Roster) (place : ℕ) (text : List ℕ)
+    (s : Roster) : Type 0 where
   pub p : Known
   pub q : Known
   pub here : (d : Known) → slice_index_or r.free place d ≡ p
@@ -135,7 +137,8 @@ pub record AsksFree (command : Command) (r : Roster) (place : ℕ) (text : List 
   pub held : s.held ≡ r.held
 
 -- the pass at this place read the version that it pins, or was refused
-pub record AsksPinned (command : Command) (r : Roster) (place : ℕ) (text : List ℕ) (s : Roster) : Type 0 where
+pub record AsksPinned (command : Command) (r : Roster) (place : ℕ) (text : List ℕ)
+    (s : Roster) : Type 0 where
   pub p : Known
   pub here : (d : Known) → slice_index_or r.held place d ≡ p
   pub recalls : Recalls command (after p.seen) text

@@ -1,0 +1,18 @@
+use Rattle.std.proofs.Common.{rules}
+use Rattle.mst_load.proofs.Working.{not_written, written_more}
+use Rattle.mst_load.proofs.worker.write.Goals as goal
+
+pub loop-index-init : goal.loop-index-init
+loop-index-init g c = search (rules, not_written)
+
+pub overflow_add-call : goal.overflow_add-call
+overflow_add-call g c = search rules
+
+pub key-requires : goal.key-requires
+key-requires g c = search rules
+
+pub loop-index-preserved : goal.loop-index-preserved
+loop-index-preserved g c = search (rules, written_more)
+
+pub returns : goal.returns
+returns g c = search rules
