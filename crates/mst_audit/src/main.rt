@@ -17,7 +17,7 @@ mod auditor;
 use anyhow::{Error, Result};
 use auditor::{audit, shortened};
 use mst_key::{Key, Value};
-use mst_store::{Pass, Pinned, Shape, Store};
+use mst_store::{Pass, Pinned, Shape, Store, WriteFault};
 use std::alloc::Global;
 
 /// Room for a few fruits, and for the older versions that are pinned. One pass writes, the other
@@ -27,10 +27,19 @@ const SHAPE: Shape = Shape {
     passes: 2,
 };
 
+// Writes a pair, of which no more is told than whether it went through.
+fn write(writer: &mut Pass<'_, Global>, key: &Key, value: &Value) -> Result<(), WriteFault> {
+    match writer.try_put(key, value) {
+        Ok(_) => Ok(()),
+        Err(fault) => Err(fault),
+    }
+}
+
 // Gives the fruit a price.
 fn put(rt: &HostRuntime, writer: &mut Pass<'_, Global>, fruit: &str, price: &str) -> Result<()> {
     let key = Key::new(fruit.as_bytes())?;
-    writer.try_put(&key, &Value::new(price.as_bytes())?)?;
+    let value = Value::new(price.as_bytes())?;
+    write(writer, &key, &value)?;
     println!(rt; "writer: the price of {fruit} is {price}")?;
     Ok(())
 }
@@ -65,19 +74,42 @@ fn prove_pinned(rt: &HostRuntime, reader: &mut Pinned<'_, Global>, fruit: &str) 
     Ok(proof)
 }
 
-// A price that is there, one that is not, and a proof in which the reader changed the price.
-fn one_version(rt: &HostRuntime, root: &[u8; 32], reader: &mut Pass<'_, Global>) -> Result<()> {
-    let proof = prove(rt, reader, "cherry")?;
-    audit(rt, root, "cherry", &proof)?;
-    let mut proof = prove(rt, reader, "apple")?;
-    audit(rt, root, "apple", &proof)?;
-    // the last byte but one is the last digit of the price
+// The last byte but one of a proof, which is the last digit of a price, made 1.
+fn change(proof: &mut [u8]) {
     let place = proof.len().saturating_sub(2);
     if let Some(digit) = proof.get_mut(place) {
         *digit = b'1';
     }
+}
+
+// A price that is there, and a proof in which the reader changed the price.
+fn price_that_is_there(
+    rt: &HostRuntime,
+    root: &[u8; 32],
+    reader: &mut Pass<'_, Global>,
+) -> Result<()> {
+    let mut proof = prove(rt, reader, "apple")?;
+    audit(rt, root, "apple", &proof)?;
+    change(&mut proof);
     println!(rt; "reader: the same proof, with the price made 31")?;
     audit(rt, root, "apple", &proof)
+}
+
+// A price that is not there.
+fn price_that_is_not(
+    rt: &HostRuntime,
+    root: &[u8; 32],
+    reader: &mut Pass<'_, Global>,
+) -> Result<()> {
+    let proof = prove(rt, reader, "cherry")?;
+    audit(rt, root, "cherry", &proof)
+}
+
+// Prints that the pinned version still has its root digest.
+fn tell_pinned_root(rt: &HostRuntime, pinned: &mut Pinned<'_, Global>) -> Result<()> {
+    let digits = shortened(rt.alloc(), &pinned.root())?;
+    println!(rt; "reader: the pinned root digest is still {digits}..")?;
+    Ok(())
 }
 
 // The writer goes on beside the pinned version. The newer root digest.
@@ -90,12 +122,17 @@ fn go_on(
     println!(rt; "reader: version {version} is pinned")?;
     put(rt, writer, "apple", "35")?;
     let new = hand_out(rt, writer)?;
-    let digits = shortened(rt.alloc(), &pinned.root())?;
-    println!(rt; "reader: the pinned root digest is still {digits}..")?;
+    tell_pinned_root(rt, pinned)?;
     Ok(new)
 }
 
-// The pinned version's answer, against the older root digest and the newer one.
+// The proof of an answer for apple, against the older root digest and the newer one.
+fn audit_both(rt: &HostRuntime, old: &[u8; 32], new: &[u8; 32], proof: &[u8]) -> Result<()> {
+    audit(rt, old, "apple", proof)?;
+    audit(rt, new, "apple", proof)
+}
+
+// The pinned version's answer, against those two.
 fn audit_pinned(
     rt: &HostRuntime,
     old: &[u8; 32],
@@ -103,8 +140,7 @@ fn audit_pinned(
     pinned: &mut Pinned<'_, Global>,
 ) -> Result<()> {
     let proof = prove_pinned(rt, pinned, "apple")?;
-    audit(rt, old, "apple", &proof)?;
-    audit(rt, new, "apple", &proof)
+    audit_both(rt, old, new, &proof)
 }
 
 // The current version's answer, against the same two.
@@ -116,8 +152,7 @@ fn audit_current(
 ) -> Result<()> {
     println!(rt; "reader: the pin is ended")?;
     let proof = prove(rt, reader, "apple")?;
-    audit(rt, old, "apple", &proof)?;
-    audit(rt, new, "apple", &proof)
+    audit_both(rt, old, new, &proof)
 }
 
 // An answer of the version that the reader pinned, and one that is newer than the root digest.
@@ -133,17 +168,26 @@ fn two_versions(
     audit_current(rt, old, &new, &mut pinned.unpin())
 }
 
+// The prices that the writer begins with.
+const PRICES: &[(&str, &str)] = &[("apple", "30"), ("grape", "25"), ("plum", "12")];
+
+// The writer puts them, and hands out the root digest.
+fn begin(rt: &HostRuntime, writer: &mut Pass<'_, Global>) -> Result<[u8; 32]> {
+    for (fruit, price) in PRICES {
+        put(rt, writer, fruit, price)?;
+    }
+    hand_out(rt, writer)
+}
+
 // What the two passes of a store show.
 fn show(
     rt: &HostRuntime,
     writer: &mut Pass<'_, Global>,
     mut reader: Pass<'_, Global>,
 ) -> Result<()> {
-    for (fruit, price) in [("apple", "30"), ("grape", "25"), ("plum", "12")] {
-        put(rt, writer, fruit, price)?;
-    }
-    let root = hand_out(rt, writer)?;
-    one_version(rt, &root, &mut reader)?;
+    let root = begin(rt, writer)?;
+    price_that_is_not(rt, &root, &mut reader)?;
+    price_that_is_there(rt, &root, &mut reader)?;
     two_versions(rt, &root, writer, reader)
 }
 

@@ -152,7 +152,8 @@ const OUTSIDE: &[Case] = &[
     Case::Entries("0100000100036162630178", None),
 ];
 
-/// Whether the node of a hexadecimal text has so many entries; none where that is no text of a node.
+/// Whether the node of a hexadecimal text has so many entries; none where that is no text of a
+/// node.
 pub fn has_entries(rt: &impl Abort, alloc: Global, text: &str, count: Option<usize>) -> bool {
     let bytes = bytes_of(rt, alloc, text);
     match read_text(bytes.as_slice()) {

@@ -21,7 +21,9 @@ mod reads;
 mod tally;
 mod walk;
 
-use mst_store::{Shape, Store};
+use list::List;
+use mst_store::{Pass, Shape, Store};
+use std::alloc::Global;
 use std::{env, io};
 use walk::{PASSES, Walk};
 
@@ -62,19 +64,31 @@ fn make_calls(walk: &mut Walk<'_>, operations: u64) -> io::Result<()> {
     walk.compare_roots()
 }
 
+// Prints how many keys the list has, and its root digest.
+fn tell_list(rt: &HostRuntime, list: &List) -> io::Result<()> {
+    let keys = list.len();
+    let root = list.root()?;
+    let digits = hex::encode(rt.alloc(), root.as_slice())?;
+    println!(rt; "keys {keys}")?;
+    println!(rt; "root {digits}")
+}
+
 // Prints what the walk came to; an error where an answer was not the list's.
 fn report(rt: &HostRuntime, walk: &Walk<'_>, operations: u64) -> io::Result<()> {
     println!(rt; "operations {operations}")?;
     walk.tally().print(rt)?;
-    let keys = walk.list().len();
-    let root = walk.list().root()?;
-    let digits = hex::encode(rt.alloc(), root.as_slice())?;
-    println!(rt; "keys {keys}")?;
-    println!(rt; "root {digits}")?;
+    tell_list(rt, walk.list())?;
     if walk.tally().differences() > 0 {
         return Err(io::ErrorKind::InvalidData.into());
     }
     Ok(())
+}
+
+// Walks by these passes.
+fn run(rt: &HostRuntime, passes: Vec<Pass<'_, Global>>, operations: u64) -> io::Result<()> {
+    let mut walk = Walk::new(rt.alloc(), passes);
+    make_calls(&mut walk, operations)?;
+    report(rt, &walk, operations)
 }
 
 fn main(rt: HostRuntime) -> io::Result<()> {
@@ -87,7 +101,5 @@ fn main(rt: HostRuntime) -> io::Result<()> {
     let Ok(passes) = store.deal(rt.alloc(), seats) else {
         return Err(io::ErrorKind::OutOfMemory.into());
     };
-    let mut walk = Walk::new(rt.alloc(), passes);
-    make_calls(&mut walk, operations)?;
-    report(&rt, &walk, operations)
+    run(&rt, passes, operations)
 }

@@ -1,4 +1,6 @@
 //! How many calls were made, and how many answers were not the list's.
+ghost use Rattle.std.specs.Prelude.{◌<◌};
+
 use std::io;
 
 /// The calls that are counted.
@@ -19,21 +21,51 @@ pub enum Call {
     Root,
 }
 
+/// How many kinds of calls there are.
+const KINDS: usize = 12;
+
+/// What the lines call them.
+const NAMES: &[&str] = &[
+    "puts",
+    "removes",
+    "writes without room",
+    "gets",
+    "nexts",
+    "ranges",
+    "proofs",
+    "versions",
+    "rows",
+    "pins",
+    "unpins",
+    "roots",
+];
+
+impl Call {
+    // The place of the kind among the counts and the names.
+    fn place(self) -> usize
+        ensures within { result < 12 }
+    {
+        match self {
+            Call::Put => 0,
+            Call::Remove => 1,
+            Call::Refused => 2,
+            Call::Get => 3,
+            Call::Next => 4,
+            Call::Range => 5,
+            Call::Prove => 6,
+            Call::Version => 7,
+            Call::Rows => 8,
+            Call::Pin => 9,
+            Call::Unpin => 10,
+            Call::Root => 11,
+        }
+    }
+}
+
 /// The counts of one walk.
 #[derive(Drop)]
 pub struct Tally {
-    puts: u64,
-    removes: u64,
-    gets: u64,
-    nexts: u64,
-    ranges: u64,
-    proofs: u64,
-    versions: u64,
-    rows: u64,
-    pins: u64,
-    unpins: u64,
-    roots: u64,
-    refused: u64,
+    counts: [u64; KINDS],
     differences: u64,
 }
 
@@ -41,44 +73,16 @@ impl Tally {
     /// Nothing counted yet.
     pub fn new() -> Tally {
         Tally {
-            puts: 0,
-            removes: 0,
-            gets: 0,
-            nexts: 0,
-            ranges: 0,
-            proofs: 0,
-            versions: 0,
-            rows: 0,
-            pins: 0,
-            unpins: 0,
-            roots: 0,
-            refused: 0,
+            counts: [0; KINDS],
             differences: 0,
-        }
-    }
-
-    // The count of the calls of a kind.
-    fn count(&mut self, call: Call) -> &mut u64 {
-        match call {
-            Call::Put => &mut self.puts,
-            Call::Remove => &mut self.removes,
-            Call::Refused => &mut self.refused,
-            Call::Get => &mut self.gets,
-            Call::Next => &mut self.nexts,
-            Call::Range => &mut self.ranges,
-            Call::Prove => &mut self.proofs,
-            Call::Version => &mut self.versions,
-            Call::Rows => &mut self.rows,
-            Call::Pin => &mut self.pins,
-            Call::Unpin => &mut self.unpins,
-            Call::Root => &mut self.roots,
         }
     }
 
     /// Counts a call, and whether its answer was the list's.
     pub fn add(&mut self, call: Call, is_same: bool) {
-        let count = self.count(call);
-        *count = count.saturating_add(1);
+        let place = call.place();
+        let count = self.counts[place].saturating_add(1);
+        self.counts[place] = count;
         if !is_same {
             self.differences = self.differences.saturating_add(1);
         }
@@ -91,23 +95,10 @@ impl Tally {
 
     /// Prints a line for each kind of call, the writes that found no room, and the differences.
     pub fn print(&self, rt: &HostRuntime) -> io::Result<()> {
-        for (name, count) in [
-            ("puts", self.puts),
-            ("removes", self.removes),
-            ("writes without room", self.refused),
-            ("gets", self.gets),
-            ("nexts", self.nexts),
-            ("ranges", self.ranges),
-            ("proofs", self.proofs),
-            ("versions", self.versions),
-            ("rows", self.rows),
-            ("pins", self.pins),
-            ("unpins", self.unpins),
-            ("roots", self.roots),
-            ("differences", self.differences),
-        ] {
+        for (name, count) in NAMES.iter().zip(self.counts.iter()) {
             println!(rt; "{name} {count}")?;
         }
-        Ok(())
+        let differences = self.differences;
+        println!(rt; "differences {differences}")
     }
 }

@@ -6,6 +6,7 @@ use crate::list::List;
 use crate::pairs::{some_key, some_value};
 use crate::reads::{compare_root, read};
 use crate::tally::{Call, Tally};
+use mst_key::{Key, Value};
 use mst_store::{Pass, Pinned, WriteFault};
 use std::alloc::Global;
 use std::io;
@@ -35,6 +36,18 @@ pub struct Walk<'a> {
     tally: Tally,
 }
 
+// Puts the value at the key or, where none is given, removes the key.
+fn change(
+    pass: &mut Pass<'_, Global>,
+    key: &Key,
+    new: Option<&Value>,
+) -> Result<Option<Value>, WriteFault> {
+    match new {
+        Some(value) => pass.try_put(key, value),
+        None => pass.try_remove(key),
+    }
+}
+
 // Writes by a free pass, and compares the old value with the list's. Where there is no room, which
 // comes only beside a pinned version, both stay.
 fn write(
@@ -50,11 +63,7 @@ fn write(
         Call::Put => Some(some_value(chance)),
         _ => None,
     };
-    let outcome = match &new {
-        Some(value) => pass.try_put(&key, value),
-        None => pass.try_remove(&key),
-    };
-    match outcome {
+    match change(pass, &key, new.as_ref()) {
         Ok(old) => {
             tally.add(call, old == list.get(&key));
             list.change(&key, new.as_ref())?;
