@@ -18,7 +18,7 @@ enum Seat<'a> {
 
 /// A version: the change that made its two rows, from 1, or 0 for the empty map, which takes none;
 /// and the value of the key.
-#[derive(Clone, Copy, PartialEq, Eq)]
+#[derive(Clone, Copy)]
 struct Version {
     made: u32,
     value: Option<u8>,
@@ -43,15 +43,22 @@ struct World<'a> {
 impl<'a> World<'a> {
     // Whether a pass pins a version.
     fn is_pinned(&self) -> bool {
-        self.places.iter().any(|place| place.pinned.is_some())
+        for place in self.places.as_slice() {
+            if place.pinned.is_some() {
+                return true;
+            }
+        }
+        false
     }
 
     // Whether a version is kept whose rows this change made.
     fn keeps(&self, made: u32) -> bool {
+        for place in self.places.as_slice() {
+            if was_made(place.pinned, made) {
+                return true;
+            }
+        }
         self.current.made == made
-            || self.places.iter().any(|place| place
-                .pinned
-                .is_some_and(|version| version.made == made))
     }
 
     // How many rows the versions hold that are kept.
@@ -178,6 +185,14 @@ fn ends<'a>(
         None => false,
     };
     (right, Seat::Free(pinned.unpin()), None)
+}
+
+// Whether the rows of this version, if any, were made by this change.
+fn was_made(version: Option<Version>, made: u32) -> bool {
+    match version {
+        Some(version) => version.made == made,
+        None => false,
+    }
 }
 
 // A place for each pass, all free.

@@ -51,56 +51,44 @@ fn each_growth_of_deal_is_refused(rt: HostRuntime) {
     assert!(rt; 16 <= refused, "{refused} heaps were too small");
 }
 
-// What a read answered in some heap: the right answer, or that there is no memory.
-#[derive(Clone, Copy)]
-enum Answered {
-    Right,
-    NoMemory,
-    Wrong,
-}
-
-fn range_in(pinned: &mut Pinned<Global>, heap: &LocalHeap) -> Answered {
+// Whether a range is right in this heap; none where memory was refused.
+fn range_in(pinned: &mut Pinned<Global>, heap: &LocalHeap) -> Option<bool> {
     match pinned.range(heap, None, None, 10) {
-        Ok(pairs) if pairs.len() == 2 => Answered::Right,
-        Ok(_) => Answered::Wrong,
-        Err(Memory) => Answered::NoMemory,
+        Ok(pairs) => Some(pairs.len() == 2),
+        Err(Memory) => None,
     }
 }
 
 /// The proof of a key of the map of a with 1 and abc with x: the version 1, the number 1 of texts,
 /// the length of the one text, and the text of the node of both.
-const PROOF_OF_BOTH: [u8; 23] = [
+const PROOF_OF_BOTH: &[u8] = &[
     1, 1, 0, 0, 0, 17, 1, 0, 0, 2, 0, 1, 0x61, 1, 0x31, 0, 3, 0x61, 0x62, 0x63, 1, 0x78, 0,
 ];
 
-fn proof_in(pinned: &mut Pinned<Global>, heap: &LocalHeap, key: &Key) -> Answered {
+// Whether a proof is right in this heap; none where memory was refused.
+fn proof_in(pinned: &mut Pinned<Global>, heap: &LocalHeap, key: &Key) -> Option<bool> {
     match pinned.prove(heap, key) {
-        Ok(proof) if proof.as_slice() == PROOF_OF_BOTH.as_slice() => Answered::Right,
-        Ok(_) => Answered::Wrong,
-        Err(Memory) => Answered::NoMemory,
+        Ok(proof) => Some(proof.as_slice() == PROOF_OF_BOTH),
+        Err(Memory) => None,
     }
 }
 
-// What the read answers in a heap of so many bytes. It is wrong too where the heap is not empty
-// then.
+// Whether a proof of the key, or with no key a range, is right in a heap of so many bytes. It is
+// wrong too where the heap is not empty then.
 fn read_in(
     alloc: Global,
     pinned: &mut Pinned<Global>,
     key: Option<&Key>,
     bytes: usize,
-) -> Answered {
+) -> Option<bool> {
     let Ok(heap) = LocalHeap::new(alloc, bytes) else {
-        return Answered::Wrong;
+        return Some(false);
     };
-    let answered = match key {
+    let right = match key {
         Some(key) => proof_in(pinned, &heap, key),
         None => range_in(pinned, &heap),
     };
-    if heap.used() == 0 {
-        answered
-    } else {
-        Answered::Wrong
-    }
+    if heap.used() == 0 { right } else { Some(false) }
 }
 
 // Whether the read of the pinned pass answers in each heap of this many 16 bytes that there is no
@@ -108,9 +96,12 @@ fn read_in(
 fn is_right_or_refused(alloc: Global, pinned: &mut Pinned<Global>, key: Option<&Key>) -> bool {
     for units in 1..64usize {
         match read_in(alloc, pinned, key, units * 16) {
-            Answered::NoMemory if still_gets(pinned, b"a", Some(b"1")) => {}
-            Answered::Right => return units > 1,
-            _ => return false,
+            Some(right) => return right && units > 1,
+            None => {
+                if !still_gets(pinned, b"a", Some(b"1")) {
+                    return false;
+                }
+            }
         }
     }
     false
@@ -118,10 +109,13 @@ fn is_right_or_refused(alloc: Global, pinned: &mut Pinned<Global>, key: Option<&
 
 // Whether a range and a proof are right or refused.
 fn are_right_or_refused(alloc: Global, pinned: &mut Pinned<Global>) -> bool {
-    let Ok(key) = Key::new(b"abc") else {
-        return false;
-    };
-    is_right_or_refused(alloc, pinned, None) && is_right_or_refused(alloc, pinned, Some(&key))
+    match Key::new(b"abc") {
+        Ok(key) => {
+            is_right_or_refused(alloc, pinned, None)
+                && is_right_or_refused(alloc, pinned, Some(&key))
+        }
+        Err(_) => false,
+    }
 }
 
 // Pins the version of a with 1 and abc with x, and answers whether its reads are right while the
@@ -166,14 +160,19 @@ fn is_full(heap: &LocalHeap) -> bool {
     Vec::<u8, &LocalHeap>::with_capacity(heap, 1).is_err()
 }
 
+// Whether the pinned pass still has its number and its version, of this root.
+fn still_stands(pinned: &mut Pinned<&LocalHeap>, root: [u8; 32]) -> bool {
+    let same = pinned.root() == root;
+    same && pinned.version() == 1 && pinned.number() == 2
+}
+
 // Whether each call of the pinned pass that takes no memory goes on: its version has the key a
 // alone.
-fn all_go_on(pinned: &mut Pinned<&LocalHeap>, root: [u8; 32]) -> bool {
-    still_gets(pinned, b"a", Some(b"1"))
-        && pinned.next(None).is_some()
-        && pinned.root() == root
-        && pinned.version() == 1
-        && pinned.number() == 2
+fn all_go_on(pinned: &mut Pinned<&LocalHeap>, root: [u8; 32], heap: &LocalHeap) -> bool {
+    let found = still_gets(pinned, b"a", Some(b"1"));
+    let next = pinned.next(None).is_some();
+    let refused = pinned.range(heap, None, None, 10).is_err();
+    found && next && refused && still_stands(pinned, root)
 }
 
 // Pins a version, and answers whether its calls go on over the full heap while the other pass
@@ -186,21 +185,39 @@ fn goes_on<'a, 'h>(
     let put = puts(other, b"a", b"1", None);
     let root = other.root();
     let mut pinned = pass.pin();
-    let right = put
-        && puts(other, b"a", b"2", Some(b"1"))
-        && all_go_on(&mut pinned, root)
-        && matches!(pinned.range(heap, None, None, 10), Err(Memory));
-    (pinned.unpin(), right)
+    let again = puts(other, b"a", b"2", Some(b"1"));
+    let right = all_go_on(&mut pinned, root, heap);
+    (pinned.unpin(), put && again && right)
+}
+
+// Whether all that goes on, and the pass then reads the newest version.
+fn serves<'h>(
+    first: Pass<'_, &'h LocalHeap>,
+    second: Pass<'_, &'h LocalHeap>,
+    heap: &LocalHeap,
+) -> bool {
+    let mut first = first;
+    let (mut second, right) = goes_on(second, &mut first, heap);
+    let version = second.version();
+    right && version == 2 && gets(&mut second, b"a", Some(b"2"))
+}
+
+// The passes serve over the heap when it is full.
+fn serve_when_full<'h>(
+    rt: &(impl Abort + AllocGlobal),
+    first: Pass<'_, &'h LocalHeap>,
+    second: Pass<'_, &'h LocalHeap>,
+    heap: &'h LocalHeap,
+) {
+    let blocks = fill(rt, heap);
+    assert!(rt; is_full(heap) && !blocks.is_empty());
+    assert!(rt; serves(first, second, heap));
 }
 
 #[test]
 fn a_pinned_pass_goes_on_over_a_full_heap(rt: HostRuntime) {
     let heap = heap_of(&rt, 16_384);
     let (store, seats) = opened(&rt, &heap, 8, 2);
-    let (mut first, second) = both_passes(&rt, &heap, &store, seats);
-    let blocks = fill(&rt, &heap);
-    assert!(rt; is_full(&heap) && !blocks.is_empty());
-    let (mut second, right) = goes_on(second, &mut first, &heap);
-    assert!(rt; right);
-    assert!(rt; second.version() == 2 && gets(&mut second, b"a", Some(b"2")));
+    let (first, second) = both_passes(&rt, &heap, &store, seats);
+    serve_when_full(&rt, first, second, &heap);
 }
