@@ -1,8 +1,16 @@
 //! What a put and a remove do to the Merkle search tree of a map, and what they cost.
 //!
 //! The tree of the map after a put or a remove is made from the old one along one path, which is
-//! split or joined from the top down; all beside the path stays (Auvolat and Taïani 2019). Nothing
-//! here is run: the crate has the definitions of these trees, and laws that say what the
+//! split or joined from the top down; all beside the path stays (Auvolat and Taïani 2019).
+//!
+//! ```
+//! // the tree of two keys a and c of layer 0 is one node; b has layer 1, and so splits it
+//! tree_put format (tree format [a, c]) b v      // a node of layer 1: b between [a] and [c]
+//! put_cost format (tree format [a, c]) b v      // 6 rows: three nodes, each a head and an entry
+//! tree_remove (tree format [a, b, c]) b         // [a] and [c] joined, one node again
+//! ```
+//!
+//! Nothing here is run: the crate has the definitions of these trees, and laws that say what the
 //! definitions come to. `mst_path` keeps such trees in the rows of the arena.
 //!
 //! In `specs/`: `Parts`, the parts of a node; `Split`, what a tree has below and above a key;

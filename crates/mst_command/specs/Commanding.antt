@@ -31,14 +31,18 @@ root_and_key _ = ([], [])
 -- the words for the root digest and the key, where the first word behind the program's name is
 -- `verify`
 abbrev pub asks_verify : List (Bor (List ℕ)) → Option (List ℕ × List ℕ)
-asks_verify (program ∷ name ∷ words) = if bytes_eq name.now (codes "verify") then Some (root_and_key (program ∷ name ∷ words)) else None
+asks_verify (program ∷ name ∷ words) =
+    if bytes_eq name.now (codes "verify") then Some (root_and_key (program ∷ name ∷ words))
+    else None
 asks_verify _ = None
 
 -- the words for the rows and the passes, where each of the two options is given once
 abbrev pub two_options : List ℕ → List ℕ → List ℕ → List ℕ → Option (List ℕ × List ℕ)
 two_options first a second b =
-    if bytes_eq first (codes "--rows") then (if bytes_eq second (codes "--passes") then Some (a, b) else None)
-    else if bytes_eq first (codes "--passes") then (if bytes_eq second (codes "--rows") then Some (b, a) else None)
+    if bytes_eq first (codes "--rows") then
+        (if bytes_eq second (codes "--passes") then Some (a, b) else None)
+    else if bytes_eq first (codes "--passes") then
+        (if bytes_eq second (codes "--rows") then Some (b, a) else None)
     else None
 
 -- the same, where one option is given
@@ -58,7 +62,8 @@ options_of _ = None
 -- the words for the rows and the passes, where the words are of the plain form `run`, `--rows N`,
 -- `--passes N`, each option at most once
 abbrev pub asks_run : List (Bor (List ℕ)) → Option (List ℕ × List ℕ)
-asks_run (program ∷ name ∷ words) = if bytes_eq name.now (codes "run") then options_of words else None
+asks_run (program ∷ name ∷ words) =
+    if bytes_eq name.now (codes "run") then options_of words else None
 asks_run _ = None
 
 -- two words are the numerals of the rows and the passes
@@ -89,7 +94,8 @@ is_dashed (b ∷ bs) = b == 45
 
 -- the words are `verify` and two words that begin with no dash
 abbrev pub is_plain_verify : List (Bor (List ℕ)) → Bool
-is_plain_verify (program ∷ name ∷ root ∷ key ∷ []) = bytes_eq name.now (codes "verify") && (not (is_dashed root.now) && not (is_dashed key.now))
+is_plain_verify (program ∷ name ∷ root ∷ key ∷ []) =
+    bytes_eq name.now (codes "verify") && (not (is_dashed root.now) && not (is_dashed key.now))
 is_plain_verify _ = false
 
 -- the words are of a plain form, and so are never refused by their form
@@ -99,7 +105,8 @@ IsPlain words = ((shape : Size) × IsRunOf words shape) ⊎ (is_plain_replay wor
 
 -- a word that asks for help: `help`, `--help`, or one that begins with `-h`
 abbrev pub IsHelp : List ℕ → Type 0
-IsHelp word = (word ≡ codes "help") ⊎ (word ≡ codes "--help") ⊎ ((rest : List ℕ) × (word ≡ codes "-h" ++ rest))
+IsHelp word = (word ≡ codes "help") ⊎ (word ≡ codes "--help")
+    ⊎ ((rest : List ℕ) × (word ≡ codes "-h" ++ rest))
 
 -- some word asks for help
 abbrev pub AskHelp : List (Bor (List ℕ)) → Type 0

@@ -2,7 +2,7 @@
 use Rattle.std.specs.Prelude.{◌≡◌, ◌&&◌, ℕ, ◌<◌, ◌≤◌, ◌^◌, Bool, false, if◌then◌else◌, List, [], ◌∷◌, Option, Some, None, codes, decimal}
 use Rattle.std.specs.Str.{bytes_eq}
 use denote.Ref.{Bor}
-use Rattle.mst_devices.specs.Device.{Breaks}
+use Rattle.mst_devices.specs.Device.{Breaks, Flow}
 use Rattle.mst_load.specs.declared.engine.Report.{Report}
 use Rattle.mst_load.specs.Lines.{lines_of}
 use Rattle.mst_load.specs.Reports.{IsOneVersion}
@@ -15,10 +15,12 @@ asks_load _ = false
 
 -- these are the options of a load, in their order
 abbrev pub are_load_options : List ℕ → List ℕ → List ℕ → Bool
-are_load_options first second third = bytes_eq first (codes "--readers") && (bytes_eq second (codes "--writers") && bytes_eq third (codes "--calls"))
+are_load_options first second third = bytes_eq first (codes "--readers")
+    && (bytes_eq second (codes "--writers") && bytes_eq third (codes "--calls"))
 
 -- the words for the readers, the writers and the calls, behind these options
-abbrev pub three_options : List ℕ → List ℕ → List ℕ → List ℕ → List ℕ → List ℕ → Option (List ℕ × List ℕ × List ℕ)
+abbrev pub three_options : List ℕ → List ℕ → List ℕ → List ℕ → List ℕ → List ℕ
+    → Option (List ℕ × List ℕ × List ℕ)
 three_options first readers second writers third calls =
     if are_load_options first second third then Some (readers, writers, calls) else None
 
@@ -31,7 +33,8 @@ load_options_of _ = None
 -- the words for the readers, the writers and the calls, where the words are of the plain form `load
 -- --readers N --writers N --calls N`
 abbrev pub load_words : List (Bor (List ℕ)) → Option (List ℕ × List ℕ × List ℕ)
-load_words (program ∷ name ∷ words) = if bytes_eq name.now (codes "load") then load_options_of words else None
+load_words (program ∷ name ∷ words) =
+    if bytes_eq name.now (codes "load") then load_options_of words else None
 load_words _ = None
 
 -- three words are the numerals of the readers, the writers and the calls
@@ -59,7 +62,7 @@ IsLoadSize size = (1 ≤ size.readers) × (size.readers ≤ 24) × (1 ≤ size.w
 
 -- A load of a size that it may have came to a report in which no version fell and whose number of
 -- events and root digest are those of one version, and the sink took its four lines.
-pub record RanLoad {W : Type 0} (takes : W → List ℕ → W → Type 0) (size : Load) (w x : W) : Type 0 where
+pub record RanLoad {W : Type 0} (takes : Flow W) (size : Load) (w x : W) : Type 0 where
   pub fits : IsLoadSize size
   pub report : Report
   pub never : report.falls ≡ 0
@@ -67,7 +70,7 @@ pub record RanLoad {W : Type 0} (takes : W → List ℕ → W → Type 0) (size 
   pub taken : takes w (lines_of report) x
 
 -- The same, where the sink failed: it took a beginning of the lines.
-pub record BrokeLoad {W : Type 0} (takes : W → List ℕ → W → Type 0) (size : Load) (w x : W) : Type 0 where
+pub record BrokeLoad {W : Type 0} (takes : Flow W) (size : Load) (w x : W) : Type 0 where
   pub fits : IsLoadSize size
   pub report : Report
   pub never : report.falls ≡ 0

@@ -4,7 +4,7 @@ use Rattle.mst_words.specs.declared.view.Shape.{Shape}
 use Rattle.mst_store.specs.Passes.{StoreId, HasShape, IsShape}
 use Rattle.mst_replay.specs.declared.Replay.{Replay}
 use Rattle.mst_replay.specs.Replay.{core_state}
-use Rattle.mst_devices.specs.Device.{Breaks}
+use Rattle.mst_devices.specs.Device.{Breaks, Flow}
 use Rattle.mst_script.specs.Machine.{Machine, Line, with_no_pins}
 use Rattle.mst_lines.specs.Runs.{Ran, Stopped}
 use Rattle.mst_verify.specs.declared.report.Report.{Report}
@@ -27,14 +27,18 @@ ending_of report = if is_refusal report then ProofRefused else Done
 
 -- The source gave a script, and the sink took what the script machine answers its lines, from the
 -- empty history on and with nothing pinned, over a store of this size.
-pub record RanScript {S W : Type 0} (gives : S → List ℕ → S → Type 0) (takes : W → List ℕ → W → Type 0) (shape : Shape) (s : S) (w : W) (t : S) (x : W) : Type 0 where
+pub record RanScript {S W : Type 0}
+    (gives : Flow S) (takes : Flow W) (shape : Shape)
+    (s : S) (w : W) (t : S) (x : W) : Type 0 where
   pub store : StoreId
   pub size : HasShape shape store
   pub last : Machine
   pub ran : Ran gives takes (Line store) s w (with_no_pins []) t x last
 
 -- The same, where a device failed.
-pub record BrokeScript {S W : Type 0} (gives : S → List ℕ → S → Type 0) (takes : W → List ℕ → W → Type 0) (failures : W → ℕ) (shape : Shape) (s : S) (w : W) (t : S) (x : W) : Type 0 where
+pub record BrokeScript {S W : Type 0}
+    (gives : Flow S) (takes : Flow W) (failures : W → ℕ) (shape : Shape)
+    (s : S) (w : W) (t : S) (x : W) : Type 0 where
   pub store : StoreId
   pub size : HasShape shape store
   pub last : Machine
@@ -42,21 +46,27 @@ pub record BrokeScript {S W : Type 0} (gives : S → List ℕ → S → Type 0) 
 
 -- The source gave events of a core, and the sink took what the core answers each of them, from no
 -- core on.
-pub record RanReplay {S W : Type 0} (gives : S → List ℕ → S → Type 0) (takes : W → List ℕ → W → Type 0) (s : S) (w : W) (t : S) (x : W) : Type 0 where
+pub record RanReplay {S W : Type 0}
+    (gives : Flow S) (takes : Flow W)
+    (s : S) (w : W) (t : S) (x : W) : Type 0 where
   pub before : Replay
   pub after : Replay
   pub fresh : core_state before ≡ None
   pub ran : Ran gives takes Recalls s w before t x after
 
 -- The same, where a device failed.
-pub record BrokeReplay {S W : Type 0} (gives : S → List ℕ → S → Type 0) (takes : W → List ℕ → W → Type 0) (failures : W → ℕ) (s : S) (w : W) (t : S) (x : W) : Type 0 where
+pub record BrokeReplay {S W : Type 0}
+    (gives : Flow S) (takes : Flow W) (failures : W → ℕ)
+    (s : S) (w : W) (t : S) (x : W) : Type 0 where
   pub before : Replay
   pub after : Replay
   pub fresh : core_state before ≡ None
   pub stopped : Stopped gives takes failures Recalls s w before t x after
 
 -- This is said of the text that the source gave, up to its end or beyond the limit.
-pub record IsSaid {S : Type 0} (gives : S → List ℕ → S → Type 0) (left : S → ℕ) (root key : List ℕ) (s : S) (report : Report) (t : S) : Type 0 where
+pub record IsSaid {S : Type 0}
+    (gives : Flow S) (left : S → ℕ) (root key : List ℕ)
+    (s : S) (report : Report) (t : S) : Type 0 where
   pub text : List ℕ
   pub given : gives s text t
   pub whole : (left t ≡ 0) ⊎ (limit < length text)
@@ -64,7 +74,9 @@ pub record IsSaid {S : Type 0} (gives : S → List ℕ → S → Type 0) (left :
 
 -- The sink took what is said of the text that the source gave, for the root digest and the key that
 -- two words spell.
-pub record RanVerify {S W : Type 0} (gives : S → List ℕ → S → Type 0) (left : S → ℕ) (takes : W → List ℕ → W → Type 0) (words : List ℕ × List ℕ) (s : S) (w : W) (ending : Ending) (t : S) (x : W) : Type 0 where
+pub record RanVerify {S W : Type 0}
+    (gives : Flow S) (left : S → ℕ) (takes : Flow W) (words : List ℕ × List ℕ)
+    (s : S) (w : W) (ending : Ending) (t : S) (x : W) : Type 0 where
   pub root : List ℕ
   pub key : List ℕ
   pub root_is : root_of words.0 ≡ Some root
@@ -75,7 +87,9 @@ pub record RanVerify {S W : Type 0} (gives : S → List ℕ → S → Type 0) (l
   pub taken : takes w (line_of report) x
 
 -- The same, where the sink failed: it took a beginning of what is said.
-pub record BrokeVerify {S W : Type 0} (gives : S → List ℕ → S → Type 0) (left : S → ℕ) (takes : W → List ℕ → W → Type 0) (words : List ℕ × List ℕ) (s : S) (w : W) (t : S) (x : W) : Type 0 where
+pub record BrokeVerify {S W : Type 0}
+    (gives : Flow S) (left : S → ℕ) (takes : Flow W) (words : List ℕ × List ℕ)
+    (s : S) (w : W) (t : S) (x : W) : Type 0 where
   pub root : List ℕ
   pub key : List ℕ
   pub root_is : root_of words.0 ≡ Some root
@@ -85,7 +99,8 @@ pub record BrokeVerify {S W : Type 0} (gives : S → List ℕ → S → Type 0) 
   pub breaks : Breaks takes w [] (line_of report) x
 
 -- From the one state of the source and the sink to the other the task was done, and ended so.
-abbrev pub Did : {S W : Type 0} → (S → List ℕ → S → Type 0) → (S → ℕ) → (W → List ℕ → W → Type 0) → Task → S → W → Ending → S → W → Type 0
+abbrev pub Did : {S W : Type 0} → Flow S → (S → ℕ) → Flow W
+    → Task → S → W → Ending → S → W → Type 0
 Did gives left takes (Run shape) s w ending t x =
     RanScript gives takes shape s w t x × (left t ≡ 0) × (ending ≡ Done)
 Did gives left takes (Verify root key) s w ending t x =
@@ -97,7 +112,8 @@ Did gives left takes (Help text) s w ending t x =
     takes w (string_bytes text) x × (t ≡ s) × (ending ≡ Done)
 
 -- A device failed while the task was done: what was read, and what the sink took.
-abbrev pub Broke : {S W : Type 0} → (S → List ℕ → S → Type 0) → (S → ℕ) → (W → List ℕ → W → Type 0) → (W → ℕ) → Task → S → W → S → W → Type 0
+abbrev pub Broke : {S W : Type 0} → Flow S → (S → ℕ) → Flow W → (W → ℕ)
+    → Task → S → W → S → W → Type 0
 Broke gives left takes failures (Run shape) s w t x = BrokeScript gives takes failures shape s w t x
 Broke gives left takes failures (Verify root key) s w t x =
     (x ≡ w) ⊎ BrokeVerify gives left takes (root.now, key.now) s w t x
@@ -108,7 +124,9 @@ Broke gives left takes failures (Help text) s w t x =
 
 -- A text of the words was written, for which some word of no plain form asked, and nothing was
 -- read.
-pub record Helped {S W : Type 0} (takes : W → List ℕ → W → Type 0) (words : List (Bor (List ℕ))) (s : S) (w : W) (t : S) (x : W) : Type 0 where
+pub record Helped {S W : Type 0}
+    (takes : Flow W) (words : List (Bor (List ℕ)))
+    (s : S) (w : W) (t : S) (x : W) : Type 0 where
   pub asked : AskText words
   pub other : ¬ (IsPlain words)
   pub text : List ℕ

@@ -1,8 +1,23 @@
 //! What the program does once its words are read: over a source and sinks, so that its contracts
 //! say what was read and written.
 //!
-//! `specs/Programs.antt` says what each task reads and writes, `specs/Commanding.antt` what words
-//! ask for and how a program ends early.
+//! ```
+//! let mut source = BytesSource::new(b"1 put 616263 78\n2 get 616263\n");
+//! let mut out = BytesSink::new(alloc, 100)?;
+//! let Some(task) = plain_task(&["mst", "run", "--passes", "2"]) else { .. };
+//! match execute(&rt, alloc, task, &Open, &mut source, &mut out) {
+//!     Ok(ending) => ..    // Done, and out has "none\nsome 78\n"
+//!     Err(why) => ..      // complain(&why, &mut err) says why, and answers the exit status
+//! }
+//! ```
+//!
+//! [`plain_task`] reads words of a plain form, where each option stands once and in full, and
+//! [`execute`] does a task: it answers a script, judges a proof, replays the core of pins, runs a
+//! load, or writes a text. `specs/Programs.antt` says what each task reads and writes,
+//! `specs/Commanding.antt` what words ask for and how a program ends early.
+//!
+//! Words of any other form are for `mst_program`, which reads them by `clap`. Nothing here takes the
+//! terminal or the program's own arguments.
 #![tactic(auto)]
 
 mod ending;

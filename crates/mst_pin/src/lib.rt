@@ -1,6 +1,18 @@
-#![tactic(auto)]
 //! The pure core of pins and publication: which record is current, which record each pass pins,
 //! which rows each record has, and which of the six events may come next.
+//!
+//! ```
+//! let Some(mut core) = Core::new(2) else { .. };           // 2 passes, and so 4 records
+//! core.step(Event::Publish { into: 1, rows: 0b11 });       // Done: record 1 has rows 0 and 1
+//! core.step(Event::Transfer);                              // Done
+//! core.step(Event::Pin(2));                                // Record(1)
+//! core.step(Event::Write(0));                              // Refused: the current record has it
+//! core.step(Event::Publish { into: 2, rows: 0b100 });      // Done: record 2 is current
+//! core.step(Event::Transfer);                              // Done
+//! core.step(Event::Ask(1));                                // No: pass 2 pins record 1
+//! core.step(Event::Unpin(2));                              // Done
+//! core.step(Event::Ask(1));                                // Yes
+//! ```
 //!
 //! One writer publishes versions, each in a version record of its own. Any pass may pin the current
 //! record, and then reads its rows for as long as it likes. So a row may be written, and a record
@@ -9,7 +21,13 @@
 //! record's word DONE. The publish swaps CURRENT, and the mask of pins that came back is then
 //! transferred into the old record's DONE.
 //!
-//! `Core` keeps those words as the shared store does, and takes events one at a time.
+//! [`Core`] keeps those words as the shared store does, and takes events one at a time. What it says
+//! of them, [`pinned_rows_stay`] and [`writes_are_blank`] above all, is said of every order of
+//! events. `specs/` has the state that the contracts speak of, with no word in it.
+//!
+//! There is no thread here, no row with anything in it and no map: `mst_words` has the words that
+//! threads share, and `mst_replay` asks a core line by line.
+#![tactic(auto)]
 
 ghost use Rattle.std.specs.Prelude.{◌≡◌, ◌≤◌, ◌<◌, ◌↔◌, IsSome, IfSome, IfOk, OnErr};
 ghost use Rattle.mst_pin.specs.Words.{IsKept};

@@ -1,5 +1,20 @@
-//! The program over a source and two sinks: its words by `clap`, how far a load is, and how it ends,
-//! with contracts that say what was read and written.
+//! The program over a source and two sinks: its words by `clap`, how far a load is, and how it
+//! ends, with contracts that say what was read and written.
+//!
+//! ```
+//! let words = ["mst", "run", "--rows", "16"];
+//! let mut source = BytesSource::new(b"1 put 616263 78\n1 get 616263\n");
+//! let (mut out, mut err) = (BytesSink::new(alloc, 100)?, BytesSink::new(alloc, 100)?);
+//! command(&rt, alloc, &words, &Open, &mut source, &mut out, &mut err)
+//!                                                  // 0, and out has "none\nsome 78\n"
+//! ```
+//!
+//! [`command`] is the whole program as a call, which tests make over bytes and `mst` over the
+//! terminal; its exit statuses are 0 to 4. [`Progress`] writes how many calls of a load are
+//! answered.
+//!
+//! What clap writes of wrong words, and in a help text, no contract says. Words of a plain form are
+//! read without clap, and of those everything is said.
 #![tactic(auto)]
 
 mod program;

@@ -1,6 +1,22 @@
-#![tactic(auto)]
 //! The core of pins replayed line by line: each line asks for a new core or for one event, and has
 //! one line for its answer.
+//!
+//! ```
+//! let mut replay = Replay::new();
+//! replay.line(b"pin 1")              // FaultLine: there is no core yet
+//! replay.line(b"passes 2")           // Records(4)
+//! replay.line(b"publish 1 0,3")      // Done: record 1 is current, with rows 0 and 3
+//! replay.line(b"transfer")           // Done
+//! replay.line(b"pin 2")              // Record(1)
+//! replay.line(b"write 3")            // Refused: a pinned record has this row
+//! replay.line(b"write  3")           // FaultLine: no command is spelt so
+//! ```
+//!
+//! `specs/Line.antt` has the one text of each command, `specs/Replay.antt` what a line does to the
+//! core. So what a core of `mst_pin` answers may be held against that of another program.
+//!
+//! Lines are cut, and answers spelt, by `mst_command`.
+#![tactic(auto)]
 
 ghost use Rattle.std.specs.Prelude.{◌≡◌, None};
 
