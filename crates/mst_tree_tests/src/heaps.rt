@@ -30,3 +30,11 @@ pub fn is_full(heap: &LocalHeap) -> bool {
 pub fn heap_of(rt: &impl Abort, alloc: Global, bytes: usize) -> LocalHeap {
     LocalHeap::new(alloc, bytes).expect(rt, "memory")
 }
+
+/// Whether something was made in the heap, and rightly: what was found is none where memory was
+/// refused for it. The heap keeps nothing of it.
+pub fn is_made(rt: &impl Abort, heap: &LocalHeap, found: Option<bool>) -> bool {
+    assert!(rt; found != Some(false), "made wrongly");
+    assert!(rt; heap.used() == 0, "nothing is kept");
+    found.is_some()
+}
