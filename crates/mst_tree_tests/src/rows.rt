@@ -38,13 +38,7 @@ fn entry_of(rt: &impl Abort, child: u32, next: u32, key: &[u8], value: &[u8]) ->
 }
 
 /// Whether the entry at this number has these links, this key and this value.
-fn entry_is<R: Rows>(
-    rows: &mut R,
-    row: u32,
-    links: (u32, u32),
-    key: &[u8],
-    value: &[u8],
-) -> bool
+fn entry_is<R: Rows>(rows: &mut R, row: u32, links: (u32, u32), key: &[u8], value: &[u8]) -> bool
     requires links { IsSome (part_at entry_links (R.content rows.old) row) }
     requires value { IsSome (part_at entry_value (R.content rows.old) row) }
     ensures same { rows.new ≡ rows.old }

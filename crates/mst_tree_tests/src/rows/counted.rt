@@ -8,7 +8,7 @@ use std::marker::Model;
 
 /// How many parts of rows were read: heads, entries with their keys, values, and digests or whole
 /// rows.
-#[derive(Clone, Copy, Debug, PartialEq, Eq)]
+#[derive(Clone, Copy)]
 pub struct Reads {
     pub heads: u32,
     pub entries: u32,

@@ -1,12 +1,14 @@
 //! A map that stands in plain rows, and is read and changed.
-ghost use Rattle.std.specs.Prelude.{◌≡◌, ◌≤◌, ◌<◌, length};
+ghost use Rattle.std.specs.Prelude.{◌≡◌, ◌≤◌, ◌<◌, List, length, option_copied};
+ghost use Rattle.mst_key.specs.Map.{Pair, IsMap};
 ghost use Rattle.mst_arena.specs.Lives.{next, last_version};
+ghost use Rattle.mst_path.specs.Planting.{tree_at, IsTreeOf};
 ghost use Rattle.mst_tree_tests.specs.Ready.{IsPublished};
 
 use super::counted::{CountedRows, Reads};
 use mst_arena::{Desk, Root, VersionsSpent};
 use mst_key::{Key, Memory, Value};
-use mst_node::{build, is_map};
+use mst_node::{Node, build, is_map};
 use mst_path::{NoRoom, plant, put, remove};
 use std::alloc::{Allocator, Global};
 use std::marker::Model;
@@ -50,6 +52,26 @@ fn publish<A: Allocator>(desk: &mut Desk<A>)
 }
 
 impl<A: Allocator + Copy> StandingMap<A> {
+    /// The map of a tree, planted in so many new rows.
+    fn planted<B: Allocator>(
+        rt: &impl Abort,
+        alloc: A,
+        tree: Option<&Node<B>>,
+        size: u32,
+    ) -> Result<StandingMap<A>, Memory>
+        requires tree { (m : List Pair) × IsMap m × IsTreeOf (tree_at (option_copied tree)) m }
+        requires some { 0 < size }
+        requires few { size ≤ 65535 }
+    {
+        let mut desk = Desk::new(alloc, size, 2, 0)?;
+        let mut rows = CountedRows::new(alloc, size)?;
+        let Ok(root) = plant(&mut rows, &mut desk, tree) else {
+            panic!(rt; "no room")
+        };
+        publish(&mut desk);
+        Ok(StandingMap { rows, desk, root })
+    }
+
     /// The map of these pairs, planted in so many rows. Its tree is built in memory of its own.
     ///
     /// `Memory` comes where a growth was refused.
@@ -64,13 +86,7 @@ impl<A: Allocator + Copy> StandingMap<A> {
         assert!(rt; pairs.len() <= 65_535);
         assert!(rt; 0 < size && size <= 65_535);
         let tree = build(trees, pairs)?;
-        let mut desk = Desk::new(alloc, size, 2, 0)?;
-        let mut rows = CountedRows::new(alloc, size)?;
-        let Ok(root) = plant(&mut rows, &mut desk, tree.as_deref()) else {
-            panic!(rt; "no room")
-        };
-        publish(&mut desk);
-        Ok(StandingMap { rows, desk, root })
+        StandingMap::planted(rt, alloc, tree.as_deref(), size)
     }
 
     /// The map of these pairs, planted in so many rows.
