@@ -14,9 +14,7 @@ pub fn fill<'h>(
         let Ok(block) = Vec::with_capacity(heap, 16) else {
             return blocks;
         };
-        if blocks.push(block).is_err() {
-            panic!(rt; "no memory")
-        }
+        blocks.push(block).expect(rt, "memory");
     }
     blocks
 }

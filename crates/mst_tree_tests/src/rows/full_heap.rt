@@ -77,16 +77,17 @@ const HEAD_LINKS: HeadLinks = HeadLinks {
     tail: 4,
 };
 
-/// Writes an entry and a head, and reads them part by part and whole.
-fn rows_go_on(rt: &impl Abort, rows: &mut PlainRows<&LocalHeap>)
+/// Whether an entry and a head are read as they are written, part by part and whole.
+fn rows_go_on(rt: &impl Abort, rows: &mut PlainRows<&LocalHeap>) -> bool
     requires two { length rows.old ≡ 2 }
 {
     let row = entry_of(rt, 7, 9, b"ab", b"xyz");
     rows.write(1, &HEAD);
     rows.write(0, &row);
-    assert!(rt; entry_is(rows, 0, (7, 9), b"ab", b"xyz"));
-    assert!(rt; head_is(rows, 1, &HEAD_LINKS, &[5; 32]));
-    assert!(rt; row_is(rows, 1, &HEAD) && row_is(rows, 0, &row));
+    entry_is(rows, 0, (7, 9), b"ab", b"xyz")
+        && head_is(rows, 1, &HEAD_LINKS, &[5; 32])
+        && row_is(rows, 1, &HEAD)
+        && row_is(rows, 0, &row)
 }
 
 #[test]
@@ -97,7 +98,7 @@ fn plain_rows_go_on_over_a_full_heap(rt: HostRuntime) {
     };
     let blocks = fill(&rt, rt.alloc(), &heap);
     assert!(rt; is_full(&heap) && !blocks.is_empty());
-    rows_go_on(&rt, &mut rows);
+    assert!(rt; rows_go_on(&rt, &mut rows));
     assert!(rt; is_full(&heap));
 }
 

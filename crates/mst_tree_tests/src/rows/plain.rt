@@ -44,8 +44,10 @@ fn plain_rows_are_read_as_written(rt: HostRuntime) {
     };
     rows.write(1, &HEAD);
     rows.write(0, &row);
-    assert!(rt; entry_is(&mut rows, 0, (65_535, 0), &[0x6b; 32], &[0x76; 64]));
-    assert!(rt; head_is(&mut rows, 1, &HEAD_LINKS, &[0xd1; 32]));
+    assert!(rt;
+        entry_is(&mut rows, 0, (65_535, 0), &[0x6b; 32], &[0x76; 64])
+            && head_is(&mut rows, 1, &HEAD_LINKS, &[0xd1; 32])
+    );
     assert!(rt; row_is(&mut rows, 1, &HEAD) && row_is(&mut rows, 0, &row));
     assert!(rt;
         comes_back(&HEAD) && comes_back(&row),
