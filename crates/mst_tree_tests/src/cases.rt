@@ -73,12 +73,9 @@ pub enum Case {
     NotHex(usize, Bytes, Option<bool>),
 }
 
-/// Whether a question of a proof, or of what is said of one, has its answer.
-fn proofs_hold(rt: &impl Abort, alloc: Global, case: Case) -> bool {
+/// Whether a question of what is said of a proof has its answer.
+fn reports_hold(rt: &impl Abort, alloc: Global, case: Case) -> bool {
     match case {
-        Case::Verdict(root, key, proof, words) => is_verdict_in(rt, alloc, root, key, proof, words),
-        Case::VerdictAlone(key, words) => is_verdict_alone(rt, alloc, key, words),
-        Case::Forged(key, texts, words) => is_forged(rt, alloc, key, texts, words),
         Case::Said(key, text, line, refused) => is_said(rt, alloc, key, text, line, refused),
         Case::SaidBehind(more, line) => is_said_behind(rt, alloc, more, line),
         Case::Root(word, named) => is_root(word) == named,
@@ -88,17 +85,34 @@ fn proofs_hold(rt: &impl Abort, alloc: Global, case: Case) -> bool {
     }
 }
 
-/// Whether a question of a list or of a text has its answer, or else one of a proof.
-fn nodes_hold(rt: &impl Abort, alloc: Global, case: Case) -> bool {
+/// Whether a question of a proof has its answer, or else one of what is said of a proof.
+fn proofs_hold(rt: &impl Abort, alloc: Global, case: Case) -> bool {
     match case {
-        Case::NumbersRoot(count, digits) => numbers_are_rooted(rt, alloc, count, digits),
-        Case::TwoRoot(digits) => two_are_rooted(rt, alloc, digits),
-        Case::OneGapRoot(digits) => one_gap_is_rooted(rt, alloc, digits),
+        Case::Verdict(root, key, proof, words) => is_verdict_in(rt, alloc, root, key, proof, words),
+        Case::VerdictAlone(key, words) => is_verdict_alone(rt, alloc, key, words),
+        Case::Forged(key, texts, words) => is_forged(rt, alloc, key, texts, words),
+        other => reports_hold(rt, alloc, other),
+    }
+}
+
+/// Whether a question of a text has its answer, or else one of a proof.
+fn texts_hold(rt: &impl Abort, alloc: Global, case: Case) -> bool {
+    match case {
         Case::ThreeText(digits) => has_text(rt, alloc, digits),
         Case::NodeOf39(digits) => is_text_of_39(rt, alloc, digits),
         Case::Entries(text, count) => has_entries(rt, alloc, text, count),
         Case::First(proof, text) => is_first(rt, alloc, proof, text),
         other => proofs_hold(rt, alloc, other),
+    }
+}
+
+/// Whether a question of a list has its answer, or else one of a text.
+fn roots_hold(rt: &impl Abort, alloc: Global, case: Case) -> bool {
+    match case {
+        Case::NumbersRoot(count, digits) => numbers_are_rooted(rt, alloc, count, digits),
+        Case::TwoRoot(digits) => two_are_rooted(rt, alloc, digits),
+        Case::OneGapRoot(digits) => one_gap_is_rooted(rt, alloc, digits),
+        other => texts_hold(rt, alloc, other),
     }
 }
 
@@ -110,7 +124,7 @@ fn prints_hold(rt: &impl Abort, alloc: Global, case: Case) -> bool {
         Case::MemoryPrints(text) => prints(rt, alloc, &Memory, text),
         Case::NodeFaultPrints(text) => prints(rt, alloc, &NodeFault, text),
         Case::FaultPrints(fault, text) => prints(rt, alloc, &fault, text),
-        other => nodes_hold(rt, alloc, other),
+        other => roots_hold(rt, alloc, other),
     }
 }
 

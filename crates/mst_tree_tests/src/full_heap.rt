@@ -2,6 +2,7 @@
 use crate::heaps::{fill, heap_of, is_full};
 use crate::nodes::is_node_of_39;
 use crate::pairs::{THREE_PAIRS, spelt, top};
+use crate::proving::THREE_PROOF;
 use linked_list_allocator::LocalHeap;
 use mst_key::{Key, Value};
 use mst_node::{
@@ -10,10 +11,6 @@ use mst_node::{
 use mst_proof::{ProofFault, verify};
 use std::alloc::Global;
 use std::process::Abort;
-
-/// The proof for the key 1 in the map of 1, 39 and a, with the values x, y and z.
-const PROOF: &str =
-    "01020000004b01010001017dfdf041db1f9c4de0e5e646a376510cfb7c4e47760ef8f74cb3181b74c061e6023339017901d2c0950048c47bae86f8557f6e7357048963954bbb6f1328ea6cc19d8898c5d80000000a01000001000131017800";
 
 /// The digest of the node of the key 1, which stands before 39.
 fn left() -> [u8; 32] {
@@ -100,7 +97,7 @@ fn are_read_over(rt: &impl Abort, alloc: Global, heap: &LocalHeap, pairs: &[(Key
     let text = top(heap, pairs)
         .expect(rt, "an ample heap")
         .expect(rt, "a node");
-    let proof = hex::decode(heap, PROOF).expect(rt, "an ample heap");
+    let proof = hex::decode(heap, THREE_PROOF).expect(rt, "an ample heap");
     are_read_full(rt, alloc, heap, (text.as_slice(), proof.as_slice()), pairs)
 }
 

@@ -14,9 +14,7 @@ pub fn fill<'h>(
         let Ok(block) = Vec::with_capacity(heap, 16) else {
             return blocks;
         };
-        if blocks.push(block).is_err() {
-            panic!(rt; "no memory")
-        }
+        blocks.push(block).expect(rt, "memory");
     }
     blocks
 }
@@ -29,4 +27,12 @@ pub fn is_full(heap: &LocalHeap) -> bool {
 /// A heap of so many bytes.
 pub fn heap_of(rt: &impl Abort, alloc: Global, bytes: usize) -> LocalHeap {
     LocalHeap::new(alloc, bytes).expect(rt, "memory")
+}
+
+/// Whether something was made in the heap, and rightly: what was found is none where memory was
+/// refused for it. The heap keeps nothing of it.
+pub fn is_made(rt: &impl Abort, heap: &LocalHeap, found: Option<bool>) -> bool {
+    assert!(rt; found != Some(false), "made wrongly");
+    assert!(rt; heap.used() == 0, "nothing is kept");
+    found.is_some()
 }

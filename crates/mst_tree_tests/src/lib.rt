@@ -1,5 +1,5 @@
-//! Tests of keys and values, of nodes with their texts and digests, of the verifier of proofs, and
-//! of what is said of a proof.
+//! Tests of keys and values, of nodes with their texts and digests, of the verifier of proofs, of
+//! what is said of a proof, and of trees in rows.
 #![tactic(auto)]
 
 #[cfg(test)]
@@ -18,3 +18,5 @@ mod pairs;
 mod proving;
 #[cfg(test)]
 mod reports;
+#[cfg(test)]
+mod rows;

@@ -1,7 +1,7 @@
 //! Values from another program (Python's hashlib), large lists, texts outside the grammar, and
 //! refused growths.
 use crate::cases::{Case, ask};
-use crate::heaps::heap_of;
+use crate::heaps::{heap_of, is_made};
 use crate::pairs::{
     THREE_PAIRS, TWO_PAIRS, are_digits, bytes_of, numbered, pair, root, roots_agree, spelt,
     text_of, top,
@@ -221,9 +221,7 @@ fn are_enough(
 ) -> bool {
     let heap = heap_of(rt, alloc, bytes);
     let found = text_in(&heap, pairs, want);
-    assert!(rt; found != Some(false));
-    assert!(rt; heap.used() == 0, "nothing is kept");
-    found.is_some()
+    is_made(rt, &heap, found)
 }
 
 /// The least number of units of 16 bytes that are enough for the text of these pairs: 2,048 where

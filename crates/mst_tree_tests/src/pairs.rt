@@ -36,12 +36,18 @@ pub fn spelt(rt: &impl Abort, alloc: Global, rows: &[(&str, &str)]) -> Vec<(Key,
     pairs
 }
 
+/// The key of a number: its three low bytes.
+pub fn numbered_key(rt: &impl Abort, number: u32) -> Key {
+    let bytes = number.to_be_bytes();
+    key_of(rt, &bytes[1..])
+}
+
 /// The first numbers in three bytes, each with its two low bytes as the value.
 pub fn numbered(rt: &impl Abort, alloc: Global, count: u32) -> Vec<(Key, Value)> {
     let mut pairs = Vec::new(alloc);
     for i in 0..count {
         let bytes = i.to_be_bytes();
-        let pair = pair(rt, &bytes[1..], &bytes[2..]);
+        let pair = (numbered_key(rt, i), value_of(rt, &bytes[2..]));
         pairs.push(pair).expect(rt, "memory");
     }
     pairs
@@ -101,4 +107,11 @@ pub fn roots_agree(rt: &impl Abort, alloc: Global, pairs: &[(Key, Value)]) -> bo
 pub fn prints<T: Display>(rt: &impl Abort, alloc: Global, shown: &T, text: &str) -> bool {
     let printed = format!(in alloc; "{shown}").expect(rt, "memory");
     printed.as_str() == text
+}
+
+/// The next of a row of random numbers.
+pub fn next_random(state: u64) -> u64 {
+    state
+        .wrapping_mul(6_364_136_223_846_793_005)
+        .wrapping_add(1_442_695_040_888_963_407)
 }

@@ -6,7 +6,7 @@ ghost use Rattle.mst_key.specs.Map.{IsMap};
 mod collisions;
 pub mod forged;
 mod maps;
-mod sizes;
+pub mod sizes;
 pub mod verdicts;
 
 use crate::heaps::{fill, heap_of};
@@ -20,7 +20,7 @@ use std::cmp::Ordering;
 use std::process::Abort;
 
 /// The root digest of the map of `a` and `abc`, with the values `1` and `x`.
-const TWO: &str = "d4a8a9fc55058427163bd8a1f09ca5ec542de1cdaf28df100be5472e47b72503";
+pub const TWO: &str = "d4a8a9fc55058427163bd8a1f09ca5ec542de1cdaf28df100be5472e47b72503";
 
 /// The proof of that map for any key.
 const TWO_PROOF: &str = "0101000000110100000200016101310003616263017800";
@@ -29,7 +29,7 @@ const TWO_PROOF: &str = "0101000000110100000200016101310003616263017800";
 const THREE: &str = "373a7faf30fc0998ad7513e8fd54287fac4ef22030d6b13b63a2e861398714ac";
 
 /// The proof of that map for the key `1`.
-const THREE_PROOF: &str =
+pub const THREE_PROOF: &str =
     "01020000004b01010001017dfdf041db1f9c4de0e5e646a376510cfb7c4e47760ef8f74cb3181b74c061e6023339017901d2c0950048c47bae86f8557f6e7357048963954bbb6f1328ea6cc19d8898c5d80000000a01000001000131017800";
 
 /// The digest of these hexadecimal digits.

@@ -2,13 +2,11 @@
 //! that is refused.
 use crate::cases::{Case, ask};
 use crate::heaps::heap_of;
+use crate::proving::TWO;
 use mst_key::Memory;
 use mst_verify::{LIMIT, Report, key_in, report_on, root_in};
 use std::alloc::{Allocator, Global};
 use std::process::Abort;
-
-/// The root digest of the map of `a` and `abc`, with the values `1` and `x`.
-const TWO: &str = "d4a8a9fc55058427163bd8a1f09ca5ec542de1cdaf28df100be5472e47b72503";
 
 const TWO_PROOF: &[u8] = b"0101000000110100000200016101310003616263017800\n";
 

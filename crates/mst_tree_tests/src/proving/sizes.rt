@@ -48,7 +48,7 @@ fn each_size_up_to_300_and_some_above(rt: HostRuntime) {
 
 /// Pairs of keys of layer 0 alone, which stand in one node, with values of 64 bytes: the numbers
 /// below the end in three bytes that have this layer.
-fn pairs_of_one_node(rt: &impl Abort, alloc: Global, end: u32) -> Vec<(Key, Value)> {
+pub fn pairs_of_one_node(rt: &impl Abort, alloc: Global, end: u32) -> Vec<(Key, Value)> {
     let mut pairs = Vec::new(alloc);
     for i in 0..end {
         let bytes = i.to_be_bytes();
@@ -101,7 +101,7 @@ fn text_has_pairs(rt: &impl Abort, alloc: Global, pairs: &[(Key, Value)], step: 
 }
 
 /// A key behind all.
-const ABSENT: &[u8] = &[0xff];
+pub const ABSENT: &[u8] = &[0xff];
 
 /// Whether the pair in the middle is proved, and the absence of a key behind all.
 fn middle_is_proved(rt: &impl Abort, alloc: Global, pairs: &[(Key, Value)]) -> bool {
@@ -110,8 +110,8 @@ fn middle_is_proved(rt: &impl Abort, alloc: Global, pairs: &[(Key, Value)]) -> b
         && proves(rt, alloc, pairs, ABSENT, None)
 }
 
-/// Whether no texts of this proof and of the map's tree collide.
-fn is_free(rt: &impl Abort, alloc: Global, pairs: &[(Key, Value)], proof: &[u8]) -> bool {
+/// Whether no texts of this proof for the key behind all and of the map's tree collide.
+pub fn is_free(rt: &impl Abort, alloc: Global, pairs: &[(Key, Value)], proof: &[u8]) -> bool {
     assert!(rt; pairs.len() <= 65_535);
     assert!(rt; is_map(pairs));
     collides(alloc, pairs, &key_of(rt, ABSENT), proof) == Ok(false)

@@ -1,0 +1,226 @@
+//! Calls that take no memory, over a heap with no byte left: those of a desk, of plain rows, and
+//! those that plant, change and read a map in rows.
+ghost use Rattle.std.specs.Prelude.{◌≡◌, length, replicate};
+ghost use Rattle.mst_arena.specs.declared.life.Life.TheVariants.{Free};
+
+use super::standing::StandingMap;
+use super::{entry_is, entry_of, free_after, head_is, row_is};
+use crate::heaps::{fill, heap_of, is_full};
+use crate::pairs::{THREE_PAIRS, key_of, pair, spelt, value_of};
+use linked_list_allocator::LocalHeap;
+use mst_arena::{Desk, HeadLinks, PlainRows, Row, Rows};
+use mst_key::{Key, Memory, Value};
+use mst_node::root_of;
+use std::alloc::{Allocator, Global};
+use std::process::Abort;
+
+/// Takes a row of the desk, and gives it back.
+fn borrows_a_row<A: Allocator>(desk: &mut Desk<A>) -> bool {
+    match desk.take() {
+        Some(row) => {
+            desk.give_back(row);
+            true
+        }
+        None => false,
+    }
+}
+
+/// Whether sweeps free the dead row once no version reaches it, and the desk of version 2 goes on.
+fn frees_and_goes_on(desk: &mut Desk<&LocalHeap>) -> bool {
+    free_after(desk, &[2, 1]) == 2
+        && free_after(desk, &[2]) == 3
+        && desk.current() == (2, 2)
+        && desk.next_version() == Ok(3)
+        && borrows_a_row(desk)
+}
+
+/// Takes rows of a new desk, lets one die, and frees it.
+fn desk_goes_on(rt: &impl Abort, desk: &mut Desk<&LocalHeap>)
+    requires new { desk.old
+        ≡ record { current = 0; versions = replicate 3 0; lives = replicate 4 Free } }
+{
+    let (Some(a), Some(_)) = (desk.take(), desk.take()) else {
+        panic!(rt; "four rows")
+    };
+    desk.advance(1);
+    assert!(rt; desk.version_of(1) == 1);
+    desk.kill(a);
+    desk.advance(2);
+    assert!(rt; frees_and_goes_on(desk));
+}
+
+#[test]
+fn a_desk_goes_on_over_a_full_heap(rt: HostRuntime) {
+    let heap = heap_of(&rt, rt.alloc(), 2_048);
+    let Ok(mut desk) = Desk::new(&heap, 4, 3, 0) else {
+        panic!(rt; "an ample heap")
+    };
+    let blocks = fill(&rt, rt.alloc(), &heap);
+    assert!(rt; is_full(&heap) && !blocks.is_empty());
+    desk_goes_on(&rt, &mut desk);
+    assert!(rt; is_full(&heap));
+}
+
+const HEAD: Row = Row::Head {
+    layer: 1,
+    count: 2,
+    first: 3,
+    tail: 4,
+    digest: [5; 32],
+};
+
+/// The links of that head.
+const HEAD_LINKS: HeadLinks = HeadLinks {
+    layer: 1,
+    count: 2,
+    first: 3,
+    tail: 4,
+};
+
+/// Whether an entry and a head are read as they are written, part by part and whole.
+fn rows_go_on(rt: &impl Abort, rows: &mut PlainRows<&LocalHeap>) -> bool
+    requires two { length rows.old ≡ 2 }
+{
+    let row = entry_of(rt, 7, 9, b"ab", b"xyz");
+    rows.write(1, &HEAD);
+    rows.write(0, &row);
+    entry_is(rows, 0, (7, 9), b"ab", b"xyz")
+        && head_is(rows, 1, &HEAD_LINKS, &[5; 32])
+        && row_is(rows, 1, &HEAD)
+        && row_is(rows, 0, &row)
+}
+
+#[test]
+fn plain_rows_go_on_over_a_full_heap(rt: HostRuntime) {
+    let heap = heap_of(&rt, rt.alloc(), 2_048);
+    let Ok(mut rows) = PlainRows::new(&heap, 2) else {
+        panic!(rt; "an ample heap")
+    };
+    let blocks = fill(&rt, rt.alloc(), &heap);
+    assert!(rt; is_full(&heap) && !blocks.is_empty());
+    assert!(rt; rows_go_on(&rt, &mut rows));
+    assert!(rt; is_full(&heap));
+}
+
+/// Whether the map has this value at the key and this pair behind it, by its root and by its link.
+fn has_both(
+    map: &mut StandingMap<&LocalHeap>,
+    key: &Key,
+    value: Option<&Value>,
+    next: Option<&(Key, Value)>,
+) -> bool {
+    let (found, behind) = map.get_and_next(key);
+    let below = found.as_ref() == value && behind.as_ref() == next;
+    below && map.has(key, value) && map.has_next(Some(key), next)
+}
+
+/// The value of this text, if there is one.
+fn spelt_value(rt: &impl Abort, text: Option<&str>) -> Option<Value> {
+    match text {
+        Some(text) => Some(value_of(rt, text.as_bytes())),
+        None => None,
+    }
+}
+
+/// The same of the key 1 and of a value and a pair of these texts.
+fn reads(
+    rt: &impl Abort,
+    map: &mut StandingMap<&LocalHeap>,
+    value: Option<&str>,
+    next: (&str, &str),
+) -> bool {
+    let key = key_of(rt, b"1");
+    let next = pair(rt, next.0.as_bytes(), next.1.as_bytes());
+    has_both(map, &key, spelt_value(rt, value).as_ref(), Some(&next))
+}
+
+/// Whether what was found is the value of this text, or nothing where there is none.
+fn is_value(found: &Option<Value>, wanted: Option<&str>) -> bool {
+    match (found, wanted) {
+        (Some(value), Some(text)) => value.bytes() == text.as_bytes(),
+        (None, None) => true,
+        _ => false,
+    }
+}
+
+/// Whether a put answers this old value, or a remove where no value is given.
+fn changes(
+    rt: &impl Abort,
+    map: &mut StandingMap<&LocalHeap>,
+    key: &str,
+    value: Option<&str>,
+    old: Option<&str>,
+) -> bool {
+    let key = key_of(rt, key.as_bytes());
+    match map.change(&key, spelt_value(rt, value).as_ref()) {
+        Ok(Ok(found)) => is_value(&found, old),
+        _ => false,
+    }
+}
+
+/// A key, its new value or none, and the value that it had.
+const CHANGES: &[(&str, Option<&str>, Option<&str>)] = &[
+    ("1", Some("z"), Some("x")),
+    ("39", None, Some("y")),
+    ("39", None, None),
+    ("1", None, Some("z")),
+];
+
+/// Puts and removes, after which the map has a alone.
+fn change_each(rt: &impl Abort, map: &mut StandingMap<&LocalHeap>) {
+    for (place, (key, value, old)) in CHANGES.iter().enumerate() {
+        assert!(rt; changes(rt, map, key, *value, *old), "change {place}");
+    }
+}
+
+/// Reads, puts and removes of the map of 1, 39 and a.
+fn goes_on(rt: &impl Abort, map: &mut StandingMap<&LocalHeap>) {
+    assert!(rt; reads(rt, map, Some("x"), ("39", "y")));
+    change_each(rt, map);
+    assert!(rt; reads(rt, map, None, ("a", "z")));
+}
+
+/// Whether a range finds no memory.
+fn range_is_refused(heap: &LocalHeap, map: &mut StandingMap<&LocalHeap>) -> bool {
+    matches!(map.range(heap, None, None, 1), Err(Memory))
+}
+
+/// The map of 1, 39 and a that was planted with no byte left goes on.
+fn goes_on_in(
+    rt: &impl Abort,
+    heap: &LocalHeap,
+    map: &mut StandingMap<&LocalHeap>,
+    pairs: &[(Key, Value)],
+) {
+    assert!(rt; is_full(heap));
+    assert!(rt; pairs.len() == 3);
+    assert!(rt; map.root() == root_of(pairs));
+    goes_on(rt, map);
+    assert!(rt; range_is_refused(heap, map));
+    assert!(rt; is_full(heap));
+    assert!(rt; map.free() == 10);
+}
+
+/// Whether the map is planted in a heap of so many bytes. In the least that holds the rows and the
+/// desk it is planted with no byte left.
+fn is_planted(rt: &impl Abort, alloc: Global, pairs: &[(Key, Value)], bytes: usize) -> bool {
+    let heap = heap_of(rt, alloc, bytes);
+    match StandingMap::new_beside(rt, alloc, &heap, pairs, 12) {
+        Ok(mut map) => {
+            goes_on_in(rt, &heap, &mut map, pairs);
+            true
+        }
+        Err(Memory) => false,
+    }
+}
+
+#[test]
+fn a_map_is_planted_and_goes_on_over_a_full_heap(rt: HostRuntime) {
+    let pairs = spelt(&rt, rt.alloc(), THREE_PAIRS);
+    for units in 1..512usize {
+        if is_planted(&rt, rt.alloc(), pairs.as_slice(), units * 16) {
+            return;
+        }
+    }
+    panic!(rt; "no heap was large enough")
+}

@@ -1,0 +1,235 @@
+//! What no clause says: worked rows, printed text, and each growth refused in turn.
+ghost use Rattle.std.specs.Prelude.{◌≡◌, IsSome, replicate};
+ghost use Rattle.mst_arena.specs.Content.{part_at};
+ghost use Rattle.mst_arena.specs.Row.{IsRow, entry_links};
+ghost use Rattle.mst_arena.specs.declared.life.Life.TheVariants.{Free};
+
+use super::{entry_is, entry_of, free_after, head_is, row_is};
+use crate::heaps::{heap_of, is_made};
+use crate::pairs::{key_of, prints};
+use linked_list_allocator::LocalHeap;
+use mst_arena::{Desk, HeadLinks, PlainRows, Row, Rows, Sought, VersionsSpent, Way};
+use mst_key::Memory;
+use std::alloc::Global;
+use std::process::Abort;
+
+const HEAD: Row = Row::Head {
+    layer: 64,
+    count: 65_534,
+    first: 65_535,
+    tail: 0,
+    digest: [0xd1; 32],
+};
+
+/// Whether a row comes back from its words.
+fn comes_back(row: &Row) -> bool
+    requires limits { IsRow row.now }
+{
+    Row::read(&row.words()).as_ref() == Some(row)
+}
+
+/// The links of that head.
+const HEAD_LINKS: HeadLinks = HeadLinks {
+    layer: 64,
+    count: 65_534,
+    first: 65_535,
+    tail: 0,
+};
+
+#[test]
+fn plain_rows_are_read_as_written(rt: HostRuntime) {
+    let row = entry_of(&rt, 65_535, 0, &[0x6b; 32], &[0x76; 64]);
+    let Ok(mut rows) = PlainRows::new(rt.alloc(), 2) else {
+        panic!(rt; "no memory")
+    };
+    rows.write(1, &HEAD);
+    rows.write(0, &row);
+    assert!(rt;
+        entry_is(&mut rows, 0, (65_535, 0), &[0x6b; 32], &[0x76; 64])
+            && head_is(&mut rows, 1, &HEAD_LINKS, &[0xd1; 32])
+    );
+    assert!(rt; row_is(&mut rows, 1, &HEAD) && row_is(&mut rows, 0, &row));
+    assert!(rt;
+        comes_back(&HEAD) && comes_back(&row),
+        "rows at their limits"
+    );
+}
+
+/// Rows that are read and written whole. Their parts come from the default bodies.
+#[derive(Drop)]
+struct WholeRows {
+    rows: PlainRows<Global>,
+}
+
+impl Rows for WholeRows {
+    ghost use Rattle.std.specs.Prelude.{length, nat_lt};
+    ghost use Rattle.mst_arena.specs.Content.{listed};
+
+    ghost content = { λ whole. listed whole.rows };
+
+    ghost blank = { λ whole row. nat_lt row (length whole.rows) };
+
+    ghost kept = { λ _. tt };
+
+    fn read(&mut self, row: u32) -> Row {
+        self.rows.read(row)
+    }
+
+    fn write(&mut self, row: u32, value: &Row) {
+        self.rows.write(row, value);
+    }
+}
+
+#[test]
+fn parts_by_default_are_those_of_the_row(rt: HostRuntime) {
+    let row = entry_of(&rt, 7, 9, b"ab", b"xyz");
+    let Ok(rows) = PlainRows::new(rt.alloc(), 1) else {
+        panic!(rt; "no memory")
+    };
+    let mut rows = WholeRows { rows };
+    rows.write(0, &HEAD);
+    assert!(rt; head_is(&mut rows, 0, &HEAD_LINKS, &[0xd1; 32]));
+    rows.write(0, &row);
+    assert!(rt; entry_is(&mut rows, 0, (7, 9), b"ab", b"xyz"));
+}
+
+/// Whether this is the way from the entry at number 0 to a key.
+fn way_is<R: Rows>(rt: &impl Abort, rows: &mut R, key: &[u8], wanted: Way) -> bool
+    requires links { IsSome (part_at entry_links (R.content rows.old) 0) }
+    ensures same { rows.new ≡ rows.old }
+{
+    rows.way(0, &Sought::new(&key_of(rt, key))) == wanted
+}
+
+// A key that is a front of the entry's is below it, also where the bytes behind it are 0.
+#[test]
+fn the_way_from_an_entry_is_by_the_order_of_keys(rt: HostRuntime) {
+    let row = entry_of(&rt, 7, 9, b"ab\0", b"xyz");
+    let Ok(rows) = PlainRows::new(rt.alloc(), 1) else {
+        panic!(rt; "no memory")
+    };
+    let mut rows = WholeRows { rows };
+    rows.write(0, &row);
+    assert!(rt; way_is(&rt, &mut rows, b"ab", Way::Child(7)));
+    assert!(rt; way_is(&rt, &mut rows, b"ab\0", Way::Here));
+    assert!(rt; way_is(&rt, &mut rows, b"ab\0\0", Way::Next(9)));
+    assert!(rt; way_is(&rt, &mut rows.rows, b"ab\0\0", Way::Next(9)));
+}
+
+/// Lets two rows of a new desk die between two pins, one after the other.
+fn two_rows_die(rt: &impl Abort, desk: &mut Desk<Global>)
+    requires new { desk.old
+        ≡ record { current = 0; versions = replicate 3 0; lives = replicate 4 Free } }
+{
+    let (Some(a), Some(b)) = (desk.take(), desk.take()) else {
+        panic!(rt; "four rows")
+    };
+    assert!(rt; (a, b) == (0, 1), "side by side, upwards");
+    desk.advance(1);
+    assert!(rt; desk.version_of(1) == 1);
+    desk.kill(a);
+    let c = desk.take();
+    assert!(rt; c == Some(2));
+    desk.advance(2);
+    assert!(rt; desk.free() == 1);
+    // in any order, and more of them than the desk has records
+    assert!(rt; free_after(desk, &[1, 2]) == 1);
+    assert!(rt; free_after(desk, &[2, 1]) == 1);
+    assert!(rt; free_after(desk, &[9, 2, 8, 1, 7]) == 1);
+    assert!(rt; free_after(desk, &[2]) == 2);
+    desk.kill(b);
+    desk.advance(0);
+}
+
+// The worked rows of the desk.
+#[test]
+fn rows_between_two_live_versions_stay(rt: HostRuntime) {
+    let Ok(mut desk) = Desk::new(rt.alloc(), 4, 3, 0) else {
+        panic!(rt; "no memory")
+    };
+    two_rows_die(&rt, &mut desk);
+    for (live, free) in [([1], 2), ([2], 2), ([3], 3)] {
+        assert!(rt; free_after(&mut desk, &live) == free, "{live:?}");
+    }
+    assert!(rt; desk.current() == (0, 3));
+}
+
+/// The version that follows on this one.
+fn next_from(rt: &impl Abort, alloc: Global, first: u64) -> Result<u64, VersionsSpent> {
+    assert!(rt; first <= 9_223_372_036_854_775_807);
+    let Ok(desk) = Desk::new(alloc, 4, 3, first) else {
+        panic!(rt; "no memory")
+    };
+    desk.next_version()
+}
+
+#[test]
+fn versions_at_the_limit(rt: HostRuntime) {
+    let last = 9_223_372_036_854_775_807;
+    assert!(rt; next_from(&rt, rt.alloc(), last) == Err(VersionsSpent));
+    assert!(rt; next_from(&rt, rt.alloc(), last - 1) == Ok(last));
+    assert!(rt; prints(&rt, rt.alloc(), &VersionsSpent, "version numbers are spent"));
+}
+
+// Whether sweeps take no memory, also with more live versions than the desk has records.
+fn sweeps_in_place(desk: &mut Desk<&LocalHeap>, heap: &LocalHeap) -> bool {
+    let used = heap.used();
+    desk.sweep(&[1, 2, 3, 4, 5]);
+    desk.sweep(&[3, 1]);
+    heap.used() == used
+}
+
+// Whether sweeps of a desk of 100 rows in this heap take no memory; none where it is not made.
+fn desk_in(heap: &LocalHeap) -> Option<bool> {
+    match Desk::new(heap, 100, 3, 0) {
+        Ok(mut desk) => Some(sweeps_in_place(&mut desk, heap)),
+        Err(Memory) => None,
+    }
+}
+
+// Whether that desk is made in a heap of so many bytes.
+fn desk_fits(rt: &impl Abort, alloc: Global, bytes: usize) -> bool {
+    let heap = heap_of(rt, alloc, bytes);
+    let found = desk_in(&heap);
+    is_made(rt, &heap, found)
+}
+
+// True where three plain rows are made in this heap, else none.
+fn rows_in(heap: &LocalHeap) -> Option<bool> {
+    match PlainRows::new(heap, 3) {
+        Ok(_) => Some(true),
+        Err(Memory) => None,
+    }
+}
+
+// Whether they are made in a heap of so many bytes.
+fn rows_fit(rt: &impl Abort, alloc: Global, bytes: usize) -> bool {
+    let heap = heap_of(rt, alloc, bytes);
+    let found = rows_in(&heap);
+    is_made(rt, &heap, found)
+}
+
+#[test]
+fn each_growth_is_refused_in_turn(rt: HostRuntime) {
+    // a desk of 100 rows takes 24 bytes a row for lives and 8 for lists, and less than 200 bytes
+    // beside
+    let mut refused = 0u32;
+    for step in 1..300usize {
+        if !desk_fits(&rt, rt.alloc(), step * 16) {
+            assert!(rt;
+                refused as usize == step - 1,
+                "once made, a larger heap serves too"
+            );
+            refused = step as u32;
+        }
+    }
+    assert!(rt; 200 <= refused && refused < 299);
+    assert!(rt; !rows_fit(&rt, rt.alloc(), 64) && rows_fit(&rt, rt.alloc(), 1024));
+}
+
+#[test]
+fn each_number_of_records(rt: HostRuntime) {
+    for records in 2..=34u32 {
+        assert!(rt; Desk::new(rt.alloc(), 100, records, 0).is_ok(), "{records}");
+    }
+}

@@ -1,0 +1,145 @@
+//! What the reads take of the rows: a range no more than its limit needs, a look-up and a next pair
+//! one path.
+//!
+//! The rows are of 300 pairs in three layers, with the numbers in three bytes as keys. The counts
+//! were worked out apart, from the layers of these keys (Python's hashlib): the head of each node
+//! that is met, its entries up to the one that ends the search in it, and the value of each pair of
+//! the answer.
+use crate::pairs::{key_of, numbered, numbered_key};
+use crate::rows::counted::Reads;
+use crate::rows::standing::StandingMap;
+use mst_key::Key;
+use std::alloc::Global;
+use std::process::Abort;
+
+/// The map of 300 pairs.
+fn map_of_300(rt: &impl Abort, alloc: Global) -> StandingMap {
+    let pairs = numbered(rt, alloc, 300);
+    StandingMap::new(rt, alloc, pairs.as_slice(), 1_000)
+}
+
+/// Whether no more was read than so many heads, entries and values, and nothing else.
+fn is_within(reads: Reads, heads: u32, entries: u32, values: u32) -> bool {
+    reads.heads <= heads && reads.entries <= entries && reads.values <= values && reads.others == 0
+}
+
+/// The key of a number, if there is one.
+fn bound(rt: &impl Abort, number: Option<u32>) -> Option<Key> {
+    Some(numbered_key(rt, number?))
+}
+
+/// What is asked of the map.
+#[derive(Clone, Copy)]
+enum Ask {
+    /// The pairs between two numbers, so many at most.
+    Range(Option<u32>, Option<u32>, usize),
+    /// The value of a number's key.
+    Get(u32),
+    /// The value of the key just behind that of 49, which the map lacks.
+    GetBehind49,
+    /// The next pair above a number's key.
+    Next(Option<u32>),
+    /// The root digest, of which no value is read.
+    Root,
+}
+
+/// How many pairs stand between two keys, so many at most.
+fn range_of(
+    rt: &impl Abort,
+    alloc: Global,
+    map: &mut StandingMap,
+    (from, to): (Option<u32>, Option<u32>),
+    limit: usize,
+) -> usize {
+    let (from, to) = (bound(rt, from), bound(rt, to));
+    let found = map.range(alloc, from.as_ref(), to.as_ref(), limit);
+    found.expect(rt, "memory").len()
+}
+
+/// Whether so many pairs are in the answer.
+fn answers(rt: &impl Abort, alloc: Global, map: &mut StandingMap, ask: Ask, pairs: usize) -> bool {
+    match ask {
+        Ask::Range(from, to, limit) => range_of(rt, alloc, map, (from, to), limit) == pairs,
+        Ask::Get(number) => map.get(&numbered_key(rt, number)).is_some() == (pairs == 1),
+        Ask::GetBehind49 => map.get(&key_of(rt, &[0, 0, 49, 0])).is_some() == (pairs == 1),
+        Ask::Next(after) => map.next(bound(rt, after).as_ref()).is_some() == (pairs == 1),
+        Ask::Root => {
+            let _ = map.root();
+            pairs == 0
+        }
+    }
+}
+
+/// What is asked, and how many heads, entries and values are read for it at most. The answer has as
+/// many pairs as values are read.
+type Case = (Ask, u32, u32, u32);
+
+/// Whether the answer has so many pairs, and no more was read for it.
+fn holds(
+    rt: &impl Abort,
+    alloc: Global,
+    map: &mut StandingMap,
+    (ask, heads, entries, values): Case,
+) -> bool {
+    map.forget_reads();
+    answers(rt, alloc, map, ask, values as usize) && is_within(map.reads(), heads, entries, values)
+}
+
+/// Asks the map of 300 pairs.
+fn ask_each(rt: &(impl Abort + AllocGlobal), cases: &[Case]) {
+    let mut map = map_of_300(rt, rt.alloc());
+    for (place, case) in cases.iter().enumerate() {
+        assert!(rt; holds(rt, rt.alloc(), &mut map, *case), "case {place}");
+    }
+}
+
+const RANGES: &[Case] = &[
+    (Ask::Range(None, None, 0), 0, 0, 0),
+    (Ask::Range(None, None, 1), 3, 3, 1),
+    (Ask::Range(None, None, 2), 3, 4, 2),
+    (Ask::Range(None, None, 10), 3, 12, 10),
+    (Ask::Range(None, None, 300), 22, 300, 300),
+    (Ask::Range(Some(100), None, 0), 0, 0, 0),
+    (Ask::Range(Some(100), None, 1), 3, 26, 1),
+    (Ask::Range(Some(100), None, 2), 3, 26, 2),
+    (Ask::Range(Some(100), None, 10), 4, 35, 10),
+    (Ask::Range(Some(17), Some(19), 1), 3, 20, 1),
+    (Ask::Range(Some(17), Some(19), 10), 3, 22, 2),
+    (Ask::Range(Some(150), Some(160), 2), 3, 13, 2),
+    (Ask::Range(Some(150), Some(160), 300), 3, 22, 10),
+];
+
+#[test]
+fn a_range_reads_no_row_past_its_limit(rt: HostRuntime) {
+    ask_each(&rt, RANGES);
+}
+
+const LOOK_UPS: &[Case] = &[
+    (Ask::Get(0), 3, 3, 1),
+    (Ask::Get(39), 2, 4, 1),
+    (Ask::Get(100), 3, 26, 1),
+    (Ask::Get(150), 3, 12, 1),
+    (Ask::Get(286), 3, 41, 1),
+    (Ask::Get(299), 3, 7, 1),
+    (Ask::GetBehind49, 3, 16, 0),
+    (Ask::Root, 0, 0, 0),
+];
+
+#[test]
+fn a_look_up_reads_one_path(rt: HostRuntime) {
+    ask_each(&rt, LOOK_UPS);
+}
+
+const NEXTS: &[Case] = &[
+    (Ask::Next(None), 3, 3, 1),
+    (Ask::Next(Some(39)), 3, 6, 1),
+    (Ask::Next(Some(100)), 3, 26, 1),
+    (Ask::Next(Some(150)), 3, 13, 1),
+    (Ask::Next(Some(246)), 3, 21, 1),
+    (Ask::Next(Some(299)), 3, 7, 0),
+];
+
+#[test]
+fn the_next_pair_is_on_one_path(rt: HostRuntime) {
+    ask_each(&rt, NEXTS);
+}

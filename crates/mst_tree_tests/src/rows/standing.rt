@@ -1,0 +1,208 @@
+//! A map that stands in plain rows, and is read and changed.
+ghost use Rattle.std.specs.Prelude.{◌≡◌, ◌≤◌, ◌<◌, List, length, option_copied};
+ghost use Rattle.mst_key.specs.Map.{Pair, IsMap};
+ghost use Rattle.mst_arena.specs.Lives.{next, last_version};
+ghost use Rattle.mst_path.specs.Planting.{tree_at, IsTreeOf};
+ghost use Rattle.mst_tree_tests.specs.Ready.{IsPublished};
+
+use super::counted::{CountedRows, Reads};
+use mst_arena::{Desk, Root, VersionsSpent};
+use mst_key::{Key, Memory, Value};
+use mst_node::{Node, build, is_map};
+use mst_path::{NoRoom, plant, put, remove};
+use std::alloc::{Allocator, Global};
+use std::marker::Model;
+use std::process::Abort;
+
+/// A map in rows. Each change is published at once, and then no earlier version is live.
+#[derive(Drop)]
+pub struct StandingMap<A: Allocator = Global> {
+    rows: CountedRows<A>,
+    desk: Desk<A>,
+    root: Root,
+}
+
+/// Contracts see the rows, the desk and the root.
+impl<A: Allocator> Model for StandingMap<A> {
+    ghost use Rattle.std.specs.Prelude.{List, Option};
+    ghost use Rattle.mst_arena.specs.Lives.{State};
+    ghost use Rattle.mst_arena.specs.declared.row.Root.{Root};
+    ghost use Rattle.mst_arena.specs.declared.row.Row.{Row};
+    ghost use Rattle.mst_tree_tests.specs.Ready.{IsReady};
+
+    ghost Value = { List (Option Row) × State × Root };
+
+    ghost view = { λ p. (p.rows, p.desk, p.root) };
+
+    ghost invariant = { λ p. IsReady p.rows p.desk p.root };
+}
+
+/// Makes the version to come the current one, and frees the rows that it does not reach.
+fn publish<A: Allocator>(desk: &mut Desk<A>)
+    requires records { length desk.old.versions ≡ 2 }
+    requires current { desk.old.current < 2 }
+    requires more { next desk.old ≤ last_version }
+    ensures published { IsPublished desk.old desk.new }
+{
+    let (record, _) = desk.current();
+    let other = 1 - record;
+    desk.advance(other);
+    let version = desk.version_of(other);
+    desk.sweep(&[version]);
+}
+
+impl<A: Allocator + Copy> StandingMap<A> {
+    /// The map of a tree, planted in so many new rows.
+    fn planted<B: Allocator>(
+        rt: &impl Abort,
+        alloc: A,
+        tree: Option<&Node<B>>,
+        size: u32,
+    ) -> Result<StandingMap<A>, Memory>
+        requires tree { (m : List Pair) × IsMap m × IsTreeOf (tree_at (option_copied tree)) m }
+        requires some { 0 < size }
+        requires few { size ≤ 65535 }
+    {
+        let mut desk = Desk::new(alloc, size, 2, 0)?;
+        let mut rows = CountedRows::new(alloc, size)?;
+        let Ok(root) = plant(&mut rows, &mut desk, tree) else {
+            panic!(rt; "no room")
+        };
+        publish(&mut desk);
+        Ok(StandingMap { rows, desk, root })
+    }
+
+    /// The map of these pairs, planted in so many rows. Its tree is built in memory of its own.
+    ///
+    /// `Memory` comes where a growth was refused.
+    pub fn new_beside<B: Allocator + Copy>(
+        rt: &impl Abort,
+        trees: B,
+        alloc: A,
+        pairs: &[(Key, Value)],
+        size: u32,
+    ) -> Result<StandingMap<A>, Memory> {
+        assert!(rt; is_map(pairs));
+        assert!(rt; pairs.len() <= 65_535);
+        assert!(rt; 0 < size && size <= 65_535);
+        let tree = build(trees, pairs)?;
+        StandingMap::planted(rt, alloc, tree.as_deref(), size)
+    }
+
+    /// The map of these pairs, planted in so many rows.
+    pub fn new(rt: &impl Abort, alloc: A, pairs: &[(Key, Value)], size: u32) -> StandingMap<A> {
+        let Ok(map) = StandingMap::new_beside(rt, alloc, alloc, pairs, size) else {
+            panic!(rt; "no memory")
+        };
+        map
+    }
+
+    /// How many rows are free.
+    pub fn free(&self) -> u32 {
+        self.desk.free()
+    }
+
+    /// What was read of the rows since the counts began.
+    pub fn reads(&self) -> Reads {
+        self.rows.reads()
+    }
+
+    /// The counts of what was read begin anew.
+    pub fn forget_reads(&mut self) {
+        self.rows.forget_reads();
+    }
+
+    /// Puts a pair, and answers the value that the key had.
+    fn put(
+        &mut self,
+        key: &Key,
+        value: &Value,
+    ) -> Result<Result<Option<Value>, NoRoom>, VersionsSpent> {
+        self.desk.next_version()?;
+        let (root, old) = match put(&mut self.rows, &mut self.desk, &self.root, key, value) {
+            Ok(done) => done,
+            Err(refused) => return Ok(Err(refused)),
+        };
+        self.root = root;
+        publish(&mut self.desk);
+        Ok(Ok(old))
+    }
+
+    /// Removes a key, and answers the value that it had.
+    fn remove(&mut self, key: &Key) -> Result<Result<Option<Value>, NoRoom>, VersionsSpent> {
+        self.desk.next_version()?;
+        let (root, old) = match remove(&mut self.rows, &mut self.desk, &self.root, key) {
+            Ok(done) => done,
+            Err(refused) => return Ok(Err(refused)),
+        };
+        self.root = root;
+        publish(&mut self.desk);
+        Ok(Ok(old))
+    }
+
+    /// Puts the value at the key, or removes the key where no value is given.
+    pub fn change(
+        &mut self,
+        key: &Key,
+        value: Option<&Value>,
+    ) -> Result<Result<Option<Value>, NoRoom>, VersionsSpent> {
+        match value {
+            Some(value) => self.put(key, value),
+            None => self.remove(key),
+        }
+    }
+
+    /// The value of a key.
+    pub fn get(&mut self, key: &Key) -> Option<Value> {
+        mst_read::get(&mut self.rows, &self.root, key)
+    }
+
+    /// The pair of the next key.
+    pub fn next(&mut self, after: Option<&Key>) -> Option<(Key, Value)> {
+        mst_read::next(&mut self.rows, &self.root, after)
+    }
+
+    /// Whether a key has this value, or none.
+    pub fn has(&mut self, key: &Key, value: Option<&Value>) -> bool {
+        self.get(key).as_ref() == value
+    }
+
+    /// Whether this pair is the next one, or none is.
+    pub fn has_next(&mut self, after: Option<&Key>, pair: Option<&(Key, Value)>) -> bool {
+        self.next(after).as_ref() == pair
+    }
+
+    /// The value of a key, and the pair of the next key, by the link of the root alone.
+    pub fn get_and_next(&mut self, key: &Key) -> (Option<Value>, Option<(Key, Value)>) {
+        let found = mst_read::get_below(&mut self.rows, self.root.link, key);
+        (
+            found,
+            mst_read::next_below(&mut self.rows, self.root.link, Some(key)),
+        )
+    }
+
+    /// The pairs between two bounds, so many at most.
+    pub fn range<B: Allocator>(
+        &mut self,
+        alloc: B,
+        from: Option<&Key>,
+        to: Option<&Key>,
+        limit: usize,
+    ) -> Result<Vec<(Key, Value), B>, Memory> {
+        mst_read::range(alloc, &mut self.rows, &self.root, from, to, limit)
+    }
+
+    /// The proof for a key.
+    pub fn prove<B: Allocator + Copy>(
+        &mut self,
+        alloc: B,
+        key: &Key,
+    ) -> Result<Vec<u8, B>, Memory> {
+        mst_read::prove(alloc, &mut self.rows, &self.root, key)
+    }
+
+    /// The root digest.
+    pub fn root(&mut self) -> [u8; 32] {
+        mst_read::root(&mut self.rows, &self.root)
+    }
+}
