@@ -1,5 +1,4 @@
-//! What no clause of the program says: whole scripts, the texts for the user, and devices that
-//! fail.
+//! The program by its words: whole scripts, the texts for the user, and devices that fail.
 mod failures;
 mod loads;
 mod progress;
@@ -14,7 +13,6 @@ use mst_program::command;
 use std::alloc::{AllocError, AllocGlobal};
 use std::process::Abort;
 use std::sync::Wait;
-use std::test::Fail;
 use std::thread::Threads;
 
 /// The exit status of a program, and what it wrote.
@@ -86,11 +84,11 @@ fn each_comes_to<R: Abort + Threads + Wait + AllocGlobal + Sync>(
     rt: &R,
     input: &[u8],
     rows: &[(&str, u8, &str, &str)],
-) -> Result<(), Fail> {
+) {
     for (line, status, out, err) in rows {
-        assert!(rt; comes_to(rt, line, input, *status, out, err)?, "in {line}");
+        let came = comes_to(rt, line, input, *status, out, err);
+        assert!(rt; matches!(came, Ok(true)), "in {line}");
     }
-    Ok(())
 }
 
 /// Runs the program on each line of words over the input beside it, and compares what it wrote,
@@ -98,10 +96,9 @@ fn each_comes_to<R: Abort + Threads + Wait + AllocGlobal + Sync>(
 fn each_answers<R: Abort + Threads + Wait + AllocGlobal + Sync>(
     rt: &R,
     rows: &[(&str, &str, &str)],
-) -> Result<(), Fail> {
+) {
     for (line, input, answers) in rows {
-        let is_right = comes_to(rt, line, input.as_bytes(), 0, answers, "")?;
-        assert!(rt; is_right, "{line} over {input}");
+        let came = comes_to(rt, line, input.as_bytes(), 0, answers, "");
+        assert!(rt; matches!(came, Ok(true)), "{line} over {input}");
     }
-    Ok(())
 }

@@ -2,7 +2,7 @@
 ghost use Rattle.std.specs.Prelude.{◌<◌, ◌-◌, ◌^◌};
 ghost use Rattle.mst_script.specs.Serving.{AreAllOf};
 
-use super::failing::{Reader, Writer};
+use crate::failing::{Reader, Writer};
 use mst_devices::{BytesSink, BytesSource, Sink, Source, StdSink, StdSource};
 use mst_script::{RunFault, run};
 use mst_store::{Pass, Shape, Store};

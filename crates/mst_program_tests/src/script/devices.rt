@@ -1,6 +1,6 @@
 //! Devices that fail, and devices that take their time.
-use super::failing::{Reader, Writer};
 use super::run_over;
+use crate::failing::{Reader, Writer};
 use mst_devices::{BytesSink, BytesSource, Device, StdSink, StdSource};
 use mst_script::RunFault;
 use mst_store::Shape;

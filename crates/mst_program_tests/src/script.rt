@@ -1,7 +1,6 @@
-//! What no clause says: whole scripts, and devices and memory that fail.
+//! Scripts over the passes of a store: whole scripts, and devices and memory that fail.
 mod devices;
 mod ends;
-mod failing;
 mod lines;
 mod memory;
 mod nodes;

@@ -2,6 +2,7 @@
 ghost use Rattle.mst_script.specs.Serving.{AreAllOf};
 
 use super::run_over;
+use crate::texts::{PROOF_OF_THREE, TOP_OF_THREE};
 use linked_list_allocator::LocalHeap;
 use mst_devices::{BytesSink, BytesSource};
 use mst_script::{RunFault, run};
@@ -140,12 +141,6 @@ const PINNED: &str = "1 put 31 78\n1 put 61 7a\n1 put 3339 79\n1 pin\n2 del 31\n
 
 const ANSWERED: &str = "none\nnone\nnone\npinned 3\nsome 78\n";
 
-const TOP: &str =
-    "01010001017dfdf041db1f9c4de0e5e646a376510cfb7c4e47760ef8f74cb3181b74c061e6023339017901d2c0950048c47bae86f8557f6e7357048963954bbb6f1328ea6cc19d8898c5d8";
-
-const PROOF: &str =
-    "01020000004b01010001017dfdf041db1f9c4de0e5e646a376510cfb7c4e47760ef8f74cb3181b74c061e6023339017901d2c0950048c47bae86f8557f6e7357048963954bbb6f1328ea6cc19d8898c5d80000000a01000001000131017800";
-
 const NO_READ: &[&[u8]] = &[b"none\nnone\nnone\npinned 3\nsome 78\nmemory\nsome 78\n"];
 
 // Whether a read of the pinned version is refused memory in some heaps of rising size, which the
@@ -172,8 +167,8 @@ const READS: &[(&str, &str)] = &[
         "1 range - - 9",
         "pairs 3\npair 31 78\npair 3339 79\npair 61 7a",
     ),
-    ("1 prove 31", PROOF),
-    ("1 node", TOP),
+    ("1 prove 31", PROOF_OF_THREE),
+    ("1 node", TOP_OF_THREE),
 ];
 
 #[test]
