@@ -135,7 +135,12 @@ impl Large {
 fn is_shown<R: Threads + Wait + AllocGlobal + Sync>(rt: &R, large: &Large) -> Result<bool, Fail> {
     let numbers = large.numbers.as_slice();
     let script = script_of(rt.alloc(), numbers)?;
-    let answers = answers_of(rt.alloc(), numbers, large.text.as_str(), large.proof.as_str())?;
+    let answers = answers_of(
+        rt.alloc(),
+        numbers,
+        large.text.as_str(),
+        large.proof.as_str(),
+    )?;
     let words = ["mst", "run", "--rows", "2100", "--passes", "1"];
     let shown = writes(rt, &words, script.as_slice(), answers.as_slice())?;
     Ok(shown)

@@ -47,9 +47,9 @@ impl Asked {
     /// Whether this is written with ample memory.
     fn is_answered(self, out: &[u8]) -> bool {
         match self {
-            Asked::Script => out == ANSWERS,
+            Asked::Script => out == ANSWERS.as_bytes(),
             Asked::Replay => out == REPLIES.as_bytes(),
-            Asked::Proof => out == b"P1\n",
+            Asked::Proof => out == b"P1\n".as_slice(),
             Asked::Load => out.starts_with(b"events 3\nfalls 0\nroot "),
         }
     }
@@ -135,7 +135,7 @@ fn growths_are_refused<R: Abort + Threads + Wait + AllocGlobal + Sync>(
 
 #[test]
 fn growths_of_a_script_are_refused(rt: HostRuntime) {
-    growths_are_refused(&rt, Asked::Script, SCRIPT, 40);
+    growths_are_refused(&rt, Asked::Script, SCRIPT.as_bytes(), 40);
 }
 
 #[test]

@@ -1,9 +1,9 @@
 //! Texts that several tests have: scripts, events and reports, root digests, nodes and proofs.
 
 /// A script with a fault in it, and its answers.
-pub const SCRIPT: &[u8] = b"1 put 61 31\n2 get 61\n1 frob\n3 put 61 -\n4 get 61";
+pub const SCRIPT: &str = "1 put 61 31\n2 get 61\n1 frob\n3 put 61 -\n4 get 61";
 
-pub const ANSWERS: &[u8] = b"none\nsome 31\nfault L3\nsome 31\nsome -\n";
+pub const ANSWERS: &str = "none\nsome 31\nfault L3\nsome 31\nsome -\n";
 
 /// A pin through two publishes, as lines of a replay, and their answers.
 pub const EVENTS: &str = "passes 2

@@ -59,11 +59,7 @@ fn status_between<R: Threads + Wait + AllocGlobal + Sync>(
 }
 
 /// The words of a command, its input, and all that it answers.
-type Work = (
-    &'static [&'static str],
-    &'static [u8],
-    &'static [u8],
-);
+type Work = (&'static [&'static str], &'static str, &'static str);
 
 /// Whether a command comes to this status between such devices, and writes so many bytes of its
 /// answers, and `device` on standard error where the status tells that a device failed.
@@ -82,11 +78,11 @@ fn comes_to<R: Threads + Wait + AllocGlobal + Sync>(
     } = devices;
     let mut out = Writer::new(rt.alloc(), write_most, writes, by_zero);
     let mut err = Writer::new(rt.alloc(), 64, u64::MAX, false);
-    let ended = status_between(rt, words, input, devices, &mut out, &mut err);
+    let ended = status_between(rt, words, input.as_bytes(), devices, &mut out, &mut err);
     let told = if status == 3 { "device\n" } else { "" };
     ended == status
         && out.bytes.len() == count
-        && answers.starts_with(out.bytes.as_slice())
+        && answers.as_bytes().starts_with(out.bytes.as_slice())
         && err.bytes.as_slice() == told.as_bytes()
 }
 
@@ -169,8 +165,8 @@ fn writes_fail(rt: HostRuntime) {
 
 const REPLAY: Work = (
     &["mst", "replay"],
-    b"passes 2\npin 1\ntransfer\n",
-    b"records 4\nrecord 0\nrefused\n",
+    "passes 2\npin 1\ntransfer\n",
+    "records 4\nrecord 0\nrefused\n",
 );
 
 const OF_A_REPLAY: &[Case] = &[
@@ -191,11 +187,7 @@ fn devices_of_a_replay_fail(rt: HostRuntime) {
     each_comes_to(&rt, REPLAY, (8, 1), OF_A_REPLAY);
 }
 
-const VERIFY: Work = (
-    &["mst", "verify", ROOT_OF_NONE, "61"],
-    b"0100",
-    b"absent\n",
-);
+const VERIFY: Work = (&["mst", "verify", ROOT_OF_NONE, "61"], "0100", "absent\n");
 
 const OF_A_PROOF: &[Case] = &[
     (0, u64::MAX, 0, 3),
@@ -224,8 +216,8 @@ const LOAD: Work = (
         "--calls",
         "1",
     ],
-    b"",
-    ONE_CALL.as_bytes(),
+    "",
+    ONE_CALL,
 );
 
 // In each line, and between one and the next.
@@ -257,7 +249,7 @@ fn status_with_no_errors<R: Threads + Wait + AllocGlobal + Sync>(rt: &R, reads: 
     };
     let mut out = Writer::new(rt.alloc(), 64, u64::MAX, false);
     let mut err = Writer::new(rt.alloc(), 64, 0, false);
-    status_between(rt, RUN.0, SCRIPT, devices, &mut out, &mut err)
+    status_between(rt, RUN.0, SCRIPT.as_bytes(), devices, &mut out, &mut err)
 }
 
 // Where standard error fails too, the status still says so.

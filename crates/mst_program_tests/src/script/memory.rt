@@ -1,7 +1,7 @@
 //! Memory that is refused, one growth after another.
 ghost use Rattle.mst_script.specs.Serving.{AreAllOf};
 
-use super::run_over;
+use super::{dealt, opened, run_over};
 use crate::texts::{PROOF_OF_THREE, TOP_OF_THREE};
 use linked_list_allocator::LocalHeap;
 use mst_devices::{BytesSink, BytesSource};
@@ -56,11 +56,16 @@ fn judged(ran: Result<(), RunFault>, answers: &[u8], case: &Case<'_>) -> Option<
 }
 
 // How the case is answered where such a heap gives the memory of the run.
-fn answered_in(alloc: Global, bytes: usize, case: &Case<'_>) -> Result<Option<Answered>, Fail> {
+fn answered_in(
+    rt: &impl Abort,
+    alloc: Global,
+    bytes: usize,
+    case: &Case<'_>,
+) -> Result<Option<Answered>, Fail> {
     let heap = LocalHeap::new(alloc, bytes)?;
     let mut source = BytesSource::new(case.script);
     let mut sink = BytesSink::new(alloc, 512)?;
-    let ran = run_over(alloc, &heap, SHAPE, &mut source, &mut sink);
+    let ran = run_over(rt, alloc, &heap, SHAPE, &mut source, &mut sink);
     Ok(judged(ran, sink.bytes(), case))
 }
 
@@ -85,7 +90,7 @@ fn seen_in(
         whole: false,
     };
     for bytes in (first..last).step_by(step.max(1)) {
-        match answered_in(alloc, bytes, case)? {
+        match answered_in(rt, alloc, bytes, case)? {
             Some(Answered::Nothing) => seen.nothing = true,
             Some(Answered::Less) => seen.less = true,
             Some(Answered::Whole) => seen.whole = true,
@@ -214,12 +219,8 @@ fn starts_over(
 // Whether a run of so many passes starts where a heap of so many bytes gives its memory.
 fn starts_in(rt: &impl Abort, alloc: Global, bytes: usize, passes: u32) -> Result<bool, Fail> {
     let heap = LocalHeap::new(alloc, bytes)?;
-    let Ok((store, seats)) = Store::open(alloc, Shape { rows: 4, passes }) else {
-        panic!(rt; "no memory")
-    };
-    let Ok(mut passes) = store.deal(alloc, seats) else {
-        panic!(rt; "no memory")
-    };
+    let (store, seats) = opened(rt, alloc, Shape { rows: 4, passes });
+    let mut passes = dealt(rt, alloc, &store, seats);
     starts_over(rt, alloc, &heap, &store, &mut passes)
 }
 

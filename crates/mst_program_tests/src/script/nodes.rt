@@ -7,7 +7,7 @@ use std::test::Fail;
 #[test]
 fn empty_map_has_no_node(rt: HostRuntime) {
     let script = b"1 node\n1 prove 61\n1 rows";
-    assert!(rt; four_answer(rt.alloc(), script, b"empty\n0100\nrows 0\n"));
+    assert!(rt; four_answer(&rt, rt.alloc(), script, b"empty\n0100\nrows 0\n"));
 }
 
 const ONE_NODE: &[u8] =
@@ -19,7 +19,7 @@ const OF_ONE_NODE: &[u8] =
 // Keys of one layer stand in one node, so the proof of each answer is that node.
 #[test]
 fn one_node_proves_all(rt: HostRuntime) {
-    assert!(rt; four_answer(rt.alloc(), ONE_NODE, OF_ONE_NODE));
+    assert!(rt; four_answer(&rt, rt.alloc(), ONE_NODE, OF_ONE_NODE));
 }
 
 const THREE_PUTS: &str = "1 put 31 78\n1 put 61 7a\n1 put 3339 79\n";
@@ -34,6 +34,6 @@ fn proofs_go_down(rt: HostRuntime) -> Result<(), Fail> {
     let expected = format!(in rt.alloc();
         "none\nnone\nnone\n{TOP_OF_THREE}\n01010000004b{TOP_OF_THREE}\n01020000004b{TOP_OF_THREE}0000000a01000001000131017800\n01020000004b{TOP_OF_THREE}0000000a01000001000161017a00\n"
     )?;
-    assert!(rt; four_answer(rt.alloc(), script.as_bytes(), expected.as_bytes()));
+    assert!(rt; four_answer(&rt, rt.alloc(), script.as_bytes(), expected.as_bytes()));
     Ok(())
 }
