@@ -1,9 +1,8 @@
 //! A map of one node, whose text and whose proofs have more than 65,535 bytes: it is put line by
 //! line, shown, proved and listed, and the proof is verified.
-use mst_command::{Ending, execute, plain_task};
-use mst_devices::{BytesSink, BytesSource};
+use crate::outcomes::outcome_of;
+use mst_command::{DONE, plain_task};
 use mst_key::Key;
-use mst_load::Open;
 use mst_node::digest;
 use std::alloc::{AllocError, AllocGlobal, Global};
 use std::sync::Wait;
@@ -100,13 +99,11 @@ fn writes<R: Threads + Wait + AllocGlobal + Sync>(
     input: &[u8],
     output: &[u8],
 ) -> Result<bool, AllocError> {
-    let mut source = BytesSource::new(input);
-    let mut out = BytesSink::new(rt.alloc(), 1_000_000)?;
     let Some(task) = plain_task(words) else {
         return Ok(false);
     };
-    let ended = execute(rt, rt.alloc(), task, &Open, &mut source, &mut out);
-    Ok(matches!(ended, Ok(Ending::Done)) && out.bytes() == output)
+    let outcome = outcome_of(rt, rt.alloc(), task, input, 1_000_000)?;
+    Ok(outcome.status == DONE && outcome.out.as_slice() == output)
 }
 
 /// The map, its node, and the proof of each key: in hexadecimal, as the program writes them.
@@ -157,6 +154,13 @@ fn is_verified<R: Threads + Wait + AllocGlobal + Sync>(
     writes(rt, &words, large.proof.as_bytes(), verdict.as_bytes())
 }
 
+// Whether the value of the key 0000, which is 64 zeros, is said to be present.
+fn is_present<R: Threads + Wait + AllocGlobal + Sync>(rt: &R, large: &Large) -> Result<bool, Fail> {
+    let zeros = hex::encode(rt.alloc(), [0u8; 64].as_slice())?;
+    let present = format!(in rt.alloc(); "present {zeros}\n")?;
+    Ok(is_verified(rt, large, "0000", present.as_str())?)
+}
+
 #[test]
 fn a_node_of_a_thousand_keys(rt: HostRuntime) -> Result<(), Fail> {
     let large = Large::new(rt.alloc())?;
@@ -164,8 +168,6 @@ fn a_node_of_a_thousand_keys(rt: HostRuntime) -> Result<(), Fail> {
     assert!(rt; large.text.len() / 2 > 65_535);
     assert!(rt; is_shown(&rt, &large)?);
     assert!(rt; is_verified(&rt, &large, "ffff", "absent\n")?);
-    let zeros = hex::encode(rt.alloc(), [0u8; 64].as_slice())?;
-    let present = format!(in rt.alloc(); "present {zeros}\n")?;
-    assert!(rt; is_verified(&rt, &large, "0000", present.as_str())?);
+    assert!(rt; is_present(&rt, &large)?);
     Ok(())
 }

@@ -10,6 +10,8 @@ mod large;
 #[cfg(test)]
 mod memory;
 #[cfg(test)]
+mod outcomes;
+#[cfg(test)]
 mod pins;
 #[cfg(test)]
 mod program;

@@ -1,9 +1,8 @@
 //! Memory that is refused to each task, growth after growth.
+use crate::outcomes::{Outcome, outcome_of};
 use crate::texts::{ANSWERS, EVENTS, REPLIES, ROOT_OF_TWO, SCRIPT};
 use linked_list_allocator::LocalHeap;
-use mst_command::{DONE, Ending, Load, PROOF_REFUSED, Task, complain, execute};
-use mst_devices::{BytesSink, BytesSource};
-use mst_load::Open;
+use mst_command::{DONE, Load, PROOF_REFUSED, Task};
 use mst_store::Shape;
 use std::alloc::{AllocError, AllocGlobal};
 use std::process::Abort;
@@ -55,38 +54,17 @@ impl Asked {
     }
 }
 
-/// The exit status of a task, what it wrote, and how many bytes of its heap are still taken.
-#[derive(Drop)]
-struct Outcome {
-    status: u8,
-    out: Vec<u8>,
-    err: Vec<u8>,
-    kept: usize,
-}
-
-/// What a task over this input comes to in a heap of so many bytes.
+/// What a task over this input comes to in a heap of so many bytes, and how many of them are then
+/// still taken.
 fn outcome_in<R: Threads + Wait + AllocGlobal + Sync>(
     rt: &R,
     size: usize,
     task: Task<'_>,
     input: &[u8],
-) -> Result<Outcome, AllocError> {
-    let alloc = rt.alloc();
-    let heap = LocalHeap::new(alloc, size)?;
-    let mut source = BytesSource::new(input);
-    let mut out = BytesSink::new(alloc, 256)?;
-    let mut err = BytesSink::new(alloc, 64)?;
-    let status = match execute(rt, &heap, task, &Open, &mut source, &mut out) {
-        Ok(Ending::Done) => DONE,
-        Ok(Ending::ProofRefused) => PROOF_REFUSED,
-        Err(why) => complain(&mut err, &why),
-    };
-    Ok(Outcome {
-        status,
-        out: out.bytes().to_vec(alloc)?,
-        err: err.bytes().to_vec(alloc)?,
-        kept: heap.used(),
-    })
+) -> Result<(Outcome, usize), AllocError> {
+    let heap = LocalHeap::new(rt.alloc(), size)?;
+    let outcome = outcome_of(rt, &heap, task, input, 256)?;
+    Ok((outcome, heap.used()))
 }
 
 /// Whether a heap of so many bytes serves, and not only refuses memory, which is told and changes
@@ -97,14 +75,14 @@ fn serves<R: Threads + Wait + AllocGlobal + Sync>(
     asked: Asked,
     input: &[u8],
 ) -> Option<bool> {
-    let outcome = outcome_in(rt, size, asked.task(), input).ok()?;
+    let (outcome, kept) = outcome_in(rt, size, asked.task(), input).ok()?;
     let is_whole = outcome.status == asked.status()
         && asked.is_answered(outcome.out.as_slice())
         && outcome.err.is_empty();
     let is_refused = outcome.status == 4
         && outcome.out.is_empty()
         && outcome.err.as_slice() == b"memory\n".as_slice();
-    if outcome.kept == 0 && is_whole != is_refused {
+    if kept == 0 && is_whole != is_refused {
         Some(is_whole)
     } else {
         None

@@ -3,6 +3,7 @@ mod interleavings;
 
 use linked_list_allocator::LocalHeap;
 use mst_pin::{Answer, Core, Event};
+use std::alloc::Global;
 use std::process::Abort;
 use std::test::Fail;
 
@@ -89,6 +90,16 @@ fn many_pins_of_one_record(rt: HostRuntime) {
     a_new_core_answers(&rt, 2, MANY_PINS);
 }
 
+/// Whether a small heap refuses the memory for the answers to many events, and what that prints.
+fn is_refused(rt: &impl Abort, alloc: Global, core: &mut Core) -> Result<bool, Fail> {
+    let wide = [Event::Transfer; 64];
+    let heap = LocalHeap::new(alloc, 32)?;
+    assert!(rt; core.run(&heap, &wide).is_err());
+    let refused = core.run(&heap, &wide).err().ok_or("too much for the heap")?;
+    let shown = format!(in alloc; "{refused}")?;
+    Ok(shown.as_str() == "memory")
+}
+
 #[test]
 fn memory_is_taken_before_the_first_event(rt: HostRuntime) -> Result<(), Fail> {
     let events = [
@@ -97,15 +108,8 @@ fn memory_is_taken_before_the_first_event(rt: HostRuntime) -> Result<(), Fail> {
         Event::Transfer,
         Event::Ask(0),
     ];
-    let wide = [Event::Transfer; 64];
     let mut core = Core::new(1).ok_or("1 to 32 passes")?;
-    {
-        let heap = LocalHeap::new(rt.alloc(), 32)?;
-        assert!(rt; core.run(&heap, &wide).is_err());
-        let refused = core.run(&heap, &wide).err().ok_or("too much for the heap")?;
-        let shown = format!(in rt.alloc(); "{refused}")?;
-        assert_eq!(rt; shown.as_str(), "memory");
-    }
+    assert!(rt; is_refused(&rt, rt.alloc(), &mut core)?);
     let heap = LocalHeap::new(rt.alloc(), 1024)?;
     let answers = core.run(&heap, &events)?;
     let expected = [Answer::Record(0), Answer::Done, Answer::Done, Answer::No];

@@ -7,6 +7,7 @@ mod replays;
 mod scripts;
 mod words;
 
+use crate::outcomes::Outcome;
 use mst_devices::{BytesSink, BytesSource};
 use mst_load::{Gate, Open};
 use mst_program::command;
@@ -14,14 +15,6 @@ use std::alloc::{AllocError, AllocGlobal};
 use std::process::Abort;
 use std::sync::Wait;
 use std::thread::Threads;
-
-/// The exit status of a program, and what it wrote.
-#[derive(Drop)]
-struct Outcome {
-    status: u8,
-    out: Vec<u8>,
-    err: Vec<u8>,
-}
 
 /// Whether a program came to this status, with this text on each of the two outputs.
 fn is_outcome(outcome: &Outcome, status: u8, out: &str, err: &str) -> bool {
