@@ -119,6 +119,3 @@ impl Core {
         Ok(answers)
     }
 }
-
-#[cfg(test)]
-mod tests;

@@ -1,12 +1,10 @@
 //! A map of one node, whose text and whose proofs have more than 65,535 bytes: it is put line by
 //! line, shown, proved and listed, and the proof is verified.
-use mst_command::{Ending, Refusal, execute, plain_task};
-use mst_devices::{BytesSink, BytesSource};
+use crate::outcomes::outcome_of;
+use mst_command::{DONE, plain_task};
 use mst_key::Key;
-use mst_load::Open;
 use mst_node::digest;
-use std::alloc::{AllocGlobal, Global};
-use std::process::Abort;
+use std::alloc::{AllocError, AllocGlobal, Global};
 use std::sync::Wait;
 use std::test::Fail;
 use std::thread::Threads;
@@ -93,49 +91,83 @@ fn answers_of(
     Ok(answers)
 }
 
-// What the program of these words, which are of a plain form, wrote, if it did what they ask for.
-fn output_of<R: Threads + Wait + AllocGlobal + Sync>(
+// Whether the program of these words, which are of a plain form, does what they ask for, and writes
+// this.
+fn writes<R: Threads + Wait + AllocGlobal + Sync>(
     rt: &R,
     words: &[&str],
     input: &[u8],
-) -> Result<Vec<u8>, Fail> {
-    let alloc = rt.alloc();
-    let mut source = BytesSource::new(input);
-    let mut out = BytesSink::new(alloc, 1_000_000)?;
+    output: &[u8],
+) -> Result<bool, AllocError> {
     let Some(task) = plain_task(words) else {
-        return Err("words of no plain form".into());
+        return Ok(false);
     };
-    match execute(rt, alloc, task, &Open, &mut source, &mut out) {
-        Ok(Ending::Done) => Ok(out.bytes().to_vec(alloc)?),
-        Ok(Ending::ProofRefused) => Err("a proof was refused".into()),
-        Err(Refusal::Memory) => Err("memory was refused".into()),
-        Err(_) => Err("the program ended early".into()),
+    let outcome = outcome_of(rt, rt.alloc(), task, input, 1_000_000)?;
+    Ok(outcome.status == DONE && outcome.out.as_slice() == output)
+}
+
+/// The map, its node, and the proof of each key: in hexadecimal, as the program writes them.
+#[derive(Drop)]
+struct Large {
+    numbers: Vec<[u8; 2]>,
+    text: String,
+    root: String,
+    proof: String,
+}
+
+impl Large {
+    fn new(alloc: Global) -> Result<Large, Fail> {
+        let numbers = numbers(alloc)?;
+        let node = node_text(alloc, numbers.as_slice())?;
+        Ok(Large {
+            numbers,
+            text: hex::encode(alloc, node.as_slice())?,
+            root: hex::encode(alloc, digest(node.as_slice()).as_slice())?,
+            proof: hex::encode(alloc, proof_of(alloc, node.as_slice())?.as_slice())?,
+        })
     }
+}
+
+// Whether the map is put, shown, proved and listed.
+fn is_shown<R: Threads + Wait + AllocGlobal + Sync>(rt: &R, large: &Large) -> Result<bool, Fail> {
+    let numbers = large.numbers.as_slice();
+    let script = script_of(rt.alloc(), numbers)?;
+    let answers = answers_of(
+        rt.alloc(),
+        numbers,
+        large.text.as_str(),
+        large.proof.as_str(),
+    )?;
+    let words = ["mst", "run", "--rows", "2100", "--passes", "1"];
+    let shown = writes(rt, &words, script.as_slice(), answers.as_slice())?;
+    Ok(shown)
+}
+
+// Whether this is said of the proof for a key.
+fn is_verified<R: Threads + Wait + AllocGlobal + Sync>(
+    rt: &R,
+    large: &Large,
+    key: &str,
+    verdict: &str,
+) -> Result<bool, AllocError> {
+    let words = ["mst", "verify", large.root.as_str(), key];
+    writes(rt, &words, large.proof.as_bytes(), verdict.as_bytes())
+}
+
+// Whether the value of the key 0000, which is 64 zeros, is said to be present.
+fn is_present<R: Threads + Wait + AllocGlobal + Sync>(rt: &R, large: &Large) -> Result<bool, Fail> {
+    let zeros = hex::encode(rt.alloc(), [0u8; 64].as_slice())?;
+    let present = format!(in rt.alloc(); "present {zeros}\n")?;
+    Ok(is_verified(rt, large, "0000", present.as_str())?)
 }
 
 #[test]
 fn a_node_of_a_thousand_keys(rt: HostRuntime) -> Result<(), Fail> {
-    let alloc = rt.alloc();
-    let numbers = numbers(alloc)?;
-    let numbers = numbers.as_slice();
-    assert!(rt; numbers.len() == usize::from(COUNT));
-    let node = node_text(alloc, numbers)?;
-    assert!(rt; node.len() > 65_535);
-    let text = hex::encode(alloc, node.as_slice())?;
-    let root = hex::encode(alloc, digest(node.as_slice()).as_slice())?;
-    let proof = hex::encode(alloc, proof_of(alloc, node.as_slice())?.as_slice())?;
-    let script = script_of(alloc, numbers)?;
-    let words = ["mst", "run", "--rows", "2100", "--passes", "1"];
-    let output = output_of(&rt, &words, script.as_slice())?;
-    let answers = answers_of(alloc, numbers, text.as_str(), proof.as_str())?;
-    assert!(rt; output.as_slice() == answers.as_slice());
-    let words = ["mst", "verify", root.as_str(), "ffff"];
-    let verdict = output_of(&rt, &words, proof.as_bytes())?;
-    assert!(rt; verdict.as_slice() == b"absent\n".as_slice());
-    let words = ["mst", "verify", root.as_str(), "0000"];
-    let verdict = output_of(&rt, &words, proof.as_bytes())?;
-    let zeros = hex::encode(alloc, [0u8; 64].as_slice())?;
-    let present = format!(in alloc; "present {zeros}\n")?;
-    assert!(rt; verdict.as_slice() == present.as_bytes());
+    let large = Large::new(rt.alloc())?;
+    assert!(rt; large.numbers.len() == usize::from(COUNT));
+    assert!(rt; large.text.len() / 2 > 65_535);
+    assert!(rt; is_shown(&rt, &large)?);
+    assert!(rt; is_verified(&rt, &large, "ffff", "absent\n")?);
+    assert!(rt; is_present(&rt, &large)?);
     Ok(())
 }

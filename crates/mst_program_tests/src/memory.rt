@@ -1,159 +1,146 @@
-//! Memory that is refused to a script, to a replay and to a proof, growth after growth.
+//! Memory that is refused to each task, growth after growth.
+use crate::outcomes::{Outcome, outcome_of};
+use crate::texts::{ANSWERS, EVENTS, REPLIES, ROOT_OF_TWO, SCRIPT};
 use linked_list_allocator::LocalHeap;
-use mst_command::{DONE, Ending, Refusal, Task, complain, execute};
-use mst_devices::{BytesSink, BytesSource};
-use mst_load::Open;
+use mst_command::{DONE, Load, PROOF_REFUSED, Task};
 use mst_store::Shape;
-use std::alloc::AllocGlobal;
+use std::alloc::{AllocError, AllocGlobal};
+use std::process::Abort;
 use std::sync::Wait;
 use std::test::Fail;
 use std::thread::Threads;
 
-const SCRIPT: &[u8] = b"1 put 61 31\n2 get 61\n1 frob\n3 put 61 -\n4 get 61";
-
-const ANSWERS: &[u8] = b"none\nsome 31\nfault L3\nsome 31\nsome -\n";
-
-// A heap of each size: too small for one growth after another, and then large enough for all.
-#[test]
-fn growths_are_refused(rt: HostRuntime) -> Result<(), Fail> {
-    let shape = Shape { rows: 4, passes: 4 };
-    let mut was_short = false;
-    let mut was_enough = false;
-    for step in 0..40 {
-        let heap = LocalHeap::new(rt.alloc(), 64 + 4_096 * step)?;
-        let mut source = BytesSource::new(SCRIPT);
-        let mut out = BytesSink::new(rt.alloc(), 64)?;
-        let mut err = BytesSink::new(rt.alloc(), 64)?;
-        match execute(&rt, &heap, Task::Run(shape), &Open, &mut source, &mut out) {
-            Ok(ending) => {
-                was_enough = true;
-                assert!(rt; ending == Ending::Done);
-                assert_eq!(rt; out.bytes(), ANSWERS);
-            }
-            Err(why) => {
-                was_short = true;
-                assert!(rt; matches!(&why, Refusal::Memory));
-                assert_eq!(rt; out.bytes().len(), 0);
-                assert_eq!(rt; complain(&mut err, &why), 4);
-                assert_eq!(rt; err.bytes(), b"memory\n".as_slice());
-                assert!(rt; !was_enough);
-            }
-        }
-    }
-    assert!(rt; was_short && was_enough);
-    Ok(())
+/// What a test asks for.
+#[derive(Clone, Copy)]
+enum Asked {
+    Script,
+    Replay,
+    Proof,
+    Load,
 }
 
-const EVENTS: &str = "passes 2
-pin 1
-publish 1 0
-ask 0
-unpin 1
-transfer
-ask 0
-pin 1
-publish 2 1
-transfer
-ask 1
-write 0
-unpin 1
-ask 1
-write 0
-write 1
-";
-
-const REPLIES: &str = "records 4
-record 0
-done
-refused
-done
-done
-yes
-record 1
-done
-done
-no
-refused
-done
-yes
-done
-refused
-";
-
-// A heap of each size: too small for one growth after another, and then large enough for all.
-#[test]
-fn growths_of_a_replay_are_refused(rt: HostRuntime) -> Result<(), Fail> {
-    let mut was_short = false;
-    let mut was_enough = false;
-    for step in 0..40 {
-        let heap = LocalHeap::new(rt.alloc(), 64 + 4_096 * step)?;
-        let mut source = BytesSource::new(EVENTS.as_bytes());
-        let mut out = BytesSink::new(rt.alloc(), 256)?;
-        match execute(&rt, &heap, Task::Replay, &Open, &mut source, &mut out) {
-            Ok(ending) => {
-                was_enough = true;
-                assert!(rt; ending == Ending::Done);
-                assert_eq!(rt; out.bytes(), REPLIES.as_bytes());
-            }
-            Err(why) => {
-                was_short = true;
-                assert!(rt; matches!(&why, Refusal::Memory));
-                assert_eq!(rt; out.bytes().len(), 0);
-                assert!(rt; !was_enough);
-            }
+impl Asked {
+    // A load makes few calls, so that the list of what they leave takes no more than the lists of
+    // passes and threads.
+    fn task(self) -> Task<'static> {
+        match self {
+            Asked::Script => Task::Run(Shape { rows: 4, passes: 4 }),
+            Asked::Replay => Task::Replay,
+            Asked::Proof => Task::Verify(ROOT_OF_TWO, "62"),
+            Asked::Load => Task::Load(Load {
+                readers: 2,
+                writers: 1,
+                calls: 3,
+            }),
         }
     }
-    assert!(rt; was_short && was_enough);
-    Ok(())
+
+    /// The exit status with ample memory.
+    fn status(self) -> u8 {
+        match self {
+            Asked::Proof => PROOF_REFUSED,
+            _ => DONE,
+        }
+    }
+
+    /// Whether this is written with ample memory.
+    fn is_answered(self, out: &[u8]) -> bool {
+        match self {
+            Asked::Script => out == ANSWERS.as_bytes(),
+            Asked::Replay => out == REPLIES.as_bytes(),
+            Asked::Proof => out == b"P1\n".as_slice(),
+            Asked::Load => out.starts_with(b"events 3\nfalls 0\nroot "),
+        }
+    }
 }
 
-/// The root digest of the map of `a` and `abc`, with the values `1` and `x`.
-const TWO: &str = "d4a8a9fc55058427163bd8a1f09ca5ec542de1cdaf28df100be5472e47b72503";
-
-/// The status of a proof that is verified in a heap of so many bytes, and what was written.
+/// What a task over this input comes to in a heap of so many bytes, and how many of them are then
+/// still taken.
 fn outcome_in<R: Threads + Wait + AllocGlobal + Sync>(
     rt: &R,
     size: usize,
-    text: &[u8],
-) -> Result<(u8, Vec<u8>), Fail> {
-    let alloc = rt.alloc();
-    let heap = LocalHeap::new(alloc, size)?;
-    let mut source = BytesSource::new(text);
-    let mut out = BytesSink::new(alloc, 64)?;
-    let mut err = BytesSink::new(alloc, 64)?;
-    let status = match execute(
-        rt,
-        &heap,
-        Task::Verify(TWO, "62"),
-        &Open,
-        &mut source,
-        &mut out,
-    ) {
-        Ok(_) => DONE,
-        Err(why) => complain(&mut err, &why),
-    };
-    Ok((status, out.bytes().to_vec(alloc)?))
+    task: Task<'_>,
+    input: &[u8],
+) -> Result<(Outcome, usize), AllocError> {
+    let heap = LocalHeap::new(rt.alloc(), size)?;
+    let outcome = outcome_of(rt, &heap, task, input, 256)?;
+    Ok((outcome, heap.used()))
 }
 
-// A heap of each size: too small for one growth after another, and then large enough for all.
+/// Whether a heap of so many bytes serves, and not only refuses memory, which is told and changes
+/// nothing. None where it comes to anything else, or something of it is still taken.
+fn serves<R: Threads + Wait + AllocGlobal + Sync>(
+    rt: &R,
+    size: usize,
+    asked: Asked,
+    input: &[u8],
+) -> Option<bool> {
+    let (outcome, kept) = outcome_in(rt, size, asked.task(), input).ok()?;
+    let is_whole = outcome.status == asked.status()
+        && asked.is_answered(outcome.out.as_slice())
+        && outcome.err.is_empty();
+    let is_refused = outcome.status == 4
+        && outcome.out.is_empty()
+        && outcome.err.as_slice() == b"memory\n".as_slice();
+    if kept == 0 && is_whole != is_refused {
+        Some(is_whole)
+    } else {
+        None
+    }
+}
+
+/// A heap of each of so many sizes: too small for one growth after another, and then large enough
+/// for all.
+fn growths_are_refused<R: Abort + Threads + Wait + AllocGlobal + Sync>(
+    rt: &R,
+    asked: Asked,
+    input: &[u8],
+    sizes: u8,
+) {
+    let mut was_short = false;
+    let mut was_enough = false;
+    for step in 0..sizes {
+        let served = serves(rt, 64 + 4_096 * usize::from(step), asked, input);
+        assert!(rt; served == Some(true) || served == Some(false) && !was_enough);
+        if served == Some(true) {
+            was_enough = true;
+        } else {
+            was_short = true;
+        }
+    }
+    assert!(rt; was_short && was_enough);
+}
+
+#[test]
+fn growths_of_a_script_are_refused(rt: HostRuntime) {
+    growths_are_refused(&rt, Asked::Script, SCRIPT.as_bytes(), 40);
+}
+
+#[test]
+fn growths_of_a_replay_are_refused(rt: HostRuntime) {
+    growths_are_refused(&rt, Asked::Replay, EVENTS.as_bytes(), 40);
+}
+
 #[test]
 fn growths_of_a_proof_are_refused(rt: HostRuntime) -> Result<(), Fail> {
     let mut text = Vec::new(rt.alloc());
     text.resize(40_000, b'0')?;
-    let mut was_short = false;
-    let mut was_enough = false;
-    for step in 0..60 {
-        let (status, written) = outcome_in(&rt, 64 + 4_096 * step, text.as_slice())?;
-        if status == DONE {
-            was_enough = true;
-            assert_eq!(rt; written.as_slice(), b"P1\n".as_slice());
-        } else {
-            was_short = true;
-            assert_eq!(rt; status, 4);
-            assert_eq!(rt; written.len(), 0);
-            assert!(rt; !was_enough);
-        }
-    }
-    assert!(rt; was_short && was_enough);
+    growths_are_refused(&rt, Asked::Proof, text.as_slice(), 60);
     Ok(())
+}
+
+// It ends with the first heap that is large enough for all.
+#[test]
+fn each_growth_of_a_load_is_refused(rt: HostRuntime) {
+    let mut was_short = false;
+    for units in 1..512usize {
+        let served = serves(&rt, units * 64, Asked::Load, b"");
+        assert!(rt; served.is_some(), "in {units} times 64 bytes");
+        if served == Some(true) {
+            assert!(rt; was_short);
+            return;
+        }
+        was_short = true;
+    }
+    panic!(rt; "no heap was large enough")
 }

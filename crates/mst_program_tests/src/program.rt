@@ -1,5 +1,4 @@
-//! What no clause of the program says: whole scripts, the texts for the user, and devices that
-//! fail.
+//! The program by its words: whole scripts, the texts for the user, and devices that fail.
 mod failures;
 mod loads;
 mod progress;
@@ -8,22 +7,14 @@ mod replays;
 mod scripts;
 mod words;
 
+use crate::outcomes::Outcome;
 use mst_devices::{BytesSink, BytesSource};
 use mst_load::{Gate, Open};
 use mst_program::command;
 use std::alloc::{AllocError, AllocGlobal};
 use std::process::Abort;
 use std::sync::Wait;
-use std::test::Fail;
 use std::thread::Threads;
-
-/// The exit status of a program, and what it wrote.
-#[derive(Drop)]
-struct Outcome {
-    status: u8,
-    out: Vec<u8>,
-    err: Vec<u8>,
-}
 
 /// Whether a program came to this status, with this text on each of the two outputs.
 fn is_outcome(outcome: &Outcome, status: u8, out: &str, err: &str) -> bool {
@@ -86,11 +77,11 @@ fn each_comes_to<R: Abort + Threads + Wait + AllocGlobal + Sync>(
     rt: &R,
     input: &[u8],
     rows: &[(&str, u8, &str, &str)],
-) -> Result<(), Fail> {
+) {
     for (line, status, out, err) in rows {
-        assert!(rt; comes_to(rt, line, input, *status, out, err)?, "in {line}");
+        let came = comes_to(rt, line, input, *status, out, err);
+        assert!(rt; matches!(came, Ok(true)), "in {line}");
     }
-    Ok(())
 }
 
 /// Runs the program on each line of words over the input beside it, and compares what it wrote,
@@ -98,10 +89,9 @@ fn each_comes_to<R: Abort + Threads + Wait + AllocGlobal + Sync>(
 fn each_answers<R: Abort + Threads + Wait + AllocGlobal + Sync>(
     rt: &R,
     rows: &[(&str, &str, &str)],
-) -> Result<(), Fail> {
+) {
     for (line, input, answers) in rows {
-        let is_right = comes_to(rt, line, input.as_bytes(), 0, answers, "")?;
-        assert!(rt; is_right, "{line} over {input}");
+        let came = comes_to(rt, line, input.as_bytes(), 0, answers, "");
+        assert!(rt; matches!(came, Ok(true)), "{line} over {input}");
     }
-    Ok(())
 }

@@ -3,15 +3,9 @@
 mod memory;
 mod overlap;
 
+use crate::texts::ONE_CALL;
 use mst_load::{Open, Report, load};
 use std::test::Fail;
-
-// The digest is the SHA-256 of the text of the node that has the key 0101 with the value 00000001.
-const ONE_CALL: &str = "events 1
-falls 0
-root d67d0c748b5dfcf53175350f0cc336e4b706fbc761243e4b7056b5b010063223
-built d67d0c748b5dfcf53175350f0cc336e4b706fbc761243e4b7056b5b010063223
-";
 
 #[test]
 fn a_load_comes_to_the_map_that_its_calls_leave(rt: HostRuntime) -> Result<(), Fail> {

@@ -1,6 +1,6 @@
 //! Loads: what is reported, numbers out of range, and words that are refused.
 use super::each_comes_to;
-use std::test::Fail;
+use crate::texts::ONE_CALL;
 
 /// The report of two writers that make 1,000 calls each. The digest was computed apart from the
 /// program, of the map that these calls leave.
@@ -8,14 +8,6 @@ const TWO_WRITERS: &str = "events 2000
 falls 0
 root ff477271f5f4cfa7df2b76a1e09ed4502155b09e632811107c463f3ac731ba33
 built ff477271f5f4cfa7df2b76a1e09ed4502155b09e632811107c463f3ac731ba33
-";
-
-/// The report of one writer that makes one call. The digest is the SHA-256 of the text of the node
-/// that has the key 0101 with the value 00000001.
-const ONE_CALL: &str = "events 1
-falls 0
-root d67d0c748b5dfcf53175350f0cc336e4b706fbc761243e4b7056b5b010063223
-built d67d0c748b5dfcf53175350f0cc336e4b706fbc761243e4b7056b5b010063223
 ";
 
 /// The report of eight writers that make one call each, with a digest that was computed apart from
@@ -29,109 +21,105 @@ built 753e94d5429eea012fc882d05f6cc60f5569dc2a50236500dfe4d8bcf34df486
 /// What the program is given to read, and does not.
 const INPUT: &[u8] = b"1 get 61\n";
 
+const REPORTED: &[(&str, u8, &str, &str)] = &[
+    (
+        "mst load --readers 4 --writers 2 --calls 1000",
+        0,
+        TWO_WRITERS,
+        "",
+    ),
+    (
+        "mst load --readers 1 --writers 1 --calls 1",
+        0,
+        ONE_CALL,
+        "",
+    ),
+    (
+        "mst load --readers +1 --writers 01 --calls 1",
+        0,
+        ONE_CALL,
+        "",
+    ),
+    (
+        "mst load --readers 24 --writers 8 --calls 1",
+        0,
+        EIGHT_WRITERS,
+        "",
+    ),
+];
+
 #[test]
-fn loads_are_reported(rt: HostRuntime) -> Result<(), Fail> {
-    each_comes_to(
-        &rt,
-        INPUT,
-        &[
-            (
-                "mst load --readers 4 --writers 2 --calls 1000",
-                0,
-                TWO_WRITERS,
-                "",
-            ),
-            (
-                "mst load --readers 1 --writers 1 --calls 1",
-                0,
-                ONE_CALL,
-                "",
-            ),
-            (
-                "mst load --readers +1 --writers 01 --calls 1",
-                0,
-                ONE_CALL,
-                "",
-            ),
-            (
-                "mst load --readers 24 --writers 8 --calls 1",
-                0,
-                EIGHT_WRITERS,
-                "",
-            ),
-        ],
-    )
+fn loads_are_reported(rt: HostRuntime) {
+    each_comes_to(&rt, INPUT, REPORTED);
 }
+
+const OUT_OF_RANGE: &[(&str, u8, &str, &str)] = &[
+    (
+        "mst load --readers 0 --writers 1 --calls 1",
+        2,
+        "",
+        "shape\n",
+    ),
+    (
+        "mst load --readers 25 --writers 1 --calls 1",
+        2,
+        "",
+        "shape\n",
+    ),
+    (
+        "mst load --readers 1 --writers 0 --calls 1",
+        2,
+        "",
+        "shape\n",
+    ),
+    (
+        "mst load --readers 1 --writers 9 --calls 1",
+        2,
+        "",
+        "shape\n",
+    ),
+    (
+        "mst load --readers 1 --writers 1 --calls 0",
+        2,
+        "",
+        "shape\n",
+    ),
+    (
+        "mst load --readers 1 --writers 1 --calls 100001",
+        2,
+        "",
+        "shape\n",
+    ),
+    (
+        "mst load --readers 4294967295 --writers 1 --calls 1",
+        2,
+        "",
+        "shape\n",
+    ),
+    (
+        "mst load --readers 1 --writers 4294967295 --calls 1",
+        2,
+        "",
+        "shape\n",
+    ),
+    (
+        "mst load --readers 1 --writers 1 --calls 4294967295",
+        2,
+        "",
+        "shape\n",
+    ),
+    (
+        "mst load --readers 8 --writers 24 --calls 1",
+        2,
+        "",
+        "shape\n",
+    ),
+];
 
 // Each number one below and one above its range, and far above.
 #[test]
-fn numbers_out_of_range(rt: HostRuntime) -> Result<(), Fail> {
-    each_comes_to(
-        &rt,
-        INPUT,
-        &[
-            (
-                "mst load --readers 0 --writers 1 --calls 1",
-                2,
-                "",
-                "shape\n",
-            ),
-            (
-                "mst load --readers 25 --writers 1 --calls 1",
-                2,
-                "",
-                "shape\n",
-            ),
-            (
-                "mst load --readers 1 --writers 0 --calls 1",
-                2,
-                "",
-                "shape\n",
-            ),
-            (
-                "mst load --readers 1 --writers 9 --calls 1",
-                2,
-                "",
-                "shape\n",
-            ),
-            (
-                "mst load --readers 1 --writers 1 --calls 0",
-                2,
-                "",
-                "shape\n",
-            ),
-            (
-                "mst load --readers 1 --writers 1 --calls 100001",
-                2,
-                "",
-                "shape\n",
-            ),
-            (
-                "mst load --readers 4294967295 --writers 1 --calls 1",
-                2,
-                "",
-                "shape\n",
-            ),
-            (
-                "mst load --readers 1 --writers 4294967295 --calls 1",
-                2,
-                "",
-                "shape\n",
-            ),
-            (
-                "mst load --readers 1 --writers 1 --calls 4294967295",
-                2,
-                "",
-                "shape\n",
-            ),
-            (
-                "mst load --readers 8 --writers 24 --calls 1",
-                2,
-                "",
-                "shape\n",
-            ),
-        ],
-    )
+fn numbers_out_of_range(rt: HostRuntime) {
+    each_comes_to(&rt, INPUT, OUT_OF_RANGE);
 }
 
 const LOAD_HELP: &str = "Lets threads read and write one store at once, and reports what they left
@@ -181,41 +169,39 @@ Usage: mst load --readers <N> --writers <N> --calls <N>
 For more information, try '--help'.
 ";
 
+const WORDS: &[(&str, u8, &str, &str)] = &[
+    (
+        "mst load --calls 1 --writers=1 --readers 1",
+        0,
+        ONE_CALL,
+        "",
+    ),
+    ("mst load --help", 0, LOAD_HELP, ""),
+    ("mst load", 2, "", NO_NUMBERS),
+    ("mst load --readers 4 --writers 2", 2, "", NO_CALLS),
+    (
+        "mst load --readers x --writers 2 --calls 1",
+        2,
+        "",
+        NO_NUMBER,
+    ),
+    (
+        "mst load --readers 1 --writers 2 --calls 4294967296",
+        2,
+        "",
+        TOO_LARGE,
+    ),
+    (
+        "mst load --readers 1 --writers 1 --calls 1 extra",
+        2,
+        "",
+        EXTRA_WORD,
+    ),
+    ("mst load extra", 2, "", EXTRA_WORD),
+];
+
 // The words, the status, and what stands on the two outputs.
 #[test]
-fn words_of_a_load_are_read(rt: HostRuntime) -> Result<(), Fail> {
-    each_comes_to(
-        &rt,
-        INPUT,
-        &[
-            (
-                "mst load --calls 1 --writers=1 --readers 1",
-                0,
-                ONE_CALL,
-                "",
-            ),
-            ("mst load --help", 0, LOAD_HELP, ""),
-            ("mst load", 2, "", NO_NUMBERS),
-            ("mst load --readers 4 --writers 2", 2, "", NO_CALLS),
-            (
-                "mst load --readers x --writers 2 --calls 1",
-                2,
-                "",
-                NO_NUMBER,
-            ),
-            (
-                "mst load --readers 1 --writers 2 --calls 4294967296",
-                2,
-                "",
-                TOO_LARGE,
-            ),
-            (
-                "mst load --readers 1 --writers 1 --calls 1 extra",
-                2,
-                "",
-                EXTRA_WORD,
-            ),
-            ("mst load extra", 2, "", EXTRA_WORD),
-        ],
-    )
+fn words_of_a_load_are_read(rt: HostRuntime) {
+    each_comes_to(&rt, INPUT, WORDS);
 }

@@ -62,38 +62,41 @@ fn lines_of(alloc: Global, calls: u32) -> (u64, u64) {
     )
 }
 
+const CALLS_AND_LINES: &[(u32, u64)] = &[
+    (0, 0),
+    (1, 0),
+    (9_999, 0),
+    (10_000, 1),
+    (10_001, 1),
+    (19_999, 1),
+    (20_000, 2),
+    (30_000, 3),
+];
+
 #[test]
 fn each_ten_thousandth_call_is_told(rt: HostRuntime) {
-    for (calls, lines) in [
-        (0, 0),
-        (1, 0),
-        (9_999, 0),
-        (10_000, 1),
-        (10_001, 1),
-        (19_999, 1),
-        (20_000, 2),
-        (30_000, 3),
-    ] {
-        let (told, right) = lines_of(rt.alloc(), calls);
-        assert!(rt; told == lines && right == lines, "of {calls} calls");
+    for (calls, lines) in CALLS_AND_LINES {
+        let (told, right) = lines_of(rt.alloc(), *calls);
+        assert!(rt; told == *lines && right == *lines, "of {calls} calls");
     }
 }
+
+const WORDS: &[&str] = &[
+    "mst",
+    "load",
+    "--readers",
+    "2",
+    "--writers",
+    "1",
+    "--calls",
+    "10000",
+];
 
 // The calls of all workers count, and nothing comes to the sink for standard error.
 #[test]
 fn a_load_tells_its_calls(rt: HostRuntime) -> Result<(), Fail> {
     let progress = Progress::new(Lines::new(rt.alloc()));
-    let words = [
-        "mst",
-        "load",
-        "--readers",
-        "2",
-        "--writers",
-        "1",
-        "--calls",
-        "10000",
-    ];
-    let outcome = outcome_behind(&rt, words.as_slice(), b"", &progress)?;
+    let outcome = outcome_behind(&rt, WORDS, b"", &progress)?;
     let told = progress.errors.told.load(SeqCst);
     assert!(rt; outcome.status == 0 && outcome.err.len() == 0 && told == 3);
     Ok(())

@@ -1,9 +1,9 @@
 //! The words of the command line, and what the user is told.
 use super::{comes_to, each_comes_to, verify_comes_to};
-use std::alloc::AllocGlobal;
+use crate::texts::ROOT_OF_NONE;
+use std::alloc::{AllocError, AllocGlobal};
 use std::process::Abort;
 use std::sync::Wait;
-use std::test::Fail;
 use std::thread::Threads;
 
 const HELP: &str = "A map of short keys to short values, shared by several passes
@@ -129,130 +129,127 @@ For more information, try '--help'.
 /// What the program is given to read: one get.
 const INPUT: &[u8] = b"1 get 61\n";
 
+const READ: &[(&str, u8, &str, &str)] = &[
+    ("mst run", 0, "none\n", ""),
+    ("mst run --rows 4", 0, "none\n", ""),
+    ("mst run --rows=65535 --passes=32", 0, "none\n", ""),
+    ("mst run --passes 1", 0, "none\n", ""),
+    ("mst run --passes +1", 0, "none\n", ""),
+    ("mst run --rows 0004", 0, "none\n", ""),
+    ("mst replay", 0, "fault line\n", ""),
+];
+
 // The words, the status, and what stands on the two outputs.
 #[test]
-fn words_are_read(rt: HostRuntime) -> Result<(), Fail> {
-    each_comes_to(
-        &rt,
-        INPUT,
-        &[
-            ("mst run", 0, "none\n", ""),
-            ("mst run --rows 4", 0, "none\n", ""),
-            ("mst run --rows=65535 --passes=32", 0, "none\n", ""),
-            ("mst run --passes 1", 0, "none\n", ""),
-            ("mst run --passes +1", 0, "none\n", ""),
-            ("mst run --rows 0004", 0, "none\n", ""),
-            ("mst replay", 0, "fault line\n", ""),
-        ],
-    )
+fn words_are_read(rt: HostRuntime) {
+    each_comes_to(&rt, INPUT, READ);
 }
+
+const OUT_OF_RANGE: &[(&str, u8, &str, &str)] = &[
+    ("mst run --rows 4 --passes 33", 2, "", "shape\n"),
+    ("mst run --passes 32 --rows 3", 2, "", "shape\n"),
+    ("mst run --rows 3", 2, "", "shape\n"),
+    ("mst run --rows 65536", 2, "", "shape\n"),
+    ("mst run --rows 0", 2, "", "shape\n"),
+    ("mst run --rows 4294967295", 2, "", "shape\n"),
+    ("mst run --passes 0", 2, "", "shape\n"),
+    ("mst run --passes 33", 2, "", "shape\n"),
+];
 
 // Each number one below and one above its range, and far above.
 #[test]
-fn shapes_out_of_range(rt: HostRuntime) -> Result<(), Fail> {
-    each_comes_to(
-        &rt,
-        INPUT,
-        &[
-            ("mst run --rows 4 --passes 33", 2, "", "shape\n"),
-            ("mst run --passes 32 --rows 3", 2, "", "shape\n"),
-            ("mst run --rows 3", 2, "", "shape\n"),
-            ("mst run --rows 65536", 2, "", "shape\n"),
-            ("mst run --rows 0", 2, "", "shape\n"),
-            ("mst run --rows 4294967295", 2, "", "shape\n"),
-            ("mst run --passes 0", 2, "", "shape\n"),
-            ("mst run --passes 33", 2, "", "shape\n"),
-        ],
-    )
+fn shapes_out_of_range(rt: HostRuntime) {
+    each_comes_to(&rt, INPUT, OUT_OF_RANGE);
 }
+
+const REFUSED: &[(&str, u8, &str, &str)] = &[
+    ("mst run --rows x", 2, "", NO_NUMBER),
+    ("mst run --passes 4294967296", 2, "", TOO_LARGE),
+    ("mst run --rows 4 --rows 5", 2, "", TWICE),
+    ("mst run --rows", 2, "", NO_VALUE),
+    ("mst replay extra", 2, "", EXTRA_WORD),
+    ("mst frob", 2, "", NO_COMMAND),
+    ("mst", 2, "", HELP),
+    ("mst run --version", 2, "", NO_SUCH_OPTION),
+];
 
 #[test]
-fn words_are_refused(rt: HostRuntime) -> Result<(), Fail> {
-    each_comes_to(
-        &rt,
-        INPUT,
-        &[
-            ("mst run --rows x", 2, "", NO_NUMBER),
-            ("mst run --passes 4294967296", 2, "", TOO_LARGE),
-            ("mst run --rows 4 --rows 5", 2, "", TWICE),
-            ("mst run --rows", 2, "", NO_VALUE),
-            ("mst replay extra", 2, "", EXTRA_WORD),
-            ("mst frob", 2, "", NO_COMMAND),
-            ("mst", 2, "", HELP),
-            ("mst run --version", 2, "", NO_SUCH_OPTION),
-        ],
-    )
+fn words_are_refused(rt: HostRuntime) {
+    each_comes_to(&rt, INPUT, REFUSED);
 }
+
+const TOLD: &[(&str, u8, &str, &str)] = &[
+    ("mst replay --help", 0, REPLAY_HELP, ""),
+    ("mst help replay", 0, REPLAY_HELP, ""),
+    ("mst --help", 0, HELP, ""),
+    ("mst --version", 0, VERSION, ""),
+    ("mst -V run", 0, VERSION, ""),
+    ("mst help run", 0, RUN_HELP, ""),
+    ("mst run --help", 0, RUN_HELP, ""),
+];
 
 #[test]
-fn help_and_version_are_told(rt: HostRuntime) -> Result<(), Fail> {
-    each_comes_to(
-        &rt,
-        INPUT,
-        &[
-            ("mst replay --help", 0, REPLAY_HELP, ""),
-            ("mst help replay", 0, REPLAY_HELP, ""),
-            ("mst --help", 0, HELP, ""),
-            ("mst --version", 0, VERSION, ""),
-            ("mst -V run", 0, VERSION, ""),
-            ("mst help run", 0, RUN_HELP, ""),
-            ("mst run --help", 0, RUN_HELP, ""),
-        ],
-    )
+fn help_and_version_are_told(rt: HostRuntime) {
+    each_comes_to(&rt, INPUT, TOLD);
 }
 
-/// The root digest of the empty map.
-const ROOT: &str = "e3b0c44298fc1c149afbf4c8996fb92427ae41e4649b934ca495991b7852b855";
+/// Verifies the proof of the empty map by words round its root digest, and judges what that came
+/// to.
+fn comes_to_round_the_root<R: Threads + Wait + AllocGlobal + Sync>(
+    rt: &R,
+    front: &str,
+    back: &str,
+    status: u8,
+    (out, err): (&str, &str),
+) -> Result<bool, AllocError> {
+    let line = format!(in rt.alloc(); "mst verify {front}{ROOT_OF_NONE}{back}")?;
+    comes_to(rt, line.as_str(), b"0100", status, out, err)
+}
 
-/// Verifies the proof of the empty map by words round its root digest, and compares the status and
-/// the two outputs.
+/// The same of each row.
 fn each_round_the_root<R: Abort + Threads + Wait + AllocGlobal + Sync>(
     rt: &R,
     rows: &[(&str, &str, u8, &str, &str)],
-) -> Result<(), Fail> {
+) {
     for (front, back, status, out, err) in rows {
-        let line = format!(in rt.alloc(); "mst verify {front}{ROOT}{back}")?;
-        let is_right = comes_to(rt, line.as_str(), b"0100", *status, out, err)?;
-        assert!(rt; is_right, "in {line}");
+        let came = comes_to_round_the_root(rt, front, back, *status, (out, err));
+        assert!(rt; matches!(came, Ok(true)), "in {front}ROOT{back}");
     }
-    Ok(())
 }
 
 /// A space and a key of 32 bytes.
 const LONGEST_KEY: &str = " 000102030405060708090a0b0c0d0e0f101112131415161718191A1B1C1D1E1F";
 
+const ROUND_THE_ROOT: &[(&str, &str, u8, &str, &str)] = &[
+    ("", " 61", 0, "absent\n", ""),
+    ("-- ", " 61", 0, "absent\n", ""),
+    ("", " -- 61", 0, "absent\n", ""),
+    ("", " 61 --", 0, "absent\n", ""),
+    ("", LONGEST_KEY, 0, "absent\n", ""),
+    ("", " 61 --help", 0, VERIFY_HELP, ""),
+];
+
 // With and without `--`, and with the longest key.
 #[test]
-fn words_of_verify_are_read(rt: HostRuntime) -> Result<(), Fail> {
-    each_round_the_root(
-        &rt,
-        &[
-            ("", " 61", 0, "absent\n", ""),
-            ("-- ", " 61", 0, "absent\n", ""),
-            ("", " -- 61", 0, "absent\n", ""),
-            ("", " 61 --", 0, "absent\n", ""),
-            ("", LONGEST_KEY, 0, "absent\n", ""),
-            ("", " 61 --help", 0, VERIFY_HELP, ""),
-        ],
-    )
+fn words_of_verify_are_read(rt: HostRuntime) {
+    each_round_the_root(&rt, ROUND_THE_ROOT);
 }
+
+const BAD_KEYS: &[(&str, &str, u8, &str, &str)] = &[
+    ("", "", 2, "", NO_KEY),
+    ("", " ", 2, "", "bad key\n"),
+    ("", " -", 2, "", "bad key\n"),
+    ("", " 6", 2, "", "bad key\n"),
+    ("", " 6g", 2, "", "bad key\n"),
+    ("-- ", " --", 2, "", "bad key\n"),
+    ("61 ", "", 2, "", "bad root\n"),
+];
 
 // The first row lacks its key, the second has an empty one, and in the last the two words are
 // swapped.
 #[test]
-fn keys_are_refused(rt: HostRuntime) -> Result<(), Fail> {
-    each_round_the_root(
-        &rt,
-        &[
-            ("", "", 2, "", NO_KEY),
-            ("", " ", 2, "", "bad key\n"),
-            ("", " -", 2, "", "bad key\n"),
-            ("", " 6", 2, "", "bad key\n"),
-            ("", " 6g", 2, "", "bad key\n"),
-            ("-- ", " --", 2, "", "bad key\n"),
-            ("61 ", "", 2, "", "bad root\n"),
-        ],
-    )
+fn keys_are_refused(rt: HostRuntime) {
+    each_round_the_root(&rt, BAD_KEYS);
 }
 
 /// Words whose root digest lacks its first digit, and its first byte.
@@ -262,39 +259,38 @@ const WORDS_OF_AN_ODD_ROOT: &str =
 const WORDS_OF_A_SHORT_ROOT: &str =
     "mst verify b0c44298fc1c149afbf4c8996fb92427ae41e4649b934ca495991b7852b855 61";
 
+const BAD_ROOTS: &[(&str, u8, &str, &str)] = &[
+    (WORDS_OF_AN_ODD_ROOT, 2, "", "bad root\n"),
+    (WORDS_OF_A_SHORT_ROOT, 2, "", "bad root\n"),
+    ("mst verify  61", 2, "", "bad root\n"),
+    ("mst verify  ", 2, "", "bad root\n"),
+    ("mst verify -- -- 61", 2, "", "bad root\n"),
+    ("mst verify a b c", 2, "", THIRD_WORD),
+    ("mst verify --help", 0, VERIFY_HELP, ""),
+];
+
 // Roots that are too short or empty, also beside an empty key, and words in another number.
 #[test]
-fn roots_are_refused(rt: HostRuntime) -> Result<(), Fail> {
-    each_comes_to(
-        &rt,
-        b"0100",
-        &[
-            (WORDS_OF_AN_ODD_ROOT, 2, "", "bad root\n"),
-            (WORDS_OF_A_SHORT_ROOT, 2, "", "bad root\n"),
-            ("mst verify  61", 2, "", "bad root\n"),
-            ("mst verify  ", 2, "", "bad root\n"),
-            ("mst verify -- -- 61", 2, "", "bad root\n"),
-            ("mst verify a b c", 2, "", THIRD_WORD),
-            ("mst verify --help", 0, VERIFY_HELP, ""),
-        ],
-    )
+fn roots_are_refused(rt: HostRuntime) {
+    each_comes_to(&rt, b"0100", BAD_ROOTS);
 }
 
 const LONG_KEY: &str = "000102030405060708090a0b0c0d0e0f101112131415161718191A1B1C1D1E1F20";
 
 const OTHER_ROOT: &str = "e3b0c44298fc1c149afbf4c8996fb92427ae41e4649b934ca495991b7852b85x";
 
+const WRONG_FORMS: &[(&str, &str, &str)] = &[
+    (ROOT_OF_NONE, LONG_KEY, "bad key\n"),
+    (OTHER_ROOT, "61", "bad root\n"),
+    (OTHER_ROOT, LONG_KEY, "bad root\n"),
+    (LONG_KEY, "61", "bad root\n"),
+];
+
 // A key of 33 bytes, and digits that are none.
 #[test]
-fn keys_and_roots_of_a_wrong_form(rt: HostRuntime) -> Result<(), Fail> {
-    for (root, key, err) in [
-        (ROOT, LONG_KEY, "bad key\n"),
-        (OTHER_ROOT, "61", "bad root\n"),
-        (OTHER_ROOT, LONG_KEY, "bad root\n"),
-        (LONG_KEY, "61", "bad root\n"),
-    ] {
-        let is_right = verify_comes_to(&rt, root, key, b"0100", 2, "", err)?;
-        assert!(rt; is_right, "{root} {key}");
+fn keys_and_roots_of_a_wrong_form(rt: HostRuntime) {
+    for (root, key, err) in WRONG_FORMS {
+        let came = verify_comes_to(&rt, root, key, b"0100", 2, "", err);
+        assert!(rt; matches!(came, Ok(true)), "{root} {key}");
     }
-    Ok(())
 }

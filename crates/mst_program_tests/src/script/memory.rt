@@ -1,7 +1,8 @@
 //! Memory that is refused, one growth after another.
 ghost use Rattle.mst_script.specs.Serving.{AreAllOf};
 
-use super::run_over;
+use super::{dealt, opened, run_over};
+use crate::texts::{PROOF_OF_THREE, TOP_OF_THREE};
 use linked_list_allocator::LocalHeap;
 use mst_devices::{BytesSink, BytesSource};
 use mst_script::{RunFault, run};
@@ -55,11 +56,16 @@ fn judged(ran: Result<(), RunFault>, answers: &[u8], case: &Case<'_>) -> Option<
 }
 
 // How the case is answered where such a heap gives the memory of the run.
-fn answered_in(alloc: Global, bytes: usize, case: &Case<'_>) -> Result<Option<Answered>, Fail> {
+fn answered_in(
+    rt: &impl Abort,
+    alloc: Global,
+    bytes: usize,
+    case: &Case<'_>,
+) -> Result<Option<Answered>, Fail> {
     let heap = LocalHeap::new(alloc, bytes)?;
     let mut source = BytesSource::new(case.script);
     let mut sink = BytesSink::new(alloc, 512)?;
-    let ran = run_over(alloc, &heap, SHAPE, &mut source, &mut sink);
+    let ran = run_over(rt, alloc, &heap, SHAPE, &mut source, &mut sink);
     Ok(judged(ran, sink.bytes(), case))
 }
 
@@ -84,7 +90,7 @@ fn seen_in(
         whole: false,
     };
     for bytes in (first..last).step_by(step.max(1)) {
-        match answered_in(alloc, bytes, case)? {
+        match answered_in(rt, alloc, bytes, case)? {
             Some(Answered::Nothing) => seen.nothing = true,
             Some(Answered::Less) => seen.less = true,
             Some(Answered::Whole) => seen.whole = true,
@@ -140,12 +146,6 @@ const PINNED: &str = "1 put 31 78\n1 put 61 7a\n1 put 3339 79\n1 pin\n2 del 31\n
 
 const ANSWERED: &str = "none\nnone\nnone\npinned 3\nsome 78\n";
 
-const TOP: &str =
-    "01010001017dfdf041db1f9c4de0e5e646a376510cfb7c4e47760ef8f74cb3181b74c061e6023339017901d2c0950048c47bae86f8557f6e7357048963954bbb6f1328ea6cc19d8898c5d8";
-
-const PROOF: &str =
-    "01020000004b01010001017dfdf041db1f9c4de0e5e646a376510cfb7c4e47760ef8f74cb3181b74c061e6023339017901d2c0950048c47bae86f8557f6e7357048963954bbb6f1328ea6cc19d8898c5d80000000a01000001000131017800";
-
 const NO_READ: &[&[u8]] = &[b"none\nnone\nnone\npinned 3\nsome 78\nmemory\nsome 78\n"];
 
 // Whether a read of the pinned version is refused memory in some heaps of rising size, which the
@@ -172,8 +172,8 @@ const READS: &[(&str, &str)] = &[
         "1 range - - 9",
         "pairs 3\npair 31 78\npair 3339 79\npair 61 7a",
     ),
-    ("1 prove 31", PROOF),
-    ("1 node", TOP),
+    ("1 prove 31", PROOF_OF_THREE),
+    ("1 node", TOP_OF_THREE),
 ];
 
 #[test]
@@ -219,12 +219,8 @@ fn starts_over(
 // Whether a run of so many passes starts where a heap of so many bytes gives its memory.
 fn starts_in(rt: &impl Abort, alloc: Global, bytes: usize, passes: u32) -> Result<bool, Fail> {
     let heap = LocalHeap::new(alloc, bytes)?;
-    let Ok((store, seats)) = Store::open(alloc, Shape { rows: 4, passes }) else {
-        panic!(rt; "no memory")
-    };
-    let Ok(mut passes) = store.deal(alloc, seats) else {
-        panic!(rt; "no memory")
-    };
+    let (store, seats) = opened(rt, alloc, Shape { rows: 4, passes });
+    let mut passes = dealt(rt, alloc, &store, seats);
     starts_over(rt, alloc, &heap, &store, &mut passes)
 }
 

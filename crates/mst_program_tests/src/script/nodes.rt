@@ -1,12 +1,13 @@
 //! The texts of nodes and proofs.
 use super::four_answer;
+use crate::texts::TOP_OF_THREE;
 use std::test::Fail;
 
 // The empty map has no node.
 #[test]
 fn empty_map_has_no_node(rt: HostRuntime) {
     let script = b"1 node\n1 prove 61\n1 rows";
-    assert!(rt; four_answer(rt.alloc(), script, b"empty\n0100\nrows 0\n"));
+    assert!(rt; four_answer(&rt, rt.alloc(), script, b"empty\n0100\nrows 0\n"));
 }
 
 const ONE_NODE: &[u8] =
@@ -18,13 +19,10 @@ const OF_ONE_NODE: &[u8] =
 // Keys of one layer stand in one node, so the proof of each answer is that node.
 #[test]
 fn one_node_proves_all(rt: HostRuntime) {
-    assert!(rt; four_answer(rt.alloc(), ONE_NODE, OF_ONE_NODE));
+    assert!(rt; four_answer(&rt, rt.alloc(), ONE_NODE, OF_ONE_NODE));
 }
 
 const THREE_PUTS: &str = "1 put 31 78\n1 put 61 7a\n1 put 3339 79\n";
-
-const TOP: &str =
-    "01010001017dfdf041db1f9c4de0e5e646a376510cfb7c4e47760ef8f74cb3181b74c061e6023339017901d2c0950048c47bae86f8557f6e7357048963954bbb6f1328ea6cc19d8898c5d8";
 
 // A key of a higher layer stands above the others, in a text of more bytes than are spelt at a
 // time.
@@ -34,8 +32,8 @@ fn proofs_go_down(rt: HostRuntime) -> Result<(), Fail> {
         "{THREE_PUTS}1 node\n1 prove 3339\n1 prove 31\n1 prove 6161"
     )?;
     let expected = format!(in rt.alloc();
-        "none\nnone\nnone\n{TOP}\n01010000004b{TOP}\n01020000004b{TOP}0000000a01000001000131017800\n01020000004b{TOP}0000000a01000001000161017a00\n"
+        "none\nnone\nnone\n{TOP_OF_THREE}\n01010000004b{TOP_OF_THREE}\n01020000004b{TOP_OF_THREE}0000000a01000001000131017800\n01020000004b{TOP_OF_THREE}0000000a01000001000161017a00\n"
     )?;
-    assert!(rt; four_answer(rt.alloc(), script.as_bytes(), expected.as_bytes()));
+    assert!(rt; four_answer(&rt, rt.alloc(), script.as_bytes(), expected.as_bytes()));
     Ok(())
 }

@@ -1,6 +1,6 @@
 //! Devices that fail, and devices that take their time.
-use super::failing::{Reader, Writer};
 use super::run_over;
+use crate::failing::{Reader, Writer};
 use mst_devices::{BytesSink, BytesSource, Device, StdSink, StdSource};
 use mst_script::RunFault;
 use mst_store::Shape;
@@ -39,21 +39,27 @@ fn pins(alloc: Global) -> Result<(Vec<u8>, Vec<u8>), AllocError> {
 }
 
 /// Runs a script between such devices.
-fn run_between(alloc: Global, reader: Reader<'_>, out: &mut Writer) -> Result<(), RunFault> {
+fn run_between(
+    rt: &impl Abort,
+    alloc: Global,
+    reader: Reader<'_>,
+    out: &mut Writer,
+) -> Result<(), RunFault> {
     let mut source = StdSource::new(reader);
     let mut sink = StdSink::new(out);
-    run_over(alloc, alloc, SHAPE, &mut source, &mut sink)
+    run_over(rt, alloc, alloc, SHAPE, &mut source, &mut sink)
 }
 
 /// Whether the run between such devices writes these bytes, and ends so.
 fn runs(
+    rt: &impl Abort,
     alloc: Global,
     reader: Reader<'_>,
     mut out: Writer,
     written: &[u8],
     ended: Result<(), RunFault>,
 ) -> bool {
-    let ran = run_between(alloc, reader, &mut out);
+    let ran = run_between(rt, alloc, reader, &mut out);
     out.bytes.as_slice() == written && ran == ended
 }
 
@@ -68,7 +74,7 @@ fn devices_may_take_their_time(rt: HostRuntime) {
         };
         let out = Writer::new(rt.alloc(), write_most, u64::MAX, false);
         assert!(rt;
-            runs(rt.alloc(), reader, out, ANSWERS, Ok(())),
+            runs(&rt, rt.alloc(), reader, out, ANSWERS, Ok(())),
             "{read_most} and {write_most} bytes at a time"
         );
     }
@@ -83,14 +89,20 @@ fn devices_may_take_their_time_under_pins(rt: HostRuntime) -> Result<(), Fail> {
         reads: u64::MAX,
     };
     let out = Writer::new(rt.alloc(), 1, u64::MAX, false);
-    assert!(rt; runs(rt.alloc(), reader, out, answers.as_slice(), Ok(())));
+    assert!(rt; runs(&rt, rt.alloc(), reader, out, answers.as_slice(), Ok(())));
     Ok(())
 }
 
 /// Whether a run of which reads fail writes these bytes, and ends so.
-fn reads_end(alloc: Global, reader: Reader<'_>, most: usize, written: &[u8]) -> bool {
+fn reads_end(
+    rt: &impl Abort,
+    alloc: Global,
+    reader: Reader<'_>,
+    most: usize,
+    written: &[u8],
+) -> bool {
     let out = Writer::new(alloc, most, u64::MAX, false);
-    runs(alloc, reader, out, written, Err(RunFault::Device))
+    runs(rt, alloc, reader, out, written, Err(RunFault::Device))
 }
 
 /// The most bytes of a read, how many reads succeed, and how many bytes are then written.
@@ -118,7 +130,7 @@ fn reads_fail(rt: HostRuntime) {
         };
         let written = &ANSWERS[..ANSWERS.len().min(*answered)];
         assert!(rt;
-            reads_end(rt.alloc(), reader, 64, written),
+            reads_end(&rt, rt.alloc(), reader, 64, written),
             "after {reads} reads"
         );
     }
@@ -139,7 +151,7 @@ fn each_read_fails(
             most: 1,
             reads: read.len() as u64,
         };
-        assert!(rt; reads_end(alloc, reader, 1, written));
+        assert!(rt; reads_end(rt, alloc, reader, 1, written));
         read.push(*byte)?;
     }
     Ok(())
@@ -168,7 +180,7 @@ fn each_write_fails(rt: &impl Abort, alloc: Global, by_zero: bool, script: &[u8]
         let out = Writer::new(alloc, 1, writes as u64, by_zero);
         let fault = Err(RunFault::Device);
         assert!(rt;
-            runs(alloc, reader, out, &answers[..writes], fault),
+            runs(rt, alloc, reader, out, &answers[..writes], fault),
             "after {writes} writes"
         );
     }
@@ -190,10 +202,10 @@ fn writes_fail_under_pins(rt: HostRuntime) -> Result<(), Fail> {
 }
 
 /// Whether the sink of a run over the script is full behind these bytes.
-fn is_full_behind(alloc: Global, written: &[u8]) -> Result<bool, AllocError> {
+fn is_full_behind(rt: &impl Abort, alloc: Global, written: &[u8]) -> Result<bool, AllocError> {
     let mut source = BytesSource::new(SCRIPT);
     let mut sink = BytesSink::new(alloc, written.len())?;
-    let ran = run_over(alloc, alloc, SHAPE, &mut source, &mut sink);
+    let ran = run_over(rt, alloc, alloc, SHAPE, &mut source, &mut sink);
     Ok(ran == Err(RunFault::Device) && sink.bytes() == written)
 }
 
@@ -201,7 +213,7 @@ fn is_full_behind(alloc: Global, written: &[u8]) -> Result<bool, AllocError> {
 #[test]
 fn sinks_are_full(rt: HostRuntime) -> Result<(), Fail> {
     for room in [0, 1, 5, 60] {
-        let full = is_full_behind(rt.alloc(), &ANSWERS[..room])?;
+        let full = is_full_behind(&rt, rt.alloc(), &ANSWERS[..room])?;
         assert!(rt; full, "with room for {room}");
     }
     Ok(())

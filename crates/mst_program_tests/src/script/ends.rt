@@ -2,11 +2,13 @@
 ghost use Rattle.std.specs.Prelude.{◌<◌, ◌-◌, ◌^◌};
 ghost use Rattle.mst_script.specs.Serving.{AreAllOf};
 
-use super::failing::{Reader, Writer};
+use super::{dealt, opened};
+use crate::failing::{Reader, Writer};
 use mst_devices::{BytesSink, BytesSource, Sink, Source, StdSink, StdSource};
 use mst_script::{RunFault, run};
 use mst_store::{Pass, Shape, Store};
-use std::alloc::Global;
+use std::alloc::{AllocError, Global};
+use std::process::Abort;
 
 // Three versions are pinned, and no pin is ended.
 const PINS: &[u8] = b"1 pin\n2 put 61 30\n2 pin\n3 put 61 31\n1 get 61\n4 pin\n3 rows\n";
@@ -61,42 +63,41 @@ fn serve_again(global: Global, store: &Store<Global>, passes: &mut Vec<Pass<'_, 
 }
 
 // Runs a script over a store of five rows, and another over the same passes.
-fn ending_of<S: Source, W: Sink>(global: Global, source: &mut S, sink: &mut W) -> Option<Ending>
+fn ending_of<S: Source, W: Sink>(
+    rt: &impl Abort,
+    global: Global,
+    source: &mut S,
+    sink: &mut W,
+) -> Ending
     requires source { S.failures source.old < 2 ^ 64 - 1 }
     requires sink { W.failures sink.old < 2 ^ 64 - 1 }
 {
-    let Ok((store, seats)) = Store::open(global, Shape { rows: 5, passes: 4 }) else {
-        return None;
-    };
-    let Ok(mut passes) = store.deal(global, seats) else {
-        return None;
-    };
+    let (store, seats) = opened(rt, global, Shape { rows: 5, passes: 4 });
+    let mut passes = dealt(rt, global, &store, seats);
     let ended = run(global, source, sink, &store, &mut passes);
     let all_serve = serve_again(global, &store, &mut passes);
-    Some(Ending { ended, all_serve })
+    Ending { ended, all_serve }
 }
 
 // Whether the run writes what the script is answered, and all passes serve again behind it.
-fn ends_with_the_script(alloc: Global) -> Option<bool> {
+fn ends_with_the_script(rt: &impl Abort, alloc: Global) -> Result<bool, AllocError> {
     let mut source = BytesSource::new(PINS);
-    let Ok(mut sink) = BytesSink::new(alloc, 128) else {
-        return None;
-    };
-    let ending = ending_of(alloc, &mut source, &mut sink)?;
-    Some(sink.bytes() == PINNED && ending.ended.is_ok() && ending.all_serve)
+    let mut sink = BytesSink::new(alloc, 128)?;
+    let ending = ending_of(rt, alloc, &mut source, &mut sink);
+    Ok(sink.bytes() == PINNED && ending.ended.is_ok() && ending.all_serve)
 }
 
 #[test]
 fn pins_end_with_the_script(rt: HostRuntime) {
-    assert!(rt; ends_with_the_script(rt.alloc()) == Some(true));
+    assert!(rt; matches!(ends_with_the_script(&rt, rt.alloc()), Ok(true)));
 }
 
 // Whether the run between such devices ends by their fault, and all passes serve again behind it.
-fn ends_by_fault(alloc: Global, reader: Reader<'_>, mut out: Writer) -> Option<bool> {
+fn ends_by_fault(rt: &impl Abort, alloc: Global, reader: Reader<'_>, mut out: Writer) -> bool {
     let mut source = StdSource::new(reader);
     let mut sink = StdSink::new(&mut out);
-    let ending = ending_of(alloc, &mut source, &mut sink)?;
-    Some(ending.all_serve && ending.ended == Err(RunFault::Device))
+    let ending = ending_of(rt, alloc, &mut source, &mut sink);
+    ending.all_serve && ending.ended == Err(RunFault::Device)
 }
 
 #[test]
@@ -108,8 +109,8 @@ fn pins_end_where_a_read_fails(rt: HostRuntime) {
             reads,
         };
         let out = Writer::new(rt.alloc(), 64, u64::MAX, false);
-        let ended = ends_by_fault(rt.alloc(), reader, out);
-        assert!(rt; ended == Some(true), "after {reads} reads");
+        let ended = ends_by_fault(&rt, rt.alloc(), reader, out);
+        assert!(rt; ended, "after {reads} reads");
     }
 }
 
@@ -122,7 +123,7 @@ fn pins_end_where_a_write_fails(rt: HostRuntime) {
             reads: u64::MAX,
         };
         let out = Writer::new(rt.alloc(), 1, writes, false);
-        let ended = ends_by_fault(rt.alloc(), reader, out);
-        assert!(rt; ended == Some(true), "after {writes} writes");
+        let ended = ends_by_fault(&rt, rt.alloc(), reader, out);
+        assert!(rt; ended, "after {writes} writes");
     }
 }

@@ -15,11 +15,11 @@ fn each_is_answered(rt: &impl Abort, alloc: Global, lines: &[&str], answer: &str
     for line in lines {
         if !line.is_empty() {
             assert!(rt;
-                four_answer(alloc, line.as_bytes(), answer.as_bytes()),
+                four_answer(rt, alloc, line.as_bytes(), answer.as_bytes()),
                 "to {line}"
             );
         }
-        let ended = four_follow(alloc, (line, ""), "\n", answer);
+        let ended = four_follow(rt, alloc, (line, ""), "\n", answer);
         assert!(rt; matches!(ended, Ok(true)), "to {line}");
     }
 }
@@ -70,7 +70,7 @@ fn pass_is_not_dealt(rt: HostRuntime) {
 #[test]
 fn bytes_are_no_text(rt: HostRuntime) {
     let script = b"\xff\xfe \0 \x80\n1 \xff\n1 get \xff";
-    assert!(rt; four_answer(rt.alloc(), script, b"fault L2\nfault L3\nfault L5\n"));
+    assert!(rt; four_answer(&rt, rt.alloc(), script, b"fault L2\nfault L3\nfault L5\n"));
 }
 
 const NOT_KNOWN: &[&str] = &[
@@ -196,7 +196,7 @@ fn sizes_have_limits(rt: HostRuntime) -> Result<(), Fail> {
     for (name, more, odd, bytes, answer) in SIZES {
         let line = line_of(rt.alloc(), name, more, odd, *bytes)?;
         assert!(rt;
-            four_answer(rt.alloc(), line.as_bytes(), answer.as_bytes()),
+            four_answer(&rt, rt.alloc(), line.as_bytes(), answer.as_bytes()),
             "to {bytes} bytes"
         );
     }
@@ -225,7 +225,7 @@ fn bounds_have_limits(rt: HostRuntime) -> Result<(), Fail> {
     for (line, answer) in BOUNDS {
         let script = line.replace(rt.alloc(), "K", KEY_32)?;
         assert!(rt;
-            four_answer(rt.alloc(), script.as_bytes(), answer.as_bytes()),
+            four_answer(&rt, rt.alloc(), script.as_bytes(), answer.as_bytes()),
             "to {line}"
         );
     }
@@ -242,13 +242,14 @@ fn long_get(alloc: Global, length: usize, more: &[u8]) -> Result<Vec<u8>, AllocE
 
 // Whether a get of so many bytes in all, with these lines behind it, is answered so.
 fn long_get_is_answered(
+    rt: &impl Abort,
     alloc: Global,
     length: usize,
     more: &[u8],
     expected: &str,
 ) -> Result<bool, AllocError> {
     let script = long_get(alloc, length, more)?;
-    Ok(four_answer(alloc, script.as_slice(), expected.as_bytes()))
+    Ok(four_answer(rt, alloc, script.as_slice(), expected.as_bytes()))
 }
 
 // A get of so many bytes in all stands alone, and then is followed by another line.
@@ -263,9 +264,9 @@ const LENGTHS: &[(usize, &str, &str)] = &[
 #[test]
 fn long_lines_are_skipped(rt: HostRuntime) {
     for (length, answer, both) in LENGTHS {
-        let alone = long_get_is_answered(rt.alloc(), *length, b"", answer);
+        let alone = long_get_is_answered(&rt, rt.alloc(), *length, b"", answer);
         assert!(rt; matches!(alone, Ok(true)), "at {length}");
-        let followed = long_get_is_answered(rt.alloc(), *length, b"\n1 get 61\n", both);
+        let followed = long_get_is_answered(&rt, rt.alloc(), *length, b"\n1 get 61\n", both);
         assert!(rt; matches!(followed, Ok(true)), "at {length}");
     }
 }
@@ -285,7 +286,7 @@ fn faults_change_nothing(rt: HostRuntime) -> Result<(), Fail> {
     let script = lines_of_faults(rt.alloc())?;
     let expected =
         b"fault L2\nfault L2\nfault L3\nfault L4\nfault L4\nfault L5\nfault L5\nfault L5\nfault L6\nfault L1\nnone\n";
-    assert!(rt; four_answer(rt.alloc(), script.as_slice(), expected));
+    assert!(rt; four_answer(&rt, rt.alloc(), script.as_slice(), expected));
     Ok(())
 }
 
@@ -355,7 +356,7 @@ const ORDERS: &[(&str, &str)] = &[
 fn roots_tell_the_pairs(rt: HostRuntime) {
     for (script, answers) in ORDERS {
         assert!(rt;
-            four_answer(rt.alloc(), script.as_bytes(), answers.as_bytes()),
+            four_answer(&rt, rt.alloc(), script.as_bytes(), answers.as_bytes()),
             "to {script}"
         );
     }
@@ -392,6 +393,6 @@ fn long_answers(alloc: Global) -> Result<Vec<u8>, AllocError> {
 fn long_answers_are_whole(rt: HostRuntime) -> Result<(), Fail> {
     let script = long_script(rt.alloc())?;
     let answers = long_answers(rt.alloc())?;
-    assert!(rt; four_answer(rt.alloc(), script.as_slice(), answers.as_slice()));
+    assert!(rt; four_answer(&rt, rt.alloc(), script.as_slice(), answers.as_slice()));
     Ok(())
 }

@@ -1,5 +1,0 @@
-use Rattle.mst_script.proofs.AllOf.{all_of}
-use Rattle.mst_script_tests.proofs.tests.ends.ending_of.Goals as goal
-
-pub run-ended-requires-clause-whole : goal.run-ended-requires-clause-whole
-run-ended-requires-clause-whole g c = all_of c.in-Ok.store c.in-Ok-deal.passes.items c.in-Ok-deal.ensures.ok

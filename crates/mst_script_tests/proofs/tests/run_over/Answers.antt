@@ -1,5 +1,0 @@
-use Rattle.mst_script.proofs.AllOf.{all_of}
-use Rattle.mst_script_tests.proofs.tests.run_over.Goals as goal
-
-pub run-requires-clause-whole : goal.run-requires-clause-whole
-run-requires-clause-whole g c = all_of c.in-Ok.store c.in-Ok-deal.passes.items c.in-Ok-deal.ensures.ok
