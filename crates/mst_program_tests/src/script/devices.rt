@@ -39,7 +39,12 @@ fn pins(alloc: Global) -> Result<(Vec<u8>, Vec<u8>), AllocError> {
 }
 
 /// Runs a script between such devices.
-fn run_between(rt: &impl Abort, alloc: Global, reader: Reader<'_>, out: &mut Writer) -> Result<(), RunFault> {
+fn run_between(
+    rt: &impl Abort,
+    alloc: Global,
+    reader: Reader<'_>,
+    out: &mut Writer,
+) -> Result<(), RunFault> {
     let mut source = StdSource::new(reader);
     let mut sink = StdSink::new(out);
     run_over(rt, alloc, alloc, SHAPE, &mut source, &mut sink)
@@ -89,7 +94,13 @@ fn devices_may_take_their_time_under_pins(rt: HostRuntime) -> Result<(), Fail> {
 }
 
 /// Whether a run of which reads fail writes these bytes, and ends so.
-fn reads_end(rt: &impl Abort, alloc: Global, reader: Reader<'_>, most: usize, written: &[u8]) -> bool {
+fn reads_end(
+    rt: &impl Abort,
+    alloc: Global,
+    reader: Reader<'_>,
+    most: usize,
+    written: &[u8],
+) -> bool {
     let out = Writer::new(alloc, most, u64::MAX, false);
     runs(rt, alloc, reader, out, written, Err(RunFault::Device))
 }

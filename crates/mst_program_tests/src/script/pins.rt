@@ -89,7 +89,15 @@ fn all_passes_pin_versions(rt: HostRuntime) -> Result<(), Fail> {
         rows: 1024,
         passes: 32,
     };
-    assert!(rt; is_answered(&rt, rt.alloc(), shape, script.as_slice(), answers.as_slice())?);
+    assert!(rt;
+        is_answered(
+            &rt,
+            rt.alloc(),
+            shape,
+            script.as_slice(),
+            answers.as_slice()
+        )?
+    );
     Ok(())
 }
 
