@@ -107,12 +107,26 @@ fn pinned_in(core: &Core) -> Version {
     }
 }
 
-/// The state as plain values: whether a transfer waits, what is current, and what each pass pins.
+/// The state as plain values: whether a transfer waits, what is current, what each pass pins, and
+/// what it is told if it pins now.
 #[derive(Clone, Copy, PartialEq, Eq)]
 struct Plain {
     waits: bool,
     current: Version,
     pins: [Version; 3],
+    told: [Answer; 3],
+}
+
+/// What a pass is told that pins now: the current record, where it pins nothing.
+fn told_of(current: Version, pinned: Version) -> Answer {
+    if pinned != NOTHING {
+        return Answer::Refused;
+    }
+    match current.records {
+        [true, _, _] => Answer::Record(0),
+        [_, true, _] => Answer::Record(1),
+        _ => Answer::Record(2),
+    }
 }
 
 impl Plain {
@@ -121,6 +135,7 @@ impl Plain {
             waits: false,
             current: OPENING,
             pins: [NOTHING; 3],
+            told: [Answer::Record(0); 3],
         }
     }
 
@@ -133,6 +148,11 @@ impl Plain {
                 pinned_in(&alone(core, 1)),
                 pinned_in(&alone(core, 2)),
                 pinned_in(&alone(core, 3)),
+            ],
+            told: [
+                answer_of(core, Event::Pin(1)),
+                answer_of(core, Event::Pin(2)),
+                answer_of(core, Event::Pin(3)),
             ],
         }
     }
@@ -158,6 +178,12 @@ impl Plain {
             Event::Transfer => next.waits = false,
             Event::Write(_) | Event::Ask(_) => {}
         }
+        let [first, second, third] = next.pins;
+        next.told = [
+            told_of(next.current, first),
+            told_of(next.current, second),
+            told_of(next.current, third),
+        ];
         next
     }
 }
