@@ -47,7 +47,14 @@ fn refused_heaps(
 
 #[test]
 fn each_growth_of_deal_is_refused(rt: HostRuntime) {
-    let (store, seats) = opened(&rt, rt.alloc(), Shape { rows: 4, passes: 32 });
+    let (store, seats) = opened(
+        &rt,
+        rt.alloc(),
+        Shape {
+            rows: 4,
+            passes: 32,
+        },
+    );
     let refused = refused_heaps(&rt, &store, seats);
     assert!(rt; 16 <= refused, "{refused} heaps were too small");
 }
