@@ -3,11 +3,12 @@
 //! A table that is a constant costs its test's proof next to nothing; the same calls written out
 //! cost it more than in proportion.
 use crate::fixtures::{
-    both_passes, count_pairs, counts, finds_no_room, gets, has_root, has_version, next_is, opened,
-    proves, put_fails, puts, puts_in_turn, puts_many, removes, removes_in_turn, still_counts,
-    still_gets, still_next, still_proves,
+    count_pairs, counts, finds_no_room, gets, has_root, has_version, next_is, proves, put_fails,
+    puts, puts_in_turn, puts_many, removes, removes_in_turn, still_counts, still_gets, still_next,
+    still_proves,
 };
 use crate::starving::{is_right_or_refused, is_starved, still_starved};
+use crate::stores::{Seat, both_passes, opened};
 use mst_store::{Pass, Pinned, Shape, WriteFault};
 use std::alloc::{Allocator, Global};
 use std::process::Abort;
@@ -132,13 +133,6 @@ pub(crate) fn run<A: Allocator + Copy>(
     }
 }
 
-// A pass, free or pinned.
-#[derive(Drop)]
-enum Seat<'a> {
-    Free(Pass<'a, Global>),
-    Held(Pinned<'a, Global>),
-}
-
 // A call of a free pass: what becomes of the pass, and whether the answer was right.
 fn call_free<'a>(
     rt: &(impl AllocGlobal + Wait),
@@ -204,8 +198,8 @@ fn run_part(
 /// The calls of both passes of a new store of so many rows answer so, pins among them. The steps
 /// come in parts, one behind the other.
 pub(crate) fn script(rt: &(impl Abort + AllocGlobal + Wait), rows: u32, parts: &[&[Step]]) {
-    let (store, seats) = opened(rt, Shape { rows, passes: 2 });
-    let (first, second) = both_passes(rt, &store, seats);
+    let (store, seats) = opened(rt, rt.alloc(), Shape { rows, passes: 2 });
+    let (first, second) = both_passes(rt, rt.alloc(), &store, seats);
     let mut first = Some(Seat::Free(first));
     let mut second = Some(Seat::Free(second));
     for steps in parts {

@@ -1,18 +1,12 @@
-//! What the tests share: stores with their passes, and calls whose answers are compared.
+//! What the tests share: calls whose answers are compared.
 //!
 //! None of these functions says anything in a contract, so that what calls them is proved from few
 //! facts.
-ghost use Rattle.std.specs.Prelude.{◌≡◌, length};
-ghost use Rattle.mst_store.specs.Passes.{new_passes};
-
-use linked_list_allocator::LocalHeap;
 use mst_key::{Key, Value};
-use mst_store::{ChangeFault, Pass, Pinned, Seats, Shape, Store, WriteFault};
-use std::alloc::{Allocator, Global};
+use mst_store::{ChangeFault, Pass, Pinned, WriteFault};
+use std::alloc::Allocator;
 use std::process::Abort;
 use std::sync::Wait;
-
-pub(crate) const SMALL: Shape = Shape { rows: 8, passes: 2 };
 
 /// The root digest of the empty map: the SHA-256 of the empty string.
 pub(crate) const ROOT_OF_NONE: [u8; 32] = [
@@ -45,94 +39,6 @@ pub(crate) fn value(rt: &impl Abort, bytes: &[u8]) -> Value {
         panic!(rt; "a value has at most 64 bytes")
     };
     value
-}
-
-/// A heap of so many bytes.
-pub(crate) fn heap_of(rt: &(impl Abort + AllocGlobal), bytes: usize) -> LocalHeap {
-    let Ok(heap) = LocalHeap::new(rt.alloc(), bytes) else {
-        panic!(rt; "no memory")
-    };
-    heap
-}
-
-/// Takes what is left of the heap, in blocks of the least size.
-pub(crate) fn fill<'h>(
-    rt: &(impl Abort + AllocGlobal),
-    heap: &'h LocalHeap,
-) -> Vec<Vec<u8, &'h LocalHeap>> {
-    let mut blocks = Vec::new(rt.alloc());
-    for _ in 0..1024u32 {
-        let Ok(block) = Vec::with_capacity(heap, 1) else {
-            return blocks;
-        };
-        if blocks.push(block).is_err() {
-            panic!(rt; "no memory")
-        }
-    }
-    blocks
-}
-
-/// A store of this size.
-pub(crate) fn opened(
-    rt: &(impl Abort + AllocGlobal),
-    shape: Shape,
-) -> (Store<Global>, Seats<Global>)
-    ensures own { result.1 ≡ result.0 }
-{
-    let Ok(opened) = Store::open(rt.alloc(), shape) else {
-        panic!(rt; "no memory")
-    };
-    opened
-}
-
-/// A small store in this heap.
-pub(crate) fn opened_in<'h>(
-    rt: &impl Abort,
-    heap: &'h LocalHeap,
-) -> (Store<&'h LocalHeap>, Seats<&'h LocalHeap>)
-    ensures own { result.1 ≡ result.0 }
-{
-    let Ok(opened) = Store::open(heap, SMALL) else {
-        panic!(rt; "an ample heap")
-    };
-    opened
-}
-
-/// The passes of a store in this heap.
-pub(crate) fn dealt_in<'a, 'h>(
-    rt: &impl Abort,
-    heap: &'h LocalHeap,
-    store: &'a Store<&'h LocalHeap>,
-    seats: Seats<&'h LocalHeap>,
-) -> Vec<Pass<'a, &'h LocalHeap>, &'h LocalHeap>
-    requires own { seats ≡ store.now }
-    ensures passes { result.items ≡ new_passes store.now }
-    ensures count { length result.items ≡ store.now.passes }
-{
-    let Ok(passes) = store.deal(heap, seats) else {
-        panic!(rt; "an ample heap")
-    };
-    passes
-}
-
-/// The passes of a store of two.
-pub(crate) fn both_passes<'a>(
-    rt: &(impl Abort + AllocGlobal),
-    store: &'a Store<Global>,
-    seats: Seats<Global>,
-) -> (Pass<'a, Global>, Pass<'a, Global>)
-    requires own { seats ≡ store.now }
-{
-    let Ok(mut passes) = store.deal(rt.alloc(), seats) else {
-        panic!(rt; "no memory")
-    };
-    let Some(second) = passes.pop() else {
-        panic!(rt; "two passes")
-    };
-    let Some(first) = passes.pop() else {
-        panic!(rt; "two passes")
-    };
-    (first, second)
 }
 
 /// Whether what was found is a value of these bytes, or nothing where none are given.

@@ -1,9 +1,11 @@
 //! Tests of the store and of its table over their public calls: opening, reads and writes of
-//! several passes, pins, room, settling, and memory that is refused.
+//! several passes, pins, room, settling, memory that is refused, and all schedules of a kind.
 #![tactic(auto)]
 
 #[cfg(test)]
 mod calls;
+#[cfg(test)]
+mod exhaustive;
 #[cfg(test)]
 mod fixtures;
 #[cfg(test)]
@@ -28,6 +30,8 @@ mod settling;
 mod sharing;
 #[cfg(test)]
 mod starving;
+#[cfg(test)]
+mod stores;
 #[cfg(test)]
 mod table;
 #[cfg(test)]

@@ -3,9 +3,10 @@ use crate::calls::Call::{
     EachGrowth, Get, Next, NoMemory, Pairs, Proof, Put, Remove, Root, Rows, Version,
 };
 use crate::calls::{Step, run, script};
-use crate::fixtures::{PROOF_OF_BOTH, ROOT_OF_BOTH, dealt_in, fill, heap_of, key, opened_in};
+use crate::fixtures::{PROOF_OF_BOTH, ROOT_OF_BOTH, key};
 use crate::settling::each_gets_what_all_put;
 use crate::starving::lacks_memory;
+use crate::stores::{SMALL, dealt, fill, heap_of, is_full, opened};
 use linked_list_allocator::LocalHeap;
 use mst_store::{Pass, meet};
 use std::alloc::Allocator;
@@ -66,16 +67,11 @@ fn go_on<A: Allocator + Copy>(
     assert!(rt; lacks_memory(first, heap, &abc) && heap.used() == used);
 }
 
-// Whether not the least block fits into the heap.
-fn is_full(heap: &LocalHeap) -> bool {
-    Vec::<u8, &LocalHeap>::with_capacity(heap, 1).is_err()
-}
-
 #[test]
 fn calls_go_on_over_a_full_heap(rt: HostRuntime) {
     let heap = heap_of(&rt, AMPLE);
-    let (store, seats) = opened_in(&rt, &heap);
-    let mut passes = dealt_in(&rt, &heap, &store, seats);
+    let (store, seats) = opened(&rt, &heap, SMALL);
+    let mut passes = dealt(&rt, &heap, &store, seats);
     let blocks = fill(&rt, &heap);
     assert!(rt; is_full(&heap) && blocks.len() > 0);
     assert!(rt; passes.len() == 2);
@@ -87,8 +83,8 @@ fn calls_go_on_over_a_full_heap(rt: HostRuntime) {
 #[test]
 fn passes_settle_over_a_full_heap(rt: HostRuntime) {
     let heap = heap_of(&rt, AMPLE);
-    let (store, seats) = opened_in(&rt, &heap);
-    let mut passes = dealt_in(&rt, &heap, &store, seats);
+    let (store, seats) = opened(&rt, &heap, SMALL);
+    let mut passes = dealt(&rt, &heap, &store, seats);
     let blocks = fill(&rt, &heap);
     each_gets_what_all_put(&rt, &mut passes, &[1, 2]);
     assert!(rt; blocks.len() > 0);

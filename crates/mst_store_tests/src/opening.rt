@@ -3,7 +3,7 @@ ghost use Rattle.std.specs.Prelude.{◌≡◌};
 
 use crate::calls::Call::{Get, Put};
 use crate::calls::{Step, run};
-use crate::fixtures::{SMALL, both_passes, heap_of, opened};
+use crate::stores::{SMALL, both_passes, heap_of, opened};
 use mst_store::{Memory, OpenFault, Seats, Shape, Store};
 use std::alloc::Global;
 use std::process::Abort;
@@ -96,8 +96,8 @@ fn refused(
 #[test]
 fn refused_seats_are_dealt_again(rt: HostRuntime) {
     const STEPS: &[Step] = &[(2, Put(b"abc", b"x", None)), (1, Get(b"abc", Some(b"x")))];
-    let (store, seats) = opened(&rt, SMALL);
+    let (store, seats) = opened(&rt, rt.alloc(), SMALL);
     let seats = refused(&rt, &store, seats);
-    let (mut first, mut second) = both_passes(&rt, &store, seats);
+    let (mut first, mut second) = both_passes(&rt, rt.alloc(), &store, seats);
     run(&rt, &mut first, &mut second, STEPS);
 }

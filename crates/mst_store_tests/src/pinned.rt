@@ -5,9 +5,9 @@ use crate::calls::Call::{
 };
 use crate::calls::{Step, run, script};
 use crate::fixtures::{
-    PROOF_OF_BOTH, ROOT_OF_BOTH, ROOT_OF_NONE, SMALL, both_passes, counts, opened, puts, puts_many,
-    still_gets,
+    PROOF_OF_BOTH, ROOT_OF_BOTH, ROOT_OF_NONE, counts, puts, puts_many, still_gets,
 };
+use crate::stores::{SMALL, both_passes, opened};
 use mst_store::{Pass, Pinned, Shape};
 use std::alloc::Global;
 use std::process::Abort;
@@ -119,8 +119,8 @@ fn stays<'a>(pass: Pass<'a, Global>, other: &mut Pass<Global>) -> (Pass<'a, Glob
 fn a_long_pin_keeps_its_version_and_no_more(rt: HostRuntime) {
     const PUT: &[Step] = &[(1, Put(b"a", b"1", None))];
     const AFTER: &[Step] = &[(1, Version(1_001)), (1, Rows(Some(2)))];
-    let (store, seats) = opened(&rt, Shape { rows: 6, passes: 2 });
-    let (mut first, mut second) = both_passes(&rt, &store, seats);
+    let (store, seats) = opened(&rt, rt.alloc(), Shape { rows: 6, passes: 2 });
+    let (mut first, mut second) = both_passes(&rt, rt.alloc(), &store, seats);
     run(&rt, &mut first, &mut second, PUT);
     let (mut first, right) = stays(first, &mut second);
     assert!(rt; right);
@@ -142,8 +142,8 @@ fn a_pinned_pass_that_is_dropped_holds_its_rows(rt: HostRuntime) {
 
 #[test]
 fn a_pinned_pass_reads_in_a_thread_while_another_puts(rt: HostRuntime) {
-    let (store, seats) = opened(&rt, SMALL);
-    let (mut first, second) = both_passes(&rt, &store, seats);
+    let (store, seats) = opened(&rt, rt.alloc(), SMALL);
+    let (mut first, second) = both_passes(&rt, rt.alloc(), &store, seats);
     assert!(rt; puts(&mut first, b"a", b"1", None));
     let mut pinned = second.pin();
     let (wrote, read) = join(

@@ -1,7 +1,8 @@
 //! What reads answer: ranges, the next key, the root digest.
 use crate::calls::Call::{Next, Pairs, Put, Remove, Root, Version};
 use crate::calls::{Step, run, script};
-use crate::fixtures::{ROOT_OF_BOTH, ROOT_OF_NONE, SMALL, both_passes, opened};
+use crate::fixtures::{ROOT_OF_BOTH, ROOT_OF_NONE};
+use crate::stores::{SMALL, both_passes, opened};
 use mst_key::{Key, Value};
 use mst_store::Pass;
 use std::alloc::{Allocator, Global};
@@ -31,8 +32,8 @@ fn ranges_are_in_the_order_of_keys(rt: HostRuntime) {
         (2, Pairs(Some(b"abc"), None, 10, 1)),
         (2, Pairs(Some(b"b"), None, 10, 0)),
     ];
-    let (store, seats) = opened(&rt, SMALL);
-    let (mut first, mut second) = both_passes(&rt, &store, seats);
+    let (store, seats) = opened(&rt, rt.alloc(), SMALL);
+    let (mut first, mut second) = both_passes(&rt, rt.alloc(), &store, seats);
     run(&rt, &mut first, &mut second, PUTS);
     assert!(rt; has_both(&mut second, rt.alloc()));
     run(&rt, &mut first, &mut second, RANGES);

@@ -1,8 +1,9 @@
 //! Scripts of puts and removes, over the store and over a plain list.
 ghost use Rattle.std.specs.Prelude.{◌≡◌};
 
-use crate::fixtures::{has_root, is_value, key, opened, value, write};
+use crate::fixtures::{has_root, is_value, key, value, write};
 use crate::plain_list::PlainList;
+use crate::stores::opened;
 use mst_key::{Key, Value};
 use mst_store::{Pass, Seats, Shape, Store, WriteFault};
 use std::alloc::Global;
@@ -167,13 +168,11 @@ fn run_all(
 /// Makes the changes of each case in a store of so many rows.
 fn runs(rt: &(impl Abort + AllocGlobal), cases: &[(u32, &[Step])]) -> Result<(), Fail> {
     for (rows, steps) in cases {
-        let (store, seats) = opened(
-            rt,
-            Shape {
-                rows: *rows,
-                passes: 1,
-            },
-        );
+        let shape = Shape {
+            rows: *rows,
+            passes: 1,
+        };
+        let (store, seats) = opened(rt, rt.alloc(), shape);
         let mut both = beside_list(rt, &store, seats, *rows);
         run_all(rt, &mut both, steps)?;
     }
@@ -299,7 +298,7 @@ fn answers_as_the_list(rt: &(impl Abort + AllocGlobal), seed: u64) -> Result<(),
         rows: 240,
         passes: 2,
     };
-    let (store, seats) = opened(rt, shape);
+    let (store, seats) = opened(rt, rt.alloc(), shape);
     let mut both = beside_list(rt, &store, seats, 240);
     change_at_random(rt, &mut both, seed)
 }

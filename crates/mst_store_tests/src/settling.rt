@@ -2,7 +2,8 @@
 ghost use Rattle.mst_store.specs.Passes.{IsSamePass};
 ghost use Rattle.mst_store.specs.Settling.{AreAllPasses};
 
-use crate::fixtures::{ROOT_OF_BOTH, gets, has_root, has_version, opened};
+use crate::fixtures::{ROOT_OF_BOTH, gets, has_root, has_version};
+use crate::stores::opened;
 use mst_key::{Key, Value};
 use mst_store::{Pass, Shape, meet, settle};
 use std::alloc::{Allocator, Global};
@@ -72,7 +73,7 @@ pub(crate) fn each_gets_what_all_put<A: Allocator + Copy>(
 
 #[test]
 fn settled_passes_get_what_each_put(rt: HostRuntime) {
-    let (store, seats) = opened(&rt, Shape { rows: 9, passes: 2 });
+    let (store, seats) = opened(&rt, rt.alloc(), Shape { rows: 9, passes: 2 });
     let Ok(mut passes) = store.deal(rt.alloc(), seats) else {
         panic!(rt; "no memory")
     };
@@ -81,7 +82,7 @@ fn settled_passes_get_what_each_put(rt: HostRuntime) {
 
 #[test]
 fn passes_settle_in_any_order(rt: HostRuntime) {
-    let (store, seats) = opened(&rt, LARGER);
+    let (store, seats) = opened(&rt, rt.alloc(), LARGER);
     let Ok(mut passes) = store.deal(rt.alloc(), seats) else {
         panic!(rt; "no memory")
     };
@@ -93,7 +94,7 @@ fn passes_settle_in_any_order(rt: HostRuntime) {
 
 #[test]
 fn passes_that_met_get_what_both_put(rt: HostRuntime) {
-    let (store, seats) = opened(&rt, LARGER);
+    let (store, seats) = opened(&rt, rt.alloc(), LARGER);
     let Ok(mut passes) = store.deal(rt.alloc(), seats) else {
         panic!(rt; "no memory")
     };
@@ -139,7 +140,7 @@ fn all_have_the_root_of_both(rt: &impl Abort, passes: &mut [Pass<Global>])
 
 #[test]
 fn settled_passes_have_one_version_and_root(rt: HostRuntime) {
-    let (store, seats) = opened(&rt, Shape { rows: 9, passes: 2 });
+    let (store, seats) = opened(&rt, rt.alloc(), Shape { rows: 9, passes: 2 });
     let Ok(mut passes) = store.deal(rt.alloc(), seats) else {
         panic!(rt; "no memory")
     };

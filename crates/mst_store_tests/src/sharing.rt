@@ -1,7 +1,8 @@
 //! What one pass writes the others read, one after another and in two threads.
 use crate::calls::Call::{Get, Next, Number, Put, Remove, Rows, Version};
 use crate::calls::{Step, run};
-use crate::fixtures::{SMALL, both_passes, key, opened, puts};
+use crate::fixtures::{key, puts};
+use crate::stores::{SMALL, both_passes, opened};
 use mst_key::{Key, Value};
 use mst_store::{Pass, WriteFault};
 use std::alloc::{Allocator, Global};
@@ -25,8 +26,8 @@ fn passes_share_a_map(rt: HostRuntime) {
         (1, Remove(b"abc", Some(b""))),
         (2, Next(None, None)),
     ];
-    let (store, seats) = opened(&rt, SMALL);
-    let (mut first, mut second) = both_passes(&rt, &store, seats);
+    let (store, seats) = opened(&rt, rt.alloc(), SMALL);
+    let (mut first, mut second) = both_passes(&rt, rt.alloc(), &store, seats);
     assert!(rt; store.passes() == 2);
     run(&rt, &mut first, &mut second, STEPS);
 }
@@ -46,8 +47,8 @@ fn write_in_turns<A: Allocator + Copy>(first: &mut Pass<A>, second: &mut Pass<A>
 #[test]
 fn passes_that_write_in_turns_are_never_refused(rt: HostRuntime) {
     const AFTER: &[Step] = &[(1, Version(200)), (2, Rows(Some(3)))];
-    let (store, seats) = opened(&rt, SMALL);
-    let (mut first, mut second) = both_passes(&rt, &store, seats);
+    let (store, seats) = opened(&rt, rt.alloc(), SMALL);
+    let (mut first, mut second) = both_passes(&rt, rt.alloc(), &store, seats);
     assert!(rt; write_in_turns(&mut first, &mut second));
     run(&rt, &mut first, &mut second, AFTER);
 }
@@ -78,8 +79,8 @@ fn passes_in_two_threads_share_a_map(rt: HostRuntime) {
         (2, Get(b"a", Some(&[99]))),
         (2, Get(b"b", Some(&[99]))),
     ];
-    let (store, seats) = opened(&rt, SMALL);
-    let (mut first, mut second) = both_passes(&rt, &store, seats);
+    let (store, seats) = opened(&rt, rt.alloc(), SMALL);
+    let (mut first, mut second) = both_passes(&rt, rt.alloc(), &store, seats);
     let (a, b) = (key(&rt, b"a"), key(&rt, b"b"));
     let (one, other) = join(
         &rt,

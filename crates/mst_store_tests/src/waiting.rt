@@ -3,7 +3,8 @@ use crate::calls::Call::{
     Get, InTurnInVain, Number, Pin, Put, PutInTurn, RemoveInTurn, Root, Rows, Unpin, Version,
 };
 use crate::calls::{Step, run, script};
-use crate::fixtures::{ROOT_OF_NONE, both_passes, dealt_in, fill, heap_of, key, opened, opened_in};
+use crate::fixtures::{ROOT_OF_NONE, key};
+use crate::stores::{SMALL, both_passes, dealt, fill, heap_of, opened};
 use mst_key::{Key, Value};
 use mst_store::{Pass, Shape};
 use std::alloc::Global;
@@ -74,8 +75,8 @@ fn writes_in_turn_of_two_threads_all_go_through(rt: HostRuntime) {
         rows: 16,
         passes: 2,
     };
-    let (store, seats) = opened(&rt, shape);
-    let (mut first, mut second) = both_passes(&rt, &store, seats);
+    let (store, seats) = opened(&rt, rt.alloc(), shape);
+    let (mut first, mut second) = both_passes(&rt, rt.alloc(), &store, seats);
     let (a, b) = (key(&rt, b"a"), key(&rt, b"b"));
     let (one, other) = join(
         &rt,
@@ -96,8 +97,8 @@ fn writes_in_turn_take_no_memory(rt: HostRuntime) {
         (1, Version(2)),
     ];
     let heap = heap_of(&rt, 16_384);
-    let (store, seats) = opened_in(&rt, &heap);
-    let mut passes = dealt_in(&rt, &heap, &store, seats);
+    let (store, seats) = opened(&rt, &heap, SMALL);
+    let mut passes = dealt(&rt, &heap, &store, seats);
     let blocks = fill(&rt, &heap);
     let (Some(mut second), Some(mut first)) = (passes.pop(), passes.pop()) else {
         panic!(rt; "two passes")

@@ -1,6 +1,7 @@
 //! Stores with each number of passes.
-use crate::fixtures::{counts, dealt, gets, opened, puts};
-use mst_store::Pass;
+use crate::fixtures::{counts, gets, puts};
+use crate::stores::{dealt, opened};
+use mst_store::{Pass, Shape};
 use std::alloc::Global;
 use std::process::Abort;
 
@@ -36,7 +37,11 @@ fn each_reads_the_last(passes: &mut [Pass<'_, Global>], last: u8) -> bool {
 
 // Whether a store of so many passes deals them all, and each puts and reads.
 fn serves_all(rt: &(impl Abort + AllocGlobal), number: u8) -> bool {
-    let (store, seats) = opened(rt, rt.alloc(), 4, u32::from(number));
+    let shape = Shape {
+        rows: 4,
+        passes: u32::from(number),
+    };
+    let (store, seats) = opened(rt, rt.alloc(), shape);
     let mut passes = dealt(rt, rt.alloc(), &store, seats);
     passes.len() == usize::from(number)
         && each_puts_and_gets(&mut passes)

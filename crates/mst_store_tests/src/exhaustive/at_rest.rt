@@ -3,18 +3,12 @@
 //!
 //! A call is one of four of a pass: it pins, or ends its pin; it puts a first or a second value at
 //! the key a; it counts the rows. A pinned pass leaves out the last three.
-use crate::fixtures::{dealt, is_value, opened, still_gets};
+use crate::fixtures::{is_value, still_gets};
+use crate::stores::{Seat, dealt, opened};
 use mst_key::{Key, Value};
-use mst_store::{Pass, Pinned, WriteFault};
+use mst_store::{Pass, Pinned, Shape, WriteFault};
 use std::alloc::{AllocError, Global};
 use std::process::Abort;
-
-/// A pass, free or pinned.
-#[derive(Drop)]
-enum Seat<'a> {
-    Free(Pass<'a, Global>),
-    Held(Pinned<'a, Global>),
-}
 
 /// A version: the change that made its two rows, from 1, or 0 for the empty map, which takes none;
 /// and the value of the key.
@@ -212,7 +206,7 @@ fn free_places<'a>(
 
 // Whether a script is answered right over a new store.
 fn is_right(rt: &(impl Abort + AllocGlobal), rows: u32, script: u32) -> bool {
-    let (store, seats) = opened(rt, rt.alloc(), rows, 3);
+    let (store, seats) = opened(rt, rt.alloc(), Shape { rows, passes: 3 });
     let passes = dealt(rt, rt.alloc(), &store, seats);
     let Ok(places) = free_places(rt.alloc(), passes) else {
         return false;

@@ -1,10 +1,11 @@
 //! Memory that is refused: to the dealing of passes, and to the reads of a pinned pass.
 ghost use Rattle.std.specs.Prelude.{◌≡◌};
 
-use crate::fixtures::{both_passes, counts, gets, heap_of, opened, puts, still_gets};
+use crate::fixtures::{PROOF_OF_BOTH, counts, gets, puts, still_gets};
+use crate::stores::{SMALL, both_passes, fill, heap_of, is_full, opened};
 use linked_list_allocator::LocalHeap;
 use mst_key::Key;
-use mst_store::{Memory, Pass, Pinned, Seats, Store};
+use mst_store::{Memory, Pass, Pinned, Seats, Shape, Store};
 use std::alloc::Global;
 use std::process::Abort;
 
@@ -46,7 +47,14 @@ fn refused_heaps(
 
 #[test]
 fn each_growth_of_deal_is_refused(rt: HostRuntime) {
-    let (store, seats) = opened(&rt, rt.alloc(), 4, 32);
+    let (store, seats) = opened(
+        &rt,
+        rt.alloc(),
+        Shape {
+            rows: 4,
+            passes: 32,
+        },
+    );
     let refused = refused_heaps(&rt, &store, seats);
     assert!(rt; 16 <= refused, "{refused} heaps were too small");
 }
@@ -58,12 +66,6 @@ fn range_in(pinned: &mut Pinned<Global>, heap: &LocalHeap) -> Option<bool> {
         Err(Memory) => None,
     }
 }
-
-/// The proof of a key of the map of a with 1 and abc with x: the version 1, the number 1 of texts,
-/// the length of the one text, and the text of the node of both.
-const PROOF_OF_BOTH: &[u8] = &[
-    1, 1, 0, 0, 0, 17, 1, 0, 0, 2, 0, 1, 0x61, 1, 0x31, 0, 3, 0x61, 0x62, 0x63, 1, 0x78, 0,
-];
 
 // Whether a proof is right in this heap; none where memory was refused.
 fn proof_in(pinned: &mut Pinned<Global>, heap: &LocalHeap, key: &Key) -> Option<bool> {
@@ -132,32 +134,13 @@ fn reads_pinned<'a>(
 
 #[test]
 fn each_growth_of_a_pinned_read_is_refused(rt: HostRuntime) {
-    let (store, seats) = opened(&rt, rt.alloc(), 8, 2);
+    let (store, seats) = opened(&rt, rt.alloc(), SMALL);
     let (mut first, mut second) = both_passes(&rt, rt.alloc(), &store, seats);
     assert!(rt; puts(&mut first, b"a", b"1", None) && puts(&mut second, b"abc", b"x", None));
     let (mut second, right) = reads_pinned(rt.alloc(), second, &mut first);
     assert!(rt; right);
     // the pin is over, and the rows that it kept are free
     assert!(rt; counts(&mut second, Some(3)) && gets(&mut second, b"a", Some(b"2")));
-}
-
-// Takes what is left of the heap, in blocks of the least size.
-fn fill<'h>(rt: &(impl Abort + AllocGlobal), heap: &'h LocalHeap) -> Vec<Vec<u8, &'h LocalHeap>> {
-    let mut blocks = Vec::new(rt.alloc());
-    for _ in 0..1024u32 {
-        let Ok(block) = Vec::with_capacity(heap, 1) else {
-            return blocks;
-        };
-        if blocks.push(block).is_err() {
-            panic!(rt; "no memory")
-        }
-    }
-    blocks
-}
-
-// Whether not the least block fits into the heap.
-fn is_full(heap: &LocalHeap) -> bool {
-    Vec::<u8, &LocalHeap>::with_capacity(heap, 1).is_err()
 }
 
 // Whether the pinned pass still has its number and its version, of this root.
@@ -217,7 +200,7 @@ fn serve_when_full<'h>(
 #[test]
 fn a_pinned_pass_goes_on_over_a_full_heap(rt: HostRuntime) {
     let heap = heap_of(&rt, 16_384);
-    let (store, seats) = opened(&rt, &heap, 8, 2);
+    let (store, seats) = opened(&rt, &heap, SMALL);
     let (first, second) = both_passes(&rt, &heap, &store, seats);
     serve_when_full(&rt, first, second, &heap);
 }

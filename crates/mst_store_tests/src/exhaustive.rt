@@ -1,0 +1,5 @@
+//! All of a kind: each number of passes, each short script of three passes, and each growth that is
+//! refused.
+mod at_rest;
+mod growths;
+mod numbers;

@@ -1,0 +1,94 @@
+//! Stores with their passes, and the heaps that they stand in.
+ghost use Rattle.std.specs.Prelude.{◌≡◌, length};
+ghost use Rattle.mst_store.specs.Passes.{new_passes};
+
+use linked_list_allocator::LocalHeap;
+use mst_store::{Pass, Pinned, Seats, Shape, Store};
+use std::alloc::{Allocator, Global};
+use std::process::Abort;
+
+pub(crate) const SMALL: Shape = Shape { rows: 8, passes: 2 };
+
+/// A heap of so many bytes.
+pub(crate) fn heap_of(rt: &(impl Abort + AllocGlobal), bytes: usize) -> LocalHeap {
+    let Ok(heap) = LocalHeap::new(rt.alloc(), bytes) else {
+        panic!(rt; "no memory")
+    };
+    heap
+}
+
+/// Takes what is left of the heap, in blocks of the least size.
+pub(crate) fn fill<'h>(
+    rt: &(impl Abort + AllocGlobal),
+    heap: &'h LocalHeap,
+) -> Vec<Vec<u8, &'h LocalHeap>> {
+    let mut blocks = Vec::new(rt.alloc());
+    for _ in 0..1024u32 {
+        let Ok(block) = Vec::with_capacity(heap, 1) else {
+            return blocks;
+        };
+        if blocks.push(block).is_err() {
+            panic!(rt; "no memory")
+        }
+    }
+    blocks
+}
+
+/// Whether not the least block fits into the heap.
+pub(crate) fn is_full(heap: &LocalHeap) -> bool {
+    Vec::<u8, &LocalHeap>::with_capacity(heap, 1).is_err()
+}
+
+/// A store of this size.
+pub(crate) fn opened<A: Allocator + Copy>(
+    rt: &impl Abort,
+    alloc: A,
+    shape: Shape,
+) -> (Store<A>, Seats<A>)
+    ensures own { result.1 ≡ result.0 }
+{
+    let Ok(opened) = Store::open(alloc, shape) else {
+        panic!(rt; "no memory")
+    };
+    opened
+}
+
+/// The passes of a store.
+pub(crate) fn dealt<'a, A: Allocator + Copy>(
+    rt: &impl Abort,
+    alloc: A,
+    store: &'a Store<A>,
+    seats: Seats<A>,
+) -> Vec<Pass<'a, A>, A>
+    requires own { seats ≡ store.now }
+    ensures passes { result.items ≡ new_passes store.now }
+    ensures count { length result.items ≡ store.now.passes }
+{
+    let Ok(passes) = store.deal(alloc, seats) else {
+        panic!(rt; "no memory")
+    };
+    passes
+}
+
+/// The passes of a store of two.
+pub(crate) fn both_passes<'a, A: Allocator + Copy>(
+    rt: &impl Abort,
+    alloc: A,
+    store: &'a Store<A>,
+    seats: Seats<A>,
+) -> (Pass<'a, A>, Pass<'a, A>)
+    requires own { seats ≡ store.now }
+{
+    let mut passes = dealt(rt, alloc, store, seats);
+    match (passes.pop(), passes.pop()) {
+        (Some(second), Some(first)) => (first, second),
+        _ => panic!(rt; "two passes"),
+    }
+}
+
+/// A pass, free or pinned.
+#[derive(Drop)]
+pub(crate) enum Seat<'a> {
+    Free(Pass<'a, Global>),
+    Held(Pinned<'a, Global>),
+}
