@@ -37,3 +37,12 @@ returns-in-Err-default-2-clause-told g c = search rules
 
 pub returns-in-Err-default-2-clause-failed : goal.returns-in-Err-default-2-clause-failed
 returns-in-Err-default-2-clause-failed g c = search rules
+
+pub returns-in_default-Memory-clause-broke : goal.returns-in_default-Memory-clause-broke
+returns-in_default-Memory-clause-broke g c = search rules
+
+pub returns-in-Err-default-clause-broke : goal.returns-in-Err-default-clause-broke
+returns-in-Err-default-clause-broke g c = search rules
+
+pub returns-in-Err-default-2-clause-broke : goal.returns-in-Err-default-2-clause-broke
+returns-in-Err-default-2-clause-broke g c = search rules

@@ -1,3 +1,4 @@
+use Rattle.std.proofs.Common.{rules}
 use Rattle.std.proofs.Common.{◌∙◌, sym}
 use Rattle.std.proofs.lemmas.Option.{none-some}
 use Rattle.mst_command.proofs.PlainWords.{load_found}
@@ -15,3 +16,15 @@ returns-in_err-calls-clause-only c = λ size is. absurd (none-some size.calls (s
 pub returns-clause-only : goal.returns-clause-only
 returns-clause-only c = λ size is. load_found c.number.result c.number-2.result c.number-3.result c.in_ok-readers.readers c.in_ok-writers.writers c.in_ok-calls.calls size c.in_ok-readers.was c.in_ok-writers.was c.in_ok-calls.was
     (c.number.ensures.only size.readers is.readers_fit is.readers) (c.number-2.ensures.only size.writers is.writers_fit is.writers) (c.number-3.ensures.only size.calls is.calls_fit is.calls)
+
+pub returns-in_err-readers-clause-some : goal.returns-in_err-readers-clause-some
+returns-in_err-readers-clause-some c = search rules
+
+pub returns-in_err-writers-clause-some : goal.returns-in_err-writers-clause-some
+returns-in_err-writers-clause-some c = search rules
+
+pub returns-in_err-calls-clause-some : goal.returns-in_err-calls-clause-some
+returns-in_err-calls-clause-some c = search rules
+
+pub returns-clause-some : goal.returns-clause-some
+returns-clause-some c = search rules

@@ -1,4 +1,5 @@
 use Rattle.std.proofs.Common.{rules}
+use Rattle.mst_command.specs.Recalling.{reply_text}
 use Rattle.mst_command.proofs.replay.text_of.Goals as goal
 
 pub new-text-requires : goal.new-text-requires
@@ -27,3 +28,7 @@ extend-requires-in-FaultLine c = search rules
 
 pub extend-requires-2 : goal.extend-requires-2
 extend-requires-2 c = search rules
+
+pub returns : goal.returns
+unfolding reply_text
+returns c = search rules
