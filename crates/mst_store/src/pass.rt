@@ -55,9 +55,9 @@ impl<'a, A: Allocator + Copy> Pass<'a, A> {
         ensures once { self.new.asked ≡ self.old.asked + 1 }
     {
         let at = reading::pin(&mut self.seat, self.number);
-        let found = reading::get(&mut self.seat, &at, key);
+        let value = reading::get(&mut self.seat, &at, key);
         self.seat.unpin(self.number, at.pinned);
-        found
+        value
     }
 
     /// The pair of the least key above the bound; with no bound, of the least key. It takes no
@@ -68,9 +68,9 @@ impl<'a, A: Allocator + Copy> Pass<'a, A> {
         ensures once { self.new.asked ≡ self.old.asked + 1 }
     {
         let at = reading::pin(&mut self.seat, self.number);
-        let found = reading::next(&mut self.seat, &at, after);
+        let pair = reading::next(&mut self.seat, &at, after);
         self.seat.unpin(self.number, at.pinned);
-        found
+        pair
     }
 
     /// The first pairs, at most `limit`, of the keys that are at least `from` and below `to`, in
@@ -133,9 +133,9 @@ impl<'a, A: Allocator + Copy> Pass<'a, A> {
     {
         let at = reading::pin(&mut self.seat, self.number);
         match reading::prove(&mut self.seat, alloc, &at, key) {
-            Ok(found) => {
+            Ok(proof) => {
                 self.seat.unpin(self.number, at.pinned);
-                Ok(found)
+                Ok(proof)
             }
             Err(Memory) => {
                 // no proof is answered, so no map was seen

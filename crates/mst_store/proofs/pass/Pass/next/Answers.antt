@@ -13,8 +13,8 @@ pin-at-requires-clause-few_rows g c = search rules
 pub pin-at-requires-clause-few_passes : goal.pin-at-requires-clause-few_passes
 pin-at-requires-clause-few_passes g c = search rules
 
-pub next-found-requires : goal.next-found-requires
-next-found-requires g c = search rules
+pub next-pair-requires : goal.next-pair-requires
+next-pair-requires g c = search rules
 
 pub unpin-requires-clause-pinned : goal.unpin-requires-clause-pinned
 unpin-requires-clause-pinned g c = search rules
