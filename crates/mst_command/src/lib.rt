@@ -16,8 +16,8 @@
 //! load, or writes a text. `specs/Programs.antt` says what each task reads and writes,
 //! `specs/Commanding.antt` what words ask for and how a program ends early.
 //!
-//! Words of any other form are for `mst_program`, which reads them by `clap`. Nothing here takes the
-//! terminal or the program's own arguments.
+//! Words of any other form are for `mst_program`, which reads them by `clap`. Nothing here takes
+//! the terminal or the program's own arguments.
 #![tactic(auto)]
 
 mod ending;

@@ -21,8 +21,8 @@
 //! record's word DONE. The publish swaps CURRENT, and the mask of pins that came back is then
 //! transferred into the old record's DONE.
 //!
-//! [`Core`] keeps those words as the shared store does, and takes events one at a time. What it says
-//! of them, [`pinned_rows_stay`] and [`writes_are_blank`] above all, is said of every order of
+//! [`Core`] keeps those words as the shared store does, and takes events one at a time. What it
+//! says of them, [`pinned_rows_stay`] and [`writes_are_blank`] above all, is said of every order of
 //! events. `specs/` has the state that the contracts speak of, with no word in it.
 //!
 //! There is no thread here, no row with anything in it and no map: `mst_words` has the words that
