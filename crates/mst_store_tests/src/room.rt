@@ -106,12 +106,7 @@ fn is_wanted(answer: &Result<Option<Value>, WriteFault>, wanted: Wanted) -> bool
 type Step = (&'static [u8], Option<&'static [u8]>, Wanted, usize);
 
 /// Makes these changes in a new store of so many rows, of which this is the pass.
-fn run_all(
-    rt: &(impl Abort + AllocGlobal),
-    pass: &mut Pass<Global>,
-    rows: u32,
-    steps: &[Step],
-) {
+fn run_all(rt: &(impl Abort + AllocGlobal), pass: &mut Pass<Global>, rows: u32, steps: &[Step]) {
     let mut listed = Listed::new(rt.alloc(), rows);
     for (bytes, new, wanted, taken) in steps {
         let new = match new {
