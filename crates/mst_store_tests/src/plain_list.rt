@@ -3,7 +3,6 @@ use mst_key::{Key, Value};
 use mst_node::root_of;
 use std::alloc::Global;
 use std::process::Abort;
-use std::test::Fail;
 
 /// A key with its layer and its value.
 #[derive(PartialEq, Eq, Drop)]
@@ -110,38 +109,41 @@ impl PlainList {
     /// The list in which the key has this value, or none.
     pub(crate) fn with(
         &self,
+        rt: &impl Abort,
         alloc: Global,
         key: &Key,
         value: Option<&Value>,
-    ) -> Result<PlainList, Fail> {
+    ) -> PlainList {
         let mut entries = Vec::new(alloc);
         for entry in self.entries.as_slice() {
             if entry.key < *key {
-                entries.push(entry.copy())?;
+                entries.push(entry.copy()).expect(rt, "memory");
             }
         }
         if let Some(value) = value {
-            entries.push(Entry {
+            let entry = Entry {
                 layer: key.layer(),
                 key: key.copy(),
                 value: value.copy(),
-            })?;
+            };
+            entries.push(entry).expect(rt, "memory");
         }
         for entry in self.entries.as_slice() {
             if entry.key > *key {
-                entries.push(entry.copy())?;
+                entries.push(entry.copy()).expect(rt, "memory");
             }
         }
-        Ok(PlainList { entries })
+        PlainList { entries }
     }
 
-    pub(crate) fn root(&self, rt: &impl Abort, alloc: Global) -> Result<[u8; 32], Fail> {
+    pub(crate) fn root(&self, rt: &impl Abort, alloc: Global) -> [u8; 32] {
         let mut pairs = Vec::new(alloc);
         for entry in self.entries.as_slice() {
-            pairs.push((entry.key.copy(), entry.value.copy()))?;
+            let pair = (entry.key.copy(), entry.value.copy());
+            pairs.push(pair).expect(rt, "memory");
         }
         assert!(rt; pairs.len() <= 65_535);
-        Ok(root_of(pairs.as_slice()))
+        root_of(pairs.as_slice())
     }
 
     /// The entries of the tree whose top node has the entry at this place as its first, if it is

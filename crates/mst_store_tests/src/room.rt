@@ -1,14 +1,11 @@
 //! Scripts of puts and removes, over the store and over a plain list.
-ghost use Rattle.std.specs.Prelude.{◌≡◌};
-
 use crate::fixtures::{has_root, is_value, key, value, write};
 use crate::plain_list::PlainList;
-use crate::stores::opened;
+use crate::stores::{dealt, opened};
 use mst_key::{Key, Value};
-use mst_store::{Pass, Seats, Shape, Store, WriteFault};
+use mst_store::{Pass, Shape, WriteFault};
 use std::alloc::Global;
 use std::process::Abort;
-use std::test::Fail;
 
 /// Whether the pass finds at the key what the list has there.
 fn gets_as(pass: &mut Pass<Global>, key: &Key, list: &PlainList) -> bool {
@@ -20,11 +17,10 @@ fn rows_of(pass: &mut Pass<Global>) -> Option<u32> {
     pass.rows().ok()?
 }
 
-/// A store of so many rows, and the plain list of the map that it is to have, with the rows that
-/// the map takes.
+/// The plain list of the map that a store of so many rows is to have, and the rows that the map
+/// takes.
 #[derive(Drop)]
-struct Both<'a> {
-    passes: Vec<Pass<'a, Global>>,
+struct Listed {
     list: PlainList,
     taken: usize,
     rows: usize,
@@ -33,33 +29,14 @@ struct Both<'a> {
 /// What a write answers.
 type Answer = Result<Option<Value>, WriteFault>;
 
-/// The passes of a store of so many rows, beside the empty list.
-fn beside_list<'a>(
-    rt: &(impl Abort + AllocGlobal),
-    store: &'a Store<Global>,
-    seats: Seats<Global>,
-    rows: u32,
-) -> Both<'a>
-    requires own { seats ≡ store.now }
-{
-    let Ok(passes) = store.deal(rt.alloc(), seats) else {
-        panic!(rt; "no memory")
-    };
-    Both {
-        passes,
-        list: PlainList::new(rt.alloc()),
-        taken: 0,
-        rows: rows as usize,
-    }
-}
-
-impl Both<'_> {
-    /// Puts, or removes where no value is given, by one of the passes.
-    fn write(&mut self, rt: &impl Abort, by: usize, key: &Key, new: Option<&Value>) -> Answer {
-        let Some(pass) = self.passes.get_mut(by) else {
-            panic!(rt; "no such pass")
-        };
-        write(pass, key, new)
+impl Listed {
+    /// The empty list beside a store of so many rows.
+    fn new(alloc: Global, rows: u32) -> Listed {
+        Listed {
+            list: PlainList::new(alloc),
+            taken: 0,
+            rows: rows as usize,
+        }
     }
 
     /// Makes the change in the list, and compares whether there was room, and the old value.
@@ -69,8 +46,8 @@ impl Both<'_> {
         key: &Key,
         new: Option<&Value>,
         answer: &Answer,
-    ) -> Result<(), Fail> {
-        let list = self.list.with(rt.alloc(), key, new)?;
+    ) {
+        let list = self.list.with(rt, rt.alloc(), key, new);
         let cost = list.cost(&self.list);
         assert!(rt; answer.is_ok() == (self.taken.saturating_add(cost.new) <= self.rows));
         if let Ok(old) = answer {
@@ -78,51 +55,32 @@ impl Both<'_> {
             self.list = list;
             self.taken = cost.all;
         }
-        Ok(())
     }
+}
 
-    /// Compares the root, and what a pass finds at the key.
-    fn compare(
-        &mut self,
-        rt: &(impl Abort + AllocGlobal),
-        by: usize,
-        key: &Key,
-    ) -> Result<(), Fail> {
-        let root = self.list.root(rt, rt.alloc())?;
-        let Some(pass) = self.passes.get_mut(by) else {
-            panic!(rt; "no such pass")
-        };
-        assert!(rt; has_root(pass, &root));
-        assert!(rt; gets_as(pass, key, &self.list));
-        Ok(())
-    }
+/// Puts, or removes where no value is given, and compares whether there was room and all that the
+/// store then tells of the map.
+fn change(
+    rt: &(impl Abort + AllocGlobal),
+    pass: &mut Pass<Global>,
+    listed: &mut Listed,
+    key: &Key,
+    new: Option<&Value>,
+) -> Answer {
+    let answer = write(pass, key, new);
+    listed.follow(rt, key, new, &answer);
+    assert!(rt; has_root(pass, &listed.list.root(rt, rt.alloc())));
+    assert!(rt; gets_as(pass, key, &listed.list));
+    answer
+}
 
-    /// Puts, or removes where no value is given, by one of the passes, and compares whether there
-    /// was room and all that the store then tells of the map.
-    fn change(
-        &mut self,
-        rt: &(impl Abort + AllocGlobal),
-        by: usize,
-        key: &Key,
-        new: Option<&Value>,
-    ) -> Result<Answer, Fail> {
-        let answer = self.write(rt, by, key, new);
-        self.follow(rt, key, new, &answer)?;
-        self.compare(rt, by, key)?;
-        Ok(answer)
-    }
-
-    /// How many rows the map takes, by the store and by the list.
-    fn rows(&mut self, rt: &impl Abort) -> usize {
-        let Some(pass) = self.passes.first_mut() else {
-            panic!(rt; "no pass")
-        };
-        let Some(rows) = rows_of(pass) else {
-            panic!(rt; "no other pass has the turn, and none pins")
-        };
-        assert!(rt; rows as usize == self.taken);
-        rows as usize
-    }
+/// How many rows the map takes, by the store and by the list.
+fn count_rows(rt: &impl Abort, pass: &mut Pass<Global>, listed: &Listed) -> usize {
+    let Some(rows) = rows_of(pass) else {
+        panic!(rt; "no other pass has the turn, and none pins")
+    };
+    assert!(rt; rows as usize == listed.taken);
+    rows as usize
 }
 
 /// What a write is to answer.
@@ -147,36 +105,34 @@ fn is_wanted(answer: &Result<Option<Value>, WriteFault>, wanted: Wanted) -> bool
 /// map then takes.
 type Step = (&'static [u8], Option<&'static [u8]>, Wanted, usize);
 
-/// Makes these changes.
-fn run_all(
-    rt: &(impl Abort + AllocGlobal),
-    both: &mut Both<'_>,
-    steps: &[Step],
-) -> Result<(), Fail> {
+/// Makes these changes in a new store of so many rows, of which this is the pass.
+fn run_all(rt: &(impl Abort + AllocGlobal), pass: &mut Pass<Global>, rows: u32, steps: &[Step]) {
+    let mut listed = Listed::new(rt.alloc(), rows);
     for (bytes, new, wanted, taken) in steps {
         let new = match new {
             Some(bytes) => Some(value(rt, bytes)),
             None => None,
         };
-        let answer = both.change(rt, 0, &key(rt, bytes), new.as_ref())?;
+        let answer = change(rt, pass, &mut listed, &key(rt, bytes), new.as_ref());
         assert!(rt; is_wanted(&answer, *wanted));
-        assert!(rt; both.rows(rt) == *taken);
+        assert!(rt; count_rows(rt, pass, &listed) == *taken);
     }
-    Ok(())
 }
 
 /// Makes the changes of each case in a store of so many rows.
-fn runs(rt: &(impl Abort + AllocGlobal), cases: &[(u32, &[Step])]) -> Result<(), Fail> {
+fn runs(rt: &(impl Abort + AllocGlobal), cases: &[(u32, &[Step])]) {
     for (rows, steps) in cases {
         let shape = Shape {
             rows: *rows,
             passes: 1,
         };
         let (store, seats) = opened(rt, rt.alloc(), shape);
-        let mut both = beside_list(rt, &store, seats, *rows);
-        run_all(rt, &mut both, steps)?;
+        let mut passes = dealt(rt, rt.alloc(), &store, seats);
+        match passes.first_mut() {
+            Some(pass) => run_all(rt, pass, *rows, steps),
+            None => panic!(rt; "one pass"),
+        }
     }
-    Ok(())
 }
 
 const X: Option<&'static [u8]> = Some(b"x");
@@ -194,7 +150,7 @@ const TWO: Step = (b"a", Z, Wanted::Nothing, 3);
 const TOP: Step = (b"39", Y, Wanted::Nothing, 6);
 
 #[test]
-fn a_node_is_copied_whole(rt: HostRuntime) -> Result<(), Fail> {
+fn a_node_is_copied_whole(rt: HostRuntime) {
     // two rows are left over, and three are needed
     const REFUSED: &[Step] = &[
         ONE,
@@ -208,11 +164,11 @@ fn a_node_is_copied_whole(rt: HostRuntime) -> Result<(), Fail> {
         (5, &[ONE, TWO, (b"1", Y, Wanted::NoRoom, 3)]),
         (6, &[ONE, TWO, (b"1", Y, Wanted::Value(b"x"), 3)]),
     ];
-    runs(&rt, CASES)
+    runs(&rt, CASES);
 }
 
 #[test]
-fn a_top_node_splits_the_tree_below(rt: HostRuntime) -> Result<(), Fail> {
+fn a_top_node_splits_the_tree_below(rt: HostRuntime) {
     const CASES: &[(u32, &[Step])] = &[
         // six rows are left over, and six are needed; to take the key out again, three and three
         (9, &[ONE, TWO, TOP, (b"39", None, Wanted::Value(b"y"), 3)]),
@@ -221,99 +177,105 @@ fn a_top_node_splits_the_tree_below(rt: HostRuntime) -> Result<(), Fail> {
         (10, &[ONE, TWO, TOP, (b"1", Y, Wanted::Value(b"x"), 6)]),
         (9, &[ONE, TWO, TOP, (b"1", Y, Wanted::NoRoom, 6)]),
     ];
-    runs(&rt, CASES)
+    runs(&rt, CASES);
 }
 
 /// The numbers below 300, of layers 0 to 2, and numbers of layers 2 to 4, in decimal digits.
-fn keys(rt: &(impl Abort + AllocGlobal)) -> Result<Vec<Key>, Fail> {
+fn keys(rt: &(impl Abort + AllocGlobal)) -> Vec<Key> {
     let mut keys = Vec::new(rt.alloc());
     for number in 0..300u32 {
-        let digits = format!(in rt.alloc(); "{number}")?;
-        keys.push(key(rt, digits.as_bytes()))?;
+        let digits = format!(in rt.alloc(); "{number}").expect(rt, "memory");
+        keys.push(key(rt, digits.as_bytes())).expect(rt, "memory");
     }
     for digits in ["671", "886", "1039", "88484", "172608"] {
-        keys.push(key(rt, digits.as_bytes()))?;
+        keys.push(key(rt, digits.as_bytes())).expect(rt, "memory");
     }
-    Ok(keys)
+    keys
 }
 
 /// One random change, by the state of the generator: whether it found no room.
 fn random_change(
     rt: &(impl Abort + AllocGlobal),
-    both: &mut Both<'_>,
+    passes: &mut [Pass<'_, Global>],
+    listed: &mut Listed,
     keys: &[Key],
     state: u64,
-) -> Result<bool, Fail> {
+) -> bool {
+    let bytes = state.to_be_bytes();
     let Some(key) = keys.get((state >> 33) as usize % 305) else {
         panic!(rt; "305 keys")
     };
-    let bytes = state.to_be_bytes();
+    let Some(pass) = passes.get_mut(usize::from(bytes[1] % 2)) else {
+        panic!(rt; "two passes")
+    };
     let new = value(rt, &[bytes[3] % 4]);
     // two puts for each remove
     let new = if bytes[0] % 3 < 2 { Some(&new) } else { None };
-    let answer = both.change(rt, usize::from(bytes[1] % 2), key, new)?;
-    Ok(answer.is_err())
+    change(rt, pass, listed, key, new).is_err()
 }
 
-/// So many random changes by two passes, from a generator that begins at the seed. It answers how
-/// many of them found no room.
+/// Three thousand random changes by two passes, from a generator that begins at the seed. It
+/// answers how many of them found no room.
 fn random_changes(
     rt: &(impl Abort + AllocGlobal),
-    both: &mut Both<'_>,
-    keys: &[Key],
-    steps: u32,
+    passes: &mut [Pass<'_, Global>],
+    listed: &mut Listed,
     seed: u64,
-) -> Result<u32, Fail> {
+) -> u32 {
+    let keys = keys(rt);
     let (mut state, mut refused) = (seed, 0u32);
-    for _ in 0..steps {
+    for _ in 0..3_000u32 {
         state = state
             .wrapping_mul(6_364_136_223_846_793_005)
             .wrapping_add(1_442_695_040_888_963_407);
-        if random_change(rt, both, keys, state)? {
+        if random_change(rt, passes, listed, &keys, state) {
             refused = refused.saturating_add(1);
         }
     }
-    Ok(refused)
+    refused
 }
 
-/// Three thousand random changes, some of which find no room.
+/// Some random changes find no room, and the map is not empty behind them.
 fn change_at_random(
     rt: &(impl Abort + AllocGlobal),
-    both: &mut Both<'_>,
+    passes: &mut [Pass<'_, Global>],
+    rows: u32,
     seed: u64,
-) -> Result<(), Fail> {
-    let keys = keys(rt)?;
-    let refused = random_changes(rt, both, &keys, 3_000, seed)?;
+) {
+    let mut listed = Listed::new(rt.alloc(), rows);
+    let refused = random_changes(rt, passes, &mut listed, seed);
     assert!(rt;
         0 < refused && refused < 3_000,
         "{refused} changes were refused"
     );
-    assert!(rt; both.rows(rt) > 0);
-    Ok(())
+    let Some(pass) = passes.first_mut() else {
+        panic!(rt; "two passes")
+    };
+    assert!(rt; count_rows(rt, pass, &listed) > 0);
 }
 
 /// Three thousand random changes answer as the list does, and some of them find no room.
-fn answers_as_the_list(rt: &(impl Abort + AllocGlobal), seed: u64) -> Result<(), Fail> {
+fn answers_as_the_list(rt: &(impl Abort + AllocGlobal), seed: u64) {
     let shape = Shape {
         rows: 240,
         passes: 2,
     };
     let (store, seats) = opened(rt, rt.alloc(), shape);
-    let mut both = beside_list(rt, &store, seats, 240);
-    change_at_random(rt, &mut both, seed)
+    let mut passes = dealt(rt, rt.alloc(), &store, seats);
+    change_at_random(rt, &mut passes, 240, seed);
 }
 
 #[test]
-fn a_long_script_answers_as_the_list_does(rt: HostRuntime) -> Result<(), Fail> {
-    answers_as_the_list(&rt, 1)
+fn a_long_script_answers_as_the_list_does(rt: HostRuntime) {
+    answers_as_the_list(&rt, 1);
 }
 
 #[test]
-fn a_second_long_script_answers_as_the_list_does(rt: HostRuntime) -> Result<(), Fail> {
-    answers_as_the_list(&rt, 2)
+fn a_second_long_script_answers_as_the_list_does(rt: HostRuntime) {
+    answers_as_the_list(&rt, 2);
 }
 
 #[test]
-fn a_third_long_script_answers_as_the_list_does(rt: HostRuntime) -> Result<(), Fail> {
-    answers_as_the_list(&rt, 3)
+fn a_third_long_script_answers_as_the_list_does(rt: HostRuntime) {
+    answers_as_the_list(&rt, 3);
 }

@@ -1,9 +1,10 @@
 //! Passes that met or settled get what the others put.
+ghost use Rattle.std.specs.Prelude.{◌≡◌};
 ghost use Rattle.mst_store.specs.Passes.{IsSamePass};
 ghost use Rattle.mst_store.specs.Settling.{AreAllPasses};
 
 use crate::fixtures::{ROOT_OF_BOTH, gets, has_root, has_version};
-use crate::stores::opened;
+use crate::stores::{dealt, opened};
 use mst_key::{Key, Value};
 use mst_store::{Pass, Shape, meet, settle};
 use std::alloc::{Allocator, Global};
@@ -74,35 +75,40 @@ pub(crate) fn each_gets_what_all_put<A: Allocator + Copy>(
 #[test]
 fn settled_passes_get_what_each_put(rt: HostRuntime) {
     let (store, seats) = opened(&rt, rt.alloc(), Shape { rows: 9, passes: 2 });
-    let Ok(mut passes) = store.deal(rt.alloc(), seats) else {
-        panic!(rt; "no memory")
-    };
+    let mut passes = dealt(&rt, rt.alloc(), &store, seats);
     each_gets_what_all_put(&rt, &mut passes, &[1, 2]);
 }
 
 #[test]
 fn passes_settle_in_any_order(rt: HostRuntime) {
     let (store, seats) = opened(&rt, rt.alloc(), LARGER);
-    let Ok(mut passes) = store.deal(rt.alloc(), seats) else {
-        panic!(rt; "no memory")
-    };
+    let mut passes = dealt(&rt, rt.alloc(), &store, seats);
     assert!(rt; passes.len() == 3);
     passes.swap(0, 2);
     passes.swap(1, 2);
     each_gets_what_all_put(&rt, &mut passes, &[3, 1, 2]);
 }
 
+// Two passes that each put a key, and then met, get what both put.
+fn both_get_both<'a, A: Allocator + Copy>(
+    rt: &impl Abort,
+    one: &mut Pass<'a, A>,
+    other: &mut Pass<'a, A>,
+)
+    requires of_one { one.old.store ≡ other.old.store }
+{
+    assert!(rt; adds(one, b"a", b"x") && adds(other, b"b", b"x"));
+    meet(one, other);
+    assert!(rt; gets(one, b"b", Some(b"x")) && gets(other, b"a", Some(b"x")));
+}
+
 #[test]
 fn passes_that_met_get_what_both_put(rt: HostRuntime) {
     let (store, seats) = opened(&rt, rt.alloc(), LARGER);
-    let Ok(mut passes) = store.deal(rt.alloc(), seats) else {
-        panic!(rt; "no memory")
-    };
+    let mut passes = dealt(&rt, rt.alloc(), &store, seats);
     assert!(rt; passes.len() == 3);
     let (front, back) = passes.split_at_mut(1);
-    assert!(rt; adds(&mut front[0], b"a", b"x") && adds(&mut back[1], b"b", b"x"));
-    meet(&mut front[0], &mut back[1]);
-    assert!(rt; gets(&mut front[0], b"b", Some(b"x")) && gets(&mut back[1], b"a", Some(b"x")));
+    both_get_both(&rt, &mut front[0], &mut back[1]);
 }
 
 // Puts abc by the first pass, and a by another.
@@ -141,8 +147,6 @@ fn all_have_the_root_of_both(rt: &impl Abort, passes: &mut [Pass<Global>])
 #[test]
 fn settled_passes_have_one_version_and_root(rt: HostRuntime) {
     let (store, seats) = opened(&rt, rt.alloc(), Shape { rows: 9, passes: 2 });
-    let Ok(mut passes) = store.deal(rt.alloc(), seats) else {
-        panic!(rt; "no memory")
-    };
+    let mut passes = dealt(&rt, rt.alloc(), &store, seats);
     all_have_the_root_of_both(&rt, &mut passes);
 }
