@@ -100,12 +100,6 @@ returns-in-Down-clause-removed g t c = λ z.
     let all = closed_round made d.framed (c.close.ensures.made made.placed made.root made.piece (framed g t at.After-remove_at-seam z d)) in
     regrown _ _ _ _ (tree_round d.framed (without d.inner c.args.key.now)) (without z c.args.key.now) _ (λ x. in_tree d.inner x + in_frame d.framed x) (in_tree z) (without_rows d.inner c.args.key.now + frame_rows c.in-Down.frame) (without_rows z c.args.key.now) all d.is d.given d.rows
 
-pub returns-in-Down-clause-blank : goal.returns-in-Down-clause-blank
-returns-in-Down-clause-blank g t c = search rules
-
-pub returns-in-Down-clause-kept : goal.returns-in-Down-clause-kept
-returns-in-Down-clause-kept g t c = search rules
-
 -- ---- the node has the key's entry
 
 module _ (g : Over) (n : ℕ) (c : goal.In-Here g n) (z : SearchTree (g.R.Rows.content c.args.rows.now) c.args.desk.now c.args.link) where
