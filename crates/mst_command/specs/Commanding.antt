@@ -40,9 +40,9 @@ asks_verify _ = None
 abbrev pub two_options : List ℕ → List ℕ → List ℕ → List ℕ → Option (List ℕ × List ℕ)
 two_options first a second b =
     if bytes_eq first (codes "--rows") then
-        (if bytes_eq second (codes "--passes") then Some (a, b) else None)
+    (if bytes_eq second (codes "--passes") then Some (a, b) else None)
     else if bytes_eq first (codes "--passes") then
-        (if bytes_eq second (codes "--rows") then Some (b, a) else None)
+    (if bytes_eq second (codes "--rows") then Some (b, a) else None)
     else None
 
 -- the same, where one option is given
