@@ -90,7 +90,8 @@ fn many_pins_of_one_record(rt: HostRuntime) {
     a_new_core_answers(&rt, 2, MANY_PINS);
 }
 
-/// Whether a small heap refuses the memory for the answers to many events, and what that prints.
+/// Whether a small heap refuses the memory for the answers to many events, and prints `memory` for
+/// it.
 fn is_refused(rt: &impl Abort, alloc: Global, core: &mut Core) -> Result<bool, Fail> {
     let wide = [Event::Transfer; 64];
     let heap = LocalHeap::new(alloc, 32)?;

@@ -1,5 +1,6 @@
 //! Tests of the store and of its table over their public calls: opening, reads and writes of
-//! several passes, pins, room, settling, memory that is refused, and all schedules of a kind.
+//! several passes, pins, room, settling, memory that is refused, and all of a kind: each number of
+//! passes, each short script, each growth that is refused.
 #![tactic(auto)]
 
 #[cfg(test)]
