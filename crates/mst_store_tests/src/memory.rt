@@ -6,7 +6,7 @@ use crate::calls::{Step, run, script};
 use crate::fixtures::{PROOF_OF_BOTH, ROOT_OF_BOTH, key};
 use crate::settling::each_gets_what_all_put;
 use crate::starving::lacks_memory;
-use crate::stores::{SMALL, dealt, fill, heap_of, is_full, opened};
+use crate::stores::{AMPLE, SMALL, dealt, fill, heap_of, is_full, opened};
 use linked_list_allocator::LocalHeap;
 use mst_store::{Pass, meet};
 use std::alloc::Allocator;
@@ -40,9 +40,6 @@ fn each_growth_of_a_proof_is_refused(rt: HostRuntime) {
     const PROOF: &[Step] = &[(1, EachGrowth(Some(b"abc"))), (1, Rows(Some(3)))];
     script(&rt, 8, &[PUTS, PROOF]);
 }
-
-// The size of a heap that holds the store and more.
-const AMPLE: usize = 16_384;
 
 // The calls of two passes go on over the full heap, and take none of it.
 fn go_on<A: Allocator + Copy>(

@@ -1,30 +1,13 @@
 //! The text of each refusal.
 use mst_store::{Busy, OpenFault, WriteFault};
 use std::alloc::Global;
+use std::fmt::Display;
 use std::process::Abort;
 
-// Whether a refusal to open has this text.
-fn says(alloc: Global, fault: OpenFault, text: &str) -> bool {
-    match format!(in alloc; "{fault}") {
-        Ok(found) => found.as_str() == text,
-        Err(_) => false,
-    }
-}
-
-// Whether a refused write has this text.
-fn write_says(alloc: Global, fault: WriteFault, text: &str) -> bool {
-    match format!(in alloc; "{fault}") {
-        Ok(found) => found.as_str() == text,
-        Err(_) => false,
-    }
-}
-
-// Whether a refusal to count has this text.
-fn busy_says(alloc: Global, text: &str) -> bool {
-    match format!(in alloc; "{Busy}") {
-        Ok(found) => found.as_str() == text,
-        Err(_) => false,
-    }
+/// Whether a refusal prints this text.
+fn says<T: Display>(rt: &impl Abort, alloc: Global, fault: &T, text: &str) -> bool {
+    let printed = format!(in alloc; "{fault}").expect(rt, "memory");
+    printed.as_str() == text
 }
 
 #[test]
@@ -42,10 +25,10 @@ fn each_refusal_has_its_text(rt: HostRuntime) {
         (WriteFault::NoRoom, "no room"),
     ];
     for (fault, text) in OPENS {
-        assert!(rt; says(rt.alloc(), *fault, text), "{text}");
+        assert!(rt; says(&rt, rt.alloc(), fault, text), "{text}");
     }
     for (fault, text) in WRITES {
-        assert!(rt; write_says(rt.alloc(), *fault, text), "{text}");
+        assert!(rt; says(&rt, rt.alloc(), fault, text), "{text}");
     }
-    assert!(rt; busy_says(rt.alloc(), "another pass has the turn"));
+    assert!(rt; says(&rt, rt.alloc(), &Busy, "another pass has the turn"));
 }

@@ -7,6 +7,9 @@ use mst_store::{Pass, Shape, WriteFault};
 use std::alloc::Global;
 use std::process::Abort;
 
+/// How many random changes a test makes.
+const CHANGES: u32 = 3_000;
+
 /// Whether the pass finds at the key what the list has there.
 fn gets_as(pass: &mut Pass<Global>, key: &Key, list: &PlainList) -> bool {
     pass.get(key) == list.get(key)
@@ -224,7 +227,7 @@ fn random_changes(
 ) -> u32 {
     let keys = keys(rt);
     let (mut state, mut refused) = (seed, 0u32);
-    for _ in 0..3_000u32 {
+    for _ in 0..CHANGES {
         state = state
             .wrapping_mul(6_364_136_223_846_793_005)
             .wrapping_add(1_442_695_040_888_963_407);
@@ -245,7 +248,7 @@ fn change_at_random(
     let mut listed = Listed::new(rt.alloc(), rows);
     let refused = random_changes(rt, passes, &mut listed, seed);
     assert!(rt;
-        0 < refused && refused < 3_000,
+        0 < refused && refused < CHANGES,
         "{refused} changes were refused"
     );
     let Some(pass) = passes.first_mut() else {

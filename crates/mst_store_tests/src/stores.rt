@@ -9,6 +9,9 @@ use std::process::Abort;
 
 pub(crate) const SMALL: Shape = Shape { rows: 8, passes: 2 };
 
+/// The bytes of a heap that holds a small store, and more.
+pub(crate) const AMPLE: usize = 16_384;
+
 /// A heap of so many bytes.
 pub(crate) fn heap_of(rt: &(impl Abort + AllocGlobal), bytes: usize) -> LocalHeap {
     let Ok(heap) = LocalHeap::new(rt.alloc(), bytes) else {

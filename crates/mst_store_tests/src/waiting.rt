@@ -4,7 +4,7 @@ use crate::calls::Call::{
 };
 use crate::calls::{Step, run, script};
 use crate::fixtures::{ROOT_OF_NONE, key};
-use crate::stores::{SMALL, both_passes, dealt, fill, heap_of, opened};
+use crate::stores::{AMPLE, SMALL, both_passes, dealt, fill, heap_of, opened};
 use mst_key::{Key, Value};
 use mst_store::{Pass, Shape};
 use std::alloc::Global;
@@ -96,7 +96,7 @@ fn writes_in_turn_take_no_memory(rt: HostRuntime) {
         (1, Root(ROOT_OF_NONE)),
         (1, Version(2)),
     ];
-    let heap = heap_of(&rt, 16_384);
+    let heap = heap_of(&rt, AMPLE);
     let (store, seats) = opened(&rt, &heap, SMALL);
     let mut passes = dealt(&rt, &heap, &store, seats);
     let blocks = fill(&rt, &heap);

@@ -2,7 +2,7 @@
 ghost use Rattle.std.specs.Prelude.{◌≡◌};
 
 use crate::fixtures::{PROOF_OF_BOTH, counts, gets, puts, still_gets};
-use crate::stores::{SMALL, both_passes, fill, heap_of, is_full, opened};
+use crate::stores::{AMPLE, SMALL, both_passes, fill, heap_of, is_full, opened};
 use linked_list_allocator::LocalHeap;
 use mst_key::Key;
 use mst_store::{Memory, Pass, Pinned, Seats, Shape, Store};
@@ -199,7 +199,7 @@ fn serve_when_full<'h>(
 
 #[test]
 fn a_pinned_pass_goes_on_over_a_full_heap(rt: HostRuntime) {
-    let heap = heap_of(&rt, 16_384);
+    let heap = heap_of(&rt, AMPLE);
     let (store, seats) = opened(&rt, &heap, SMALL);
     let (first, second) = both_passes(&rt, &heap, &store, seats);
     serve_when_full(&rt, first, second, &heap);
