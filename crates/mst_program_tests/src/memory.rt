@@ -91,7 +91,7 @@ fn serves<R: Threads + Wait + AllocGlobal + Sync>(
 
 /// A heap of each of so many sizes: too small for one growth after another, and then large enough
 /// for all.
-fn growths_are_refused<R: Abort + Threads + Wait + AllocGlobal + Sync>(
+fn each_heap_serves_or_refuses<R: Abort + Threads + Wait + AllocGlobal + Sync>(
     rt: &R,
     asked: Asked,
     input: &[u8],
@@ -101,7 +101,10 @@ fn growths_are_refused<R: Abort + Threads + Wait + AllocGlobal + Sync>(
     let mut was_enough = false;
     for step in 0..sizes {
         let served = serves(rt, 64 + 4_096 * usize::from(step), asked, input);
-        assert!(rt; served == Some(true) || served == Some(false) && !was_enough);
+        assert!(rt;
+            served == Some(true) || served == Some(false) && !was_enough,
+            "step {step}"
+        );
         if served == Some(true) {
             was_enough = true;
         } else {
@@ -113,19 +116,19 @@ fn growths_are_refused<R: Abort + Threads + Wait + AllocGlobal + Sync>(
 
 #[test]
 fn growths_of_a_script_are_refused(rt: HostRuntime) {
-    growths_are_refused(&rt, Asked::Script, SCRIPT.as_bytes(), 40);
+    each_heap_serves_or_refuses(&rt, Asked::Script, SCRIPT.as_bytes(), 40);
 }
 
 #[test]
 fn growths_of_a_replay_are_refused(rt: HostRuntime) {
-    growths_are_refused(&rt, Asked::Replay, EVENTS.as_bytes(), 40);
+    each_heap_serves_or_refuses(&rt, Asked::Replay, EVENTS.as_bytes(), 40);
 }
 
 #[test]
 fn growths_of_a_proof_are_refused(rt: HostRuntime) -> Result<(), Fail> {
     let mut text = Vec::new(rt.alloc());
     text.resize(40_000, b'0')?;
-    growths_are_refused(&rt, Asked::Proof, text.as_slice(), 60);
+    each_heap_serves_or_refuses(&rt, Asked::Proof, text.as_slice(), 60);
     Ok(())
 }
 

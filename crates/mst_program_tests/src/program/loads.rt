@@ -1,6 +1,6 @@
 //! Loads: what is reported, numbers out of range, and words that are refused.
 use super::each_comes_to;
-use crate::texts::ONE_CALL;
+use crate::texts::{ONE_CALL, ONE_GET};
 
 /// The report of two writers that make 1,000 calls each. The digest was computed apart from the
 /// program, of the map that these calls leave.
@@ -17,9 +17,6 @@ falls 0
 root 753e94d5429eea012fc882d05f6cc60f5569dc2a50236500dfe4d8bcf34df486
 built 753e94d5429eea012fc882d05f6cc60f5569dc2a50236500dfe4d8bcf34df486
 ";
-
-/// What the program is given to read, and does not.
-const INPUT: &[u8] = b"1 get 61\n";
 
 const REPORTED: &[(&str, u8, &str, &str)] = &[
     (
@@ -50,7 +47,7 @@ const REPORTED: &[(&str, u8, &str, &str)] = &[
 
 #[test]
 fn loads_are_reported(rt: HostRuntime) {
-    each_comes_to(&rt, INPUT, REPORTED);
+    each_comes_to(&rt, ONE_GET, REPORTED);
 }
 
 const OUT_OF_RANGE: &[(&str, u8, &str, &str)] = &[
@@ -119,7 +116,7 @@ const OUT_OF_RANGE: &[(&str, u8, &str, &str)] = &[
 // Each number one below and one above its range, and far above.
 #[test]
 fn numbers_out_of_range(rt: HostRuntime) {
-    each_comes_to(&rt, INPUT, OUT_OF_RANGE);
+    each_comes_to(&rt, ONE_GET, OUT_OF_RANGE);
 }
 
 const LOAD_HELP: &str = "Lets threads read and write one store at once, and reports what they left
@@ -203,5 +200,5 @@ const WORDS: &[(&str, u8, &str, &str)] = &[
 // The words, the status, and what stands on the two outputs.
 #[test]
 fn words_of_a_load_are_read(rt: HostRuntime) {
-    each_comes_to(&rt, INPUT, WORDS);
+    each_comes_to(&rt, ONE_GET, WORDS);
 }

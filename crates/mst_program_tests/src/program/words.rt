@@ -1,6 +1,6 @@
 //! The words of the command line, and what the user is told.
 use super::{comes_to, each_comes_to, verify_comes_to};
-use crate::texts::ROOT_OF_NONE;
+use crate::texts::{ONE_GET, ROOT_OF_NONE};
 use std::alloc::{AllocError, AllocGlobal};
 use std::process::Abort;
 use std::sync::Wait;
@@ -126,9 +126,6 @@ Usage: mst <COMMAND>
 For more information, try '--help'.
 ";
 
-/// What the program is given to read: one get.
-const INPUT: &[u8] = b"1 get 61\n";
-
 const READ: &[(&str, u8, &str, &str)] = &[
     ("mst run", 0, "none\n", ""),
     ("mst run --rows 4", 0, "none\n", ""),
@@ -142,7 +139,7 @@ const READ: &[(&str, u8, &str, &str)] = &[
 // The words, the status, and what stands on the two outputs.
 #[test]
 fn words_are_read(rt: HostRuntime) {
-    each_comes_to(&rt, INPUT, READ);
+    each_comes_to(&rt, ONE_GET, READ);
 }
 
 const OUT_OF_RANGE: &[(&str, u8, &str, &str)] = &[
@@ -159,7 +156,7 @@ const OUT_OF_RANGE: &[(&str, u8, &str, &str)] = &[
 // Each number one below and one above its range, and far above.
 #[test]
 fn shapes_out_of_range(rt: HostRuntime) {
-    each_comes_to(&rt, INPUT, OUT_OF_RANGE);
+    each_comes_to(&rt, ONE_GET, OUT_OF_RANGE);
 }
 
 const REFUSED: &[(&str, u8, &str, &str)] = &[
@@ -175,7 +172,7 @@ const REFUSED: &[(&str, u8, &str, &str)] = &[
 
 #[test]
 fn words_are_refused(rt: HostRuntime) {
-    each_comes_to(&rt, INPUT, REFUSED);
+    each_comes_to(&rt, ONE_GET, REFUSED);
 }
 
 const TOLD: &[(&str, u8, &str, &str)] = &[
@@ -190,7 +187,7 @@ const TOLD: &[(&str, u8, &str, &str)] = &[
 
 #[test]
 fn help_and_version_are_told(rt: HostRuntime) {
-    each_comes_to(&rt, INPUT, TOLD);
+    each_comes_to(&rt, ONE_GET, TOLD);
 }
 
 /// Verifies the proof of the empty map by words round its root digest, and judges what that came

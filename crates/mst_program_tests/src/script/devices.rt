@@ -1,5 +1,5 @@
 //! Devices that fail, and devices that take their time.
-use super::run_over;
+use super::{FIVE_ANSWERS, FIVE_LINES, run_over};
 use crate::failing::{Reader, Writer};
 use mst_devices::{BytesSink, BytesSource, Device, StdSink, StdSource};
 use mst_script::RunFault;
@@ -7,10 +7,6 @@ use mst_store::Shape;
 use std::alloc::{AllocError, Global};
 use std::process::Abort;
 use std::test::Fail;
-
-const SCRIPT: &[u8] = b"1 put 61 31\n2 put 616263 78\n3 range - - 10\n1 frob\n4 get 61";
-
-const ANSWERS: &[u8] = b"none\nnone\npairs 2\npair 61 31\npair 616263 78\nfault L3\nsome 31\n";
 
 /// The lines of a script in which a pass pins a version, and their answers.
 const PINS: [(&[u8], &[u8]); 9] = [
@@ -68,13 +64,13 @@ fn runs(
 fn devices_may_take_their_time(rt: HostRuntime) {
     for (read_most, write_most) in [(1, 1), (1, 9), (9, 1), (3, 2)] {
         let reader = Reader {
-            rest: SCRIPT,
+            rest: FIVE_LINES,
             most: read_most,
             reads: u64::MAX,
         };
         let out = Writer::new(rt.alloc(), write_most, u64::MAX, false);
         assert!(rt;
-            runs(&rt, rt.alloc(), reader, out, ANSWERS, Ok(())),
+            runs(&rt, rt.alloc(), reader, out, FIVE_ANSWERS, Ok(())),
             "{read_most} and {write_most} bytes at a time"
         );
     }
@@ -124,11 +120,11 @@ const READS: &[(usize, u64, usize)] = &[
 fn reads_fail(rt: HostRuntime) {
     for (most, reads, answered) in READS {
         let reader = Reader {
-            rest: SCRIPT,
+            rest: FIVE_LINES,
             most: *most,
             reads: *reads,
         };
-        let written = &ANSWERS[..ANSWERS.len().min(*answered)];
+        let written = &FIVE_ANSWERS[..FIVE_ANSWERS.len().min(*answered)];
         assert!(rt;
             reads_end(&rt, rt.alloc(), reader, 64, written),
             "after {reads} reads"
@@ -188,8 +184,8 @@ fn each_write_fails(rt: &impl Abort, alloc: Global, by_zero: bool, script: &[u8]
 
 #[test]
 fn writes_fail(rt: HostRuntime) {
-    each_write_fails(&rt, rt.alloc(), false, SCRIPT, ANSWERS);
-    each_write_fails(&rt, rt.alloc(), true, SCRIPT, ANSWERS);
+    each_write_fails(&rt, rt.alloc(), false, FIVE_LINES, FIVE_ANSWERS);
+    each_write_fails(&rt, rt.alloc(), true, FIVE_LINES, FIVE_ANSWERS);
 }
 
 #[test]
@@ -203,7 +199,7 @@ fn writes_fail_under_pins(rt: HostRuntime) -> Result<(), Fail> {
 
 /// Whether the sink of a run over the script is full behind these bytes.
 fn is_full_behind(rt: &impl Abort, alloc: Global, written: &[u8]) -> Result<bool, AllocError> {
-    let mut source = BytesSource::new(SCRIPT);
+    let mut source = BytesSource::new(FIVE_LINES);
     let mut sink = BytesSink::new(alloc, written.len())?;
     let ran = run_over(rt, alloc, alloc, SHAPE, &mut source, &mut sink);
     Ok(ran == Err(RunFault::Device) && sink.bytes() == written)
@@ -213,7 +209,7 @@ fn is_full_behind(rt: &impl Abort, alloc: Global, written: &[u8]) -> Result<bool
 #[test]
 fn sinks_are_full(rt: HostRuntime) -> Result<(), Fail> {
     for room in [0, 1, 5, 60] {
-        let full = is_full_behind(&rt, rt.alloc(), &ANSWERS[..room])?;
+        let full = is_full_behind(&rt, rt.alloc(), &FIVE_ANSWERS[..room])?;
         assert!(rt; full, "with room for {room}");
     }
     Ok(())

@@ -1,7 +1,7 @@
 //! Memory that is refused, one growth after another.
 ghost use Rattle.mst_script.specs.Serving.{AreAllOf};
 
-use super::{dealt, opened, run_over};
+use super::{FIVE_ANSWERS, FIVE_LINES, dealt, opened, run_over};
 use crate::texts::{PROOF_OF_THREE, TOP_OF_THREE};
 use linked_list_allocator::LocalHeap;
 use mst_devices::{BytesSink, BytesSource};
@@ -15,10 +15,6 @@ const SHAPE: Shape = Shape {
     rows: 16,
     passes: 4,
 };
-
-const SCRIPT: &[u8] = b"1 put 61 31\n2 put 616263 78\n3 range - - 10\n1 frob\n4 get 61";
-
-const ANSWERS: &[u8] = b"none\nnone\npairs 2\npair 61 31\npair 616263 78\nfault L3\nsome 31\n";
 
 const NO_MEMORY: &[&[u8]] = &[b"none\nnone\nmemory\nfault L3\nsome 31\n"];
 
@@ -105,8 +101,8 @@ fn seen_in(
 #[test]
 fn growths_are_refused(rt: HostRuntime) -> Result<(), Fail> {
     let case = Case {
-        script: SCRIPT,
-        whole: ANSWERS,
+        script: FIVE_LINES,
+        whole: FIVE_ANSWERS,
         less: NO_MEMORY,
     };
     let coarse = seen_in(&rt, rt.alloc(), &case, (64, 204_864, 1_024))?;
