@@ -7,3 +7,4 @@ pub mod Put
 pub mod Remove
 pub mod Cost
 pub mod Worked
+pub mod Formats

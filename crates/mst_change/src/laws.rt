@@ -1,10 +1,10 @@
 //! Laws of the definitions, each proved as the contract of a function that does nothing.
-ghost use Rattle.std.specs.Prelude.{◌≡◌, ◌<◌, ◌≤◌, ◌+◌, ◌++◌, ℕ, List, true, None, filter};
+ghost use Rattle.std.specs.Prelude.{◌≡◌, ◌<◌, ◌≤◌, ◌+◌, ◌++◌, ℕ, List, length, true, false, None, filter};
 ghost use Rattle.std.specs.Ordering.{is_lt, is_gt};
 ghost use Rattle.mst_key.specs.Map.{Pair, IsMap, IsAscending, key_cmp, map_get};
 ghost use Rattle.mst_key.specs.Map as map;
 ghost use Rattle.mst_key.specs.declared.format.Format.{Format};
-ghost use Rattle.mst_node.specs.Cost.{same_tree, cost, weight};
+ghost use Rattle.mst_node.specs.Cost.{subtrees, same_format, same_tree, new_rows, cost, weight};
 ghost use Rattle.mst_node.specs.Shape.{with_entries};
 ghost use Rattle.mst_node.specs.Tree.{Tree, empty, node, Entries, last, tree, pairs, IsMst, IsUnder};
 ghost use Rattle.mst_change.specs.Split.{below, above};
@@ -73,4 +73,8 @@ pub fn cost_laws()
         → cost format m (map.put m k v) ≤ weight format m k + 2 }
     ensures remove_bound { (format : Format) (m : List Pair) (k : List ℕ) → IsMap m
         → cost format m (map.remove m k) ≤ weight format (map.remove m k) k + 2 }
+    // a map that goes to another format takes a row for each pair and each node; to the same, none
+    ensures moved { (f g : Format) (m : List Pair) → same_format g f ≡ false
+        → new_rows (tree f m) (tree g m) ≡ length m + length (subtrees (tree g m)) }
+    ensures stays { (t : Tree) → new_rows t t ≡ 0 }
 {}

@@ -1,12 +1,13 @@
 -- The laws of histories: the map after them, one history that begins another, and the events of a
 -- pass.
-use Rattle.std.proofs.Common.{◌≡◌, ℕ, None, ◌+◌, ◌==◌, ◌⊎◌, inl, inr, List, [], ◌∷◌, ◌++◌, length, refl, sym, ap, ◌∙◌, subst, append_assoc, length-append, arith}
+use Rattle.std.proofs.Common.{◌≡◌, ℕ, Some, None, ◌+◌, ◌==◌, ◌⊎◌, inl, inr, List, [], ◌∷◌, ◌++◌, length, refl, sym, ap, ◌∙◌, subst, append_assoc, length-append, arith}
 use Rattle.std.proofs.lemmas.List.{append-nil}
 use Rattle.std.proofs.lemmas.List.Elements.{filter-append}
 use Rattle.mst_key.specs.declared.history.Change.{Change}
-use Rattle.mst_key.specs.declared.history.Change.TheVariants.{Put, Remove}
+use Rattle.mst_key.specs.declared.history.Change.TheVariants.{Put, Remove, Migrate}
 use Rattle.mst_key.specs.declared.history.Event.{Event}
-use Rattle.mst_key.specs.History.{History, changed, key_of, value_of, LeavesAlone, after_from, after, events_of, IsPrefix, IsWithinLimits, IsPossible}
+use Rattle.mst_key.specs.declared.format.Format.{Format}
+use Rattle.mst_key.specs.History.{History, changed, changed_format, format_after, IsAbout, IsMigration, LeavesAlone, KeepsFormat, after_from, after, events_of, IsPrefix, IsWithinLimits, IsPossible}
 use Rattle.mst_key.specs.Map.{Pair, IsMap, map_get}
 use Rattle.mst_key.proofs.Alls.{alls-append, alls-front}
 use Rattle.mst_key.proofs.MapLaws.{IsMap-nil, IsMap-put, IsMap-remove, map_get-put_same, map_get-remove_same, map_get-put_other, map_get-remove_other}
@@ -16,6 +17,7 @@ use Rattle.mst_key.proofs.MapLaws.{IsMap-nil, IsMap-put, IsMap-remove, map_get-p
 pub IsMap-changed : (m : List Pair) (c : Change) → IsMap m → IsWithinLimits c → IsMap (changed m c)
 IsMap-changed m (Put k v) map within = IsMap-put m k v map within.0 within.1
 IsMap-changed m (Remove k) map within = IsMap-remove m k map
+IsMap-changed m (Migrate to) map within = map
 
 pub IsMap-after_from : (m : List Pair) (h : History) → IsMap m → IsPossible h → IsMap (after_from m h)
 IsMap-after_from m [] map possible = map
@@ -35,27 +37,50 @@ after-append = after_from-append []
 pub after-push : (h : History) (e : Event) → after (h ++ e ∷ []) ≡ changed (after h) e.change
 after-push h e = after-append h (e ∷ [])
 
--- a change leaves every key but its own as it was
-pub map_get-changed_other : (m : List Pair) (c : Change) (q : List ℕ) → ¬ (q ≡ key_of c) → map_get (changed m c) q ≡ map_get m q
+-- a change leaves every key that it is not about as it was
+pub map_get-changed_other : (m : List Pair) (c : Change) (q : List ℕ) → (IsAbout q c → ⊥) → map_get (changed m c) q ≡ map_get m q
 map_get-changed_other m (Put k v) q other = map_get-put_other m k v q other
 map_get-changed_other m (Remove k) q other = map_get-remove_other m k q other
-
--- and its own key has the value that the change leaves
-pub map_get-changed_own : (m : List Pair) (c : Change) → map_get (changed m c) (key_of c) ≡ value_of c
-map_get-changed_own m (Put k v) = map_get-put_same m k v
-map_get-changed_own m (Remove k) = map_get-remove_same m k
+map_get-changed_other m (Migrate to) q other = refl
 
 pub map_get-after_from_alone : (m : List Pair) (h : History) (k : List ℕ) → LeavesAlone h k → map_get (after_from m h) k ≡ map_get m k
 map_get-after_from_alone m [] k alone = refl
-map_get-after_from_alone m (e ∷ h) k alone = map_get-after_from_alone (changed m e.change) h k alone.1 ∙ map_get-changed_other m e.change k (λ same. alone.0 (sym same))
+map_get-after_from_alone m (e ∷ h) k alone = map_get-after_from_alone (changed m e.change) h k alone.1 ∙ map_get-changed_other m e.change k alone.0
 
 pub map_get-after_alone : (h : History) (k : List ℕ) → LeavesAlone h k → map_get (after h) k ≡ None
 map_get-after_alone = map_get-after_from_alone []
 
 -- the last change of a key leaves its value
-pub map_get-after_last : (g h : History) (e : Event) → LeavesAlone h (key_of e.change) → map_get (after (g ++ e ∷ h)) (key_of e.change) ≡ value_of e.change
-map_get-after_last g h e alone =
-    ap (λ (m : List Pair). map_get m (key_of e.change)) (after-append g (e ∷ h)) ∙ map_get-after_from_alone (changed (after g) e.change) h (key_of e.change) alone ∙ map_get-changed_own (after g) e.change
+after_last : (g h : History) (e : Event) (k : List ℕ) → LeavesAlone h k → map_get (after (g ++ e ∷ h)) k ≡ map_get (changed (after g) e.change) k
+after_last g h e k alone =
+    ap (λ (m : List Pair). map_get m k) (after-append g (e ∷ h)) ∙ map_get-after_from_alone (changed (after g) e.change) h k alone
+
+pub map_get-after_last_put : (g h : History) (pass : ℕ) (k v : List ℕ) → LeavesAlone h k → map_get (after (g ++ record { pass = pass; change = Put k v } ∷ h)) k ≡ Some v
+map_get-after_last_put g h pass k v alone = after_last g h (record { pass = pass; change = Put k v }) k alone ∙ map_get-put_same (after g) k v
+
+pub map_get-after_last_remove : (g h : History) (pass : ℕ) (k : List ℕ) → LeavesAlone h k → map_get (after (g ++ record { pass = pass; change = Remove k } ∷ h)) k ≡ None
+map_get-after_last_remove g h pass k alone = after_last g h (record { pass = pass; change = Remove k }) k alone ∙ map_get-remove_same (after g) k
+
+-- ---- the format after a history
+
+pub format_after-append : (first : Format) (g h : History) → format_after first (g ++ h) ≡ format_after (format_after first g) h
+format_after-append first [] h = refl
+format_after-append first (e ∷ g) h = format_after-append (changed_format first e.change) g h
+
+pub format_after-push : (first : Format) (h : History) (e : Event) → format_after first (h ++ e ∷ []) ≡ changed_format (format_after first h) e.change
+format_after-push first h e = format_after-append first h (e ∷ [])
+
+pub format_kept : (format : Format) (c : Change) → (IsMigration c → ⊥) → changed_format format c ≡ format
+format_kept format (Put k v) not = refl
+format_kept format (Remove k) not = refl
+format_kept format (Migrate to) not = absurd (not tt)
+
+pub format_after_none : (first : Format) (h : History) → KeepsFormat h → format_after first h ≡ first
+format_after_none first [] keeps = refl
+format_after_none first (e ∷ h) keeps = format_after_none (changed_format first e.change) h keeps.1 ∙ format_kept first e.change keeps.0
+
+pub format_after_last : (first to : Format) (g h : History) (pass : ℕ) → KeepsFormat h → format_after first (g ++ record { pass = pass; change = Migrate to } ∷ h) ≡ to
+format_after_last first to g h pass keeps = format_after-append first g (record { pass = pass; change = Migrate to } ∷ h) ∙ format_after_none to h keeps
 
 -- ---- histories of possible changes
 

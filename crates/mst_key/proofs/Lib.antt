@@ -7,3 +7,4 @@ pub mod Worked
 pub mod Ascending
 pub mod SpanLaws
 pub mod Layers
+pub mod Zeros

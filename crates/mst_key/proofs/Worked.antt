@@ -1,8 +1,9 @@
 -- Worked cases of the definitions, computed. The keys are `a`, `ab`, `b` and `c` in ASCII, the
 -- values `x`, `y` and `z`.
 use Rattle.std.proofs.Common.{◌≡◌, ℕ, ◌++◌, List, [], ◌∷◌, Some, None, refl, Less, Equal, Greater, arith}
-use Rattle.mst_key.specs.declared.history.Change.TheVariants.{Put, Remove}
-use Rattle.mst_key.specs.History.{History, after, reply, events_of, IsPrefix}
+use Rattle.mst_key.specs.declared.history.Change.TheVariants.{Put, Remove, Migrate}
+use Rattle.mst_key.specs.declared.format.Format.TheVariants.{One, Two}
+use Rattle.mst_key.specs.History.{History, after, format_after, had, was, reply, events_of, IsPrefix}
 use Rattle.mst_key.specs.Map.{Pair, key_cmp, IsMap, map_get, put, remove}
 
 abbrev a : List ℕ
@@ -107,14 +108,30 @@ after_whole : after whole ≡ (b, z) ∷ []
 after_whole = refl
 
 -- a write answers the value that its key had, a repeated one too
-reply_new : reply first (record { pass = 3; change = Put c x }) ≡ None
+reply_new : reply One first (record { pass = 3; change = Put c x }) ≡ had None
 reply_new = refl
 
-reply_old : reply first (record { pass = 3; change = Put b x }) ≡ Some x
+reply_old : reply One first (record { pass = 3; change = Put b x }) ≡ had (Some x)
 reply_old = refl
 
-reply_remove : reply first (record { pass = 3; change = Remove a }) ≡ Some y
+reply_remove : reply One first (record { pass = 3; change = Remove a }) ≡ had (Some y)
 reply_remove = refl
+
+-- a migration leaves the map, and is answered the format before it; the last one counts
+abbrev moved : History
+moved = first ++ record { pass = 2; change = Migrate Two } ∷ []
+
+migrated_map : after moved ≡ after first
+migrated_map = refl
+
+migrated_format : format_after One (moved ++ record { pass = 1; change = Remove c } ∷ []) ≡ Two
+migrated_format = refl
+
+migrated_twice : format_after Two (moved ++ record { pass = 1; change = Migrate One } ∷ []) ≡ One
+migrated_twice = refl
+
+reply_migration : reply One moved (record { pass = 3; change = Migrate One }) ≡ was Two
+reply_migration = refl
 
 events_of_one : events_of 1 whole ≡ record { pass = 1; change = Put b x } ∷ record { pass = 1; change = Put b z } ∷ record { pass = 1; change = Remove c } ∷ []
 events_of_one = refl

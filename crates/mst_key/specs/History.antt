@@ -1,10 +1,11 @@
 -- A history: the list of the events so far, the oldest first, and the map that they leave. Each
 -- event is a change by a pass (Herlihy and Wing 1990: a sequential history of one object, the
 -- ordered map). `history_laws` states what follows from these definitions.
-use Rattle.std.specs.Prelude.{◌≡◌, ◌≢◌, ℕ, ◌==◌, List, [], ◌∷◌, ◌++◌, Option, Some, None, filter}
+use Rattle.std.specs.Prelude.{◌≡◌, ℕ, ◌==◌, List, [], ◌∷◌, ◌++◌, Option, filter}
 use Rattle.std.specs.List.{AllByRecursion}
 use Rattle.mst_key.specs.declared.history.Change.{Change}
-use Rattle.mst_key.specs.declared.history.Change.TheVariants.{Put, Remove}
+use Rattle.mst_key.specs.declared.format.Format.{Format}
+use Rattle.mst_key.specs.declared.history.Change.TheVariants.{Put, Remove, Migrate}
 use Rattle.mst_key.specs.declared.history.Event.{Event}
 use Rattle.mst_key.specs.Bytes.{IsKey, IsValue}
 use Rattle.mst_key.specs.Map.{Pair, map_get, put, remove}
@@ -16,16 +17,13 @@ History = List Event
 abbrev pub changed : List Pair → Change → List Pair
 changed m (Put k v) = put m k v
 changed m (Remove k) = remove m k
+changed m (Migrate to) = m
 
--- the key that a change is about
-abbrev pub key_of : Change → List ℕ
-key_of (Put k v) = k
-key_of (Remove k) = k
-
--- the value that a change leaves to its key
-abbrev pub value_of : Change → Option (List ℕ)
-value_of (Put k v) = Some v
-value_of (Remove k) = None
+-- the format that a change leaves
+abbrev pub changed_format : Format → Change → Format
+changed_format format (Put k v) = format
+changed_format format (Remove k) = format
+changed_format format (Migrate to) = to
 
 -- the map that the events leave, one after another, from a map on
 abbrev pub after_from : List Pair → History → List Pair
@@ -36,10 +34,26 @@ after_from m (e ∷ es) = after_from (changed m e.change) es
 abbrev pub after : History → List Pair
 after h = after_from [] h
 
--- what the write answers that adds this event to the history: the value that its key had before it,
--- and `None` where it had none
-abbrev pub reply : History → Event → Option (List ℕ)
-reply h e = map_get (after h) (key_of e.change)
+-- the format after the events: that of the last migration, and else the one before them
+abbrev pub format_after : Format → History → Format
+format_after first [] = first
+format_after first (e ∷ es) = format_after (changed_format first e.change) es
+
+-- What a write is answered: the value that its key had, and none where it had none; a migration the
+-- format that was left.
+pub data Reply : Type 0 where
+  had : (old : Option (List ℕ)) → Reply
+  was : (format : Format) → Reply
+
+-- what a change is answered of a map in a format
+abbrev pub reply_of : Format → List Pair → Change → Reply
+reply_of format m (Put k v) = had (map_get m k)
+reply_of format m (Remove k) = had (map_get m k)
+reply_of format m (Migrate to) = was format
+
+-- what the write answers that adds this event to the history
+abbrev pub reply : Format → History → Event → Reply
+reply first h e = reply_of (format_after first h) (after h) e.change
 
 -- the events of one pass, in their order
 abbrev pub events_of : ℕ → History → History
@@ -49,14 +63,30 @@ events_of pass h = filter (λ e. e.pass == pass) h
 abbrev pub IsPrefix : History → History → Type 0
 IsPrefix g h = (rest : History) × (h ≡ g ++ rest)
 
+-- a change is about a key
+abbrev pub IsAbout : List ℕ → Change → Type 0
+IsAbout q (Put k v) = q ≡ k
+IsAbout q (Remove k) = q ≡ k
+IsAbout q (Migrate to) = ⊥
+
+abbrev pub IsMigration : Change → Type 0
+IsMigration (Put k v) = ⊥
+IsMigration (Remove k) = ⊥
+IsMigration (Migrate to) = Unit {0}
+
 -- no event of the history is about the key
 abbrev pub LeavesAlone : History → List ℕ → Type 0
-LeavesAlone h k = AllByRecursion (λ e. key_of e.change ≢ k) h
+LeavesAlone h k = AllByRecursion (λ e. IsAbout k e.change → ⊥) h
+
+-- no event of the history is a migration
+abbrev pub KeepsFormat : History → Type 0
+KeepsFormat h = AllByRecursion (λ e. IsMigration e.change → ⊥) h
 
 -- the key of a change is within the limits, and so is its value
 abbrev pub IsWithinLimits : Change → Type 0
 IsWithinLimits (Put k v) = IsKey k × IsValue v
 IsWithinLimits (Remove k) = IsKey k
+IsWithinLimits (Migrate to) = Unit {0}
 
 -- a history of changes whose keys and values are all within the limits, as those of the program are
 abbrev pub IsPossible : History → Type 0

@@ -26,3 +26,12 @@ layer_in format key = zeros_in_front (digits format (sha256 key))
 -- the layer of a key in format 1
 abbrev pub layer : List ℕ → ℕ
 layer = layer_in One
+
+-- how many digits a byte has in a format, and the greatest layer: a digest has 32 bytes
+abbrev pub digits_a_byte : Format → ℕ
+digits_a_byte One = 2
+digits_a_byte Two = 4
+
+abbrev pub most_layer : Format → ℕ
+most_layer One = 64
+most_layer Two = 128

@@ -9,8 +9,10 @@ ghost use Rattle.mst_key.specs.Bytes.{IsKey, IsValue};
 ghost use Rattle.mst_key.specs.Map.{Pair, key_cmp, AllBelow, AllAbove, IsMap, map_get, put, remove, map_next, map_range};
 ghost use Rattle.mst_key.specs.Layer.{layer_in};
 ghost use Rattle.mst_key.specs.declared.format.Format.TheVariants.{One, Two};
+ghost use Rattle.mst_key.specs.declared.format.Format.{Format};
+ghost use Rattle.mst_key.specs.declared.history.Change.TheVariants.{Put, Remove, Migrate};
 ghost use Rattle.mst_key.specs.declared.history.Event.{Event};
-ghost use Rattle.mst_key.specs.History.{History, changed, key_of, value_of, after, events_of, IsPrefix, LeavesAlone, IsPossible};
+ghost use Rattle.mst_key.specs.History.{History, changed, changed_format, after, format_after, events_of, IsPrefix, LeavesAlone, KeepsFormat, IsPossible};
 
 /// The order of keys is total and bytewise, with the shorter key first on a common front.
 pub fn order_laws()
@@ -63,9 +65,18 @@ pub fn history_laws()
     ensures map { (h : History) → IsPossible h → IsMap (after h) }
     ensures step { (h : History) (e : Event) → after (h ++ e ∷ []) ≡ changed (after h) e.change }
     // a key has the value that the last change of it left, and none where it was never changed
-    ensures last_change { (g h : History) (e : Event) → LeavesAlone h (key_of e.change)
-        → map_get (after (g ++ e ∷ h)) (key_of e.change) ≡ value_of e.change }
+    ensures last_put { (g h : History) (pass : ℕ) (k v : List ℕ) → LeavesAlone h k
+        → map_get (after (g ++ record { pass = pass; change = Put k v } ∷ h)) k ≡ Some v }
+    ensures last_remove { (g h : History) (pass : ℕ) (k : List ℕ) → LeavesAlone h k
+        → map_get (after (g ++ record { pass = pass; change = Remove k } ∷ h)) k ≡ None }
     ensures no_change { (h : History) (k : List ℕ) → LeavesAlone h k → map_get (after h) k ≡ None }
+    // the format is that of the last migration, and the first one where there was none
+    ensures format_step { (first : Format) (h : History) (e : Event)
+        → format_after first (h ++ e ∷ []) ≡ changed_format (format_after first h) e.change }
+    ensures last_migration { (first to : Format) (g h : History) (pass : ℕ) → KeepsFormat h
+        → format_after first (g ++ record { pass = pass; change = Migrate to } ∷ h) ≡ to }
+    ensures no_migration { (first : Format) (h : History) → KeepsFormat h
+        → format_after first h ≡ first }
     ensures begins_itself { (h : History) → IsPrefix h h }
     ensures begins_chain { (f g h : History) → IsPrefix f g → IsPrefix g h → IsPrefix f h }
     ensures begins_both_ways { (g h : History) → IsPrefix g h → IsPrefix h g → g ≡ h }

@@ -10,12 +10,12 @@ use Rattle.mst_node.specs.Text.{FlatEntry}
 use Rattle.mst_node.specs.Reading.{◌>>=◌, child_at, entry_at, entries_at, behind_at, whole, body_at, node_of, node_at}
 use Rattle.mst_node.proofs.Takes.{some_same}
 
-pub behind_more : (n k : ℕ) (bytes : List ℕ) (p : FlatEntry × List ℕ) → n ≡ suc k → entry_at One bytes ≡ Some p → behind_at One k p.1 ≡ behind_at One n bytes
+pub behind_more : (format : Format) (n k : ℕ) (bytes : List ℕ) (p : FlatEntry × List ℕ) → n ≡ suc k → entry_at format bytes ≡ Some p → behind_at format k p.1 ≡ behind_at format n bytes
 unfolding behind_at
-behind_more zero k bytes p e h = absurd (omega (arith, e))
-behind_more (suc n) k bytes p e h =
+behind_more format zero k bytes p e h = absurd (omega (arith, e))
+behind_more format (suc n) k bytes p e h =
     let same : k ≡ n = omega (arith, e) in
-    ap (λ (j : ℕ). behind_at One j p.1) same ∙ sym (ap (λ (r : Option (FlatEntry × List ℕ)). r >>= λ x. behind_at One n x.1) h)
+    ap (λ (j : ℕ). behind_at format j p.1) same ∙ sym (ap (λ (r : Option (FlatEntry × List ℕ)). r >>= λ x. behind_at format n x.1) h)
 
 -- the bytes behind entries are those that reading the entries leaves
 pub behind-entries : (format : Format) (n : ℕ) (bytes : List ℕ) → behind_at format n bytes ≡ option_map (λ (p : List FlatEntry × List ℕ). p.1) (entries_at format n bytes)

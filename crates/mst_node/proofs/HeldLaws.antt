@@ -6,7 +6,7 @@ use Rattle.std.proofs.lemmas.Bool.Decides.{nat_tests}
 use Rattle.std.proofs.lemmas.List.{take_all}
 use Rattle.std.proofs.lemmas.List.Sums.{sum_by-cons}
 use Rattle.mst_key.specs.declared.format.Format.{Format}
-use Rattle.mst_key.specs.History.{History, after}
+use Rattle.mst_key.specs.History.{History, after, format_after}
 use Rattle.mst_key.specs.Map.{IsAscending}
 use Rattle.mst_key.proofs.Ascending.{IsAscending-after}
 use Rattle.mst_key.proofs.SpanLaws.{contains-cases, contains-nothing, contains-first, contains-later}
@@ -137,15 +137,15 @@ module _ (format : Format) (h : History) where
       let not_before : nat_lt n n ≡ false = grind (arith, nat_tests) in
       (λ i. sum_by (λ t. top_entries t + 1) (filter (λ t. not ((not_before i && lasts format h n n t) || false)) (subtrees (tree_at format h n)))) ∙ weigh_is all (subtrees (tree_at format h n))
 
-  pub held_alone : held format h (length h ∷ []) ≡ length (after h) + length (subtrees (tree format (after h)))
+  pub held_alone : held format h (length h ∷ []) ≡ length (after h) + length (subtrees (tree (format_after format h) (after h)))
   held_alone =
       let n = length h in
       let itself : (n == n) ≡ true = grind (arith, nat_tests) in
       let kept : (cond ((n == n) || false) (rows_first_at format h (n ∷ []) n) 0) ≡ rows_first_at format h (n ∷ []) n = ap (λ (b : Bool). cond (b || false) (rows_first_at format h (n ∷ []) n) 0) itself in
-      let whole : tree_at format h n ≡ tree format (after h) = ap (λ (g : History). tree format (after g)) (take_all n h (omega arith)) in
+      let whole : tree_at format h n ≡ tree (format_after format h) (after h) = ap (λ (g : History). tree (format_after format g) (after g)) (take_all n h (omega arith)) in
       let first = first_alone n ∙ weigh_all (tree_at format h n) in
       let below = none_below n n (omega arith) in
-      let same : length (pairs (tree_at format h n)) + length (subtrees (tree_at format h n)) ≡ length (after h) + length (subtrees (tree format (after h))) = ap (λ (t : Tree). length (pairs t) + length (subtrees t)) whole ∙ ap (λ (m : List _). length m + length (subtrees (tree format (after h)))) (pairs_tree format (after h)) in
+      let same : length (pairs (tree_at format h n)) + length (subtrees (tree_at format h n)) ≡ length (after h) + length (subtrees (tree (format_after format h) (after h))) = ap (λ (t : Tree). length (pairs t) + length (subtrees t)) whole ∙ ap (λ (m : List _). length m + length (subtrees (tree (format_after format h) (after h)))) (pairs_tree (format_after format h) (after h)) in
       let next_number : n + 1 ≡ suc n = omega arith in
       let next : held format h (n ∷ []) ≡ held_below format h (n ∷ []) (suc n) = ap (held_below format h (n ∷ [])) next_number in
       omega (arith, next, kept, first, below, same)
@@ -317,7 +317,7 @@ module _ (format : Format) (h : History) where
 
     carried : (w : ℕ) → weigh (late (suc w)) (trees (suc w)) ≤ weigh (due w) (trees w)
     carried w =
-        let few : (u : Tree) → copies u (trees (suc w)) ≤ 1 = λ u. once format (tree_at format h (suc w)) u (tree_mst format (after (take (suc w) h))) (subst IsAscending (sym (pairs_tree format (after (take (suc w) h)))) (IsAscending-after (take (suc w) h))) in
+        let few : (u : Tree) → copies u (trees (suc w)) ≤ 1 = λ u. let there = format_after format (take (suc w) h) in once there (tree_at format h (suc w)) u (tree_mst there (after (take (suc w) h))) (subst IsAscending (sym (pairs_tree there (after (take (suc w) h)))) (IsAscending-after (take (suc w) h))) in
         omega (arith, weigh_weaker (late (suc w)) (λ t. stands w t && due w t) (late_due w) (trees (suc w)), weigh_common (due w) (trees (suc w)) (trees w) few)
 
     none_late : weigh (late zero) (trees zero) ≡ 0

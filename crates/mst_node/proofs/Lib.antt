@@ -23,3 +23,4 @@ pub mod SameTrees
 pub mod InTrees
 pub mod Distinct
 pub mod HeldLaws
+pub mod Formats

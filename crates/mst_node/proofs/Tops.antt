@@ -4,7 +4,7 @@ use Rattle.std.proofs.lemmas.Bool.Decides.{nat_tests}
 use Rattle.std.specs.List.{flat_map}
 use Rattle.std.specs.Prelude.{slice_range}
 use Rattle.mst_key.specs.declared.format.Format.{Format}
-use Rattle.mst_key.specs.Layer.{layer, layer_in}
+use Rattle.mst_key.specs.Layer.{layer_in}
 use Rattle.mst_key.specs.Map.{Pair}
 use Rattle.mst_node.specs.Tree.{Tree, node, Entries, entry, layers, greatest, entries_of, tree}
 use Rattle.mst_node.specs.Text.{entry_text, child_text, counted, child_digest, flat_entries, tail_digest, held_of, held_text, text, digest, heading}
@@ -108,16 +108,16 @@ text_end format m start i l front whole d end child before =
 
 -- ---- the top with one pair more
 
-pub is_top-above : (m : List Pair) (p : Pair) (top : Top) (l : ℕ) → IsTop m top → layer p.0 ≡ l → top.layer < l → IsTop (m ++ p ∷ []) (record { layer = l; count = 1 })
-is_top-above m p top l is e h =
-    let none : length (at_layer layer l m) ≡ 0 = at_layer-none layer l m (omega (arith, is.layer, h)) in
-    record { layer = omega (arith, greatest-push layer m p, is.layer, e, h); count = omega (arith, at_layer-push_yes layer l m p e, none) }
+pub is_top-above : (format : Format) (m : List Pair) (p : Pair) (top : Top) (l : ℕ) → IsTop format m top → layer_in format p.0 ≡ l → top.layer < l → IsTop format (m ++ p ∷ []) (record { layer = l; count = 1 })
+is_top-above format m p top l is e h =
+    let none : length (at_layer (layer_in format) l m) ≡ 0 = at_layer-none (layer_in format) l m (omega (arith, is.layer, h)) in
+    record { layer = omega (arith, greatest-push (layer_in format) m p, is.layer, e, h); count = omega (arith, at_layer-push_yes (layer_in format) l m p e, none) }
 
-pub is_top-same : (m : List Pair) (p : Pair) (top : Top) (l : ℕ) → IsTop m top → layer p.0 ≡ l → l ≡ top.layer → IsTop (m ++ p ∷ []) (record { layer = l; count = top.count + 1 })
-is_top-same m p top l is e h =
-    let same : length (at_layer layer l m) ≡ length (at_layer layer top.layer m) = ap (λ (k : ℕ). length (at_layer layer k m)) h in
-    record { layer = omega (arith, greatest-push layer m p, is.layer, e, h); count = omega (arith, at_layer-push_yes layer l m p e, same, is.count) }
+pub is_top-same : (format : Format) (m : List Pair) (p : Pair) (top : Top) (l : ℕ) → IsTop format m top → layer_in format p.0 ≡ l → l ≡ top.layer → IsTop format (m ++ p ∷ []) (record { layer = l; count = top.count + 1 })
+is_top-same format m p top l is e h =
+    let same : length (at_layer (layer_in format) l m) ≡ length (at_layer (layer_in format) top.layer m) = ap (λ (k : ℕ). length (at_layer (layer_in format) k m)) h in
+    record { layer = omega (arith, greatest-push (layer_in format) m p, is.layer, e, h); count = omega (arith, at_layer-push_yes (layer_in format) l m p e, same, is.count) }
 
-pub is_top-below : (m : List Pair) (p : Pair) (top : Top) → IsTop m top → layer p.0 < top.layer → IsTop (m ++ p ∷ []) top
-is_top-below m p top is h =
-    record { layer = omega (arith, greatest-push layer m p, is.layer, h); count = omega (arith, at_layer-push_no layer top.layer m p (λ e. omega (arith, e, h)), is.count) }
+pub is_top-below : (format : Format) (m : List Pair) (p : Pair) (top : Top) → IsTop format m top → layer_in format p.0 < top.layer → IsTop format (m ++ p ∷ []) top
+is_top-below format m p top is h =
+    record { layer = omega (arith, greatest-push (layer_in format) m p, is.layer, h); count = omega (arith, at_layer-push_no (layer_in format) top.layer m p (λ e. omega (arith, e, h)), is.count) }

@@ -2,8 +2,8 @@
 -- `a`, of layer 0, and `39`, of layer 1.
 use Rattle.std.proofs.Common.{◌≡◌, ℕ, List, [], ◌∷◌, refl}
 use Rattle.sha2.specs.Sha256.{sha256, first_words, schedule, rounds, compress, hash_after, digest_bytes}
-use Rattle.mst_key.specs.declared.format.Format.TheVariants.{One}
-use Rattle.mst_key.specs.declared.history.Change.TheVariants.{Put}
+use Rattle.mst_key.specs.declared.format.Format.TheVariants.{One, Two}
+use Rattle.mst_key.specs.declared.history.Change.TheVariants.{Put, Migrate}
 use Rattle.mst_key.specs.declared.history.Event.{Event}
 use Rattle.mst_key.specs.History.{History}
 use Rattle.mst_key.specs.Layer.{layer_in}
@@ -64,3 +64,27 @@ comes_again = refl
 stays : held One (puts one (0x78 ∷ []) ∷ puts one (0x78 ∷ []) ∷ []) (1 ∷ 2 ∷ []) ≡ 2
 unfolding layer_in sha256 first_words schedule rounds compress hash_after digest_bytes tree tree_within entries_of
 stays = refl
+
+-- a migration holds both trees: `1` and `9` are of one layer in format 1, and of two in format 2
+abbrev nine : List ℕ
+nine = 0x39 ∷ []
+
+abbrev migrates : History
+migrates = puts one (0x61 ∷ []) ∷ puts nine (0x31 ∷ []) ∷ record { pass = 1; change = Migrate Two } ∷ []
+
+before_it : held One migrates (2 ∷ []) ≡ 3
+unfolding layer_in sha256 first_words schedule rounds compress hash_after digest_bytes tree tree_within entries_of
+before_it = refl
+
+after_it : held One migrates (3 ∷ []) ≡ 4
+unfolding layer_in sha256 first_words schedule rounds compress hash_after digest_bytes tree tree_within entries_of
+after_it = refl
+
+over_it : held One migrates (2 ∷ 3 ∷ []) ≡ 7
+unfolding layer_in sha256 first_words schedule rounds compress hash_after digest_bytes tree tree_within entries_of
+over_it = refl
+
+-- one to the format that stands holds nothing more
+no_move : held One (puts one (0x61 ∷ []) ∷ record { pass = 1; change = Migrate One } ∷ []) (1 ∷ 2 ∷ []) ≡ 2
+unfolding layer_in sha256 first_words schedule rounds compress hash_after digest_bytes tree tree_within entries_of
+no_move = refl

@@ -5,6 +5,7 @@ pub mod Top
 pub mod Grammar
 pub mod Reading
 pub mod Seen
+pub mod Held
 pub mod Gaps
 pub mod Frame
 pub mod Trail

@@ -2,14 +2,15 @@
 -- which has it; the stay counts once, at the first kept version in it.
 use Rattle.std.specs.Prelude.{ℕ, zero, suc, Bool, not, ◌&&◌, ◌||◌, ◌==◌, nat_lt, if◌then◌else◌, ◌+◌, List, length, take, filter, sum_by}
 use Rattle.std.specs.List.{list_any}
-use Rattle.mst_key.specs.History.{History, after}
+use Rattle.mst_key.specs.History.{History, after, format_after}
 use Rattle.mst_key.specs.declared.format.Format.{Format}
 use Rattle.mst_node.specs.Tree.{Tree, tree}
 use Rattle.mst_node.specs.Cost.{subtrees, is_subtree, top_entries}
 
--- the tree of version v: of the map after the first v events
+-- the tree of version v: of the map after the first v events, in the format that they leave. The
+-- format that is given, here and below, is that of version 0
 abbrev pub tree_at : Format → History → ℕ → Tree
-tree_at format h v = tree format (after (take v h))
+tree_at first h v = tree (format_after first (take v h)) (after (take v h))
 
 -- the tree t stands in the tree of version w and of each version before it down to v
 abbrev pub lasts : Format → History → ℕ → ℕ → Tree → Bool

@@ -3,18 +3,21 @@ ghost use Rattle.std.specs.Prelude.{◌≡◌, ◌<◌, ◌≤◌, ◌↔◌, le
 ghost use Rattle.std.specs.declared.cmp.Ordering.TheVariants.{Less};
 ghost use Rattle.mst_key.specs.Bytes.{IsKey, IsValue};
 ghost use Rattle.mst_key.specs.declared.format.Format.TheVariants.{One};
-ghost use Rattle.mst_key.specs.Layer.{layer as layer_of};
+ghost use Rattle.mst_key.specs.Layer.{layer_in};
 ghost use Rattle.mst_key.specs.Map.{key_cmp};
 ghost use Rattle.mst_node.specs.Text.{child_before};
 ghost use Rattle.mst_node.specs.Grammar.{KeysFit};
 ghost use Rattle.mst_node.specs.Reading.{Gives, node_at, body_at};
 ghost use Rattle.mst_node.specs.Place.{place_of, LiesWithin};
 ghost use Rattle.mst_node.specs.Seen.{seen};
+ghost use Rattle.mst_node.specs.Held.{held_as, HasSize};
 
+use crate::held::Held;
 use crate::order::precedes;
 use crate::place::{Place, Span};
 use crate::reading::{EntryBytes, behind, child_of, entry_of};
-use mst_key::{Key, Value};
+use crate::sinks::format_byte;
+use mst_key::{Format, Key, Value};
 use std::cmp::Ordering;
 use std::marker::Model;
 
@@ -22,6 +25,7 @@ use std::marker::Model;
 /// bytes of its text.
 #[derive(Debug, Drop)]
 pub struct Flat<'a> {
+    format: Format,
     layer: u8,
     count: u16,
     body: &'a [u8],
@@ -30,22 +34,21 @@ pub struct Flat<'a> {
 /// Contracts see the flat node that the text spells.
 impl<'a> Model for Flat<'a> {
     ghost use Rattle.std.specs.Prelude.{IsSome};
-    ghost use Rattle.mst_key.specs.declared.format.Format.TheVariants.{One};
     ghost use Rattle.mst_node.specs.Text.{FlatNode};
     ghost use Rattle.mst_node.specs.Reading.{node_of, body_at, body_or_empty};
 
     ghost Value = { FlatNode };
 
-    ghost view = { λ f. node_of One f.layer (body_or_empty One f.count f.body.now) };
+    ghost view = { λ f. node_of f.format f.layer (body_or_empty f.format f.count f.body.now) };
 
-    ghost invariant = { λ f. IsSome (body_at One f.count f.body.now) };
+    ghost invariant = { λ f. IsSome (body_at f.format f.count f.body.now) };
 }
 
 /// Whether the bytes are so many entries and a last child, with nothing behind them.
-fn has_body(bytes: &[u8], count: usize) -> bool
-    ensures reading { result ≡ is_some (body_at One count bytes.now) }
+fn has_body(format: Format, bytes: &[u8], count: usize) -> bool
+    ensures reading { result ≡ is_some (body_at format count bytes.now) }
 {
-    match behind(bytes, count) {
+    match behind(format, bytes, count) {
         None => false,
         Some(rest) => match child_of(rest) {
             None => false,
@@ -56,14 +59,18 @@ fn has_body(bytes: &[u8], count: usize) -> bool
 
 /// The flat node of a text, whatever its keys.
 #[tactic(auto, unfolding(crate::specs::Reading::node_at))]
-pub(crate) fn flat_of(text: &[u8]) -> Option<Flat<'_>>
-    ensures reading { Gives (λ f. f) result (node_at One text.now) }
+pub(crate) fn flat_of(format: Format, text: &[u8]) -> Option<Flat<'_>>
+    ensures reading { Gives (λ f. f) result (node_at format text.now) }
 {
     match text {
-        [1, layer, high, low, body @ ..] => {
+        [version, layer, high, low, body @ ..] => {
             let count = u16::from_be_bytes([*high, *low]);
-            if count != 0 && has_body(body, count as usize) {
+            if *version == format_byte(format)
+                && count != 0
+                && has_body(format, body, count as usize)
+            {
                 Some(Flat {
+                    format,
                     layer: *layer,
                     count,
                     body,
@@ -78,11 +85,11 @@ pub(crate) fn flat_of(text: &[u8]) -> Option<Flat<'_>>
 
 /// Whether the key of an entry has the layer of its node, and comes after the key of the entry
 /// before.
-fn fits(layer: u8, last: &Option<Key>, key: &Key) -> bool
+fn fits(format: Format, layer: u8, last: &Option<Key>, key: &Key) -> bool
     ensures fits { IsTrue result
-        ↔ ((layer_of key.now ≡ layer) × IfSome last.now (λ low. key_cmp low key.now ≡ Less)) }
+        ↔ ((layer_in format key.now ≡ layer) × IfSome last.now (λ low. key_cmp low key.now ≡ Less)) }
 {
-    if key.layer() != layer {
+    if key.layer_in(format) != layer {
         return false;
     }
     match last {
@@ -99,13 +106,13 @@ impl<'a> Flat<'a> {
         let mut rest = self.body;
         let mut last: Option<Key> = None;
         for _ in 0..self.count {
-            let Some((entry, after)) = entry_of(rest) else {
+            let Some((entry, after)) = entry_of(self.format, rest) else {
                 unreachable!()
             };
             let Ok(key) = Key::new(entry.key) else {
                 unreachable!()
             };
-            if !fits(self.layer, &last, &key) {
+            if !fits(self.format, self.layer, &last, &key) {
                 return false;
             }
             last = Some(key);
@@ -114,7 +121,7 @@ impl<'a> Flat<'a> {
         true
     }
 
-    /// The layer of each key, 0 to 64.
+    /// The layer of each key: 0 to 64 in format 1, 0 to 128 in format 2.
     pub fn layer(&self) -> u8
         ensures layer { result ≡ self.now.layer }
     {
@@ -134,9 +141,10 @@ impl<'a> Flat<'a> {
         ensures entry { slice_get self.now.entries i ≡ Some (seen result) }
         ensures key { IsKey result.key.now }
         ensures value { IsValue result.value.now }
+        ensures held { HasSize self.now.format result.value.now }
     {
-        match behind(self.body, i) {
-            Some(rest) => match entry_of(rest) {
+        match behind(self.format, self.body, i) {
+            Some(rest) => match entry_of(self.format, rest) {
                 Some((entry, _)) => entry,
                 None => unreachable!(),
             },
@@ -148,7 +156,7 @@ impl<'a> Flat<'a> {
     fn tail(&self) -> Option<&'a [u8; 32]>
         ensures tail { option_copied result ≡ self.now.tail }
     {
-        match behind(self.body, self.count as usize) {
+        match behind(self.format, self.body, self.count as usize) {
             Some(rest) => match child_of(rest) {
                 Some((child, _)) => child,
                 None => unreachable!(),
@@ -168,9 +176,22 @@ impl<'a> Flat<'a> {
         }
     }
 
-    /// The value of entry i, counted from 0. It is found by going over the entries before it.
+    /// What the node holds of the value of entry i, counted from 0. It is found by going over the
+    /// entries before it.
+    pub fn held(&self, i: usize) -> Held
+        requires inside { i < length self.now.entries }
+        ensures held { slice_get (map (λ e. held_as self.now.format e.held) self.now.entries) i
+            ≡ Some result }
+    {
+        let entry = self.entry(i);
+        Held::of(self.format, entry.value)
+    }
+
+    /// The value of entry i of a text in format 1, counted from 0. It is found by going over the
+    /// entries before it.
     pub fn value(&self, i: usize) -> Value
         requires inside { i < length self.now.entries }
+        requires whole { self.now.format ≡ One }
         ensures value { slice_get (map (λ e. e.held) self.now.entries) i ≡ Some result }
     {
         match Value::new(self.entry(i).value) {
@@ -200,7 +221,7 @@ impl<'a> Flat<'a> {
     {
         let mut rest = self.body;
         for _ in 0..self.count {
-            let Some((entry, after)) = entry_of(rest) else {
+            let Some((entry, after)) = entry_of(self.format, rest) else {
                 unreachable!()
             };
             let Ok(key) = Key::new(entry.key) else {
@@ -222,7 +243,7 @@ impl<'a> Flat<'a> {
         let Span { mut low, high } = span;
         let mut rest = self.body;
         for _ in 0..self.count {
-            let Some((entry, after)) = entry_of(rest) else {
+            let Some((entry, after)) = entry_of(self.format, rest) else {
                 unreachable!()
             };
             let (Ok(at), Ok(value)) = (Key::new(entry.key), Value::new(entry.value)) else {

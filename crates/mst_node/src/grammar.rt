@@ -5,6 +5,7 @@ ghost use Rattle.mst_node.specs.Text.{spelling};
 ghost use Rattle.mst_node.specs.Grammar.{IsFlatNode, InGrammar};
 
 use crate::flat::{Flat, flat_of};
+use mst_key::Format;
 use thiserror::Error;
 
 /// The bytes are not the text of a flat node.
@@ -24,7 +25,18 @@ pub fn read_text(bytes: &[u8]) -> Result<Flat<'_>, NodeFault>
         × (bytes.now ≡ spelling n)) }
     ensures grammar { IsOk result ↔ InGrammar One bytes.now }
 {
-    match flat_of(bytes) {
+    read_text_in(Format::One, bytes)
+}
+
+/// The flat node that the bytes spell in a format, borrowed from them, as `read_text` does in format
+/// 1. In format 2 a text has the version 2, and 32 bytes, the SHA-256 of the value, stand for each
+/// value and its length.
+pub fn read_text_in(format: Format, bytes: &[u8]) -> Result<Flat<'_>, NodeFault>
+    ensures spelling { IfOk result (λ n. (n.format ≡ format) × IsFlatNode n
+        × (bytes.now ≡ spelling n)) }
+    ensures grammar { IsOk result ↔ InGrammar format bytes.now }
+{
+    match flat_of(format, bytes) {
         Some(flat) if flat.keys_fit() => Ok(flat),
         _ => Err(NodeFault),
     }

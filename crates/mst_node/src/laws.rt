@@ -13,7 +13,7 @@ ghost use Rattle.mst_node.specs.Text.{FlatNode, spelling, text, digest_of};
 ghost use Rattle.mst_node.specs.Grammar.{IsFlatNode, InGrammar, KeysFit};
 ghost use Rattle.mst_node.specs.Cost.{subtrees};
 ghost use Rattle.mst_node.specs.Stays.{held};
-ghost use Rattle.mst_key.specs.History.{History, after};
+ghost use Rattle.mst_key.specs.History.{History, after, format_after};
 
 /// The tree by its equations: that of no pairs is empty; that of others is a node of their greatest
 /// layer, whose entries are the pairs of that layer, and in each gap stands the tree of the pairs
@@ -81,7 +81,7 @@ pub fn held_laws()
     // the last version alone holds a row for each pair and one for each node
     ensures last { (format : Format) (h : History)
         → held format h (length h ∷ []) ≡ length (after h) + length
-        (subtrees (tree format (after h))) }
+        (subtrees (tree (format_after format h) (after h))) }
     // in what order the versions are named, and how often, does not matter
     ensures same { (format : Format) (h : History) (one other : List ℕ)
         → ((v : ℕ) → Contains one v ↔ Contains other v) → held format h one ≡ held format h other }

@@ -32,6 +32,7 @@ mod flat;
 mod framing;
 mod grammar;
 mod hashing;
+mod held;
 mod laws;
 mod making;
 mod node;
@@ -44,15 +45,16 @@ mod texts;
 
 pub use flat::Flat;
 pub use framing::top_text;
-pub use grammar::{NodeFault, read_text};
+pub use grammar::{NodeFault, read_text, read_text_in};
 pub use hashing::{digest, empty_digest};
+pub use held::Held;
 pub use laws::{
     collision_of_two, held_laws, one_text, one_tree, order_of_tree, text_by_grammar, tree_by_gaps,
 };
-pub use making::build;
+pub use making::{build, build_in};
 pub use node::{Entry, Node};
 pub use order::{ascending, is_map};
 pub use place::{Place, Span};
-pub use root::root_of;
-pub use sinks::{TextBuffer, TextSink};
-pub use texts::text;
+pub use root::{root_of, root_of_in};
+pub use sinks::{TextBuffer, TextSink, format_byte};
+pub use texts::{text, text_in};

@@ -1,19 +1,27 @@
 //! The tree of a list of pairs.
 ghost use Rattle.std.specs.Prelude.{◌≡◌, map, IfOk};
-ghost use Rattle.mst_key.specs.Layer.{layer};
+ghost use Rattle.mst_key.specs.Layer.{layer_in};
+ghost use Rattle.mst_key.specs.declared.format.Format.{Format};
 ghost use Rattle.mst_key.specs.declared.format.Format.TheVariants.{One};
 ghost use Rattle.mst_node.specs.Tree.{layers as layers_in, greatest, tree, node, last, pairs as pairs_of};
 ghost use Rattle.mst_node.specs.Shape.{tree_of, tree_of_child, tree_entry, with_entries};
 
 use crate::node::{Entry, Node};
-use mst_key::{Key, Memory, Value};
+use mst_key::{Format, Key, Memory, Value};
 use std::alloc::Allocator;
 
 /// The layers of the keys, in their order.
-fn layers_of<A: Allocator>(alloc: A, pairs: &[(Key, Value)]) -> Result<Vec<u8, A>, Memory>
-    ensures layers { IfOk result (λ layers. layers.items ≡ layers_in layer pairs.now) }
+fn layers_of<A: Allocator>(
+    alloc: A,
+    format: Format,
+    pairs: &[(Key, Value)],
+) -> Result<Vec<u8, A>, Memory>
+    ensures layers { IfOk result (λ layers. layers.items ≡ layers_in (layer_in format) pairs.now) }
 {
-    let layers = pairs.iter().map(|pair| pair.0.layer()).collect(alloc)?;
+    let layers = pairs
+        .iter()
+        .map(|pair| pair.0.layer_in(format))
+        .collect(alloc)?;
     Ok(layers)
 }
 
@@ -30,8 +38,8 @@ fn greatest_of(layers: &[u8]) -> u8
 
 /// The entry of a pair, behind the tree of the gap before it.
 fn entry_of<A: Allocator>(child: Option<Box<Node<A>, A>>, pair: &(Key, Value)) -> Entry<A>
-    ensures entry { tree_entry One result
-        ≡ record { child = tree_of_child One child; key = pair.now.0; value = pair.now.1 } }
+    ensures entry { (format : Format) → tree_entry format result
+        ≡ record { child = tree_of_child format child; key = pair.now.0; value = pair.now.1 } }
 {
     let (key, value) = pair;
     Entry {
@@ -48,9 +56,8 @@ fn node_of<A: Allocator>(
     entries: Vec<Entry<A>, A>,
     tail: Option<Box<Node<A>, A>>,
 ) -> Result<Box<Node<A>, A>, Memory>
-    ensures tree { IfOk result
-        (λ n. tree_of One n.value ≡ node One layer
-        (with_entries (map (tree_entry One) entries.items) (last (tree_of_child One tail)))) }
+    ensures tree { IfOk result (λ n. (format : Format) → tree_of format n.value ≡ node format layer
+        (with_entries (map (tree_entry format) entries.items) (last (tree_of_child format tail)))) }
 {
     let node = Node {
         layer,
@@ -63,11 +70,12 @@ fn node_of<A: Allocator>(
 /// The tree of pairs whose keys have these layers.
 fn subtree<A: Allocator + Copy>(
     alloc: A,
+    format: Format,
     pairs: &[(Key, Value)],
     layers: &[u8],
 ) -> Result<Option<Box<Node<A>, A>>, Memory>
-    requires layers { layers.now ≡ layers_in layer pairs.now }
-    ensures tree { IfOk result (λ t. tree_of_child One t ≡ tree One pairs.now) }
+    requires layers { layers.now ≡ layers_in (layer_in format) pairs.now }
+    ensures tree { IfOk result (λ t. tree_of_child format t ≡ tree format pairs.now) }
 {
     if pairs.is_empty() {
         return Ok(None);
@@ -77,12 +85,12 @@ fn subtree<A: Allocator + Copy>(
     let mut start = 0;
     for (i, pair) in pairs.iter().enumerate() {
         if layers[i] == top {
-            let child = subtree(alloc, &pairs[start..i], &layers[start..i])?;
+            let child = subtree(alloc, format, &pairs[start..i], &layers[start..i])?;
             entries.push(entry_of(child, pair))?;
             start = i + 1;
         }
     }
-    let tail = subtree(alloc, &pairs[start..], &layers[start..])?;
+    let tail = subtree(alloc, format, &pairs[start..], &layers[start..])?;
     Ok(Some(node_of(alloc, top, entries, tail)?))
 }
 
@@ -98,6 +106,19 @@ pub fn build<A: Allocator + Copy>(
     ensures tree { IfOk result (λ t. tree_of_child One t ≡ tree One pairs.now) }
     ensures pairs { IfOk result (λ t. pairs_of (tree_of_child One t) ≡ pairs.now) }
 {
-    let layers = layers_of(alloc, pairs)?;
-    subtree(alloc, pairs, layers.as_slice())
+    build_in(alloc, Format::One, pairs)
+}
+
+/// The tree of the pairs of a map in a format, as `build` is in format 1. Calls nest no deeper than
+/// the layers, in format 2 129 at the most.
+pub fn build_in<A: Allocator + Copy>(
+    alloc: A,
+    format: Format,
+    pairs: &[(Key, Value)],
+) -> Result<Option<Box<Node<A>, A>>, Memory>
+    ensures tree { IfOk result (λ t. tree_of_child format t ≡ tree format pairs.now) }
+    ensures pairs { IfOk result (λ t. pairs_of (tree_of_child format t) ≡ pairs.now) }
+{
+    let layers = layers_of(alloc, format, pairs)?;
+    subtree(alloc, format, pairs, layers.as_slice())
 }

@@ -7,7 +7,7 @@ use std::alloc::{Allocator, Global};
 #[cycle(node)]
 #[derive(Debug, Drop)]
 pub struct Node<A: Allocator = Global> {
-    /// The layer of each key of the node, 0 to 64.
+    /// The layer of each key of the node: 0 to 64 in format 1, 0 to 128 in format 2.
     pub layer: u8,
     /// At least one.
     pub entries: Vec<Entry<A>, A>,

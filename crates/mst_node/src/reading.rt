@@ -1,12 +1,14 @@
 //! Reading the parts of a node text, from left to right. Each call answers what it read and the
 //! bytes behind it, or `None`.
 ghost use Rattle.std.specs.Prelude.{◌≡◌, ◌≤◌, length, IfSome, option_copied};
-ghost use Rattle.mst_key.specs.declared.format.Format.TheVariants.{One};
 ghost use Rattle.mst_key.specs.Bytes.{IsKey, IsValue};
-ghost use Rattle.mst_node.specs.Reading.{Gives, part_at, child_at, counted_at, entry_at, behind_at};
+ghost use Rattle.mst_node.specs.Reading.{Gives, part_at, child_at, counted_at, held_at, entry_at, behind_at};
 ghost use Rattle.mst_node.specs.Seen.{seen};
+ghost use Rattle.mst_node.specs.Held.{HasSize};
 
-/// An entry as it lies in a node text.
+use mst_key::Format;
+
+/// An entry as it lies in a node text: with its value or, in format 2, the SHA-256 of that.
 #[derive(Clone, Copy)]
 pub(crate) struct EntryBytes<'a> {
     pub child: Option<&'a [u8; 32]>,
@@ -60,27 +62,40 @@ fn counted_of(bytes: &[u8], low: u8, high: u8) -> Option<(&[u8], &[u8])>
     }
 }
 
+/// What stands for a value: bytes behind their number, or in format 2 a digest.
+fn held_of(format: Format, bytes: &[u8]) -> Option<(&[u8], &[u8])>
+    ensures reading { Gives (λ x. (x.0.now, x.1.now)) result (held_at format bytes.now) }
+    ensures value { IfSome result (λ x. IsValue x.0.now) }
+    ensures size { IfSome result (λ x. HasSize format x.0.now) }
+{
+    match format {
+        Format::One => counted_of(bytes, 0, 64),
+        Format::Two => part_of(bytes, 32),
+    }
+}
+
 /// An entry.
 #[tactic(auto, unfolding(crate::specs::Reading::entry_at))]
-pub(crate) fn entry_of(bytes: &[u8]) -> Option<(EntryBytes<'_>, &[u8])>
-    ensures reading { Gives (λ x. (seen x.0, x.1.now)) result (entry_at One bytes.now) }
+pub(crate) fn entry_of(format: Format, bytes: &[u8]) -> Option<(EntryBytes<'_>, &[u8])>
+    ensures reading { Gives (λ x. (seen x.0, x.1.now)) result (entry_at format bytes.now) }
     ensures key { IfSome result (λ x. IsKey x.0.key.now) }
     ensures value { IfSome result (λ x. IsValue x.0.value.now) }
+    ensures held { IfSome result (λ x. HasSize format x.0.value.now) }
 {
     let (child, rest) = child_of(bytes)?;
     let (key, rest) = counted_of(rest, 1, 32)?;
-    let (value, rest) = counted_of(rest, 0, 64)?;
+    let (value, rest) = held_of(format, rest)?;
     Some((EntryBytes { child, key, value }, rest))
 }
 
 /// The bytes behind so many entries.
 #[tactic(auto, unfolding(crate::specs::Reading::behind_at))]
-pub(crate) fn behind(bytes: &[u8], count: usize) -> Option<&[u8]>
-    ensures reading { Gives (λ x. x.now) result (behind_at One count bytes.now) }
+pub(crate) fn behind(format: Format, bytes: &[u8], count: usize) -> Option<&[u8]>
+    ensures reading { Gives (λ x. x.now) result (behind_at format count bytes.now) }
 {
     let mut rest = bytes;
     for _ in 0..count {
-        let (_, after) = entry_of(rest)?;
+        let (_, after) = entry_of(format, rest)?;
         rest = after;
     }
     Some(rest)

@@ -1,10 +1,10 @@
 //! What takes the text of a node, and the pieces that such a text is made of.
 ghost use Rattle.std.specs.Prelude.{◌≡◌, ◌≤◌, ℕ, List, [], ◌++◌, length, Option, Some, None, IfSome, IfOk, OnErr};
 ghost use Rattle.sha2.specs.Hashers.{Holds256};
-ghost use Rattle.mst_key.specs.declared.format.Format.TheVariants.{One};
-ghost use Rattle.mst_node.specs.Text.{heading, child_text, counted};
+ghost use Rattle.mst_node.specs.Text.{heading, version, child_text, counted, held_of, held_text};
 
-use mst_key::Memory;
+use crate::hashing::digest;
+use mst_key::{Format, Memory};
 use sha2::{Digest, Sha256};
 use std::alloc::Allocator;
 use std::marker::Model;
@@ -19,26 +19,28 @@ pub trait TextSink: Drop {
     fn take(&mut self, bytes: &[u8])
         ensures took { (m : List ℕ) → took self.old m → took self.new (m ++ bytes.now) };
 
-    /// Takes what stands in front of the entries: the format 1, the layer, and the number of
-    /// entries in two bytes, the high one first.
-    final fn heading(&mut self, layer: u8, count: u16)
+    /// Takes what stands in front of the entries: the number of the format, the layer, and the
+    /// number of entries in two bytes, the high one first.
+    final fn heading(&mut self, format: Format, layer: u8, count: u16)
         ensures heading { (m : List ℕ) → took self.old m
-            → took self.new (m ++ heading One layer count) }
+            → took self.new (m ++ heading format layer count) }
     {
-        self.take([1, layer].as_slice());
+        self.take([format_byte(format), layer].as_slice());
         self.take(count.to_be_bytes().as_slice());
     }
 
-    /// Takes an entry: the child before it, its key and its value.
-    final fn entry(&mut self, child: Option<[u8; 32]>, key: &[u8], value: &[u8])
+    /// Takes an entry: the child before it, its key, and its value or, in format 2, the SHA-256 of
+    /// that.
+    final fn entry(&mut self, format: Format, child: Option<[u8; 32]>, key: &[u8], value: &[u8])
         requires key { length key.now ≤ 255 }
         requires value { length value.now ≤ 255 }
         ensures entry { (m : List ℕ) → took self.old m
-            → took self.new (m ++ child_text child ++ counted key.now ++ counted value.now) }
+            → took self.new (m ++ child_text child ++ counted key.now
+            ++ held_text format (held_of format value.now)) }
     {
         self.child(child);
         take_counted(self, key);
-        take_counted(self, value);
+        take_held(self, format, value);
     }
 
     /// Takes a child, also the last one: a byte 1 and its digest, or a byte 0 for none.
@@ -62,6 +64,28 @@ fn take_counted<S: TextSink>(sink: &mut S, bytes: &[u8])
 {
     sink.take([bytes.len() as u8].as_slice());
     sink.take(bytes);
+}
+
+/// The byte that begins a text of a format.
+pub fn format_byte(format: Format) -> u8
+    ensures byte { result ≡ version format }
+{
+    match format {
+        Format::One => 1,
+        Format::Two => 2,
+    }
+}
+
+/// Hands over what a node holds of a value.
+fn take_held<S: TextSink>(sink: &mut S, format: Format, value: &[u8])
+    requires few { length value.now ≤ 255 }
+    ensures held { (m : List ℕ) → S.took sink.old m
+        → S.took sink.new (m ++ held_text format (held_of format value.now)) }
+{
+    match format {
+        Format::One => take_counted(sink, value),
+        Format::Two => sink.take(digest(value).as_slice()),
+    }
 }
 
 impl TextSink for Sha256 {

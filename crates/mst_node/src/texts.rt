@@ -8,38 +8,39 @@ ghost use Rattle.mst_node.specs.Text as spec;
 
 use crate::node::Node;
 use crate::sinks::{TextBuffer, TextSink};
-use mst_key::Memory;
+use mst_key::{Format, Memory};
 use sha2::{Digest, Sha256};
 use std::alloc::Allocator;
 
 /// The digest of a child, if it is there.
 #[cycle(digest)]
-fn child_digest<A: Allocator>(child: &Option<Box<Node<A>, A>>) -> Option<[u8; 32]>
-    requires few { length (pairs (tree_of_child One child.now)) ≤ 65535 }
-    ensures digest { result ≡ digest_of_child (tree_of_child One child.now) }
+fn child_digest<A: Allocator>(format: Format, child: &Option<Box<Node<A>, A>>) -> Option<[u8; 32]>
+    requires few { length (pairs (tree_of_child format child.now)) ≤ 65535 }
+    ensures digest { result ≡ digest_of_child (tree_of_child format child.now) }
 {
     match child {
         None => None,
-        Some(node) => Some(node_digest(node)),
+        Some(node) => Some(node_digest(format, node)),
     }
 }
 
 /// The digest of a node's text, which is fed piece by piece and takes no memory.
 #[cycle(digest)]
-fn node_digest<A: Allocator>(node: &Node<A>) -> [u8; 32]
-    requires few { length (pairs (tree_of One node.now)) ≤ 65535 }
-    ensures digest { result ≡ spec.digest (tree_of One node.now) }
+fn node_digest<A: Allocator>(format: Format, node: &Node<A>) -> [u8; 32]
+    requires few { length (pairs (tree_of format node.now)) ≤ 65535 }
+    ensures digest { result ≡ spec.digest (tree_of format node.now) }
 {
     let mut hasher = Sha256::new();
-    hasher.heading(node.layer, node.entries.len() as u16);
+    hasher.heading(format, node.layer, node.entries.len() as u16);
     for entry in &node.entries {
         hasher.entry(
-            child_digest(&entry.child),
+            format,
+            child_digest(format, &entry.child),
             entry.key.bytes(),
             entry.value.bytes(),
         );
     }
-    hasher.child(child_digest(&node.tail));
+    hasher.child(child_digest(format, &node.tail));
     hasher.finalize()
 }
 
@@ -53,15 +54,28 @@ pub fn text<A: Allocator>(alloc: A, node: &Node<A>) -> Result<Vec<u8, A>, Memory
     requires few { length (pairs (tree_of One node.now)) ≤ 65535 }
     ensures text { IfOk result (λ t. t.items ≡ spec.text (tree_of One node.now)) }
 {
+    text_in(alloc, Format::One, node)
+}
+
+/// The text of a node in a format, as `text` is in format 1. In format 2 it begins with the version
+/// 2, and the SHA-256 of each value stands in place of the value and its length.
+///
+/// The node is one of a tree of at most 65,535 pairs. `Memory` comes only where a growth was
+/// refused. The work is linear in the pairs below the node.
+pub fn text_in<A: Allocator>(alloc: A, format: Format, node: &Node<A>) -> Result<Vec<u8, A>, Memory>
+    requires few { length (pairs (tree_of format node.now)) ≤ 65535 }
+    ensures text { IfOk result (λ t. t.items ≡ spec.text (tree_of format node.now)) }
+{
     let mut out = TextBuffer::new(alloc);
-    out.heading(node.layer, node.entries.len() as u16);
+    out.heading(format, node.layer, node.entries.len() as u16);
     for entry in &node.entries {
         out.entry(
-            child_digest(&entry.child),
+            format,
+            child_digest(format, &entry.child),
             entry.key.bytes(),
             entry.value.bytes(),
         );
     }
-    out.child(child_digest(&node.tail));
+    out.child(child_digest(format, &node.tail));
     out.finish()
 }

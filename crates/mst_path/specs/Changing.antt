@@ -1,8 +1,8 @@
 -- What a put or a remove does to rows and to their lives, by the rows that stand before it and
 -- those that stand after it.
+use Rattle.mst_key.specs.declared.format.Format.{Format}
 use Rattle.std.specs.Prelude.{◌≡◌, ◌≢◌, ◌↔◌, ℕ, List, slice_get, Some}
 use Rattle.mst_key.specs.Map.{Pair}
-use Rattle.mst_key.specs.declared.format.Format.TheVariants.{One}
 use Rattle.mst_arena.specs.Content.{Content}
 use Rattle.mst_arena.specs.Lives.{State, next}
 use Rattle.mst_arena.specs.Lists.{In, times}
@@ -16,9 +16,9 @@ abbrev pub AreOld : State → List ℕ → Type 0
 AreOld s rows = (r : ℕ) → In r rows → IsOld s r
 
 -- a map stands at the root, on rows of the current version and earlier ones
-abbrev pub MapStands : Content → State → Root → Type 0
-MapStands content s at =
-    (m : List Pair) × (stands : Stands One content at m) × AreOld s (numbers stands)
+abbrev pub MapStands : (format : Format) → Content → State → Root → Type 0
+MapStands format content s at =
+    (m : List Pair) × (stands : Stands format content at m) × AreOld s (numbers stands)
 
 -- the row is one of the first list alone
 abbrev pub IsOnlyIn : ℕ → List ℕ → List ℕ → Type 0

@@ -1,4 +1,5 @@
 -- Entries that are copied from the nodes of a tree into a node that is being written.
+use Rattle.mst_key.specs.declared.format.Format.{Format}
 use Rattle.std.specs.Prelude.{◌≡◌, ◌≤◌, ◌+◌, ℕ, List, ◌++◌, length}
 use Rattle.mst_arena.specs.Content.{Content}
 use Rattle.mst_arena.specs.Lives.{State}
@@ -12,9 +13,9 @@ use Rattle.mst_path.specs.declared.node_writer.NodeWriter.{NodeWriter}
 
 -- These entries are written, in new rows: their rows and those of the trees before them are alive,
 -- no row twice, and the row for the next entry is a new one and none of them.
-pub record Going (w : NodeWriter) (content : Content) (s : State)
+pub record Going (format : Format) (w : NodeWriter) (content : Content) (s : State)
     (ws : List PlacedEntry) : Type 0 where
-  pub written : IsWritten w content ws
+  pub written : IsWritten format w content ws
   pub once : (r : ℕ) → times r (ahead w.next) + times r (entries_used ws) ≤ 1
   pub alive : (r : ℕ) → In r (entries_used ws) → IsAlive s r
   pub made : AreMade s ws
@@ -22,21 +23,21 @@ pub record Going (w : NodeWriter) (content : Content) (s : State)
 
 -- So many entries from a link on are to be copied behind those that are written, and no row stands
 -- twice in all of them.
-pub record Copying (w : NodeWriter) (content : Content) (s : State) (link count : ℕ) : Type 0 where
+pub record Copying (format : Format) (w : NodeWriter) (content : Content) (s : State) (link count : ℕ) : Type 0 where
   pub behind : ℕ
   pub es : List PlacedEntry
   pub ws : List PlacedEntry
-  pub run : Run content s link count behind es
-  pub going : Going w content s ws
+  pub run : Run format content s link count behind es
+  pub going : Going format w content s ws
   pub once : (r : ℕ) → times r (entries_used ws) + times r (own es) + times r (gaps_used es) ≤ 1
 
 -- The entries are copied: their rows were killed, and the copies were written into rows that were
 -- taken.
-pub record Copied (w w' : NodeWriter) (c c' : Content) (s s' : State)
+pub record Copied (format : Format) (w w' : NodeWriter) (c c' : Content) (s s' : State)
     (ws es : List PlacedEntry) : Type 0 where
   pub copies : List PlacedEntry
   pub same : AreCopies copies es
-  pub going : Going w' c' s' (ws ++ copies)
+  pub going : Going format w' c' s' (ws ++ copies)
   pub taken : List ℕ
   pub moves : Moves s s' taken (own es)
   pub keeps : KeepsBut (ahead w.next ++ taken) c c'

@@ -1,6 +1,6 @@
 -- The entries of a node in their rows, cut at a key.
+use Rattle.mst_key.specs.declared.format.Format.{Format}
 use Rattle.std.specs.Prelude.{◌≡◌, ℕ, ◌+◌, List, [], ◌∷◌, ◌++◌, length}
-use Rattle.mst_key.specs.declared.format.Format.TheVariants.{One}
 use Rattle.mst_arena.specs.Content.{Content}
 use Rattle.mst_arena.specs.declared.row.HeadLinks.{HeadLinks}
 use Rattle.mst_arena.specs.Standing.{Placed, link_of, tree_of, HasRows}
@@ -29,7 +29,7 @@ pub record IsRunOf (run : Run) (behind : ℕ) (es : List PlacedEntry) : Type 0 w
   pub begins : link_from behind es ≡ run.first
 
 -- the key falls into the gap between two parts of the entries, in which the tree at the link stands
-pub record CutGap (k : List ℕ) (es : List PlacedEntry) (tail : Placed) (front : Run) (child : ℕ)
+pub record CutGap (format : Format) (k : List ℕ) (es : List PlacedEntry) (tail : Placed) (front : Run) (child : ℕ)
     (back : Run) : Type 0 where
   pub before : List PlacedEntry
   pub behind : List PlacedEntry
@@ -37,10 +37,10 @@ pub record CutGap (k : List ℕ) (es : List PlacedEntry) (tail : Placed) (front 
   pub front_is : IsRunOf front (link_from 0 behind) before
   pub back_is : IsRunOf back 0 behind
   pub child_at : link_of (gap_before behind tail) ≡ child
-  pub gap : IsGap k (entries_to es tail) (cells_of before) (entries_to behind tail)
+  pub gap : IsGap k (entries_to format es tail) (cells_of format before) (entries_to format behind tail)
 
 -- the key's entry stands in the row between two parts of the entries, behind the tree at the link
-pub record CutHeld (k : List ℕ) (es : List PlacedEntry) (tail : Placed) (front : Run)
+pub record CutHeld (format : Format) (k : List ℕ) (es : List PlacedEntry) (tail : Placed) (front : Run)
     (row child : ℕ) (back : Run) : Type 0 where
   pub before : List PlacedEntry
   pub here : PlacedEntry
@@ -51,10 +51,10 @@ pub record CutHeld (k : List ℕ) (es : List PlacedEntry) (tail : Placed) (front
   pub row_is : here.at ≡ row
   pub key_is : here.key ≡ k
   pub child_at : link_of here.child ≡ child
-  pub at : IsAt k (entries_to es tail) (cells_of before) (tree_of One here.child) here.value
-      (entries_to behind tail)
+  pub at : IsAt k (entries_to format es tail) (cells_of format before) (tree_of format here.child) here.value
+      (entries_to format behind tail)
 
 -- a cut of the entries at the key
-abbrev pub IsCut : List ℕ → List PlacedEntry → Placed → Cut → Type 0
-IsCut k es tail (Gap front child back) = CutGap k es tail front child back
-IsCut k es tail (Held front row child back) = CutHeld k es tail front row child back
+abbrev pub IsCut : (format : Format) → List ℕ → List PlacedEntry → Placed → Cut → Type 0
+IsCut format k es tail (Gap front child back) = CutGap format k es tail front child back
+IsCut format k es tail (Held front row child back) = CutHeld format k es tail front row child back

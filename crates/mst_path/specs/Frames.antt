@@ -1,7 +1,7 @@
 -- What is left of nodes round a gap, once the tree in the gap is made anew: entries in front of it
 -- and entries behind it, which are moved into a new node, and rows that go.
+use Rattle.mst_key.specs.declared.format.Format.{Format}
 use Rattle.std.specs.Prelude.{◌≤◌, ◌<◌, ◌+◌, ℕ, false, List, ◌∷◌}
-use Rattle.mst_key.specs.declared.format.Format.TheVariants.{One}
 use Rattle.mst_node.specs.Tree.{Tree}
 use Rattle.mst_node.specs.Shape.{with_entries}
 use Rattle.mst_arena.specs.Content.{Content}
@@ -27,13 +27,13 @@ frame_rows frame = side_rows (frame.front.count + frame.back.count) false
 -- The entries stand, and they and the rows that go are of the current version or older ones. No row
 -- is in two of them, nor in one of them and in the rows that are given for the gap, which are
 -- alive.
-pub record Framed (content : Content) (s : State) (frame : Frame) (given : ℕ → ℕ) : Type 0 where
+pub record Framed (format : Format) (content : Content) (s : State) (frame : Frame) (given : ℕ → ℕ) : Type 0 where
   pub front : List PlacedEntry
   pub behind : ℕ
-  pub front_run : Run content s frame.front.first frame.front.count behind front
+  pub front_run : Run format content s frame.front.first frame.front.count behind front
   pub back : List PlacedEntry
   pub tail : Placed
-  pub back_run : BackRun content s frame.back.first frame.back.count frame.tail back tail
+  pub back_run : BackRun format content s frame.back.first frame.back.count frame.tail back tail
   pub goes : (r : ℕ) → In r (spare frame) → IsOld s r
   pub alive : (r : ℕ) → 0 < given r → IsAlive s r
   pub once : (x : ℕ)
@@ -41,17 +41,17 @@ pub record Framed (content : Content) (s : State) (frame : Frame) (given : ℕ �
       (gaps_used (others back)) + times x (used tail) + times x (spare frame) ≤ 1
 
 -- how often a row stands in the entries, with the trees in their gaps, and in all of the frame
-abbrev pub in_entries : {content : Content} {s : State} {frame : Frame} {given : ℕ → ℕ}
-    → Framed content s frame given → ℕ → ℕ
-in_entries f x = times x (own f.front) + times x (gaps_used f.front) + times x (own f.back)
+abbrev pub in_entries : (format : Format) {content : Content} {s : State} {frame : Frame} {given : ℕ → ℕ}
+    → Framed format content s frame given → ℕ → ℕ
+in_entries format f x = times x (own f.front) + times x (gaps_used f.front) + times x (own f.back)
     + times x (gaps_used (others f.back)) + times x (used f.tail)
 
-abbrev pub in_frame : {content : Content} {s : State} {frame : Frame} {given : ℕ → ℕ}
-    → Framed content s frame given → ℕ → ℕ
-in_frame {content} {s} {frame} f x = in_entries f x + times x (spare frame)
+abbrev pub in_frame : (format : Format) {content : Content} {s : State} {frame : Frame} {given : ℕ → ℕ}
+    → Framed format content s frame given → ℕ → ℕ
+in_frame format {content} {s} {frame} f x = in_entries format f x + times x (spare frame)
 
 -- the tree with this one in the gap
-abbrev pub tree_round : {content : Content} {s : State} {frame : Frame} {given : ℕ → ℕ}
-    → Framed content s frame given → Tree → Tree
-tree_round {content} {s} {frame} f t = node_of One frame.layer
-    (with_entries (cells_of f.front) (with_first t (entries_to f.back f.tail)))
+abbrev pub tree_round : (format : Format) {content : Content} {s : State} {frame : Frame} {given : ℕ → ℕ}
+    → Framed format content s frame given → Tree → Tree
+tree_round format {content} {s} {frame} f t = node_of format frame.layer
+    (with_entries (cells_of format f.front) (with_first t (entries_to format f.back f.tail)))

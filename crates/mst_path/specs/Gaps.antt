@@ -1,7 +1,7 @@
 -- The top node of a tree that stands, opened where a key falls: the frame round the gap of the key,
 -- or round the key's entry.
+use Rattle.mst_key.specs.declared.format.Format.{Format}
 use Rattle.std.specs.Prelude.{◌≡◌, ◌≤◌, ◌<◌, ◌+◌, ℕ, List}
-use Rattle.mst_key.specs.declared.format.Format.TheVariants.{One}
 use Rattle.mst_node.specs.Tree.{Tree, node, Entries, entry_count}
 use Rattle.mst_arena.specs.Content.{Content}
 use Rattle.mst_arena.specs.Lives.{State}
@@ -18,39 +18,39 @@ use Rattle.mst_path.specs.Joining.{TwoTrees, in_both, height}
 use Rattle.mst_path.specs.Removing.{SearchTree, in_tree}
 
 -- The key falls into a gap of the node: the tree there, and the frame round it.
-pub record OpensGap (content : Content) (s : State) (link : ℕ) (t : SearchTree content s link)
+pub record OpensGap (format : Format) (content : Content) (s : State) (link : ℕ) (t : SearchTree format content s link)
     (k : List ℕ) (child : ℕ) (frame : Frame) : Type 0 where
-  pub inner : SearchTree content s child
-  pub framed : Framed content s frame (in_tree inner)
+  pub inner : SearchTree format content s child
+  pub framed : Framed format content s frame (in_tree format inner)
   pub entries : Entries
   pub behind : Entries
-  pub top : tree_of One t.placed ≡ node One frame.layer entries
-  pub gap : IsGap k entries (cells_of framed.front) behind
-  pub first : first_child behind ≡ tree_of One inner.placed
-  pub same : (u : Tree) → with_first u behind ≡ with_first u (entries_to framed.back framed.tail)
+  pub top : tree_of format t.placed ≡ node format frame.layer entries
+  pub gap : IsGap k entries (cells_of format framed.front) behind
+  pub first : first_child behind ≡ tree_of format inner.placed
+  pub same : (u : Tree) → with_first u behind ≡ with_first u (entries_to format framed.back framed.tail)
   pub counted : entry_count entries ≡ frame.front.count + frame.back.count
   pub some : 0 < entry_count entries
-  pub given : (x : ℕ) → in_tree t x ≡ in_tree inner x + in_frame framed x
-  pub falls : height (tree_of One inner.placed) < height (tree_of One t.placed)
-  pub low : frame.layer ≤ 64
+  pub given : (x : ℕ) → in_tree format t x ≡ in_tree format inner x + in_frame format framed x
+  pub falls : height (tree_of format inner.placed) < height (tree_of format t.placed)
+  pub low : frame.layer ≤ 128
 
 -- The key has an entry in the node: the trees beside it, and the frame round it.
-pub record OpensEntry (content : Content) (s : State) (link : ℕ) (t : SearchTree content s link)
+pub record OpensEntry (format : Format) (content : Content) (s : State) (link : ℕ) (t : SearchTree format content s link)
     (k : List ℕ) (m : Meeting) : Type 0 where
-  pub inner : TwoTrees content s m.left m.right
-  pub framed : Framed content s m.frame (in_both inner)
+  pub inner : TwoTrees format content s m.left m.right
+  pub framed : Framed format content s m.frame (in_both format inner)
   pub value : List ℕ
   pub entries : Entries
   pub behind : Entries
-  pub top : tree_of One t.placed ≡ node One m.frame.layer entries
-  pub at : IsAt k entries (cells_of framed.front) (tree_of One inner.a) value behind
-  pub first : first_child behind ≡ tree_of One inner.b
-  pub same : (u : Tree) → with_first u behind ≡ with_first u (entries_to framed.back framed.tail)
+  pub top : tree_of format t.placed ≡ node format m.frame.layer entries
+  pub at : IsAt k entries (cells_of format framed.front) (tree_of format inner.a) value behind
+  pub first : first_child behind ≡ tree_of format inner.b
+  pub same : (u : Tree) → with_first u behind ≡ with_first u (entries_to format framed.back framed.tail)
   pub counted : entry_count entries ≡ m.frame.front.count + m.frame.back.count + 1
-  pub given : (x : ℕ) → in_tree t x ≡ in_both inner x + in_frame framed x
-  pub low : m.frame.layer ≤ 64
+  pub given : (x : ℕ) → in_tree format t x ≡ in_both format inner x + in_frame format framed x
+  pub low : m.frame.layer ≤ 128
 
-abbrev pub IsOpened : (content : Content) (s : State) (link : ℕ)
-    → SearchTree content s link → List ℕ → Step → Type 0
-IsOpened content s link t k (Down child frame) = OpensGap content s link t k child frame
-IsOpened content s link t k (Here meeting) = OpensEntry content s link t k meeting
+abbrev pub IsOpened : (format : Format) (content : Content) (s : State) (link : ℕ)
+    → SearchTree format content s link → List ℕ → Step → Type 0
+IsOpened format content s link t k (Down child frame) = OpensGap format content s link t k child frame
+IsOpened format content s link t k (Here meeting) = OpensEntry format content s link t k meeting

@@ -1,8 +1,8 @@
 -- Two trees that stand and are to be joined, and what is left of them round the gap in which they
 -- meet.
+use Rattle.mst_key.specs.declared.format.Format.{Format}
 use Rattle.std.specs.Prelude.{◌≡◌, ◌≤◌, ◌<◌, ◌+◌, ◌-◌, ℕ, zero, suc, Some, None}
 use Rattle.std.specs.Option.{option_map_or}
-use Rattle.mst_key.specs.declared.format.Format.TheVariants.{One}
 use Rattle.mst_node.specs.Tree.{Tree, empty, node, IsMst}
 use Rattle.mst_arena.specs.Content.{Content, part_at}
 use Rattle.mst_arena.specs.Row.{head_links}
@@ -18,30 +18,30 @@ use Rattle.mst_path.specs.Frames.{Framed, in_frame, tree_round, frame_rows}
 
 -- Two search trees of the current version stand at the links, and no row is in both of them or
 -- twice in one.
-pub record TwoTrees (content : Content) (s : State) (left right : ℕ) : Type 0 where
+pub record TwoTrees (format : Format) (content : Content) (s : State) (left right : ℕ) : Type 0 where
   pub a : Placed
   pub b : Placed
   pub a_at : link_of a ≡ left
   pub b_at : link_of b ≡ right
-  pub a_piece : OldPiece content s a
-  pub b_piece : OldPiece content s b
-  pub a_search : IsMst One (tree_of One a)
-  pub b_search : IsMst One (tree_of One b)
+  pub a_piece : OldPiece format content s a
+  pub b_piece : OldPiece format content s b
+  pub a_search : IsMst format (tree_of format a)
+  pub b_search : IsMst format (tree_of format b)
   pub once : (x : ℕ) → times x (used a) + times x (used b) ≤ 1
 
 -- how often a row stands in them
-abbrev pub in_both : {content : Content} {s : State} {left right : ℕ}
-    → TwoTrees content s left right → ℕ → ℕ
-in_both t x = times x (used t.a) + times x (used t.b)
+abbrev pub in_both : (format : Format) {content : Content} {s : State} {left right : ℕ}
+    → TwoTrees format content s left right → ℕ → ℕ
+in_both format t x = times x (used t.a) + times x (used t.b)
 
 -- the tree of both, and the rows of the nodes that are made new
-abbrev pub both_joined : {content : Content} {s : State} {left right : ℕ}
-    → TwoTrees content s left right → Tree
-both_joined t = join (tree_of One t.a) (tree_of One t.b)
+abbrev pub both_joined : (format : Format) {content : Content} {s : State} {left right : ℕ}
+    → TwoTrees format content s left right → Tree
+both_joined format t = join (tree_of format t.a) (tree_of format t.b)
 
-abbrev pub both_rows : {content : Content} {s : State} {left right : ℕ}
-    → TwoTrees content s left right → ℕ
-both_rows t = join_rows (tree_of One t.a) (tree_of One t.b)
+abbrev pub both_rows : (format : Format) {content : Content} {s : State} {left right : ℕ}
+    → TwoTrees format content s left right → ℕ
+both_rows format t = join_rows (tree_of format t.a) (tree_of format t.b)
 
 -- how many layers there may be in a tree, and in the one at a link by its head
 abbrev pub height : Tree → ℕ
@@ -54,16 +54,16 @@ height_at content (suc row) = option_map_or (λ h. h.layer + 1) (part_at head_li
 
 -- The trees that meet, and the frame round them: their join in the frame's gap makes the join of
 -- the two.
-pub record Met (content : Content) (s : State) (left right : ℕ) (t : TwoTrees content s left right)
+pub record Met (format : Format) (content : Content) (s : State) (left right : ℕ) (t : TwoTrees format content s left right)
     (m : Meeting) : Type 0 where
-  pub inner : TwoTrees content s m.left m.right
-  pub framed : Framed content s m.frame (in_both inner)
-  pub is : both_joined t ≡ tree_round framed (both_joined inner)
-  pub rows : both_rows t ≡ both_rows inner + frame_rows m.frame
-  pub given : (x : ℕ) → in_both t x ≡ in_both inner x + in_frame framed x
-  pub falls : height (tree_of One inner.a) + height (tree_of One inner.b) < height (tree_of One t.a)
-      + height (tree_of One t.b)
-  pub low : m.frame.layer ≤ 64
+  pub inner : TwoTrees format content s m.left m.right
+  pub framed : Framed format content s m.frame (in_both format inner)
+  pub is : both_joined format t ≡ tree_round format framed (both_joined format inner)
+  pub rows : both_rows format t ≡ both_rows format inner + frame_rows m.frame
+  pub given : (x : ℕ) → in_both format t x ≡ in_both format inner x + in_frame format framed x
+  pub falls : height (tree_of format inner.a) + height (tree_of format inner.b) < height (tree_of format t.a)
+      + height (tree_of format t.b)
+  pub low : m.frame.layer ≤ 128
 
 -- ---- where they meet, by the layers of their nodes
 

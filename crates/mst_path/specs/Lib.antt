@@ -14,6 +14,7 @@ pub mod Cutting
 pub mod Splitting
 pub mod Putting
 pub mod Changing
+pub mod Felling
 pub mod Reached
 pub mod Versions
 pub mod Ages

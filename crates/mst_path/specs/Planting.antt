@@ -1,7 +1,7 @@
 -- A tree that is written whole into free rows.
+use Rattle.mst_key.specs.declared.format.Format.{Format}
 use Rattle.std.specs.Prelude.{◌≡◌, ◌≤◌, ◌+◌, ℕ, List, length, Option, Some, None}
 use Rattle.mst_key.specs.Map.{Pair}
-use Rattle.mst_key.specs.declared.format.Format.TheVariants.{One}
 use Rattle.mst_node.specs.Tree.{Tree, empty, node, Entries, last, entry, tree, pairs}
 use Rattle.mst_node.specs.Shape.{tree_of as tree_of_node}
 use Rattle.mst_node.specs.declared.node.Node.{Node}
@@ -27,20 +27,20 @@ abbrev pub rows_needed : Tree → ℕ
 rows_needed t = length (pairs t) + node_count t
 
 -- the tree at a node which need not be there
-abbrev pub tree_at : {A : Type 0} → Option (Node A) → Tree
-tree_at None = empty
-tree_at (Some n) = tree_of_node One n
+abbrev pub tree_at : (format : Format) {A : Type 0} → Option (Node A) → Tree
+tree_at format None = empty
+tree_at format (Some n) = tree_of_node format n
 
 -- the tree is that of these pairs, of which there are at most 65,535
-pub record IsTreeOf (t : Tree) (m : List Pair) : Type 0 where
+pub record IsTreeOf (format : Format) (t : Tree) (m : List Pair) : Type 0 where
   pub few : length m ≤ 65535
-  pub is : t ≡ tree One m
+  pub is : t ≡ tree format m
 
 -- the tree was written into rows that were taken for it, and no other row was touched
-pub record Planted (old new : State) (before after : Content) (t : Tree) (at : Root) : Type 0 where
+pub record Planted (format : Format) (old new : State) (before after : Content) (t : Tree) (at : Root) : Type 0 where
   pub placed : Placed
-  pub is : tree_of One placed ≡ t
-  pub root : IsRootOf placed at
-  pub rows : HasRows after (rows_of One placed)
+  pub is : tree_of format placed ≡ t
+  pub root : IsRootOf format placed at
+  pub rows : HasRows after (rows_of format placed)
   pub takes : Takes old new (used placed)
   pub keeps : KeepsBut (used placed) before after

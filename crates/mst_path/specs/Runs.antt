@@ -1,6 +1,6 @@
 -- Entries of a node that stand one behind another, as parts of a tree that is taken apart.
+use Rattle.mst_key.specs.declared.format.Format.{Format}
 use Rattle.std.specs.Prelude.{◌≡◌, ℕ, List, [], ◌∷◌, ◌++◌, length}
-use Rattle.mst_key.specs.declared.format.Format.TheVariants.{One}
 use Rattle.mst_arena.specs.Content.{Content}
 use Rattle.mst_arena.specs.Lives.{State}
 use Rattle.mst_arena.specs.declared.row.Row.{Row}
@@ -13,13 +13,13 @@ use Rattle.mst_path.specs.Writing.{PlacedEntry, link_from}
 
 -- a placed tree stands, on rows that are alive: those of a node are all old, with all below it, or
 -- all new
-pub record Piece (content : Content) (s : State) (p : Placed) : Type 0 where
-  pub rows : HasRows content (rows_of One p)
+pub record Piece (format : Format) (content : Content) (s : State) (p : Placed) : Type 0 where
+  pub rows : HasRows content (rows_of format p)
   pub made : IsMade s p
 
 -- a placed tree stands, on rows of the current version and older ones
-pub record OldPiece (content : Content) (s : State) (p : Placed) : Type 0 where
-  pub rows : HasRows content (rows_of One p)
+pub record OldPiece (format : Format) (content : Content) (s : State) (p : Placed) : Type 0 where
+  pub rows : HasRows content (rows_of format p)
   pub old : (r : ℕ) → In r (used p) → IsOld s r
 
 -- the rows of the entries alone, without the trees in their gaps
@@ -45,13 +45,13 @@ EachGap P (e ∷ es) = P e.child × EachGap P es
 
 -- So many entries stand from a link on, up to the link behind them: their rows are of the current
 -- version and older ones, and so are the trees before them.
-pub record Run (content : Content) (s : State) (link count behind : ℕ)
+pub record Run (format : Format) (content : Content) (s : State) (link count behind : ℕ)
     (es : List PlacedEntry) : Type 0 where
   pub counted : length es ≡ count
   pub begins : link_from behind es ≡ link
   pub rows : HasRows content (own_rows behind es)
   pub old : (r : ℕ) → In r (own es) → IsOld s r
-  pub gaps : EachGap (OldPiece content s) es
+  pub gaps : EachGap (OldPiece format content s) es
 
 -- the same entries in other rows
 abbrev pub AreCopies : List PlacedEntry → List PlacedEntry → Type 0

@@ -1,8 +1,8 @@
 -- The maps of versions: each stands at a root, on exactly the rows that its version reaches.
+use Rattle.mst_key.specs.declared.format.Format.{Format}
 use Rattle.std.specs.Prelude.{◌≤◌, ◌↔◌, ℕ, List, [], ◌∷◌, ◌++◌, map}
 use Rattle.std.specs.List.{AllByRecursion}
 use Rattle.mst_key.specs.Map.{Pair}
-use Rattle.mst_key.specs.declared.format.Format.TheVariants.{One}
 use Rattle.mst_arena.specs.Content.{Content}
 use Rattle.mst_arena.specs.Lives.{State, version}
 use Rattle.mst_arena.specs.declared.life.Life.{Life}
@@ -13,9 +13,9 @@ use Rattle.mst_path.specs.Reached.{ReachesExactly, IsSettled}
 
 -- A version has its map: it stands at a root, and the version reaches exactly the rows that stand
 -- for it.
-pub record HasMap (content : Content) (lives : List Life) (v : ℕ) (at : Root)
+pub record HasMap (format : Format) (content : Content) (lives : List Life) (v : ℕ) (at : Root)
     (m : List Pair) : Type 0 where
-  pub stands : Stands One content at m
+  pub stands : Stands format content at m
   pub rows : ReachesExactly lives v (numbers stands)
 
 -- a version that is kept: its number, and the root and the pairs of its map
@@ -32,20 +32,20 @@ abbrev pub AreNumbers : List ℕ → List Kept → Type 0
 AreNumbers live kept = (v : ℕ) → In v live ↔ In v (numbers_kept kept)
 
 -- each of them has its map
-abbrev pub HaveMaps : Content → List Life → List Kept → Type 0
-HaveMaps content lives kept =
-    AllByRecursion (λ k. HasMap content lives k.number k.root k.pairs) kept
+abbrev pub HaveMaps : (format : Format) → Content → List Life → List Kept → Type 0
+HaveMaps format content lives kept =
+    AllByRecursion (λ k. HasMap format content lives k.number k.root k.pairs) kept
 
 -- the numbers of the rows that stand for their maps
-abbrev pub rows_kept : (content : Content) (lives : List Life) (kept : List Kept)
-    → HaveMaps content lives kept → List ℕ
-rows_kept content lives [] have = []
-rows_kept content lives (k ∷ ks) have = numbers have.0.stands ++ rows_kept content lives ks have.1
+abbrev pub rows_kept : (format : Format) (content : Content) (lives : List Life) (kept : List Kept)
+    → HaveMaps format content lives kept → List ℕ
+rows_kept format content lives [] have = []
+rows_kept format content lives (k ∷ ks) have = numbers have.0.stands ++ rows_kept format content lives ks have.1
 
 -- What holds between two writes: none is under way; the current version is kept; and each version
 -- that is kept is the current one or an earlier one, and has its map.
-pub record Keeps (content : Content) (s : State) (kept : List Kept) : Type 0 where
+pub record Keeps (format : Format) (content : Content) (s : State) (kept : List Kept) : Type 0 where
   pub settled : IsSettled s
   pub current : In (version s) (numbers_kept kept)
   pub earlier : AllByRecursion (λ k. k.number ≤ version s) kept
-  pub maps : HaveMaps content s.lives kept
+  pub maps : HaveMaps format content s.lives kept

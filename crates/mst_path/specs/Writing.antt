@@ -1,10 +1,10 @@
 -- A node that is written entry by entry, from left to right.
+use Rattle.mst_key.specs.declared.format.Format.{Format}
 use Rattle.std.specs.Prelude.{◌≡◌, ◌≤◌, ◌<◌, ◌+◌, ℕ, List, [], ◌∷◌, ◌++◌, length, map, Option, Some, None}
 use Rattle.std.specs.Int.{w16, to_be_bytes}
 use Rattle.std.specs.List.{AllByRecursion, flat_map}
 use Rattle.sha2.specs.Hashers.{Holds256}
-use Rattle.mst_key.specs.declared.format.Format.TheVariants.{One}
-use Rattle.mst_node.specs.Text.{FlatEntry, entry_text, child_digest, digest as digest_of}
+use Rattle.mst_node.specs.Text.{FlatEntry, entry_text, child_digest, held_of, version, digest as digest_of}
 use Rattle.mst_arena.specs.Content.{Content}
 use Rattle.mst_arena.specs.declared.row.Root.{Root}
 use Rattle.mst_arena.specs.declared.row.Row.{Row}
@@ -30,10 +30,10 @@ link_from behind [] = behind
 link_from behind (e ∷ es) = e.at + 1
 
 -- the rows of these entries and of the trees before them
-abbrev pub entry_rows : ℕ → List PlacedEntry → List (ℕ × Row)
-entry_rows behind [] = []
-entry_rows behind (e ∷ es) = (e.at, Entry (link_of e.child) (link_from behind es) e.key e.value)
-    ∷ rows_of One e.child ++ entry_rows behind es
+abbrev pub entry_rows : (format : Format) → ℕ → List PlacedEntry → List (ℕ × Row)
+entry_rows format behind [] = []
+entry_rows format behind (e ∷ es) = (e.at, Entry (link_of e.child) (link_from behind es) e.key e.value)
+    ∷ rows_of format e.child ++ entry_rows format behind es
 
 -- their numbers
 abbrev pub entries_used : List PlacedEntry → List ℕ
@@ -41,17 +41,17 @@ entries_used [] = []
 entries_used (e ∷ es) = e.at ∷ used e.child ++ entries_used es
 
 -- the text of a node up to these entries
-abbrev pub flat_of : PlacedEntry → FlatEntry
-flat_of e = record { child = child_digest (tree_of One e.child); key = e.key; held = e.value }
+abbrev pub flat_of : (format : Format) → PlacedEntry → FlatEntry
+flat_of format e = record { child = child_digest (tree_of format e.child); key = e.key; held = held_of format e.value }
 
-abbrev pub text_up_to : ℕ → ℕ → List PlacedEntry → List ℕ
-text_up_to layer count es =
-    1 ∷ layer ∷ to_be_bytes w16 count ++ flat_map (entry_text One) (map flat_of es)
+abbrev pub text_up_to : (format : Format) → ℕ → ℕ → List PlacedEntry → List ℕ
+text_up_to format layer count es =
+    version format ∷ layer ∷ to_be_bytes w16 count ++ flat_map (entry_text format) (map (flat_of format) es)
 
 -- link and digest are those of the placed tree
-pub record IsRootOf (p : Placed) (at : Root) : Type 0 where
+pub record IsRootOf (format : Format) (p : Placed) (at : Root) : Type 0 where
   pub link : at.link ≡ link_of p
-  pub sum : at.digest ≡ digest_of (tree_of One p)
+  pub sum : at.digest ≡ digest_of (tree_of format p)
 
 -- ---- the writer
 
@@ -71,16 +71,17 @@ IsAhead (Some r) left = 0 < left
 
 -- the limits of what a writer holds
 pub record IsWriter (w : NodeWriter) : Type 0 where
-  pub low : w.layer ≤ 64
+  pub low : w.layer ≤ 128
   pub some : 0 < w.count
   pub few : w.count ≤ 65534
   pub small : AllByRecursion (λ r. r < 65535) (w.head ∷ w.first ∷ ahead w.next)
   pub reserved : IsAhead w.next w.left
 
--- these entries are written: they are the first of the node's, their rows stand, and the hasher
+-- these entries are written, in this format: they are the first of the node's, their rows stand, and the hasher
 -- holds the text up to them
-pub record IsWritten (w : NodeWriter) (content : Content) (es : List PlacedEntry) : Type 0 where
+pub record IsWritten (format : Format) (w : NodeWriter) (content : Content) (es : List PlacedEntry) : Type 0 where
+  pub format_is : w.format ≡ format
   pub counted : length es + w.left ≡ w.count
   pub begins : link_from (link_to w.next) es ≡ w.first + 1
-  pub fed : Holds256 w.hasher (text_up_to w.layer w.count es)
-  pub rows : HasRows content (entry_rows (link_to w.next) es)
+  pub fed : Holds256 w.hasher (text_up_to format w.layer w.count es)
+  pub rows : HasRows content (entry_rows format (link_to w.next) es)

@@ -1,6 +1,6 @@
 //! Entries of a node, copied into a node that is being written.
 ghost use Rattle.std.specs.Prelude.{◌≡◌, ◌≤◌, ◌<◌, ◌+◌, ℕ, List, [], ◌∷◌, ◌++◌, length, Some, IfSome, IsTrue, IsSome};
-ghost use Rattle.mst_key.specs.declared.format.Format.TheVariants.{One};
+ghost use Rattle.mst_key.specs.declared.format.Format.{Format};
 ghost use Rattle.mst_arena.specs.Lives.{free_count};
 ghost use Rattle.mst_arena.specs.Content.{part_at};
 ghost use Rattle.mst_arena.specs.Row.{entry_value};
@@ -18,10 +18,10 @@ use std::alloc::Allocator;
 
 /// Where the tree at a link stands, and its digest. It reads one row.
 pub(crate) fn root_at<R: Rows>(rows: &mut R, link: u32) -> Root
-    requires stands { (p : Placed) × (link_of p ≡ link)
-        × HasRows (R.content rows.old) (rows_of One p) }
-    ensures root { (p : Placed) → link_of p ≡ link → HasRows (R.content rows.old) (rows_of One p)
-        → IsRootOf p result }
+    requires stands { (format : Format) × (p : Placed) × (link_of p ≡ link)
+        × HasRows (R.content rows.old) (rows_of format p) }
+    ensures root { (format : Format) (p : Placed) → link_of p ≡ link
+        → HasRows (R.content rows.old) (rows_of format p) → IsRootOf format p result }
     ensures same { rows.new ≡ rows.old }
 {
     if link == 0 {
@@ -55,11 +55,11 @@ pub(crate) fn move_entry<R: Rows, A: Allocator>(
     requires value { IsSome (part_at entry_value (R.content rows.old) row) }
     requires old { IsOld desk.old row }
     ensures writer { IsWriter writer.new }
-    ensures written { (es : List PlacedEntry) (p : Placed) (r : ℕ) (v : List ℕ)
+    ensures written { (format : Format) (es : List PlacedEntry) (p : Placed) (r : ℕ) (v : List ℕ)
         → writer.old.next ≡ Some r → part_at entry_value (R.content rows.old) row ≡ Some v
-        → IsWritten writer.old (R.content rows.old) es → IsRootOf p child.now
-        → HasRows (R.content rows.old) (rows_of One p) → IsOut r (entries_used es ++ used p)
-        → IsWritten writer.new (R.content rows.new)
+        → IsWritten format writer.old (R.content rows.old) es → IsRootOf format p child.now
+        → HasRows (R.content rows.old) (rows_of format p) → IsOut r (entries_used es ++ used p)
+        → IsWritten format writer.new (R.content rows.new)
         (es ++ record { at = r; child = p; key = key.now; value = v } ∷ []) }
     ensures node { (writer.new.layer ≡ writer.old.layer) × (writer.new.count ≡ writer.old.count)
         × (writer.new.left + 1 ≡ writer.old.left) × (writer.new.head ≡ writer.old.head) }
@@ -82,7 +82,8 @@ pub(crate) fn move_run<R: Rows, A: Allocator>(
     from: u32,
     count: u32,
 ) -> u32
-    requires copying { Copying writer.old (R.content rows.old) desk.old from count }
+    requires copying { (format : Format)
+        × Copying format writer.old (R.content rows.old) desk.old from count }
     requires writer { IsWriter writer.old }
     requires left { count ≤ writer.old.left }
     requires room { writer.old.left ≤ free_count desk.old.lives + 1 }
@@ -90,9 +91,10 @@ pub(crate) fn move_run<R: Rows, A: Allocator>(
     requires blank { IfSome writer.old.next (λ r. IsTrue (R.blank rows.old r)) }
     requires free { FreeIsBlank desk.old.lives (R.blank rows.old) }
     ensures writer { IsWriter writer.new }
-    ensures copied { (k : Copying writer.old (R.content rows.old) desk.old from count)
+    ensures copied { (format : Format)
+        (k : Copying format writer.old (R.content rows.old) desk.old from count)
         → (result ≡ k.behind)
-        × Copied writer.old writer.new (R.content rows.old)
+        × Copied format writer.old writer.new (R.content rows.old)
         (R.content rows.new) desk.old desk.new k.ws k.es }
     ensures node { (writer.new.layer ≡ writer.old.layer) × (writer.new.count ≡ writer.old.count)
         × (writer.new.left + count ≡ writer.old.left) × (writer.new.head ≡ writer.old.head) }

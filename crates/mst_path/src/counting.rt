@@ -1,6 +1,6 @@
 //! How many rows a put takes, counted along its path before anything is written.
 ghost use Rattle.std.specs.Prelude.{◌≡◌, ◌≤◌, ◌+◌, ◌==◌, ◌&&◌, ◌||◌, ℕ, List};
-ghost use Rattle.mst_key.specs.declared.format.Format.TheVariants.{One};
+ghost use Rattle.mst_key.specs.declared.format.Format.{Format};
 ghost use Rattle.mst_key.specs.Layer.{layer_in};
 ghost use Rattle.mst_arena.specs.Lives.{State};
 ghost use Rattle.mst_arena.specs.Standing.{tree_of};
@@ -62,14 +62,18 @@ fn rows_with_entry(frame: &Frame) -> u32
 
 /// How many rows a split takes. It reads along its path alone.
 pub(crate) fn split_cost<R: Rows>(rows: &mut R, link: u32, key: &Sought) -> SplitCost
-    requires tree { (s : State) × (t : ToSplit (R.content rows.old) s link key.now)
-        × (split_rows key.now (tree_of One t.tree.placed) ≤ 4294967295) }
-    ensures rows { (s : State) (t : ToSplit (R.content rows.old) s link key.now)
-        → result.rows ≡ split_rows key.now (tree_of One t.tree.placed) }
-    ensures below { (s : State) (t : ToSplit (R.content rows.old) s link key.now)
-        → result.none_below ≡ is_empty (below key.now (tree_of One t.tree.placed)) }
-    ensures above { (s : State) (t : ToSplit (R.content rows.old) s link key.now)
-        → result.none_above ≡ is_empty (above key.now (tree_of One t.tree.placed)) }
+    requires tree { (format : Format) × (s : State)
+        × (t : ToSplit format (R.content rows.old) s link key.now)
+        × (split_rows key.now (tree_of format t.tree.placed) ≤ 4294967295) }
+    ensures rows { (format : Format) (s : State) (t : ToSplit format
+        (R.content rows.old) s link key.now)
+        → result.rows ≡ split_rows key.now (tree_of format t.tree.placed) }
+    ensures below { (format : Format) (s : State) (t : ToSplit format
+        (R.content rows.old) s link key.now)
+        → result.none_below ≡ is_empty (below key.now (tree_of format t.tree.placed)) }
+    ensures above { (format : Format) (s : State) (t : ToSplit format
+        (R.content rows.old) s link key.now)
+        → result.none_above ≡ is_empty (above key.now (tree_of format t.tree.placed)) }
     ensures same { rows.new ≡ rows.old }
 {
     if link == 0 {
@@ -97,11 +101,12 @@ pub(crate) fn split_cost<R: Rows>(rows: &mut R, link: u32, key: &Sought) -> Spli
 /// How many rows a put takes of a key that has this layer, where the value is not the one that the
 /// key has. It reads along its path alone.
 pub(crate) fn put_cost<R: Rows>(rows: &mut R, link: u32, layer: u8, key: &Sought) -> u32
-    requires tree { (s : State) × (t : RisingTree (R.content rows.old) s link) × (v : List ℕ)
-        × (pair_rows t layer key.now v ≤ 4294967295) }
-    requires layer { layer ≡ layer_in One key.now }
-    ensures cost { (s : State) (t : RisingTree (R.content rows.old) s link) (v : List ℕ)
-        → result ≡ pair_rows t layer key.now v }
+    requires tree { (format : Format) × (s : State)
+        × (t : RisingTree format (R.content rows.old) s link) × (v : List ℕ)
+        × (pair_rows format t layer key.now v ≤ 4294967295) × (layer ≡ layer_in format key.now) }
+    ensures cost { (format : Format) (s : State) (t : RisingTree format (R.content rows.old) s link)
+        (v : List ℕ) → layer ≡ layer_in format key.now
+        → result ≡ pair_rows format t layer key.now v }
     ensures same { rows.new ≡ rows.old }
 {
     match put_step(rows, link, layer, key) {

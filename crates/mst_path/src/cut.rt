@@ -1,5 +1,6 @@
 //! Where a key stands among the entries of a node.
 ghost use Rattle.std.specs.Prelude.{◌≡◌, List};
+ghost use Rattle.mst_key.specs.declared.format.Format.{Format};
 ghost use Rattle.mst_arena.specs.Standing.{Placed, link_of};
 ghost use Rattle.mst_path.specs.Writing.{PlacedEntry};
 ghost use Rattle.mst_path.specs.Cutting.{EntriesLie, IsCut};
@@ -36,9 +37,9 @@ pub(crate) enum Cut {
 /// below the key.
 pub(crate) fn cut_at<R: Rows>(rows: &mut R, head: &HeadLinks, key: &Sought) -> Cut
     requires lies { (es : List PlacedEntry) × EntriesLie (R.content rows.old) head.now es }
-    ensures cut { (es : List PlacedEntry) (tail : Placed)
+    ensures cut { (format : Format) (es : List PlacedEntry) (tail : Placed)
         → EntriesLie (R.content rows.old) head.now es → link_of tail ≡ head.now.tail
-        → IsCut key.now es tail result }
+        → IsCut format key.now es tail result }
     ensures same { rows.new ≡ rows.old }
 {
     let first = head.first;

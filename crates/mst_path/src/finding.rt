@@ -1,7 +1,7 @@
 //! The value of a key in a tree that stands.
 ghost use Rattle.std.specs.Prelude.{◌≡◌, ◌<◌};
 ghost use Rattle.mst_key.specs.Map.{IsAscending, map_get};
-ghost use Rattle.mst_key.specs.declared.format.Format.TheVariants.{One};
+ghost use Rattle.mst_key.specs.declared.format.Format.{Format};
 ghost use Rattle.mst_node.specs.Tree.{pairs};
 ghost use Rattle.mst_arena.specs.Lives.{State};
 ghost use Rattle.mst_arena.specs.Standing.{tree_of};
@@ -13,11 +13,13 @@ use mst_key::Value;
 
 /// The value of a key in the tree at a link. It reads along the path to the key alone.
 pub(crate) fn find<R: Rows>(rows: &mut R, link: u32, key: &Sought) -> Option<Value>
-    requires tree { (s : State) × (t : SearchTree (R.content rows.old) s link)
-        × IsAscending (pairs (tree_of One t.placed)) }
-    ensures found { (s : State) (t : SearchTree (R.content rows.old) s link)
-        → IsAscending (pairs (tree_of One t.placed))
-        → result ≡ map_get (pairs (tree_of One t.placed)) key.now }
+    requires tree { (format : Format) × (s : State) × (t : SearchTree format
+        (R.content rows.old) s link)
+        × IsAscending (pairs (tree_of format t.placed)) }
+    ensures found { (format : Format) (s : State) (t : SearchTree format
+        (R.content rows.old) s link)
+        → IsAscending (pairs (tree_of format t.placed))
+        → result ≡ map_get (pairs (tree_of format t.placed)) key.now }
     ensures same { rows.new ≡ rows.old }
 {
     if link == 0 {

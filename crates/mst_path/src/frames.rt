@@ -1,6 +1,6 @@
 //! What is left of nodes round a gap, once the tree in the gap is made anew.
 ghost use Rattle.std.specs.Prelude.{◌≡◌, ◌≤◌, ◌<◌, ◌+◌, ℕ, [], ◌∷◌, length};
-ghost use Rattle.mst_key.specs.declared.format.Format.TheVariants.{One};
+ghost use Rattle.mst_key.specs.declared.format.Format.{Format};
 ghost use Rattle.mst_arena.specs.Lives.{free_count};
 ghost use Rattle.mst_arena.specs.Lists.{In, times};
 ghost use Rattle.mst_arena.specs.Standing.{Placed, tree_of, used};
@@ -13,6 +13,7 @@ ghost use Rattle.mst_path.specs.Frames.{Framed, in_entries, in_frame, tree_round
 
 use crate::making::{Parts, Run, make_node};
 use mst_arena::{Desk, Root, Rows};
+use mst_key::Format;
 use std::alloc::Allocator;
 
 /// What is left of a node, or of two that become one, round the gap whose tree is made anew.
@@ -56,17 +57,26 @@ pub(crate) fn kill_both<A: Allocator>(desk: &mut Desk<A>, row: u32, other: Optio
 
 /// The node of the frame with the tree in its gap, and that tree alone where the frame has no
 /// entry.
-fn fill<R: Rows, A: Allocator>(rows: &mut R, desk: &mut Desk<A>, frame: &Frame, seam: &Root) -> Root
-    requires frame { (p : Placed) × IsRootOf p seam.now × Piece (R.content rows.old) desk.old p
-        × Framed (R.content rows.old) desk.old frame.now (λ x. times x (used p)) }
-    requires low { frame.now.layer ≤ 64 }
+fn fill<R: Rows, A: Allocator>(
+    rows: &mut R,
+    desk: &mut Desk<A>,
+    frame: &Frame,
+    seam: &Root,
+    format: Format,
+) -> Root
+    requires frame { (p : Placed) × IsRootOf format p seam.now
+        × Piece format (R.content rows.old) desk.old p
+        × Framed format (R.content rows.old) desk.old frame.now (λ x. times x (used p)) }
+    requires low { frame.now.layer ≤ 128 }
     requires room { frame_rows frame.now ≤ free_count desk.old.lives }
     requires few { length desk.old.lives ≤ 65535 }
     requires free { FreeIsBlank desk.old.lives (R.blank rows.old) }
-    ensures made { (p : Placed) → IsRootOf p seam.now → Piece (R.content rows.old) desk.old p
-        → (f : Framed (R.content rows.old) desk.old frame.now (λ x. times x (used p)))
-        → Grown (R.content rows.old) (R.content rows.new) desk.old desk.new
-        (tree_round f (tree_of One p)) result (λ x. times x (used p) + in_entries f x)
+    ensures made { (p : Placed) → IsRootOf format p seam.now
+        → Piece format (R.content rows.old) desk.old p
+        → (f : Framed format (R.content rows.old) desk.old frame.now (λ x. times x (used p)))
+        → Grown format (R.content rows.old) (R.content rows.new) desk.old desk.new
+        (tree_round format f (tree_of format p)) result (λ x. times x
+        (used p) + in_entries format f x)
         (frame_rows frame.now) }
     ensures blank { R.blank rows.new ≡ R.blank rows.old }
     ensures kept { R.kept rows.new ≡ R.kept rows.old }
@@ -81,7 +91,7 @@ fn fill<R: Rows, A: Allocator>(rows: &mut R, desk: &mut Desk<A>, frame: &Frame, 
         back: frame.back,
         tail: frame.tail,
     };
-    make_node(rows, desk, &parts)
+    make_node(rows, desk, &parts, format)
 }
 
 /// Makes the node of the frame with the tree in its gap, or leaves that tree alone where the frame
@@ -91,22 +101,26 @@ pub(crate) fn close<R: Rows, A: Allocator>(
     desk: &mut Desk<A>,
     frame: &Frame,
     seam: &Root,
+    format: Format,
 ) -> Root
-    requires frame { (p : Placed) × IsRootOf p seam.now × Piece (R.content rows.old) desk.old p
-        × Framed (R.content rows.old) desk.old frame.now (λ x. times x (used p)) }
-    requires low { frame.now.layer ≤ 64 }
+    requires frame { (p : Placed) × IsRootOf format p seam.now
+        × Piece format (R.content rows.old) desk.old p
+        × Framed format (R.content rows.old) desk.old frame.now (λ x. times x (used p)) }
+    requires low { frame.now.layer ≤ 128 }
     requires room { frame_rows frame.now ≤ free_count desk.old.lives }
     requires few { length desk.old.lives ≤ 65535 }
     requires free { FreeIsBlank desk.old.lives (R.blank rows.old) }
-    ensures made { (p : Placed) → IsRootOf p seam.now → Piece (R.content rows.old) desk.old p
-        → (f : Framed (R.content rows.old) desk.old frame.now (λ x. times x (used p)))
-        → Grown (R.content rows.old) (R.content rows.new) desk.old desk.new
-        (tree_round f (tree_of One p)) result (λ x. times x (used p) + in_frame f x)
+    ensures made { (p : Placed) → IsRootOf format p seam.now
+        → Piece format (R.content rows.old) desk.old p
+        → (f : Framed format (R.content rows.old) desk.old frame.now (λ x. times x (used p)))
+        → Grown format (R.content rows.old) (R.content rows.new) desk.old desk.new
+        (tree_round format f (tree_of format p)) result (λ x. times x
+        (used p) + in_frame format f x)
         (frame_rows frame.now) }
     ensures blank { R.blank rows.new ≡ R.blank rows.old }
     ensures kept { R.kept rows.new ≡ R.kept rows.old }
 {
-    let root = fill(rows, desk, frame, seam);
+    let root = fill(rows, desk, frame, seam, format);
     kill_both(desk, frame.head, frame.other);
     root
 }

@@ -1,6 +1,7 @@
 //! Two trees that stand, joined: from the top down, the node of the greater layer is made anew
 //! round the gap in which it meets the other tree.
 ghost use Rattle.std.specs.Prelude.{◌≡◌, ◌≤◌, ◌<◌, ◌+◌, length};
+ghost use Rattle.mst_key.specs.declared.format.Format.{Format};
 ghost use Rattle.mst_arena.specs.Lives.{State, free_count};
 ghost use Rattle.mst_path.specs.Takes.{FreeIsBlank};
 ghost use Rattle.mst_path.specs.Making.{Grown};
@@ -10,6 +11,7 @@ use crate::copying::root_at;
 use crate::frames::{Frame, close};
 use crate::making::{Run, no_run};
 use mst_arena::{Desk, HeadLinks, Root, Rows};
+use mst_key::Format;
 use std::alloc::Allocator;
 
 /// Where two trees meet that are to be joined.
@@ -29,14 +31,16 @@ pub(crate) fn join<R: Rows, A: Allocator>(
     desk: &mut Desk<A>,
     left: u32,
     right: u32,
+    format: Format,
 ) -> Root
-    requires trees { (t : TwoTrees (R.content rows.old) desk.old left right)
-        × (both_rows t ≤ free_count desk.old.lives) }
+    requires trees { (t : TwoTrees format (R.content rows.old) desk.old left right)
+        × (both_rows format t ≤ free_count desk.old.lives) }
     requires few { length desk.old.lives ≤ 65535 }
     requires free { FreeIsBlank desk.old.lives (R.blank rows.old) }
-    ensures joined { (t : TwoTrees (R.content rows.old) desk.old left right)
-        → Grown (R.content rows.old) (R.content rows.new) desk.old desk.new (both_joined t) result
-        (in_both t) (both_rows t) }
+    ensures joined { (t : TwoTrees format (R.content rows.old) desk.old left right)
+        → Grown format (R.content rows.old) (R.content rows.new) desk.old desk.new
+        (both_joined format t) result
+        (in_both format t) (both_rows format t) }
     ensures blank { R.blank rows.new ≡ R.blank rows.old }
     ensures kept { R.kept rows.new ≡ R.kept rows.old }
 {
@@ -47,17 +51,19 @@ pub(crate) fn join<R: Rows, A: Allocator>(
         return root_at(rows, left);
     }
     let meeting = meet(rows, left, right);
-    let seam = join(rows, desk, meeting.left, meeting.right);
-    close(rows, desk, &meeting.frame, &seam)
+    let seam = join(rows, desk, meeting.left, meeting.right, format);
+    close(rows, desk, &meeting.frame, &seam, format)
 }
 
 /// How many rows [`join`] takes. It reads the heads along the path where the trees meet, and the
 /// first entry of each right one whose node is made anew.
 pub(crate) fn join_cost<R: Rows>(rows: &mut R, left: u32, right: u32) -> u32
-    requires trees { (s : State) × (t : TwoTrees (R.content rows.old) s left right)
-        × (both_rows t ≤ 65535) }
-    ensures cost { (s : State) (t : TwoTrees (R.content rows.old) s left right)
-        → result ≡ both_rows t }
+    requires trees { (format : Format) × (s : State) × (t : TwoTrees format
+        (R.content rows.old) s left right)
+        × (both_rows format t ≤ 65535) }
+    ensures cost { (format : Format) (s : State) (t : TwoTrees format
+        (R.content rows.old) s left right)
+        → result ≡ both_rows format t }
     ensures same { rows.new ≡ rows.old }
 {
     if left == 0 || right == 0 {
@@ -71,11 +77,13 @@ pub(crate) fn join_cost<R: Rows>(rows: &mut R, left: u32, right: u32) -> u32
 /// Where two trees meet, neither of them empty. It reads their heads, and the first entry of the
 /// right one where its node is made anew.
 fn meet<R: Rows>(rows: &mut R, left: u32, right: u32) -> Meeting
-    requires trees { (s : State) × TwoTrees (R.content rows.old) s left right }
+    requires trees { (format : Format) × (s : State) × TwoTrees format
+        (R.content rows.old) s left right }
     requires left { 0 < left }
     requires right { 0 < right }
-    ensures met { (s : State) (t : TwoTrees (R.content rows.old) s left right)
-        → Met (R.content rows.old) s left right t result }
+    ensures met { (format : Format) (s : State) (t : TwoTrees format
+        (R.content rows.old) s left right)
+        → Met format (R.content rows.old) s left right t result }
     ensures same { rows.new ≡ rows.old }
 {
     let low = rows.head(left - 1);

@@ -1,11 +1,11 @@
 //! Laws of the definitions, each proved as the contract of a function that does nothing.
 ghost use Rattle.std.specs.Prelude.{◌≡◌, ◌<◌, ◌≤◌, ◌+◌, ◌++◌, ◌↔◌, ℕ, List, [], ◌∷◌, false, Some, length, replicate, slice_get};
 ghost use Rattle.std.specs.List.{AllByRecursion};
-ghost use Rattle.mst_key.specs.History.{History, after};
+ghost use Rattle.mst_key.specs.History.{History, after, format_after};
+ghost use Rattle.mst_key.specs.declared.format.Format.{Format};
 ghost use Rattle.mst_key.specs.declared.history.Event.{Event};
 ghost use Rattle.mst_key.specs.Map.{Pair};
-ghost use Rattle.mst_key.specs.declared.format.Format.TheVariants.{One};
-ghost use Rattle.mst_node.specs.Cost.{cost};
+ghost use Rattle.mst_node.specs.Cost.{cost, same_format};
 ghost use Rattle.mst_node.specs.Stays.{held};
 ghost use Rattle.mst_node.specs.Tree.{node, tree, pairs};
 ghost use Rattle.mst_arena.specs.Content.{Content};
@@ -18,6 +18,7 @@ ghost use Rattle.mst_arena.specs.declared.life.Life.{Life};
 ghost use Rattle.mst_path.specs.Changing.{AreOld, MapStands, OnlyFreeWritten};
 ghost use Rattle.mst_path.specs.Ages.{placed_nodes, IsAged, HasAges, HasPlace};
 ghost use Rattle.mst_path.specs.Made.{IsMade};
+ghost use Rattle.mst_path.specs.Moves.{Moves};
 ghost use Rattle.mst_path.specs.Takes.{Takes, KeepsBut};
 ghost use Rattle.mst_path.specs.Planting.{IsTreeOf, node_count};
 ghost use Rattle.mst_path.specs.Reached.{ReachesExactly, TogetherReach, Changes, advanced, swept_by, IsSettled};
@@ -51,6 +52,9 @@ pub fn reach_laws()
     // a tree that is planted is a change from no rows
     ensures planted { (old new : State) (rows : List ℕ) → Takes old new rows
         → Changes old new [] rows }
+    // and a tree that is planted while the one that stands is felled, a change of all rows
+    ensures felled { (old mid new : State) (before after : List ℕ) → Takes old mid after
+        → Moves mid new [] before → Changes old new before after }
     // what the current version reaches may be changed: it is alive, and of that version or an
     // earlier one
     ensures old { (s : State) (rows : List ℕ) → IsSettled s
@@ -78,53 +82,53 @@ pub fn reach_laws()
 /// is, whatever is written after it, and rows are free that no map of a live version stands on.
 ///
 /// `kept` are the versions that are kept, each with its root and its map: the current one and any
-/// earlier ones.
+/// earlier ones. Each law holds for the trees of either format.
 pub fn version_laws()
     // a new desk keeps the empty map
-    ensures open { (content : Content) (at : Root) (rows records first : ℕ) → 0 < records
-        → Stands One content at []
-        → Keeps content
+    ensures open { (f : Format) (content : Content) (at : Root) (rows records first : ℕ) → 0 < records
+        → Stands f content at []
+        → Keeps f content
         (record { current = 0; versions = replicate records first; lives = replicate rows Free })
         (record { number = first; root = at; pairs = [] } ∷ []) }
     // a write that is advanced adds its version, and leaves the map of each version that is kept
-    ensures write { (old new : State) (before after : Content) (root at : Root) (m n : List Pair)
-        (kept : List Kept) (into : ℕ) (has : HasMap before old.lives (version old) root m)
-        (stands : Stands One after at n) → Changes old new (numbers has.stands) (numbers stands)
-        → OnlyFreeWritten old before after → into < length old.versions → Keeps before old kept
-        → Keeps after (advanced into new)
+    ensures write { (f : Format) (old new : State) (before after : Content) (root at : Root) (m n : List Pair)
+        (kept : List Kept) (into : ℕ) (has : HasMap f before old.lives (version old) root m)
+        (stands : Stands f after at n) → Changes old new (numbers has.stands) (numbers stands)
+        → OnlyFreeWritten old before after → into < length old.versions → Keeps f before old kept
+        → Keeps f after (advanced into new)
         (record { number = next old; root = at; pairs = n } ∷ kept) }
     // and so does a map that is planted where the empty map stands
-    ensures plant { (old new : State) (before after : Content) (root at : Root) (n : List Pair)
-        (kept : List Kept) (into : ℕ) (stands : Stands One after at n)
-        → HasMap before old.lives (version old) root [] → Takes old new (numbers stands)
+    ensures plant { (f : Format) (old new : State) (before after : Content) (root at : Root) (n : List Pair)
+        (kept : List Kept) (into : ℕ) (stands : Stands f after at n)
+        → HasMap f before old.lives (version old) root [] → Takes old new (numbers stands)
         → KeepsBut (numbers stands) before after → into < length old.versions
-        → Keeps before old kept
-        → Keeps after (advanced into new)
+        → Keeps f before old kept
+        → Keeps f after (advanced into new)
         (record { number = next old; root = at; pairs = n } ∷ kept) }
     // a version that is not the current one may be forgotten
-    ensures forget { (content : Content) (s : State) (k : Kept) (xs ys : List Kept)
-        → In (version s) (numbers_kept (xs ++ ys)) → Keeps content s (xs ++ k ∷ ys)
-        → Keeps content s (xs ++ ys) }
+    ensures forget { (f : Format) (content : Content) (s : State) (k : Kept) (xs ys : List Kept)
+        → In (version s) (numbers_kept (xs ++ ys)) → Keeps f content s (xs ++ k ∷ ys)
+        → Keeps f content s (xs ++ ys) }
     // a sweep by the versions that are kept leaves their maps
-    ensures sweep { (content : Content) (s : State) (live : List ℕ) (kept : List Kept)
-        → AreNumbers live kept → Keeps content s kept → Keeps content (swept_by live s) kept }
+    ensures sweep { (f : Format) (content : Content) (s : State) (live : List ℕ) (kept : List Kept)
+        → AreNumbers live kept → Keeps f content s kept → Keeps f content (swept_by live s) kept }
     // after it a row is free exactly where none of their maps stands on it
-    ensures free { (content : Content) (s : State) (live : List ℕ) (kept : List Kept) (r : ℕ)
-        → AreNumbers live kept → (keeps : Keeps content s kept) → r < length s.lives
+    ensures free { (f : Format) (content : Content) (s : State) (live : List ℕ) (kept : List Kept) (r : ℕ)
+        → AreNumbers live kept → (keeps : Keeps f content s kept) → r < length s.lives
         → slice_get (swept_by live s).lives r ≡ Some Free
-        ↔ (times r (rows_kept content s.lives kept keeps.maps) ≡ 0) }
-    ensures count { (content : Content) (s : State) (live rows : List ℕ) (kept : List Kept)
-        → AreNumbers live kept → (keeps : Keeps content s kept) → IsDistinct rows
-        → ((r : ℕ) → In r rows ↔ In r (rows_kept content s.lives kept keeps.maps))
+        ↔ (times r (rows_kept f content s.lives kept keeps.maps) ≡ 0) }
+    ensures count { (f : Format) (content : Content) (s : State) (live rows : List ℕ) (kept : List Kept)
+        → AreNumbers live kept → (keeps : Keeps f content s kept) → IsDistinct rows
+        → ((r : ℕ) → In r rows ↔ In r (rows_kept f content s.lives kept keeps.maps))
         → free_count (swept_by live s).lives + length rows ≡ length s.lives }
     // a map stands on a row for each pair and one for each node; where no other version is kept,
     // all others are free
-    ensures rows { (content : Content) (at : Root) (m : List Pair)
-        (stands : Stands One content at m)
-        → length (numbers stands) ≡ length m + node_count (tree One m) }
-    ensures room { (content : Content) (s : State) (at : Root) (m : List Pair) → IsSettled s
-        → HasMap content s.lives (version s) at m
-        → free_count (swept_by (version s ∷ []) s).lives + (length m + node_count (tree One m))
+    ensures rows { (f : Format) (content : Content) (at : Root) (m : List Pair)
+        (stands : Stands f content at m)
+        → length (numbers stands) ≡ length m + node_count (tree f m) }
+    ensures room { (f : Format) (content : Content) (s : State) (at : Root) (m : List Pair) → IsSettled s
+        → HasMap f content s.lives (version s) at m
+        → free_count (swept_by (version s ∷ []) s).lives + (length m + node_count (tree f m))
         ≡ length s.lives }
 {}
 
@@ -132,50 +136,59 @@ pub fn version_laws()
 /// or makes it anew in new rows, and the latter only where its tree did not stand before. So the
 /// versions that reach a row of a node are those since which the node's tree has stood.
 pub fn age_laws()
-    ensures node { (old new : State) (before after : Content) (root at : Root) (m n : List Pair)
-        (stood : Stands One before root m) (stands : Stands One after at n)
+    ensures node { (f : Format) (old new : State) (before after : Content) (root at : Root)
+        (m n : List Pair) (stood : Stands f before root m) (stands : Stands f after at n)
         → AreOld old (numbers stood) → Changes old new (numbers stood) (numbers stands)
         → OnlyFreeWritten old before after → IsMade new stands.tree.placed
-        → free_count new.lives + cost One m n ≡ free_count old.lives
-        → AllByRecursion (IsAged new stood.tree.placed) (placed_nodes stands.tree.placed) }
+        → free_count new.lives + cost f m n ≡ free_count old.lives
+        → AllByRecursion (IsAged f f new stood.tree.placed) (placed_nodes stands.tree.placed) }
+    // so is each node of a tree that is planted in another format, while the one that stood is
+    // felled
+    ensures migrated { (f g : Format) (old new : State) (before after : Placed)
+        → same_format g f ≡ false → Moves old new (used after) (used before)
+        → AllByRecursion (IsAged f g new before) (placed_nodes after) }
     // the empty map has no rows
-    ensures open { (content : Content) (lives : List Life) (at : Root)
-        (stands : Stands One content at []) → HasAges lives [] stands.tree.placed }
+    ensures open { (first : Format) (content : Content) (lives : List Life) (at : Root)
+        (stands : Stands first content at []) → HasAges first lives [] stands.tree.placed }
     // a write that is advanced, with its event
-    ensures write { (old new : State) (before now : Content) (root at : Root) (h : History)
-        (e : Event) (into : ℕ) (has : HasMap before old.lives (version old) root (after h))
-        (stands : Stands One now at (after (h ++ e ∷ [])))
-        → Changes old new (numbers has.stands) (numbers stands) → OnlyFreeWritten old before now
-        → IsMade new stands.tree.placed
-        → free_count new.lives + cost One (after h) (after (h ++ e ∷ [])) ≡ free_count old.lives
-        → IsSettled old → version old ≡ length h → HasAges old.lives h has.stands.tree.placed
-        → HasAges (advanced into new).lives (h ++ e ∷ []) stands.tree.placed }
+    ensures write { (first : Format) (old new : State) (before now : Content) (root at : Root)
+        (h : History) (e : Event) (into : ℕ)
+        (stood : Stands (format_after first h) before root (after h))
+        (stands : Stands (format_after first (h ++ e ∷ [])) now at (after (h ++ e ∷ [])))
+        → ReachesExactly old.lives (version old) (numbers stood)
+        → Changes old new (numbers stood) (numbers stands)
+        → AllByRecursion
+        (IsAged (format_after first h) (format_after first (h ++ e ∷ [])) new stood.tree.placed)
+        (placed_nodes stands.tree.placed)
+        → IsSettled old → version old ≡ length h → HasAges first old.lives h stood.tree.placed
+        → HasAges first (advanced into new).lives (h ++ e ∷ []) stands.tree.placed }
     // it leaves the ages of the versions before it
-    ensures older { (old new : State) (before after : List ℕ) (into : ℕ) (h : History) (p : Placed)
-        → Changes old new before after → length h ≤ version old → HasAges old.lives h p
-        → HasAges (advanced into new).lives h p }
+    ensures older { (first : Format) (old new : State) (before after : List ℕ) (into : ℕ)
+        (h : History) (p : Placed) → Changes old new before after → length h ≤ version old
+        → HasAges first old.lives h p → HasAges first (advanced into new).lives h p }
     // so does a sweep by versions of which this is one
-    ensures sweep { (s : State) (live : List ℕ) (h : History) (p : Placed) → In (length h) live
-        → ReachesExactly s.lives (length h) (used p) → HasAges s.lives h p
-        → HasAges (swept_by live s).lives h p }
+    ensures sweep { (first : Format) (s : State) (live : List ℕ) (h : History) (p : Placed)
+        → In (length h) live → ReachesExactly s.lives (length h) (used p)
+        → HasAges first s.lives h p → HasAges first (swept_by live s).lives h p }
 {}
 
 /// What the kept versions of a history leave free. `live` names them, the current one and any
 /// before it.
 pub fn room_laws()
     // after a sweep by them all rows are free but those that they hold
-    ensures held { (s : State) (h : History) (live : List ℕ) → IsSettled s → In (version s) live
-        → ((v : ℕ) → In v live → (v ≤ length h) × HasPlace s.lives h v)
-        → free_count (swept_by live s).lives + held One h live ≡ length s.lives }
+    ensures held { (first : Format) (s : State) (h : History) (live : List ℕ) → IsSettled s
+        → In (version s) live
+        → ((v : ℕ) → In v live → (v ≤ length h) × HasPlace first s.lives h v)
+        → free_count (swept_by live s).lives + held first h live ≡ length s.lives }
 {}
 
 /// What the calls and the laws ask for can be had.
 pub fn premises_can_be_met()
     // each map of at most 65,535 pairs has its tree, which may be planted
-    ensures tree { (m : List Pair) → length m ≤ 65535 → IsTreeOf (tree One m) m }
+    ensures tree { (f : Format) (m : List Pair) → length m ≤ 65535 → IsTreeOf f (tree f m) m }
     // where no write is under way, the map of the current version stands and may be changed
-    ensures stands { (content : Content) (s : State) (at : Root) (m : List Pair) → IsSettled s
-        → HasMap content s.lives (version s) at m → MapStands content s at }
+    ensures stands { (f : Format) (content : Content) (s : State) (at : Root) (m : List Pair)
+        → IsSettled s → HasMap f content s.lives (version s) at m → MapStands f content s at }
     // the versions that are kept have a list of their numbers, and its parts may change places
     ensures numbers { (kept : List Kept) (xs ys : List ℕ) → numbers_kept kept ≡ xs ++ ys
         → AreNumbers (ys ++ xs) kept }

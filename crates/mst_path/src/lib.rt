@@ -8,9 +8,9 @@
 //! ```
 //! let mut desk = Desk::new(alloc, 64, 2, 0)?;
 //! let mut rows = PlainRows::new(alloc, 64)?;
-//! let root = plant(&mut rows, &mut desk, build(alloc, &pairs)?.as_deref())?;
+//! let root = plant(&mut rows, &mut desk, build(alloc, &pairs)?.as_deref(), Format::One)?;
 //! desk.advance(1);                                // the planted map is version 1
-//! let (root, old) = put(&mut rows, &mut desk, &root, &apple, &Value::new(b"35")?)?;
+//! let (root, old) = put(&mut rows, &mut desk, &root, &apple, &Value::new(b"35")?, Format::One)?;
 //! desk.advance(0);                                // version 2 has the new price,
 //! desk.sweep(&[2]);                               // and what only version 1 reached is free again
 //! ```
@@ -42,6 +42,7 @@ mod copying;
 mod counting;
 mod cut;
 mod faults;
+mod felling;
 mod finding;
 mod frames;
 mod insertion;
@@ -56,6 +57,7 @@ mod split;
 mod whole_tree;
 
 pub use faults::NoRoom;
+pub use felling::fell;
 pub use insertion::put;
 pub use laws::{age_laws, premises_can_be_met, reach_laws, room_laws, version_laws};
 pub use mst_arena::Root;

@@ -1,6 +1,6 @@
 //! A new node, made of parts of nodes that stand.
 ghost use Rattle.std.specs.Prelude.{◌≡◌, ◌≤◌, ◌<◌, ◌+◌, ℕ, length, IfSome, IsTrue};
-ghost use Rattle.mst_key.specs.declared.format.Format.TheVariants.{One};
+ghost use Rattle.mst_key.specs.declared.format.Format.{Format};
 ghost use Rattle.mst_node.specs.Tree.{node, entry};
 ghost use Rattle.mst_node.specs.Shape.{with_entries};
 ghost use Rattle.mst_arena.specs.Lives.{free_count};
@@ -15,7 +15,7 @@ ghost use Rattle.mst_path.specs.Making.{PartsStand, in_parts, cells_of, entries_
 use crate::copying::{move_entry, move_run, root_at};
 use crate::node_writer::NodeWriter;
 use mst_arena::{Desk, Root, Rows};
-use mst_key::{Key, Value};
+use mst_key::{Format, Key, Value};
 use std::alloc::Allocator;
 
 /// Entries of a node, one behind another.
@@ -59,24 +59,26 @@ pub(crate) fn make_node<R: Rows, A: Allocator>(
     rows: &mut R,
     desk: &mut Desk<A>,
     parts: &Parts,
+    format: Format,
 ) -> Root
-    requires parts { PartsStand (R.content rows.old) desk.old parts.now }
+    requires parts { PartsStand format (R.content rows.old) desk.old parts.now }
     requires some { 0 < parts.now.front.count + parts.now.back.count }
-    requires low { parts.now.layer ≤ 64 }
+    requires low { parts.now.layer ≤ 128 }
     requires room { parts.now.front.count + parts.now.back.count + 1 ≤ free_count desk.old.lives }
     requires few { length desk.old.lives ≤ 65535 }
     requires free { FreeIsBlank desk.old.lives (R.blank rows.old) }
-    ensures made { (p : PartsStand (R.content rows.old) desk.old parts.now)
-        → Grown (R.content rows.old) (R.content rows.new) desk.old desk.new
-        (node One parts.now.layer
-        (with_entries (cells_of p.front)
-        (with_first (tree_of One p.seam) (entries_to p.back p.tail)))) result (in_parts p)
+    ensures made { (p : PartsStand format (R.content rows.old) desk.old parts.now)
+        → Grown format (R.content rows.old) (R.content rows.new) desk.old desk.new
+        (node format parts.now.layer
+        (with_entries (cells_of format p.front)
+        (with_first (tree_of format p.seam) (entries_to format p.back p.tail)))) result
+        (in_parts format p)
         (parts.now.front.count + parts.now.back.count + 1) }
     ensures blank { R.blank rows.new ≡ R.blank rows.old }
     ensures kept { R.kept rows.new ≡ R.kept rows.old }
 {
     let count = parts.front.count + parts.back.count;
-    let mut writer = NodeWriter::begin(desk, parts.layer, count);
+    let mut writer = NodeWriter::begin(desk, parts.layer, count, format);
     move_run(
         rows,
         desk,
@@ -96,28 +98,29 @@ pub(crate) fn make_node_with<R: Rows, A: Allocator>(
     child: &Root,
     key: &Key,
     value: &Value,
+    format: Format,
 ) -> Root
-    requires parts { (p : PartsStand (R.content rows.old) desk.old parts.now) × (c : Placed)
-        × IsRootOf c child.now × Piece (R.content rows.old) desk.old c
-        × ((x : ℕ) → in_parts p x + times x (used c) ≤ 1) }
-    requires low { parts.now.layer ≤ 64 }
+    requires parts { (p : PartsStand format (R.content rows.old) desk.old parts.now) × (c : Placed)
+        × IsRootOf format c child.now × Piece format (R.content rows.old) desk.old c
+        × ((x : ℕ) → in_parts format p x + times x (used c) ≤ 1) }
+    requires low { parts.now.layer ≤ 128 }
     requires room { parts.now.front.count + parts.now.back.count + 2 ≤ free_count desk.old.lives }
     requires few { length desk.old.lives ≤ 65535 }
     requires free { FreeIsBlank desk.old.lives (R.blank rows.old) }
-    ensures made { (p : PartsStand (R.content rows.old) desk.old parts.now) (c : Placed)
-        → IsRootOf c child.now → Piece (R.content rows.old) desk.old c
-        → ((x : ℕ) → in_parts p x + times x (used c) ≤ 1)
-        → Grown (R.content rows.old) (R.content rows.new) desk.old desk.new
-        (node One parts.now.layer
-        (with_entries (cells_of p.front)
-        (entry (tree_of One c) key.now value.now
-        (with_first (tree_of One p.seam) (entries_to p.back p.tail))))) result
-        (λ x. in_parts p x + times x (used c)) (parts.now.front.count + parts.now.back.count + 2) }
+    ensures made { (p : PartsStand format (R.content rows.old) desk.old parts.now) (c : Placed)
+        → IsRootOf format c child.now → Piece format (R.content rows.old) desk.old c
+        → ((x : ℕ) → in_parts format p x + times x (used c) ≤ 1)
+        → Grown format (R.content rows.old) (R.content rows.new) desk.old desk.new
+        (node format parts.now.layer
+        (with_entries (cells_of format p.front)
+        (entry (tree_of format c) key.now value.now
+        (with_first (tree_of format p.seam) (entries_to format p.back p.tail))))) result
+        (λ x. in_parts format p x + times x (used c)) (parts.now.front.count + parts.now.back.count + 2) }
     ensures blank { R.blank rows.new ≡ R.blank rows.old }
     ensures kept { R.kept rows.new ≡ R.kept rows.old }
 {
     let count = parts.front.count + parts.back.count + 1;
-    let mut writer = NodeWriter::begin(desk, parts.layer, count);
+    let mut writer = NodeWriter::begin(desk, parts.layer, count, format);
     move_run(
         rows,
         desk,
@@ -136,7 +139,7 @@ fn finish_node<R: Rows, A: Allocator>(
     writer: NodeWriter,
     parts: &Parts,
 ) -> Root
-    requires rest { Rest writer (R.content rows.old) desk.old parts.now }
+    requires rest { (format : Format) × Rest format writer (R.content rows.old) desk.old parts.now }
     requires writer { IsWriter writer }
     requires left { writer.left ≡ parts.now.back.count }
     requires room { writer.left ≤ free_count desk.old.lives + 1 }
@@ -144,8 +147,9 @@ fn finish_node<R: Rows, A: Allocator>(
     requires blank { IfSome writer.next (λ r. IsTrue (R.blank rows.old r)) }
     requires head { IsTrue (R.blank rows.old writer.head) }
     requires free { FreeIsBlank desk.old.lives (R.blank rows.old) }
-    ensures finished { (r : Rest writer (R.content rows.old) desk.old parts.now)
-        → Finished writer (R.content rows.old)
+    ensures finished { (format : Format) (r : Rest format writer
+        (R.content rows.old) desk.old parts.now)
+        → Finished format writer (R.content rows.old)
         (R.content rows.new) desk.old desk.new parts.now r result }
     ensures blank { R.blank rows.new ≡ R.blank rows.old }
     ensures kept { R.kept rows.new ≡ R.kept rows.old }
@@ -164,7 +168,7 @@ fn finish_with_back<R: Rows, A: Allocator>(
     mut writer: NodeWriter,
     parts: &Parts,
 ) -> Root
-    requires rest { Rest writer (R.content rows.old) desk.old parts.now }
+    requires rest { (format : Format) × Rest format writer (R.content rows.old) desk.old parts.now }
     requires some { 0 < parts.now.back.count }
     requires writer { IsWriter writer }
     requires left { writer.left ≡ parts.now.back.count }
@@ -173,8 +177,9 @@ fn finish_with_back<R: Rows, A: Allocator>(
     requires blank { IfSome writer.next (λ r. IsTrue (R.blank rows.old r)) }
     requires head { IsTrue (R.blank rows.old writer.head) }
     requires free { FreeIsBlank desk.old.lives (R.blank rows.old) }
-    ensures finished { (r : Rest writer (R.content rows.old) desk.old parts.now)
-        → Finished writer (R.content rows.old)
+    ensures finished { (format : Format) (r : Rest format writer
+        (R.content rows.old) desk.old parts.now)
+        → Finished format writer (R.content rows.old)
         (R.content rows.new) desk.old desk.new parts.now r result }
     ensures blank { R.blank rows.new ≡ R.blank rows.old }
     ensures kept { R.kept rows.new ≡ R.kept rows.old }

@@ -1,7 +1,7 @@
 //! One node, written into rows entry by entry.
 ghost use Rattle.std.specs.Prelude.{◌≡◌, ◌≤◌, ◌<◌, ◌+◌, ℕ, List, [], ◌∷◌, ◌++◌, length, Some, IfSome, IsTrue};
 ghost use Rattle.mst_node.specs.Text.{child_digest};
-ghost use Rattle.mst_key.specs.declared.format.Format.TheVariants.{One};
+ghost use Rattle.mst_key.specs.declared.format.Format.{Format};
 ghost use Rattle.mst_arena.specs.Lives.{free_count};
 ghost use Rattle.mst_arena.specs.Content.{Content};
 ghost use Rattle.mst_arena.specs.Standing.{Placed, head, tree_of, rows_of, used, HasRows};
@@ -9,7 +9,7 @@ ghost use Rattle.mst_path.specs.Takes.{Takes, IsOut, KeepsBut};
 ghost use Rattle.mst_path.specs.Writing.{PlacedEntry, chain_of, entries_used, IsRootOf, ahead, IsAhead, IsWriter, IsWritten};
 
 use mst_arena::{Desk, Root, Row, Rows};
-use mst_key::{Key, Value};
+use mst_key::{Format, Key, Value};
 use mst_node::TextSink;
 use sha2::{Digest, Sha256};
 use std::alloc::Allocator;
@@ -41,7 +41,8 @@ fn take_next<A: Allocator>(desk: &mut Desk<A>, left: u32) -> Option<u32>
 /// The digest of the tree at a root, as it stands in the text of the node above; none for the empty
 /// tree.
 fn digest_at(root: &Root) -> Option<[u8; 32]>
-    ensures digest { (p : Placed) → IsRootOf p root.now → result ≡ child_digest (tree_of One p) }
+    ensures digest { (format : Format) (p : Placed) → IsRootOf format p root.now
+        → result ≡ child_digest (tree_of format p) }
 {
     if root.link == 0 {
         None
@@ -57,6 +58,8 @@ fn digest_at(root: &Root) -> Option<[u8; 32]>
 pub(crate) struct NodeWriter {
     /// The text up to the entries that are written.
     hasher: Sha256,
+    /// The format of the node.
+    format: Format,
     layer: u8,
     /// How many entries the node has.
     count: u32,
@@ -71,24 +74,31 @@ pub(crate) struct NodeWriter {
 }
 
 impl NodeWriter {
-    /// A node of this layer with so many entries, none of them written yet. It takes two rows.
-    pub(crate) fn begin<A: Allocator>(desk: &mut Desk<A>, layer: u8, count: u32) -> NodeWriter
-        requires low { layer ≤ 64 }
+    /// A node of this layer and format with so many entries, none of them written yet. It takes two
+    /// rows.
+    pub(crate) fn begin<A: Allocator>(
+        desk: &mut Desk<A>,
+        layer: u8,
+        count: u32,
+        format: Format,
+    ) -> NodeWriter
+        requires low { layer ≤ 128 }
         requires some { 0 < count }
         requires few { count ≤ 65534 }
         requires room { 2 ≤ free_count desk.old.lives }
         requires rows { length desk.old.lives ≤ 65535 }
         ensures writer { IsWriter result }
-        ensures written { (c : Content) → IsWritten result c [] }
+        ensures written { (c : Content) → IsWritten format result c [] }
         ensures node { (result.layer ≡ layer) × (result.count ≡ count) × (result.left ≡ count) }
         ensures takes { Takes desk.old desk.new (result.head ∷ ahead result.next) }
     {
         let head = take_row(desk);
         let first = take_row(desk);
         let mut hasher = Sha256::new();
-        hasher.heading(layer, count as u16);
+        hasher.heading(format, layer, count as u16);
         NodeWriter {
             hasher,
+            format,
             layer,
             count,
             left: count,
@@ -117,10 +127,11 @@ impl NodeWriter {
         ensures writer { IsWriter self.new }
         // behind the entries that are written stands the new one, if the row that was taken for it
         // is none of theirs and none of its child's
-        ensures written { (es : List PlacedEntry) (p : Placed) (r : ℕ) → self.old.next ≡ Some r
-            → IsWritten self.old (R.content rows.old) es → IsRootOf p child.now
-            → HasRows (R.content rows.old) (rows_of One p) → IsOut r (entries_used es ++ used p)
-            → IsWritten self.new (R.content rows.new)
+        ensures written { (format : Format) (es : List PlacedEntry) (p : Placed) (r : ℕ)
+            → self.old.next ≡ Some r
+            → IsWritten format self.old (R.content rows.old) es → IsRootOf format p child.now
+            → HasRows (R.content rows.old) (rows_of format p) → IsOut r (entries_used es ++ used p)
+            → IsWritten format self.new (R.content rows.new)
             (es ++ record { at = r; child = p; key = key.now; value = value.now } ∷ []) }
         ensures node { (self.new.layer ≡ self.old.layer) × (self.new.count ≡ self.old.count)
             × (self.new.left + 1 ≡ self.old.left) × (self.new.head ≡ self.old.head) }
@@ -144,7 +155,7 @@ impl NodeWriter {
         };
         rows.write(row, &entry);
         self.hasher
-            .entry(digest_at(child), key.bytes(), value.bytes());
+            .entry(self.format, digest_at(child), key.bytes(), value.bytes());
     }
 
     /// Writes the head, once all entries are written, with the tree at `tail` in the last gap. It
@@ -154,16 +165,17 @@ impl NodeWriter {
         requires all { self.left ≡ 0 }
         requires blank { IsTrue (R.blank rows.old self.head) }
         requires tail { tail.now.link ≤ 65535 }
-        ensures root { (es : List PlacedEntry) (p : Placed) → IsWritten self (R.content rows.old) es
-            → IsRootOf p tail.now → IsRootOf (head self.head self.layer (chain_of es p)) result }
+        ensures root { (format : Format) (es : List PlacedEntry) (p : Placed)
+            → IsWritten format self (R.content rows.old) es → IsRootOf format p tail.now
+            → IsRootOf format (head self.head self.layer (chain_of es p)) result }
         // the node stands, if the row of its head is none of its entries' and none of the last
         // tree's
-        ensures stands { (es : List PlacedEntry) (p : Placed)
-            → IsWritten self (R.content rows.old) es → IsRootOf p tail.now
-            → HasRows (R.content rows.old) (rows_of One p)
+        ensures stands { (format : Format) (es : List PlacedEntry) (p : Placed)
+            → IsWritten format self (R.content rows.old) es → IsRootOf format p tail.now
+            → HasRows (R.content rows.old) (rows_of format p)
             → IsOut self.head (entries_used es ++ used p)
             → HasRows (R.content rows.new)
-            (rows_of One (head self.head self.layer (chain_of es p))) }
+            (rows_of format (head self.head self.layer (chain_of es p))) }
         ensures keeps { KeepsBut (self.head ∷ []) (R.content rows.old) (R.content rows.new) }
         ensures blank { R.blank rows.new ≡ R.blank rows.old }
         ensures kept { R.kept rows.new ≡ R.kept rows.old }

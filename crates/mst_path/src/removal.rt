@@ -2,7 +2,7 @@
 ghost use Rattle.std.specs.Prelude.{◌≡◌, ◌<◌, ◌+◌, List, None, IfOk, IfErr};
 ghost use Rattle.mst_key.specs.Map.{Pair, map_get};
 ghost use Rattle.mst_key.specs.Map as map;
-ghost use Rattle.mst_key.specs.declared.format.Format.TheVariants.{One};
+ghost use Rattle.mst_key.specs.declared.format.Format.{Format};
 ghost use Rattle.mst_node.specs.Cost.{cost};
 ghost use Rattle.mst_arena.specs.Lives.{free_count};
 ghost use Rattle.mst_arena.specs.Standing.{Stands, numbers};
@@ -15,11 +15,11 @@ use crate::faults::NoRoom;
 use crate::finding::find;
 use crate::removing::{remove_at, remove_cost};
 use mst_arena::{Desk, Root, Rows, Sought};
-use mst_key::{Key, Value};
+use mst_key::{Format, Key, Value};
 use std::alloc::Allocator;
 
-/// Removes a key from the map that stands at a root. It answers the root at which the map without
-/// the key stands, and the value that the key had.
+/// Removes a key from the map that stands at a root as a tree of a format. It answers the root at
+/// which the map without the key stands, in this format, and the value that the key had.
 ///
 /// The rows that stand at the root were born with the current version or an earlier one and are not
 /// dead, and the desk's free rows may be written. Nodes along the path to the key, and where the
@@ -30,44 +30,46 @@ use std::alloc::Allocator;
 /// It takes exactly one row for each entry and one for each node that is made anew. `NoRoom` comes
 /// exactly where fewer rows are free; then rows and desk are as before.
 ///
-/// No memory is taken, and calls nest no deeper than the layers, 65 at the most. The path is read
-/// three times: for the value, to count, and to make the new nodes; only the last time hashes, each
-/// new node once.
+/// No memory is taken, and calls nest no deeper than the layers, 65 at the most in format 1 and 129
+/// in format 2. The path is read three times: for the value, to count, and to make the new nodes;
+/// only the last time hashes, each new node once, and in format 2 the value of each entry that is
+/// written.
 pub fn remove<R: Rows, A: Allocator>(
     rows: &mut R,
     desk: &mut Desk<A>,
     root: &Root,
     key: &Key,
+    format: Format,
 ) -> Result<(Root, Option<Value>), NoRoom>
-    requires stands { MapStands (R.content rows.old) desk.old root.now }
+    requires stands { MapStands format (R.content rows.old) desk.old root.now }
     requires free { FreeIsBlank desk.old.lives (R.blank rows.old) }
     ensures stands { IfOk result (λ done. (m : List Pair)
-        → Stands One (R.content rows.old) root.now m
-        → Stands One (R.content rows.new) done.0 (map.remove m key.now)) }
+        → Stands format (R.content rows.old) root.now m
+        → Stands format (R.content rows.new) done.0 (map.remove m key.now)) }
     ensures value { IfOk result (λ done. (m : List Pair)
-        → Stands One (R.content rows.old) root.now m → done.1 ≡ map_get m key.now) }
+        → Stands format (R.content rows.old) root.now m → done.1 ≡ map_get m key.now) }
     ensures written { OnlyFreeWritten desk.old (R.content rows.old) (R.content rows.new) }
     // as many rows as the nodes that are new have entries and heads
-    ensures cost { IfOk result (λ _. (m : List Pair) → Stands One (R.content rows.old) root.now m
-        → free_count desk.new.lives + cost One m (map.remove m key.now)
+    ensures cost { IfOk result (λ _. (m : List Pair) → Stands format (R.content rows.old) root.now m
+        → free_count desk.new.lives + cost format m (map.remove m key.now)
         ≡ free_count desk.old.lives) }
     ensures changes { IfOk result (λ done. (m n : List Pair)
-        (old : Stands One (R.content rows.old) root.now m)
-        (new : Stands One (R.content rows.new) done.0 n)
+        (old : Stands format (R.content rows.old) root.now m)
+        (new : Stands format (R.content rows.new) done.0 n)
         → Changes desk.old desk.new (numbers old) (numbers new)) }
     ensures versions { SameVersions desk.old desk.new }
     // the rows of a node are of one age: with all below it they were there before, or they are all
     // new
     ensures made { IfOk result (λ done. (n : List Pair)
-        (new : Stands One (R.content rows.new) done.0 n) → IsMade desk.new new.tree.placed) }
+        (new : Stands format (R.content rows.new) done.0 n) → IsMade desk.new new.tree.placed) }
     ensures absent { IfOk result (λ done. (m : List Pair)
-        → Stands One (R.content rows.old) root.now m → map_get m key.now ≡ None
+        → Stands format (R.content rows.old) root.now m → map_get m key.now ≡ None
         → (done.0 ≡ root.now) × (desk.new ≡ desk.old) × (rows.new ≡ rows.old)) }
     ensures blank { R.blank rows.new ≡ R.blank rows.old }
     ensures kept { R.kept rows.new ≡ R.kept rows.old }
     ensures no_room { IfErr result (λ _. (m : List Pair)
-        → Stands One (R.content rows.old) root.now m
-        → free_count desk.old.lives < cost One m (map.remove m key.now)) }
+        → Stands format (R.content rows.old) root.now m
+        → free_count desk.old.lives < cost format m (map.remove m key.now)) }
     ensures untouched { IfErr result (λ _. (desk.new ≡ desk.old) × (rows.new ≡ rows.old)) }
 {
     let sought = Sought::new(key);
@@ -78,6 +80,6 @@ pub fn remove<R: Rows, A: Allocator>(
     if remove_cost(rows, root.link, &sought) > free {
         return Err(NoRoom);
     }
-    let new = remove_at(rows, desk, root.link, &sought);
+    let new = remove_at(rows, desk, root.link, &sought, format);
     Ok((new, Some(value)))
 }

@@ -1,6 +1,7 @@
 //! A key removed from a tree that stands: along the path to its entry each node is made anew, and
 //! the trees beside the entry are joined.
 ghost use Rattle.std.specs.Prelude.{◌≡◌, ◌≤◌, ◌<◌, ◌+◌, length, List};
+ghost use Rattle.mst_key.specs.declared.format.Format.{Format};
 ghost use Rattle.mst_arena.specs.Lives.{State, free_count};
 ghost use Rattle.mst_arena.specs.Standing.{Placed, link_of, HasRows};
 ghost use Rattle.mst_path.specs.Cutting.{IsRunOf, gap_before};
@@ -19,6 +20,7 @@ use crate::frames::{Frame, close};
 use crate::joining::{Meeting, join, join_cost};
 use crate::making::{Run, kept_tail};
 use mst_arena::{Desk, Root, Rows, Sought};
+use mst_key::Format;
 use std::alloc::Allocator;
 
 /// What becomes of a node whose tree loses a key.
@@ -48,12 +50,14 @@ fn first_tree<R: Rows>(rows: &mut R, back: Run, tail: u32) -> u32
 
 /// What becomes of the top node of a tree that is not empty.
 pub(crate) fn top_step<R: Rows>(rows: &mut R, link: u32, key: &Sought) -> Step
-    requires tree { (s : State) × SearchTree (R.content rows.old) s link }
+    requires tree { (format : Format) × (s : State) × SearchTree format
+        (R.content rows.old) s link }
     requires some { 0 < link }
-    ensures step { (s : State) (t : SearchTree (R.content rows.old) s link)
-        → IsStep (R.content rows.old) s link t key.now result }
-    ensures opened { (s : State) (t : SearchTree (R.content rows.old) s link)
-        → IsOpened (R.content rows.old) s link t key.now result }
+    ensures step { (format : Format) (s : State) (t : SearchTree format (R.content rows.old) s link)
+        → IsStep format (R.content rows.old) s link t key.now result }
+    ensures opened { (format : Format) (s : State) (t : SearchTree format
+        (R.content rows.old) s link)
+        → IsOpened format (R.content rows.old) s link t key.now result }
     ensures same { rows.new ≡ rows.old }
 {
     let head = rows.head(link - 1);
@@ -96,23 +100,28 @@ pub(crate) fn top_step<R: Rows>(rows: &mut R, link: u32, key: &Sought) -> Step
 }
 
 /// Joins the trees that meet, and makes the node round them.
-fn join_round<R: Rows, A: Allocator>(rows: &mut R, desk: &mut Desk<A>, meeting: &Meeting) -> Root
-    requires met { (t : TwoTrees (R.content rows.old) desk.old meeting.now.left meeting.now.right)
-        × Framed (R.content rows.old) desk.old meeting.now.frame (in_both t)
-        × (both_rows t + frame_rows meeting.now.frame ≤ free_count desk.old.lives) }
-    requires low { meeting.now.frame.layer ≤ 64 }
+fn join_round<R: Rows, A: Allocator>(
+    rows: &mut R,
+    desk: &mut Desk<A>,
+    meeting: &Meeting,
+    format: Format,
+) -> Root
+    requires met { (t : TwoTrees format (R.content rows.old) desk.old meeting.now.left meeting.now.right)
+        × Framed format (R.content rows.old) desk.old meeting.now.frame (in_both format t)
+        × (both_rows format t + frame_rows meeting.now.frame ≤ free_count desk.old.lives) }
+    requires low { meeting.now.frame.layer ≤ 128 }
     requires few { length desk.old.lives ≤ 65535 }
     requires free { FreeIsBlank desk.old.lives (R.blank rows.old) }
-    ensures made { (t : TwoTrees (R.content rows.old) desk.old meeting.now.left meeting.now.right)
-        (f : Framed (R.content rows.old) desk.old meeting.now.frame (in_both t))
-        → Grown (R.content rows.old) (R.content rows.new) desk.old desk.new
-        (tree_round f (both_joined t)) result (λ x. in_both t x + in_frame f x)
-        (both_rows t + frame_rows meeting.now.frame) }
+    ensures made { (t : TwoTrees format (R.content rows.old) desk.old meeting.now.left meeting.now.right)
+        (f : Framed format (R.content rows.old) desk.old meeting.now.frame (in_both format t))
+        → Grown format (R.content rows.old) (R.content rows.new) desk.old desk.new
+        (tree_round format f (both_joined format t)) result (λ x. in_both format t x + in_frame format f x)
+        (both_rows format t + frame_rows meeting.now.frame) }
     ensures blank { R.blank rows.new ≡ R.blank rows.old }
     ensures kept { R.kept rows.new ≡ R.kept rows.old }
 {
-    let seam = join(rows, desk, meeting.left, meeting.right);
-    close(rows, desk, &meeting.frame, &seam)
+    let seam = join(rows, desk, meeting.left, meeting.right, format);
+    close(rows, desk, &meeting.frame, &seam, format)
 }
 
 /// Removes a key from the tree at a link. The nodes along the path to its entry, and where the
@@ -122,14 +131,15 @@ pub(crate) fn remove_at<R: Rows, A: Allocator>(
     desk: &mut Desk<A>,
     link: u32,
     key: &Sought,
+    format: Format,
 ) -> Root
-    requires tree { (t : SearchTree (R.content rows.old) desk.old link)
-        × (without_rows t key.now ≤ free_count desk.old.lives) }
+    requires tree { (t : SearchTree format (R.content rows.old) desk.old link)
+        × (without_rows format t key.now ≤ free_count desk.old.lives) }
     requires few { length desk.old.lives ≤ 65535 }
     requires free { FreeIsBlank desk.old.lives (R.blank rows.old) }
-    ensures removed { (t : SearchTree (R.content rows.old) desk.old link)
-        → Grown (R.content rows.old) (R.content rows.new) desk.old desk.new
-        (without t key.now) result (in_tree t) (without_rows t key.now) }
+    ensures removed { (t : SearchTree format (R.content rows.old) desk.old link)
+        → Grown format (R.content rows.old) (R.content rows.new) desk.old desk.new
+        (without format t key.now) result (in_tree format t) (without_rows format t key.now) }
     ensures blank { R.blank rows.new ≡ R.blank rows.old }
     ensures kept { R.kept rows.new ≡ R.kept rows.old }
 {
@@ -138,19 +148,20 @@ pub(crate) fn remove_at<R: Rows, A: Allocator>(
     }
     match top_step(rows, link, key) {
         Step::Down { child, frame } => {
-            let seam = remove_at(rows, desk, child, key);
-            close(rows, desk, &frame, &seam)
+            let seam = remove_at(rows, desk, child, key, format);
+            close(rows, desk, &frame, &seam, format)
         }
-        Step::Here { meeting } => join_round(rows, desk, &meeting),
+        Step::Here { meeting } => join_round(rows, desk, &meeting, format),
     }
 }
 
 /// How many rows [`remove_at`] takes. It reads along the path alone.
 pub(crate) fn remove_cost<R: Rows>(rows: &mut R, link: u32, key: &Sought) -> u32
-    requires tree { (s : State) × (t : SearchTree (R.content rows.old) s link)
-        × (without_rows t key.now ≤ 65535) }
-    ensures cost { (s : State) (t : SearchTree (R.content rows.old) s link)
-        → result ≡ without_rows t key.now }
+    requires tree { (format : Format) × (s : State) × (t : SearchTree format
+        (R.content rows.old) s link)
+        × (without_rows format t key.now ≤ 65535) }
+    ensures cost { (format : Format) (s : State) (t : SearchTree format (R.content rows.old) s link)
+        → result ≡ without_rows format t key.now }
     ensures same { rows.new ≡ rows.old }
 {
     if link == 0 {

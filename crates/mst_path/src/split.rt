@@ -1,6 +1,6 @@
 //! A tree, split at a key.
 ghost use Rattle.std.specs.Prelude.{◌≡◌, ◌≤◌, ◌+◌, length, true, false, ◌==◌, ◌&&◌};
-ghost use Rattle.mst_key.specs.declared.format.Format.TheVariants.{One};
+ghost use Rattle.mst_key.specs.declared.format.Format.{Format};
 ghost use Rattle.mst_arena.specs.Lives.{free_count};
 ghost use Rattle.mst_arena.specs.Lists.{times};
 ghost use Rattle.mst_arena.specs.Standing.{none, tree_of, used};
@@ -16,12 +16,13 @@ use crate::copying::root_at;
 use crate::cut::{Cut, cut_at};
 use crate::making::{Parts, Run, kept_tail, make_node, no_run};
 use mst_arena::{Desk, Root, Rows, Sought};
+use mst_key::Format;
 use mst_node::empty_digest;
 use std::alloc::Allocator;
 
 /// Where the empty tree stands.
 pub(crate) fn nothing() -> Root
-    ensures root { IsRootOf none result }
+    ensures root { (format : Format) → IsRootOf format none result }
 {
     Root {
         link: 0,
@@ -37,23 +38,29 @@ fn is_none(run: &Run, beside: &Root) -> bool
 }
 
 /// The node of the parts; where they have no entries, the tree in the seam alone.
-pub(crate) fn side<R: Rows, A: Allocator>(rows: &mut R, desk: &mut Desk<A>, parts: &Parts) -> Root
-    requires parts { PartsStand (R.content rows.old) desk.old parts.now }
-    requires low { parts.now.layer ≤ 64 }
+pub(crate) fn side<R: Rows, A: Allocator>(
+    rows: &mut R,
+    desk: &mut Desk<A>,
+    parts: &Parts,
+    format: Format,
+) -> Root
+    requires parts { PartsStand format (R.content rows.old) desk.old parts.now }
+    requires low { parts.now.layer ≤ 128 }
     requires room { side_rows (parts.now.front.count + parts.now.back.count) false
         ≤ free_count desk.old.lives }
     requires few { length desk.old.lives ≤ 65535 }
     requires free { FreeIsBlank desk.old.lives (R.blank rows.old) }
-    ensures made { (p : PartsStand (R.content rows.old) desk.old parts.now)
-        → Grown (R.content rows.old) (R.content rows.new) desk.old desk.new (side_of p) result
-        (in_parts p) (side_rows (parts.now.front.count + parts.now.back.count) false) }
+    ensures made { (p : PartsStand format (R.content rows.old) desk.old parts.now)
+        → Grown format (R.content rows.old) (R.content rows.new) desk.old desk.new
+        (side_of format p) result
+        (in_parts format p) (side_rows (parts.now.front.count + parts.now.back.count) false) }
     ensures blank { R.blank rows.new ≡ R.blank rows.old }
     ensures kept { R.kept rows.new ≡ R.kept rows.old }
 {
     if parts.front.count + parts.back.count == 0 {
         return parts.seam;
     }
-    make_node(rows, desk, parts)
+    make_node(rows, desk, parts, format)
 }
 
 /// Makes both sides of a node, whose head dies.
@@ -63,23 +70,25 @@ pub(crate) fn both_sides<R: Rows, A: Allocator>(
     row: u32,
     left: &Parts,
     right: &Parts,
+    format: Format,
 ) -> (Root, Root)
-    requires parts { BothStand (R.content rows.old) desk.old row left.now right.now }
-    requires low { (left.now.layer ≤ 64) × (right.now.layer ≤ 64) }
+    requires parts { BothStand format (R.content rows.old) desk.old row left.now right.now }
+    requires low { (left.now.layer ≤ 128) × (right.now.layer ≤ 128) }
     requires room { side_rows (left.now.front.count + left.now.back.count) false + side_rows
         (right.now.front.count + right.now.back.count) false ≤ free_count desk.old.lives }
     requires few { length desk.old.lives ≤ 65535 }
     requires free { FreeIsBlank desk.old.lives (R.blank rows.old) }
-    ensures made { (b : BothStand (R.content rows.old) desk.old row left.now right.now)
-        → Split (R.content rows.old) (R.content rows.new) desk.old desk.new (side_of b.lower)
-        (side_of b.upper) result.0 result.1 (in_both b)
+    ensures made { (b : BothStand format (R.content rows.old) desk.old row left.now right.now)
+        → Split format (R.content rows.old) (R.content rows.new) desk.old desk.new
+        (side_of format b.lower)
+        (side_of format b.upper) result.0 result.1 (in_both format b)
         (side_rows (left.now.front.count + left.now.back.count) false + side_rows
         (right.now.front.count + right.now.back.count) false) }
     ensures blank { R.blank rows.new ≡ R.blank rows.old }
     ensures kept { R.kept rows.new ≡ R.kept rows.old }
 {
-    let lower = side(rows, desk, left);
-    let upper = side(rows, desk, right);
+    let lower = side(rows, desk, left, format);
+    let upper = side(rows, desk, right, format);
     desk.kill(row);
     (lower, upper)
 }
@@ -92,21 +101,22 @@ pub(crate) fn split<R: Rows, A: Allocator>(
     desk: &mut Desk<A>,
     link: u32,
     key: &Sought,
+    format: Format,
 ) -> (Root, Root)
-    requires tree { (t : ToSplit (R.content rows.old) desk.old link key.now)
-        × (split_rows key.now (tree_of One t.tree.placed) ≤ free_count desk.old.lives) }
+    requires tree { (t : ToSplit format (R.content rows.old) desk.old link key.now)
+        × (split_rows key.now (tree_of format t.tree.placed) ≤ free_count desk.old.lives) }
     requires few { length desk.old.lives ≤ 65535 }
     requires free { FreeIsBlank desk.old.lives (R.blank rows.old) }
-    ensures split { (t : ToSplit (R.content rows.old) desk.old link key.now)
-        → Split (R.content rows.old) (R.content rows.new) desk.old desk.new
-        (below key.now (tree_of One t.tree.placed))
-        (above key.now (tree_of One t.tree.placed)) result.0 result.1
-        (λ x. times x (used t.tree.placed)) (split_rows key.now (tree_of One t.tree.placed)) }
-    ensures shared_below { (t : ToSplit (R.content rows.old) desk.old link key.now)
-        → is_empty (above key.now (tree_of One t.tree.placed)) ≡ true → (rows.new ≡ rows.old)
+    ensures split { (t : ToSplit format (R.content rows.old) desk.old link key.now)
+        → Split format (R.content rows.old) (R.content rows.new) desk.old desk.new
+        (below key.now (tree_of format t.tree.placed))
+        (above key.now (tree_of format t.tree.placed)) result.0 result.1
+        (λ x. times x (used t.tree.placed)) (split_rows key.now (tree_of format t.tree.placed)) }
+    ensures shared_below { (t : ToSplit format (R.content rows.old) desk.old link key.now)
+        → is_empty (above key.now (tree_of format t.tree.placed)) ≡ true → (rows.new ≡ rows.old)
         × (desk.new ≡ desk.old) }
-    ensures shared_above { (t : ToSplit (R.content rows.old) desk.old link key.now)
-        → is_empty (below key.now (tree_of One t.tree.placed)) ≡ true → (rows.new ≡ rows.old)
+    ensures shared_above { (t : ToSplit format (R.content rows.old) desk.old link key.now)
+        → is_empty (below key.now (tree_of format t.tree.placed)) ≡ true → (rows.new ≡ rows.old)
         × (desk.new ≡ desk.old) }
     ensures blank { R.blank rows.new ≡ R.blank rows.old }
     ensures kept { R.kept rows.new ≡ R.kept rows.old }
@@ -118,7 +128,7 @@ pub(crate) fn split<R: Rows, A: Allocator>(
     let Cut::Gap { front, child, back } = cut_at(rows, &head, key) else {
         unreachable!()
     };
-    let (lower, upper) = split(rows, desk, child, key);
+    let (lower, upper) = split(rows, desk, child, key, format);
     if is_none(&back, &upper) {
         return (root_at(rows, link), nothing());
     }
@@ -139,5 +149,5 @@ pub(crate) fn split<R: Rows, A: Allocator>(
         back,
         tail: kept_tail(back.count, head.tail),
     };
-    both_sides(rows, desk, link - 1, &left, &right)
+    both_sides(rows, desk, link - 1, &left, &right, format)
 }

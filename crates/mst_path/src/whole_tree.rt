@@ -1,7 +1,7 @@
 //! A whole tree, written into free rows.
 ghost use Rattle.std.specs.Prelude.{◌≡◌, ◌≤◌, ◌<◌, ◌+◌, List, length, IfOk, IfErr, option_copied};
 ghost use Rattle.mst_key.specs.Map.{Pair, IsMap};
-ghost use Rattle.mst_key.specs.declared.format.Format.TheVariants.{One};
+ghost use Rattle.mst_key.specs.declared.format.Format.{Format};
 ghost use Rattle.mst_node.specs.Tree.{pairs, tree as tree_of_map, IsMst};
 ghost use Rattle.mst_node.specs.Shape.{tree_of, tree_of_child};
 ghost use Rattle.mst_arena.specs.Lives.{free_count};
@@ -12,15 +12,16 @@ ghost use Rattle.mst_path.specs.Planting.{rows_needed, node_count, tree_at, IsTr
 use crate::faults::NoRoom;
 use crate::node_writer::NodeWriter;
 use mst_arena::{Desk, Root, Rows};
+use mst_key::Format;
 use mst_node::{Node, empty_digest};
 use std::alloc::Allocator;
 
 /// How many rows a child takes.
 #[cycle(count)]
 fn rows_of_child<B: Allocator>(child: &Option<Box<Node<B>, B>>) -> u32
-    requires few { length (pairs (tree_of_child One child.now)) ≤ 65535 }
-    requires tree { IsMst One (tree_of_child One child.now) }
-    ensures rows { result ≡ rows_needed (tree_of_child One child.now) }
+    requires tree { (format : Format) × IsMst format (tree_of_child format child.now)
+        × (length (pairs (tree_of_child format child.now)) ≤ 65535) }
+    ensures rows { (format : Format) → result ≡ rows_needed (tree_of_child format child.now) }
 {
     match child {
         None => 0,
@@ -31,9 +32,9 @@ fn rows_of_child<B: Allocator>(child: &Option<Box<Node<B>, B>>) -> u32
 /// How many rows a node takes with all below it: one for each entry and each node.
 #[cycle(count)]
 fn rows_of_node<B: Allocator>(node: &Node<B>) -> u32
-    requires few { length (pairs (tree_of One node.now)) ≤ 65535 }
-    requires tree { IsMst One (tree_of One node.now) }
-    ensures rows { result ≡ rows_needed (tree_of One node.now) }
+    requires tree { (format : Format) × IsMst format (tree_of format node.now)
+        × (length (pairs (tree_of format node.now)) ≤ 65535) }
+    ensures rows { (format : Format) → result ≡ rows_needed (tree_of format node.now) }
 {
     let mut rows = 1;
     for entry in &node.entries {
@@ -48,13 +49,14 @@ fn plant_child<R: Rows, A: Allocator, B: Allocator>(
     rows: &mut R,
     desk: &mut Desk<A>,
     child: &Option<Box<Node<B>, B>>,
+    format: Format,
 ) -> Root
-    requires tree { IsMst One (tree_of_child One child.now) }
-    requires room { rows_needed (tree_of_child One child.now) ≤ free_count desk.old.lives }
+    requires tree { IsMst format (tree_of_child format child.now) }
+    requires room { rows_needed (tree_of_child format child.now) ≤ free_count desk.old.lives }
     requires few { length desk.old.lives ≤ 65535 }
     requires blank { FreeIsBlank desk.old.lives (R.blank rows.old) }
-    ensures planted { Planted desk.old desk.new (R.content rows.old) (R.content rows.new)
-        (tree_of_child One child.now) result }
+    ensures planted { Planted format desk.old desk.new (R.content rows.old) (R.content rows.new)
+        (tree_of_child format child.now) result }
     ensures blank { R.blank rows.new ≡ R.blank rows.old }
     ensures kept { R.kept rows.new ≡ R.kept rows.old }
 {
@@ -63,7 +65,7 @@ fn plant_child<R: Rows, A: Allocator, B: Allocator>(
             link: 0,
             digest: empty_digest(),
         },
-        Some(node) => plant_node(rows, desk, node),
+        Some(node) => plant_node(rows, desk, node, format),
     }
 }
 
@@ -73,22 +75,23 @@ fn plant_node<R: Rows, A: Allocator, B: Allocator>(
     rows: &mut R,
     desk: &mut Desk<A>,
     node: &Node<B>,
+    format: Format,
 ) -> Root
-    requires tree { IsMst One (tree_of One node.now) }
-    requires room { rows_needed (tree_of One node.now) ≤ free_count desk.old.lives }
+    requires tree { IsMst format (tree_of format node.now) }
+    requires room { rows_needed (tree_of format node.now) ≤ free_count desk.old.lives }
     requires few { length desk.old.lives ≤ 65535 }
     requires blank { FreeIsBlank desk.old.lives (R.blank rows.old) }
-    ensures planted { Planted desk.old desk.new (R.content rows.old) (R.content rows.new)
-        (tree_of One node.now) result }
+    ensures planted { Planted format desk.old desk.new (R.content rows.old) (R.content rows.new)
+        (tree_of format node.now) result }
     ensures blank { R.blank rows.new ≡ R.blank rows.old }
     ensures kept { R.kept rows.new ≡ R.kept rows.old }
 {
-    let mut writer = NodeWriter::begin(desk, node.layer, node.entries.len() as u32);
+    let mut writer = NodeWriter::begin(desk, node.layer, node.entries.len() as u32, format);
     for entry in &node.entries {
-        let child = plant_child(rows, desk, &entry.child);
+        let child = plant_child(rows, desk, &entry.child, format);
         writer.entry(rows, desk, &child, &entry.key, &entry.value);
     }
-    let tail = plant_child(rows, desk, &node.tail);
+    let tail = plant_child(rows, desk, &node.tail, format);
     writer.finish(rows, &tail)
 }
 
@@ -96,40 +99,41 @@ fn plant_node<R: Rows, A: Allocator, B: Allocator>(
 /// writes no other; the rows then stand for the tree at the root that it answers, and for the empty
 /// tree at link 0.
 ///
-/// The tree is one that `build` gave of at most 65,535 pairs, and the desk's free rows may be
-/// written. The rows are born with the version to come.
+/// The tree is one that `build_in` gave in this format of at most 65,535 pairs, and the desk's free
+/// rows may be written. The rows are born with the version to come.
 ///
 /// `NoRoom` comes exactly where fewer rows are free than the tree takes. Nothing was taken or
 /// written then.
 ///
 /// No memory is taken. Each text is fed to the hash while its node is written, and nothing is read.
-/// Calls nest no deeper than the layers, 65 at the most.
+/// Calls nest no deeper than the layers, 65 at the most in format 1 and 129 in format 2.
 pub fn plant<R: Rows, A: Allocator, B: Allocator>(
     rows: &mut R,
     desk: &mut Desk<A>,
     tree: Option<&Node<B>>,
+    format: Format,
 ) -> Result<Root, NoRoom>
-    requires tree { (m : List Pair) × IsTreeOf (tree_at (option_copied tree)) m }
+    requires tree { (m : List Pair) × IsTreeOf format (tree_at format (option_copied tree)) m }
     requires blank { FreeIsBlank desk.old.lives (R.blank rows.old) }
     ensures stands { IfOk result (λ root. (m : List Pair) → IsMap m
-        → IsTreeOf (tree_at (option_copied tree.entry)) m
-        → Stands One (R.content rows.new) root m) }
+        → IsTreeOf format (tree_at format (option_copied tree.entry)) m
+        → Stands format (R.content rows.new) root m) }
     // the rows that stand are those that were taken, and no other was written
     ensures takes { IfOk result (λ root. (m : List Pair)
-        (s : Stands One (R.content rows.new) root m) → Takes desk.old desk.new (numbers s)) }
+        (s : Stands format (R.content rows.new) root m) → Takes desk.old desk.new (numbers s)) }
     ensures keeps { IfOk result (λ root. (m : List Pair)
-        (s : Stands One (R.content rows.new) root m)
+        (s : Stands format (R.content rows.new) root m)
         → KeepsBut (numbers s) (R.content rows.old) (R.content rows.new)) }
     // a row for each pair and each node of the tree
     ensures count { IfOk result (λ _. (m : List Pair)
-        → IsTreeOf (tree_at (option_copied tree.entry)) m
-        → free_count desk.new.lives + (length m + node_count (tree_of_map One m))
+        → IsTreeOf format (tree_at format (option_copied tree.entry)) m
+        → free_count desk.new.lives + (length m + node_count (tree_of_map format m))
         ≡ free_count desk.old.lives) }
     ensures blank { R.blank rows.new ≡ R.blank rows.old }
     ensures kept { R.kept rows.new ≡ R.kept rows.old }
     ensures no_room { IfErr result (λ _. (m : List Pair)
-        → IsTreeOf (tree_at (option_copied tree.entry)) m
-        → free_count desk.old.lives < length m + node_count (tree_of_map One m)) }
+        → IsTreeOf format (tree_at format (option_copied tree.entry)) m
+        → free_count desk.old.lives < length m + node_count (tree_of_map format m)) }
     ensures untouched { IfErr result (λ _. (desk.new ≡ desk.old) × (rows.new ≡ rows.old)) }
 {
     let Some(node) = tree else {
@@ -141,5 +145,5 @@ pub fn plant<R: Rows, A: Allocator, B: Allocator>(
     if rows_of_node(node) > desk.free() {
         return Err(NoRoom);
     }
-    Ok(plant_node(rows, desk, node))
+    Ok(plant_node(rows, desk, node, format))
 }

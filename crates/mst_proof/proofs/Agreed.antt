@@ -1,32 +1,35 @@
 -- The verdict is an answer exactly where the proof is accepted with it.
-use Rattle.std.proofs.Common.{◌≡◌, ℕ, suc, ◌<◌, Bool, true, false, List, [], ◌∷◌, length, map, Option, Some, None, refl, sym, ◌∙◌, ap, subst}
+use Rattle.mst_key.specs.declared.format.Format.{Format}
+use Rattle.std.proofs.Common.{◌≡◌, ℕ, suc, ◌<◌, Bool, true, false, List, [], ◌∷◌, ◌++◌, length, map, Option, Some, None, refl, sym, ◌∙◌, ap, subst}
 use Rattle.std.specs.List.{list_all, AllByRecursion}
 use Rattle.std.specs.Str.{bytes_eq}
 use Rattle.std.specs.declared.result.Result.{Result}
 use Rattle.std.specs.declared.result.Result.TheVariants.{Ok}
-use Rattle.std.proofs.lemmas.List.{append-nil}
 use Rattle.std.proofs.lemmas.Slice.Eq.{bytes_eq-Decides}
-use Rattle.mst_key.specs.declared.format.Format.TheVariants.{One}
 use Rattle.mst_key.specs.Bytes.{IsBytes}
-use Rattle.mst_node.specs.Text.{FlatNode, spelling, digest_of}
+use Rattle.mst_node.specs.Text.{FlatNode, spelling, digest_of, version}
 use Rattle.mst_node.specs.Grammar.{IsFlatNode}
-use Rattle.mst_node.specs.Trail.{framed}
+use Rattle.mst_node.specs.Trail.{framed, framing}
 use Rattle.mst_node.specs.Place.{place_of}
 use Rattle.mst_proof.specs.declared.fault.ProofFault.{ProofFault}
-use Rattle.mst_proof.specs.declared.fault.ProofFault.TheVariants.{OtherDigest, LayerNotBelow, KeyOutside}
+use Rattle.mst_proof.specs.declared.fault.ProofFault.TheVariants.{OtherDigest, LayerNotBelow, KeyOutside, OtherValue}
 use Rattle.mst_proof.specs.declared.expected.Expected.{Expected}
 use Rattle.mst_proof.specs.declared.expected.Step.{Step}
 use Rattle.mst_proof.specs.declared.expected.Step.TheVariants.{Decided, Onward}
-use Rattle.mst_proof.specs.Frame.{◌>>◌, frame_at}
-use Rattle.mst_proof.specs.Verdict.{unless, node_in, is_under, is_inside, step_of, step_in_node, step_at, first_expected, answer_at_end, by_step, followed, judgement, verdict}
+use Rattle.mst_proof.specs.Frame.{◌>>◌, claim_at, frame_at}
+use Rattle.mst_key.specs.declared.format.Format.TheVariants.{One, Two}
+use Rattle.mst_proof.specs.declared.claim.Claim.{Claim}
+use Rattle.mst_proof.specs.declared.claim.Claim.TheVariants.{Nothing, Absence, Given, Unfit}
+use Rattle.mst_proof.specs.Accepted.{held_answer}
+use Rattle.mst_proof.specs.Verdict.{unless, node_in, is_under, is_inside, step_of, step_in_node, step_at, first_expected, answer_at_end, by_step, followed, judgement, settled, verdict}
 use Rattle.mst_proof.proofs.Stepwise.{IsExpected, Says, Leads, LeadsFrom, Accepted}
 use Rattle.mst_proof.proofs.Decisions.{node_in-spelt, node_in-read, under-Decides, within-Decides}
 use Rattle.mst_proof.proofs.Steps.{step-passed}
-use Rattle.mst_proof.proofs.Framed.{AllBytes, ok_same, bind_done, frame_takes, frame_again, texts_short}
+use Rattle.mst_proof.proofs.Framed.{AllBytes, ok_same, bind_done, frame_takes, frame_again, texts_short, claim_of, claim_takes}
 
--- flat nodes that have texts in format 1
-abbrev pub AllFlat : List FlatNode → Type 0
-AllFlat ns = AllByRecursion (λ n. (n.format ≡ One) × IsFlatNode n) ns
+-- flat nodes of the format
+abbrev pub AllFlat : (format : Format) → List FlatNode → Type 0
+AllFlat format ns = AllByRecursion (λ n. (n.format ≡ format) × IsFlatNode n) ns
 
 unless_done : {A : Type 0} (passed : Bool) (fault : ProofFault) (rest : Result A ProofFault) (x : A) → unless passed fault rest ≡ Ok x → (passed ≡ true) × (rest ≡ Ok x)
 unless_done true fault rest x e = (refl, e)
@@ -35,19 +38,19 @@ unless_done false fault rest x e = absurd (cc)
 -- ---- from the verdict to the relation
 
 -- a text that passes its tests spells a node that is as expected
-pub record Passes (k : List ℕ) (x : Expected) (text : List ℕ) (s : Step) : Type 0 where
+pub record Passes (format : Format) (k : List ℕ) (x : Expected) (text : List ℕ) (s : Step) : Type 0 where
   pub node : FlatNode
-  pub in_format : node.format ≡ One
+  pub in_format : node.format ≡ format
   pub flat : IsFlatNode node
   pub text_is : text ≡ spelling node
   pub expected : IsExpected x node
   pub says : step_of node.layer (place_of k x.span node) ≡ s
 
-pub passes : (k : List ℕ) (x : Expected) (text : List ℕ) (s : Step) → IsBytes text → step_at k x text ≡ Ok s → Passes k x text s
+pub passes : (format : Format) (k : List ℕ) (x : Expected) (text : List ℕ) (s : Step) → IsBytes text → step_at format k x text ≡ Ok s → Passes format k x text s
 unfolding step_at
-passes k x text s b e = go (node_in text) refl e
+passes format k x text s b e = go (node_in format text) refl e
   where
-    go : (r : Option FlatNode) → node_in text ≡ r → step_in_node k x text r ≡ Ok s → Passes k x text s
+    go : (r : Option FlatNode) → node_in format text ≡ r → step_in_node k x text r ≡ Ok s → Passes format k x text s
     go None is e = absurd (cc)
     go (Some n) is e =
         let digests = bytes_eq (digest_of text) x.digest in
@@ -57,7 +60,7 @@ passes k x text s b e = go (node_in text) refl e
         let d = unless_done digests OtherDigest (unless layers LayerNotBelow (unless keys KeyOutside place)) s e in
         let l = unless_done layers LayerNotBelow (unless keys KeyOutside place) s d.1 in
         let i = unless_done keys KeyOutside place s l.1 in
-        let spelt = node_in-spelt text n is b in
+        let spelt = node_in-spelt format text n is b in
         record {
           node = n;
           in_format = spelt.0;
@@ -68,18 +71,18 @@ passes k x text s b e = go (node_in text) refl e
         }
 
 -- texts that lead to an answer spell flat nodes that do
-pub record Spells (ts : List (List ℕ)) (P : List FlatNode → Type 0) : Type 0 where
+pub record Spells (format : Format) (ts : List (List ℕ)) (P : List FlatNode → Type 0) : Type 0 where
   pub nodes : List FlatNode
-  pub flat : AllFlat nodes
+  pub flat : AllFlat format nodes
   pub texts : ts ≡ map spelling nodes
   pub leads : P nodes
 
-pub leads_from : (k : List ℕ) (x : Expected) (ts : List (List ℕ)) (a : Option (List ℕ)) → AllBytes ts → followed k x ts ≡ Ok a → Spells ts (λ ns. Leads k x ns a)
-leads_from k x [] a b e = absurd (cc)
-leads_from k x (t ∷ ts) a b e =
-    let r = bind_done (step_at k x t) _ a e in
-    let p = passes k x t r.0 b.0 r.1 in
-    let next : (y : Expected) → followed k y ts ≡ Ok a → Spells ts (λ ns. Leads k y ns a) = λ y. leads_from k y ts a b.1 in
+pub leads_from : (format : Format) (k : List ℕ) (x : Expected) (ts : List (List ℕ)) (a : Option (List ℕ)) → AllBytes ts → followed format k x ts ≡ Ok a → Spells format ts (λ ns. Leads k x ns a)
+leads_from format k x [] a b e = absurd (cc)
+leads_from format k x (t ∷ ts) a b e =
+    let r = bind_done (step_at format k x t) _ a e in
+    let p = passes format k x t r.0 b.0 r.1 in
+    let next : (y : Expected) → followed format k y ts ≡ Ok a → Spells format ts (λ ns. Leads k y ns a) = λ y. leads_from format k y ts a b.1 in
     let says = go next r.0 r.2 in
     record {
       nodes = p.node ∷ says.nodes;
@@ -88,72 +91,109 @@ leads_from k x (t ∷ ts) a b e =
       leads = (p.expected, subst (λ (s : Step). Says s says.nodes a (λ y. Leads k y says.nodes a)) (sym p.says) says.leads);
     }
   where
-    go : ((y : Expected) → followed k y ts ≡ Ok a → Spells ts (λ ns. Leads k y ns a)) → (s : Step) → by_step s (answer_at_end ts) (λ y. followed k y ts) ≡ Ok a → Spells ts (λ ns. Says s ns a (λ y. Leads k y ns a))
+    go : ((y : Expected) → followed format k y ts ≡ Ok a → Spells format ts (λ ns. Leads k y ns a)) → (s : Step) → by_step s (answer_at_end ts) (λ y. followed format k y ts) ≡ Ok a → Spells format ts (λ ns. Says s ns a (λ y. Leads k y ns a))
     go next (Decided answer) e = end ts e
       where
-        end : (us : List (List ℕ)) → answer_at_end us answer ≡ Ok a → Spells us (λ ns. (ns ≡ []) × (a ≡ answer))
+        end : (us : List (List ℕ)) → answer_at_end us answer ≡ Ok a → Spells format us (λ ns. (ns ≡ []) × (a ≡ answer))
         end [] e = record { nodes = []; flat = tt; texts = refl; leads = (refl, sym (ok_same answer a e)) }
         end (u ∷ us) e = absurd (cc)
     go next (Onward y) e = next y e
 
-pub accepted : (root k bytes : List ℕ) (a : Option (List ℕ)) → IsBytes bytes → verdict root k bytes ≡ Ok a → Accepted root k bytes a
-accepted root k bytes a b e =
-    let r = bind_done (frame_at bytes) (judgement root k) a e in
-    let frame = frame_takes bytes r.0 r.1 b in
-    let leads = from r.0 frame.texts r.2 in
+-- texts of which this is held lead to it from the root
+pub judged : (format : Format) (root k : List ℕ) (ts : List (List ℕ)) (h : Option (List ℕ)) → AllBytes ts → judgement format root k ts ≡ Ok h → Spells format ts (λ ns. LeadsFrom root k ns h)
+judged format root k [] h b e =
+    let d = unless_done (bytes_eq root (digest_of [])) OtherDigest (Ok None) h e in
+    record { nodes = []; flat = tt; texts = refl; leads = ((bytes_eq-Decides root (digest_of [])).0 d.0, sym (ok_same None h d.1)) }
+judged format root k (t ∷ ts) h b e =
+    let s = leads_from format k (first_expected root) (t ∷ ts) h b e in
+    record { nodes = s.nodes; flat = s.flat; texts = s.texts; leads = some s.nodes s.leads }
+  where
+    some : (ns : List FlatNode) → Leads k (first_expected root) ns h → LeadsFrom root k ns h
+    some [] l = absurd l
+    some (n ∷ ns) l = l
+
+-- in format 1 a node holds the value
+pub held_one : (a : Option (List ℕ)) → a ≡ held_answer One a
+held_one None = refl
+held_one (Some v) = refl
+
+-- what the claim and what is held come to
+pub settled_done : (format : Format) (claim : Claim) (held a : Option (List ℕ)) → settled format claim held ≡ Ok a → (format ≡ Two → claim ≡ claim_of format a) × (held ≡ held_answer format a)
+settled_done One claim held a e = (λ two. absurd (cc (two)), ok_same held a e ∙ held_one a)
+settled_done Two Absence None a e = let same = ok_same None a e in (λ two. ap (claim_of Two) same, ap (held_answer Two) same)
+settled_done Two Absence (Some held) a e = absurd (cc)
+settled_done Two (Given value) None a e = absurd (cc)
+settled_done Two (Given value) (Some held) a e =
+    let d = unless_done (bytes_eq (digest_of value) held) OtherValue (Ok (Some value)) a e in
+    let same = ok_same (Some value) a d.1 in
+    let opens : digest_of value ≡ held = (bytes_eq-Decides (digest_of value) held).0 d.0 in
+    (λ two. ap (claim_of Two) same, ap Some (sym opens) ∙ ap (held_answer Two) same)
+settled_done Two Nothing held a e = absurd (cc)
+settled_done Two Unfit held a e = absurd (cc)
+
+-- the claim of the frame is that of the answer
+claim_is : (format : Format) (rest : List ℕ) (claim : Claim) (a : Option (List ℕ)) → claim_at format rest ≡ Ok claim → (format ≡ Two → claim ≡ claim_of format a) → claim_at format rest ≡ Ok (claim_of format a)
+claim_is One [] claim a e two = refl
+claim_is One (b ∷ rest) claim a e two = absurd (cc)
+claim_is Two rest claim a e two = e ∙ ap Ok (two refl)
+
+pub accepted : (format : Format) (root k bytes : List ℕ) (a : Option (List ℕ)) → IsBytes bytes → verdict format root k bytes ≡ Ok a → Accepted format root k bytes a
+accepted format root k bytes a b e =
+    let r = bind_done (frame_at format bytes) _ a e in
+    let h = bind_done (judgement format root k r.0.0) _ a r.2 in
+    let done = settled_done format r.0.1 h.0 a h.2 in
+    let frame = frame_takes format bytes r.0 r.1 b in
+    let tail = claim_takes format frame.rest a (claim_is format frame.rest r.0.1 a frame.claims done.0) in
+    let leads = judged format root k r.0.0 h.0 frame.texts h.1 in
     record {
       nodes = leads.nodes;
       flat = leads.flat;
       few = subst (λ (n : ℕ). n < 256) (ap length leads.texts ∙ count leads.nodes) frame.few;
-      frames = frame.whole ∙ ap (λ (ts : List (List ℕ)). 1 ∷ length ts ∷ framed ts) leads.texts ∙ ap (λ (xs : List ℕ). 1 ∷ length (map spelling leads.nodes) ∷ xs) (sym (append-nil (framed (map spelling leads.nodes))));
-      leads = leads.leads;
+      frames = frame.whole ∙ ap (λ (xs : List ℕ). version format ∷ length r.0.0 ∷ framed r.0.0 ++ xs) tail.0 ∙ ap (λ (ts : List (List ℕ)). framing format ts a) leads.texts;
+      leads = subst (LeadsFrom root k leads.nodes) done.1 leads.leads;
+      fit = tail.1;
     }
   where
     count : (ns : List FlatNode) → length (map spelling ns) ≡ length ns
     count [] = refl
     count (n ∷ ns) = ap suc (count ns)
 
-    some : (ns : List FlatNode) → Leads k (first_expected root) ns a → LeadsFrom root k ns a
-    some [] l = absurd l
-    some (n ∷ ns) l = l
-
-    from : (ts : List (List ℕ)) → AllBytes ts → judgement root k ts ≡ Ok a → Spells ts (λ ns. LeadsFrom root k ns a)
-    from [] b e =
-        let d = unless_done (bytes_eq root (digest_of [])) OtherDigest (Ok None) a e in
-        record { nodes = []; flat = tt; texts = refl; leads = ((bytes_eq-Decides root (digest_of [])).0 d.0, sym (ok_same None a d.1)) }
-    from (t ∷ ts) b e =
-        let s = leads_from k (first_expected root) (t ∷ ts) a b e in
-        record { nodes = s.nodes; flat = s.flat; texts = s.texts; leads = some s.nodes s.leads }
-
 -- ---- from the relation to the verdict
 
-pub step_expected : (k : List ℕ) (x : Expected) (n : FlatNode) → n.format ≡ One → IsFlatNode n → IsExpected x n → step_at k x (spelling n) ≡ Ok (step_of n.layer (place_of k x.span n))
-step_expected k x n format flat is =
-    let read = node_in-read (spelling n) (n, format, flat, refl) in
-    step-passed k (spelling n) x n read ((bytes_eq-Decides (digest_of (spelling n)) x.digest).1 is.digest) ((under-Decides x.upper n.layer).1 is.layer) ((within-Decides x.span n).1 is.keys)
+pub step_expected : (format : Format) (k : List ℕ) (x : Expected) (n : FlatNode) → n.format ≡ format → IsFlatNode n → IsExpected x n → step_at format k x (spelling n) ≡ Ok (step_of n.layer (place_of k x.span n))
+step_expected format k x n same flat is =
+    let read = node_in-read format (spelling n) (n, same, flat, refl) in
+    step-passed format k (spelling n) x n read ((bytes_eq-Decides (digest_of (spelling n)) x.digest).1 is.digest) ((under-Decides x.upper n.layer).1 is.layer) ((within-Decides x.span n).1 is.keys)
 
-pub follows : (k : List ℕ) (x : Expected) (ns : List FlatNode) (a : Option (List ℕ)) → AllFlat ns → Leads k x ns a → followed k x (map spelling ns) ≡ Ok a
-follows k x [] a flat l = absurd l
-follows k x (n ∷ ns) a flat l =
+pub follows : (format : Format) (k : List ℕ) (x : Expected) (ns : List FlatNode) (a : Option (List ℕ)) → AllFlat format ns → Leads k x ns a → followed format k x (map spelling ns) ≡ Ok a
+follows format k x [] a flat l = absurd l
+follows format k x (n ∷ ns) a flat l =
     let s = step_of n.layer (place_of k x.span n) in
-    ap (λ (r : Result Step ProofFault). r >> λ s. by_step s (answer_at_end (map spelling ns)) (λ y. followed k y (map spelling ns))) (step_expected k x n flat.0.0 flat.0.1 l.0)
-    ∙ go s l.1 (λ y. follows k y ns a flat.1)
+    ap (λ (r : Result Step ProofFault). r >> λ s. by_step s (answer_at_end (map spelling ns)) (λ y. followed format k y (map spelling ns))) (step_expected format k x n flat.0.0 flat.0.1 l.0)
+    ∙ go s l.1 (λ y. follows format k y ns a flat.1)
   where
-    go : (s : Step) → Says s ns a (λ y. Leads k y ns a) → ((y : Expected) → Leads k y ns a → followed k y (map spelling ns) ≡ Ok a) → by_step s (answer_at_end (map spelling ns)) (λ y. followed k y (map spelling ns)) ≡ Ok a
+    go : (s : Step) → Says s ns a (λ y. Leads k y ns a) → ((y : Expected) → Leads k y ns a → followed format k y (map spelling ns) ≡ Ok a) → by_step s (answer_at_end (map spelling ns)) (λ y. followed format k y (map spelling ns)) ≡ Ok a
     go (Decided answer) says next = ap (λ (us : List FlatNode). answer_at_end (map spelling us) answer) says.0 ∙ ap Ok (sym says.1)
     go (Onward y) says next = next y says
 
--- the texts of an accepted proof
-pub frame_accepted : (root k bytes : List ℕ) (a : Option (List ℕ)) (is : Accepted root k bytes a) → frame_at bytes ≡ Ok (map spelling is.nodes)
-frame_accepted root k bytes a is =
-    let ts = map spelling is.nodes in
-    let whole : bytes ≡ 1 ∷ length ts ∷ framed ts = is.frames ∙ ap (λ (xs : List ℕ). 1 ∷ length ts ∷ xs) (append-nil (framed ts)) in
-    ap frame_at whole ∙ frame_again ts (texts_short is.nodes is.flat)
+-- the texts of an accepted proof, and its claim
+pub frame_accepted : (format : Format) (root k bytes : List ℕ) (a : Option (List ℕ)) (is : Accepted format root k bytes a) → frame_at format bytes ≡ Ok (map spelling is.nodes, claim_of format a)
+frame_accepted format root k bytes a is =
+    ap (frame_at format) is.frames ∙ frame_again format (map spelling is.nodes) a is.fit (texts_short format is.nodes is.flat)
 
-pub accepts : (root k bytes : List ℕ) (a : Option (List ℕ)) → Accepted root k bytes a → verdict root k bytes ≡ Ok a
-accepts root k bytes a is =
-    ap (λ (r : Result (List (List ℕ)) ProofFault). r >> judgement root k) (frame_accepted root k bytes a is) ∙ go is.nodes is.flat is.leads
+pub settles : (format : Format) (a : Option (List ℕ)) → settled format (claim_of format a) (held_answer format a) ≡ Ok a
+settles One a = ap Ok (sym (held_one a))
+settles Two None = refl
+settles Two (Some v) =
+    let same : bytes_eq (digest_of v) (digest_of v) ≡ true = (bytes_eq-Decides (digest_of v) (digest_of v)).1 refl in
+    ap (λ (t : Bool). unless t OtherValue (Ok (Some v))) same
+
+pub accepts : (format : Format) (root k bytes : List ℕ) (a : Option (List ℕ)) → Accepted format root k bytes a → verdict format root k bytes ≡ Ok a
+accepts format root k bytes a is =
+    ap (λ (r : Result (List (List ℕ) × Claim) ProofFault). r >> λ f. judgement format root k f.0 >> λ held. settled format f.1 held) (frame_accepted format root k bytes a is)
+    ∙ ap (λ (r : Result (Option (List ℕ)) ProofFault). r >> λ held. settled format (claim_of format a) held) (go is.nodes (held_answer format a) is.flat is.leads)
+    ∙ settles format a
   where
-    go : (ns : List FlatNode) → AllFlat ns → LeadsFrom root k ns a → judgement root k (map spelling ns) ≡ Ok a
-    go [] flat l = ap (λ (t : Bool). unless t OtherDigest (Ok None)) ((bytes_eq-Decides root (digest_of [])).1 l.0) ∙ ap Ok (sym l.1)
-    go (n ∷ ns) flat l = follows k (first_expected root) (n ∷ ns) a flat l
+    go : (ns : List FlatNode) (h : Option (List ℕ)) → AllFlat format ns → LeadsFrom root k ns h → judgement format root k (map spelling ns) ≡ Ok h
+    go [] h flat l = ap (λ (t : Bool). unless t OtherDigest (Ok None)) ((bytes_eq-Decides root (digest_of [])).1 l.0) ∙ ap Ok (sym l.1)
+    go (n ∷ ns) h flat l = follows format k (first_expected root) (n ∷ ns) h flat l

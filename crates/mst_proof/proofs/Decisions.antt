@@ -1,4 +1,5 @@
 -- Each test of a text decides what it asks.
+use Rattle.mst_key.specs.declared.format.Format.{Format}
 use Rattle.std.proofs.Common.{◌≡◌, ℕ, Bool, true, false, ◌==◌, ◌<◌, cond, List, [], ◌∷◌, map, Option, Some, None, refl, ◌∙◌, ap, subst}
 use Rattle.std.specs.Prelude.{IfSome}
 use Rattle.std.specs.Bool.{Decides}
@@ -7,7 +8,6 @@ use Rattle.std.specs.Ordering.{is_lt, is_gt}
 use Rattle.std.specs.declared.cmp.Ordering.{Ordering}
 use Rattle.std.specs.declared.cmp.Ordering.TheVariants.{Less, Equal, Greater}
 use Rattle.std.proofs.lemmas.Bool.Decides.{Decides-and, Decides-eqb, Decides-ltb, same_from_decides}
-use Rattle.mst_key.specs.declared.format.Format.TheVariants.{One}
 use Rattle.mst_key.specs.Bytes.{IsBytes}
 use Rattle.mst_key.specs.Layer.{layer_in}
 use Rattle.mst_key.specs.Map.{Pair, key_cmp, above, below, IsAscending}
@@ -47,27 +47,27 @@ fit-Decides n =
     (λ e. let is = both.0 e in record { at_layer = is.0; rising = is.1 }, λ fit. both.1 (fit.at_layer, fit.rising))
 
 -- the flat node of a text in the grammar is the one that it spells
-pub node_in-spelt : (text : List ℕ) (n : FlatNode) → node_in text ≡ Some n → IsBytes text → (n.format ≡ One) × IsFlatNode n × (text ≡ spelling n)
-node_in-spelt text n h b =
-    let read = bind_ok (node_at One text) _ n h in
+pub node_in-spelt : (format : Format) (text : List ℕ) (n : FlatNode) → node_in format text ≡ Some n → IsBytes text → (n.format ≡ format) × IsFlatNode n × (text ≡ spelling n)
+node_in-spelt format text n h b =
+    let read = bind_ok (node_at format text) _ n h in
     let fits = kept read.0 (do_fit read.0) refl read.2 in
-    subst (λ (x : FlatNode). (x.format ≡ One) × IsFlatNode x × (text ≡ spelling x)) fits.0 (read_in_grammar One text read.0 read.1 b ((fit-Decides read.0).0 fits.1))
+    subst (λ (x : FlatNode). (x.format ≡ format) × IsFlatNode x × (text ≡ spelling x)) fits.0 (read_in_grammar format text read.0 read.1 b ((fit-Decides read.0).0 fits.1))
   where
     kept : (x : FlatNode) (t : Bool) → do_fit x ≡ t → cond t (Some x) None ≡ Some n → (x ≡ n) × (do_fit x ≡ true)
     kept x true e k = (some_same x n k, e)
     kept x false e k = absurd (cc)
 
-pub node_in-read : (text : List ℕ) (g : InGrammar One text) → node_in text ≡ Some g.0
-node_in-read text g =
+pub node_in-read : (format : Format) (text : List ℕ) (g : InGrammar format text) → node_in format text ≡ Some g.0
+node_in-read format text g =
     let fits : do_fit g.0 ≡ true = (fit-Decides g.0).1 g.2.keys in
-    ap (λ (r : Option FlatNode). r >>= λ n. cond (do_fit n) (Some n) None) (grammar_read One text g) ∙ ap (λ (t : Bool). cond t (Some g.0) None) fits
+    ap (λ (r : Option FlatNode). r >>= λ n. cond (do_fit n) (Some n) None) (grammar_read format text g) ∙ ap (λ (t : Bool). cond t (Some g.0) None) fits
 
-pub node_in-none : (text : List ℕ) → IsBytes text → (InGrammar One text → ⊥) → node_in text ≡ None
-node_in-none text b not = go (node_in text) refl
+pub node_in-none : (format : Format) (text : List ℕ) → IsBytes text → (InGrammar format text → ⊥) → node_in format text ≡ None
+node_in-none format text b not = go (node_in format text) refl
   where
-    go : (r : Option FlatNode) → node_in text ≡ r → r ≡ None
+    go : (r : Option FlatNode) → node_in format text ≡ r → r ≡ None
     go None e = refl
-    go (Some n) e = let is = node_in-spelt text n e b in absurd (not (n, is.0, is.1, is.2))
+    go (Some n) e = let is = node_in-spelt format text n e b in absurd (not (n, is.0, is.1, is.2))
 
 -- ---- the layer and the span
 

@@ -1,19 +1,19 @@
 -- Where a key falls in a node of a map's tree: at an entry, or in the gap of a child that holds
 -- what the map says of the key.
-use Rattle.std.proofs.Common.{◌≡◌, ℕ, ◌≤◌, List, [], ◌∷◌, ◌++◌, length, Option, Some, ◌⊎◌, inl, inr, refl, sym, ◌∙◌, ap, subst, arith, length-append}
+use Rattle.mst_key.specs.declared.format.Format.{Format}
+use Rattle.std.proofs.Common.{◌≡◌, ℕ, ◌≤◌, List, [], ◌∷◌, ◌++◌, length, Option, Some, None, ◌⊎◌, inl, inr, refl, sym, ◌∙◌, ap, subst, arith, length-append}
 use Rattle.std.specs.List.{Contains}
 use Rattle.std.specs.declared.cmp.Ordering.{Ordering}
 use Rattle.std.specs.declared.cmp.Ordering.TheVariants.{Less, Equal, Greater}
 use Rattle.std.proofs.lemmas.List.Elements.{Contains-append_left, Contains-append_right}
-use Rattle.mst_key.specs.declared.format.Format.TheVariants.{One}
 use Rattle.mst_key.specs.Bytes.{IsKey, IsValue}
 use Rattle.mst_key.specs.Map.{Pair, key_cmp, AllBelow, AllAbove, IsMap, map_get}
 use Rattle.mst_key.proofs.KeyOrder.{same_from_equal, less_from_greater, other_from_less}
 use Rattle.mst_key.proofs.MapLaws.{AllBelow-less, AllAbove-less, map_get-here, map_get-past}
 use Rattle.mst_key.proofs.Splits.{map_get-left, map_get-right}
-use Rattle.mst_proof.specs.Beside.{gap_in}
+use Rattle.mst_proof.specs.Beside.{gap_in, held_in}
 use Rattle.mst_node.specs.Tree.{Tree, empty, Entries, last, entry, pairs, entries_pairs, nodes, nodes_below, IsUnder, IsMst, IsMstEntries}
-use Rattle.mst_node.specs.Text.{child_digest, flat_entries, tail_digest}
+use Rattle.mst_node.specs.Text.{child_digest, flat_entries, tail_digest, held_of}
 use Rattle.mst_node.specs.Gaps.{LiesBetween, EntriesLieBetween}
 use Rattle.mst_node.specs.Trail.{by_order, nodes_met, met_in_gap}
 use Rattle.mst_node.specs.Place.{place_among}
@@ -23,27 +23,29 @@ use Rattle.mst_node.specs.declared.place.Span.{Span}
 use Rattle.mst_node.proofs.Lying.{all-front, split}
 
 -- the place of the key among the entries
-abbrev pub place : List ℕ → Option (List ℕ) → Option (List ℕ) → Entries → Place
-place k low high es = place_among k low high (flat_entries One es) (tail_digest es)
+abbrev pub place : (format : Format) → List ℕ → Option (List ℕ) → Option (List ℕ) → Entries → Place
+place format k low high es = place_among k low high (flat_entries format es) (tail_digest es)
 
 -- an entry holds the key with the map's value
-pub record Holding (k : List ℕ) (low high : Option (List ℕ)) (es : Entries) : Type 0 where
+pub record Holding (format : Format) (k : List ℕ) (low high : Option (List ℕ)) (es : Entries) : Type 0 where
   pub value : List ℕ
-  pub placed : place k low high es ≡ Held value
+  pub placed : place format k low high es ≡ Held (held_of format value)
   pub looks : map_get (entries_pairs es) k ≡ Some value
+  pub entry : held_in k es ≡ Some value
   pub meets : met_in_gap k es ≡ []
   pub gap : gap_in k es ≡ empty
 
 -- the child in the key's gap has the pairs that decide
-pub record Gapped (k : List ℕ) (low high : Option (List ℕ)) (l : ℕ) (es : Entries) : Type 0 where
+pub record Gapped (format : Format) (k : List ℕ) (low high : Option (List ℕ)) (l : ℕ) (es : Entries) : Type 0 where
   pub child : Tree
   pub span : Span
-  pub placed : place k low high es ≡ Gap (child_digest child) span
+  pub placed : place format k low high es ≡ Gap (child_digest child) span
   pub looks : map_get (entries_pairs es) k ≡ map_get (pairs child) k
+  pub entry : held_in k es ≡ None
   pub meets : met_in_gap k es ≡ nodes_met k child
   pub gap : gap_in k es ≡ child
   pub under : IsUnder l child
-  pub mst : IsMst One child
+  pub mst : IsMst format child
   pub map : IsMap (pairs child)
   pub few : length (pairs child) ≤ length (entries_pairs es)
   pub lies : EntriesLieBetween low high es → LiesBetween span.low span.high child
@@ -63,18 +65,19 @@ round xs p ys is =
     record { front = record { ascending = s.front; limits = limits.0 }; back = record { ascending = s.back; limits = limits.1.1 }; below = s.below; above = s.above }
 
 -- what the order of the key to the entry's key chooses
-abbrev chosen : List ℕ → Option (List ℕ) → Option (List ℕ) → Tree → List ℕ → List ℕ → Entries → Ordering → Place
-chosen k low high child key value rest r =
-    by_order r (Gap (child_digest child) (record { low = low; high = Some key })) (Held value) (place k (Some key) high rest)
+abbrev chosen : (format : Format) → List ℕ → Option (List ℕ) → Option (List ℕ) → Tree → List ℕ → List ℕ → Entries → Ordering → Place
+chosen format k low high child key value rest r =
+    by_order r (Gap (child_digest child) (record { low = low; high = Some key })) (Held (held_of format value)) (place format k (Some key) high rest)
 
-falls_before : (k : List ℕ) (low high : Option (List ℕ)) (l : ℕ) (child : Tree) (key value : List ℕ) (rest : Entries) → IsMstEntries One l (entry child key value rest) → Round (pairs child) (key, value) (entries_pairs rest) → key_cmp k key ≡ Less → Gapped k low high l (entry child key value rest)
-falls_before k low high l child key value rest mst r e =
+falls_before : (format : Format) (k : List ℕ) (low high : Option (List ℕ)) (l : ℕ) (child : Tree) (key value : List ℕ) (rest : Entries) → IsMstEntries format l (entry child key value rest) → Round (pairs child) (key, value) (entries_pairs rest) → key_cmp k key ≡ Less → Gapped format k low high l (entry child key value rest)
+falls_before format k low high l child key value rest mst r e =
     let above : AllAbove ((key, value) ∷ entries_pairs rest) k = (e, AllAbove-less (entries_pairs rest) k key e r.above) in
     record {
       child = child;
       span = record { low = low; high = Some key };
-      placed = ap (chosen k low high child key value rest) e;
+      placed = ap (chosen format k low high child key value rest) e;
       looks = map_get-left (pairs child) ((key, value) ∷ entries_pairs rest) k above;
+      entry = ap (λ (o : Ordering). by_order o None (Some value) (held_in k rest)) e;
       meets = ap (λ (o : Ordering). by_order o (nodes_met k child) [] (met_in_gap k rest)) e;
       gap = ap (λ (o : Ordering). by_order o child empty (gap_in k rest)) e;
       under = mst.0;
@@ -85,14 +88,15 @@ falls_before k low high l child key value rest mst r e =
       among = λ u has. Contains-append_left (nodes child) (nodes_below rest) u has;
     }
 
-falls_at : (k : List ℕ) (low high : Option (List ℕ)) (child : Tree) (key value : List ℕ) (rest : Entries) → Round (pairs child) (key, value) (entries_pairs rest) → key_cmp k key ≡ Equal → Holding k low high (entry child key value rest)
-falls_at k low high child key value rest r e =
+falls_at : (format : Format) (k : List ℕ) (low high : Option (List ℕ)) (child : Tree) (key value : List ℕ) (rest : Entries) → Round (pairs child) (key, value) (entries_pairs rest) → key_cmp k key ≡ Equal → Holding format k low high (entry child key value rest)
+falls_at format k low high child key value rest r e =
     let same : k ≡ key = same_from_equal k key e in
     let below : AllBelow (pairs child) k = subst (AllBelow (pairs child)) (sym same) r.below in
     record {
       value = value;
-      placed = ap (chosen k low high child key value rest) e;
+      placed = ap (chosen format k low high child key value rest) e;
       looks = map_get-right (pairs child) ((key, value) ∷ entries_pairs rest) k below ∙ map_get-here (key, value) (entries_pairs rest) k (sym same);
+      entry = ap (λ (o : Ordering). by_order o None (Some value) (held_in k rest)) e;
       meets = ap (λ (o : Ordering). by_order o (nodes_met k child) [] (met_in_gap k rest)) e;
       gap = ap (λ (o : Ordering). by_order o child empty (gap_in k rest)) e;
     }
@@ -103,21 +107,23 @@ looks_behind k child key value rest r e =
     let less = less_from_greater k key e in
     map_get-right (pairs child) ((key, value) ∷ entries_pairs rest) k (AllBelow-less (pairs child) key k r.below less) ∙ map_get-past (key, value) (entries_pairs rest) k (other_from_less key k less)
 
-falls_behind : (k : List ℕ) (low high : Option (List ℕ)) (l : ℕ) (child : Tree) (key value : List ℕ) (rest : Entries) → Round (pairs child) (key, value) (entries_pairs rest) → key_cmp k key ≡ Greater → Holding k (Some key) high rest ⊎ Gapped k (Some key) high l rest → Holding k low high (entry child key value rest) ⊎ Gapped k low high l (entry child key value rest)
-falls_behind k low high l child key value rest r e (inl h) =
+falls_behind : (format : Format) (k : List ℕ) (low high : Option (List ℕ)) (l : ℕ) (child : Tree) (key value : List ℕ) (rest : Entries) → Round (pairs child) (key, value) (entries_pairs rest) → key_cmp k key ≡ Greater → Holding format k (Some key) high rest ⊎ Gapped format k (Some key) high l rest → Holding format k low high (entry child key value rest) ⊎ Gapped format k low high l (entry child key value rest)
+falls_behind format k low high l child key value rest r e (inl h) =
     inl (record {
       value = h.value;
-      placed = ap (chosen k low high child key value rest) e ∙ h.placed;
+      placed = ap (chosen format k low high child key value rest) e ∙ h.placed;
       looks = looks_behind k child key value rest r e ∙ h.looks;
+      entry = ap (λ (o : Ordering). by_order o None (Some value) (held_in k rest)) e ∙ h.entry;
       meets = ap (λ (o : Ordering). by_order o (nodes_met k child) [] (met_in_gap k rest)) e ∙ h.meets;
       gap = ap (λ (o : Ordering). by_order o child empty (gap_in k rest)) e ∙ h.gap;
     })
-falls_behind k low high l child key value rest r e (inr g) =
+falls_behind format k low high l child key value rest r e (inr g) =
     inr (record {
       child = g.child;
       span = g.span;
-      placed = ap (chosen k low high child key value rest) e ∙ g.placed;
+      placed = ap (chosen format k low high child key value rest) e ∙ g.placed;
       looks = looks_behind k child key value rest r e ∙ g.looks;
+      entry = ap (λ (o : Ordering). by_order o None (Some value) (held_in k rest)) e ∙ g.entry;
       meets = ap (λ (o : Ordering). by_order o (nodes_met k child) [] (met_in_gap k rest)) e ∙ g.meets;
       gap = ap (λ (o : Ordering). by_order o child empty (gap_in k rest)) e ∙ g.gap;
       under = g.under;
@@ -128,13 +134,14 @@ falls_behind k low high l child key value rest r e (inr g) =
       among = λ u has. Contains-append_right (nodes child) (nodes_below rest) u (g.among u has);
     })
 
-pub falls : (k : List ℕ) (low high : Option (List ℕ)) (l : ℕ) (es : Entries) → IsMstEntries One l es → IsMap (entries_pairs es) → Holding k low high es ⊎ Gapped k low high l es
-falls k low high l (last child) mst is =
+pub falls : (format : Format) (k : List ℕ) (low high : Option (List ℕ)) (l : ℕ) (es : Entries) → IsMstEntries format l es → IsMap (entries_pairs es) → Holding format k low high es ⊎ Gapped format k low high l es
+falls format k low high l (last child) mst is =
     inr (record {
       child = child;
       span = record { low = low; high = high };
       placed = refl;
       looks = refl;
+      entry = refl;
       meets = refl;
       gap = refl;
       under = mst.0;
@@ -144,11 +151,11 @@ falls k low high l (last child) mst is =
       lies = λ lie. lie;
       among = λ u has. has;
     })
-falls k low high l (entry child key value rest) mst is =
+falls format k low high l (entry child key value rest) mst is =
     let r = round (pairs child) (key, value) (entries_pairs rest) is in
-    go (key_cmp k key) refl r (falls k (Some key) high l rest mst.3 r.back)
+    go (key_cmp k key) refl r (falls format k (Some key) high l rest mst.3 r.back)
   where
-    go : (o : Ordering) → key_cmp k key ≡ o → Round (pairs child) (key, value) (entries_pairs rest) → Holding k (Some key) high rest ⊎ Gapped k (Some key) high l rest → Holding k low high (entry child key value rest) ⊎ Gapped k low high l (entry child key value rest)
-    go Less e r later = inr (falls_before k low high l child key value rest mst r e)
-    go Equal e r later = inl (falls_at k low high child key value rest r e)
-    go Greater e r later = falls_behind k low high l child key value rest r e later
+    go : (o : Ordering) → key_cmp k key ≡ o → Round (pairs child) (key, value) (entries_pairs rest) → Holding format k (Some key) high rest ⊎ Gapped format k (Some key) high l rest → Holding format k low high (entry child key value rest) ⊎ Gapped format k low high l (entry child key value rest)
+    go Less e r later = inr (falls_before format k low high l child key value rest mst r e)
+    go Equal e r later = inl (falls_at format k low high child key value rest r e)
+    go Greater e r later = falls_behind format k low high l child key value rest r e later

@@ -1,24 +1,29 @@
 -- The texts that are cut out of bytes are those that the bytes frame.
-use Rattle.std.proofs.Common.{◌≡◌, ℕ, zero, suc, ◌+◌, ◌*◌, ◌<◌, ◌≤◌, ◌^◌, Bool, true, false, ◌==◌, cond, List, [], ◌∷◌, ◌++◌, length, map, Option, Some, None, refl, sym, ◌∙◌, ap, subst, arith, append_assoc, length-append}
-use Rattle.std.specs.Prelude.{IfSome}
+use Rattle.std.proofs.Common.{◌≡◌, ℕ, zero, suc, ◌+◌, ◌*◌, ◌<◌, ◌≤◌, ◌^◌, Bool, true, false, ◌==◌, cond, List, [], ◌∷◌, ◌++◌, length, map, Option, Some, None, refl, sym, ◌∙◌, ap, subst, arith, append_assoc, length-append, take, drop}
+use Rattle.std.specs.Prelude.{IfSome, nat_lt, nat_le}
 use Rattle.std.specs.Int.{w32, to_be_bytes, from_be_bytes}
 use Rattle.std.specs.List.{flat_map, AllByRecursion}
 use Rattle.std.specs.declared.result.Result.{Result}
 use Rattle.std.specs.declared.result.Result.TheVariants.{Ok, Err}
 use Rattle.std.proofs.lemmas.Bool.Decides.{nat_tests}
-use Rattle.std.proofs.lemmas.List.{append-nil}
+use Rattle.std.proofs.lemmas.List.{append-nil, take-append-drop, length-take}
+use Rattle.std.proofs.Math.Seq.{take-length, drop-length}
 use Rattle.std.proofs.lemmas.Nat.{be_bytes_4, from_be_bytes-to_be_bytes_4}
 use Rattle.mst_key.specs.declared.format.Format.{Format}
 use Rattle.mst_key.specs.declared.format.Format.TheVariants.{One, Two}
 use Rattle.mst_key.specs.Bytes.{IsBytes}
-use Rattle.mst_node.specs.Text.{FlatEntry, FlatNode, child_text, counted, held_text, entry_text, spelling}
+use Rattle.mst_node.specs.Text.{FlatEntry, FlatNode, child_text, counted, held_text, entry_text, spelling, version}
 use Rattle.mst_node.specs.Grammar.{IsDigest, IsHeld, IsFlatEntry, IsFlatNode}
-use Rattle.mst_node.specs.Trail.{framed}
+use Rattle.mst_node.specs.Trail.{framed, framing, answer_text}
 use Rattle.mst_node.proofs.Takes.{bind_ok, some_same, part_takes}
 use Rattle.mst_node.proofs.Again.{part_again}
 use Rattle.mst_node.proofs.Frames.{four_fit}
 use Rattle.mst_proof.specs.declared.fault.ProofFault.{ProofFault}
-use Rattle.mst_proof.specs.Frame.{◌>>◌, text_at, texts_at, alone, count_at, heading_at, frame_at}
+use Rattle.mst_proof.specs.Frame.{◌>>◌, text_at, texts_at, alone, given, value_at, claim_at, claimed_at, count_at, heading_at, frame_at}
+use Rattle.mst_proof.specs.declared.fault.ProofFault.TheVariants.{CutShort}
+use Rattle.mst_proof.specs.declared.claim.Claim.{Claim}
+use Rattle.mst_proof.specs.declared.claim.Claim.TheVariants.{Nothing, Absence, Given, Unfit}
+use Rattle.mst_proof.specs.Accepted.{IsAnswer}
 
 -- ---- what is cut out was framed
 
@@ -56,10 +61,12 @@ texts_takes (suc n) bytes p h b =
     let text : bytes ≡ framed (r1.0.0 ∷ r2.0.0) ++ r2.0.1 = first.0 ∙ ap (λ (xs : List ℕ). size ++ r1.0.0 ++ xs) rest.0 ∙ simp append_assoc in
     subst (TakesTexts (suc n) bytes) (some_same (r1.0.0 ∷ r2.0.0, r2.0.1) p r2.2) (text, ap suc rest.1, (first.1, rest.2), rest.3)
 
-pub record IsFrame (bytes : List ℕ) (ts : List (List ℕ)) : Type 0 where
-  pub whole : bytes ≡ 1 ∷ length ts ∷ framed ts
+pub record IsFrame (format : Format) (bytes : List ℕ) (ts : List (List ℕ)) (claim : Claim) : Type 0 where
+  pub rest : List ℕ
+  pub whole : bytes ≡ version format ∷ length ts ∷ framed ts ++ rest
   pub few : length ts < 256
   pub texts : AllBytes ts
+  pub claims : claim_at format rest ≡ Ok claim
 
 abbrev ok : {A : Type 0} → A → Result A ProofFault
 ok x = Ok x
@@ -71,36 +78,119 @@ pub bind_done : {A B : Type 0} (r : Result A ProofFault) (g : A → Result B Pro
 bind_done (Err f) g y e = absurd (cc)
 bind_done (Ok x) g y e = (x, refl, e)
 
-alone_done : (r : Option (List (List ℕ) × List ℕ)) (ts : List (List ℕ)) → alone r ≡ Ok ts → r ≡ Some (ts, [])
-alone_done None ts e = absurd (cc)
-alone_done (Some (us, [])) ts e = ap (λ (x : List (List ℕ)). Some (x, [])) (ok_same us ts e)
-alone_done (Some (us, b ∷ bytes)) ts e = absurd (cc)
+-- what is claimed behind texts
+claimed_done : (format : Format) (r : Option (List (List ℕ) × List ℕ)) (f : List (List ℕ) × Claim) → claimed_at format r ≡ Ok f → (rest : List ℕ) × (r ≡ Some (f.0, rest)) × (claim_at format rest ≡ Ok f.1)
+claimed_done format None f e = absurd (cc)
+claimed_done format (Some t) f e =
+    let d = bind_done (claim_at format t.1) _ f e in
+    let same : (t.0, d.0) ≡ f = ok_same (t.0, d.0) f d.2 in
+    (t.1, ap (λ (g : List (List ℕ) × Claim). Some (g.0, t.1)) same, d.1 ∙ ap (λ (g : List (List ℕ) × Claim). Ok g.1) same)
 
-heading_takes : (bytes : List ℕ) (h : ℕ × List ℕ) → heading_at bytes ≡ Ok h → bytes ≡ 1 ∷ h.0 ∷ h.1
-heading_takes [] h e = absurd (cc)
-heading_takes (v ∷ bytes) h e = go (v == 1) refl bytes e
+heading_takes : (format : Format) (bytes : List ℕ) (h : ℕ × List ℕ) → heading_at format bytes ≡ Ok h → bytes ≡ version format ∷ h.0 ∷ h.1
+heading_takes format [] h e = absurd (cc)
+heading_takes format (v ∷ bytes) h e = go (v == version format) refl bytes e
   where
-    go : (t : Bool) → (v == 1) ≡ t → (xs : List ℕ) → cond t (count_at xs) (Err Rattle.mst_proof.specs.declared.fault.ProofFault.TheVariants.Version) ≡ Ok h → v ∷ xs ≡ 1 ∷ h.0 ∷ h.1
+    go : (t : Bool) → (v == version format) ≡ t → (xs : List ℕ) → cond t (count_at xs) (Err Rattle.mst_proof.specs.declared.fault.ProofFault.TheVariants.Version) ≡ Ok h → v ∷ xs ≡ version format ∷ h.0 ∷ h.1
     go false is xs e = absurd (cc)
     go true is [] e = absurd (cc)
     go true is (n ∷ xs) e =
-        let one : v ≡ 1 = grind (arith, nat_tests) in
+        let one : v ≡ version format = grind (arith, nat_tests) in
         let same = ok_same (n, xs) h e in
-        ap (λ (w : ℕ). w ∷ n ∷ xs) one ∙ ap (λ (q : ℕ × List ℕ). 1 ∷ q.0 ∷ q.1) same
+        ap (λ (w : ℕ). w ∷ n ∷ xs) one ∙ ap (λ (q : ℕ × List ℕ). version format ∷ q.0 ∷ q.1) same
 
-pub frame_takes : (bytes : List ℕ) (ts : List (List ℕ)) → frame_at bytes ≡ Ok ts → IsBytes bytes → IsFrame bytes ts
-frame_takes bytes ts e b =
-    let head = bind_done (heading_at bytes) _ ts e in
-    let whole = heading_takes bytes head.0 head.1 in
+pub frame_takes : (format : Format) (bytes : List ℕ) (f : List (List ℕ) × Claim) → frame_at format bytes ≡ Ok f → IsBytes bytes → IsFrame format bytes f.0 f.1
+frame_takes format bytes f e b =
+    let head = bind_done (heading_at format bytes) _ f e in
+    let whole = heading_takes format bytes head.0 head.1 in
     let fits = subst IsBytes whole b in
-    let takes = texts_takes head.0.0 head.0.1 (ts, []) (alone_done _ ts head.2) fits.1.1 in
-    let count : head.0.0 ≡ length ts = sym takes.1 in
+    let done = claimed_done format _ f head.2 in
+    let takes = texts_takes head.0.0 head.0.1 (f.0, done.0) done.1 fits.1.1 in
+    let count : head.0.0 ≡ length f.0 = sym takes.1 in
     let small : head.0.0 < 256 = fits.1.0 in
     record {
-      whole = whole ∙ ap (λ (xs : List ℕ). 1 ∷ head.0.0 ∷ xs) (takes.0 ∙ append-nil (framed ts)) ∙ ap (λ (n : ℕ). 1 ∷ n ∷ framed ts) count;
+      rest = done.0;
+      whole = whole ∙ ap (λ (xs : List ℕ). version format ∷ head.0.0 ∷ xs) takes.0 ∙ ap (λ (n : ℕ). version format ∷ n ∷ framed f.0 ++ done.0) count;
       few = omega (arith, small, takes.1);
       texts = takes.2;
+      claims = done.2;
     }
+
+-- ---- the claim of an answer
+
+-- what the proof of an answer claims
+abbrev pub claim_of : Format → Option (List ℕ) → Claim
+claim_of One a = Nothing
+claim_of Two None = Absence
+claim_of Two (Some v) = Given v
+
+pub alone_done : (claim c : Claim) (rest : List ℕ) → alone claim rest ≡ Ok c → (rest ≡ []) × (claim ≡ c)
+alone_done claim c [] e = (refl, ok_same claim c e)
+alone_done claim c (b ∷ rest) e = absurd (cc)
+
+-- a frame of format 1 claims nothing
+pub nothing_claimed : (bytes : List ℕ) (f : List (List ℕ) × Claim) → frame_at One bytes ≡ Ok f → Nothing ≡ f.1
+nothing_claimed bytes f e =
+    let head = bind_done (heading_at One bytes) _ f e in
+    let done = claimed_done One _ f head.2 in
+    (alone_done Nothing f.1 done.0 done.2).1
+
+given_done : (value v : List ℕ) → given value ≡ Given v → (value ≡ v) × (length value ≤ 64)
+given_done value v e = go (nat_le (length value) 64) refl e
+  where
+    go : (t : Bool) → nat_le (length value) 64 ≡ t → cond t (Given value) Unfit ≡ Given v → (value ≡ v) × (length value ≤ 64)
+    go true is e = (cc, grind (arith, nat_tests))
+    go false is e = absurd (cc)
+
+-- the tail that claims an answer
+pub claim_takes : (format : Format) (rest : List ℕ) (a : Option (List ℕ)) → claim_at format rest ≡ Ok (claim_of format a) → (rest ≡ answer_text format a) × IsAnswer format a
+claim_takes One rest a e = ((alone_done Nothing Nothing rest e).0, tt)
+claim_takes Two [] a e = absurd (cc)
+claim_takes Two (b ∷ bytes) a e = go (b == 1) refl a e
+  where
+    absent : (t : Bool) → (b == 0) ≡ t → (a : Option (List ℕ)) → alone (cond t Absence Unfit) bytes ≡ Ok (claim_of Two a) → (b ∷ bytes ≡ answer_text Two a) × IsAnswer Two a
+    absent true is None e =
+        let zero_is : b ≡ 0 = grind (arith, nat_tests) in
+        let none = (alone_done Absence Absence bytes e).0 in
+        (ap (λ (x : ℕ). x ∷ bytes) zero_is ∙ ap (λ (xs : List ℕ). 0 ∷ xs) none, tt)
+    absent true is (Some v) e = let wrong = (alone_done Absence (Given v) bytes e).1 in absurd (cc (wrong))
+    absent false is None e = let wrong = (alone_done Unfit Absence bytes e).1 in absurd (cc (wrong))
+    absent false is (Some v) e = let wrong = (alone_done Unfit (Given v) bytes e).1 in absurd (cc (wrong))
+
+    long : (n : ℕ) (xs : List ℕ) (t : Bool) → nat_lt (length xs) n ≡ t → (a : Option (List ℕ)) → cond t (Err CutShort) (alone (given (take n xs)) (drop n xs)) ≡ Ok (claim_of Two a) → (1 ∷ n ∷ xs ≡ answer_text Two a) × IsAnswer Two a
+    long n xs true is a e = absurd (cc)
+    long n xs false is None e = let d = (alone_done (given (take n xs)) Absence (drop n xs) e).1 in other (nat_le (length (take n xs)) 64) d
+      where
+        other : (t : Bool) → cond t (Given (take n xs)) Unfit ≡ Absence → (1 ∷ n ∷ xs ≡ answer_text Two None) × IsAnswer Two None
+        other true d = absurd (cc)
+        other false d = absurd (cc)
+    long n xs false is (Some v) e =
+        let d = alone_done (given (take n xs)) (Given v) (drop n xs) e in
+        let g = given_done (take n xs) v d.1 in
+        let fits : n ≤ length xs = grind (arith, nat_tests) in
+        let size : length v ≡ n = ap length (sym g.0) ∙ omega (arith, length-take n xs) in
+        let all : xs ≡ v = sym (take-append-drop n xs) ∙ ap (λ (ys : List ℕ). take n xs ++ ys) d.0 ∙ append-nil (take n xs) ∙ g.0 in
+        (ap (λ (m : ℕ). 1 ∷ m ∷ xs) (sym size) ∙ ap (λ (ys : List ℕ). 1 ∷ length v ∷ ys) all, subst (λ (ys : List ℕ). length ys ≤ 64) g.0 g.1)
+
+    value : (xs : List ℕ) (a : Option (List ℕ)) → value_at xs ≡ Ok (claim_of Two a) → (1 ∷ xs ≡ answer_text Two a) × IsAnswer Two a
+    value [] a e = absurd (cc)
+    value (n ∷ xs) a e = long n xs (nat_lt (length xs) n) refl a e
+
+    go : (t : Bool) → (b == 1) ≡ t → (a : Option (List ℕ)) → cond t (value_at bytes) (alone (cond (b == 0) Absence Unfit) bytes) ≡ Ok (claim_of Two a) → (b ∷ bytes ≡ answer_text Two a) × IsAnswer Two a
+    go true is a e =
+        let one : b ≡ 1 = grind (arith, nat_tests) in
+        let v = value bytes a e in
+        (ap (λ (x : ℕ). x ∷ bytes) one ∙ v.0, v.1)
+    go false is a e = absent (b == 0) refl a e
+
+pub claim_again : (format : Format) (a : Option (List ℕ)) → IsAnswer format a → claim_at format (answer_text format a) ≡ Ok (claim_of format a)
+claim_again One a is = refl
+claim_again Two None is = refl
+claim_again Two (Some v) is =
+    let whole : nat_lt (length v) (length v) ≡ false = grind (arith, nat_tests) in
+    let small : nat_le (length v) 64 ≡ true = grind (arith, nat_tests, is) in
+    let all : take (length v) v ≡ v = take-length v in
+    let none : drop (length v) v ≡ [] = drop-length v in
+    rw (whole, all, none, small)
 
 -- ---- what is framed is cut out
 
@@ -120,8 +210,11 @@ texts_again (t ∷ ts) rest small =
     let others : texts_at (length ts) after ≡ Some (ts, rest) = texts_again ts rest small.1 in
     rw (first, others)
 
-pub frame_again : (ts : List (List ℕ)) → AllByRecursion (λ t. length t < 2 ^ 32) ts → frame_at (1 ∷ length ts ∷ framed ts) ≡ Ok ts
-frame_again ts small = ap alone (ap (texts_at (length ts)) (sym (append-nil (framed ts))) ∙ texts_again ts [] small)
+pub frame_again : (format : Format) (ts : List (List ℕ)) (a : Option (List ℕ)) → IsAnswer format a → AllByRecursion (λ t. length t < 2 ^ 32) ts → frame_at format (framing format ts a) ≡ Ok (ts, claim_of format a)
+frame_again format ts a is small =
+    let rest = answer_text format a in
+    let same : (version format == version format) ≡ true = grind (arith, nat_tests) in
+    rw same (ap (claimed_at format) (texts_again ts rest small) ∙ ap (λ (r : Result Claim ProofFault). r >> λ c. Ok (ts, c)) (claim_again format a is))
 
 -- ---- a text in the grammar is not too long
 
@@ -149,6 +242,6 @@ spelling_short : (n : FlatNode) → IsFlatNode n → length (spelling n) < 2 ^ 3
 spelling_short n is =
     omega (arith, is.few, entries_short n.format n.entries is.entries, child_short n.tail is.tail, length-append (flat_map (entry_text n.format) n.entries) (child_text n.tail))
 
-pub texts_short : (ns : List FlatNode) → AllByRecursion (λ n. (n.format ≡ One) × IsFlatNode n) ns → AllByRecursion (λ t. length t < 2 ^ 32) (map spelling ns)
-texts_short [] all = tt
-texts_short (n ∷ ns) all = (spelling_short n all.0.1, texts_short ns all.1)
+pub texts_short : (format : Format) (ns : List FlatNode) → AllByRecursion (λ n. (n.format ≡ format) × IsFlatNode n) ns → AllByRecursion (λ t. length t < 2 ^ 32) (map spelling ns)
+texts_short format [] all = tt
+texts_short format (n ∷ ns) all = (spelling_short n all.0.1, texts_short format ns all.1)

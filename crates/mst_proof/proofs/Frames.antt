@@ -1,12 +1,13 @@
 -- Texts cut out of bytes, one after another.
-use Rattle.std.proofs.Common.{◌≡◌, ℕ, zero, suc, ◌<◌, ◌==◌, List, [], ◌∷◌, length, Option, Some, None, refl, sym, ◌∙◌, ap, arith, take, drop}
+use Rattle.std.proofs.Common.{◌≡◌, ℕ, zero, suc, ◌==◌, List, [], ◌∷◌, length, Option, Some, None, refl, sym, ◌∙◌, ap, arith, take, drop}
 use Rattle.std.specs.Prelude.{option_map, unwrap_or}
 use Rattle.mst_key.specs.Bytes.{IsBytes}
 use Rattle.mst_node.specs.Reading.{◌>>=◌}
 use Rattle.mst_node.proofs.Takes.{bind_ok, some_same}
 use Rattle.std.specs.declared.result.Result.TheVariants.{Err}
-use Rattle.mst_proof.specs.declared.fault.ProofFault.TheVariants.{CutShort, LeftOver}
-use Rattle.mst_proof.specs.Frame.{text_at, texts_at, rest_at, texts_or_none, alone}
+use Rattle.mst_key.specs.declared.format.Format.{Format}
+use Rattle.mst_proof.specs.declared.fault.ProofFault.TheVariants.{CutShort}
+use Rattle.mst_proof.specs.Frame.{text_at, texts_at, rest_at, texts_or_none, claimed_at}
 
 -- as many texts are read as were asked for
 pub texts-count : (n : ℕ) (bytes : List ℕ) (p : List (List ℕ) × List ℕ) → texts_at n bytes ≡ Some p → length p.0 ≡ n
@@ -46,11 +47,11 @@ texts-first zero bytes p h some none = some refl
 texts-first (suc n) bytes p h some none = let first = bind_ok (text_at bytes) _ p h in absurd (cc (first.1, none))
 
 -- what is read is read, whichever way it is seen
-pub seen_texts : (n : ℕ) (bytes : List ℕ) (ts : List (List ℕ)) → texts_at n bytes ≡ Some (ts, []) → texts_or_none n bytes ≡ ts
-seen_texts n bytes ts h = ap (λ (r : Option (List (List ℕ) × List ℕ)). (unwrap_or r ([], [])).0) h
+pub seen_texts : (n : ℕ) (bytes : List ℕ) (ts : List (List ℕ)) (left : List ℕ) → texts_at n bytes ≡ Some (ts, left) → texts_or_none n bytes ≡ ts
+seen_texts n bytes ts left h = ap (λ (r : Option (List (List ℕ) × List ℕ)). (unwrap_or r ([], [])).0) h
 
-pub holds_texts : (n : ℕ) (bytes : List ℕ) (ts : List (List ℕ)) → texts_at n bytes ≡ Some (ts, []) → texts_at n bytes ≡ Some (texts_or_none n bytes, [])
-holds_texts n bytes ts h = h ∙ ap (λ (x : List (List ℕ)). Some (x, [])) (sym (seen_texts n bytes ts h))
+pub holds_texts : (n : ℕ) (bytes : List ℕ) (ts : List (List ℕ)) (left : List ℕ) → texts_at n bytes ≡ Some (ts, left) → texts_at n bytes ≡ Some (texts_or_none n bytes, left)
+holds_texts n bytes ts left h = h ∙ ap (λ (x : List (List ℕ)). Some (x, left)) (sym (seen_texts n bytes ts left h))
 
 -- ---- the bytes behind the texts
 
@@ -81,28 +82,19 @@ rest-texts (suc n) bytes = go (rest-texts n) (text_at bytes)
 
 -- ---- the frame, by what lies behind the texts
 
-pub alone-short : (n : ℕ) (bytes : List ℕ) → rest_at n bytes ≡ None → alone (texts_at n bytes) ≡ Err CutShort
-alone-short n bytes h = go (texts_at n bytes) (sym (rest-texts n bytes) ∙ h)
+pub texts-short : (format : Format) (n : ℕ) (bytes : List ℕ) → rest_at n bytes ≡ None → claimed_at format (texts_at n bytes) ≡ Err CutShort
+texts-short format n bytes h = go (texts_at n bytes) (sym (rest-texts n bytes) ∙ h)
   where
-    go : (r : Option (List (List ℕ) × List ℕ)) → option_map (λ (p : List (List ℕ) × List ℕ). p.1) r ≡ None → alone r ≡ Err CutShort
+    go : (r : Option (List (List ℕ) × List ℕ)) → option_map (λ (p : List (List ℕ) × List ℕ). p.1) r ≡ None → claimed_at format r ≡ Err CutShort
     go None e = refl
     go (Some p) e = absurd (cc)
 
-pub alone-whole : (n : ℕ) (bytes rest : List ℕ) → rest_at n bytes ≡ Some rest → length rest ≡ 0 → texts_at n bytes ≡ Some (texts_or_none n bytes, [])
-alone-whole n bytes rest h none = go (texts_at n bytes) refl (sym (rest-texts n bytes) ∙ h)
+pub texts-whole : (n : ℕ) (bytes rest : List ℕ) → rest_at n bytes ≡ Some rest → texts_at n bytes ≡ Some (texts_or_none n bytes, rest)
+texts-whole n bytes rest h = go (texts_at n bytes) refl (sym (rest-texts n bytes) ∙ h)
   where
-    go : (r : Option (List (List ℕ) × List ℕ)) → texts_at n bytes ≡ r → option_map (λ (p : List (List ℕ) × List ℕ). p.1) r ≡ Some rest → texts_at n bytes ≡ Some (texts_or_none n bytes, [])
+    go : (r : Option (List (List ℕ) × List ℕ)) → texts_at n bytes ≡ r → option_map (λ (p : List (List ℕ) × List ℕ). p.1) r ≡ Some rest → texts_at n bytes ≡ Some (texts_or_none n bytes, rest)
     go None is e = absurd (cc)
-    go (Some (ts, [])) is e = holds_texts n bytes ts is
-    go (Some (ts, b ∷ left)) is e = let all : b ∷ left ≡ rest = some_same (b ∷ left) rest e in absurd (omega (arith, none, ap length all))
-
-pub alone-more : (n : ℕ) (bytes rest : List ℕ) → rest_at n bytes ≡ Some rest → 0 < length rest → alone (texts_at n bytes) ≡ Err LeftOver
-alone-more n bytes rest h some = go (texts_at n bytes) (sym (rest-texts n bytes) ∙ h)
-  where
-    go : (r : Option (List (List ℕ) × List ℕ)) → option_map (λ (p : List (List ℕ) × List ℕ). p.1) r ≡ Some rest → alone r ≡ Err LeftOver
-    go None e = absurd (cc)
-    go (Some (ts, [])) e = let all : [] ≡ rest = some_same [] rest e in absurd (omega (arith, some, ap length all))
-    go (Some (ts, b ∷ left)) e = refl
+    go (Some (ts, left)) is e = holds_texts n bytes ts left is ∙ ap (λ (x : List ℕ). Some (texts_or_none n bytes, x)) (some_same left rest e)
 
 -- ---- parts of bytes are bytes
 

@@ -1,4 +1,5 @@
 -- Nodes that lead to an answer, one after another, do so step by step as they are judged, and back.
+use Rattle.mst_key.specs.declared.format.Format.{Format}
 use Rattle.std.proofs.Common.{◌≡◌, ℕ, List, [], ◌∷◌, ◌++◌, Option, Some, None, ◌⊎◌, inl, inr, refl, sym, ◌∙◌, ap, subst}
 use Rattle.std.specs.List.{AllByRecursion}
 use Rattle.std.specs.declared.cmp.Ordering.{Ordering}
@@ -14,7 +15,7 @@ use Rattle.mst_node.specs.declared.place.Place.TheVariants.{Held, Gap}
 use Rattle.mst_node.specs.declared.place.Span.{Span}
 use Rattle.mst_proof.specs.declared.expected.Expected.{Expected}
 use Rattle.mst_proof.specs.Verdict.{step_of, first_expected}
-use Rattle.mst_proof.specs.Accepted.{IsInGap, gap_child, gap_low, gap_high, ShowsValue, ShowsAbsence, LeadsOn, Leads, LeadsFrom, Accepted}
+use Rattle.mst_proof.specs.Accepted.{IsInGap, gap_child, gap_low, gap_high, ShowsValue, ShowsAbsence, LeadsOn, Leads, LeadsFrom, Accepted, held_answer}
 use Rattle.mst_proof.proofs.Stepwise as step
 use Rattle.mst_proof.proofs.Agreed.{AllFlat}
 
@@ -86,10 +87,10 @@ gap_place k span n before behind g =
 
 -- ---- nodes one after another
 
-pub stepwise : (k : List ℕ) (x : Expected) (ns : List FlatNode) (a : Option (List ℕ)) → AllFlat ns → Leads k x.digest x.upper x.span.low x.span.high ns a → step.Leads k x ns a
-stepwise k x [] a flat l = l
-stepwise k x (n ∷ ns) a flat l =
-    (record { digest = l.0.digest; layer = l.0.layer; keys = l.0.keys }, go l.1 (λ y. stepwise k y ns a flat.1))
+pub stepwise : (format : Format) (k : List ℕ) (x : Expected) (ns : List FlatNode) (a : Option (List ℕ)) → AllFlat format ns → Leads k x.digest x.upper x.span.low x.span.high ns a → step.Leads k x ns a
+stepwise format k x [] a flat l = l
+stepwise format k x (n ∷ ns) a flat l =
+    (record { digest = l.0.digest; layer = l.0.layer; keys = l.0.keys }, go l.1 (λ y. stepwise format k y ns a flat.1))
   where
     Goal : Place → Type 0
     Goal p = step.Says (step_of n.layer p) ns a (λ y. step.Leads k y ns a)
@@ -104,10 +105,10 @@ stepwise k x (n ∷ ns) a flat l =
         subst Goal (sym (gap_place k x.span n s.0 s.1 s.3 ∙ ap (λ (c : Option (List ℕ)). Gap c (record { low = gap_low x.span.low s.0; high = gap_high s.1 x.span.high })) s.4))
         (next (record { digest = s.2; upper = Some n.layer; span = record { low = gap_low x.span.low s.0; high = gap_high s.1 x.span.high } }) s.5)
 
-pub nodewise : (k : List ℕ) (x : Expected) (ns : List FlatNode) (a : Option (List ℕ)) → AllFlat ns → step.Leads k x ns a → Leads k x.digest x.upper x.span.low x.span.high ns a
-nodewise k x [] a flat l = l
-nodewise k x (n ∷ ns) a flat l =
-    (record { digest = l.0.digest; layer = l.0.layer; keys = l.0.keys }, go (located k n.entries flat.0.1.keys.rising) l.1 (λ y. nodewise k y ns a flat.1))
+pub nodewise : (format : Format) (k : List ℕ) (x : Expected) (ns : List FlatNode) (a : Option (List ℕ)) → AllFlat format ns → step.Leads k x ns a → Leads k x.digest x.upper x.span.low x.span.high ns a
+nodewise format k x [] a flat l = l
+nodewise format k x (n ∷ ns) a flat l =
+    (record { digest = l.0.digest; layer = l.0.layer; keys = l.0.keys }, go (located k n.entries flat.0.1.keys.rising) l.1 (λ y. nodewise format k y ns a flat.1))
   where
     Given : Place → Type 0
     Given p = step.Says (step_of n.layer p) ns a (λ y. step.Leads k y ns a)
@@ -129,16 +130,17 @@ nodewise k x (n ∷ ns) a flat l =
 
 -- ---- whole proofs
 
-pub accepted_stepwise : (root k bytes : List ℕ) (a : Option (List ℕ)) → Accepted root k bytes a → step.Accepted root k bytes a
-accepted_stepwise root k bytes a is = record { nodes = is.nodes; flat = is.flat; few = is.few; frames = is.frames; leads = go is.nodes is.flat is.leads }
+pub accepted_stepwise : (format : Format) (root k bytes : List ℕ) (a : Option (List ℕ)) → Accepted format root k bytes a → step.Accepted format root k bytes a
+accepted_stepwise format root k bytes a is = record { nodes = is.nodes; flat = is.flat; few = is.few; frames = is.frames; leads = go is.nodes (held_answer format a) is.flat is.leads; fit = is.fit }
   where
-    go : (ns : List FlatNode) → AllFlat ns → LeadsFrom root k ns a → step.LeadsFrom root k ns a
-    go [] flat l = l
-    go (n ∷ ns) flat l = stepwise k (first_expected root) (n ∷ ns) a flat l
+    go : (ns : List FlatNode) (a : Option (List ℕ)) → AllFlat format ns → LeadsFrom root k ns a → step.LeadsFrom root k ns a
+    go [] a flat l = l
+    go (n ∷ ns) a flat l = stepwise format k (first_expected root) (n ∷ ns) a flat l
 
-pub accepted_nodewise : (root k bytes : List ℕ) (a : Option (List ℕ)) → step.Accepted root k bytes a → Accepted root k bytes a
-accepted_nodewise root k bytes a is = record { nodes = is.nodes; flat = is.flat; few = is.few; frames = is.frames; leads = go is.nodes is.flat is.leads }
-  where
-    go : (ns : List FlatNode) → AllFlat ns → step.LeadsFrom root k ns a → LeadsFrom root k ns a
-    go [] flat l = l
-    go (n ∷ ns) flat l = nodewise k (first_expected root) (n ∷ ns) a flat l
+pub from_nodewise : (format : Format) (root k : List ℕ) (ns : List FlatNode) (a : Option (List ℕ)) → AllFlat format ns → step.LeadsFrom root k ns a → LeadsFrom root k ns a
+from_nodewise format root k [] a flat l = l
+from_nodewise format root k (n ∷ ns) a flat l = nodewise format k (first_expected root) (n ∷ ns) a flat l
+
+pub accepted_nodewise : (format : Format) (root k bytes : List ℕ) (a : Option (List ℕ)) → step.Accepted format root k bytes a → Accepted format root k bytes a
+accepted_nodewise format root k bytes a is =
+    record { nodes = is.nodes; flat = is.flat; few = is.few; frames = is.frames; leads = from_nodewise format root k is.nodes (held_answer format a) is.flat is.leads; fit = is.fit }

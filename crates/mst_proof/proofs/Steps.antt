@@ -1,4 +1,5 @@
 -- What a text says of a key, test by test.
+use Rattle.mst_key.specs.declared.format.Format.{Format}
 use Rattle.std.proofs.Common.{◌≡◌, ℕ, Bool, true, false, List, Some, None, ap, ◌∙◌}
 use Rattle.std.specs.List.{list_all}
 use Rattle.std.specs.Str.{bytes_eq}
@@ -12,12 +13,12 @@ use Rattle.mst_proof.specs.declared.expected.Expected.{Expected}
 use Rattle.mst_proof.specs.declared.expected.Step.{Step}
 use Rattle.mst_proof.specs.Verdict.{node_in, is_under, is_inside, step_of, step_in_node, step_at, unless}
 
-module _ (k text : List ℕ) (x : Expected) where
-  pub step-no_node : node_in text ≡ None → step_at k x text ≡ Err NoNode
+module _ (format : Format) (k text : List ℕ) (x : Expected) where
+  pub step-no_node : node_in format text ≡ None → step_at format k x text ≡ Err NoNode
   unfolding step_at
   step-no_node none = ap (step_in_node k x text) none
 
-  module _ (n : FlatNode) (is : node_in text ≡ Some n) where
+  module _ (n : FlatNode) (is : node_in format text ≡ Some n) where
     abbrev digests : Bool
     digests = bytes_eq (digest_of text) x.digest
 
@@ -30,18 +31,18 @@ module _ (k text : List ℕ) (x : Expected) where
     abbrev place : Result Step ProofFault
     place = Ok (step_of n.layer (place_of k x.span n))
 
-    pub step-other_digest : digests ≡ false → step_at k x text ≡ Err OtherDigest
+    pub step-other_digest : digests ≡ false → step_at format k x text ≡ Err OtherDigest
     unfolding step_at
     step-other_digest d = ap (step_in_node k x text) is ∙ ap (λ (t : Bool). unless t OtherDigest (unless layers LayerNotBelow (unless keys KeyOutside place))) d
 
-    pub step-not_below : digests ≡ true → layers ≡ false → step_at k x text ≡ Err LayerNotBelow
+    pub step-not_below : digests ≡ true → layers ≡ false → step_at format k x text ≡ Err LayerNotBelow
     unfolding step_at
     step-not_below d l =
         ap (step_in_node k x text) is
         ∙ ap (λ (t : Bool). unless t OtherDigest (unless layers LayerNotBelow (unless keys KeyOutside place))) d
         ∙ ap (λ (t : Bool). unless t LayerNotBelow (unless keys KeyOutside place)) l
 
-    pub step-outside : digests ≡ true → layers ≡ true → keys ≡ false → step_at k x text ≡ Err KeyOutside
+    pub step-outside : digests ≡ true → layers ≡ true → keys ≡ false → step_at format k x text ≡ Err KeyOutside
     unfolding step_at
     step-outside d l s =
         ap (step_in_node k x text) is
@@ -49,7 +50,7 @@ module _ (k text : List ℕ) (x : Expected) where
         ∙ ap (λ (t : Bool). unless t LayerNotBelow (unless keys KeyOutside place)) l
         ∙ ap (λ (t : Bool). unless t KeyOutside place) s
 
-    pub step-passed : digests ≡ true → layers ≡ true → keys ≡ true → step_at k x text ≡ Ok (step_of n.layer (place_of k x.span n))
+    pub step-passed : digests ≡ true → layers ≡ true → keys ≡ true → step_at format k x text ≡ Ok (step_of n.layer (place_of k x.span n))
     unfolding step_at
     step-passed d l s =
         ap (step_in_node k x text) is

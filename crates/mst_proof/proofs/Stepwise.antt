@@ -1,7 +1,7 @@
 -- Accepted proofs, step by step as they are judged.
+use Rattle.mst_key.specs.declared.format.Format.{Format}
 use Rattle.std.specs.Prelude.{◌≡◌, ◌<◌, ℕ, List, [], ◌∷◌, Option, None, length, map, IfSome}
 use Rattle.std.specs.List.{AllByRecursion}
-use Rattle.mst_key.specs.declared.format.Format.TheVariants.{One}
 use Rattle.mst_node.specs.Text.{FlatNode, spelling, digest_of}
 use Rattle.mst_node.specs.Grammar.{IsFlatNode}
 use Rattle.mst_node.specs.Trail.{framing}
@@ -10,6 +10,7 @@ use Rattle.mst_proof.specs.declared.expected.Expected.{Expected}
 use Rattle.mst_proof.specs.declared.expected.Step.{Step}
 use Rattle.mst_proof.specs.declared.expected.Step.TheVariants.{Decided, Onward}
 use Rattle.mst_proof.specs.Verdict.{step_of, first_expected}
+use Rattle.mst_proof.specs.Accepted.{held_answer, IsAnswer}
 
 -- a flat node is as expected: its digest is the one named above it, its layer lies below, and its
 -- keys lie in the gap where it stands
@@ -38,9 +39,10 @@ LeadsFrom root k [] a = (root ≡ digest_of []) × (a ≡ None)
 LeadsFrom root k (n ∷ ns) a = Leads k (first_expected root) (n ∷ ns) a
 
 -- the bytes frame the texts of flat nodes that lead from the root to the answer
-pub record Accepted (root k bytes : List ℕ) (a : Option (List ℕ)) : Type 0 where
+pub record Accepted (format : Format) (root k bytes : List ℕ) (a : Option (List ℕ)) : Type 0 where
   pub nodes : List FlatNode
-  pub flat : AllByRecursion (λ n. (n.format ≡ One) × IsFlatNode n) nodes
+  pub flat : AllByRecursion (λ n. (n.format ≡ format) × IsFlatNode n) nodes
   pub few : length nodes < 256
-  pub frames : bytes ≡ framing One (map spelling nodes) a
-  pub leads : LeadsFrom root k nodes a
+  pub frames : bytes ≡ framing format (map spelling nodes) a
+  pub leads : LeadsFrom root k nodes (held_answer format a)
+  pub fit : IsAnswer format a

@@ -1,14 +1,23 @@
 -- The verifier's theorem: the proof that a map gives is accepted with the map's answer, and where
 -- another answer is accepted for the map's root there is a collision.
-use Rattle.std.proofs.Common.{◌≡◌, ◌≢◌, ℕ, suc, ◌<◌, List, [], ◌∷◌, ◌++◌, length, map, Option, Some, None, ◌⊎◌, inl, inr, refl, sym, ◌∙◌, ap, subst, arith}
-use Rattle.std.specs.List.{Contains}
+use Rattle.mst_key.specs.declared.format.Format.{Format}
+use Rattle.mst_key.specs.declared.format.Format.TheVariants.{One, Two}
+use Rattle.mst_proof.specs.Accepted.{held_answer, IsAnswer}
+use Rattle.mst_proof.specs.Frame.{frame_at}
+use Rattle.mst_node.proofs.Takes.{some_same}
+use Rattle.std.specs.Ordering.{is_eq}
+use Rattle.std.specs.Str.{bytes_eq}
+use Rattle.std.proofs.lemmas.Bool.Decides.{not_from_Decides}
+use Rattle.std.proofs.lemmas.Slice.Eq.{bytes_eq-Decides}
+use Rattle.std.specs.declared.result.Result.TheVariants.{Ok}
+use Rattle.std.proofs.Common.{◌≡◌, ◌≢◌, ℕ, suc, Bool, true, false, cond, ◌<◌, List, [], ◌∷◌, ◌++◌, length, map, Option, Some, None, ◌⊎◌, inl, inr, refl, sym, ◌∙◌, ap, subst, arith}
+use Rattle.std.specs.List.{Contains, AllByRecursion}
 use Rattle.std.proofs.lemmas.List.{length-map}
 use Rattle.std.proofs.lemmas.List.Elements.{Contains-append_left, Contains-append_right}
-use Rattle.mst_key.specs.declared.format.Format.TheVariants.{One}
-use Rattle.mst_key.specs.Bytes.{IsBytes}
-use Rattle.mst_key.specs.Map.{Pair, IsMap, IsAscending, map_get}
+use Rattle.mst_key.specs.Bytes.{IsBytes, IsKey, IsValue}
+use Rattle.mst_key.specs.Map.{Pair, IsMap, IsAscending, map_get, key_cmp}
 use Rattle.mst_node.specs.Tree.{Tree, empty, node, tree, pairs, entries_pairs, nodes, nodes_below}
-use Rattle.mst_node.specs.Text.{FlatNode, spelling, text, digest}
+use Rattle.mst_node.specs.Text.{FlatNode, spelling, text, digest, digest_of}
 use Rattle.mst_node.specs.Gaps.{LiesBetween}
 use Rattle.mst_node.specs.Collision.{Collision, HasCollision}
 use Rattle.mst_node.specs.Trail.{framed, framing, nodes_met, proof_text}
@@ -16,18 +25,18 @@ use Rattle.mst_node.proofs.Lying.{lies_between, between_none}
 use Rattle.mst_node.proofs.Unique.{pairs_tree, tree_mst}
 use Rattle.mst_proof.specs.Verdict.{first_expected}
 use Rattle.mst_proof.proofs.Stepwise.{LeadsFrom, Leads, Accepted}
-use Rattle.mst_proof.specs.Theorem.{HasRoot, or_none, texts_of, texts_named}
-use Rattle.mst_proof.specs.Beside.{IsSmall}
-use Rattle.mst_proof.proofs.Framed.{AllBytes}
-use Rattle.mst_proof.proofs.Agreed.{AllFlat, Spells, frame_accepted}
-use Rattle.mst_proof.proofs.Sound.{has_first, has_mapped, sound}
+use Rattle.mst_proof.specs.Theorem.{HasRoot, claimed, or_none, value_of, texts_of, values_named, texts_named}
+use Rattle.mst_proof.specs.Beside.{looked, IsSmall}
+use Rattle.mst_proof.proofs.Framed.{AllBytes, claim_of}
+use Rattle.mst_proof.proofs.Agreed.{AllFlat, Spells, frame_accepted, held_one}
+use Rattle.mst_proof.proofs.Sound.{has_first, has_later, has_mapped, sound}
 use Rattle.mst_proof.proofs.Complete.{complete}
 
 -- the tree of a map that has a root is a small one
-small_tree : (m : List Pair) (d : List ℕ) → HasRoot m d → IsSmall (tree One m)
-small_tree m d has =
-    let same = sym (pairs_tree One m) in
-    record { mst = tree_mst One m; map = subst IsMap same has.map; few = omega (arith, ap length same, has.few) }
+small_tree : (format : Format) (m : List Pair) (d : List ℕ) → HasRoot format m d → IsSmall format (tree format m)
+small_tree format m d has =
+    let same = sym (pairs_tree format m) in
+    record { mst = tree_mst format m; map = subst IsMap same has.map; few = omega (arith, ap length same, has.few) }
 
 -- ---- the map's proof
 
@@ -41,72 +50,148 @@ texts_bytes [] b = tt
 texts_bytes (t ∷ ts) b = let parts = bytes-split t (framed ts) b.1.1.1.1 in (parts.0, texts_bytes ts parts.1)
 
 -- texts that lead from a map's root to its answer
-map_leads : (d k : List ℕ) (t : Tree) → d ≡ digest t → IsSmall t → LiesBetween None None t → AllBytes (map text (nodes_met k t)) → Spells (map text (nodes_met k t)) (λ ns. LeadsFrom d k ns (map_get (pairs t) k))
-map_leads d k empty root small lies b = record { nodes = []; flat = tt; texts = refl; leads = (root, refl) }
-map_leads d k (node f l es) root small lies b =
-    let s = complete (suc l) k (first_expected d) (node f l es) (omega arith) small (record { digest = ap Some root; under = tt; lies = lies }) b in
+map_leads : (format : Format) (d k : List ℕ) (t : Tree) → d ≡ digest t → IsSmall format t → LiesBetween None None t → AllBytes (map text (nodes_met k t)) → Spells format (map text (nodes_met k t)) (λ ns. LeadsFrom d k ns (looked format (pairs t) k))
+map_leads format d k empty root small lies b = record { nodes = []; flat = tt; texts = refl; leads = (root, refl) }
+map_leads format d k (node f l es) root small lies b =
+    let s = complete format (suc l) k (first_expected d) (node f l es) (omega arith) small (record { digest = ap Some root; under = tt; lies = lies }) b in
     record { nodes = s.nodes; flat = s.flat; texts = s.texts; leads = some s.nodes s.leads }
   where
-    some : (ns : List FlatNode) → Leads k (first_expected d) ns (map_get (entries_pairs es) k) → LeadsFrom d k ns (map_get (entries_pairs es) k)
+    some : (ns : List FlatNode) → Leads k (first_expected d) ns (looked format (entries_pairs es) k) → LeadsFrom d k ns (looked format (entries_pairs es) k)
     some [] l = absurd l
     some (n ∷ ns) l = l
 
-pub proof_accepted : (m : List Pair) (d k proof : List ℕ) → IsBytes proof → HasRoot m d → proof ≡ proof_text One m k → Accepted d k proof (map_get m k)
-proof_accepted m d k proof b has is =
-    let t = tree One m in
+-- the values of a map are within their limits
+value_fits : (m : List Pair) (k v : List ℕ) → AllByRecursion (λ p. IsKey p.0 × IsValue p.1) m → map_get m k ≡ Some v → IsValue v
+value_fits [] k v limits e = absurd (cc)
+value_fits (p ∷ m) k v limits e = go (is_eq (key_cmp p.0 k)) e (value_fits m k v limits.1)
+  where
+    go : (t : Bool) → cond t (Some p.1) (map_get m k) ≡ Some v → (map_get m k ≡ Some v → IsValue v) → IsValue v
+    go true e later = subst IsValue (some_same p.1 v e) limits.0.1
+    go false e later = later e
+
+is_answer : (format : Format) (m : List Pair) (k : List ℕ) → IsMap m → IsAnswer format (map_get m k)
+is_answer One m k map = tt
+is_answer Two m k map = go (map_get m k) refl
+  where
+    go : (a : Option (List ℕ)) → map_get m k ≡ a → IsAnswer Two a
+    go None e = tt
+    go (Some v) e = value_fits m k v map.limits e
+
+pub proof_accepted : (format : Format) (m : List Pair) (d k proof : List ℕ) → IsBytes proof → HasRoot format m d → proof ≡ proof_text format m k → Accepted format d k proof (map_get m k)
+proof_accepted format m d k proof b has is =
+    let t = tree format m in
     let ts = map text (nodes_met k t) in
-    let bytes : IsBytes (proof_text One m k) = subst IsBytes is b in
-    let all : AllBytes ts = texts_bytes ts (bytes-split (framed ts) [] bytes.1.1).0 in
-    let rise : IsAscending (pairs t) = subst IsAscending (sym (pairs_tree One m)) has.map.ascending in
-    let s = map_leads d k t has.root (small_tree m d has) (lies_between t None None rise (between_none (pairs t))) all in
+    let bytes : IsBytes (proof_text format m k) = subst IsBytes is b in
+    let all : AllBytes ts = texts_bytes ts (bytes-split (framed ts) _ bytes.1.1).0 in
+    let rise : IsAscending (pairs t) = subst IsAscending (sym (pairs_tree format m)) has.map.ascending in
+    let s = map_leads format d k t has.root (small_tree format m d has) (lies_between t None None rise (between_none (pairs t))) all in
     let few : length ts < 256 = bytes.1.0 in
     record {
       nodes = s.nodes;
       flat = s.flat;
       few = subst (λ (n : ℕ). n < 256) (ap length s.texts ∙ length-map s.nodes spelling) few;
-      frames = is ∙ ap (λ (us : List (List ℕ)). framing One us (map_get m k)) s.texts;
-      leads = subst (λ (p : List Pair). LeadsFrom d k s.nodes (map_get p k)) (pairs_tree One m) s.leads;
+      frames = is ∙ ap (λ (us : List (List ℕ)). framing format us (map_get m k)) s.texts;
+      leads = subst (λ (p : List Pair). LeadsFrom d k s.nodes (looked format p k)) (pairs_tree format m) s.leads;
+      fit = is_answer format m k has.map;
     }
 
 -- ---- another answer
 
--- the texts that are named, of a proof of these texts
-abbrev named : List (List ℕ) → Tree → List (List ℕ)
-named ts t = ts ++ (map text (nodes t) ++ [] ∷ [])
+-- the texts that are named, of a proof of these texts, with these values
+abbrev pub named : List (List ℕ) → List (List ℕ) → Tree → List (List ℕ)
+named vs ts t = ts ++ (map text (nodes t) ++ [] ∷ vs)
 
-named_text : (ts : List (List ℕ)) (t : Tree) (u : List ℕ) → Contains ts u → Contains (named ts t) u
-named_text ts t u has = Contains-append_left ts (map text (nodes t) ++ [] ∷ []) u has
+pub named_text : (vs ts : List (List ℕ)) (t : Tree) (u : List ℕ) → Contains ts u → Contains (named vs ts t) u
+named_text vs ts t u has = Contains-append_left ts (map text (nodes t) ++ [] ∷ vs) u has
 
-named_node : (ts : List (List ℕ)) (t u : Tree) → Contains (nodes t) u → Contains (named ts t) (text u)
-named_node ts t u has = Contains-append_right ts (map text (nodes t) ++ [] ∷ []) (text u) (Contains-append_left (map text (nodes t)) ([] ∷ []) (text u) (has_mapped text (nodes t) u has))
+pub named_node : (vs ts : List (List ℕ)) (t u : Tree) → Contains (nodes t) u → Contains (named vs ts t) (text u)
+named_node vs ts t u has = Contains-append_right ts (map text (nodes t) ++ [] ∷ vs) (text u) (Contains-append_left (map text (nodes t)) ([] ∷ vs) (text u) (has_mapped text (nodes t) u has))
 
-named_empty : (ts : List (List ℕ)) (t : Tree) → Contains (named ts t) []
-named_empty ts t = Contains-append_right ts (map text (nodes t) ++ [] ∷ []) [] (Contains-append_right (map text (nodes t)) ([] ∷ []) [] (has_first [] []))
+pub named_empty : (vs ts : List (List ℕ)) (t : Tree) → Contains (named vs ts t) []
+named_empty vs ts t = Contains-append_right ts (map text (nodes t) ++ [] ∷ vs) [] (Contains-append_right (map text (nodes t)) ([] ∷ vs) [] (has_first [] vs))
+
+pub named_value : (vs ts : List (List ℕ)) (t : Tree) (v : List ℕ) → Contains vs v → Contains (named vs ts t) v
+named_value vs ts t v has = Contains-append_right ts (map text (nodes t) ++ [] ∷ vs) v (Contains-append_right (map text (nodes t)) ([] ∷ vs) v (has_later [] vs v has))
 
 -- the answer is that of the tree, or the texts have a collision
-tree_answer : (t : Tree) (d k : List ℕ) (ns : List FlatNode) (a : Option (List ℕ)) → AllFlat ns → AllBytes (map spelling ns) → LeadsFrom d k ns a → IsSmall t → d ≡ digest t → (a ≡ map_get (pairs t) k) ⊎ HasCollision (named (map spelling ns) t)
-tree_answer empty d k [] a flats b l small root = inl l.1
-tree_answer (node f m es) d k [] a flats b l small root =
+tree_answer : (format : Format) (vs : List (List ℕ)) (t : Tree) (d k : List ℕ) (ns : List FlatNode) (a : Option (List ℕ)) → AllFlat format ns → AllBytes (map spelling ns) → LeadsFrom d k ns a → IsSmall format t → d ≡ digest t → (a ≡ looked format (pairs t) k) ⊎ HasCollision (named vs (map spelling ns) t)
+tree_answer format vs empty d k [] a flats b l small root = inl l.1
+tree_answer format vs (node f m es) d k [] a flats b l small root =
     let t = node f m es in
     let c : Collision [] (text t) = record { differ = λ e. cc (e); same = sym l.0 ∙ root } in
-    inr ([], text t, named_empty [] t, named_node [] t t (has_first t (nodes_below es)), c)
-tree_answer empty d k (n ∷ ns) a flats b l small root =
+    inr ([], text t, named_empty vs [] t, named_node vs [] t t (has_first t (nodes_below es)), c)
+tree_answer format vs empty d k (n ∷ ns) a flats b l small root =
     let c : Collision (spelling n) [] = record { differ = λ e. cc (e); same = l.0.digest ∙ root } in
-    inr (spelling n, [], named_text (map spelling (n ∷ ns)) empty (spelling n) (has_first (spelling n) (map spelling ns)), named_empty (map spelling (n ∷ ns)) empty, c)
-tree_answer (node f m es) d k (n ∷ ns) a flats b l small root =
-    elim (sound (n ∷ ns) k (first_expected d) a (node f m es) flats b l small (ap Some root)) [
+    inr (spelling n, [], named_text vs (map spelling (n ∷ ns)) empty (spelling n) (has_first (spelling n) (map spelling ns)), named_empty vs (map spelling (n ∷ ns)) empty, c)
+tree_answer format vs (node f m es) d k (n ∷ ns) a flats b l small root =
+    elim (sound format (n ∷ ns) k (first_expected d) a (node f m es) flats b l small (ap Some root)) [
       | inl e ↦ inl e
-      | inr c ↦ inr (c.one, text c.other, named_text (map spelling (n ∷ ns)) (node f m es) c.one c.one_in, named_node (map spelling (n ∷ ns)) (node f m es) c.other c.other_in, c.collision)
+      | inr c ↦ inr (c.one, text c.other, named_text vs (map spelling (n ∷ ns)) (node f m es) c.one c.one_in, named_node vs (map spelling (n ∷ ns)) (node f m es) c.other c.other_in, c.collision)
     ]
 
-pub other_answer : (m : List Pair) (d k proof : List ℕ) (a : Option (List ℕ)) → IsBytes proof → HasRoot m d → Accepted d k proof a → a ≢ map_get m k → HasCollision (texts_named proof (tree One m))
-other_answer m d k proof a b has acc other =
-    let t = tree One m in
+-- a value of the map
+value_in : (m : List Pair) (k v : List ℕ) → map_get m k ≡ Some v → Contains (map (λ p. p.1) m) v
+value_in [] k v e = absurd (cc)
+value_in (p ∷ m) k v e = go (is_eq (key_cmp p.0 k)) e (value_in m k v)
+  where
+    go : (t : Bool) → cond t (Some p.1) (map_get m k) ≡ Some v → (map_get m k ≡ Some v → Contains (map (λ p. p.1) m) v) → Contains (p.1 ∷ map (λ p. p.1) m) v
+    go true e later = subst (Contains (p.1 ∷ map (λ p. p.1) m)) (some_same p.1 v e) (has_first p.1 (map (λ p. p.1) m))
+    go false e later = has_later p.1 (map (λ p. p.1) m) v (later e)
+
+-- the value that is claimed, and the one that the map has, are named
+pub claimed_in : (proof : List ℕ) (t : Tree) (v : List ℕ) → value_of (frame_at Two proof) ≡ v ∷ [] → Contains (values_named Two proof t) v
+claimed_in proof t v claims = Contains-append_left (value_of (frame_at Two proof)) (map (λ p. p.1) (pairs t)) v (subst (λ (us : List (List ℕ)). Contains us v) (sym claims) (has_first v []))
+
+pub value_among : (proof : List ℕ) (t : Tree) (k w : List ℕ) → map_get (pairs t) k ≡ Some w → Contains (values_named Two proof t) w
+value_among proof t k w is = Contains-append_right (value_of (frame_at Two proof)) (map (λ p. p.1) (pairs t)) w (value_in (pairs t) k w is)
+
+-- the values of two answers are a collision
+pub record AnswersCollide (a b : Option (List ℕ)) : Type 0 where
+  pub one : List ℕ
+  pub other : List ℕ
+  pub one_is : a ≡ Some one
+  pub other_is : b ≡ Some other
+  pub collision : Collision one other
+
+-- two answers of which the same is held in format 2 are one, or their values collide
+pub one_answer : (a b : Option (List ℕ)) → held_answer Two a ≡ held_answer Two b → (a ≡ b) ⊎ AnswersCollide a b
+one_answer None None e = inl refl
+one_answer None (Some w) e = absurd (cc)
+one_answer (Some v) None e = absurd (cc)
+one_answer (Some v) (Some w) e = at (bytes_eq v w) refl
+  where
+    at : (b : Bool) → bytes_eq v w ≡ b → (Some v ≡ Some w) ⊎ AnswersCollide (Some v) (Some w)
+    at true same = inl (ap Some ((bytes_eq-Decides v w).0 same))
+    at false apart =
+        let c : Collision v w = record { differ = not_from_Decides (bytes_eq v w) (bytes_eq-Decides v w) apart; same = some_same (digest_of v) (digest_of w) e } in
+        inr (record { one = v; other = w; one_is = refl; other_is = refl; collision = c })
+
+-- an answer of which the map's is held is the map's, or the values of both collide
+held_same : (format : Format) (proof : List ℕ) (t : Tree) (ts : List (List ℕ)) (k : List ℕ) (a : Option (List ℕ)) → frame_at format proof ≡ Ok (ts, claim_of format a) → held_answer format a ≡ looked format (pairs t) k → (a ≡ map_get (pairs t) k) ⊎ HasCollision (named (values_named format proof t) ts t)
+held_same One proof t ts k a frame e = inl (held_one a ∙ e ∙ sym (held_one (map_get (pairs t) k)))
+held_same Two proof t ts k a frame e =
+    let vs = values_named Two proof t in
+    elim (one_answer a (map_get (pairs t) k) e) [
+      | inl same ↦ inl same
+      | inr c ↦
+          let claims : value_of (frame_at Two proof) ≡ c.one ∷ [] = ap value_of frame ∙ ap (λ (x : Option (List ℕ)). claimed (claim_of Two x)) c.one_is in
+          inr (c.one, c.other, named_value vs ts t c.one (claimed_in proof t c.one claims), named_value vs ts t c.other (value_among proof t k c.other c.other_is), c.collision)
+    ]
+
+pub other_answer : (format : Format) (m : List Pair) (d k proof : List ℕ) (a : Option (List ℕ)) → IsBytes proof → HasRoot format m d → Accepted format d k proof a → a ≢ map_get m k → HasCollision (texts_named format proof (tree format m))
+other_answer format m d k proof a b has acc other =
+    let t = tree format m in
     let ts = map spelling acc.nodes in
-    let bytes : IsBytes (framing One ts a) = subst IsBytes acc.frames b in
-    let all : AllBytes ts = texts_bytes ts (bytes-split (framed ts) [] bytes.1.1).0 in
-    let frame : texts_of proof ≡ ts = ap or_none (frame_accepted d k proof a acc) in
-    elim (tree_answer t d k acc.nodes a acc.flat all acc.leads (small_tree m d has) has.root) [
-      | inl e ↦ absurd (other (e ∙ ap (λ (p : List Pair). map_get p k) (pairs_tree One m)))
-      | inr c ↦ subst (λ (us : List (List ℕ)). HasCollision (named us t)) (sym frame) c
+    let vs = values_named format proof t in
+    let bytes : IsBytes (framing format ts a) = subst IsBytes acc.frames b in
+    let all : AllBytes ts = texts_bytes ts (bytes-split (framed ts) _ bytes.1.1).0 in
+    let framed_so = frame_accepted format d k proof a acc in
+    let frame : texts_of format proof ≡ ts = ap or_none framed_so in
+    let found : HasCollision (named vs ts t) → HasCollision (texts_named format proof t) = λ c. subst (λ (us : List (List ℕ)). HasCollision (named vs us t)) (sym frame) c in
+    elim (tree_answer format vs t d k acc.nodes (held_answer format a) acc.flat all acc.leads (small_tree format m d has) has.root) [
+      | inl e ↦ elim (held_same format proof t ts k a framed_so e) [
+        | inl same ↦ absurd (other (same ∙ ap (λ (p : List Pair). map_get p k) (pairs_tree format m)))
+        | inr c ↦ found c
+      ]
+      | inr c ↦ found c
     ]

@@ -1,10 +1,12 @@
 -- When a proof is accepted for a root digest and a key, with an answer.
-use Rattle.std.specs.Prelude.{◌≡◌, ◌<◌, ◌⊎◌, ℕ, List, [], ◌∷◌, ◌++◌, Option, Some, None, length, map, IfSome}
+use Rattle.mst_key.specs.declared.format.Format.{Format}
+use Rattle.std.specs.Prelude.{◌≡◌, ◌<◌, ◌⊎◌, ℕ, List, [], ◌∷◌, ◌++◌, Option, Some, None, length, map, IfSome, option_map}
 use Rattle.std.specs.List.{AllByRecursion}
 use Rattle.std.specs.declared.cmp.Ordering.TheVariants.{Less}
-use Rattle.mst_key.specs.declared.format.Format.TheVariants.{One}
+use Rattle.mst_key.specs.declared.format.Format.TheVariants.{One, Two}
+use Rattle.mst_key.specs.Bytes.{IsValue}
 use Rattle.mst_key.specs.Map.{key_cmp}
-use Rattle.mst_node.specs.Text.{FlatEntry, FlatNode, spelling, digest_of}
+use Rattle.mst_node.specs.Text.{FlatEntry, FlatNode, spelling, digest_of, held_of}
 use Rattle.mst_node.specs.Gaps.{IsBetween}
 use Rattle.mst_node.specs.Grammar.{IsFlatNode}
 use Rattle.mst_node.specs.Trail.{framing}
@@ -83,10 +85,20 @@ abbrev pub LeadsFrom : List ℕ → List ℕ → List FlatNode → Option (List 
 LeadsFrom root k [] a = (root ≡ digest_of []) × (a ≡ None)
 LeadsFrom root k (n ∷ ns) a = Leads k root None None None (n ∷ ns) a
 
+-- what a node holds of an answer: the value in format 1, its SHA-256 in format 2
+abbrev pub held_answer : Format → Option (List ℕ) → Option (List ℕ)
+held_answer format a = option_map (held_of format) a
+
+-- in format 2 the proof may claim a value of any length
+abbrev pub IsAnswer : Format → Option (List ℕ) → Type 0
+IsAnswer One a = Unit {0}
+IsAnswer Two a = IfSome a IsValue
+
 -- the bytes frame the texts of flat nodes that lead from the root to the answer
-pub record Accepted (root k bytes : List ℕ) (a : Option (List ℕ)) : Type 0 where
+pub record Accepted (format : Format) (root k bytes : List ℕ) (a : Option (List ℕ)) : Type 0 where
   pub nodes : List FlatNode
-  pub flat : AllByRecursion (λ n. (n.format ≡ One) × IsFlatNode n) nodes
+  pub flat : AllByRecursion (λ n. (n.format ≡ format) × IsFlatNode n) nodes
   pub few : length nodes < 256
-  pub frames : bytes ≡ framing One (map spelling nodes) a
-  pub leads : LeadsFrom root k nodes a
+  pub frames : bytes ≡ framing format (map spelling nodes) a
+  pub leads : LeadsFrom root k nodes (held_answer format a)
+  pub fit : IsAnswer format a

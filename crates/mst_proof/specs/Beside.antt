@@ -1,7 +1,7 @@
 -- A proof beside the tree of the map.
-use Rattle.std.specs.Prelude.{◌≡◌, ◌≤◌, ℕ, List, Option, Some, None, length, Contains}
+use Rattle.mst_key.specs.declared.format.Format.{Format}
+use Rattle.std.specs.Prelude.{◌≡◌, ◌≤◌, ◌⊎◌, ℕ, List, Option, Some, None, length, Contains}
 use Rattle.std.specs.declared.result.Result.TheVariants.{Ok}
-use Rattle.mst_key.specs.declared.format.Format.TheVariants.{One}
 use Rattle.mst_key.specs.Map.{key_cmp, IsMap, map_get}
 use Rattle.mst_node.specs.declared.node.Node.{Node}
 use Rattle.mst_node.specs.Tree.{Tree, empty, node, Entries, last, entry, pairs, nodes, IsMst}
@@ -10,12 +10,17 @@ use Rattle.mst_node.specs.Text.{digest, text}
 use Rattle.mst_node.specs.Trail.{by_order}
 use Rattle.mst_node.specs.Collision.{Collision}
 use Rattle.mst_proof.specs.declared.expected.Expected.{Expected}
-use Rattle.mst_proof.specs.Verdict.{followed, verdict}
+use Rattle.mst_key.specs.Map.{Pair}
+use Rattle.mst_proof.specs.Accepted.{held_answer}
+use Rattle.mst_proof.specs.declared.claim.Claim.{Claim}
+use Rattle.mst_proof.specs.declared.claim.Claim.TheVariants.{Given}
+use Rattle.mst_proof.specs.Frame.{◌>>◌}
+use Rattle.mst_proof.specs.Verdict.{followed, settled, verdict}
 
 -- the tree below a node, which need not be there
-abbrev pub top_of : {A : Type 0} → Option (Node A) → Tree
-top_of None = empty
-top_of (Some n) = tree_of One n
+abbrev pub top_of : (format : Format) {A : Type 0} → Option (Node A) → Tree
+top_of format None = empty
+top_of format (Some n) = tree_of format n
 
 -- the tree in the key's gap; none where an entry holds the key
 abbrev pub gap_in : List ℕ → Entries → Tree
@@ -26,22 +31,35 @@ abbrev pub gap_tree : List ℕ → Tree → Tree
 gap_tree k empty = empty
 gap_tree k (node format l es) = gap_in k es
 
+-- the value of the entry that holds the key; none where the key lies in a gap
+abbrev pub held_in : List ℕ → Entries → Option (List ℕ)
+held_in k (last child) = None
+held_in k (entry child key value rest) = by_order (key_cmp k key) None (Some value) (held_in k rest)
+
+abbrev pub held_value : List ℕ → Tree → Option (List ℕ)
+held_value k empty = None
+held_value k (node format l es) = held_in k es
+
 -- a tree of a map of at most 65,535 pairs
-pub record IsSmall (t : Tree) : Type 0 where
-  pub mst : IsMst One t
+pub record IsSmall (format : Format) (t : Tree) : Type 0 where
+  pub mst : IsMst format t
   pub map : IsMap (pairs t)
   pub few : length (pairs t) ≤ 65535
 
 -- for a tree's digest the proof shows no answer but that of the tree's pairs
-abbrev pub ShowsNoOther : Tree → List ℕ → List ℕ → Type 0
-ShowsNoOther t k proof =
-    (answer : Option (List ℕ)) → verdict (digest t) k proof ≡ Ok answer
+abbrev pub ShowsNoOther : (format : Format) → Tree → List ℕ → List ℕ → Type 0
+ShowsNoOther format t k proof =
+    (answer : Option (List ℕ)) → verdict format (digest t) k proof ≡ Ok answer
     → answer ≡ map_get (pairs t) k
 
--- so do these texts, whatever is expected of the first beside that digest
-abbrev pub NoOther : Tree → List ℕ → List (List ℕ) → Type 0
-NoOther t k ts = (x : Expected) (answer : Option (List ℕ)) → x.digest ≡ digest t
-    → followed k x ts ≡ Ok answer → answer ≡ map_get (pairs t) k
+-- what a node holds of a map's answer
+abbrev pub looked : Format → List Pair → List ℕ → Option (List ℕ)
+looked format m k = held_answer format (map_get m k)
+
+-- so do these texts with this claim, whatever is expected of the first text beside that digest
+abbrev pub NoOther : (format : Format) → Claim → Tree → List ℕ → List (List ℕ) → Type 0
+NoOther format claim t k ts = (x : Expected) (answer : Option (List ℕ)) → x.digest ≡ digest t
+    → (followed format k x ts >> settled format claim) ≡ Ok answer → answer ≡ map_get (pairs t) k
 
 -- two of the texts are a collision: one of these texts, and that of a node of the tree
 pub record CollidesWith (ts : List (List ℕ)) (t : Tree) (one other : List ℕ) : Type 0 where
@@ -50,6 +68,17 @@ pub record CollidesWith (ts : List (List ℕ)) (t : Tree) (one other : List ℕ)
   pub at_in : Contains (nodes t) at
   pub other_is : other ≡ text at
   pub collision : Collision one other
+
+-- the value that is claimed and this one, if there is one, are a collision
+pub record ValuesCollide (claim : Claim) (value : Option (List ℕ)) (one other : List ℕ) : Type 0 where
+  pub claims : claim ≡ Given one
+  pub other_is : value ≡ Some other
+  pub collision : Collision one other
+
+-- two of the texts are a collision, or the value that is claimed and the tree's value of the key
+abbrev pub CollidesBeside : Claim → List ℕ → List (List ℕ) → Tree → List ℕ → List ℕ → Type 0
+CollidesBeside claim k ts t one other =
+    CollidesWith ts t one other ⊎ ValuesCollide claim (map_get (pairs t) k) one other
 
 -- two of the texts that are named are a collision
 pub record CollidesAmong (ts : List (List ℕ)) (one other : List ℕ) : Type 0 where

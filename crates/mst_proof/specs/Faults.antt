@@ -1,61 +1,75 @@
--- Which tests a proof has passed when a fault is answered: those of its frame, and then those of
--- each text in turn.
-use Rattle.std.specs.Prelude.{◌≡◌, ◌≢◌, ◌⊎◌, ◌<◌, ◌^◌, ℕ, List, [], ◌∷◌, ◌++◌, Option, None, length, IfSome}
+-- Which tests a proof has passed when a fault is answered: those of its frame, then those of each
+-- text in turn, and last that of its claim.
+use Rattle.mst_key.specs.declared.format.Format.{Format}
+use Rattle.std.specs.Prelude.{◌≡◌, ◌≢◌, ◌⊎◌, ◌<◌, ◌^◌, ℕ, List, [], ◌∷◌, ◌++◌, Option, None, length, map, IfSome}
 use Rattle.std.specs.List.{AllByRecursion}
-use Rattle.mst_key.specs.declared.format.Format.TheVariants.{One}
-use Rattle.mst_node.specs.Text.{FlatEntry, FlatNode, spelling, digest_of}
+use Rattle.mst_key.specs.declared.format.Format.TheVariants.{One, Two}
+use Rattle.mst_node.specs.Text.{FlatEntry, FlatNode, spelling, digest_of, version}
 use Rattle.mst_node.specs.Gaps.{IsBetween}
 use Rattle.mst_node.specs.Grammar.{IsFlatNode, InGrammar}
-use Rattle.mst_node.specs.Trail.{framed}
+use Rattle.mst_node.specs.Trail.{framed, answer_text}
 use Rattle.mst_proof.specs.declared.fault.ProofFault.{ProofFault}
-use Rattle.mst_proof.specs.declared.fault.ProofFault.TheVariants.{Version, CutShort, LeftOver, NoNode, OtherDigest, LayerNotBelow, KeyOutside, Unfinished, TextBehind}
-use Rattle.mst_proof.specs.Accepted.{IsExpected, Holds, IsInGap, gap_child, LeadsOn}
+use Rattle.mst_proof.specs.declared.fault.ProofFault.TheVariants.{Version, CutShort, LeftOver, NoNode, OtherDigest, LayerNotBelow, KeyOutside, Unfinished, TextBehind, OtherValue}
+use Rattle.mst_proof.specs.Accepted.{IsExpected, Holds, IsInGap, gap_child, LeadsOn, LeadsFrom, held_answer, IsAnswer}
 
 -- ---- the frame
 
+-- A tail, which claims an answer. In format 1 it has no byte. In format 2 it is one byte that is not
+-- 1, or a byte 1 and a value behind its length
+abbrev pub IsTail : Format → List ℕ → Type 0
+IsTail One tail = tail ≡ []
+IsTail Two tail = ((b : ℕ) × (b ≢ 1) × (tail ≡ b ∷ []))
+    ⊎ ((value : List ℕ) × (tail ≡ 1 ∷ length value ∷ value))
+
 -- the bytes are the version, the number of these texts, the texts, each behind its length in four
--- bytes, and the rest
-abbrev pub Frames : List ℕ → List (List ℕ) → List ℕ → Type 0
-Frames bytes texts rest = bytes ≡ 1 ∷ length texts ∷ framed texts ++ rest
+-- bytes, the tail, and the rest
+abbrev pub Frames : Format → List ℕ → List (List ℕ) → List ℕ → List ℕ → Type 0
+Frames format bytes texts tail rest =
+    bytes ≡ version format ∷ length texts ∷ framed texts ++ (tail ++ rest)
 
 -- The first byte is not the version; or no front of the bytes frames texts, each of which is
--- shorter than 2^32 bytes; or bytes are left over.
-abbrev pub FrameFails : List ℕ → ProofFault → Type 0
-FrameFails bytes Version = (v : ℕ) × (rest : List ℕ) × (bytes ≡ v ∷ rest) × (v ≢ 1)
-FrameFails bytes CutShort =
-    ((v : ℕ) (rest : List ℕ) → bytes ≡ v ∷ rest → v ≡ 1)
-    × ((texts : List (List ℕ)) (rest : List ℕ)
-    → AllByRecursion (λ t. length t < 2 ^ 32) texts → Frames bytes texts rest → ⊥)
-FrameFails bytes LeftOver =
-    (texts : List (List ℕ)) × (b : ℕ) × (rest : List ℕ) × Frames bytes texts (b ∷ rest)
-FrameFails bytes NoNode = ⊥
-FrameFails bytes OtherDigest = ⊥
-FrameFails bytes LayerNotBelow = ⊥
-FrameFails bytes KeyOutside = ⊥
-FrameFails bytes Unfinished = ⊥
-FrameFails bytes TextBehind = ⊥
+-- shorter than 2^32 bytes, and a tail; or bytes are left over.
+abbrev pub FrameFails : Format → List ℕ → ProofFault → Type 0
+FrameFails format bytes Version =
+    (v : ℕ) × (rest : List ℕ) × (bytes ≡ v ∷ rest) × (v ≢ version format)
+FrameFails format bytes CutShort =
+    ((v : ℕ) (rest : List ℕ) → bytes ≡ v ∷ rest → v ≡ version format)
+    × ((texts : List (List ℕ)) (tail rest : List ℕ)
+    → AllByRecursion (λ t. length t < 2 ^ 32) texts → IsTail format tail
+    → Frames format bytes texts tail rest → ⊥)
+FrameFails format bytes LeftOver =
+    (texts : List (List ℕ)) × (tail : List ℕ) × (b : ℕ) × (rest : List ℕ) × IsTail format tail
+    × Frames format bytes texts tail (b ∷ rest)
+FrameFails format bytes NoNode = ⊥
+FrameFails format bytes OtherDigest = ⊥
+FrameFails format bytes LayerNotBelow = ⊥
+FrameFails format bytes KeyOutside = ⊥
+FrameFails format bytes Unfinished = ⊥
+FrameFails format bytes TextBehind = ⊥
+FrameFails format bytes OtherValue = ⊥
 
 -- ---- one text
 
 -- the text is in the grammar and spells the flat node
-abbrev pub Spells : List ℕ → FlatNode → Type 0
-Spells text n = (n.format ≡ One) × IsFlatNode n × (text ≡ spelling n)
+abbrev pub Spells : (format : Format) → List ℕ → FlatNode → Type 0
+Spells format text n = (n.format ≡ format) × IsFlatNode n × (text ≡ spelling n)
 
 -- the text has passed the tests that come before the one of the fault, and fails that one
-abbrev pub FailsBy : List ℕ → Option ℕ → Option (List ℕ) → Option (List ℕ)
+abbrev pub FailsBy : (format : Format) → List ℕ → Option ℕ → Option (List ℕ) → Option (List ℕ)
     → List ℕ → ProofFault → Type 0
-FailsBy d upper low high text NoNode = InGrammar One text → ⊥
-FailsBy d upper low high text OtherDigest = InGrammar One text × (digest_of text ≢ d)
-FailsBy d upper low high text LayerNotBelow =
-    (n : FlatNode) × Spells text n × (digest_of text ≡ d) × (IfSome upper (λ u. n.layer < u) → ⊥)
-FailsBy d upper low high text KeyOutside =
-    (n : FlatNode) × Spells text n × (digest_of text ≡ d) × IfSome upper (λ u. n.layer < u)
+FailsBy format d upper low high text NoNode = InGrammar format text → ⊥
+FailsBy format d upper low high text OtherDigest = InGrammar format text × (digest_of text ≢ d)
+FailsBy format d upper low high text LayerNotBelow =
+    (n : FlatNode) × Spells format text n × (digest_of text ≡ d) × (IfSome upper (λ u. n.layer < u) → ⊥)
+FailsBy format d upper low high text KeyOutside =
+    (n : FlatNode) × Spells format text n × (digest_of text ≡ d) × IfSome upper (λ u. n.layer < u)
     × (AllByRecursion (λ e. IsBetween low high e.key) n.entries → ⊥)
-FailsBy d upper low high text Version = ⊥
-FailsBy d upper low high text CutShort = ⊥
-FailsBy d upper low high text LeftOver = ⊥
-FailsBy d upper low high text Unfinished = ⊥
-FailsBy d upper low high text TextBehind = ⊥
+FailsBy format d upper low high text Version = ⊥
+FailsBy format d upper low high text CutShort = ⊥
+FailsBy format d upper low high text LeftOver = ⊥
+FailsBy format d upper low high text Unfinished = ⊥
+FailsBy format d upper low high text TextBehind = ⊥
+FailsBy format d upper low high text OtherValue = ⊥
 
 -- ---- the texts
 
@@ -67,21 +81,38 @@ Decides k n = ((v : List ℕ) × Holds n k v)
 
 -- No text is left although one is expected; or the first text fails a test; or it decides the key
 -- and another text follows; or it leads on, and what is left fails.
-abbrev pub FailAt : List ℕ → List ℕ → Option ℕ → Option (List ℕ) → Option (List ℕ)
+abbrev pub FailAt : (format : Format) → List ℕ → List ℕ → Option ℕ → Option (List ℕ) → Option (List ℕ)
     → List (List ℕ) → ProofFault → Type 0
-FailAt k d upper low high [] fault = fault ≡ Unfinished
-FailAt k d upper low high (t ∷ ts) fault =
-    FailsBy d upper low high t fault
-    ⊎ ((n : FlatNode) × Spells t n × IsExpected d upper low high n
+FailAt format k d upper low high [] fault = fault ≡ Unfinished
+FailAt format k d upper low high (t ∷ ts) fault =
+    FailsBy format d upper low high t fault
+    ⊎ ((n : FlatNode) × Spells format t n × IsExpected d upper low high n
     × ((Decides k n × (ts ≢ []) × (fault ≡ TextBehind)) ⊎ LeadsOn k low high n
-    (λ d u l h. FailAt k d u l h ts fault)))
+    (λ d u l h. FailAt format k d u l h ts fault)))
 
 -- where there are no texts the root is not that of the empty map
-abbrev pub TextsFail : List ℕ → List ℕ → List (List ℕ) → ProofFault → Type 0
-TextsFail root k [] fault = (root ≢ digest_of []) × (fault ≡ OtherDigest)
-TextsFail root k (t ∷ ts) fault = FailAt k root None None None (t ∷ ts) fault
+abbrev pub TextsFail : (format : Format) → List ℕ → List ℕ → List (List ℕ) → ProofFault → Type 0
+TextsFail format root k [] fault = (root ≢ digest_of []) × (fault ≡ OtherDigest)
+TextsFail format root k (t ∷ ts) fault = FailAt format k root None None None (t ∷ ts) fault
 
--- the frame fails, or all of it is well and the texts fail
-abbrev pub ProofFails : List ℕ → List ℕ → List ℕ → ProofFault → Type 0
-ProofFails root k proof fault = FrameFails proof fault
-    ⊎ ((texts : List (List ℕ)) × Frames proof texts [] × TextsFail root k texts fault)
+-- ---- the answer
+
+-- the texts are those of flat nodes, the last of which holds this of the key
+abbrev pub Show : Format → List ℕ → List ℕ → List (List ℕ) → Option (List ℕ) → Type 0
+Show format root k texts held = (nodes : List FlatNode)
+    × AllByRecursion (λ n. (n.format ≡ format) × IsFlatNode n) nodes
+    × (texts ≡ map spelling nodes) × LeadsFrom root k nodes held
+
+-- the texts show what is held of the key, and the tail claims no answer of which that is held
+abbrev pub SettleFails : Format → List ℕ → List ℕ → List (List ℕ) → List ℕ → ProofFault → Type 0
+SettleFails format root k texts tail fault = (fault ≡ OtherValue)
+    × ((held : Option (List ℕ)) × Show format root k texts held
+    × ((answer : Option (List ℕ)) → IsAnswer format answer → tail ≡ answer_text format answer
+    → held ≡ held_answer format answer → ⊥))
+
+-- the frame fails, or all of it is well and the texts fail, or these are well and the claim fails
+abbrev pub ProofFails : Format → List ℕ → List ℕ → List ℕ → ProofFault → Type 0
+ProofFails format root k proof fault = FrameFails format proof fault
+    ⊎ ((texts : List (List ℕ)) × (tail : List ℕ) × IsTail format tail
+    × Frames format proof texts tail []
+    × (TextsFail format root k texts fault ⊎ SettleFails format root k texts tail fault))

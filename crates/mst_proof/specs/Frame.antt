@@ -1,5 +1,10 @@
 -- How the texts of a proof are cut out of its bytes.
-use Rattle.std.specs.Prelude.{ℕ, zero, suc, ◌==◌, if◌then◌else◌, List, [], ◌∷◌, Option, Some, None, unwrap_or}
+use Rattle.std.specs.Prelude.{ℕ, zero, suc, ◌==◌, nat_lt, nat_le, if◌then◌else◌, List, [], ◌∷◌, length, take, drop, Option, Some, None, unwrap_or}
+use Rattle.mst_key.specs.declared.format.Format.{Format}
+use Rattle.mst_key.specs.declared.format.Format.TheVariants.{One, Two}
+use Rattle.mst_node.specs.Text.{version as version_of}
+use Rattle.mst_proof.specs.declared.claim.Claim.{Claim}
+use Rattle.mst_proof.specs.declared.claim.Claim.TheVariants.{Nothing, Absence, Given, Unfit}
 use Rattle.std.specs.Int.{w32, from_be_bytes}
 use Rattle.std.specs.declared.result.Result.{Result}
 use Rattle.std.specs.declared.result.Result.TheVariants.{Ok, Err}
@@ -42,16 +47,43 @@ count_at [] = Err CutShort
 count_at (n ∷ bytes) = Ok (n, bytes)
 
 -- behind the version: the number of texts, and the bytes that frame them
-abbrev pub heading_at : List ℕ → Result (ℕ × List ℕ) ProofFault
-heading_at [] = Err CutShort
-heading_at (v ∷ bytes) = if v == 1 then count_at bytes else Err Version
+abbrev pub heading_at : Format → List ℕ → Result (ℕ × List ℕ) ProofFault
+heading_at format [] = Err CutShort
+heading_at format (v ∷ bytes) = if v == version_of format then count_at bytes else Err Version
 
--- texts with no byte left over
-abbrev pub alone : Option (List (List ℕ) × List ℕ) → Result (List (List ℕ)) ProofFault
-alone None = Err CutShort
-alone (Some (texts, [])) = Ok texts
-alone (Some (texts, b ∷ bytes)) = Err LeftOver
+-- ---- the tail, which claims an answer
 
--- the texts that a proof frames, or the first fault of its frame
-abbrev pub frame_at : List ℕ → Result (List (List ℕ)) ProofFault
-frame_at proof = heading_at proof >> λ h. alone (texts_at h.0 h.1)
+-- a claim with no byte left over
+abbrev pub alone : Claim → List ℕ → Result Claim ProofFault
+alone claim [] = Ok claim
+alone claim (b ∷ bytes) = Err LeftOver
+
+-- the claim of a value
+abbrev pub given : List ℕ → Claim
+given value = if nat_le (length value) 64 then Given value else Unfit
+
+-- the claim of a value behind its length
+abbrev pub value_at : List ℕ → Result Claim ProofFault
+value_at [] = Err CutShort
+value_at (n ∷ bytes) =
+    if nat_lt (length bytes) n then Err CutShort else alone (given (take n bytes)) (drop n bytes)
+
+-- what stands behind the texts: nothing in format 1; in format 2 a byte 0 for absence, or a byte 1
+-- and a value behind its length
+abbrev pub claim_at : Format → List ℕ → Result Claim ProofFault
+claim_at One bytes = alone Nothing bytes
+claim_at Two [] = Err CutShort
+claim_at Two (b ∷ bytes) =
+    if b == 1 then value_at bytes else alone (if b == 0 then Absence else Unfit) bytes
+
+-- ---- the frame
+
+-- texts, and the claim behind them
+abbrev pub claimed_at : Format → Option (List (List ℕ) × List ℕ)
+    → Result (List (List ℕ) × Claim) ProofFault
+claimed_at format None = Err CutShort
+claimed_at format (Some t) = claim_at format t.1 >> λ claim. Ok (t.0, claim)
+
+-- the texts that a proof frames with its claim, or the first fault of its frame
+abbrev pub frame_at : Format → List ℕ → Result (List (List ℕ) × Claim) ProofFault
+frame_at format proof = heading_at format proof >> λ h. claimed_at format (texts_at h.0 h.1)

@@ -3,8 +3,8 @@ ghost use Rattle.std.specs.Prelude.{◌≡◌};
 ghost use Rattle.mst_proof.specs.Verdict.{is_under as under, first_expected, step_of as step_from, step_at};
 
 use crate::fault::ProofFault;
-use mst_key::{Key, Value};
-use mst_node::{Place, Span, digest, read_text};
+use mst_key::{Format, Key, Value};
+use mst_node::{Place, Span, digest, read_text_in};
 
 /// What is expected of the next text.
 #[derive(Debug, Drop)]
@@ -20,7 +20,7 @@ pub(crate) struct Expected {
 /// What a text says of the key.
 #[derive(Debug, Drop)]
 pub(crate) enum Step {
-    /// The key has this value, or is absent.
+    /// The node holds this of the key's value, or the key is absent.
     Decided(Option<Value>),
     /// The key lies in a gap that has a child.
     Onward(Expected),
@@ -69,10 +69,10 @@ impl Expected {
     }
 
     /// What the text says of the key, or the first test that it fails.
-    pub(crate) fn step(self, key: &Key, text: &[u8]) -> Result<Step, ProofFault>
-        ensures step { result ≡ step_at key.now self text.now }
+    pub(crate) fn step(self, format: Format, key: &Key, text: &[u8]) -> Result<Step, ProofFault>
+        ensures step { result ≡ step_at format key.now self text.now }
     {
-        let Ok(node) = read_text(text) else {
+        let Ok(node) = read_text_in(format, text) else {
             return Err(ProofFault::NoNode);
         };
         if digest(text) != self.digest {

@@ -33,4 +33,9 @@ pub enum ProofFault {
     /// A text follows although the key was decided.
     #[error("P9")]
     TextBehind,
+    /// The tail does not claim what the texts show: its first byte is neither 00 nor 01, it has a
+    /// value of more than 64 bytes or one for an absent key, or the value is not the one whose
+    /// SHA-256 the last text holds. In format 2 alone.
+    #[error("P10")]
+    OtherValue,
 }

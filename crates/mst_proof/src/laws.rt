@@ -4,7 +4,7 @@ ghost use Rattle.std.specs.declared.result.Result.TheVariants.{Err};
 ghost use Rattle.mst_key.specs.Bytes.{IsBytes};
 ghost use Rattle.mst_key.specs.Map.{Pair, IsAscending, IsMap};
 ghost use Rattle.mst_key.specs.declared.format.Format.{Format};
-ghost use Rattle.mst_key.specs.declared.format.Format.TheVariants.{One};
+ghost use Rattle.mst_key.specs.declared.format.Format.TheVariants.{One, Two};
 ghost use Rattle.mst_node.specs.Collision.{HasCollision};
 ghost use Rattle.mst_node.specs.Grammar.{InGrammar};
 ghost use Rattle.mst_node.specs.Text.{FlatNode, digest_of, root as root_of};
@@ -26,17 +26,20 @@ pub fn trail_by_spans()
         → trail format m k ≡ nodes_around k (tree format m) }
 {}
 
-/// A trail has at most 65 nodes: layers fall from node to node, from 64 at most. So the number of
-/// its texts fits the one byte that a proof has for it.
+/// A trail has at most 65 nodes in format 1, and 129 in format 2: layers fall from node to node, from
+/// 64 at most or from 128. So the number of its texts fits the one byte that a proof has for it.
 pub fn trail_is_short()
     ensures few { (m : List Pair) (k : List ℕ) → length (trail One m k) ≤ 65 }
+    ensures few_in_format_2 { (m : List Pair) (k : List ℕ) → length (trail Two m k) ≤ 129 }
 {}
 
 /// Each map of at most 65,535 pairs has its root digest, and no other digest. So what `verify` says
 /// of a map that has the root holds of each such map.
 pub fn each_map_has_its_root()
-    ensures has { (m : List Pair) → IsMap m → length m ≤ 65535 → HasRoot m (root_of One m) }
-    ensures only { (m : List Pair) (d : List ℕ) → HasRoot m d → d ≡ root_of One m }
+    ensures has { (format : Format) (m : List Pair) → IsMap m → length m ≤ 65535
+        → HasRoot format m (root_of format m) }
+    ensures only { (format : Format) (m : List Pair) (d : List ℕ) → HasRoot format m d
+        → d ≡ root_of format m }
 {}
 
 /// Two texts collide among others exactly where both are of them, differ, and have one SHA-256.
@@ -52,20 +55,21 @@ pub fn collisions_among()
 /// A text is read as the one flat node that it spells, and as none exactly where it is not in the
 /// grammar.
 pub fn texts_by_grammar()
-    ensures found { (text : List ℕ) (n : FlatNode) → IsBytes text → (node_in text ≡ Some n)
-        ↔ Spells text n }
-    ensures nothing { (text : List ℕ) → IsBytes text → (node_in text ≡ None)
-        ↔ (InGrammar One text → ⊥) }
+    ensures found { (format : Format) (text : List ℕ) (n : FlatNode) → IsBytes text
+        → (node_in format text ≡ Some n) ↔ Spells format text n }
+    ensures nothing { (format : Format) (text : List ℕ) → IsBytes text
+        → (node_in format text ≡ None) ↔ (InGrammar format text → ⊥) }
 {}
 
-/// What a proof has passed when its verdict is a fault: the frame before any text, each text before
-/// the next, and of one text the grammar, then the digest, then the layer, then the keys.
+/// What a proof has passed when its verdict is a fault: the frame with its tail before any text, each
+/// text before the next, and of one text the grammar, then the digest, then the layer, then the
+/// keys. In format 2 the claim of the tail is compared last.
 pub fn faults_in_order()
     // a text is refused with a fault exactly where it has passed the tests before that one, and
     // fails that one
-    ensures text { (k : List ℕ) (x : Expected) (text : List ℕ) (fault : ProofFault) → IsBytes text
-        → (step_at k x text ≡ Err fault)
-        ↔ FailsBy x.digest x.upper x.span.low x.span.high text fault }
-    ensures fails { (root k proof : List ℕ) (fault : ProofFault) → IsBytes proof
-        → verdict root k proof ≡ Err fault → ProofFails root k proof fault }
+    ensures text { (format : Format) (k : List ℕ) (x : Expected) (text : List ℕ)
+        (fault : ProofFault) → IsBytes text → (step_at format k x text ≡ Err fault)
+        ↔ FailsBy format x.digest x.upper x.span.low x.span.high text fault }
+    ensures fails { (format : Format) (root k proof : List ℕ) (fault : ProofFault) → IsBytes proof
+        → verdict format root k proof ≡ Err fault → ProofFails format root k proof fault }
 {}

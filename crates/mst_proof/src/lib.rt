@@ -13,13 +13,14 @@
 //! ```
 //!
 //! An answer is worth what its root digest is: who made that, and when, is not told here. Where an
-//! answer is false, `collide` names two texts with one SHA-256. Proofs are made by `mst_read` and
-//! `mst_store`.
+//! answer is false, `collide` names two texts with one SHA-256. `verify_in` and `collide_in` are the
+//! same in either format. Proofs are made by `mst_read` and `mst_store`.
 //!
 //! The definitions that the contracts cite stand in `specs/`: `Verdict`, `Accepted`, `Frame`, and
 //! in `mst_node` `Trail`.
 #![tactic(auto)]
 
+mod claim;
 mod collision;
 mod expected;
 mod fault;
@@ -27,10 +28,10 @@ mod laws;
 mod texts;
 mod verifier;
 
-pub use collision::{Pair, collide};
+pub use collision::{Pair, collide, collide_in};
 pub use fault::ProofFault;
 pub use laws::{
     collisions_among, each_map_has_its_root, faults_in_order, texts_by_grammar, trail_by_spans,
     trail_is_short,
 };
-pub use verifier::verify;
+pub use verifier::{verify, verify_in};

@@ -5,7 +5,10 @@ ghost use Rattle.std.specs.declared.result.Result.TheVariants.{Ok, Err};
 ghost use Rattle.mst_node.specs.Reading.{Gives};
 ghost use Rattle.mst_proof.specs.Frame.{text_at, rest_at, heading_at, frame_at};
 
+use crate::claim::{Claim, claim_of};
 use crate::fault::ProofFault;
+use mst_key::Format;
+use mst_node::format_byte;
 use std::marker::Model;
 
 /// Texts, one behind another, each behind its length in four bytes.
@@ -24,8 +27,8 @@ impl<'a> Model for Texts<'a> {
 
     ghost view = { λ t. texts_or_none t.count t.bytes.now };
 
-    ghost invariant = { λ t.
-        texts_at t.count t.bytes.now ≡ Some (texts_or_none t.count t.bytes.now, []) };
+    ghost invariant = { λ t. (rest : List ℕ)
+        × (texts_at t.count t.bytes.now ≡ Some (texts_or_none t.count t.bytes.now, rest)) };
 }
 
 /// The first text, and the bytes behind it.
@@ -61,27 +64,36 @@ fn behind(bytes: &[u8], count: u8) -> Option<&[u8]>
 }
 
 /// Behind the version: the number of texts, and the bytes that frame them.
-fn heading(proof: &[u8]) -> Result<(u8, &[u8]), ProofFault>
-    ensures ok { IfOk result (λ x. heading_at proof.now ≡ Ok (x.0, x.1.now)) }
-    ensures fault { IfErr result (λ fault. heading_at proof.now ≡ Err fault) }
+fn heading(format: Format, proof: &[u8]) -> Result<(u8, &[u8]), ProofFault>
+    ensures ok { IfOk result (λ x. heading_at format proof.now ≡ Ok (x.0, x.1.now)) }
+    ensures fault { IfErr result (λ fault. heading_at format proof.now ≡ Err fault) }
 {
     match proof {
-        [] | [1] => Err(ProofFault::CutShort),
-        [1, count, bytes @ ..] => Ok((*count, bytes)),
-        _ => Err(ProofFault::Version),
+        [] => Err(ProofFault::CutShort),
+        [version, rest @ ..] => {
+            if *version != format_byte(format) {
+                return Err(ProofFault::Version);
+            }
+            match rest {
+                [] => Err(ProofFault::CutShort),
+                [count, bytes @ ..] => Ok((*count, bytes)),
+            }
+        }
     }
 }
 
 impl<'a> Texts<'a> {
-    /// The texts of a proof, or the fault of its frame. No text is looked into.
-    pub(crate) fn of(proof: &[u8]) -> Result<Texts<'_>, ProofFault>
-        ensures frame { result ≡ frame_at proof.now }
+    /// The texts of a proof with its claim, or the fault of its frame. No text is looked into.
+    pub(crate) fn of(format: Format, proof: &[u8]) -> Result<(Texts<'_>, Claim), ProofFault>
+        ensures frame { result ≡ frame_at format proof.now }
     {
-        let (count, bytes) = heading(proof)?;
-        match behind(bytes, count) {
-            None => Err(ProofFault::CutShort),
-            Some([]) => Ok(Texts { count, bytes }),
-            Some(_) => Err(ProofFault::LeftOver),
+        let (count, bytes) = heading(format, proof)?;
+        let Some(rest) = behind(bytes, count) else {
+            return Err(ProofFault::CutShort);
+        };
+        match claim_of(format, rest) {
+            Ok(claim) => Ok((Texts { count, bytes }, claim)),
+            Err(fault) => Err(fault),
         }
     }
 

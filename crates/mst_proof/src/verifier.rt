@@ -8,19 +8,26 @@ ghost use Rattle.mst_node.specs.Tree.{tree};
 ghost use Rattle.mst_proof.specs.Theorem.{HasRoot, texts_named};
 ghost use Rattle.std.specs.declared.result.Result.TheVariants.{Ok};
 ghost use Rattle.mst_proof.specs.Accepted.{Accepted};
-ghost use Rattle.mst_proof.specs.Verdict.{verdict};
+ghost use Rattle.mst_proof.specs.Verdict.{verdict, judgement, settled, opened};
 
+use crate::claim::Claim;
 use crate::expected::{Expected, Step};
 use crate::fault::ProofFault;
 use crate::texts::Texts;
-use mst_key::{Key, Value};
-use mst_node::empty_digest;
+use mst_key::{Format, Key, Value};
+use mst_node::{digest, empty_digest};
 
-/// The verdict on a proof: one text after another, each expected from the one before.
-fn judge(root: &[u8; 32], key: &Key, proof: &[u8]) -> Result<Option<Value>, ProofFault>
-    ensures verdict { result ≡ verdict root.now key.now proof.now }
+/// What the texts show that a node holds of the key: one text after another, each expected from the
+/// one before.
+fn follow(
+    format: Format,
+    root: &[u8; 32],
+    key: &Key,
+    texts: Texts<'_>,
+) -> Result<Option<Value>, ProofFault>
+    ensures held { result ≡ judgement format root.now key.now texts.entry }
 {
-    let mut texts = Texts::of(proof)?;
+    let mut texts = texts;
     if texts.is_empty() {
         return if *root == empty_digest() {
             Ok(None)
@@ -30,7 +37,7 @@ fn judge(root: &[u8; 32], key: &Key, proof: &[u8]) -> Result<Option<Value>, Proo
     }
     let mut expected = Expected::first(root);
     while let Some(text) = texts.next() {
-        match expected.step(key, text)? {
+        match expected.step(format, key, text)? {
             Step::Onward(next) => expected = next,
             Step::Decided(answer) => {
                 return if texts.is_empty() {
@@ -44,6 +51,52 @@ fn judge(root: &[u8; 32], key: &Key, proof: &[u8]) -> Result<Option<Value>, Proo
     Err(ProofFault::Unfinished)
 }
 
+/// The value that is claimed, where its SHA-256 is what is held.
+fn open(value: Value, held: &Value) -> Result<Option<Value>, ProofFault>
+    ensures opened { result ≡ opened value held.now }
+{
+    if digest(value.bytes()).as_slice() == held.bytes() {
+        Ok(Some(value))
+    } else {
+        Err(ProofFault::OtherValue)
+    }
+}
+
+/// What the claim and what is held of the key come to.
+fn settle(format: Format, claim: Claim, held: Option<Value>) -> Result<Option<Value>, ProofFault>
+    ensures settled { result ≡ settled format claim held }
+{
+    match format {
+        Format::One => Ok(held),
+        Format::Two => match claim {
+            Claim::Absence => match held {
+                None => Ok(None),
+                Some(_) => Err(ProofFault::OtherValue),
+            },
+            Claim::Given(value) => match held {
+                None => Err(ProofFault::OtherValue),
+                Some(held) => open(value, &held),
+            },
+            Claim::Nothing => Err(ProofFault::OtherValue),
+            Claim::Unfit => Err(ProofFault::OtherValue),
+        },
+    }
+}
+
+/// The verdict on a proof.
+fn judge(
+    format: Format,
+    root: &[u8; 32],
+    key: &Key,
+    proof: &[u8],
+) -> Result<Option<Value>, ProofFault>
+    ensures verdict { result ≡ verdict format root.now key.now proof.now }
+{
+    let (texts, claim) = Texts::of(format, proof)?;
+    let held = follow(format, root, key, texts)?;
+    settle(format, claim, held)
+}
+
 /// What the proof shows of the key in the map with this root digest: its value, or `None` for its
 /// absence, or else the first test that the proof fails.
 ///
@@ -53,18 +106,42 @@ fn judge(root: &[u8; 32], key: &Key, proof: &[u8]) -> Result<Option<Value>, Proo
 /// for the key has no child. The frame is tested before any text is hashed. Then each text is read
 /// where it lies, and hashed once, as is each of its keys; the call takes no memory.
 pub fn verify(root: &[u8; 32], key: &Key, proof: &[u8]) -> Result<Option<Value>, ProofFault>
-    ensures verdict { result ≡ verdict root.now key.now proof.now }
+    ensures verdict { result ≡ verdict One root.now key.now proof.now }
     // An answer comes exactly where the proof is accepted with it.
     ensures accepted { (answer : Option (List ℕ)) → (result ≡ Ok answer)
-        ↔ Accepted root.now key.now proof.now answer }
+        ↔ Accepted One root.now key.now proof.now answer }
     // The proof that a map gives shows the map's answer.
-    ensures complete { (m : List Pair) → HasRoot m root.now → proof.now ≡ proof_text One m key.now
+    ensures complete { (m : List Pair) → HasRoot One m root.now → proof.now ≡ proof_text One m key.now
         → result ≡ Ok (map_get m key.now) }
     // Where a proof shows another answer for a map's root, two different texts have one SHA-256:
     // two of those of the proof, those of the nodes of the map's tree, and the empty text.
-    ensures sound { (m : List Pair) (answer : Option (List ℕ)) → HasRoot m root.now
+    ensures sound { (m : List Pair) (answer : Option (List ℕ)) → HasRoot One m root.now
         → result ≡ Ok answer → answer ≢ map_get m key.now
-        → HasCollision (texts_named proof.now (tree One m)) }
+        → HasCollision (texts_named One proof.now (tree One m)) }
 {
-    judge(root, key, proof)
+    verify_in(Format::One, root, key, proof)
+}
+
+/// What the proof shows of the key in the map with this root digest in a format, as `verify` says it
+/// in format 1.
+///
+/// In format 2 a proof begins with the version 02, and a tail follows its texts: 00 for an absent
+/// key, or 01, the length of the value in one byte, and the value. The last text holds the SHA-256
+/// of the value, and the value is hashed once.
+pub fn verify_in(
+    format: Format,
+    root: &[u8; 32],
+    key: &Key,
+    proof: &[u8],
+) -> Result<Option<Value>, ProofFault>
+    ensures verdict { result ≡ verdict format root.now key.now proof.now }
+    ensures accepted { (answer : Option (List ℕ)) → (result ≡ Ok answer)
+        ↔ Accepted format root.now key.now proof.now answer }
+    ensures complete { (m : List Pair) → HasRoot format m root.now
+        → proof.now ≡ proof_text format m key.now → result ≡ Ok (map_get m key.now) }
+    ensures sound { (m : List Pair) (answer : Option (List ℕ)) → HasRoot format m root.now
+        → result ≡ Ok answer → answer ≢ map_get m key.now
+        → HasCollision (texts_named format proof.now (tree format m)) }
+{
+    judge(format, root, key, proof)
 }

@@ -9,8 +9,10 @@ use denote.Ref.{Bor}
 use Rattle.mst_requests.specs.declared.request.Fault.{Fault}
 use Rattle.mst_requests.specs.declared.request.Fault.TheVariants.{LongLine, NoPass, NoCommand, FieldCount, BadField, KeySize, ValueSize}
 use Rattle.mst_requests.specs.declared.request.Command.{Command}
-use Rattle.mst_requests.specs.declared.request.Command.TheVariants.{Put, Remove, Get, Next, Range, Root, Node, Prove, Pin, Unpin, Rows}
+use Rattle.mst_requests.specs.declared.request.Command.TheVariants.{Put, Remove, Get, Next, Range, Root, Node, Prove, Pin, Unpin, Rows, Format, Migrate}
 use Rattle.mst_requests.specs.declared.request.Request.{Request}
+use Rattle.mst_key.specs.declared.format.Format.{Format as FormatOf}
+use Rattle.mst_key.specs.declared.format.Format.TheVariants.{One, Two}
 
 -- the parts between single blanks
 abbrev pub fields_of : List ℕ → List (List ℕ)
@@ -45,6 +47,12 @@ abbrev pub count_in : List ℕ → Option ℕ
 count_in [] = None
 count_in (d ∷ []) = number_up_to 65535 0 (d ∷ [])
 count_in (d ∷ e ∷ ds) = if d == 48 then None else number_up_to 65535 0 (d ∷ e ∷ ds)
+
+-- the format that a field names: 1 or 2
+abbrev pub format_in : List ℕ → Option FormatOf
+format_in field =
+    if bytes_eq field (codes "1") then Some One
+    else if bytes_eq field (codes "2") then Some Two else None
 
 abbrev pub if_spelt : Result (List ℕ) FromHexError → Option (List ℕ)
 if_spelt (Ok bytes) = Some bytes
@@ -117,6 +125,14 @@ abbrev pub range_fields : List (List ℕ) → Result Command Fault
 range_fields (from ∷ to ∷ limit ∷ []) = range_of (bytes_of from) (bytes_of to) (count_in limit)
 range_fields _ = Err FieldCount
 
+abbrev pub migrate_of : Option FormatOf → Result Command Fault
+migrate_of (Some to) = Ok (Migrate to)
+migrate_of None = Err BadField
+
+abbrev pub migrate_fields : List (List ℕ) → Result Command Fault
+migrate_fields (to ∷ []) = migrate_of (format_in to)
+migrate_fields _ = Err FieldCount
+
 -- a command without fields
 abbrev pub no_fields : Command → List (List ℕ) → Result Command Fault
 no_fields command [] = Ok command
@@ -137,6 +153,8 @@ named_command name fields =
     else if bytes_eq name (codes "pin") then no_fields Pin fields
     else if bytes_eq name (codes "unpin") then no_fields Unpin fields
     else if bytes_eq name (codes "rows") then no_fields Rows fields
+    else if bytes_eq name (codes "format") then no_fields Format fields
+    else if bytes_eq name (codes "migrate") then migrate_fields fields
     else Err NoCommand
 
 abbrev pub command_of : List (List ℕ) → Result Command Fault

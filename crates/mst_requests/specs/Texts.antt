@@ -1,5 +1,8 @@
 -- Answers as they are written.
 use Rattle.std.specs.Prelude.{ℕ, List, [], ◌∷◌, ◌++◌, length, Option, Some, None, codes, decimal}
+use Rattle.mst_key.specs.declared.format.Format.{Format}
+use Rattle.mst_key.specs.declared.format.Format.TheVariants.{One, Two}
+use Rattle.mst_key.specs.History.{Reply, had, was}
 use Rattle.mst_key.specs.Map.{Pair}
 use Rattle.mst_key.specs.Digits.{digits_of}
 use Rattle.mst_requests.specs.declared.request.Fault.{Fault}
@@ -49,3 +52,17 @@ pinned_words n = codes "pinned " ++ decimal n
 abbrev pub rows_words : Option ℕ → List ℕ
 rows_words None = codes "held"
 rows_words (Some n) = codes "rows " ++ decimal n
+
+-- the format of a tree, and the one that a migration left
+abbrev pub format_words : Format → List ℕ
+format_words One = codes "format 1"
+format_words Two = codes "format 2"
+
+abbrev pub was_words : Format → List ℕ
+was_words One = codes "was 1"
+was_words Two = codes "was 2"
+
+-- what a write is answered
+abbrev pub reply_words : Reply → List ℕ
+reply_words (had old) = value_words old
+reply_words (was format) = was_words format

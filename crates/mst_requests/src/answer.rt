@@ -3,14 +3,14 @@ ghost use Rattle.std.specs.Prelude.{◌≡◌, ◌≤◌, ◌<◌, ◌*◌, ◌+
 ghost use Rattle.mst_devices.specs.Device.{Puts, Breaks};
 ghost use Rattle.hex.specs.Hex.{encode_lower};
 ghost use Rattle.mst_key.specs.Digits.{digits_of};
-ghost use Rattle.mst_requests.specs.Texts.{fault_words as words_of_fault, line_of, pair_words, pair_lines, pinned_words, rows_words};
+ghost use Rattle.mst_requests.specs.Texts.{fault_words as words_of_fault, line_of, pair_words, pair_lines, pinned_words, rows_words, format_words as words_of_format, was_words as words_of_was};
 ghost use Rattle.mst_requests.specs.Answers.{first_words, text_of};
 
 use crate::request::Fault;
 use arrayvec::ArrayVec;
 use itoa::Buffer;
 use mst_devices::{Device, Pending, Sink};
-use mst_key::{Key, Value};
+use mst_key::{Format, Key, Value};
 use std::alloc::Allocator;
 
 /// What a line is answered.
@@ -32,6 +32,10 @@ pub enum Answer<A: Allocator> {
     Unpinned,
     /// How many rows the map takes; none where they are held.
     Rows(Option<u32>),
+    /// The format of the tree.
+    Format(Format),
+    /// The format that a migration left.
+    Was(Format),
     /// Bytes of a format: a proof, or the text of a node.
     Bytes(Vec<u8, A>),
     /// The map is empty, so it has no node.
@@ -67,6 +71,28 @@ fn fault_words(fault: Fault) -> &'static [u8]
         Fault::KeySize => b"keysize",
         Fault::ValueSize => b"valuesize",
         Fault::Pinning => b"fault L6",
+    }
+}
+
+// The words that name a format.
+fn format_words(format: Format) -> &'static [u8]
+    ensures words { result.now ≡ words_of_format format }
+    ensures small { length result.now ≤ 9 }
+{
+    match format {
+        Format::One => b"format 1",
+        Format::Two => b"format 2",
+    }
+}
+
+// The words that name the format that was left.
+fn was_words(format: Format) -> &'static [u8]
+    ensures words { result.now ≡ words_of_was format }
+    ensures small { length result.now ≤ 9 }
+{
+    match format {
+        Format::One => b"was 1",
+        Format::Two => b"was 2",
     }
 }
 
@@ -191,6 +217,8 @@ fn first_line<A: Allocator>(answer: &Answer<A>) -> Text
         Answer::Pinned(version) => extend_pinned(&mut text, *version),
         Answer::Unpinned => extend(&mut text, b"unpinned"),
         Answer::Rows(rows) => extend_rows(&mut text, *rows),
+        Answer::Format(format) => extend(&mut text, format_words(*format)),
+        Answer::Was(format) => extend(&mut text, was_words(*format)),
         Answer::Bytes(_) => {}
         Answer::NoNode => extend(&mut text, b"empty"),
         Answer::Busy => extend(&mut text, b"busy"),

@@ -1,10 +1,10 @@
 //! The fields of a line, and what they spell.
 ghost use Rattle.std.specs.Prelude.{◌≡◌, ◌≢◌, ◌≤◌, ◌∷◌, [], List, ℕ, true, false, length, take, MatchOption, MatchResult, IfSome, IfOk, None, Some};
 ghost use Rattle.mst_requests.specs.declared.request.Fault.TheVariants.{FieldCount};
-ghost use Rattle.mst_requests.specs.Grammar.{fields_of, fields_behind, bytes_of as spelt_bytes, number_up_to, pass_in, count_in, has_key_size, has_value_size, has_bound_size, bound_of};
+ghost use Rattle.mst_requests.specs.Grammar.{fields_of, fields_behind, bytes_of as spelt_bytes, number_up_to, pass_in, count_in, format_in, has_key_size, has_value_size, has_bound_size, bound_of};
 
 use crate::request::Fault;
-use mst_key::{Key, KeySize, Value, ValueSize};
+use mst_key::{Format, Key, KeySize, Value, ValueSize};
 use mst_lines::cut;
 
 /// The first field, and what stands behind its blank.
@@ -115,6 +115,19 @@ pub fn count_of(field: &[u8]) -> Option<u32>
     match field {
         [] | [b'0', _, ..] => None,
         _ => number_of(field, 65_535),
+    }
+}
+
+/// The format that a field names: 1 or 2.
+pub fn format_of(field: &[u8]) -> Option<Format>
+    ensures { result ≡ format_in field.now }
+{
+    if field == b"1".as_slice() {
+        Some(Format::One)
+    } else if field == b"2".as_slice() {
+        Some(Format::Two)
+    } else {
+        None
     }
 }
 

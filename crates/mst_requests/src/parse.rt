@@ -1,10 +1,10 @@
 //! From what is kept of a line to what it asks for.
 ghost use Rattle.std.specs.Prelude.{◌≡◌, ◌≤◌, length, IfSome, IfOk};
 ghost use Rattle.mst_requests.specs.declared.request.Command.TheVariants.{Remove, Get, Prove};
-ghost use Rattle.mst_requests.specs.Grammar.{fields_of, fields_behind, put_fields, key_fields, about_key, next_fields, range_fields, no_fields, named_command, command_of, by_fields, asked, IsDealt};
+ghost use Rattle.mst_requests.specs.Grammar.{fields_of, fields_behind, put_fields, key_fields, about_key, next_fields, range_fields, migrate_fields, no_fields, named_command, command_of, by_fields, asked, IsDealt};
 
 use crate::fields::{
-    bound_in, count_of, first_field, key_of, no_field, one_field, pass_of, three_fields,
+    bound_in, count_of, first_field, format_of, key_of, no_field, one_field, pass_of, three_fields,
     two_fields, value_of,
 };
 use crate::request::{Command, Fault, Request};
@@ -88,6 +88,18 @@ fn range_command(fields: Option<&[u8]>) -> Result<Command, Fault>
     }
 }
 
+// What `migrate` asks for, by what stands behind it.
+fn migrate_command(fields: Option<&[u8]>) -> Result<Command, Fault>
+    requires { IfSome fields (λ rest. length rest.now ≤ 4096) }
+    ensures { result ≡ migrate_fields (fields_behind fields.entry) }
+{
+    let format = one_field(fields)?;
+    match format_of(format) {
+        Some(to) => Ok(Command::Migrate(to)),
+        None => Err(Fault::BadField),
+    }
+}
+
 // The command, where nothing stands behind it.
 fn without_fields(command: Command, fields: Option<&[u8]>) -> Result<Command, Fault>
     ensures { result ≡ no_fields command (fields_behind fields.entry) }
@@ -133,6 +145,12 @@ fn command_named(name: &[u8], fields: Option<&[u8]>) -> Result<Command, Fault>
     }
     if name == b"rows".as_slice() {
         return without_fields(Command::Rows, fields);
+    }
+    if name == b"format".as_slice() {
+        return without_fields(Command::Format, fields);
+    }
+    if name == b"migrate".as_slice() {
+        return migrate_command(fields);
     }
     Err(Fault::NoCommand)
 }

@@ -1,5 +1,5 @@
 //! What a line asks for.
-use mst_key::{Key, Value};
+use mst_key::{Format, Key, Value};
 
 /// Why a line is refused. The first that holds is told, in this order.
 ///
@@ -50,6 +50,10 @@ pub enum Command {
     Unpin,
     /// For how many rows the map takes.
     Rows,
+    /// For the format of the tree.
+    Format,
+    /// To bring the tree into a format.
+    Migrate(Format),
 }
 
 /// What a line asks for.

@@ -3,12 +3,13 @@ use Rattle.std.proofs.Common.{◌≡◌, ◌≤◌, ℕ, zero, suc, Bool, true, 
 use Rattle.std.proofs.lemmas.List.{take_at}
 use Rattle.std.specs.Prelude.{ℤ, pos, negsuc, ◌==◌, ◌&&◌, nat_le, nat_lt, if◌then◌else◌, Result, Ok, Err, IfSome}
 use Rattle.mst_key.specs.Bytes.{IsKey}
+use Rattle.mst_key.specs.declared.format.Format.{Format as TreeFormat}
 use Rattle.mst_proof.specs.declared.fault.ProofFault.{ProofFault}
-use Rattle.mst_proof.specs.declared.fault.ProofFault.TheVariants.{Version, CutShort, LeftOver, NoNode, OtherDigest, LayerNotBelow, KeyOutside, Unfinished, TextBehind}
+use Rattle.mst_proof.specs.declared.fault.ProofFault.TheVariants.{Version, CutShort, LeftOver, NoNode, OtherDigest, LayerNotBelow, KeyOutside, Unfinished, TextBehind, OtherValue}
 use Rattle.mst_proof.specs.Verdict.{verdict}
 use Rattle.mst_verifier.specs.declared.question.Refusal.{Refusal}
 use Rattle.mst_verifier.specs.declared.question.Refusal.TheVariants.{Format, Root, Key, Proof}
-use Rattle.mst_verifier.specs.Question.{with_refusal, answer_of}
+use Rattle.mst_verifier.specs.Question.{with_refusal, format_named, answer_in, answer_of}
 use Rattle.mst_verifier.specs.Codes.{refusal_code, code_of, room_after}
 use Rattle.mst_verifier.specs.Told.{Tells}
 
@@ -33,6 +34,7 @@ no_answer (Proof LayerNotBelow) = refl
 no_answer (Proof KeyOutside) = refl
 no_answer (Proof Unfinished) = refl
 no_answer (Proof TextBehind) = refl
+no_answer (Proof OtherValue) = refl
 
 refused : (r : Refusal) (z : ℤ) → is_answer z ≡ true → refusal_code r ≡ z → ⊥
 refused r z is e =
@@ -68,25 +70,41 @@ told room (Err r) (Some w) t = absurd (refused r (pos (length w)) refl t.0)
 
 -- ---- from the question to the verdict
 
-of_tests : (b c d : Bool) (v : Result (Option (List ℕ)) ProofFault) (a : Option (List ℕ)) → (if b then (if c then (if d then with_refusal v else Err Key) else Err Root) else Err Format) ≡ Ok a → v ≡ Ok a
-of_tests true true true (Ok x) a e = let same : x ≡ a = cc in ap (λ (y : Option (List ℕ)). Ok y) same
-of_tests true true true (Err f) a e = absurd (cc)
-of_tests true true false v a e = absurd (cc)
-of_tests true false d v a e = absurd (cc)
-of_tests false c d v a e = absurd (cc)
+of_tests : (c d : Bool) (v : Result (Option (List ℕ)) ProofFault) (a : Option (List ℕ)) → (if c then (if d then with_refusal v else Err Key) else Err Root) ≡ Ok a → v ≡ Ok a
+of_tests true true (Ok x) a e = let same : x ≡ a = cc in ap (λ (y : Option (List ℕ)). Ok y) same
+of_tests true true (Err f) a e = absurd (cc)
+of_tests true false v a e = absurd (cc)
+of_tests false d v a e = absurd (cc)
 
--- what is told is the verdict's answer
-pub verdict_told : (format : ℕ) (root key proof room after : List ℕ) (code : ℤ) (a : Option (List ℕ)) → code ≡ code_of (length room) (answer_of format root key proof) → after ≡ room_after room (answer_of format root key proof) → Tells code after a → verdict root key proof ≡ Ok a
-verdict_told format root key proof room after code a is left t =
-    let x = answer_of format root key proof in
+of_format : (format : TreeFormat) (root key proof : List ℕ) (a : Option (List ℕ)) → answer_in (Some format) root key proof ≡ Ok a → verdict format root key proof ≡ Ok a
+of_format format root key proof a e = of_tests (length root == 32) (nat_le 1 (length key) && nat_le (length key) 32) (verdict format root key proof) a e
+
+of_named : (named : Option TreeFormat) (root key proof : List ℕ) (a : Option (List ℕ)) → answer_in named root key proof ≡ Ok a → (f : TreeFormat) × (named ≡ Some f) × (verdict f root key proof ≡ Ok a)
+of_named None root key proof a e = absurd (cc)
+of_named (Some f) root key proof a e = (f, refl, of_format f root key proof a e)
+
+-- what is told is an answer to the question
+answer_told : (number : ℕ) (root key proof room after : List ℕ) (code : ℤ) (a : Option (List ℕ)) → code ≡ code_of (length room) (answer_of number root key proof) → after ≡ room_after room (answer_of number root key proof) → Tells code after a → answer_of number root key proof ≡ Ok a
+answer_told number root key proof room after code a is left t =
+    let x = answer_of number root key proof in
     let at_code = subst (λ (z : ℤ). Tells z after a) is t in
     let at_room = subst (λ (r : List ℕ). Tells (code_of (length room) x) r a) left at_code in
-    of_tests (format == 1) (length root == 32) (nat_le 1 (length key) && nat_le (length key) 32) (verdict root key proof) a (told room x a at_room)
+    told room x a at_room
+
+-- what is told is the verdict's answer, in the format that has the number
+pub format_told : (number : ℕ) (root key proof room after : List ℕ) (code : ℤ) (a : Option (List ℕ)) → code ≡ code_of (length room) (answer_of number root key proof) → after ≡ room_after room (answer_of number root key proof) → Tells code after a → (f : TreeFormat) × (format_named number ≡ Some f) × (verdict f root key proof ≡ Ok a)
+format_told number root key proof room after code a is left t = of_named (format_named number) root key proof a (answer_told number root key proof room after code a is left t)
+
+-- the same for a format that is known to have the number
+pub verdict_told : (number : ℕ) (format : TreeFormat) (root key proof room after : List ℕ) (code : ℤ) (a : Option (List ℕ)) → format_named number ≡ Some format → code ≡ code_of (length room) (answer_of number root key proof) → after ≡ room_after room (answer_of number root key proof) → Tells code after a → verdict format root key proof ≡ Ok a
+verdict_told number format root key proof room after code a named is left t =
+    let at_number : answer_of number root key proof ≡ Ok a = answer_told number root key proof room after code a is left t in
+    of_format format root key proof a (ap (λ (n : Option TreeFormat). answer_in n root key proof) (sym named) ∙ at_number)
 
 -- ---- and back
 
-answered : (format : ℕ) (root key proof : List ℕ) → format ≡ 1 → length root ≡ 32 → IsKey key → answer_of format root key proof ≡ with_refusal (verdict root key proof)
-answered format root key proof one digest fits = search (tests, rules)
+answered : (format : TreeFormat) (root key proof : List ℕ) → length root ≡ 32 → IsKey key → answer_in (Some format) root key proof ≡ with_refusal (verdict format root key proof)
+answered format root key proof digest fits = search (tests, rules)
 
 value_told : (b : Bool) (room v : List ℕ) → b ≡ false → Tells (if b then negsuc 1 else pos (length v)) (if b then room else v ++ drop (length v) room) (Some v)
 value_told true room v e = absurd (cc)
@@ -97,8 +115,9 @@ tells room None fits = refl
 tells room (Some v) fits = value_told (nat_lt (length room) (length v)) room v (search (tests, rules))
 
 -- the verdict's answer is told, where it fits
-pub tells_verdict : (format : ℕ) (root key proof room after : List ℕ) (code : ℤ) (a : Option (List ℕ)) → format ≡ 1 → length root ≡ 32 → IsKey key → IfSome a (λ v. length v ≤ length room) → code ≡ code_of (length room) (answer_of format root key proof) → after ≡ room_after room (answer_of format root key proof) → verdict root key proof ≡ Ok a → Tells code after a
-tells_verdict format root key proof room after code a one digest key_fits fits is left v =
-    let x : answer_of format root key proof ≡ Ok a = answered format root key proof one digest key_fits ∙ ap with_refusal v in
+pub tells_verdict : (number : ℕ) (format : TreeFormat) (root key proof room after : List ℕ) (code : ℤ) (a : Option (List ℕ)) → format_named number ≡ Some format → length root ≡ 32 → IsKey key → IfSome a (λ v. length v ≤ length room) → code ≡ code_of (length room) (answer_of number root key proof) → after ≡ room_after room (answer_of number root key proof) → verdict format root key proof ≡ Ok a → Tells code after a
+tells_verdict number format root key proof room after code a named digest key_fits fits is left v =
+    let at_format : answer_of number root key proof ≡ answer_in (Some format) root key proof = ap (λ (n : Option TreeFormat). answer_in n root key proof) named in
+    let x : answer_of number root key proof ≡ Ok a = at_format ∙ answered format root key proof digest key_fits ∙ ap with_refusal v in
     let at_code = subst (λ (z : ℤ). Tells z (room_after room (Ok a)) a) (sym (is ∙ ap (code_of (length room)) x)) (tells room a fits) in
     subst (λ (r : List ℕ). Tells code r a) (sym (left ∙ ap (room_after room) x)) at_code

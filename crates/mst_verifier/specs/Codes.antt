@@ -1,11 +1,11 @@
 -- The numbers in which the library answers, and what it leaves in the caller's room.
 use Rattle.std.specs.Prelude.{ℕ, ℤ, pos, negsuc, nat_lt, if◌then◌else◌, List, ◌++◌, length, drop, Option, Some, None, Result, Ok, Err}
 use Rattle.mst_proof.specs.declared.fault.ProofFault.{ProofFault}
-use Rattle.mst_proof.specs.declared.fault.ProofFault.TheVariants.{Version, CutShort, LeftOver, NoNode, OtherDigest, LayerNotBelow, KeyOutside, Unfinished, TextBehind}
+use Rattle.mst_proof.specs.declared.fault.ProofFault.TheVariants.{Version, CutShort, LeftOver, NoNode, OtherDigest, LayerNotBelow, KeyOutside, Unfinished, TextBehind, OtherValue}
 use Rattle.mst_verifier.specs.declared.question.Refusal.{Refusal}
 use Rattle.mst_verifier.specs.declared.question.Refusal.TheVariants.{Format, Root, Key, Proof}
 
--- -11 to -19, for the tests P1 to P9 of a proof
+-- -11 to -20, for the tests P1 to P10 of a proof
 abbrev pub fault_code : ProofFault → ℤ
 fault_code Version = negsuc 10
 fault_code CutShort = negsuc 11
@@ -16,6 +16,7 @@ fault_code LayerNotBelow = negsuc 15
 fault_code KeyOutside = negsuc 16
 fault_code Unfinished = negsuc 17
 fault_code TextBehind = negsuc 18
+fault_code OtherValue = negsuc 19
 
 -- -3 for an unknown format, -4 for what is no root digest, -5 for what is no key
 abbrev pub refusal_code : Refusal → ℤ

@@ -1,5 +1,7 @@
 -- What a question to the library comes to: an answer for the key, or why there is none.
-use Rattle.std.specs.Prelude.{ℕ, ◌==◌, ◌&&◌, nat_le, if◌then◌else◌, List, length, Option, Result, Ok, Err}
+use Rattle.std.specs.Prelude.{ℕ, ◌==◌, ◌&&◌, nat_le, if◌then◌else◌, List, length, Option, Some, None, Result, Ok, Err}
+use Rattle.mst_key.specs.declared.format.Format.{Format as TreeFormat}
+use Rattle.mst_key.specs.declared.format.Format.TheVariants.{One, Two}
 use Rattle.mst_proof.specs.declared.fault.ProofFault.{ProofFault}
 use Rattle.mst_proof.specs.Verdict.{verdict}
 use Rattle.mst_verifier.specs.declared.question.Refusal.{Refusal}
@@ -9,14 +11,21 @@ abbrev pub with_refusal : Result (Option (List ℕ)) ProofFault → Result (Opti
 with_refusal (Ok answer) = Ok answer
 with_refusal (Err fault) = Err (Proof fault)
 
--- the format is 1, a root digest has 32 bytes, a key has 1 to 32; the first that is not so is told,
--- else what the proof comes to
-abbrev pub answer_of : ℕ → List ℕ → List ℕ → List ℕ → Result (Option (List ℕ)) Refusal
-answer_of format root key proof =
-    if format == 1
-    then (if length root == 32
+-- the format that has this number
+abbrev pub format_named : ℕ → Option TreeFormat
+format_named number = if number == 1 then Some One else if number == 2 then Some Two else None
+
+-- a root digest has 32 bytes, a key has 1 to 32; the first that is not so is told, else what the
+-- proof comes to
+abbrev pub answer_in : Option TreeFormat → List ℕ → List ℕ → List ℕ → Result (Option (List ℕ)) Refusal
+answer_in None root key proof = Err Format
+answer_in (Some format) root key proof =
+    if length root == 32
     then (if nat_le 1 (length key) && nat_le (length key) 32
-    then with_refusal (verdict root key proof)
+    then with_refusal (verdict format root key proof)
     else Err Key)
-    else Err Root)
-    else Err Format
+    else Err Root
+
+-- what is asked with the number of a format, which is tested first
+abbrev pub answer_of : ℕ → List ℕ → List ℕ → List ℕ → Result (Option (List ℕ)) Refusal
+answer_of number root key proof = answer_in (format_named number) root key proof

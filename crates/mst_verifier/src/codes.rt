@@ -31,5 +31,6 @@ pub(crate) fn refusal_code(refusal: Refusal) -> i32
         Refusal::Proof(ProofFault::KeyOutside) => -17,
         Refusal::Proof(ProofFault::Unfinished) => -18,
         Refusal::Proof(ProofFault::TextBehind) => -19,
+        Refusal::Proof(ProofFault::OtherValue) => -20,
     }
 }

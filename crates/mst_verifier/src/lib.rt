@@ -5,8 +5,8 @@
 //! (`specs/Codes.antt`).
 #![tactic(auto)]
 
-ghost use Rattle.std.specs.Prelude.{◌≡◌, ◌≢◌, ◌≤◌, List, ℕ, Option, length, IfSome};
-ghost use Rattle.mst_key.specs.declared.format.Format.TheVariants.{One};
+ghost use Rattle.std.specs.Prelude.{◌≡◌, ◌≢◌, ◌≤◌, List, ℕ, Option, Some, length, IfSome};
+ghost use Rattle.mst_key.specs.declared.format.Format.{Format};
 ghost use Rattle.mst_key.specs.Bytes.{IsKey};
 ghost use Rattle.mst_key.specs.Map.{Pair, map_get};
 ghost use Rattle.mst_node.specs.Collision.{HasCollision};
@@ -15,21 +15,23 @@ ghost use Rattle.mst_node.specs.Tree.{tree};
 ghost use Rattle.mst_proof.specs.Accepted.{Accepted};
 ghost use Rattle.mst_proof.specs.Theorem.{HasRoot, texts_named};
 ghost use Rattle.mst_verifier.specs.Codes.{code_of, room_after};
-ghost use Rattle.mst_verifier.specs.Question.{answer_of};
+ghost use Rattle.mst_verifier.specs.Question.{answer_of, format_named};
 ghost use Rattle.mst_verifier.specs.Told.{Tells};
 ghost use Rattle.mst_verifier.specs.Top.{TellsTop};
 
 mod codes;
+mod laws;
 mod question;
 mod telling;
 #[cfg(test)]
 mod tests;
 
 use codes::NO_TEXT;
+pub use laws::{code_laws, top_laws};
 use mst_node::top_text;
 use telling::tell;
 
-/// What a proof shows of a key in the map with this root digest: the length of the key's value,
+/// What a proof of format 1 or 2 shows of a key in the map with this root digest: the length of the key's value,
 /// which then stands first in the room, or the number of another answer. The room keeps all other
 /// bytes.
 #[unsafe(no_mangle)]
@@ -43,19 +45,21 @@ pub extern "C" fn mst_verify(
     ensures code { result ≡ code_of (length room.old)
         (answer_of format root.now key.now proof.now) }
     ensures room { room.new ≡ room_after room.old (answer_of format root.now key.now proof.now) }
-    // What is told is what the proof is accepted with.
+    // What is told is what the proof is accepted with, in the format that has the number.
     ensures accepted { (a : Option (List ℕ)) → Tells result room.new a
-        → Accepted root.now key.now proof.now a }
+        → (f : Format) × (format_named format ≡ Some f) × Accepted f root.now key.now proof.now a }
     // The map's answer is told where the proof is the map's and the room takes the value.
-    ensures complete { (m : List Pair) → format ≡ 1 → length root.now ≡ 32 → IsKey key.now
-        → HasRoot m root.now → proof.now ≡ proof_text One m key.now
+    ensures complete { (f : Format) (m : List Pair) → format_named format ≡ Some f
+        → length root.now ≡ 32 → IsKey key.now → HasRoot f m root.now
+        → proof.now ≡ proof_text f m key.now
         → IfSome (map_get m key.now) (λ v. length v ≤ length room.old)
         → Tells result room.new (map_get m key.now) }
     // Where another answer is told for a map's root, two different texts have one SHA-256: two of
-    // those of the proof, those of the nodes of the map's tree, and the empty text.
-    ensures sound { (m : List Pair) (a : Option (List ℕ)) → HasRoot m root.now
-        → Tells result room.new a → a ≢ map_get m key.now
-        → HasCollision (texts_named proof.now (tree One m)) }
+    // those of the proof, those of the nodes of the map's tree, the empty text, and in format 2
+    // the values of the proof and of the map.
+    ensures sound { (f : Format) (m : List Pair) (a : Option (List ℕ))
+        → format_named format ≡ Some f → HasRoot f m root.now → Tells result room.new a
+        → a ≢ map_get m key.now → HasCollision (texts_named f proof.now (tree f m)) }
 {
     tell(format, root, key, proof, room)
 }

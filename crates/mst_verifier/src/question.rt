@@ -1,12 +1,9 @@
 //! What is asked of the library, and what it comes to.
 ghost use Rattle.std.specs.Prelude.{◌≡◌};
-ghost use Rattle.mst_verifier.specs.Question.{answer_of};
+ghost use Rattle.mst_verifier.specs.Question.{answer_of, format_named as named_format};
 
-use mst_key::{Key, Value};
-use mst_proof::{ProofFault, verify};
-
-/// The one format of node texts and proofs there is.
-const FORMAT: u32 = 1;
+use mst_key::{Format, Key, Value};
+use mst_proof::{ProofFault, verify_in};
 
 /// Why there is no answer.
 #[derive(Debug, Drop)]
@@ -21,26 +18,37 @@ pub(crate) enum Refusal {
     Proof(ProofFault),
 }
 
+/// The format that has this number.
+fn format_named(number: u32) -> Option<Format>
+    ensures format { result ≡ named_format number }
+{
+    match number {
+        1 => Some(Format::One),
+        2 => Some(Format::Two),
+        _ => None,
+    }
+}
+
 /// What the proof shows of the key. The format is tested first, then the root digest, the key, and
 /// the proof.
 pub(crate) fn answer(
-    format: u32,
+    number: u32,
     root: &[u8],
     key: &[u8],
     proof: &[u8],
 ) -> Result<Option<Value>, Refusal>
-    ensures answer { result ≡ answer_of format root.now key.now proof.now }
+    ensures answer { result ≡ answer_of number root.now key.now proof.now }
 {
-    if format != FORMAT {
+    let Some(format) = format_named(number) else {
         return Err(Refusal::Format);
-    }
+    };
     let Some(root) = root.as_array::<32>() else {
         return Err(Refusal::Root);
     };
     let Ok(key) = Key::new(key) else {
         return Err(Refusal::Key);
     };
-    match verify(root, &key, proof) {
+    match verify_in(format, root, &key, proof) {
         Ok(answer) => Ok(answer),
         Err(fault) => Err(Refusal::Proof(fault)),
     }

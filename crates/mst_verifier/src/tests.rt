@@ -18,7 +18,9 @@ fn calls_from_c(rt: HostRuntime) -> Result<(), Fail> {
         (1, b"a".as_slice(), 1, b'1'),
         (1, b"abc".as_slice(), 1, b'x'),
         (1, b"b".as_slice(), -1, b'.'),
-        (2, b"a".as_slice(), -3, b'.'),
+        (2, b"a".as_slice(), -11, b'.'),
+        (0, b"a".as_slice(), -3, b'.'),
+        (3, b"a".as_slice(), -3, b'.'),
         (1, no_key, -5, b'.'),
     ] {
         let mut room = [b'.', b'.'];

@@ -3,8 +3,9 @@ use Rattle.std.specs.Prelude.{ℕ, ◌-◌, ◌==◌, nat_lt, Bool, true, false,
 use Rattle.hex.specs.Hex.{decode_of}
 use Rattle.hex.specs.declared.error.FromHexError.{FromHexError}
 use Rattle.mst_key.specs.Digits.{digits_of}
+use Rattle.mst_key.specs.declared.format.Format.{Format}
 use Rattle.mst_proof.specs.declared.fault.ProofFault.{ProofFault}
-use Rattle.mst_proof.specs.declared.fault.ProofFault.TheVariants.{Version, CutShort, LeftOver, NoNode, OtherDigest, LayerNotBelow, KeyOutside, Unfinished, TextBehind}
+use Rattle.mst_proof.specs.declared.fault.ProofFault.TheVariants.{Version, CutShort, LeftOver, NoNode, OtherDigest, LayerNotBelow, KeyOutside, Unfinished, TextBehind, OtherValue}
 use Rattle.mst_proof.specs.Verdict.{verdict}
 use Rattle.mst_verify.specs.declared.report.Report.{Report}
 use Rattle.mst_verify.specs.declared.report.Report.TheVariants.{Present, Absent, Refused, NotHex, Long}
@@ -23,15 +24,15 @@ said (Ok (Some v)) = Present v
 said (Ok None) = Absent
 said (Err fault) = Refused fault
 
-abbrev pub said_of : List ℕ → List ℕ → Result (List ℕ) FromHexError → Report
-said_of root k (Ok proof) = said (verdict root k proof)
-said_of root k (Err e) = NotHex
+abbrev pub said_of : Format → List ℕ → List ℕ → Result (List ℕ) FromHexError → Report
+said_of format root k (Ok proof) = said (verdict format root k proof)
+said_of format root k (Err e) = NotHex
 
--- what is said of the text of a proof for a root digest and a key: its length is tested first, then
+-- what is said of the text of a proof in a format, for a root digest and a key: its length is tested first, then
 -- its digits, then the proof that they spell
-abbrev pub report_of : List ℕ → List ℕ → List ℕ → Report
-report_of root k text =
-    if nat_lt limit (length text) then Long else said_of root k (decode_of (without_newline text))
+abbrev pub report_of : Format → List ℕ → List ℕ → List ℕ → Report
+report_of format root k text =
+    if nat_lt limit (length text) then Long else said_of format root k (decode_of (without_newline text))
 
 -- ---- as it is written
 
@@ -45,6 +46,7 @@ fault_words LayerNotBelow = codes "P6"
 fault_words KeyOutside = codes "P7"
 fault_words Unfinished = codes "P8"
 fault_words TextBehind = codes "P9"
+fault_words OtherValue = codes "P10"
 
 abbrev pub words_of : Report → List ℕ
 words_of (Present v) = codes "present " ++ digits_of v

@@ -3,7 +3,7 @@
 //! ```
 //! let Some(root) = root_in(digits) else { .. };        // 64 digits
 //! let Some(key) = key_in("6170706c65") else { .. };    // apple
-//! let report = report_on(rt.alloc(), &root, &key, text)?;
+//! let report = report_on(rt.alloc(), Format::One, &root, &key, text)?;
 //! report.line()           // "present 3330\n", or "absent\n", or "P5\n"
 //! report.is_refusal()     // false of the first two
 //! ```

@@ -7,8 +7,8 @@ ghost use Rattle.mst_verify.specs.Report.{limit, without_newline as up_to_newlin
 
 use arrayvec::ArrayVec;
 use hex::FromHexError;
-use mst_key::{Key, Memory, Value};
-use mst_proof::{ProofFault, verify};
+use mst_key::{Format, Key, Memory, Value};
+use mst_proof::{ProofFault, verify_in};
 use std::alloc::Allocator;
 
 /// How many bytes the text of a proof has at most, with the newline at its end.
@@ -67,18 +67,19 @@ fn is_hex(text: &[u8]) -> bool
     are_digits(text)
 }
 
-/// What a text says of the key in the map with this root digest: the hexadecimal digits of a proof,
-/// in either case, with at most one newline behind them.
+/// What a text says of the key in the map with this root digest in this format: the hexadecimal
+/// digits of a proof, in either case, with at most one newline behind them.
 ///
 /// `Memory` comes only where the room for the proof was refused. A text that is too long, or no
 /// even number of digits, takes no memory.
 pub fn report_on<A: Allocator>(
     alloc: A,
+    format: Format,
     root: &[u8; 32],
     key: &Key,
     text: &[u8],
 ) -> Result<Report, Memory>
-    ensures report { IfOk result (λ r. r ≡ report_of root.now key.now text.now) }
+    ensures report { IfOk result (λ r. r ≡ report_of format root.now key.now text.now) }
     ensures within { OnErr result (length text.now ≤ limit) }
     ensures digits { OnErr result (IsOk (decode_of (up_to_newline text.now))) }
 {
@@ -94,7 +95,7 @@ pub fn report_on<A: Allocator>(
         Err(FromHexError::OutOfMemory) => return Err(Memory),
         Err(_) => return Ok(Report::NotHex),
     };
-    Ok(match verify(root, key, proof.as_slice()) {
+    Ok(match verify_in(format, root, key, proof.as_slice()) {
         Ok(Some(value)) => Report::Present(value),
         Ok(None) => Report::Absent,
         Err(fault) => Report::Refused(fault),
@@ -104,7 +105,7 @@ pub fn report_on<A: Allocator>(
 /// The name of a fault.
 fn fault_words(fault: ProofFault) -> &'static [u8]
     ensures words { result.now ≡ words_of_fault fault }
-    ensures size { length result.now ≡ 2 }
+    ensures size { length result.now ≤ 3 }
 {
     match fault {
         ProofFault::Version => b"P1",
@@ -116,6 +117,7 @@ fn fault_words(fault: ProofFault) -> &'static [u8]
         ProofFault::KeyOutside => b"P7",
         ProofFault::Unfinished => b"P8",
         ProofFault::TextBehind => b"P9",
+        ProofFault::OtherValue => b"P10",
     }
 }
 
@@ -146,7 +148,7 @@ fn extend_digits(line: &mut Line, value: &Value)
 
 impl Report {
     /// The line that says it, with its newline: `present` and the value in lower case, `-` where it
-    /// is empty, `absent`, `P1` to `P9`, `fault hex` or `fault long`.
+    /// is empty, `absent`, `P1` to `P10`, `fault hex` or `fault long`.
     #[tactic(auto, unfolding(crate::specs::Report::line_of))]
     pub fn line(&self) -> Line
         ensures line { result.items ≡ line_of self.now }

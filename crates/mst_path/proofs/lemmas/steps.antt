@@ -1,5 +1,6 @@
 -- The steps of a change: what stands after each, up to the whole of it.
 pub mod Steps
+pub mod Felling
 pub mod Framing
 pub mod Rounds
 pub mod Removals

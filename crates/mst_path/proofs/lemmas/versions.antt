@@ -2,7 +2,9 @@
 pub mod Versions
 pub mod Reached
 pub mod NodeAges
+pub mod KeyAges
 pub mod AgeSteps
+pub mod Migrated
 pub mod HeldRows
 pub mod KeptRoom
 pub mod Changes

@@ -2,6 +2,8 @@ use Rattle.mst_node.proofs.SameTrees.{tree_from_same, same_from_tree}
 use Rattle.mst_change.proofs.Cost.Put.{cost_put}
 use Rattle.mst_change.proofs.Cost.Remove.{cost_remove}
 use Rattle.mst_change.proofs.Cost.Bounds.{put_cost_bound, remove_cost_bound}
+use Rattle.mst_node.proofs.Formats.{moved}
+use Rattle.mst_change.proofs.Formats.{stays}
 use Rattle.mst_change.proofs.laws.cost_laws.Goals as goal
 
 pub returns-clause-different : goal.returns-clause-different
@@ -21,3 +23,9 @@ returns-clause-put_bound c format m k v map = put_cost_bound format m k v map.as
 
 pub returns-clause-remove_bound : goal.returns-clause-remove_bound
 returns-clause-remove_bound c format m k map = remove_cost_bound format m k map.ascending
+
+pub returns-clause-moved : goal.returns-clause-moved
+returns-clause-moved c f g m other = moved f g other m
+
+pub returns-clause-stays : goal.returns-clause-stays
+returns-clause-stays c t = stays t

@@ -1,4 +1,4 @@
-use Rattle.mst_key.proofs.HistoryLaws.{IsMap-after, after-push, map_get-after_last, map_get-after_alone, IsPrefix-itself, IsPrefix-chain, IsPrefix-both_ways, IsPrefix-compare, events_of-append, events_of-between}
+use Rattle.mst_key.proofs.HistoryLaws.{IsMap-after, after-push, map_get-after_last_put, map_get-after_last_remove, format_after-push, format_after_last, format_after_none, map_get-after_alone, IsPrefix-itself, IsPrefix-chain, IsPrefix-both_ways, IsPrefix-compare, events_of-append, events_of-between}
 use Rattle.mst_key.proofs.laws.history_laws.Goals as goal
 
 pub returns-clause-map : goal.returns-clause-map
@@ -7,8 +7,20 @@ returns-clause-map c = IsMap-after
 pub returns-clause-step : goal.returns-clause-step
 returns-clause-step c = after-push
 
-pub returns-clause-last_change : goal.returns-clause-last_change
-returns-clause-last_change c = map_get-after_last
+pub returns-clause-last_put : goal.returns-clause-last_put
+returns-clause-last_put c = map_get-after_last_put
+
+pub returns-clause-last_remove : goal.returns-clause-last_remove
+returns-clause-last_remove c = map_get-after_last_remove
+
+pub returns-clause-format_step : goal.returns-clause-format_step
+returns-clause-format_step c = format_after-push
+
+pub returns-clause-last_migration : goal.returns-clause-last_migration
+returns-clause-last_migration c = format_after_last
+
+pub returns-clause-no_migration : goal.returns-clause-no_migration
+returns-clause-no_migration c = format_after_none
 
 pub returns-clause-no_change : goal.returns-clause-no_change
 returns-clause-no_change c = map_get-after_alone

@@ -1,11 +1,10 @@
 use Rattle.std.proofs.Common.{◌≡◌, ◌≤◌, ◌+◌, ◌*◌, drop}
-use Rattle.mst_key.specs.declared.format.Format.TheVariants.{One}
 use Rattle.mst_key.specs.Layer.{digits, zeros_in_front}
 use Rattle.mst_key.proofs.layer.zeros_of_digest.Given as goal
 
 -- the zeros so far and those of the bytes to come are those of the digest
 abbrev pub invariant-loop-byte : goal.invariant-loop-byte
 invariant-loop-byte l = record {
-  rest : l.zeros + zeros_in_front (digits One (drop l.byte-index l.digest)) ≡ zeros_in_front (digits One l.digest);
-  range : l.zeros ≤ 2 * l.byte-index;
+  rest : l.zeros + zeros_in_front (digits l.format (drop l.byte-index l.digest)) ≡ zeros_in_front (digits l.format l.digest);
+  range : l.zeros ≤ 4 * l.byte-index;
 }

@@ -1,7 +1,6 @@
 use Rattle.std.proofs.Common.{length, ◌≡◌, ◌≤◌, [], map, drop}
 use Rattle.std.specs.Prelude.{slice_range}
-use Rattle.mst_key.specs.declared.format.Format.TheVariants.{One}
-use Rattle.mst_key.specs.Layer.{layer}
+use Rattle.mst_key.specs.Layer.{layer_in}
 use Rattle.mst_node.specs.Tree.{tree, entries_of}
 use Rattle.mst_node.specs.Shape.{tree_entry, with_entries}
 use Rattle.mst_node.proofs.Trees.{Has}
@@ -14,6 +13,6 @@ decreases-subtree g l = length l.pairs.now
 abbrev pub invariant-loop-i : goal.invariant-loop-i
 invariant-loop-i g l = record {
   gap : l.start ≤ l.i;
-  entries : with_entries (map (tree_entry One) l.entries.items) (entries_of layer (tree One) l.top (slice_range l.pairs l.start l.i) (drop l.i l.pairs)) ≡ entries_of layer (tree One) l.top [] l.pairs;
-  some : l.start ≡ 0 → Has layer l.top (drop l.i l.pairs);
+  entries : with_entries (map (tree_entry l.format) l.entries.items) (entries_of (layer_in l.format) (tree l.format) l.top (slice_range l.pairs l.start l.i) (drop l.i l.pairs)) ≡ entries_of (layer_in l.format) (tree l.format) l.top [] l.pairs;
+  some : l.start ≡ 0 → Has (layer_in l.format) l.top (drop l.i l.pairs);
 }

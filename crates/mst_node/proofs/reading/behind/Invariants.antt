@@ -1,8 +1,7 @@
 use Rattle.std.proofs.Common.{◌≡◌, ◌-◌}
-use Rattle.mst_key.specs.declared.format.Format.TheVariants.{One}
 use Rattle.mst_node.specs.Reading.{behind_at}
 use Rattle.mst_node.proofs.reading.behind.Given as goal
 
 -- what lies behind the entries to come lies behind all
 abbrev pub invariant-loop : goal.invariant-loop
-invariant-loop l = behind_at One (l.count - l.counter) l.rest ≡ behind_at One l.count l.bytes
+invariant-loop l = behind_at l.format (l.count - l.counter) l.rest ≡ behind_at l.format l.count l.bytes

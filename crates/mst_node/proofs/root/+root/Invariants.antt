@@ -1,8 +1,7 @@
 use Rattle.std.proofs.Common.{◌≡◌, ◌≤◌, ◌+◌, ◌*◌, ℕ, List, length, ◌++◌, drop}
 use Rattle.std.specs.Prelude.{slice_range}
 use Rattle.sha2.specs.Hashers.{Holds256}
-use Rattle.mst_key.specs.declared.format.Format.TheVariants.{One}
-use Rattle.mst_key.specs.Layer.{layer}
+use Rattle.mst_key.specs.Layer.{layer_in}
 use Rattle.mst_node.specs.Tree.{tree, entries_of}
 use Rattle.mst_node.specs.Text.{text}
 use Rattle.mst_node.specs.Top.{IsTop}
@@ -21,7 +20,7 @@ decreases-gap_digest l = 2 * length l.pairs.now + 1
 abbrev pub invariant-digest_of-loop-i : goal.invariant-digest_of-loop-i
 invariant-digest_of-loop-i l = record {
   within : l.start ≤ l.i;
-  some : l.start ≡ 0 → Has layer l.top.layer (drop l.i l.pairs);
-  gap_top : IsTop (slice_range l.pairs l.start l.i) l.gap;
-  fed : (front : List ℕ) × Holds256 l.hasher front × (front ++ entries_text One (entries_of layer (tree One) l.top.layer (slice_range l.pairs l.start l.i) (drop l.i l.pairs)) ≡ text (tree One l.pairs));
+  some : l.start ≡ 0 → Has (layer_in l.format) l.top.layer (drop l.i l.pairs);
+  gap_top : IsTop l.format (slice_range l.pairs l.start l.i) l.gap;
+  fed : (front : List ℕ) × Holds256 l.hasher front × (front ++ entries_text l.format (entries_of (layer_in l.format) (tree l.format) l.top.layer (slice_range l.pairs l.start l.i) (drop l.i l.pairs)) ≡ text (tree l.format l.pairs));
 }

@@ -1,7 +1,6 @@
 use Rattle.std.proofs.Common.{length, ◌++◌, take}
 use Rattle.std.specs.List.{flat_map}
 use Rattle.sha2.specs.Hashers.{Holds256}
-use Rattle.mst_key.specs.declared.format.Format.TheVariants.{One}
 use Rattle.mst_node.specs.declared.node.Node.{out-Node}
 use Rattle.mst_node.specs.Text.{heading}
 use Rattle.mst_node.proofs.Shapes.{text_of_entry}
@@ -11,4 +10,4 @@ use Rattle.mst_node.proofs.texts.+digest.Given as goal
 abbrev pub invariant-node_digest-loop-entry : goal.invariant-node_digest-loop-entry
 invariant-node_digest-loop-entry g l =
     let n = out-Node g.row.A.Denot l.node in
-    Holds256 l.hasher (heading One n.layer (length n.entries.items) ++ flat_map (text_of_entry One) (take l.entry-index n.entries.items))
+    Holds256 l.hasher (heading l.format n.layer (length n.entries.items) ++ flat_map (text_of_entry l.format) (take l.entry-index n.entries.items))

@@ -1,10 +1,12 @@
 use Rattle.std.proofs.Common.{arith, rules}
 use Rattle.std.proofs.lemmas.Grind.{elements}
-use Rattle.std.proofs.Common.{sym, subst, refl, ◌∷◌, [], List, ℕ}
+use Rattle.std.proofs.Common.{◌≡◌, ◌∙◌, ◌++◌, Some, sym, ap, subst, refl, ◌∷◌, [], List, ℕ}
 use Rattle.std.proofs.lemmas.List.{append-nil}
+use Rattle.mst_arena.specs.Content.{Content}
 use Rattle.mst_arena.specs.Lives.{State}
+use Rattle.mst_arena.specs.Standing.{rows_of, HasRows}
 use Rattle.mst_path.specs.Moves.{IsOld, Moves}
-use Rattle.mst_path.specs.Writing.{ahead}
+use Rattle.mst_path.specs.Writing.{ahead, IsWritten}
 use Rattle.mst_path.proofs.lemmas.rows.Moving.{moves_takes, moves_kill, moves_then, old_stays}
 use Rattle.mst_path.proofs.copying.move_entry.Goals as goal
 
@@ -46,7 +48,12 @@ pub returns-clause-writer : goal.returns-clause-writer
 returns-clause-writer g c = search rules
 
 pub returns-clause-written : goal.returns-clause-written
-returns-clause-written g c = search rules
+returns-clause-written g c format es p r v next has_value w root has out =
+    let same : g.R.Rows.content c.value-value.new.self ≡ g.R.Rows.content c.args.rows.now = ap g.R.Rows.content c.value-value.ensures.same in
+    let both : Some c.value-value.result ≡ Some v = sym c.value-value.ensures.value ∙ has_value in
+    let read : c.value-value.result ≡ v = cc in
+    let written = c.entry.ensures.written format es p r next (subst (λ (x : Content). IsWritten format c.args.writer.now x es) (sym same) w) root (subst (λ (x : Content). HasRows x (rows_of format p)) (sym same) has) out in
+    subst (λ (x : List ℕ). IsWritten format c.entry.new.self (g.R.Rows.content c.entry.new.rows) (es ++ record { at = r; child = p; key = c.args.key.now; value = x } ∷ [])) read written
 
 pub returns-clause-node : goal.returns-clause-node
 returns-clause-node g c = search rules

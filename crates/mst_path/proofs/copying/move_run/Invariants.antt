@@ -1,3 +1,4 @@
+use Rattle.mst_key.specs.declared.format.Format.{Format}
 use Rattle.std.proofs.Common.{◌≡◌, ◌≤◌, ◌+◌, IfSome, IsTrue, length}
 use Rattle.mst_arena.specs.Lives.{free_count}
 use Rattle.mst_path.specs.Takes.{FreeIsBlank}
@@ -17,5 +18,5 @@ invariant-loop g l = record {
   kept : g.R.Rows.kept l.rows ≡ g.R.Rows.kept l.fn.rows;
   next : IfSome l.writer.next (λ r. IsTrue (g.R.Rows.blank l.rows r));
   free : FreeIsBlank l.desk.lives (g.R.Rows.blank l.rows);
-  progress : (k : Copying l.fn.writer (g.R.Rows.content l.fn.rows) l.fn.desk l.fn.from l.fn.count) → Progress k l.counter l.writer (g.R.Rows.content l.rows) l.desk l.link;
+  progress : (format : Format) (k : Copying format l.fn.writer (g.R.Rows.content l.fn.rows) l.fn.desk l.fn.from l.fn.count) → Progress format k l.counter l.writer (g.R.Rows.content l.rows) l.desk l.link;
 }

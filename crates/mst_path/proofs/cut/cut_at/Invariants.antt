@@ -1,3 +1,4 @@
+use Rattle.mst_key.specs.declared.format.Format.{Format}
 use Rattle.std.proofs.Common.{◌≡◌, List}
 use Rattle.mst_path.specs.Writing.{PlacedEntry}
 use Rattle.mst_path.specs.Cutting.{EntriesLie}
@@ -8,5 +9,5 @@ use Rattle.mst_path.proofs.cut.cut_at.Given as goal
 abbrev pub invariant-loop-count : goal.invariant-loop-count
 invariant-loop-count g l = record {
   same : l.rows ≡ l.initial.rows;
-  onward : (es : List PlacedEntry) → EntriesLie (g.R.Rows.content l.initial.rows) l.initial.head es → Onward (g.R.Rows.content l.initial.rows) l.key es l.link l.count l.head.count;
+  onward : (format : Format) (es : List PlacedEntry) → EntriesLie (g.R.Rows.content l.initial.rows) l.initial.head es → Onward format (g.R.Rows.content l.initial.rows) l.key es l.link l.count l.head.count;
 }

@@ -1,6 +1,6 @@
 use Rattle.std.proofs.Common.{◌≡◌, ◌∙◌, ◌<◌, ℕ, List, Some, IsSome, sym, ap, subst, arith, rules}
 use Rattle.mst_key.specs.Map.{IsAscending, map_get}
-use Rattle.mst_key.specs.declared.format.Format.TheVariants.{One}
+use Rattle.mst_key.specs.declared.format.Format.{Format}
 use Rattle.mst_node.specs.Tree.{pairs}
 use Rattle.mst_arena.specs.Content.{Content, part_at}
 use Rattle.mst_arena.specs.Lives.{State}
@@ -19,12 +19,13 @@ use Rattle.mst_path.proofs.finding.+find.Goals as goal
 
 pub cut_at-requires : goal.cut_at-requires
 cut_at-requires g t c =
+    let format = c.requires.tree.0 in
     let content = g.R.Rows.content c.args.rows.now in
-    let s = c.requires.tree.0 in
-    let z = c.requires.tree.1 in
+    let s = c.requires.tree.1 in
+    let z = c.requires.tree.2 in
     let some = positive c.args.link c.if-link-eq0.false in
-    let o = top content s c.args.link z c.args.key.now c.head-head.result some c.head-head.ensures.value in
-    record { lies = subst (λ (x : Content). (es : List PlacedEntry) × EntriesLie x c.head-head.result es) (sym (ap g.R.Rows.content c.head-head.ensures.same)) (o.entries, lies content s c.args.link z c.args.key.now c.head-head.result some c.head-head.ensures.value) }
+    let o = top format content s c.args.link z c.args.key.now c.head-head.result some c.head-head.ensures.value in
+    record { lies = subst (λ (x : Content). (es : List PlacedEntry) × EntriesLie x c.head-head.result es) (sym (ap g.R.Rows.content c.head-head.ensures.same)) (o.entries, lies format content s c.args.link z c.args.key.now c.head-head.result some c.head-head.ensures.value) }
 
 -- ---- the key falls into a gap
 
@@ -32,26 +33,27 @@ module _ (g : Over) (n : ℕ) (c : goal.In-Gap g n) where
   gap_rows : g.R.Rows.content c.cut_at.new.rows ≡ g.R.Rows.content c.args.rows.now
   gap_rows = ap g.R.Rows.content (c.cut_at.ensures.same ∙ c.head-head.ensures.same)
 
-  below : (s : State) (z : SearchTree (g.R.Rows.content c.args.rows.now) s c.args.link) → IsAscending (pairs (tree_of One z.placed)) → FindsBelow (g.R.Rows.content c.args.rows.now) s c.args.link z c.args.key.now c.in-Gap.child
-  below s z rise =
-      finds_below (g.R.Rows.content c.args.rows.now) s c.args.link z c.args.key.now c.head-head.result (positive c.args.link c.if-link-eq0.false) c.head-head.ensures.value rise c.in-Gap.front c.in-Gap.back c.in-Gap.child
-      (cut_top (g.R.Rows.content c.args.rows.now) s c.args.link z c.args.key.now c.head-head.result (positive c.args.link c.if-link-eq0.false) c.head-head.ensures.value (ap g.R.Rows.content c.head-head.ensures.same) c.cut_at.ensures.cut c.in-Gap.is)
+  below : (format : Format) (s : State) (z : SearchTree format (g.R.Rows.content c.args.rows.now) s c.args.link) → IsAscending (pairs (tree_of format z.placed)) → FindsBelow format (g.R.Rows.content c.args.rows.now) s c.args.link z c.args.key.now c.in-Gap.child
+  below format s z rise =
+      finds_below format (g.R.Rows.content c.args.rows.now) s c.args.link z c.args.key.now c.head-head.result (positive c.args.link c.if-link-eq0.false) c.head-head.ensures.value rise c.in-Gap.front c.in-Gap.back c.in-Gap.child
+      (cut_top format (g.R.Rows.content c.args.rows.now) s c.args.link z c.args.key.now c.head-head.result (positive c.args.link c.if-link-eq0.false) c.head-head.ensures.value (ap g.R.Rows.content c.head-head.ensures.same) (c.cut_at.ensures.cut format) c.in-Gap.is)
 
 pub find-requires : goal.find-requires
 find-requires g t c κs within =
+    let format = c.requires.tree.0 in
     let at = (goal.at.find-requires g t c).In-Gap in
-    let lower = below g t at c.requires.tree.0 c.requires.tree.1 c.requires.tree.2 in
+    let lower = below g t at format c.requires.tree.1 c.requires.tree.2 c.requires.tree.3 in
     let same = gap_rows g t at in
     let falls = subst (λ (x : Content). height_at x c.in-Gap.child < height_at (g.R.Rows.content c.args.rows.now) c.args.link) (sym same) lower.falls in (
       omega (arith, c.decreases, falls),
-      (search rules, subst (λ (x : Content). (q : State) × (y : SearchTree x q c.in-Gap.child) × IsAscending (pairs (tree_of One y.placed))) (sym same) (c.requires.tree.0, lower.inner, lower.rise)),
+      (search rules, subst (λ (x : Content). (f : Format) × (q : State) × (y : SearchTree f x q c.in-Gap.child) × IsAscending (pairs (tree_of f y.placed))) (sym same) (format, c.requires.tree.1, lower.inner, lower.rise)),
     )
 
 pub returns-in-Gap-clause-found : goal.returns-in-Gap-clause-found
-returns-in-Gap-clause-found g t c = λ s z rise.
+returns-in-Gap-clause-found g t c = λ format s z rise.
     let at = (goal.at.returns-in-Gap-clause-found g t c).In-Gap in
-    let lower = below g t at s z rise in
-    let found = subst (λ (x : Content). (q : State) (y : SearchTree x q c.in-Gap.child) → IsAscending (pairs (tree_of One y.placed)) → c.find.result ≡ map_get (pairs (tree_of One y.placed)) c.args.key.now) (gap_rows g t at) c.find.ensures.found s lower.inner lower.rise in
+    let lower = below g t at format s z rise in
+    let found = subst (λ (x : Content). (q : State) (y : SearchTree format x q c.in-Gap.child) → IsAscending (pairs (tree_of format y.placed)) → c.find.result ≡ map_get (pairs (tree_of format y.placed)) c.args.key.now) (gap_rows g t at) (c.find.ensures.found format) s lower.inner lower.rise in
     found ∙ sym lower.same
 
 -- ---- the key's entry is held
@@ -60,20 +62,21 @@ module _ (g : Over) (n : ℕ) (c : goal.In-Held g n) where
   held_rows : g.R.Rows.content c.cut_at.new.rows ≡ g.R.Rows.content c.args.rows.now
   held_rows = ap g.R.Rows.content (c.cut_at.ensures.same ∙ c.head-head.ensures.same)
 
-  here : (s : State) (z : SearchTree (g.R.Rows.content c.args.rows.now) s c.args.link) → IsAscending (pairs (tree_of One z.placed)) → FindsHere (g.R.Rows.content c.args.rows.now) s c.args.link z c.args.key.now c.in-Held.row
-  here s z rise =
-      finds_here (g.R.Rows.content c.args.rows.now) s c.args.link z c.args.key.now c.head-head.result (positive c.args.link c.if-link-eq0.false) c.head-head.ensures.value rise c.in-Held.front c.in-Held.back c.in-Held.row c.in-Held.child
-      (cut_top (g.R.Rows.content c.args.rows.now) s c.args.link z c.args.key.now c.head-head.result (positive c.args.link c.if-link-eq0.false) c.head-head.ensures.value (ap g.R.Rows.content c.head-head.ensures.same) c.cut_at.ensures.cut c.in-Held.is)
+  here : (format : Format) (s : State) (z : SearchTree format (g.R.Rows.content c.args.rows.now) s c.args.link) → IsAscending (pairs (tree_of format z.placed)) → FindsHere format (g.R.Rows.content c.args.rows.now) s c.args.link z c.args.key.now c.in-Held.row
+  here format s z rise =
+      finds_here format (g.R.Rows.content c.args.rows.now) s c.args.link z c.args.key.now c.head-head.result (positive c.args.link c.if-link-eq0.false) c.head-head.ensures.value rise c.in-Held.front c.in-Held.back c.in-Held.row c.in-Held.child
+      (cut_top format (g.R.Rows.content c.args.rows.now) s c.args.link z c.args.key.now c.head-head.result (positive c.args.link c.if-link-eq0.false) c.head-head.ensures.value (ap g.R.Rows.content c.head-head.ensures.same) (c.cut_at.ensures.cut format) c.in-Held.is)
 
 pub value-requires : goal.value-requires
 value-requires g t c =
+    let format = c.requires.tree.0 in
     let at = (goal.at.value-requires g t c).In-Held in
-    let found = here g t at c.requires.tree.0 c.requires.tree.1 c.requires.tree.2 in
+    let found = here g t at format c.requires.tree.1 c.requires.tree.2 c.requires.tree.3 in
     record { there = subst (λ (x : Content). IsSome (part_at entry_value x c.in-Held.row)) (sym (held_rows g t at)) (some_value (g.R.Rows.content c.args.rows.now) c.in-Held.row found.value found.there) }
 
 pub returns-in-Held-clause-found : goal.returns-in-Held-clause-found
-returns-in-Held-clause-found g t c = λ s z rise.
+returns-in-Held-clause-found g t c = λ format s z rise.
     let at = (goal.at.returns-in-Held-clause-found g t c).In-Held in
-    let found = here g t at s z rise in
+    let found = here g t at format s z rise in
     let read : part_at entry_value (g.R.Rows.content c.args.rows.now) c.in-Held.row ≡ Some c.value.result = ap (λ (x : Content). part_at entry_value x c.in-Held.row) (sym (held_rows g t at)) ∙ c.value.ensures.value in
     sym read ∙ found.there ∙ sym found.same

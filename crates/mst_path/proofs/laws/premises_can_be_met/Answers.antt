@@ -6,10 +6,10 @@ use Rattle.mst_path.proofs.lemmas.versions.Reached.{reached_old}
 use Rattle.mst_path.proofs.laws.premises_can_be_met.Goals as goal
 
 pub returns-clause-tree : goal.returns-clause-tree
-returns-clause-tree c m few = record { few = few; is = refl }
+returns-clause-tree c f m few = record { few = few; is = refl }
 
 pub returns-clause-stands : goal.returns-clause-stands
-returns-clause-stands c content s at m settled has = (m, has.stands, reached_old s (numbers has.stands) settled has.rows)
+returns-clause-stands c f content s at m settled has = (m, has.stands, reached_old s (numbers has.stands) settled has.rows)
 
 pub returns-clause-numbers : goal.returns-clause-numbers
 returns-clause-numbers c kept xs ys is v =

@@ -6,6 +6,7 @@ use Rattle.mst_path.specs.Reached.{ReachesExactly}
 use Rattle.mst_path.proofs.lemmas.versions.Reached as reached
 use Rattle.mst_path.proofs.lemmas.rows.RowCounts.{as_many}
 use Rattle.mst_path.proofs.lemmas.rows.FreeCounts.{count_swept, alone}
+use Rattle.mst_path.proofs.lemmas.versions.Migrated.{changes, moved}
 use Rattle.mst_path.proofs.laws.reach_laws.Goals as goal
 
 pub returns-clause-older : goal.returns-clause-older
@@ -26,6 +27,9 @@ returns-clause-rows c old new before after change = as_many old new before after
 
 pub returns-clause-planted : goal.returns-clause-planted
 returns-clause-planted c old new rows takes = reached.planted old new rows takes
+
+pub returns-clause-felled : goal.returns-clause-felled
+returns-clause-felled c old mid new before after takes fells = changes old new after before (moved old mid new after before takes fells)
 
 pub returns-clause-old : goal.returns-clause-old
 returns-clause-old c s rows settled exact = reached.reached_old s rows settled exact

@@ -1,6 +1,6 @@
 -- A remove makes no more rows new than its tree has, and a put no more than twice as many and two.
+use Rattle.mst_key.specs.declared.format.Format.{Format}
 use Rattle.std.proofs.Common.{◌≡◌, ℕ, ◌+◌, ◌*◌, ◌≤◌, false, List, length, refl, arith, length-append}
-use Rattle.mst_key.specs.declared.format.Format.TheVariants.{One}
 use Rattle.mst_node.specs.Tree.{Tree, empty, node, Entries, last, entry, entry_count}
 use Rattle.mst_node.specs.Trail.{by_order}
 use Rattle.mst_arena.specs.Standing.{Placed, none, head, Chain, end, cell, tree_of, entries_of, used, chain_used}
@@ -24,13 +24,13 @@ abbrev mutual
   entries_size (entry child key value rest) = size child + 1 + entries_size rest
 
 mutual
-  pub size_used : (p : Placed) → length (used p) ≡ size (tree_of One p)
-  size_used none = refl
-  size_used (head at l chain) = omega (arith, chain_size chain)
+  pub size_used : (format : Format) (p : Placed) → length (used p) ≡ size (tree_of format p)
+  size_used format none = refl
+  size_used format (head at l chain) = omega (arith, chain_size format chain)
 
-  pub chain_size : (c : Chain) → length (chain_used c) ≡ entries_size (entries_of One c)
-  chain_size (end child) = size_used child
-  chain_size (cell at child key value rest) = omega (arith, size_used child, chain_size rest, length-append (used child) (chain_used rest))
+  pub chain_size : (format : Format) (c : Chain) → length (chain_used c) ≡ entries_size (entries_of format c)
+  chain_size format (end child) = size_used format child
+  chain_size format (cell at child key value rest) = omega (arith, size_used format child, chain_size format rest, length-append (used child) (chain_used rest))
 
 -- ---- the entries of a node, and the tree before or behind them
 

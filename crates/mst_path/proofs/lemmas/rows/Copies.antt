@@ -1,4 +1,5 @@
 -- Entries that are copied one after another.
+use Rattle.mst_key.specs.declared.format.Format.{Format}
 use Rattle.std.proofs.Common.{◌≡◌, ℕ, zero, suc, ◌+◌, ◌-◌, ◌<◌, ◌≤◌, Bool, true, false, eqb, List, [], ◌∷◌, ◌++◌, length, Option, Some, None, refl, sym, ◌∙◌, ap, subst, arith, inl, inr, append_assoc, length-append, IsTrue, IfSome, IsSome}
 use Rattle.std.specs.Prelude.{slice_get, option_and_then}
 use Rattle.mst_arena.specs.Row.{entry_links, entry_value}
@@ -6,7 +7,6 @@ use Rattle.mst_arena.specs.declared.row.EntryLinks.{EntryLinks}
 use Rattle.std.specs.List.{AllByRecursion}
 use Rattle.std.proofs.lemmas.Bool.Decides.{nat_tests}
 use Rattle.std.proofs.lemmas.List.{append-nil}
-use Rattle.mst_key.specs.declared.format.Format.TheVariants.{One}
 use Rattle.mst_arena.specs.Content.{Content}
 use Rattle.mst_arena.specs.Lives.{State, version, next}
 use Rattle.mst_arena.specs.Lists.{In, times, bit}
@@ -61,24 +61,24 @@ own_frame old new behind (e ∷ es) same has =
     let here : bit (eqb e.at e.at) ≡ 1 = let t : eqb e.at e.at ≡ true = grind (arith, nat_tests) in ap bit t in
     (same e.at (omega arith) ∙ has.0, own_frame old new behind es (λ r is. same r (omega arith)) has.1)
 
-pub gaps_frame : (c d : Content) (s t : State) (es : List PlacedEntry) → ((r : ℕ) → In r (gaps_used es) → d r ≡ c r) → ((r : ℕ) → In r (gaps_used es) → IsOld s r → IsOld t r) → EachGap (OldPiece c s) es → EachGap (OldPiece d t) es
-gaps_frame c d s t [] same old each = tt
-gaps_frame c d s t (e ∷ es) same old each =
+pub gaps_frame : (format : Format) (c d : Content) (s t : State) (es : List PlacedEntry) → ((r : ℕ) → In r (gaps_used es) → d r ≡ c r) → ((r : ℕ) → In r (gaps_used es) → IsOld s r → IsOld t r) → EachGap (OldPiece format c s) es → EachGap (OldPiece format d t) es
+gaps_frame format c d s t [] same old each = tt
+gaps_frame format c d s t (e ∷ es) same old each =
     let front : (r : ℕ) → In r (used e.child) → In r (gaps_used (e ∷ es)) = λ r is. omega (arith, is, times-append r (used e.child) (gaps_used es)) in
     let back : (r : ℕ) → In r (gaps_used es) → In r (gaps_used (e ∷ es)) = λ r is. omega (arith, is, times-append r (used e.child) (gaps_used es)) in (
       record {
-        rows = placed_frame One c d e.child (all_in (used e.child) (λ r is. same r (front r is))) each.0.rows;
+        rows = placed_frame format c d e.child (all_in (used e.child) (λ r is. same r (front r is))) each.0.rows;
         old = λ r is. old r (front r is) (each.0.old r is);
       },
-      gaps_frame c d s t es (λ r is. same r (back r is)) (λ r is. old r (back r is)) each.1,
+      gaps_frame format c d s t es (λ r is. same r (back r is)) (λ r is. old r (back r is)) each.1,
     )
 
 -- the trees in gaps stand on old rows
-pub gaps_old : (c : Content) (s : State) (x : ℕ) (es : List PlacedEntry) → EachGap (OldPiece c s) es → In x (gaps_used es) → IsOld s x
-gaps_old c s x [] each i = absurd (omega arith)
-gaps_old c s x (y ∷ es) each i = elim (in_either x (used y.child) (gaps_used es) i) [
+pub gaps_old : (format : Format) (c : Content) (s : State) (x : ℕ) (es : List PlacedEntry) → EachGap (OldPiece format c s) es → In x (gaps_used es) → IsOld s x
+gaps_old format c s x [] each i = absurd (omega arith)
+gaps_old format c s x (y ∷ es) each i = elim (in_either x (used y.child) (gaps_used es) i) [
   | inl k ↦ each.0.old x k
-  | inr k ↦ gaps_old c s x es each.1 k
+  | inr k ↦ gaps_old format c s x es each.1 k
 ]
 
 -- ---- one entry
@@ -90,7 +90,7 @@ copy_in r e = record { at = r; child = e.child; key = e.key; value = e.value }
 pub at_self : (x : ℕ) → bit (eqb x x) ≡ 1
 at_self x = let e : eqb x x ≡ true = grind (arith, nat_tests) in ap bit e
 
-module _ (w w' : NodeWriter) (c c' : Content) (s s' : State) (e : PlacedEntry) (rest ws : List PlacedEntry) (behind link count r : ℕ) (run : Run c s link count behind (e ∷ rest)) (going : Going w c s ws) (once : (x : ℕ) → times x (entries_used ws) + times x (own (e ∷ rest)) + times x (gaps_used (e ∷ rest)) ≤ 1) (is : w.next ≡ Some r) (moves : Moves s s' (ahead w'.next) (e.at ∷ [])) (keeps : KeepsBut (ahead w.next) c c') where
+module _ (format : Format) (w w' : NodeWriter) (c c' : Content) (s s' : State) (e : PlacedEntry) (rest ws : List PlacedEntry) (behind link count r : ℕ) (run : Run format c s link count behind (e ∷ rest)) (going : Going format w c s ws) (once : (x : ℕ) → times x (entries_used ws) + times x (own (e ∷ rest)) + times x (gaps_used (e ∷ rest)) ≤ 1) (is : w.next ≡ Some r) (moves : Moves s s' (ahead w'.next) (e.at ∷ [])) (keeps : KeepsBut (ahead w.next) c c') where
   row_ahead : (x : ℕ) → times x (ahead w.next) ≡ bit (eqb x r) + 0
   row_ahead x = ap (λ (o : Option ℕ). times x (ahead o)) is
 
@@ -160,7 +160,7 @@ module _ (w w' : NodeWriter) (c c' : Content) (s s' : State) (e : PlacedEntry) (
         tt,
       )
 
-  abbrev one_copied : IsWritten w' c' (ws ++ copy_in r e ∷ []) → Copied w w' c c' s s' ws (e ∷ [])
+  abbrev one_copied : IsWritten format w' c' (ws ++ copy_in r e ∷ []) → Copied format w w' c c' s s' ws (e ∷ [])
   one_copied written = record {
     copies = copy_in r e ∷ [];
     same = (refl, refl, refl, tt);
@@ -183,7 +183,7 @@ module _ (w w' : NodeWriter) (c c' : Content) (s s' : State) (e : PlacedEntry) (
       out_first x (y ∷ xs) ys out = (out.0, out_first x xs ys out.1)
 
   -- what is left to be copied
-  pub rest_runs : (n : ℕ) → n + 1 ≡ count → Run c' s' (link_from behind rest) n behind rest
+  pub rest_runs : (n : ℕ) → n + 1 ≡ count → Run format c' s' (link_from behind rest) n behind rest
   rest_runs n less =
       let own_kept : (x : ℕ) → In x (own rest) → c' x ≡ c x = λ x i. kept_at c c' (ahead w.next) x keeps (old_out x (run.old x (omega (arith, i)))) in
       let gap_in : (x : ℕ) → In x (gaps_used rest) → In x (gaps_used (e ∷ rest)) = λ x i. omega (arith, i, gaps_both x) in
@@ -192,8 +192,8 @@ module _ (w w' : NodeWriter) (c c' : Content) (s s' : State) (e : PlacedEntry) (
         begins = refl;
         rows = own_frame c c' behind rest own_kept run.rows.1;
         old = λ x i. old_stays s s' (ahead w'.next) (e.at ∷ []) moves x (run.old x (omega (arith, i))) (omega (arith, i, once x));
-        gaps = gaps_frame c c' s s' rest
-            (λ x i. kept_at c c' (ahead w.next) x keeps (old_out x (gaps_old c s x rest run.gaps.1 i)))
+        gaps = gaps_frame format c c' s s' rest
+            (λ x i. kept_at c c' (ahead w.next) x keeps (old_out x (gaps_old format c s x rest run.gaps.1 i)))
             (λ x i old. old_stays s s' (ahead w'.next) (e.at ∷ []) moves x old (omega (arith, gap_in x i, once x)))
             run.gaps.1;
       }
@@ -208,7 +208,7 @@ module _ (w w' : NodeWriter) (c c' : Content) (s s' : State) (e : PlacedEntry) (
           let one : bit (eqb x r) ≡ 1 = ap bit same in
           let no_child : times x (used e.child) ≡ 0 = not_in x (used e.child) (λ i. new_not_old s x new (gap_old x i)) in
           let no_own : times x (own rest) ≡ 0 = not_in x (own rest) (λ i. new_not_old s x new (run.old x (omega (arith, i)))) in
-          let no_gaps : times x (gaps_used rest) ≡ 0 = not_in x (gaps_used rest) (λ i. new_not_old s x new (gaps_old c s x rest run.gaps.1 i)) in
+          let no_gaps : times x (gaps_used rest) ≡ 0 = not_in x (gaps_used rest) (λ i. new_not_old s x new (gaps_old format c s x rest run.gaps.1 i)) in
           omega (arith, used_push x, going.once x, row_ahead x, one, no_child, no_own, no_gaps)
       go false other =
           let zero_bit : bit (eqb x r) ≡ 0 = ap bit other in
@@ -222,11 +222,11 @@ copies-append [] ds (e ∷ es) fs same more = absurd same
 copies-append (c ∷ cs) ds [] fs same more = absurd same
 copies-append (c ∷ cs) ds (e ∷ es) fs same more = (same.0, same.1, same.2, copies-append cs ds es fs same.3 more)
 
-abbrev copied_none : (w : NodeWriter) (c : Content) (s : State) (ws : List PlacedEntry) → Going w c s ws → Copied w w c c s s ws []
-copied_none w c s ws going = record {
+abbrev copied_none : (format : Format) (w : NodeWriter) (c : Content) (s : State) (ws : List PlacedEntry) → Going format w c s ws → Copied format w w c c s s ws []
+copied_none format w c s ws going = record {
   copies = [];
   same = tt;
-  going = subst (Going w c s) (sym (append-nil ws)) going;
+  going = subst (Going format w c s) (sym (append-nil ws)) going;
   taken = [];
   moves = moves_none s;
   keeps = λ x out. refl;
@@ -234,12 +234,12 @@ copied_none w c s ws going = record {
   counted = omega arith;
 }
 
-module _ (w0 w1 w2 : NodeWriter) (c0 c1 c2 : Content) (s0 s1 s2 : State) (ws es fs : List PlacedEntry) (one : Copied w0 w1 c0 c1 s0 s1 ws es) (two : Copied w1 w2 c1 c2 s1 s2 (ws ++ one.copies) fs) where
-  abbrev copied_then : Copied w0 w2 c0 c2 s0 s2 ws (es ++ fs)
+module _ (format : Format) (w0 w1 w2 : NodeWriter) (c0 c1 c2 : Content) (s0 s1 s2 : State) (ws es fs : List PlacedEntry) (one : Copied format w0 w1 c0 c1 s0 s1 ws es) (two : Copied format w1 w2 c1 c2 s1 s2 (ws ++ one.copies) fs) where
+  abbrev copied_then : Copied format w0 w2 c0 c2 s0 s2 ws (es ++ fs)
   copied_then = record {
     copies = one.copies ++ two.copies;
     same = copies-append one.copies two.copies es fs one.same two.same;
-    going = subst (Going w2 c2 s2) (append_assoc ws one.copies two.copies) two.going;
+    going = subst (Going format w2 c2 s2) (append_assoc ws one.copies two.copies) two.going;
     taken = one.taken ++ two.taken;
     moves = subst (Moves s0 s2 (one.taken ++ two.taken)) (sym (own-append es fs)) (moves_then s0 s1 s2 one.taken (own es) two.taken (own fs) one.moves two.moves);
     keeps = λ x out.
@@ -254,7 +254,7 @@ module _ (w0 w1 w2 : NodeWriter) (c0 c1 c2 : Content) (s0 s1 s2 : State) (ws es 
 
 -- ---- so many of them
 
-module _ {w0 : NodeWriter} {c0 : Content} {s0 : State} {from count : ℕ} (k : Copying w0 c0 s0 from count) where
+module _ (format : Format) {w0 : NodeWriter} {c0 : Content} {s0 : State} {from count : ℕ} (k : Copying format w0 c0 s0 from count) where
   -- the first i entries are copied
   pub record Progress (i : ℕ) (w : NodeWriter) (c : Content) (s : State) (link : ℕ) : Type 0 where
     pub first : List PlacedEntry
@@ -262,8 +262,8 @@ module _ {w0 : NodeWriter} {c0 : Content} {s0 : State} {from count : ℕ} (k : C
     pub split : k.es ≡ first ++ rest
     pub left : ℕ
     pub adds : i + left ≡ count
-    pub copied : Copied w0 w c0 c s0 s k.ws first
-    pub run : Run c s link left k.behind rest
+    pub copied : Copied format w0 w c0 c s0 s k.ws first
+    pub run : Run format c s link left k.behind rest
     pub once : (x : ℕ) → times x (entries_used (k.ws ++ copied.copies)) + times x (own rest) + times x (gaps_used rest) ≤ 1
 
   pub starts : Progress 0 w0 c0 s0 from
@@ -273,7 +273,7 @@ module _ {w0 : NodeWriter} {c0 : Content} {s0 : State} {from count : ℕ} (k : C
     split = refl;
     left = count;
     adds = omega arith;
-    copied = copied_none w0 c0 s0 k.ws k.going;
+    copied = copied_none format w0 c0 s0 k.ws k.going;
     run = k.run;
     once = λ x. omega (arith, k.once x, ap (λ (l : List PlacedEntry). times x (entries_used l)) (append-nil k.ws));
   }
@@ -292,8 +292,8 @@ module _ {w0 : NodeWriter} {c0 : Content} {s0 : State} {from count : ℕ} (k : C
       go (x ∷ xs) e = record { entry = x; more = xs; is = e }
 
   module _ {i : ℕ} {w : NodeWriter} {c : Content} {s : State} {link : ℕ} {p : Progress i w c s link} (n : Next i w c s link p) where
-    pub next_run : Run c s link p.left k.behind (n.entry ∷ n.more)
-    next_run = subst (Run c s link p.left k.behind) n.is p.run
+    pub next_run : Run format c s link p.left k.behind (n.entry ∷ n.more)
+    next_run = subst (Run format c s link p.left k.behind) n.is p.run
 
     pub link_is : link ≡ n.entry.at + 1
     link_is = sym next_run.begins
@@ -310,11 +310,11 @@ module _ {w0 : NodeWriter} {c0 : Content} {s0 : State} {from count : ℕ} (k : C
     once_more : (x : ℕ) → times x (entries_used (k.ws ++ p.copied.copies)) + times x (own (n.entry ∷ n.more)) + times x (gaps_used (n.entry ∷ n.more)) ≤ 1
     once_more = subst (λ (l : List PlacedEntry). (x : ℕ) → times x (entries_used (k.ws ++ p.copied.copies)) + times x (own l) + times x (gaps_used l) ≤ 1) n.is p.once
 
-    pub steps : (w' : NodeWriter) (c' : Content) (s' : State) (r : ℕ) → w.next ≡ Some r → Moves s s' (ahead w'.next) (n.entry.at ∷ []) → KeepsBut (ahead w.next) c c' → IsWritten w' c' ((k.ws ++ p.copied.copies) ++ copy_in r n.entry ∷ []) → Progress (i + 1) w' c' s' (link_from k.behind n.more)
+    pub steps : (w' : NodeWriter) (c' : Content) (s' : State) (r : ℕ) → w.next ≡ Some r → Moves s s' (ahead w'.next) (n.entry.at ∷ []) → KeepsBut (ahead w.next) c c' → IsWritten format w' c' ((k.ws ++ p.copied.copies) ++ copy_in r n.entry ∷ []) → Progress (i + 1) w' c' s' (link_from k.behind n.more)
     steps w' c' s' r is moves keeps written =
         let ws = k.ws ++ p.copied.copies in
-        let one = one_copied w w' c c' s s' n.entry n.more ws k.behind link p.left r next_run p.copied.going once_more is moves keeps written in
-        let whole = copied_then w0 w w' c0 c c' s0 s s' k.ws p.first (n.entry ∷ []) p.copied one in
+        let one = one_copied format w w' c c' s s' n.entry n.more ws k.behind link p.left r next_run p.copied.going once_more is moves keeps written in
+        let whole = copied_then format w0 w w' c0 c c' s0 s s' k.ws p.first (n.entry ∷ []) p.copied one in
         let counted : length n.more + 1 ≡ p.left = omega (arith, next_run.counted) in
         record {
           first = p.first ++ n.entry ∷ [];
@@ -323,15 +323,15 @@ module _ {w0 : NodeWriter} {c0 : Content} {s0 : State} {from count : ℕ} (k : C
           left = length n.more;
           adds = omega (arith, p.adds, counted);
           copied = whole;
-          run = rest_runs w w' c c' s s' n.entry n.more ws k.behind link p.left r next_run p.copied.going once_more is moves keeps (length n.more) counted;
-          once = λ x. omega (arith, rest_once w w' c c' s s' n.entry n.more ws k.behind link p.left r next_run p.copied.going once_more is moves keeps x, ap (λ (l : List PlacedEntry). times x (entries_used l)) (append_assoc k.ws p.copied.copies (copy_in r n.entry ∷ [])));
+          run = rest_runs format w w' c c' s s' n.entry n.more ws k.behind link p.left r next_run p.copied.going once_more is moves keeps (length n.more) counted;
+          once = λ x. omega (arith, rest_once format w w' c c' s s' n.entry n.more ws k.behind link p.left r next_run p.copied.going once_more is moves keeps x, ap (λ (l : List PlacedEntry). times x (entries_used l)) (append_assoc k.ws p.copied.copies (copy_in r n.entry ∷ [])));
         }
 
-  pub ends : {i : ℕ} {w : NodeWriter} {c : Content} {s : State} {link : ℕ} → Progress i w c s link → i ≡ count → (link ≡ k.behind) × Copied w0 w c0 c s0 s k.ws k.es
+  pub ends : {i : ℕ} {w : NodeWriter} {c : Content} {s : State} {link : ℕ} → Progress i w c s link → i ≡ count → (link ≡ k.behind) × Copied format w0 w c0 c s0 s k.ws k.es
   ends {w = w} {c = c} {s = s} {link = link} p all = go p.rest refl
     where
-      go : (l : List PlacedEntry) → p.rest ≡ l → (link ≡ k.behind) × Copied w0 w c0 c s0 s k.ws k.es
-      go [] e = (sym p.run.begins ∙ ap (link_from k.behind) e, subst (Copied w0 w c0 c s0 s k.ws) (sym (p.split ∙ ap (λ (l : List PlacedEntry). p.first ++ l) e ∙ append-nil p.first)) p.copied)
+      go : (l : List PlacedEntry) → p.rest ≡ l → (link ≡ k.behind) × Copied format w0 w c0 c s0 s k.ws k.es
+      go [] e = (sym p.run.begins ∙ ap (link_from k.behind) e, subst (Copied format w0 w c0 c s0 s k.ws) (sym (p.split ∙ ap (λ (l : List PlacedEntry). p.first ++ l) e ∙ append-nil p.first)) p.copied)
       go (x ∷ xs) e = absurd (omega (arith, all, p.adds, p.run.counted, ap (λ (l : List PlacedEntry). length l) e))
 
 -- ---- what stays possible
@@ -390,8 +390,8 @@ one_ahead None = omega arith
 one_ahead (Some r) = omega arith
 
 -- the new row is none of those that are written, nor of an old tree
-pub row_out : (w : NodeWriter) (c : Content) (s : State) (ws : List PlacedEntry) (p : Placed) (r : ℕ) → Going w c s ws → w.next ≡ Some r → ((x : ℕ) → In x (used p) → IsOld s x) → IsOut r (entries_used ws ++ used p)
-row_out w c s ws p r going is old =
+pub row_out : (format : Format) (w : NodeWriter) (c : Content) (s : State) (ws : List PlacedEntry) (p : Placed) (r : ℕ) → Going format w c s ws → w.next ≡ Some r → ((x : ℕ) → In x (used p) → IsOld s x) → IsOut r (entries_used ws ++ used p)
+row_out format w c s ws p r going is old =
     let row : times r (ahead w.next) ≡ bit (eqb r r) + 0 = ap (λ (o : Option ℕ). times r (ahead o)) is in
     let none : times r (used p) ≡ 0 = not_in r (used p) (λ i. new_not_old s r (going.new r (omega (arith, row, at_self r))) (old r i)) in
     out_of_times r (entries_used ws ++ used p) (omega (arith, times-append r (entries_used ws) (used p), going.once r, row, at_self r, none))

@@ -1,9 +1,9 @@
 -- The frame of a gap stays while the tree in the gap is made anew, and is closed round it.
+use Rattle.mst_key.specs.declared.format.Format.{Format}
 use Rattle.std.proofs.Common.{◌≡◌, ℕ, zero, suc, ◌+◌, ◌<◌, ◌≤◌, Bool, false, eqb, List, [], ◌∷◌, ◌++◌, length, Option, Some, None, refl, sym, ◌∙◌, ap, subst, arith, inl, inr, ◌⊎◌, length-append, ◌==◌, ◌||◌}
 use Rattle.std.specs.Prelude.{slice_get, if◌then◌else◌}
 use Rattle.std.proofs.lemmas.Bool.Decides.{nat_tests}
 use Rattle.std.proofs.lemmas.List.{length-map}
-use Rattle.mst_key.specs.declared.format.Format.TheVariants.{One}
 use Rattle.mst_node.specs.Tree.{Tree, node, Entries, last, entry, entry_count}
 use Rattle.mst_node.specs.Shape.{TreeEntry, with_entries}
 use Rattle.mst_arena.specs.Content.{Content}
@@ -53,41 +53,41 @@ some_of : (a b : ℕ) → 0 < a + b → (0 < a) ⊎ (0 < b)
 some_of zero b h = inr (omega (arith, h))
 some_of (suc a) b h = inl (omega arith)
 
-module _ (c : Content) (s : State) (frame : Frame) (given : ℕ → ℕ) (f : Framed c s frame given) where
-  pub entries_old : (x : ℕ) → 0 < in_entries f x → IsOld s x
+module _ (format : Format) (c : Content) (s : State) (frame : Frame) (given : ℕ → ℕ) (f : Framed format c s frame given) where
+  pub entries_old : (x : ℕ) → 0 < in_entries format f x → IsOld s x
   entries_old x i = elim (some_of (times x (own f.front) + times x (gaps_used f.front) + times x (own f.back) + times x (gaps_used (others f.back))) (times x (used f.tail)) i) [
     | inr k ↦ f.back_run.tail_piece.old x k
     | inl i ↦ elim (some_of (times x (own f.front) + times x (gaps_used f.front) + times x (own f.back)) (times x (gaps_used (others f.back))) i) [
-      | inr k ↦ gaps_old c s x (others f.back) f.back_run.gaps k
+      | inr k ↦ gaps_old format c s x (others f.back) f.back_run.gaps k
       | inl i ↦ elim (some_of (times x (own f.front) + times x (gaps_used f.front)) (times x (own f.back)) i) [
         | inr k ↦ f.back_run.old x k
         | inl i ↦ elim (some_of (times x (own f.front)) (times x (gaps_used f.front)) i) [
-          | inr k ↦ gaps_old c s x f.front f.front_run.gaps k
+          | inr k ↦ gaps_old format c s x f.front f.front_run.gaps k
           | inl k ↦ f.front_run.old x k
         ]
       ]
     ]
   ]
 
-  pub frame_old : (x : ℕ) → 0 < in_frame f x → IsOld s x
-  frame_old x i = elim (some_of (in_entries f x) (times x (spare frame)) i) [
+  pub frame_old : (x : ℕ) → 0 < in_frame format f x → IsOld s x
+  frame_old x i = elim (some_of (in_entries format f x) (times x (spare frame)) i) [
     | inl k ↦ entries_old x k
     | inr k ↦ f.goes x k
   ]
 
 -- ---- the tree in the gap is made
 
-module _ (c c1 : Content) (s s1 : State) (u : Tree) (at : Root) (given : ℕ → ℕ) (n : ℕ) (g : Grown c c1 s s1 u at given n) (frame : Frame) (f : Framed c s frame given) where
-  pub rest_taken : (x : ℕ) → 0 < in_frame f x → times x g.taken ≡ 0
-  rest_taken x i = alive_out s s1 g.taken g.killed g.moves x (old_alive s x (frame_old c s frame given f x i))
+module _ (format : Format) (c c1 : Content) (s s1 : State) (u : Tree) (at : Root) (given : ℕ → ℕ) (n : ℕ) (g : Grown format c c1 s s1 u at given n) (frame : Frame) (f : Framed format c s frame given) where
+  pub rest_taken : (x : ℕ) → 0 < in_frame format f x → times x g.taken ≡ 0
+  rest_taken x i = alive_out s s1 g.taken g.killed g.moves x (old_alive s x (frame_old format c s frame given f x i))
 
-  pub rest_killed : (x : ℕ) → 0 < in_frame f x → times x g.killed ≡ 0
+  pub rest_killed : (x : ℕ) → 0 < in_frame format f x → times x g.killed ≡ 0
   rest_killed x i = omega (arith, i, f.once x, g.rows x, rest_taken x i)
 
-  pub rest_kept : (x : ℕ) → 0 < in_frame f x → c1 x ≡ c x
+  pub rest_kept : (x : ℕ) → 0 < in_frame format f x → c1 x ≡ c x
   rest_kept x i = kept_at c c1 g.taken x g.keeps (rest_taken x i)
 
-  pub rest_old : (x : ℕ) → 0 < in_frame f x → IsOld s x → IsOld s1 x
+  pub rest_old : (x : ℕ) → 0 < in_frame format f x → IsOld s x → IsOld s1 x
   rest_old x i old = old_stays s s1 g.taken g.killed g.moves x old (rest_killed x i)
 
   pub given_taken : (x : ℕ) → given x + times x g.taken ≤ 1
@@ -97,32 +97,32 @@ module _ (c c1 : Content) (s s1 : State) (u : Tree) (at : Root) (given : ℕ →
       go zero e = omega (arith, e, g.moves.once x)
       go (suc k) e = omega (arith, f.once x, alive_out s s1 g.taken g.killed g.moves x (f.alive x (omega (arith, e))))
 
-  pub seam_once : (x : ℕ) → times x (used g.placed) + in_frame f x ≤ 1
-  seam_once x = go (in_frame f x) refl
+  pub seam_once : (x : ℕ) → times x (used g.placed) + in_frame format f x ≤ 1
+  seam_once x = go (in_frame format f x) refl
     where
-      go : (k : ℕ) → in_frame f x ≡ k → times x (used g.placed) + in_frame f x ≤ 1
+      go : (k : ℕ) → in_frame format f x ≡ k → times x (used g.placed) + in_frame format f x ≤ 1
       go zero e = omega (arith, e, g.rows x, given_taken x)
       go (suc k) e = omega (arith, f.once x, g.rows x, rest_taken x (omega (arith, e)))
 
-  pub own_in : (x : ℕ) → In x (own f.front) → 0 < in_frame f x
+  pub own_in : (x : ℕ) → In x (own f.front) → 0 < in_frame format f x
   own_in x i = omega (arith, i)
 
-  pub gaps_in : (x : ℕ) → In x (gaps_used f.front) → 0 < in_frame f x
+  pub gaps_in : (x : ℕ) → In x (gaps_used f.front) → 0 < in_frame format f x
   gaps_in x i = omega (arith, i)
 
-  pub back_in : (x : ℕ) → In x (own f.back) → 0 < in_frame f x
+  pub back_in : (x : ℕ) → In x (own f.back) → 0 < in_frame format f x
   back_in x i = omega (arith, i)
 
-  pub others_in : (x : ℕ) → In x (gaps_used (others f.back)) → 0 < in_frame f x
+  pub others_in : (x : ℕ) → In x (gaps_used (others f.back)) → 0 < in_frame format f x
   others_in x i = omega (arith, i)
 
-  pub tail_in : (x : ℕ) → In x (used f.tail) → 0 < in_frame f x
+  pub tail_in : (x : ℕ) → In x (used f.tail) → 0 < in_frame format f x
   tail_in x i = omega (arith, i)
 
-  pub spare_in : (x : ℕ) → In x (spare frame) → 0 < in_frame f x
+  pub spare_in : (x : ℕ) → In x (spare frame) → 0 < in_frame format f x
   spare_in x i = omega (arith, i)
 
-  abbrev pub framed_after : Framed c1 s1 frame (λ x. times x (used g.placed))
+  abbrev pub framed_after : Framed format c1 s1 frame (λ x. times x (used g.placed))
   framed_after = record {
     front = f.front;
     behind = f.behind;
@@ -131,7 +131,7 @@ module _ (c c1 : Content) (s s1 : State) (u : Tree) (at : Root) (given : ℕ →
       begins = f.front_run.begins;
       rows = own_frame c c1 f.behind f.front (λ x i. rest_kept x (own_in x i)) f.front_run.rows;
       old = λ x i. rest_old x (own_in x i) (f.front_run.old x i);
-      gaps = gaps_frame c c1 s s1 f.front (λ x i. rest_kept x (gaps_in x i)) (λ x i old. rest_old x (gaps_in x i) old) f.front_run.gaps;
+      gaps = gaps_frame format c c1 s s1 f.front (λ x i. rest_kept x (gaps_in x i)) (λ x i old. rest_old x (gaps_in x i) old) f.front_run.gaps;
     };
     back = f.back;
     tail = f.tail;
@@ -140,21 +140,21 @@ module _ (c c1 : Content) (s s1 : State) (u : Tree) (at : Root) (given : ℕ →
       begins = f.back_run.begins;
       rows = own_frame c c1 0 f.back (λ x i. rest_kept x (back_in x i)) f.back_run.rows;
       old = λ x i. rest_old x (back_in x i) (f.back_run.old x i);
-      gaps = gaps_frame c c1 s s1 (others f.back) (λ x i. rest_kept x (others_in x i)) (λ x i old. rest_old x (others_in x i) old) f.back_run.gaps;
+      gaps = gaps_frame format c c1 s s1 (others f.back) (λ x i. rest_kept x (others_in x i)) (λ x i old. rest_old x (others_in x i) old) f.back_run.gaps;
       tail_at = f.back_run.tail_at;
       tail_piece = record {
-        rows = placed_frame One c c1 f.tail (all_in (used f.tail) (λ x i. rest_kept x (tail_in x i))) f.back_run.tail_piece.rows;
+        rows = placed_frame format c c1 f.tail (all_in (used f.tail) (λ x i. rest_kept x (tail_in x i))) f.back_run.tail_piece.rows;
         old = λ x i. rest_old x (tail_in x i) (f.back_run.tail_piece.old x i);
       };
       tail_none = f.back_run.tail_none;
     };
     goes = λ x i. rest_old x (spare_in x i) (f.goes x i);
-    alive = λ x i. piece_alive g.piece x i;
+    alive = λ x i. piece_alive format g.piece x i;
     once = λ x. omega (arith, seam_once x);
   }
 
   -- what is made round it
-  pub grown_round : (c2 : Content) (s2 : State) (t : Tree) (at2 : Root) (m : ℕ) → Grown c1 c2 s1 s2 t at2 (λ x. times x (used g.placed) + in_frame f x) m → Grown c c2 s s2 t at2 (λ x. given x + in_frame f x) (n + m)
+  pub grown_round : (c2 : Content) (s2 : State) (t : Tree) (at2 : Root) (m : ℕ) → Grown format c1 c2 s1 s2 t at2 (λ x. times x (used g.placed) + in_frame format f x) m → Grown format c c2 s s2 t at2 (λ x. given x + in_frame format f x) (n + m)
   grown_round c2 s2 t at2 m h = record {
     placed = h.placed;
     is = h.is;
@@ -173,23 +173,23 @@ module _ (c c1 : Content) (s s1 : State) (u : Tree) (at : Root) (given : ℕ →
 
 -- ---- the frame is closed
 
-module _ (c : Content) (s : State) (frame : Frame) (p : Placed) (f : Framed c s frame (λ x. times x (used p))) where
+module _ (format : Format) (c : Content) (s : State) (frame : Frame) (p : Placed) (f : Framed format c s frame (λ x. times x (used p))) where
   -- nothing is left but the tree in the gap
-  pub alone : (at : Root) → IsRootOf p at → Piece c s p → frame.front.count + frame.back.count ≡ 0 → Grown c c s s (tree_round f (tree_of One p)) at (λ x. times x (used p) + in_entries f x) (frame_rows frame)
+  pub alone : (at : Root) → IsRootOf format p at → Piece format c s p → frame.front.count + frame.back.count ≡ 0 → Grown format c c s s (tree_round format f (tree_of format p)) at (λ x. times x (used p) + in_entries format f x) (frame_rows frame)
   alone at root piece none_left = go f.front refl f.back refl
     where
       rows_none : frame_rows frame ≡ 0
       rows_none = ap (λ (n : ℕ). side_rows n false) none_left
 
-      go : (es : List PlacedEntry) → f.front ≡ es → (bs : List PlacedEntry) → f.back ≡ bs → Grown c c s s (tree_round f (tree_of One p)) at (λ x. times x (used p) + in_entries f x) (frame_rows frame)
+      go : (es : List PlacedEntry) → f.front ≡ es → (bs : List PlacedEntry) → f.back ≡ bs → Grown format c c s s (tree_round format f (tree_of format p)) at (λ x. times x (used p) + in_entries format f x) (frame_rows frame)
       go (e ∷ es) a bs b = absurd (omega (arith, none_left, f.front_run.counted, ap (λ (l : List PlacedEntry). length l) a))
       go [] a (e ∷ bs) b = absurd (omega (arith, none_left, f.back_run.counted, ap (λ (l : List PlacedEntry). length l) b))
       go [] a [] b =
           let gone : f.tail ≡ no_tree = subst (λ (l : List PlacedEntry). HasTail l f.tail) b f.back_run.tail_none in
           record {
             placed = p;
-            is = sym (ap (λ (l : List PlacedEntry). node_of One frame.layer (with_entries (cells_of l) (with_first (tree_of One p) (entries_to f.back f.tail)))) a
-                ∙ ap (λ (l : List PlacedEntry). node_of One frame.layer (with_first (tree_of One p) (entries_to l f.tail))) b);
+            is = sym (ap (λ (l : List PlacedEntry). node_of format frame.layer (with_entries (cells_of format l) (with_first (tree_of format p) (entries_to format f.back f.tail)))) a
+                ∙ ap (λ (l : List PlacedEntry). node_of format frame.layer (with_first (tree_of format p) (entries_to format l f.tail))) b);
             root = root;
             piece = piece;
             taken = [];
@@ -201,7 +201,7 @@ module _ (c : Content) (s : State) (frame : Frame) (p : Placed) (f : Framed c s 
           }
 
   -- there is an entry
-  some_node : (es : Entries) → 0 < entry_count es → node_of One frame.layer es ≡ node One frame.layer es
+  some_node : (es : Entries) → 0 < entry_count es → node_of format frame.layer es ≡ node format frame.layer es
   some_node (last child) h = absurd (omega (arith, h))
   some_node (entry child key value rest) h = refl
 
@@ -210,14 +210,14 @@ module _ (c : Content) (s : State) (frame : Frame) (p : Placed) (f : Framed c s 
   some_rows (suc k) h = let e : (suc k == 0) ≡ false = grind (arith, nat_tests) in ap (λ (b : Bool). if b || false then 0 else suc k + 1) e
 
   pub filled : (c1 : Content) (s1 : State) (at : Root) → 0 < frame.front.count + frame.back.count
-      → Grown c c1 s s1 (node One frame.layer (with_entries (cells_of f.front) (with_first (tree_of One p) (entries_to f.back f.tail)))) at (λ x. times x (own f.front) + times x (gaps_used f.front) + times x (used p) + times x (own f.back) + times x (gaps_used (others f.back)) + times x (used f.tail)) (frame.front.count + frame.back.count + 1)
-      → Grown c c1 s s1 (tree_round f (tree_of One p)) at (λ x. times x (used p) + in_entries f x) (frame_rows frame)
+      → Grown format c c1 s s1 (node format frame.layer (with_entries (cells_of format f.front) (with_first (tree_of format p) (entries_to format f.back f.tail)))) at (λ x. times x (own f.front) + times x (gaps_used f.front) + times x (used p) + times x (own f.back) + times x (gaps_used (others f.back)) + times x (used f.tail)) (frame.front.count + frame.back.count + 1)
+      → Grown format c c1 s s1 (tree_round format f (tree_of format p)) at (λ x. times x (used p) + in_entries format f x) (frame_rows frame)
   filled c1 s1 at some g =
-      let es = with_entries (cells_of f.front) (with_first (tree_of One p) (entries_to f.back f.tail)) in
-      let front = with_entries_count (cells_of f.front) (with_first (tree_of One p) (entries_to f.back f.tail)) in
-      let first = with_first_count (entries_to f.back f.tail) (tree_of One p) in
-      let back = with_entries_count (cells_of f.back) (last (tree_of One f.tail)) in
-      let counts : entry_count es ≡ frame.front.count + frame.back.count = omega (arith, front, first, back, length-map {B = TreeEntry} f.front cell_of, length-map {B = TreeEntry} f.back cell_of, f.front_run.counted, f.back_run.counted) in
+      let es = with_entries (cells_of format f.front) (with_first (tree_of format p) (entries_to format f.back f.tail)) in
+      let front = with_entries_count (cells_of format f.front) (with_first (tree_of format p) (entries_to format f.back f.tail)) in
+      let first = with_first_count (entries_to format f.back f.tail) (tree_of format p) in
+      let back = with_entries_count (cells_of format f.back) (last (tree_of format f.tail)) in
+      let counts : entry_count es ≡ frame.front.count + frame.back.count = omega (arith, front, first, back, length-map {B = TreeEntry} f.front (cell_of format), length-map {B = TreeEntry} f.back (cell_of format), f.front_run.counted, f.back_run.counted) in
       record {
         placed = g.placed;
         is = g.is ∙ sym (some_node es (omega (arith, counts, some)));
@@ -232,7 +232,7 @@ module _ (c : Content) (s : State) (frame : Frame) (p : Placed) (f : Framed c s 
       }
 
 -- the rows that the frame names die
-module _ (c : Content) (s : State) (frame : Frame) (given : ℕ → ℕ) (f : Framed c s frame given) (c1 : Content) (s1 : State) (t : Tree) (at : Root) (n : ℕ) (g : Grown c c1 s s1 t at (λ x. given x + in_entries f x) n) where
+module _ (format : Format) (c : Content) (s : State) (frame : Frame) (given : ℕ → ℕ) (f : Framed format c s frame given) (c1 : Content) (s1 : State) (t : Tree) (at : Root) (n : ℕ) (g : Grown format c c1 s s1 t at (λ x. given x + in_entries format f x) n) where
   spare_taken : (x : ℕ) → In x (spare frame) → times x g.taken ≡ 0
   spare_taken x i = alive_out s s1 g.taken g.killed g.moves x (old_alive s x (f.goes x i))
 
@@ -242,7 +242,7 @@ module _ (c : Content) (s : State) (frame : Frame) (given : ℕ → ℕ) (f : Fr
   pub spare_old : (x : ℕ) → In x (spare frame) → IsOld s1 x
   spare_old x i = old_stays s s1 g.taken g.killed g.moves x (f.goes x i) (omega (arith, spare_nowhere x i))
 
-  pub closed : (s2 : State) → Moves s1 s2 [] (spare frame) → Grown c c1 s s2 t at (λ x. given x + in_frame f x) n
+  pub closed : (s2 : State) → Moves s1 s2 [] (spare frame) → Grown format c c1 s s2 t at (λ x. given x + in_frame format f x) n
   closed s2 m = record {
     placed = g.placed;
     is = g.is;

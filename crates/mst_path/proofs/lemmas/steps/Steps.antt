@@ -1,7 +1,7 @@
 -- Steps of a change, one after another, and what they leave alone.
+use Rattle.mst_key.specs.declared.format.Format.{Format}
 use Rattle.std.proofs.Common.{◌≡◌, ℕ, zero, suc, ◌+◌, ◌<◌, ◌≤◌, List, [], ◌∷◌, ◌++◌, length, refl, sym, ◌∙◌, subst, arith, inl, inr, length-append}
 use Rattle.std.specs.Prelude.{slice_get}
-use Rattle.mst_key.specs.declared.format.Format.TheVariants.{One}
 use Rattle.mst_node.specs.Tree.{Tree}
 use Rattle.mst_arena.specs.Content.{Content}
 use Rattle.mst_arena.specs.Lives.{State, next, with_life, ended_life}
@@ -30,11 +30,11 @@ pub record Step (c c' : Content) (s s' : State) (given spent : ℕ → ℕ) (cou
   pub rows : (x : ℕ) → spent x + times x killed ≡ given x + times x taken
   pub counted : length taken ≡ count
 
-pub step_grown : (c c' : Content) (s s' : State) (t : Tree) (at : Root) (given : ℕ → ℕ) (count : ℕ) (g : Grown c c' s s' t at given count) → Step c c' s s' given (λ x. times x (used g.placed)) count
-step_grown c c' s s' t at given count g = record { taken = g.taken; killed = g.killed; moves = g.moves; keeps = g.keeps; rows = g.rows; counted = g.counted }
+pub step_grown : (format : Format) (c c' : Content) (s s' : State) (t : Tree) (at : Root) (given : ℕ → ℕ) (count : ℕ) (g : Grown format c c' s s' t at given count) → Step c c' s s' given (λ x. times x (used g.placed)) count
+step_grown format c c' s s' t at given count g = record { taken = g.taken; killed = g.killed; moves = g.moves; keeps = g.keeps; rows = g.rows; counted = g.counted }
 
-pub step_split : (c c' : Content) (s s' : State) (t u : Tree) (left right : Root) (given : ℕ → ℕ) (count : ℕ) (g : Split c c' s s' t u left right given count) → Step c c' s s' given (λ x. times x (used g.lower) + times x (used g.upper)) count
-step_split c c' s s' t u left right given count g = record { taken = g.taken; killed = g.killed; moves = g.moves; keeps = g.keeps; rows = g.rows; counted = g.counted }
+pub step_split : (format : Format) (c c' : Content) (s s' : State) (t u : Tree) (left right : Root) (given : ℕ → ℕ) (count : ℕ) (g : Split format c c' s s' t u left right given count) → Step c c' s s' given (λ x. times x (used g.lower) + times x (used g.upper)) count
+step_split format c c' s s' t u left right given count g = record { taken = g.taken; killed = g.killed; moves = g.moves; keeps = g.keeps; rows = g.rows; counted = g.counted }
 
 pub step_none : (c : Content) (s : State) (given : ℕ → ℕ) → Step c c s s given given 0
 step_none c s given = record { taken = []; killed = []; moves = moves_none s; keeps = λ x out. refl; rows = λ x. refl; counted = refl }
@@ -64,14 +64,14 @@ step_then a b c s t u g g' v v' given spent n m one two sum = record {
 
 -- ---- what is not given to a step stays
 
-pub gap_old : (s : State) (c : Content) (es : List PlacedEntry) → EachGap (OldPiece c s) es → (x : ℕ) → In x (gaps_used es) → IsOld s x
-gap_old s c [] each x i = absurd (omega arith)
-gap_old s c (e ∷ es) each x i = elim (in_either x (used e.child) (gaps_used es) i) [
+pub gap_old : (format : Format) (s : State) (c : Content) (es : List PlacedEntry) → EachGap (OldPiece format c s) es → (x : ℕ) → In x (gaps_used es) → IsOld s x
+gap_old format s c [] each x i = absurd (omega arith)
+gap_old format s c (e ∷ es) each x i = elim (in_either x (used e.child) (gaps_used es) i) [
   | inl k ↦ each.0.old x k
-  | inr k ↦ gap_old s c es each.1 x k
+  | inr k ↦ gap_old format s c es each.1 x k
 ]
 
-module _ (c c' : Content) (s s' : State) (given spent : ℕ → ℕ) (count : ℕ) (one : Step c c' s s' given spent count) where
+module _ (format : Format) (c c' : Content) (s s' : State) (given spent : ℕ → ℕ) (count : ℕ) (one : Step c c' s s' given spent count) where
   -- a row that is alive and was not given was not killed
   pub spared : (x : ℕ) → IsAlive s x → given x ≡ 0 → times x one.killed ≡ 0
   spared x alive out = omega (arith, one.rows x, out, alive_out s s' one.taken one.killed one.moves x alive)
@@ -85,25 +85,25 @@ module _ (c c' : Content) (s s' : State) (given spent : ℕ → ℕ) (count : �
   pub old_after : (x : ℕ) → IsOld s x → given x ≡ 0 → IsOld s' x
   old_after x old out = old_stays s s' one.taken one.killed one.moves x old (spared x (old_alive s x old) out)
 
-  pub piece_after : (p : Placed) → ((x : ℕ) → times x (used p) + given x ≤ 1) → Piece c s p → Piece c' s' p
+  pub piece_after : (p : Placed) → ((x : ℕ) → times x (used p) + given x ≤ 1) → Piece format c s p → Piece format c' s' p
   piece_after p apart piece = record {
-    rows = placed_frame One c c' p (all_in (used p) (λ x i. row_stays x (piece_alive piece x i))) piece.rows;
-    made = made_stays s s' one.taken one.killed one.moves p (λ x i. spared x (piece_alive piece x i) (omega (arith, i, apart x))) piece.made;
+    rows = placed_frame format c c' p (all_in (used p) (λ x i. row_stays x (piece_alive format piece x i))) piece.rows;
+    made = made_stays s s' one.taken one.killed one.moves p (λ x i. spared x (piece_alive format piece x i) (omega (arith, i, apart x))) piece.made;
   }
 
-  pub old_piece_after : (p : Placed) → ((x : ℕ) → times x (used p) + given x ≤ 1) → OldPiece c s p → OldPiece c' s' p
+  pub old_piece_after : (p : Placed) → ((x : ℕ) → times x (used p) + given x ≤ 1) → OldPiece format c s p → OldPiece format c' s' p
   old_piece_after p apart piece = record {
-    rows = placed_frame One c c' p (all_in (used p) (λ x i. row_stays x (old_alive s x (piece.old x i)))) piece.rows;
+    rows = placed_frame format c c' p (all_in (used p) (λ x i. row_stays x (old_alive s x (piece.old x i)))) piece.rows;
     old = λ x i. old_after x (piece.old x i) (omega (arith, i, apart x));
   }
 
-  gaps_after : (es : List PlacedEntry) → ((x : ℕ) → times x (gaps_used es) + given x ≤ 1) → EachGap (OldPiece c s) es → EachGap (OldPiece c' s') es
-  gaps_after es apart gaps = gaps_frame c c' s s' es
-      (λ x i. row_stays x (old_alive s x (gap_old s c es gaps x i)))
+  gaps_after : (es : List PlacedEntry) → ((x : ℕ) → times x (gaps_used es) + given x ≤ 1) → EachGap (OldPiece format c s) es → EachGap (OldPiece format c' s') es
+  gaps_after es apart gaps = gaps_frame format c c' s s' es
+      (λ x i. row_stays x (old_alive s x (gap_old format s c es gaps x i)))
       (λ x i old. old_after x old (omega (arith, i, apart x)))
       gaps
 
-  pub run_after : (link count behind : ℕ) (es : List PlacedEntry) → ((x : ℕ) → times x (own es) + times x (gaps_used es) + given x ≤ 1) → Run c s link count behind es → Run c' s' link count behind es
+  pub run_after : (link count behind : ℕ) (es : List PlacedEntry) → ((x : ℕ) → times x (own es) + times x (gaps_used es) + given x ≤ 1) → Run format c s link count behind es → Run format c' s' link count behind es
   run_after link count behind es apart run = record {
     counted = run.counted;
     begins = run.begins;
@@ -112,7 +112,7 @@ module _ (c c' : Content) (s s' : State) (given spent : ℕ → ℕ) (count : �
     gaps = gaps_after es (λ x. omega (arith, apart x)) run.gaps;
   }
 
-  pub back_after : (link count tail_link : ℕ) (es : List PlacedEntry) (tail : Placed) → ((x : ℕ) → times x (own es) + times x (gaps_used (others es)) + times x (used tail) + given x ≤ 1) → BackRun c s link count tail_link es tail → BackRun c' s' link count tail_link es tail
+  pub back_after : (link count tail_link : ℕ) (es : List PlacedEntry) (tail : Placed) → ((x : ℕ) → times x (own es) + times x (gaps_used (others es)) + times x (used tail) + given x ≤ 1) → BackRun format c s link count tail_link es tail → BackRun format c' s' link count tail_link es tail
   back_after link count tail_link es tail apart run = record {
     counted = run.counted;
     begins = run.begins;
@@ -139,7 +139,7 @@ module _ (c c' : Content) (s s' : State) (given spent : ℕ → ℕ) (count : �
           nothing zero never = refl
           nothing (suc n) never = absurd (never (omega arith))
 
-  abbrev pub parts_after : (parts : Parts) (p : PartsStand c s parts) → ((x : ℕ) → in_parts p x + given x ≤ 1) → PartsStand c' s' parts
+  abbrev pub parts_after : (parts : Parts) (p : PartsStand format c s parts) → ((x : ℕ) → in_parts format p x + given x ≤ 1) → PartsStand format c' s' parts
   parts_after parts p apart = record {
     front = p.front;
     behind = p.behind;
@@ -154,13 +154,13 @@ module _ (c c' : Content) (s s' : State) (given spent : ℕ → ℕ) (count : �
   }
 
 -- the rows of parts are alive
-pub parts_alive : (c : Content) (s : State) (parts : Parts) (p : PartsStand c s parts) (x : ℕ) → 0 < in_parts p x → IsAlive s x
-parts_alive c s parts p x some = go (times x (used p.seam)) refl (times x (used p.tail)) refl (times x (own p.front)) refl (times x (gaps_used p.front)) refl (times x (own p.back)) refl
+pub parts_alive : (format : Format) (c : Content) (s : State) (parts : Parts) (p : PartsStand format c s parts) (x : ℕ) → 0 < in_parts format p x → IsAlive s x
+parts_alive format c s parts p x some = go (times x (used p.seam)) refl (times x (used p.tail)) refl (times x (own p.front)) refl (times x (gaps_used p.front)) refl (times x (own p.back)) refl
   where
     go : (a : ℕ) → times x (used p.seam) ≡ a → (b : ℕ) → times x (used p.tail) ≡ b → (d : ℕ) → times x (own p.front) ≡ d → (e : ℕ) → times x (gaps_used p.front) ≡ e → (f : ℕ) → times x (own p.back) ≡ f → IsAlive s x
-    go (suc a) i b j d k e l f m = piece_alive p.seam_piece x (omega (arith, i))
+    go (suc a) i b j d k e l f m = piece_alive format p.seam_piece x (omega (arith, i))
     go zero i (suc b) j d k e l f m = old_alive s x (p.back_run.tail_piece.old x (omega (arith, j)))
     go zero i zero j (suc d) k e l f m = old_alive s x (p.front_run.old x (omega (arith, k)))
-    go zero i zero j zero k (suc e) l f m = old_alive s x (gap_old s c p.front p.front_run.gaps x (omega (arith, l)))
+    go zero i zero j zero k (suc e) l f m = old_alive s x (gap_old format s c p.front p.front_run.gaps x (omega (arith, l)))
     go zero i zero j zero k zero l (suc f) m = old_alive s x (p.back_run.old x (omega (arith, m)))
-    go zero i zero j zero k zero l zero m = old_alive s x (gap_old s c (others p.back) p.back_run.gaps x (omega (arith, some, i, j, k, l, m)))
+    go zero i zero j zero k zero l zero m = old_alive s x (gap_old format s c (others p.back) p.back_run.gaps x (omega (arith, some, i, j, k, l, m)))

@@ -1,8 +1,8 @@
 -- A walk along the entries of a node, up to where a key stands.
+use Rattle.mst_key.specs.declared.format.Format.{Format}
 use Rattle.std.proofs.Common.{◌≡◌, ℕ, ◌+◌, ◌-◌, ◌<◌, List, [], ◌∷◌, ◌++◌, length, Some, refl, sym, ◌∙◌, ap, subst, arith, append_assoc, length-append, Less, Equal, Greater}
 use Rattle.std.specs.Prelude.{option_and_then}
 use Rattle.std.proofs.lemmas.List.{map-append}
-use Rattle.mst_key.specs.declared.format.Format.TheVariants.{One}
 use Rattle.mst_key.specs.Map.{key_cmp}
 use Rattle.mst_key.proofs.KeyOrder.{same_from_equal, less_from_greater}
 use Rattle.mst_node.specs.Tree.{last, entry}
@@ -23,21 +23,21 @@ use Rattle.mst_change.proofs.Parts.{with_entries-append}
 use Rattle.mst_path.proofs.lemmas.rows.Copies.{links_are}
 
 -- so many entries are passed, all below the key, and the others begin at the link
-pub record Onward (content : Content) (k : List ℕ) (es : List PlacedEntry) (link done all : ℕ) : Type 0 where
+pub record Onward (format : Format) (content : Content) (k : List ℕ) (es : List PlacedEntry) (link done all : ℕ) : Type 0 where
   pub before : List PlacedEntry
   pub rest : List PlacedEntry
   pub whole : es ≡ before ++ rest
   pub passed : length before ≡ done
   pub left : length rest + done ≡ all
   pub first : link_from 0 rest ≡ link
-  pub low : CellsBelow k (cells_of before)
+  pub low : CellsBelow k (cells_of format before)
   pub rows : HasRows content (own_rows 0 rest)
 
-pub onward_starts : (content : Content) (k : List ℕ) (links : HeadLinks) (es : List PlacedEntry) → EntriesLie content links es → Onward content k es links.first 0 links.count
-onward_starts content k links es lie = record { before = []; rest = es; whole = refl; passed = refl; left = omega (arith, lie.count); first = lie.first; low = tt; rows = lie.rows }
+pub onward_starts : (format : Format) (content : Content) (k : List ℕ) (links : HeadLinks) (es : List PlacedEntry) → EntriesLie content links es → Onward format content k es links.first 0 links.count
+onward_starts format content k links es lie = record { before = []; rest = es; whole = refl; passed = refl; left = omega (arith, lie.count); first = lie.first; low = tt; rows = lie.rows }
 
 -- the entry that comes next
-pub record AtEntry (content : Content) (k : List ℕ) (es : List PlacedEntry) (link done all : ℕ) (o : Onward content k es link done all) : Type 0 where
+pub record AtEntry (format : Format) (content : Content) (k : List ℕ) (es : List PlacedEntry) (link done all : ℕ) (o : Onward format content k es link done all) : Type 0 where
   pub here : PlacedEntry
   pub more : List PlacedEntry
   pub is : o.rest ≡ here ∷ more
@@ -46,10 +46,10 @@ pub record AtEntry (content : Content) (k : List ℕ) (es : List PlacedEntry) (l
   pub row : content (link - 1) ≡ Some (Entry (link_of here.child) (link_from 0 more) here.key here.value)
   pub rows : HasRows content (own_rows 0 more)
 
-pub at_entry : (content : Content) (k : List ℕ) (es : List PlacedEntry) (link done all : ℕ) (o : Onward content k es link done all) → done < all → AtEntry content k es link done all o
-at_entry content k es link done all o lt = go o.rest refl
+pub at_entry : (format : Format) (content : Content) (k : List ℕ) (es : List PlacedEntry) (link done all : ℕ) (o : Onward format content k es link done all) → done < all → AtEntry format content k es link done all o
+at_entry format content k es link done all o lt = go o.rest refl
   where
-    go : (l : List PlacedEntry) → o.rest ≡ l → AtEntry content k es link done all o
+    go : (l : List PlacedEntry) → o.rest ≡ l → AtEntry format content k es link done all o
     go [] e = absurd (omega (arith, lt, o.left, ap (λ (l : List PlacedEntry). length l) e))
     go (x ∷ xs) e =
         let link_is : x.at + 1 ≡ link = sym (ap (link_from 0) e) ∙ o.first in
@@ -58,9 +58,9 @@ at_entry content k es link done all o lt = go o.rest refl
         record { here = x; more = xs; is = e; at = at; link_is = sym link_is; row = ap content (sym at) ∙ rows.0; rows = rows.1 }
 
 -- the links and the key of the entry that comes next
-pub next_links : (content : Content) (k : List ℕ) (es : List PlacedEntry) (link done all : ℕ) → Onward content k es link done all → done < all → (e : EntryLinks) × (part_at entry_links content (link - 1) ≡ Some e)
-next_links content k es link done all o lt =
-    let a = at_entry content k es link done all o lt in
+pub next_links : (format : Format) (content : Content) (k : List ℕ) (es : List PlacedEntry) (link done all : ℕ) → Onward format content k es link done all → done < all → (e : EntryLinks) × (part_at entry_links content (link - 1) ≡ Some e)
+next_links format content k es link done all o lt =
+    let a = at_entry format content k es link done all o lt in
     (record { child = link_of a.here.child; next = link_from 0 a.more; key = a.here.key }, ap (option_and_then entry_links) a.row)
 
 -- ---- entries and cells
@@ -69,25 +69,25 @@ pub link_from-append : (es fs : List PlacedEntry) → link_from 0 (es ++ fs) ≡
 link_from-append [] fs = refl
 link_from-append (e ∷ es) fs = refl
 
-pub cells-append : (es fs : List PlacedEntry) → cells_of (es ++ fs) ≡ cells_of es ++ cells_of fs
-cells-append es fs = map-append cell_of es fs
+pub cells-append : (format : Format) (es fs : List PlacedEntry) → cells_of format (es ++ fs) ≡ cells_of format es ++ cells_of format fs
+cells-append format es fs = map-append (cell_of format) es fs
 
-pub entries_to-append : (es fs : List PlacedEntry) (tail : Placed) → entries_to (es ++ fs) tail ≡ with_entries (cells_of es) (entries_to fs tail)
-entries_to-append es fs tail =
-    ap (λ (cs : List TreeEntry). with_entries cs (last (tree_of One tail))) (cells-append es fs) ∙ with_entries-append (cells_of es) (cells_of fs) (last (tree_of One tail))
+pub entries_to-append : (format : Format) (es fs : List PlacedEntry) (tail : Placed) → entries_to format (es ++ fs) tail ≡ with_entries (cells_of format es) (entries_to format fs tail)
+entries_to-append format es fs tail =
+    ap (λ (cs : List TreeEntry). with_entries cs (last (tree_of format tail))) (cells-append format es fs) ∙ with_entries-append (cells_of format es) (cells_of format fs) (last (tree_of format tail))
 
-module _ (content : Content) (k : List ℕ) (links : HeadLinks) (es : List PlacedEntry) (lie : EntriesLie content links es) (link done all : ℕ) (all_is : all ≡ links.count) (o : Onward content k es link done all) where
+module _ (format : Format) (content : Content) (k : List ℕ) (links : HeadLinks) (es : List PlacedEntry) (lie : EntriesLie content links es) (link done all : ℕ) (all_is : all ≡ links.count) (o : Onward format content k es link done all) where
   begins : link_from link o.before ≡ links.first
   begins = ap (λ (n : ℕ). link_from n o.before) (sym o.first) ∙ sym (link_from-append o.before o.rest) ∙ ap (link_from 0) (sym o.whole) ∙ lie.first
 
-  entries_are : (tail : Placed) → entries_to es tail ≡ with_entries (cells_of o.before) (entries_to o.rest tail)
-  entries_are tail = ap (λ (l : List PlacedEntry). entries_to l tail) o.whole ∙ entries_to-append o.before o.rest tail
+  entries_are : (tail : Placed) → entries_to format es tail ≡ with_entries (cells_of format o.before) (entries_to format o.rest tail)
+  entries_are tail = ap (λ (l : List PlacedEntry). entries_to format l tail) o.whole ∙ entries_to-append format o.before o.rest tail
 
   -- nothing is left
-  pub cut_end : (tail : Placed) → link_of tail ≡ links.tail → all ≡ done → CutGap k es tail (record { first = links.first; count = links.count }) links.tail (record { first = 0; count = 0 })
+  pub cut_end : (tail : Placed) → link_of tail ≡ links.tail → all ≡ done → CutGap format k es tail (record { first = links.first; count = links.count }) links.tail (record { first = 0; count = 0 })
   cut_end tail tail_is end = go o.rest refl
     where
-      go : (l : List PlacedEntry) → o.rest ≡ l → CutGap k es tail (record { first = links.first; count = links.count }) links.tail (record { first = 0; count = 0 })
+      go : (l : List PlacedEntry) → o.rest ≡ l → CutGap format k es tail (record { first = links.first; count = links.count }) links.tail (record { first = 0; count = 0 })
       go (x ∷ xs) e = absurd (omega (arith, o.left, end, ap (λ (l : List PlacedEntry). length l) e))
       go [] e =
           let first : link_from 0 [] ≡ link = sym (ap (link_from 0) e) ∙ o.first in
@@ -98,12 +98,12 @@ module _ (content : Content) (k : List ℕ) (links : HeadLinks) (es : List Place
             front_is = record { counted = omega (arith, o.passed, end, all_is); begins = ap (λ (n : ℕ). link_from n o.before) first ∙ begins };
             back_is = record { counted = refl; begins = refl };
             child_at = tail_is;
-            gap = record { whole = entries_are tail ∙ ap (λ (l : List PlacedEntry). with_entries (cells_of o.before) (entries_to l tail)) e; low = o.low; high = tt };
+            gap = record { whole = entries_are tail ∙ ap (λ (l : List PlacedEntry). with_entries (cells_of format o.before) (entries_to format l tail)) e; low = o.low; high = tt };
           }
 
   module _ (lt : done < all) (e : EntryLinks) (part : part_at entry_links content (link - 1) ≡ Some e) where
-    a : AtEntry content k es link done all o
-    a = at_entry content k es link done all o lt
+    a : AtEntry format content k es link done all o
+    a = at_entry format content k es link done all o lt
 
     read : (e.child ≡ link_of a.here.child) × (e.next ≡ link_from 0 a.more) × (e.key ≡ a.here.key)
     read = links_are (content (link - 1)) e (link_of a.here.child) (link_from 0 a.more) a.here.key a.here.value a.row part
@@ -114,11 +114,11 @@ module _ (content : Content) (k : List ℕ) (links : HeadLinks) (es : List Place
     counted : length a.more + 1 + done ≡ all
     counted = omega (arith, o.left, ap (λ (l : List PlacedEntry). length l) a.is)
 
-    entries_here : (tail : Placed) → entries_to es tail ≡ with_entries (cells_of o.before) (entry (tree_of One a.here.child) a.here.key a.here.value (entries_to a.more tail))
-    entries_here tail = entries_are tail ∙ ap (λ (l : List PlacedEntry). with_entries (cells_of o.before) (entries_to l tail)) a.is
+    entries_here : (tail : Placed) → entries_to format es tail ≡ with_entries (cells_of format o.before) (entry (tree_of format a.here.child) a.here.key a.here.value (entries_to format a.more tail))
+    entries_here tail = entries_are tail ∙ ap (λ (l : List PlacedEntry). with_entries (cells_of format o.before) (entries_to format l tail)) a.is
 
     -- the key falls in front of the entry
-    pub cut_gap : (tail : Placed) → key_cmp k e.key ≡ Less → CutGap k es tail (record { first = links.first; count = done }) e.child (record { first = link; count = links.count - done })
+    pub cut_gap : (tail : Placed) → key_cmp k e.key ≡ Less → CutGap format k es tail (record { first = links.first; count = done }) e.child (record { first = link; count = links.count - done })
     cut_gap tail less = record {
       before = o.before;
       behind = a.here ∷ a.more;
@@ -130,7 +130,7 @@ module _ (content : Content) (k : List ℕ) (links : HeadLinks) (es : List Place
     }
 
     -- the entry has the key
-    pub cut_held : (tail : Placed) → key_cmp k e.key ≡ Equal → CutHeld k es tail (record { first = links.first; count = done }) (link - 1) e.child (record { first = e.next; count = links.count - done - 1 })
+    pub cut_held : (tail : Placed) → key_cmp k e.key ≡ Equal → CutHeld format k es tail (record { first = links.first; count = done }) (link - 1) e.child (record { first = e.next; count = links.count - done - 1 })
     cut_held tail equal =
         let same : a.here.key ≡ k = sym read.2 ∙ sym (same_from_equal k e.key equal) in
         record {
@@ -144,16 +144,16 @@ module _ (content : Content) (k : List ℕ) (links : HeadLinks) (es : List Place
           key_is = same;
           child_at = sym read.0;
           at = record {
-            whole = entries_here tail ∙ ap (λ (key : List ℕ). with_entries (cells_of o.before) (entry (tree_of One a.here.child) key a.here.value (entries_to a.more tail))) same;
+            whole = entries_here tail ∙ ap (λ (key : List ℕ). with_entries (cells_of format o.before) (entry (tree_of format a.here.child) key a.here.value (entries_to format a.more tail))) same;
             low = o.low;
           };
         }
 
     -- the entry is below the key
-    pub cut_on : key_cmp k e.key ≡ Greater → Onward content k es e.next (done + 1) all
+    pub cut_on : key_cmp k e.key ≡ Greater → Onward format content k es e.next (done + 1) all
     cut_on more =
         let less : key_cmp a.here.key k ≡ Less = less_from_greater k a.here.key (ap (key_cmp k) (sym read.2) ∙ more) in
-        let one = cell_of a.here ∷ [] in
+        let one = cell_of format a.here ∷ [] in
         record {
           before = o.before ++ a.here ∷ [];
           rest = a.more;
@@ -161,6 +161,6 @@ module _ (content : Content) (k : List ℕ) (links : HeadLinks) (es : List Place
           passed = length-append o.before (a.here ∷ []) ∙ omega (arith, o.passed);
           left = omega (arith, counted);
           first = sym read.1;
-          low = subst (CellsBelow k) (sym (cells-append o.before (a.here ∷ []))) (all-append (λ c. key_cmp c.key k ≡ Less) (cells_of o.before) one o.low (less, tt));
+          low = subst (CellsBelow k) (sym (cells-append format o.before (a.here ∷ []))) (all-append (λ c. key_cmp c.key k ≡ Less) (cells_of format o.before) one o.low (less, tt));
           rows = a.rows;
         }

@@ -2,7 +2,6 @@
 use Rattle.std.proofs.Common.{◌≡◌, ℕ, ◌+◌, ◌-◌, ◌<◌, ◌==◌, cond, Bool, false, List, [], ◌∷◌, Option, Some, None, refl, ◌∙◌, ap, arith}
 use Rattle.std.proofs.lemmas.Bool.Decides.{nat_tests}
 use Rattle.mst_key.specs.declared.format.Format.{Format}
-use Rattle.mst_key.specs.declared.format.Format.TheVariants.{One}
 use Rattle.mst_key.specs.Layer.{layer_in}
 use Rattle.mst_key.specs.Map.{IsAscending}
 use Rattle.mst_node.specs.Tree.{Tree, Entries, last, entry, pairs, entries_pairs, IsMst, IsMstEntries, IsUnder}
@@ -29,9 +28,9 @@ height_at c at links link is row =
     let less : link - 1 ≡ at = omega (arith, is) in
     ap (λ (b : Bool). cond b 0 (depth (part_at head_links c (link - 1)))) some ∙ ap (λ (n : ℕ). depth (part_at head_links c n)) less ∙ ap depth row
 
-pub child_height : (c : Content) (l : ℕ) (p : Placed) → HasRows c (rows_of One p) → IsUnder l (tree_of One p) → height c (link_of p) < l + 1
-child_height c l none has under = omega arith
-child_height c l (head at j chain) has under =
+pub child_height : (format : Format) (c : Content) (l : ℕ) (p : Placed) → HasRows c (rows_of format p) → IsUnder l (tree_of format p) → height c (link_of p) < l + 1
+child_height format c l none has under = omega arith
+child_height format c l (head at j chain) has under =
     let h = height_at c at (record { layer = j; count = Rattle.mst_arena.specs.Standing.count_of chain; first = Rattle.mst_arena.specs.Standing.first_of chain; tail = Rattle.mst_arena.specs.Standing.tail_of chain }) (at + 1) refl (ap (Rattle.std.specs.Prelude.option_and_then head_links) has.0) in
     omega (arith, h, under)
 

@@ -1,7 +1,7 @@
 -- The value of a key in a tree that stands, by where the key stands among the entries of the top
 -- node.
+use Rattle.mst_key.specs.declared.format.Format.{Format}
 use Rattle.std.proofs.Common.{◌≡◌, ℕ, ◌-◌, ◌<◌, List, [], ◌∷◌, Option, Some, IsSome, option_and_then, refl, sym, ◌∙◌, ap, subst, arith}
-use Rattle.mst_key.specs.declared.format.Format.TheVariants.{One}
 use Rattle.mst_key.specs.Map.{map_get, IsAscending}
 use Rattle.mst_key.proofs.MapLaws.{map_get-here}
 use Rattle.mst_key.proofs.Splits.{map_get-left, map_get-right}
@@ -65,49 +65,49 @@ module _ (k : List ℕ) where
       ∙ map_get-here (k, value) (entries_pairs back) k refl
 
 -- the tree before these entries
-first_before : (es : List PlacedEntry) (tail : Placed) → first_child (entries_to es tail) ≡ tree_of One (gap_before es tail)
-first_before [] tail = refl
-first_before (e ∷ es) tail = refl
+first_before : (format : Format) (es : List PlacedEntry) (tail : Placed) → first_child (entries_to format es tail) ≡ tree_of format (gap_before es tail)
+first_before format [] tail = refl
+first_before format (e ∷ es) tail = refl
 
 -- ---- in rows
 
 -- the key's value is that in a lower tree
-pub record FindsBelow (c : Content) (s : State) (link : ℕ) (t : SearchTree c s link) (k : List ℕ) (child : ℕ) : Type 0 where
-  pub inner : SearchTree c s child
-  pub rise : IsAscending (pairs (tree_of One inner.placed))
-  pub same : map_get (pairs (tree_of One t.placed)) k ≡ map_get (pairs (tree_of One inner.placed)) k
+pub record FindsBelow (format : Format) (c : Content) (s : State) (link : ℕ) (t : SearchTree format c s link) (k : List ℕ) (child : ℕ) : Type 0 where
+  pub inner : SearchTree format c s child
+  pub rise : IsAscending (pairs (tree_of format inner.placed))
+  pub same : map_get (pairs (tree_of format t.placed)) k ≡ map_get (pairs (tree_of format inner.placed)) k
   pub falls : height_at c child < height_at c link
 
 -- the key's value is in a row
-pub record FindsHere (c : Content) (s : State) (link : ℕ) (t : SearchTree c s link) (k : List ℕ) (row : ℕ) : Type 0 where
+pub record FindsHere (format : Format) (c : Content) (s : State) (link : ℕ) (t : SearchTree format c s link) (k : List ℕ) (row : ℕ) : Type 0 where
   pub value : List ℕ
   pub there : part_at entry_value c row ≡ Some value
-  pub same : map_get (pairs (tree_of One t.placed)) k ≡ Some value
+  pub same : map_get (pairs (tree_of format t.placed)) k ≡ Some value
 
 pub some_value : (c : Content) (row : ℕ) (v : List ℕ) → part_at entry_value c row ≡ Some v → IsSome (part_at entry_value c row)
 some_value c row v is = let There : Option (List ℕ) → Type 0 = λ o. IsSome o in subst There (sym is) refl
 
-module _ (c : Content) (s : State) (link : ℕ) (t : SearchTree c s link) (k : List ℕ) (h : HeadLinks) (some : 0 < link) (read : part_at head_links c (link - 1) ≡ Some h) where
-  pub lies : EntriesLie c h (top c s link t k h some read).entries
-  lies = let o = top c s link t k h some read in record { first = o.run.begins; count = o.run.counted; rows = o.run.rows }
+module _ (format : Format) (c : Content) (s : State) (link : ℕ) (t : SearchTree format c s link) (k : List ℕ) (h : HeadLinks) (some : 0 < link) (read : part_at head_links c (link - 1) ≡ Some h) where
+  pub lies : EntriesLie c h (top format c s link t k h some read).entries
+  lies = let o = top format c s link t k h some read in record { first = o.run.begins; count = o.run.counted; rows = o.run.rows }
 
   -- the entries are cut, in rows that are the same
-  pub cut_top : {d : Content} {cut seen : Cut} → d ≡ c → ((es : List PlacedEntry) (tail : Placed) → EntriesLie d h es → link_of tail ≡ h.tail → IsCut k es tail cut) → cut ≡ seen → IsCut k (top c s link t k h some read).entries (top c s link t k h some read).tail seen
+  pub cut_top : {d : Content} {cut seen : Cut} → d ≡ c → ((es : List PlacedEntry) (tail : Placed) → EntriesLie d h es → link_of tail ≡ h.tail → IsCut format k es tail cut) → cut ≡ seen → IsCut format k (top format c s link t k h some read).entries (top format c s link t k h some read).tail seen
   cut_top {cut = cut} same cuts is =
-      let o = top c s link t k h some read in
-      subst (IsCut k o.entries o.tail) is (subst (λ (x : Content). (es : List PlacedEntry) (tail : Placed) → EntriesLie x h es → link_of tail ≡ h.tail → IsCut k es tail cut) same cuts o.entries o.tail lies o.tail_at)
+      let o = top format c s link t k h some read in
+      subst (IsCut format k o.entries o.tail) is (subst (λ (x : Content). (es : List PlacedEntry) (tail : Placed) → EntriesLie x h es → link_of tail ≡ h.tail → IsCut format k es tail cut) same cuts o.entries o.tail lies o.tail_at)
 
-  module _ (rise : IsAscending (pairs (tree_of One t.placed))) where
-    all_rise : IsAscending (entries_pairs (entries_to (top c s link t k h some read).entries (top c s link t k h some read).tail))
-    all_rise = subst IsAscending (ap pairs (top c s link t k h some read).tree) rise
+  module _ (rise : IsAscending (pairs (tree_of format t.placed))) where
+    all_rise : IsAscending (entries_pairs (entries_to format (top format c s link t k h some read).entries (top format c s link t k h some read).tail))
+    all_rise = subst IsAscending (ap pairs (top format c s link t k h some read).tree) rise
 
-    pub finds_below : (front back : RunOf) (child : ℕ) → CutGap k (top c s link t k h some read).entries (top c s link t k h some read).tail front child back → FindsBelow c s link t k child
+    pub finds_below : (front back : RunOf) (child : ℕ) → CutGap format k (top format c s link t k h some read).entries (top format c s link t k h some read).tail front child back → FindsBelow format c s link t k child
     finds_below front back child cut =
-        let o = top c s link t k h some read in
-        let b = gap_behind c s link t k h some read front back child (Rattle.mst_path.specs.Making.tail_behind back.count h.tail) cut refl in
-        let counts = gap_used c s link t k h some read front back child (Rattle.mst_path.specs.Making.tail_behind back.count h.tail) cut refl in
-        let first = first_before cut.behind o.tail in
-        let inside = gap_rises One h.layer (entries_to cut.behind o.tail) (cells_of cut.before) (subst (λ (fs : Entries). IsAscending (entries_pairs fs)) cut.gap.whole all_rise) in
+        let o = top format c s link t k h some read in
+        let b = gap_behind format c s link t k h some read front back child (Rattle.mst_path.specs.Making.tail_behind back.count h.tail) cut refl in
+        let counts = gap_used format c s link t k h some read front back child (Rattle.mst_path.specs.Making.tail_behind back.count h.tail) cut refl in
+        let first = first_before format cut.behind o.tail in
+        let inside = gap_rises format h.layer (entries_to format cut.behind o.tail) (cells_of format cut.before) (subst (λ (fs : Entries). IsAscending (entries_pairs fs)) cut.gap.whole all_rise) in
         record {
           inner = record {
             placed = gap_before cut.behind o.tail;
@@ -119,15 +119,15 @@ module _ (c : Content) (s : State) (link : ℕ) (t : SearchTree c s link) (k : L
           rise = subst (λ (u : Tree). IsAscending (pairs u)) first inside;
           same =
               ap (λ (u : Tree). map_get (pairs u) k) o.tree
-              ∙ gap_look k (entries_to o.entries o.tail) (cells_of cut.before) (entries_to cut.behind o.tail) cut.gap all_rise
+              ∙ gap_look k (entries_to format o.entries o.tail) (cells_of format cut.before) (entries_to format cut.behind o.tail) cut.gap all_rise
               ∙ ap (λ (u : Tree). map_get (pairs u) k) first;
-          falls = omega (arith, b.gap_low, tall c s t.placed (link - 1) h o t.search, height_there c (gap_before cut.behind o.tail) child cut.child_at b.gap_piece.rows, height_there c t.placed link t.at t.piece.rows);
+          falls = omega (arith, b.gap_low, tall format c s t.placed (link - 1) h o t.search, height_there format c (gap_before cut.behind o.tail) child cut.child_at b.gap_piece.rows, height_there format c t.placed link t.at t.piece.rows);
         }
 
-    pub finds_here : (front back : RunOf) (row child : ℕ) → CutHeld k (top c s link t k h some read).entries (top c s link t k h some read).tail front row child back → FindsHere c s link t k row
+    pub finds_here : (front back : RunOf) (row child : ℕ) → CutHeld format k (top format c s link t k h some read).entries (top format c s link t k h some read).tail front row child back → FindsHere format c s link t k row
     finds_here front back row child cut =
-        let o = top c s link t k h some read in
-        let run = subst (λ (es : List PlacedEntry). Rattle.mst_path.specs.Runs.Run c s h.first h.count 0 es) cut.whole o.run in
+        let o = top format c s link t k h some read in
+        let run = subst (λ (es : List PlacedEntry). Rattle.mst_path.specs.Runs.Run format c s h.first h.count 0 es) cut.whole o.run in
         let rows = back_rows c cut.before (cut.here ∷ cut.behind) run.rows in
         let there : c row ≡ Some (Entry (link_of cut.here.child) (link_from 0 cut.behind) cut.here.key cut.here.value) = ap c (sym cut.row_is) ∙ rows.0 in
         record {
@@ -135,5 +135,5 @@ module _ (c : Content) (s : State) (link : ℕ) (t : SearchTree c s link) (k : L
           there = ap (λ (r : Option Row). option_and_then entry_value r) there;
           same =
               ap (λ (u : Tree). map_get (pairs u) k) o.tree
-              ∙ held_look k (entries_to o.entries o.tail) (cells_of cut.before) (tree_of One cut.here.child) cut.here.value (entries_to cut.behind o.tail) cut.at all_rise;
+              ∙ held_look k (entries_to format o.entries o.tail) (cells_of format cut.before) (tree_of format cut.here.child) cut.here.value (entries_to format cut.behind o.tail) cut.at all_rise;
         }

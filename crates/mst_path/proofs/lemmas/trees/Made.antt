@@ -1,4 +1,5 @@
 -- Trees of which each node is wholly old or made anew: how they come about, and that they stay so.
+use Rattle.mst_key.specs.declared.format.Format.{Format}
 use Rattle.std.proofs.Common.{◌≡◌, ℕ, ◌+◌, ◌<◌, eqb, Bool, true, false, List, [], ◌∷◌, ◌++◌, Some, refl, sym, ◌∙◌, ap, subst, arith, inl, inr}
 use Rattle.std.proofs.lemmas.Bool.Decides.{nat_tests}
 use Rattle.mst_arena.specs.Content.{Content}
@@ -43,8 +44,8 @@ mutual
     | inr k ↦ chain_alive s rest is.2 r k
   ]) i
 
-pub piece_alive : {content : Content} {s : State} {p : Placed} → Piece content s p → (r : ℕ) → In r (used p) → IsAlive s r
-piece_alive {content} {s} {p} piece r i = made_alive s p piece.made r i
+pub piece_alive : (format : Format) {content : Content} {s : State} {p : Placed} → Piece format content s p → (r : ℕ) → In r (used p) → IsAlive s r
+piece_alive format {content} {s} {p} piece r i = made_alive s p piece.made r i
 
 -- entries, and a tree in the last gap
 pub made_chain : (s : State) (es : List PlacedEntry) (tail : Placed) → AreMade s es → IsMade s tail → IsMadeChain s (chain_of es tail)

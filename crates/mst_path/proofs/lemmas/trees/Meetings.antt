@@ -1,11 +1,11 @@
 -- Where two trees meet that are to be joined, by the layers of their nodes.
+use Rattle.mst_key.specs.declared.format.Format.{Format}
 use Rattle.std.proofs.Common.{◌≡◌, ℕ, zero, suc, ◌+◌, ◌-◌, ◌<◌, ◌≤◌, ◌==◌, ◌||◌, Bool, true, false, eqb, List, [], ◌∷◌, length, Option, Some, IsSome, refl, sym, ◌∙◌, ap, subst, arith, inl, inr, ◌⊎◌}
 use Rattle.std.specs.Prelude.{option_and_then, if◌then◌else◌}
 use Rattle.std.specs.List.{AllByRecursion}
 use Rattle.std.specs.Option.{option_map_or}
 use Rattle.std.proofs.lemmas.List.{length-map}
 use Rattle.std.proofs.lemmas.Bool.Decides.{nat_tests}
-use Rattle.mst_key.specs.declared.format.Format.TheVariants.{One}
 use Rattle.mst_node.specs.Tree.{Tree, empty, node, Entries, last, entry, entry_count, IsUnder, IsMst, IsMstEntries}
 use Rattle.mst_node.specs.Shape.{TreeEntry, with_entries}
 use Rattle.mst_arena.specs.Content.{Content, part_at}
@@ -44,9 +44,9 @@ each_in P (x ∷ xs) all r i = go (eqb r x) refl (λ more. each_in P xs all.1 r 
 
 -- ---- nodes with entries
 
-pub node_of_some : (l : ℕ) (es : Entries) → 0 < entry_count es → node_of One l es ≡ node One l es
-node_of_some l (last child) h = absurd (omega (arith, h))
-node_of_some l (entry child key value rest) h = refl
+pub node_of_some : (format : Format) (l : ℕ) (es : Entries) → 0 < entry_count es → node_of format l es ≡ node format l es
+node_of_some format l (last child) h = absurd (omega (arith, h))
+node_of_some format l (entry child key value rest) h = refl
 
 pub side_some : (k : ℕ) → 0 < k → side_rows k false ≡ k + 1
 side_some zero h = absurd (omega (arith, h))
@@ -64,20 +64,20 @@ pub has_tail : (es : List PlacedEntry) (tail : Placed) → 0 < length es → Has
 has_tail [] tail some = absurd (omega (arith, some))
 has_tail (e ∷ es) tail some = tt
 
-pub back_of_run : (c : Content) (s : State) (link count : ℕ) (es : List PlacedEntry) → Run c s link count 0 es → 0 < length es → (tail_link : ℕ) (tail : Placed) → link_of tail ≡ tail_link → OldPiece c s tail → BackRun c s link count tail_link es tail
-back_of_run c s link count es run some tail_link tail at piece = record {
+pub back_of_run : (format : Format) (c : Content) (s : State) (link count : ℕ) (es : List PlacedEntry) → Run format c s link count 0 es → 0 < length es → (tail_link : ℕ) (tail : Placed) → link_of tail ≡ tail_link → OldPiece format c s tail → BackRun format c s link count tail_link es tail
+back_of_run format c s link count es run some tail_link tail at piece = record {
   counted = run.counted;
   begins = run.begins;
   rows = run.rows;
   old = run.old;
-  gaps = gaps_others (OldPiece c s) es run.gaps;
+  gaps = gaps_others (OldPiece format c s) es run.gaps;
   tail_at = at;
   tail_piece = piece;
   tail_none = has_tail es tail some;
 }
 
-pub no_back : (c : Content) (s : State) → BackRun c s 0 0 0 [] no_tree
-no_back c s = record {
+pub no_back : (format : Format) (c : Content) (s : State) → BackRun format c s 0 0 0 [] no_tree
+no_back format c s = record {
   counted = refl;
   begins = refl;
   rows = tt;
@@ -88,60 +88,60 @@ no_back c s = record {
   tail_none = refl;
 }
 
-pub no_front : (c : Content) (s : State) → Run c s 0 0 0 []
-no_front c s = record { counted = refl; begins = refl; rows = tt; old = λ r i. absurd (omega (arith, i)); gaps = tt }
+pub no_front : (format : Format) (c : Content) (s : State) → Run format c s 0 0 0 []
+no_front format c s = record { counted = refl; begins = refl; rows = tt; old = λ r i. absurd (omega (arith, i)); gaps = tt }
 
 pub some_of : (a b : ℕ) → 0 < a + b → (0 < a) ⊎ (0 < b)
 some_of zero b h = inr (omega (arith, h))
 some_of (suc a) b h = inl (omega arith)
 
 -- what is in two old trees is alive
-pub both_alive : (c : Content) (s : State) (p q : Placed) → OldPiece c s p → OldPiece c s q → (r : ℕ) → 0 < times r (used p) + times r (used q) → IsAlive s r
-both_alive c s p q a b r i = elim (some_of (times r (used p)) (times r (used q)) i) [
+pub both_alive : (format : Format) (c : Content) (s : State) (p q : Placed) → OldPiece format c s p → OldPiece format c s q → (r : ℕ) → 0 < times r (used p) + times r (used q) → IsAlive s r
+both_alive format c s p q a b r i = elim (some_of (times r (used p)) (times r (used q)) i) [
   | inl k ↦ old_alive s r (a.old r k)
   | inr k ↦ old_alive s r (b.old r k)
 ]
 
 -- ---- a search tree's node that is opened
 
-module _ (c : Content) (s : State) (p : Placed) (row : ℕ) (h : HeadLinks) (o : Opened c s p row h) (search : IsMst One (tree_of One p)) where
+module _ (format : Format) (c : Content) (s : State) (p : Placed) (row : ℕ) (h : HeadLinks) (o : Opened format c s p row h) (search : IsMst format (tree_of format p)) where
   abbrev pub entries : Entries
-  entries = entries_to o.entries o.tail
+  entries = entries_to format o.entries o.tail
 
-  pub node_search : (One ≡ One) × (0 < entry_count entries) × IsMstEntries One h.layer entries
-  node_search = subst (IsMst One) o.tree search
+  pub node_search : (format ≡ format) × (0 < entry_count entries) × IsMstEntries format h.layer entries
+  node_search = subst (IsMst format) o.tree search
 
   pub some_entries : 0 < length o.entries
-  some_entries = omega (arith, node_search.1, count_to o.entries o.tail)
+  some_entries = omega (arith, node_search.1, count_to format o.entries o.tail)
 
-  pub low_layer : h.layer ≤ 64
-  low_layer = layer_of_entries h.layer entries node_search.1 node_search.2
+  pub low_layer : h.layer ≤ 128
+  low_layer = layer_of_entries format h.layer entries node_search.1 node_search.2
 
-  pub tall : height (tree_of One p) ≡ h.layer + 1
+  pub tall : height (tree_of format p) ≡ h.layer + 1
   tall = ap height o.tree
 
-  pub tail_search : IsMst One (tree_of One o.tail)
-  tail_search = subst (IsMst One) (last_to o.entries o.tail) (last_mst entries One h.layer node_search.2).1
+  pub tail_search : IsMst format (tree_of format o.tail)
+  tail_search = subst (IsMst format) (last_to format o.entries o.tail) (last_mst entries format h.layer node_search.2).1
 
-  pub tail_low : height (tree_of One o.tail) ≤ h.layer
-  tail_low = height_under h.layer (tree_of One o.tail) (subst (IsUnder h.layer) (last_to o.entries o.tail) (last_mst entries One h.layer node_search.2).0)
+  pub tail_low : height (tree_of format o.tail) ≤ h.layer
+  tail_low = height_under h.layer (tree_of format o.tail) (subst (IsUnder h.layer) (last_to format o.entries o.tail) (last_mst entries format h.layer node_search.2).0)
 
   pub first : First o.entries
   first = first_of_some o.entries some_entries
 
-  pub first_is : first_child entries ≡ tree_of One first.entry.child
-  first_is = ap (λ (l : List PlacedEntry). first_child (entries_to l o.tail)) first.is
+  pub first_is : first_child entries ≡ tree_of format first.entry.child
+  first_is = ap (λ (l : List PlacedEntry). first_child (entries_to format l o.tail)) first.is
 
-  pub first_search : IsMst One (tree_of One first.entry.child)
-  first_search = subst (IsMst One) first_is (first_mst entries One h.layer node_search.2).1
+  pub first_search : IsMst format (tree_of format first.entry.child)
+  first_search = subst (IsMst format) first_is (first_mst entries format h.layer node_search.2).1
 
-  pub first_low : height (tree_of One first.entry.child) ≤ h.layer
-  first_low = height_under h.layer (tree_of One first.entry.child) (subst (IsUnder h.layer) first_is (first_mst entries One h.layer node_search.2).0)
+  pub first_low : height (tree_of format first.entry.child) ≤ h.layer
+  first_low = height_under h.layer (tree_of format first.entry.child) (subst (IsUnder h.layer) first_is (first_mst entries format h.layer node_search.2).0)
 
-  first_run : Run c s h.first h.count 0 (first.entry ∷ first.more)
-  first_run = subst (Run c s h.first h.count 0) first.is o.run
+  first_run : Run format c s h.first h.count 0 (first.entry ∷ first.more)
+  first_run = subst (Run format c s h.first h.count 0) first.is o.run
 
-  pub first_piece : OldPiece c s first.entry.child
+  pub first_piece : OldPiece format c s first.entry.child
   first_piece = first_run.gaps.0
 
   pub first_gap : (x : ℕ) → times x (gaps_used o.entries) ≡ times x (used first.entry.child) + times x (gaps_used (others o.entries))
@@ -161,26 +161,26 @@ module _ (c : Content) (s : State) (p : Placed) (row : ℕ) (h : HeadLinks) (o :
 
 -- ---- the two nodes
 
-module _ (c : Content) (s : State) (left right : ℕ) (t : TwoTrees c s left right) (low high : HeadLinks) (some_left : 0 < left) (some_right : 0 < right) (read_low : part_at head_links c (left - 1) ≡ Some low) (read_high : part_at head_links c (right - 1) ≡ Some high) where
-  abbrev pub a_node : Opened c s t.a (left - 1) low
-  a_node = opened c s t.a left low t.a_at some_left t.a_piece read_low
+module _ (format : Format) (c : Content) (s : State) (left right : ℕ) (t : TwoTrees format c s left right) (low high : HeadLinks) (some_left : 0 < left) (some_right : 0 < right) (read_low : part_at head_links c (left - 1) ≡ Some low) (read_high : part_at head_links c (right - 1) ≡ Some high) where
+  abbrev pub a_node : Opened format c s t.a (left - 1) low
+  a_node = opened format c s t.a left low t.a_at some_left t.a_piece read_low
 
-  abbrev pub b_node : Opened c s t.b (right - 1) high
-  b_node = opened c s t.b right high t.b_at some_right t.b_piece read_high
+  abbrev pub b_node : Opened format c s t.b (right - 1) high
+  b_node = opened format c s t.b right high t.b_at some_right t.b_piece read_high
 
   abbrev a_entries : Entries
-  a_entries = entries_to a_node.entries a_node.tail
+  a_entries = entries_to format a_node.entries a_node.tail
 
   abbrev b_entries : Entries
-  b_entries = entries_to b_node.entries b_node.tail
+  b_entries = entries_to format b_node.entries b_node.tail
 
   abbrev a_some : 0 < length a_node.entries
-  a_some = some_entries c s t.a (left - 1) low a_node t.a_search
+  a_some = some_entries format c s t.a (left - 1) low a_node t.a_search
 
   abbrev b_some : 0 < length b_node.entries
-  b_some = some_entries c s t.b (right - 1) high b_node t.b_search
+  b_some = some_entries format c s t.b (right - 1) high b_node t.b_search
 
-  pub met_higher : high.layer < low.layer → Met c s left right t (above_right left right low)
+  pub met_higher : high.layer < low.layer → Met format c s left right t (above_right left right low)
   met_higher less = record {
     inner = record {
       a = a_node.tail;
@@ -189,7 +189,7 @@ module _ (c : Content) (s : State) (left right : ℕ) (t : TwoTrees c s left rig
       b_at = t.b_at;
       a_piece = a_node.tail_piece;
       b_piece = t.b_piece;
-      a_search = tail_search c s t.a (left - 1) low a_node t.a_search;
+      a_search = tail_search format c s t.a (left - 1) low a_node t.a_search;
       b_search = t.b_search;
       once = λ x. omega (arith, t.once x, a_node.used_is x);
     };
@@ -199,51 +199,51 @@ module _ (c : Content) (s : State) (left right : ℕ) (t : TwoTrees c s left rig
       front_run = a_node.run;
       back = [];
       tail = no_tree;
-      back_run = no_back c s;
+      back_run = no_back format c s;
       goes = each_in (IsOld s) ((left - 1) ∷ []) (a_node.head_old, tt);
-      alive = both_alive c s a_node.tail t.b a_node.tail_piece t.b_piece;
+      alive = both_alive format c s a_node.tail t.b a_node.tail_piece t.b_piece;
       once = λ x. omega (arith, t.once x, a_node.used_is x);
     };
     is =
-        ap (λ u. join u (tree_of One t.b)) a_node.tree
-        ∙ ap (λ u. join (node One low.layer a_entries) u) b_node.tree
-        ∙ join_higher One One low.layer high.layer a_entries b_entries less
-        ∙ ap (λ u. node One low.layer (with_entries (cells a_entries) (last (join (last_child a_entries) u)))) (sym b_node.tree)
-        ∙ ap (λ l. node One low.layer (with_entries l (last (join (last_child a_entries) (tree_of One t.b))))) (cells_to a_node.entries a_node.tail)
-        ∙ ap (λ u. node One low.layer (with_entries (cells_of a_node.entries) (last (join u (tree_of One t.b))))) (last_to a_node.entries a_node.tail)
-        ∙ sym (node_of_some low.layer (with_entries (cells_of a_node.entries) (last (join (tree_of One a_node.tail) (tree_of One t.b)))) (omega (arith, with_entries_count (cells_of a_node.entries) (last (join (tree_of One a_node.tail) (tree_of One t.b))), length-map {B = TreeEntry} a_node.entries cell_of, a_some)));
+        ap (λ u. join u (tree_of format t.b)) a_node.tree
+        ∙ ap (λ u. join (node format low.layer a_entries) u) b_node.tree
+        ∙ join_higher format format low.layer high.layer a_entries b_entries less
+        ∙ ap (λ u. node format low.layer (with_entries (cells a_entries) (last (join (last_child a_entries) u)))) (sym b_node.tree)
+        ∙ ap (λ l. node format low.layer (with_entries l (last (join (last_child a_entries) (tree_of format t.b))))) (cells_to format a_node.entries a_node.tail)
+        ∙ ap (λ u. node format low.layer (with_entries (cells_of format a_node.entries) (last (join u (tree_of format t.b))))) (last_to format a_node.entries a_node.tail)
+        ∙ sym (node_of_some format low.layer (with_entries (cells_of format a_node.entries) (last (join (tree_of format a_node.tail) (tree_of format t.b)))) (omega (arith, with_entries_count (cells_of format a_node.entries) (last (join (tree_of format a_node.tail) (tree_of format t.b))), length-map {B = TreeEntry} a_node.entries (cell_of format), a_some)));
     rows =
-        let all = ap (λ u. join_rows u (tree_of One t.b)) a_node.tree
-        ∙ ap (λ u. join_rows (node One low.layer a_entries) u) b_node.tree
-        ∙ join_rows_higher One One low.layer high.layer a_entries b_entries less
+        let all = ap (λ u. join_rows u (tree_of format t.b)) a_node.tree
+        ∙ ap (λ u. join_rows (node format low.layer a_entries) u) b_node.tree
+        ∙ join_rows_higher format format low.layer high.layer a_entries b_entries less
         ∙ ap (λ u. entry_count a_entries + 1 + join_rows (last_child a_entries) u) (sym b_node.tree)
-        ∙ ap (λ u. entry_count a_entries + 1 + join_rows u (tree_of One t.b)) (last_to a_node.entries a_node.tail) in
-        omega (arith, all, count_to a_node.entries a_node.tail, a_node.run.counted, side_some (low.count + 0) (omega (arith, a_some, a_node.run.counted)));
+        ∙ ap (λ u. entry_count a_entries + 1 + join_rows u (tree_of format t.b)) (last_to format a_node.entries a_node.tail) in
+        omega (arith, all, count_to format a_node.entries a_node.tail, a_node.run.counted, side_some (low.count + 0) (omega (arith, a_some, a_node.run.counted)));
     given = λ x. omega (arith, a_node.used_is x);
-    falls = omega (arith, tall c s t.a (left - 1) low a_node t.a_search, tail_low c s t.a (left - 1) low a_node t.a_search);
-    low = low_layer c s t.a (left - 1) low a_node t.a_search;
+    falls = omega (arith, tall format c s t.a (left - 1) low a_node t.a_search, tail_low format c s t.a (left - 1) low a_node t.a_search);
+    low = low_layer format c s t.a (left - 1) low a_node t.a_search;
   }
 
   module _ (links : EntryLinks) (read : part_at entry_links c (high.first - 1) ≡ Some links) where
     abbrev b_first : First b_node.entries
-    b_first = first c s t.b (right - 1) high b_node t.b_search
+    b_first = first format c s t.b (right - 1) high b_node t.b_search
 
     abbrev child_at : link_of b_first.entry.child ≡ links.child
-    child_at = sym (first_link c s t.b (right - 1) high b_node t.b_search links read)
+    child_at = sym (first_link format c s t.b (right - 1) high b_node t.b_search links read)
 
-    abbrev child_piece : OldPiece c s b_first.entry.child
-    child_piece = first_piece c s t.b (right - 1) high b_node t.b_search
+    abbrev child_piece : OldPiece format c s b_first.entry.child
+    child_piece = first_piece format c s t.b (right - 1) high b_node t.b_search
 
     abbrev child_gap : (x : ℕ) → times x (gaps_used b_node.entries) ≡ times x (used b_first.entry.child) + times x (gaps_used (others b_node.entries))
-    child_gap = first_gap c s t.b (right - 1) high b_node t.b_search
+    child_gap = first_gap format c s t.b (right - 1) high b_node t.b_search
 
-    abbrev child_is : first_child b_entries ≡ tree_of One b_first.entry.child
-    child_is = first_is c s t.b (right - 1) high b_node t.b_search
+    abbrev child_is : first_child b_entries ≡ tree_of format b_first.entry.child
+    child_is = first_is format c s t.b (right - 1) high b_node t.b_search
 
-    abbrev b_back : BackRun c s high.first high.count high.tail b_node.entries b_node.tail
-    b_back = back_of_run c s high.first high.count b_node.entries b_node.run b_some high.tail b_node.tail b_node.tail_at b_node.tail_piece
+    abbrev b_back : BackRun format c s high.first high.count high.tail b_node.entries b_node.tail
+    b_back = back_of_run format c s high.first high.count b_node.entries b_node.run b_some high.tail b_node.tail b_node.tail_at b_node.tail_piece
 
-    pub met_lower : low.layer < high.layer → Met c s left right t (below_right left right high links.child)
+    pub met_lower : low.layer < high.layer → Met format c s left right t (below_right left right high links.child)
     met_lower less = record {
       inner = record {
         a = t.a;
@@ -253,40 +253,40 @@ module _ (c : Content) (s : State) (left right : ℕ) (t : TwoTrees c s left rig
         a_piece = t.a_piece;
         b_piece = child_piece;
         a_search = t.a_search;
-        b_search = first_search c s t.b (right - 1) high b_node t.b_search;
+        b_search = first_search format c s t.b (right - 1) high b_node t.b_search;
         once = λ x. omega (arith, t.once x, b_node.used_is x, child_gap x);
       };
       framed = record {
         front = [];
         behind = 0;
-        front_run = no_front c s;
+        front_run = no_front format c s;
         back = b_node.entries;
         tail = b_node.tail;
         back_run = b_back;
         goes = each_in (IsOld s) ((right - 1) ∷ []) (b_node.head_old, tt);
-        alive = both_alive c s t.a b_first.entry.child t.a_piece child_piece;
+        alive = both_alive format c s t.a b_first.entry.child t.a_piece child_piece;
         once = λ x. omega (arith, t.once x, b_node.used_is x, child_gap x);
       };
       is =
-          ap (λ u. join u (tree_of One t.b)) a_node.tree
-          ∙ ap (λ u. join (node One low.layer a_entries) u) b_node.tree
-          ∙ join_lower One One low.layer high.layer a_entries b_entries less
-          ∙ ap (λ u. node One high.layer (with_first (join u (first_child b_entries)) b_entries)) (sym a_node.tree)
-          ∙ ap (λ u. node One high.layer (with_first (join (tree_of One t.a) u) b_entries)) child_is
-          ∙ sym (node_of_some high.layer (with_first (join (tree_of One t.a) (tree_of One b_first.entry.child)) b_entries) (omega (arith, with_first_count b_entries (join (tree_of One t.a) (tree_of One b_first.entry.child)), count_to b_node.entries b_node.tail, b_some)));
+          ap (λ u. join u (tree_of format t.b)) a_node.tree
+          ∙ ap (λ u. join (node format low.layer a_entries) u) b_node.tree
+          ∙ join_lower format format low.layer high.layer a_entries b_entries less
+          ∙ ap (λ u. node format high.layer (with_first (join u (first_child b_entries)) b_entries)) (sym a_node.tree)
+          ∙ ap (λ u. node format high.layer (with_first (join (tree_of format t.a) u) b_entries)) child_is
+          ∙ sym (node_of_some format high.layer (with_first (join (tree_of format t.a) (tree_of format b_first.entry.child)) b_entries) (omega (arith, with_first_count b_entries (join (tree_of format t.a) (tree_of format b_first.entry.child)), count_to format b_node.entries b_node.tail, b_some)));
       rows =
-          let all = ap (λ u. join_rows u (tree_of One t.b)) a_node.tree
-          ∙ ap (λ u. join_rows (node One low.layer a_entries) u) b_node.tree
-          ∙ join_rows_lower One One low.layer high.layer a_entries b_entries less
+          let all = ap (λ u. join_rows u (tree_of format t.b)) a_node.tree
+          ∙ ap (λ u. join_rows (node format low.layer a_entries) u) b_node.tree
+          ∙ join_rows_lower format format low.layer high.layer a_entries b_entries less
           ∙ ap (λ u. entry_count b_entries + 1 + join_rows u (first_child b_entries)) (sym a_node.tree)
-          ∙ ap (λ u. entry_count b_entries + 1 + join_rows (tree_of One t.a) u) child_is in
-          omega (arith, all, count_to b_node.entries b_node.tail, b_node.run.counted, side_some (0 + high.count) (omega (arith, b_some, b_node.run.counted)));
+          ∙ ap (λ u. entry_count b_entries + 1 + join_rows (tree_of format t.a) u) child_is in
+          omega (arith, all, count_to format b_node.entries b_node.tail, b_node.run.counted, side_some (0 + high.count) (omega (arith, b_some, b_node.run.counted)));
       given = λ x. omega (arith, b_node.used_is x, child_gap x);
-      falls = omega (arith, tall c s t.b (right - 1) high b_node t.b_search, first_low c s t.b (right - 1) high b_node t.b_search);
-      low = low_layer c s t.b (right - 1) high b_node t.b_search;
+      falls = omega (arith, tall format c s t.b (right - 1) high b_node t.b_search, first_low format c s t.b (right - 1) high b_node t.b_search);
+      low = low_layer format c s t.b (right - 1) high b_node t.b_search;
     }
 
-    pub met_level : low.layer ≡ high.layer → Met c s left right t (beside_right left right low high links.child)
+    pub met_level : low.layer ≡ high.layer → Met format c s left right t (beside_right left right low high links.child)
     met_level same = record {
       inner = record {
         a = a_node.tail;
@@ -295,8 +295,8 @@ module _ (c : Content) (s : State) (left right : ℕ) (t : TwoTrees c s left rig
         b_at = child_at;
         a_piece = a_node.tail_piece;
         b_piece = child_piece;
-        a_search = tail_search c s t.a (left - 1) low a_node t.a_search;
-        b_search = first_search c s t.b (right - 1) high b_node t.b_search;
+        a_search = tail_search format c s t.a (left - 1) low a_node t.a_search;
+        b_search = first_search format c s t.b (right - 1) high b_node t.b_search;
         once = λ x. omega (arith, t.once x, a_node.used_is x, b_node.used_is x, child_gap x);
       };
       framed = record {
@@ -307,38 +307,38 @@ module _ (c : Content) (s : State) (left right : ℕ) (t : TwoTrees c s left rig
         tail = b_node.tail;
         back_run = b_back;
         goes = each_in (IsOld s) ((left - 1) ∷ (right - 1) ∷ []) (a_node.head_old, (b_node.head_old, tt));
-        alive = both_alive c s a_node.tail b_first.entry.child a_node.tail_piece child_piece;
+        alive = both_alive format c s a_node.tail b_first.entry.child a_node.tail_piece child_piece;
         once = λ x. omega (arith, t.once x, a_node.used_is x, b_node.used_is x, child_gap x);
       };
       is =
-          ap (λ u. join u (tree_of One t.b)) a_node.tree
-          ∙ ap (λ u. join (node One low.layer a_entries) u) b_tree
-          ∙ join_level One One low.layer a_entries b_entries
-          ∙ ap (λ l. node One low.layer (with_entries l (with_first (join (last_child a_entries) (first_child b_entries)) b_entries))) (cells_to a_node.entries a_node.tail)
-          ∙ ap (λ u. node One low.layer (with_entries (cells_of a_node.entries) (with_first (join u (first_child b_entries)) b_entries))) (last_to a_node.entries a_node.tail)
-          ∙ ap (λ u. node One low.layer (with_entries (cells_of a_node.entries) (with_first (join (tree_of One a_node.tail) u) b_entries))) child_is
-          ∙ sym (node_of_some low.layer (with_entries (cells_of a_node.entries) (with_first (join (tree_of One a_node.tail) (tree_of One b_first.entry.child)) b_entries)) (omega (arith, with_entries_count (cells_of a_node.entries) (with_first (join (tree_of One a_node.tail) (tree_of One b_first.entry.child)) b_entries), length-map {B = TreeEntry} a_node.entries cell_of, a_some)));
+          ap (λ u. join u (tree_of format t.b)) a_node.tree
+          ∙ ap (λ u. join (node format low.layer a_entries) u) b_tree
+          ∙ join_level format format low.layer a_entries b_entries
+          ∙ ap (λ l. node format low.layer (with_entries l (with_first (join (last_child a_entries) (first_child b_entries)) b_entries))) (cells_to format a_node.entries a_node.tail)
+          ∙ ap (λ u. node format low.layer (with_entries (cells_of format a_node.entries) (with_first (join u (first_child b_entries)) b_entries))) (last_to format a_node.entries a_node.tail)
+          ∙ ap (λ u. node format low.layer (with_entries (cells_of format a_node.entries) (with_first (join (tree_of format a_node.tail) u) b_entries))) child_is
+          ∙ sym (node_of_some format low.layer (with_entries (cells_of format a_node.entries) (with_first (join (tree_of format a_node.tail) (tree_of format b_first.entry.child)) b_entries)) (omega (arith, with_entries_count (cells_of format a_node.entries) (with_first (join (tree_of format a_node.tail) (tree_of format b_first.entry.child)) b_entries), length-map {B = TreeEntry} a_node.entries (cell_of format), a_some)));
       rows =
-          let all = ap (λ u. join_rows u (tree_of One t.b)) a_node.tree
-          ∙ ap (λ u. join_rows (node One low.layer a_entries) u) b_tree
-          ∙ join_rows_level One One low.layer a_entries b_entries
-          ∙ ap (λ u. entry_count a_entries + entry_count b_entries + 1 + join_rows u (first_child b_entries)) (last_to a_node.entries a_node.tail)
-          ∙ ap (λ u. entry_count a_entries + entry_count b_entries + 1 + join_rows (tree_of One a_node.tail) u) child_is in
-          omega (arith, all, count_to a_node.entries a_node.tail, a_node.run.counted, count_to b_node.entries b_node.tail, b_node.run.counted, side_some (low.count + high.count) (omega (arith, a_some, a_node.run.counted)));
+          let all = ap (λ u. join_rows u (tree_of format t.b)) a_node.tree
+          ∙ ap (λ u. join_rows (node format low.layer a_entries) u) b_tree
+          ∙ join_rows_level format format low.layer a_entries b_entries
+          ∙ ap (λ u. entry_count a_entries + entry_count b_entries + 1 + join_rows u (first_child b_entries)) (last_to format a_node.entries a_node.tail)
+          ∙ ap (λ u. entry_count a_entries + entry_count b_entries + 1 + join_rows (tree_of format a_node.tail) u) child_is in
+          omega (arith, all, count_to format a_node.entries a_node.tail, a_node.run.counted, count_to format b_node.entries b_node.tail, b_node.run.counted, side_some (low.count + high.count) (omega (arith, a_some, a_node.run.counted)));
       given = λ x. omega (arith, a_node.used_is x, b_node.used_is x, child_gap x);
-      falls = omega (arith, tall c s t.a (left - 1) low a_node t.a_search, tail_low c s t.a (left - 1) low a_node t.a_search, tall c s t.b (right - 1) high b_node t.b_search, first_low c s t.b (right - 1) high b_node t.b_search);
-      low = low_layer c s t.a (left - 1) low a_node t.a_search;
+      falls = omega (arith, tall format c s t.a (left - 1) low a_node t.a_search, tail_low format c s t.a (left - 1) low a_node t.a_search, tall format c s t.b (right - 1) high b_node t.b_search, first_low format c s t.b (right - 1) high b_node t.b_search);
+      low = low_layer format c s t.a (left - 1) low a_node t.a_search;
     }
       where
-        b_tree : tree_of One t.b ≡ node One low.layer b_entries
-        b_tree = b_node.tree ∙ ap (λ (l : ℕ). node One l b_entries) (sym same)
+        b_tree : tree_of format t.b ≡ node format low.layer b_entries
+        b_tree = b_node.tree ∙ ap (λ (l : ℕ). node format l b_entries) (sym same)
 
 -- ---- how high the trees are
 
-pub height_there : (c : Content) (p : Placed) (link : ℕ) → link_of p ≡ link → HasRows c (rows_of One p) → height_at c link ≡ height (tree_of One p)
-height_there c no_tree zero at has = refl
-height_there c no_tree (suc row) at has = absurd (omega (arith, at))
-height_there c (tree_head i l chain) zero at has = absurd (omega (arith, at))
-height_there c (tree_head i l chain) (suc row) at has =
+pub height_there : (format : Format) (c : Content) (p : Placed) (link : ℕ) → link_of p ≡ link → HasRows c (rows_of format p) → height_at c link ≡ height (tree_of format p)
+height_there format c no_tree zero at has = refl
+height_there format c no_tree (suc row) at has = absurd (omega (arith, at))
+height_there format c (tree_head i l chain) zero at has = absurd (omega (arith, at))
+height_there format c (tree_head i l chain) (suc row) at has =
     let same : row ≡ i = omega (arith, at) in
     ap (λ (o : Option Row). option_map_or (λ h. h.layer + 1) (option_and_then head_links o) 0) (ap c same ∙ has.0)

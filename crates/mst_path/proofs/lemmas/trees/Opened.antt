@@ -1,7 +1,7 @@
 -- The node of a tree of the current version, opened: its head, its entries, and what stands in its
 -- gaps.
+use Rattle.mst_key.specs.declared.format.Format.{Format}
 use Rattle.std.proofs.Common.{◌≡◌, ℕ, ◌+◌, ◌<◌, List, [], ◌∷◌, ◌++◌, length, Some, refl, sym, ◌∙◌, ap, subst, arith}
-use Rattle.mst_key.specs.declared.format.Format.TheVariants.{One}
 use Rattle.mst_node.specs.Tree.{Tree, node, entry}
 use Rattle.mst_arena.specs.Content.{Content, part_at}
 use Rattle.mst_arena.specs.Lives.{State}
@@ -36,58 +36,58 @@ chain_back : (c : Chain) → chain_of (entries_in c) (tree_behind c) ≡ c
 chain_back (end p) = refl
 chain_back (cell at p k v c) = ap (cell at p k v) (chain_back c)
 
-entries_chain : (es : List PlacedEntry) (tail : Placed) → entries_of One (chain_of es tail) ≡ entries_to es tail
-entries_chain [] tail = refl
-entries_chain (e ∷ es) tail = ap (entry (tree_of One e.child) e.key e.value) (entries_chain es tail)
+entries_chain : (format : Format) (es : List PlacedEntry) (tail : Placed) → entries_of format (chain_of es tail) ≡ entries_to format es tail
+entries_chain format [] tail = refl
+entries_chain format (e ∷ es) tail = ap (entry (tree_of format e.child) e.key e.value) (entries_chain format es tail)
 
 chain_sum : (x : ℕ) (es : List PlacedEntry) (tail : Placed) → times x (chain_used (chain_of es tail)) ≡ times x (own es) + times x (gaps_used es) + times x (used tail)
 chain_sum x [] tail = omega arith
 chain_sum x (e ∷ es) tail =
     omega (arith, chain_sum x es tail, times-append x (used e.child) (chain_used (chain_of es tail)), times-append x (used e.child) (gaps_used es))
 
-chain_own : (c : Content) (es : List PlacedEntry) (tail : Placed) → HasRows c (chain_rows One (chain_of es tail)) → HasRows c (own_rows 0 es)
-chain_own c [] tail has = tt
-chain_own c (e ∷ es) tail has = (
+chain_own : (format : Format) (c : Content) (es : List PlacedEntry) (tail : Placed) → HasRows c (chain_rows format (chain_of es tail)) → HasRows c (own_rows 0 es)
+chain_own format c [] tail has = tt
+chain_own format c (e ∷ es) tail has = (
   has.0 ∙ ap (λ (n : ℕ). Some (Entry (link_of e.child) n e.key e.value)) (first_chain es tail),
-  chain_own c es tail (all-back _ (rows_of One e.child) (chain_rows One (chain_of es tail)) has.1),
+  chain_own format c es tail (all-back _ (rows_of format e.child) (chain_rows format (chain_of es tail)) has.1),
 )
 
-chain_gaps : (c : Content) (s : State) (es : List PlacedEntry) (tail : Placed) → HasRows c (chain_rows One (chain_of es tail)) → ((x : ℕ) → In x (gaps_used es) → IsOld s x) → EachGap (OldPiece c s) es
-chain_gaps c s [] tail has old = tt
-chain_gaps c s (e ∷ es) tail has old = (
+chain_gaps : (format : Format) (c : Content) (s : State) (es : List PlacedEntry) (tail : Placed) → HasRows c (chain_rows format (chain_of es tail)) → ((x : ℕ) → In x (gaps_used es) → IsOld s x) → EachGap (OldPiece format c s) es
+chain_gaps format c s [] tail has old = tt
+chain_gaps format c s (e ∷ es) tail has old = (
   record {
-    rows = all-front _ (rows_of One e.child) (chain_rows One (chain_of es tail)) has.1;
+    rows = all-front _ (rows_of format e.child) (chain_rows format (chain_of es tail)) has.1;
     old = λ x i. old x (omega (arith, i, times-append x (used e.child) (gaps_used es)));
   },
-  chain_gaps c s es tail (all-back _ (rows_of One e.child) (chain_rows One (chain_of es tail)) has.1) (λ x i. old x (omega (arith, i, times-append x (used e.child) (gaps_used es)))),
+  chain_gaps format c s es tail (all-back _ (rows_of format e.child) (chain_rows format (chain_of es tail)) has.1) (λ x i. old x (omega (arith, i, times-append x (used e.child) (gaps_used es)))),
 )
 
-chain_tail : (c : Content) (es : List PlacedEntry) (tail : Placed) → HasRows c (chain_rows One (chain_of es tail)) → HasRows c (rows_of One tail)
-chain_tail c [] tail has = has
-chain_tail c (e ∷ es) tail has = chain_tail c es tail (all-back _ (rows_of One e.child) (chain_rows One (chain_of es tail)) has.1)
+chain_tail : (format : Format) (c : Content) (es : List PlacedEntry) (tail : Placed) → HasRows c (chain_rows format (chain_of es tail)) → HasRows c (rows_of format tail)
+chain_tail format c [] tail has = has
+chain_tail format c (e ∷ es) tail has = chain_tail format c es tail (all-back _ (rows_of format e.child) (chain_rows format (chain_of es tail)) has.1)
 
 -- ---- the node at a link
 
-pub record Opened (c : Content) (s : State) (link : ℕ) (p : Placed) : Type 0 where
+pub record Opened (format : Format) (c : Content) (s : State) (link : ℕ) (p : Placed) : Type 0 where
   pub at : ℕ
   pub layer : ℕ
   pub es : List PlacedEntry
   pub tail : Placed
   pub is : p ≡ head at layer (chain_of es tail)
   pub link_is : link ≡ at + 1
-  pub tree_is : tree_of One p ≡ node One layer (entries_to es tail)
+  pub tree_is : tree_of format p ≡ node format layer (entries_to format es tail)
   pub links : part_at head_links c at ≡ Some (record { layer = layer; count = length es; first = link_from 0 es; tail = link_of tail })
   pub head_old : IsOld s at
   pub rows : HasRows c (own_rows 0 es)
   pub own_old : (x : ℕ) → In x (own es) → IsOld s x
-  pub gaps : EachGap (OldPiece c s) es
-  pub tail_piece : OldPiece c s tail
+  pub gaps : EachGap (OldPiece format c s) es
+  pub tail_piece : OldPiece format c s tail
   pub sum : (x : ℕ) → times x (used p) ≡ times x (at ∷ []) + times x (own es) + times x (gaps_used es) + times x (used tail)
 
-pub opened : (c : Content) (s : State) (link : ℕ) (t : OldTree c s link) → 0 < link → Opened c s link t.placed
-opened c s link t some = go t.placed t.at t.piece
+pub opened : (format : Format) (c : Content) (s : State) (link : ℕ) (t : OldTree format c s link) → 0 < link → Opened format c s link t.placed
+opened format c s link t some = go t.placed t.at t.piece
   where
-    at_chain : (at layer : ℕ) (es : List PlacedEntry) (tail : Placed) → at + 1 ≡ link → OldPiece c s (head at layer (chain_of es tail)) → Opened c s link (head at layer (chain_of es tail))
+    at_chain : (at layer : ℕ) (es : List PlacedEntry) (tail : Placed) → at + 1 ≡ link → OldPiece format c s (head at layer (chain_of es tail)) → Opened format c s link (head at layer (chain_of es tail))
     at_chain at layer es tail link_is piece =
         let sum : (x : ℕ) → times x (used (head at layer (chain_of es tail))) ≡ times x (at ∷ []) + times x (own es) + times x (gaps_used es) + times x (used tail) = λ x. omega (arith, chain_sum x es tail) in
         record {
@@ -97,23 +97,23 @@ opened c s link t some = go t.placed t.at t.piece
           tail = tail;
           is = refl;
           link_is = sym link_is;
-          tree_is = ap (node One layer) (entries_chain es tail);
+          tree_is = ap (node format layer) (entries_chain format es tail);
           links = ap (Rattle.std.specs.Prelude.option_and_then head_links) piece.rows.0
               ∙ ap (λ (n : ℕ). Some (record { layer = layer; count = n; first = first_of (chain_of es tail); tail = tail_of (chain_of es tail) })) (count_chain es tail)
               ∙ ap (λ (n : ℕ). Some (record { layer = layer; count = length es; first = n; tail = tail_of (chain_of es tail) })) (first_chain es tail)
               ∙ ap (λ (n : ℕ). Some (record { layer = layer; count = length es; first = link_from 0 es; tail = n })) (tail_chain es tail);
           head_old = piece.old at (omega (arith, at_self at));
-          rows = chain_own c es tail piece.rows.1;
+          rows = chain_own format c es tail piece.rows.1;
           own_old = λ x i. piece.old x (omega (arith, i, sum x));
-          gaps = chain_gaps c s es tail piece.rows.1 (λ x i. piece.old x (omega (arith, i, sum x)));
-          tail_piece = record { rows = chain_tail c es tail piece.rows.1; old = λ x i. piece.old x (omega (arith, i, sum x)) };
+          gaps = chain_gaps format c s es tail piece.rows.1 (λ x i. piece.old x (omega (arith, i, sum x)));
+          tail_piece = record { rows = chain_tail format c es tail piece.rows.1; old = λ x i. piece.old x (omega (arith, i, sum x)) };
           sum = sum;
         }
 
-    go : (p : Placed) → link_of p ≡ link → OldPiece c s p → Opened c s link p
+    go : (p : Placed) → link_of p ≡ link → OldPiece format c s p → Opened format c s link p
     go none at piece = absurd (omega (arith, at, some))
     go (head at layer chain) is piece =
-        subst (λ (ch : Chain). Opened c s link (head at layer ch)) (chain_back chain) (at_chain at layer (entries_in chain) (tree_behind chain) is (subst (λ (ch : Chain). OldPiece c s (head at layer ch)) (sym (chain_back chain)) piece))
+        subst (λ (ch : Chain). Opened format c s link (head at layer ch)) (chain_back chain) (at_chain at layer (entries_in chain) (tree_behind chain) is (subst (λ (ch : Chain). OldPiece format c s (head at layer ch)) (sym (chain_back chain)) piece))
 
 -- ---- the node round the gap before some of its entries
 
@@ -122,13 +122,13 @@ abbrev pub last_of : List PlacedEntry → Placed → Placed
 last_of [] tail = none
 last_of (e ∷ es) tail = tail
 
-pub with_first_last : (es : List PlacedEntry) (tail : Placed) (new : Tree) → with_first new (entries_to es (last_of es tail)) ≡ with_first new (entries_to es tail)
-with_first_last [] tail new = refl
-with_first_last (e ∷ es) tail new = refl
+pub with_first_last : (format : Format) (es : List PlacedEntry) (tail : Placed) (new : Tree) → with_first new (entries_to format es (last_of es tail)) ≡ with_first new (entries_to format es tail)
+with_first_last format [] tail new = refl
+with_first_last format (e ∷ es) tail new = refl
 
-pub first_gap : (es : List PlacedEntry) (tail : Placed) → first_child (entries_to es tail) ≡ tree_of One (gap_before es tail)
-first_gap [] tail = refl
-first_gap (e ∷ es) tail = refl
+pub first_gap : (format : Format) (es : List PlacedEntry) (tail : Placed) → first_child (entries_to format es tail) ≡ tree_of format (gap_before es tail)
+first_gap format [] tail = refl
+first_gap format (e ∷ es) tail = refl
 
 has_tail : (es : List PlacedEntry) (tail : Placed) → HasTail es (last_of es tail)
 has_tail [] tail = refl
@@ -138,17 +138,17 @@ gap_sum : (x : ℕ) (es : List PlacedEntry) (tail : Placed) → times x (gaps_us
 gap_sum x [] tail = omega arith
 gap_sum x (e ∷ es) tail = omega (arith, times-append x (used e.child) (gaps_used es))
 
-gap_piece : (c : Content) (s : State) (es : List PlacedEntry) (tail : Placed) → EachGap (OldPiece c s) es → OldPiece c s tail → OldPiece c s (gap_before es tail)
-gap_piece c s [] tail gaps piece = piece
-gap_piece c s (e ∷ es) tail gaps piece = gaps.0
+gap_piece : (format : Format) (c : Content) (s : State) (es : List PlacedEntry) (tail : Placed) → EachGap (OldPiece format c s) es → OldPiece format c s tail → OldPiece format c s (gap_before es tail)
+gap_piece format c s [] tail gaps piece = piece
+gap_piece format c s (e ∷ es) tail gaps piece = gaps.0
 
-other_gaps : (c : Content) (s : State) (es : List PlacedEntry) → EachGap (OldPiece c s) es → EachGap (OldPiece c s) (others es)
-other_gaps c s [] gaps = tt
-other_gaps c s (e ∷ es) gaps = gaps.1
+other_gaps : (format : Format) (c : Content) (s : State) (es : List PlacedEntry) → EachGap (OldPiece format c s) es → EachGap (OldPiece format c s) (others es)
+other_gaps format c s [] gaps = tt
+other_gaps format c s (e ∷ es) gaps = gaps.1
 
-last_piece : (c : Content) (s : State) (es : List PlacedEntry) (tail : Placed) → OldPiece c s tail → OldPiece c s (last_of es tail)
-last_piece c s [] tail piece = record { rows = tt; old = λ x i. absurd (omega arith) }
-last_piece c s (e ∷ es) tail piece = piece
+last_piece : (format : Format) (c : Content) (s : State) (es : List PlacedEntry) (tail : Placed) → OldPiece format c s tail → OldPiece format c s (last_of es tail)
+last_piece format c s [] tail piece = record { rows = tt; old = λ x i. absurd (omega arith) }
+last_piece format c s (e ∷ es) tail piece = piece
 
 rows_front : (c : Content) (es fs : List PlacedEntry) → HasRows c (own_rows 0 (es ++ fs)) → HasRows c (own_rows (link_from 0 fs) es)
 rows_front c [] fs has = tt
@@ -158,13 +158,13 @@ rows_back : (c : Content) (es fs : List PlacedEntry) → HasRows c (own_rows 0 (
 rows_back c [] fs has = has
 rows_back c (e ∷ es) fs has = rows_back c es fs has.1
 
-gaps_front : (P : Placed → Type 0) (es fs : List PlacedEntry) → EachGap P (es ++ fs) → EachGap P es
-gaps_front P [] fs each = tt
-gaps_front P (e ∷ es) fs each = (each.0, gaps_front P es fs each.1)
+gaps_front : (format : Format) (P : Placed → Type 0) (es fs : List PlacedEntry) → EachGap P (es ++ fs) → EachGap P es
+gaps_front format P [] fs each = tt
+gaps_front format P (e ∷ es) fs each = (each.0, gaps_front format P es fs each.1)
 
-gaps_back : (P : Placed → Type 0) (es fs : List PlacedEntry) → EachGap P (es ++ fs) → EachGap P fs
-gaps_back P [] fs each = each
-gaps_back P (e ∷ es) fs each = gaps_back P es fs each.1
+gaps_back : (format : Format) (P : Placed → Type 0) (es fs : List PlacedEntry) → EachGap P (es ++ fs) → EachGap P fs
+gaps_back format P [] fs each = each
+gaps_back format P (e ∷ es) fs each = gaps_back format P es fs each.1
 
 gaps_used-append : (x : ℕ) (es fs : List PlacedEntry) → times x (gaps_used (es ++ fs)) ≡ times x (gaps_used es) + times x (gaps_used fs)
 gaps_used-append x [] fs = omega arith
@@ -179,13 +179,13 @@ abbrev pub around : ℕ → List PlacedEntry → List PlacedEntry → Placed →
 around at before behind tail x = times x (at ∷ []) + times x (own before) + times x (gaps_used before) + times x (own behind) + times x (gaps_used (others behind)) + times x (used tail)
 
 -- a node with a gap: what stands before it, in it and behind it
-pub record Round (c : Content) (s : State) (at : ℕ) (front back : Entries_at) (tail_link : ℕ) (before behind : List PlacedEntry) (tail : Placed) : Type 0 where
+pub record Round (format : Format) (c : Content) (s : State) (at : ℕ) (front back : Entries_at) (tail_link : ℕ) (before behind : List PlacedEntry) (tail : Placed) : Type 0 where
   pub head_old : IsOld s at
-  pub front_run : Run c s front.first front.count (link_from 0 behind) before
-  pub back_run : BackRun c s back.first back.count tail_link behind tail
+  pub front_run : Run format c s front.first front.count (link_from 0 behind) before
+  pub back_run : BackRun format c s back.first back.count tail_link behind tail
   pub old : (x : ℕ) → 0 < around at before behind tail x → IsOld s x
 
-module _ (c : Content) (s : State) (link : ℕ) (p : Placed) (o : Opened c s link p) (before behind : List PlacedEntry) (whole : o.es ≡ before ++ behind) where
+module _ (format : Format) (c : Content) (s : State) (link : ℕ) (p : Placed) (o : Opened format c s link p) (before behind : List PlacedEntry) (whole : o.es ≡ before ++ behind) where
   pub lies : EntriesLie c (record { layer = o.layer; count = length o.es; first = link_from 0 o.es; tail = link_of o.tail }) o.es
   lies = record { first = refl; count = refl; rows = o.rows }
 
@@ -195,13 +195,13 @@ module _ (c : Content) (s : State) (link : ℕ) (p : Placed) (o : Opened c s lin
       let gaps : times x (gaps_used o.es) ≡ times x (gaps_used before) + times x (gaps_used behind) = ap (λ (es : List PlacedEntry). times x (gaps_used es)) whole ∙ gaps_used-append x before behind in
       omega (arith, o.sum x, owns, gaps, gap_sum x behind o.tail)
 
-  each : EachGap (OldPiece c s) (before ++ behind)
-  each = subst (λ (es : List PlacedEntry). EachGap (OldPiece c s) es) whole o.gaps
+  each : EachGap (OldPiece format c s) (before ++ behind)
+  each = subst (λ (es : List PlacedEntry). EachGap (OldPiece format c s) es) whole o.gaps
 
-  pub gap_old_piece : OldPiece c s (gap_before behind o.tail)
-  gap_old_piece = gap_piece c s behind o.tail (gaps_back (OldPiece c s) before behind each) o.tail_piece
+  pub gap_old_piece : OldPiece format c s (gap_before behind o.tail)
+  gap_old_piece = gap_piece format c s behind o.tail (gaps_back format (OldPiece format c s) before behind each) o.tail_piece
 
-  pub gap_round : (used_old : (x : ℕ) → In x (used p) → IsOld s x) (front back : Entries_at) (tail_link : ℕ) → IsRunOf front (link_from 0 behind) before → IsRunOf back 0 behind → link_of (last_of behind o.tail) ≡ tail_link → Round c s o.at front back tail_link before behind (last_of behind o.tail)
+  pub gap_round : (used_old : (x : ℕ) → In x (used p) → IsOld s x) (front back : Entries_at) (tail_link : ℕ) → IsRunOf front (link_from 0 behind) before → IsRunOf back 0 behind → link_of (last_of behind o.tail) ≡ tail_link → Round format c s o.at front back tail_link before behind (last_of behind o.tail)
   gap_round used_old front back tail_link front_is back_is tail_is =
       let old : (x : ℕ) → 0 < around o.at before behind (last_of behind o.tail) x → IsOld s x = λ x i. used_old x (omega (arith, i, gap_round_sum x)) in
       let rows : HasRows c (own_rows 0 (before ++ behind)) = subst (λ (es : List PlacedEntry). HasRows c (own_rows 0 es)) whole o.rows in
@@ -212,16 +212,16 @@ module _ (c : Content) (s : State) (link : ℕ) (p : Placed) (o : Opened c s lin
           begins = front_is.begins;
           rows = rows_front c before behind rows;
           old = λ x i. old x (omega (arith, i));
-          gaps = gaps_front (OldPiece c s) before behind each;
+          gaps = gaps_front format (OldPiece format c s) before behind each;
         };
         back_run = record {
           counted = back_is.counted;
           begins = back_is.begins;
           rows = rows_back c before behind rows;
           old = λ x i. old x (omega (arith, i));
-          gaps = other_gaps c s behind (gaps_back (OldPiece c s) before behind each);
+          gaps = other_gaps format c s behind (gaps_back format (OldPiece format c s) before behind each);
           tail_at = tail_is;
-          tail_piece = last_piece c s behind o.tail o.tail_piece;
+          tail_piece = last_piece format c s behind o.tail o.tail_piece;
           tail_none = has_tail behind o.tail;
         };
         old = old;

@@ -1,7 +1,7 @@
 -- The entries of a node that is opened, parted at a gap: those in front of it, the tree in it, and
 -- those behind it.
+use Rattle.mst_key.specs.declared.format.Format.{Format}
 use Rattle.std.proofs.Common.{◌≡◌, ℕ, zero, suc, ◌+◌, ◌<◌, ◌≤◌, List, [], ◌∷◌, ◌++◌, length, Some, refl, sym, ◌∙◌, ap, subst, arith}
-use Rattle.mst_key.specs.declared.format.Format.TheVariants.{One}
 use Rattle.mst_node.specs.Tree.{Tree, Entries, entry_count, IsMst, IsMstEntries}
 use Rattle.mst_node.specs.Shape.{with_entries}
 use Rattle.mst_arena.specs.Content.{Content}
@@ -47,14 +47,14 @@ pub gaps_both : (x : ℕ) (xs ys : List PlacedEntry) → times x (gaps_used (xs 
 gaps_both x [] ys = omega arith
 gaps_both x (e ∷ xs) ys = omega (arith, gaps_both x xs ys, times-append x (used e.child) (gaps_used (xs ++ ys)), times-append x (used e.child) (gaps_used xs))
 
-module _ (c : Content) (s : State) (link count : ℕ) (xs ys : List PlacedEntry) (run : Run c s link count 0 (xs ++ ys)) where
-  pub front_run : (first n behind : ℕ) → length xs ≡ n → link_from behind xs ≡ first → behind ≡ link_from 0 ys → Run c s first n behind xs
+module _ (format : Format) (c : Content) (s : State) (link count : ℕ) (xs ys : List PlacedEntry) (run : Run format c s link count 0 (xs ++ ys)) where
+  pub front_run : (first n behind : ℕ) → length xs ≡ n → link_from behind xs ≡ first → behind ≡ link_from 0 ys → Run format c s first n behind xs
   front_run first n behind counted begins is = record {
     counted = counted;
     begins = begins;
     rows = subst (λ (b : ℕ). HasRows c (own_rows b xs)) (sym is) (front_rows c xs ys run.rows);
     old = λ r i. run.old r (omega (arith, i, own_both r xs ys));
-    gaps = front_gaps (OldPiece c s) xs ys run.gaps;
+    gaps = front_gaps (OldPiece format c s) xs ys run.gaps;
   }
 
   pub back_old : (r : ℕ) → In r (own ys) → IsOld s r
@@ -64,19 +64,19 @@ module _ (c : Content) (s : State) (link count : ℕ) (xs ys : List PlacedEntry)
 
 -- The tree in the gap before these entries or in the last gap, and these entries with what they
 -- keep of the last tree.
-pub record Behind (c : Content) (s : State) (layer link count tail_link : ℕ) (ys : List PlacedEntry) (tail : Placed) : Type 0 where
+pub record Behind (format : Format) (c : Content) (s : State) (layer link count tail_link : ℕ) (ys : List PlacedEntry) (tail : Placed) : Type 0 where
   pub kept : Placed
-  pub back_run : BackRun c s link count (tail_behind count tail_link) ys kept
-  pub gap_piece : OldPiece c s (gap_before ys tail)
-  pub gap_search : IsMst One (tree_of One (gap_before ys tail))
-  pub gap_low : height (tree_of One (gap_before ys tail)) ≤ layer
+  pub back_run : BackRun format c s link count (tail_behind count tail_link) ys kept
+  pub gap_piece : OldPiece format c s (gap_before ys tail)
+  pub gap_search : IsMst format (tree_of format (gap_before ys tail))
+  pub gap_low : height (tree_of format (gap_before ys tail)) ≤ layer
   pub counts : (x : ℕ) → times x (gaps_used ys) + times x (used tail) ≡ times x (used (gap_before ys tail)) + times x (gaps_used (others ys)) + times x (used kept)
-  pub same : (u : Tree) → with_first u (entries_to ys tail) ≡ with_first u (entries_to ys kept)
-  pub first : first_child (entries_to ys tail) ≡ tree_of One (gap_before ys tail)
-  pub count_is : entry_count (entries_to ys tail) ≡ count
+  pub same : (u : Tree) → with_first u (entries_to format ys tail) ≡ with_first u (entries_to format ys kept)
+  pub first : first_child (entries_to format ys tail) ≡ tree_of format (gap_before ys tail)
+  pub count_is : entry_count (entries_to format ys tail) ≡ count
 
-pub behind : (c : Content) (s : State) (layer link count tail_link : ℕ) (ys : List PlacedEntry) (tail : Placed) → length ys ≡ count → link_from 0 ys ≡ link → HasRows c (own_rows 0 ys) → ((r : ℕ) → In r (own ys) → IsOld s r) → EachGap (OldPiece c s) ys → link_of tail ≡ tail_link → OldPiece c s tail → IsMstEntries One layer (entries_to ys tail) → Behind c s layer link count tail_link ys tail
-behind c s layer link count tail_link [] tail counted begins rows old gaps tail_at tail_piece search = record {
+pub behind : (format : Format) (c : Content) (s : State) (layer link count tail_link : ℕ) (ys : List PlacedEntry) (tail : Placed) → length ys ≡ count → link_from 0 ys ≡ link → HasRows c (own_rows 0 ys) → ((r : ℕ) → In r (own ys) → IsOld s r) → EachGap (OldPiece format c s) ys → link_of tail ≡ tail_link → OldPiece format c s tail → IsMstEntries format layer (entries_to format ys tail) → Behind format c s layer link count tail_link ys tail
+behind format c s layer link count tail_link [] tail counted begins rows old gaps tail_at tail_piece search = record {
   kept = no_tree;
   back_run = record {
     counted = counted;
@@ -90,13 +90,13 @@ behind c s layer link count tail_link [] tail counted begins rows old gaps tail_
   };
   gap_piece = tail_piece;
   gap_search = search.1;
-  gap_low = height_under layer (tree_of One tail) search.0;
+  gap_low = height_under layer (tree_of format tail) search.0;
   counts = λ x. omega arith;
   same = λ u. refl;
   first = refl;
   count_is = counted;
 }
-behind c s layer link count tail_link (e ∷ ys) tail counted begins rows old gaps tail_at tail_piece search = record {
+behind format c s layer link count tail_link (e ∷ ys) tail counted begins rows old gaps tail_at tail_piece search = record {
   kept = tail;
   back_run = record {
     counted = counted;
@@ -110,11 +110,11 @@ behind c s layer link count tail_link (e ∷ ys) tail counted begins rows old ga
   };
   gap_piece = gaps.0;
   gap_search = search.1;
-  gap_low = height_under layer (tree_of One e.child) search.0;
+  gap_low = height_under layer (tree_of format e.child) search.0;
   counts = λ x. omega (arith, times-append x (used e.child) (gaps_used ys));
   same = λ u. refl;
   first = refl;
-  count_is = omega (arith, counted, count_to ys tail);
+  count_is = omega (arith, counted, count_to format ys tail);
 }
   where
     some_behind : (n : ℕ) → 0 < n → tail_link ≡ tail_behind n tail_link
@@ -122,6 +122,6 @@ behind c s layer link count tail_link (e ∷ ys) tail counted begins rows old ga
     some_behind (suc n) h = refl
 
 -- the entries behind some of a search tree's node
-pub back_search : (layer : ℕ) (xs : List PlacedEntry) (es : Entries) → IsMstEntries One layer (with_entries (cells_of xs) es) → IsMstEntries One layer es
-back_search layer [] es search = search
-back_search layer (e ∷ xs) es search = back_search layer xs es search.3
+pub back_search : (format : Format) (layer : ℕ) (xs : List PlacedEntry) (es : Entries) → IsMstEntries format layer (with_entries (cells_of format xs) es) → IsMstEntries format layer es
+back_search format layer [] es search = search
+back_search format layer (e ∷ xs) es search = back_search format layer xs es search.3

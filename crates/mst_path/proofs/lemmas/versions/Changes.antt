@@ -1,10 +1,10 @@
 -- From the rows that a change of the tree took and killed to what its caller learns: by the rows
 -- that stood before it and those that stand after it.
+use Rattle.mst_key.specs.declared.format.Format.{Format}
 use Rattle.std.proofs.Common.{◌≡◌, ◌≢◌, ℕ, zero, suc, ◌+◌, ◌<◌, ◌≤◌, eqb, Bool, true, false, List, [], ◌∷◌, length, Option, Some, refl, sym, ◌∙◌, ap, subst, arith}
 use Rattle.std.specs.Prelude.{slice_get}
 use Rattle.std.specs.List.{AllByRecursion}
 use Rattle.std.proofs.lemmas.Bool.Decides.{nat_tests}
-use Rattle.mst_key.specs.declared.format.Format.TheVariants.{One}
 use Rattle.mst_key.specs.Map.{Pair, IsMap, IsAscending, map_get}
 use Rattle.mst_node.specs.Tree.{Tree, IsMst, pairs, tree}
 use Rattle.mst_node.specs.Text.{digest}
@@ -62,21 +62,21 @@ times_distinct (x ∷ xs) once = (
 
 -- ---- what stands at a root
 
-pub mst_of : (p : Placed) (m : List Pair) → tree_of One p ≡ tree One m → IsMst One (tree_of One p)
-mst_of p m is = let Mst : Tree → Type 0 = IsMst One in subst Mst (sym is) (tree_mst One m)
+pub mst_of : (format : Format) (p : Placed) (m : List Pair) → tree_of format p ≡ tree format m → IsMst format (tree_of format p)
+mst_of format p m is = let Mst : Tree → Type 0 = IsMst format in subst Mst (sym is) (tree_mst format m)
 
-pub one_standing : (c : Content) (at : Root) (m n : List Pair) (s : Stands One c at m) (r : Stands One c at n) → s.tree.placed ≡ r.tree.placed
-one_standing c at m n s r = one_placed One c s.tree.placed r.tree.placed (s.tree.at ∙ sym r.tree.at) s.tree.rows r.tree.rows
+pub one_standing : (format : Format) (c : Content) (at : Root) (m n : List Pair) (s : Stands format c at m) (r : Stands format c at n) → s.tree.placed ≡ r.tree.placed
+one_standing format c at m n s r = one_placed format c s.tree.placed r.tree.placed (s.tree.at ∙ sym r.tree.at) s.tree.rows r.tree.rows
 
-pub any_old : (c : Content) (s : State) (at : Root) → MapStands c s at → (m : List Pair) (stands : Stands One c at m) → AreOld s (numbers stands)
-any_old c s at one m stands = subst (λ (p : Placed). AreOld s (used p)) (one_standing c at one.0 m one.1 stands) one.2
+pub any_old : (format : Format) (c : Content) (s : State) (at : Root) → MapStands format c s at → (m : List Pair) (stands : Stands format c at m) → AreOld s (numbers stands)
+any_old format c s at one m stands = subst (λ (p : Placed). AreOld s (used p)) (one_standing format c at one.0 m one.1 stands) one.2
 
-abbrev pub search_at : (c : Content) (s : State) (at : Root) (m : List Pair) (stands : Stands One c at m) → AreOld s (numbers stands) → SearchTree c s at.link
-search_at c s at m stands old = record {
+abbrev pub search_at : (format : Format) (c : Content) (s : State) (at : Root) (m : List Pair) (stands : Stands format c at m) → AreOld s (numbers stands) → SearchTree format c s at.link
+search_at format c s at m stands old = record {
   placed = stands.tree.placed;
   at = stands.tree.at;
   piece = record { rows = stands.tree.rows; old = old };
-  search = mst_of stands.tree.placed m stands.tree.is;
+  search = mst_of format stands.tree.placed m stands.tree.is;
   once = distinct_times (used stands.tree.placed) stands.tree.once;
 }
 
@@ -90,7 +90,7 @@ by_zero (suc n) A is_zero is_more = is_more (omega arith)
 not_old : (s : State) (r : ℕ) → slice_get s.lives r ≡ Some Free → IsOld s r → ⊥
 not_old s r free old = let born = old.1 in cc
 
-module _ (c c1 : Content) (s s1 : State) (root at : Root) (m n : List Pair) (stands : Stands One c root m) (old : AreOld s (numbers stands)) (count : ℕ) (g : Grown c c1 s s1 (tree One n) at (λ x. times x (used stands.tree.placed)) count) where
+module _ (format : Format) (c c1 : Content) (s s1 : State) (root at : Root) (m n : List Pair) (stands : Stands format c root m) (old : AreOld s (numbers stands)) (count : ℕ) (g : Grown format c c1 s s1 (tree format n) at (λ x. times x (used stands.tree.placed)) count) where
   before_once : (r : ℕ) → times r (used stands.tree.placed) ≤ 1
   before_once r = distinct_times (used stands.tree.placed) stands.tree.once r
 
@@ -146,28 +146,28 @@ module _ (c c1 : Content) (s s1 : State) (root at : Root) (m n : List Pair) (sta
 
   -- ---- the clauses
 
-  pub stands_after : IsMap n → Stands One c1 at n
+  pub stands_after : IsMap n → Stands format c1 at n
   stands_after map = record {
     map = map;
     digest = g.root.sum ∙ ap digest g.is;
     tree = record { placed = g.placed; at = sym g.root.link; is = g.is; rows = g.piece.rows; once = times_distinct (used g.placed) after_once };
   }
 
-  same_after : (n1 : List Pair) (w : Stands One c1 at n1) → g.placed ≡ w.tree.placed
-  same_after n1 w = one_placed One c1 g.placed w.tree.placed (sym g.root.link ∙ sym w.tree.at) g.piece.rows w.tree.rows
+  same_after : (n1 : List Pair) (w : Stands format c1 at n1) → g.placed ≡ w.tree.placed
+  same_after n1 w = one_placed format c1 g.placed w.tree.placed (sym g.root.link ∙ sym w.tree.at) g.piece.rows w.tree.rows
 
   -- a fact of the rows before and after, of whatever stands there
-  whatever : (P : List ℕ → List ℕ → Type 0) → P (used stands.tree.placed) (used g.placed) → (m1 n1 : List Pair) (o : Stands One c root m1) (w : Stands One c1 at n1) → P (numbers o) (numbers w)
+  whatever : (P : List ℕ → List ℕ → Type 0) → P (used stands.tree.placed) (used g.placed) → (m1 n1 : List Pair) (o : Stands format c root m1) (w : Stands format c1 at n1) → P (numbers o) (numbers w)
   whatever P is m1 n1 o w =
-      subst (λ (p : Placed). P (used p) (numbers w)) (one_standing c root m m1 stands o) (subst (λ (p : Placed). P (used stands.tree.placed) (used p)) (same_after n1 w) is)
+      subst (λ (p : Placed). P (used p) (numbers w)) (one_standing format c root m m1 stands o) (subst (λ (p : Placed). P (used stands.tree.placed) (used p)) (same_after n1 w) is)
 
-  pub taken_after : (m1 n1 : List Pair) (o : Stands One c root m1) (w : Stands One c1 at n1) → AreTaken s s1 (numbers o) (numbers w)
+  pub taken_after : (m1 n1 : List Pair) (o : Stands format c root m1) (w : Stands format c1 at n1) → AreTaken s s1 (numbers o) (numbers w)
   taken_after m1 n1 o w = whatever (AreTaken s s1) are_taken m1 n1 o w
 
-  pub killed_after : (m1 n1 : List Pair) (o : Stands One c root m1) (w : Stands One c1 at n1) → AreKilled s s1 (numbers o) (numbers w)
+  pub killed_after : (m1 n1 : List Pair) (o : Stands format c root m1) (w : Stands format c1 at n1) → AreKilled s s1 (numbers o) (numbers w)
   killed_after m1 n1 o w = whatever (AreKilled s s1) are_killed m1 n1 o w
 
-  pub others_after : (m1 n1 : List Pair) (o : Stands One c root m1) (w : Stands One c1 at n1) → OthersLive s s1 (numbers o) (numbers w)
+  pub others_after : (m1 n1 : List Pair) (o : Stands format c root m1) (w : Stands format c1 at n1) → OthersLive s s1 (numbers o) (numbers w)
   others_after m1 n1 o w = whatever (OthersLive s s1) others_live m1 n1 o w
 
   pub written_after : OnlyFreeWritten s c c1
@@ -176,7 +176,7 @@ module _ (c c1 : Content) (s s1 : State) (root at : Root) (m n : List Pair) (sta
   pub cost_after : free_count s1.lives + count ≡ free_count s.lives
   cost_after = omega (arith, g.moves.room, g.counted)
 
-  pub made_after : (n1 : List Pair) (w : Stands One c1 at n1) → IsMade s1 w.tree.placed
+  pub made_after : (n1 : List Pair) (w : Stands format c1 at n1) → IsMade s1 w.tree.placed
   made_after n1 w = subst (IsMade s1) (same_after n1 w) g.piece.made
 
   pub versions_after : SameVersions s s1
@@ -184,67 +184,67 @@ module _ (c c1 : Content) (s s1 : State) (root at : Root) (m n : List Pair) (sta
 
 -- ---- what the caller learns of a change, which is the same one of each map that stood
 
-pub record AfterChange (c c1 : Content) (s s1 : State) (root at : Root) (change : List Pair → List Pair) : Type 0 where
-  pub stands : (m : List Pair) → Stands One c root m → Stands One c1 at (change m)
+pub record AfterChange (format : Format) (c c1 : Content) (s s1 : State) (root at : Root) (change : List Pair → List Pair) : Type 0 where
+  pub stands : (m : List Pair) → Stands format c root m → Stands format c1 at (change m)
   pub written : OnlyFreeWritten s c c1
-  pub counted : (m : List Pair) → Stands One c root m → free_count s1.lives + cost One m (change m) ≡ free_count s.lives
-  pub changes : (m n : List Pair) (o : Stands One c root m) (w : Stands One c1 at n) → Changes s s1 (numbers o) (numbers w)
+  pub counted : (m : List Pair) → Stands format c root m → free_count s1.lives + cost format m (change m) ≡ free_count s.lives
+  pub changes : (m n : List Pair) (o : Stands format c root m) (w : Stands format c1 at n) → Changes s s1 (numbers o) (numbers w)
   pub versions : SameVersions s s1
-  pub made : (n : List Pair) (w : Stands One c1 at n) → IsMade s1 w.tree.placed
+  pub made : (n : List Pair) (w : Stands format c1 at n) → IsMade s1 w.tree.placed
 
 -- what stands afterwards, of a map that stood before
-abbrev pub Changed : (c c1 : Content) (s s1 : State) (root at : Root) → (List Pair → List Pair) → (m : List Pair) → Stands One c root m → Type 0
-Changed c c1 s s1 root at change m stands =
-    Grown c c1 s s1 (tree One (change m)) at (λ x. times x (used stands.tree.placed)) (cost One m (change m))
+abbrev pub Changed : (format : Format) (c c1 : Content) (s s1 : State) (root at : Root) → (List Pair → List Pair) → (m : List Pair) → Stands format c root m → Type 0
+Changed format c c1 s s1 root at change m stands =
+    Grown format c c1 s s1 (tree format (change m)) at (λ x. times x (used stands.tree.placed)) (cost format m (change m))
 
-pub after_change : (c c1 : Content) (s s1 : State) (root at : Root) (change : List Pair → List Pair) → MapStands c s root → ((m : List Pair) → IsMap m → IsMap (change m)) → ((m : List Pair) (stands : Stands One c root m) → AreOld s (numbers stands) → Changed c c1 s s1 root at change m stands) → AfterChange c c1 s s1 root at change
-after_change c c1 s s1 root at change one fits grows =
+pub after_change : (format : Format) (c c1 : Content) (s s1 : State) (root at : Root) (change : List Pair → List Pair) → MapStands format c s root → ((m : List Pair) → IsMap m → IsMap (change m)) → ((m : List Pair) (stands : Stands format c root m) → AreOld s (numbers stands) → Changed format c c1 s s1 root at change m stands) → AfterChange format c c1 s s1 root at change
+after_change format c c1 s s1 root at change one fits grows =
     let m = one.0 in
     let st = one.1 in
     let n = change m in
-    let count = cost One m n in
+    let count = cost format m n in
     let g = grows m st one.2 in
     record {
       stands = λ m1 st1.
-          let old1 = any_old c s root one m1 st1 in
-          stands_after c c1 s s1 root at m1 (change m1) st1 old1 (cost One m1 (change m1)) (grows m1 st1 old1) (fits m1 st1.map);
-      written = written_after c c1 s s1 root at m n st one.2 count g;
+          let old1 = any_old format c s root one m1 st1 in
+          stands_after format c c1 s s1 root at m1 (change m1) st1 old1 (cost format m1 (change m1)) (grows m1 st1 old1) (fits m1 st1.map);
+      written = written_after format c c1 s s1 root at m n st one.2 count g;
       counted = λ m1 st1.
-          let old1 = any_old c s root one m1 st1 in
-          cost_after c c1 s s1 root at m1 (change m1) st1 old1 (cost One m1 (change m1)) (grows m1 st1 old1);
+          let old1 = any_old format c s root one m1 st1 in
+          cost_after format c c1 s s1 root at m1 (change m1) st1 old1 (cost format m1 (change m1)) (grows m1 st1 old1);
       changes = λ a b o w. record {
-        taken = taken_after c c1 s s1 root at m n st one.2 count g a b o w;
-        killed = killed_after c c1 s s1 root at m n st one.2 count g a b o w;
-        others = others_after c c1 s s1 root at m n st one.2 count g a b o w;
-        versions = versions_after c c1 s s1 root at m n st one.2 count g;
+        taken = taken_after format c c1 s s1 root at m n st one.2 count g a b o w;
+        killed = killed_after format c c1 s s1 root at m n st one.2 count g a b o w;
+        others = others_after format c c1 s s1 root at m n st one.2 count g a b o w;
+        versions = versions_after format c c1 s s1 root at m n st one.2 count g;
       };
-      versions = versions_after c c1 s s1 root at m n st one.2 count g;
-      made = made_after c c1 s s1 root at m n st one.2 count g;
+      versions = versions_after format c c1 s s1 root at m n st one.2 count g;
+      made = made_after format c c1 s s1 root at m n st one.2 count g;
     }
 
 -- a change that changes nothing, at no cost
-pub unchanged_map : (c : Content) (s : State) (root : Root) (change : List Pair → List Pair) (m : List Pair) (stands : Stands One c root m) → AreOld s (numbers stands) → change m ≡ m → cost One m (change m) ≡ 0 → Changed c c s s root root change m stands
-unchanged_map c s root change m stands old same free =
-    unchanged c s stands.tree.placed root (record { rows = stands.tree.rows; old = old })
+pub unchanged_map : (format : Format) (c : Content) (s : State) (root : Root) (change : List Pair → List Pair) (m : List Pair) (stands : Stands format c root m) → AreOld s (numbers stands) → change m ≡ m → cost format m (change m) ≡ 0 → Changed format c c s s root root change m stands
+unchanged_map format c s root change m stands old same free =
+    unchanged format c s stands.tree.placed root (record { rows = stands.tree.rows; old = old })
     (record { link = sym stands.tree.at; sum = stands.digest ∙ sym (ap digest stands.tree.is) })
-    (tree One (change m)) (stands.tree.is ∙ sym (ap (tree One) same)) (λ x. times x (used stands.tree.placed)) (λ x. refl) (cost One m (change m)) free
+    (tree format (change m)) (stands.tree.is ∙ sym (ap (tree format) same)) (λ x. times x (used stands.tree.placed)) (λ x. refl) (cost format m (change m)) free
 
 -- a tree that stands has no more rows than there are
-pub few_rows : (c : Content) (s : State) (root : Root) (m : List Pair) (stands : Stands One c root m) → AreOld s (numbers stands) → size (tree_of One stands.tree.placed) ≤ length s.lives
-few_rows c s root m stands old =
+pub few_rows : (format : Format) (c : Content) (s : State) (root : Root) (m : List Pair) (stands : Stands format c root m) → AreOld s (numbers stands) → size (tree_of format stands.tree.placed) ≤ length s.lives
+few_rows format c s root m stands old =
     let all = few_alive s (used stands.tree.placed) (distinct_times (used stands.tree.placed) stands.tree.once) (λ r i. old_alive s r (old r i)) in
-    omega (arith, all, size_used stands.tree.placed)
+    omega (arith, all, size_used format stands.tree.placed)
 
 -- ---- what a look-up of a key says
 
-pub rises : (c : Content) (root : Root) (m : List Pair) (stands : Stands One c root m) → IsAscending (pairs (tree_of One stands.tree.placed))
-rises c root m stands = subst IsAscending (sym (ap pairs stands.tree.is ∙ pairs_tree One m)) stands.map.ascending
+pub rises : (format : Format) (c : Content) (root : Root) (m : List Pair) (stands : Stands format c root m) → IsAscending (pairs (tree_of format stands.tree.placed))
+rises format c root m stands = subst IsAscending (sym (ap pairs stands.tree.is ∙ pairs_tree format m)) stands.map.ascending
 
-looks : (c : Content) (root : Root) (m : List Pair) (stands : Stands One c root m) (k : List ℕ) → map_get (pairs (tree_of One stands.tree.placed)) k ≡ map_get m k
-looks c root m stands k = ap (λ (l : List Pair). map_get l k) (ap pairs stands.tree.is ∙ pairs_tree One m)
+looks : (format : Format) (c : Content) (root : Root) (m : List Pair) (stands : Stands format c root m) (k : List ℕ) → map_get (pairs (tree_of format stands.tree.placed)) k ≡ map_get m k
+looks format c root m stands k = ap (λ (l : List Pair). map_get l k) (ap pairs stands.tree.is ∙ pairs_tree format m)
 
 -- of each map
-pub says : (c : Content) (s : State) (root : Root) (k : List ℕ) (one : MapStands c s root) (o : Option (List ℕ)) → ((q : State) (t : SearchTree c q root.link) → IsAscending (pairs (tree_of One t.placed)) → o ≡ map_get (pairs (tree_of One t.placed)) k) → (m : List Pair) → Stands One c root m → map_get m k ≡ o
-says c s root k one o found m st =
-    let old = any_old c s root one m st in
-    sym (found s (search_at c s root m st old) (rises c root m st) ∙ looks c root m st k)
+pub says : (format : Format) (c : Content) (s : State) (root : Root) (k : List ℕ) (one : MapStands format c s root) (o : Option (List ℕ)) → ((q : State) (t : SearchTree format c q root.link) → IsAscending (pairs (tree_of format t.placed)) → o ≡ map_get (pairs (tree_of format t.placed)) k) → (m : List Pair) → Stands format c root m → map_get m k ≡ o
+says format c s root k one o found m st =
+    let old = any_old format c s root one m st in
+    sym (found s (search_at format c s root m st old) (rises format c root m st) ∙ looks format c root m st k)

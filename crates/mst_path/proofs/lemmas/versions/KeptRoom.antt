@@ -4,8 +4,8 @@ use Rattle.std.specs.Prelude.{◌↔◌, ◌==◌}
 use Rattle.std.specs.List.{AllByRecursion, list_any}
 use Rattle.std.proofs.lemmas.Bool.Decides.{nat_tests}
 use Rattle.std.proofs.lemmas.List.{length-take-le, take-take}
-use Rattle.mst_key.specs.History.{History, after}
-use Rattle.mst_key.specs.declared.format.Format.TheVariants.{One}
+use Rattle.mst_key.specs.History.{History, after, format_after}
+use Rattle.mst_key.specs.declared.format.Format.{Format}
 use Rattle.mst_node.specs.Cost.{subtrees, entries_subtrees, is_subtree, top_entries}
 use Rattle.mst_node.specs.Stays.{tree_at, lasts, is_kept, has_stayed, rows_first_at, held_below, held}
 use Rattle.mst_node.specs.Tree.{Tree, tree}
@@ -44,29 +44,29 @@ mutual
 
 -- ---- the nodes of a tree, weighed
 
-top_length : (at layer : ℕ) (chain : Chain) → length (top_rows (head at layer chain)) ≡ top_entries (tree_of One (head at layer chain)) + 1
-top_length at layer chain = omega (arith, own_length chain)
+top_length : (format : Format) (at layer : ℕ) (chain : Chain) → length (top_rows (head at layer chain)) ≡ top_entries (tree_of format (head at layer chain)) + 1
+top_length format at layer chain = omega (arith, own_length format chain)
 
-module _ (test : Tree → Bool) where
+module _ (format : Format) (test : Tree → Bool) where
   abbrev weigh_nodes : List Placed → ℕ
   weigh_nodes [] = 0
-  weigh_nodes (p ∷ ps) = cond (test (tree_of One p)) (length (top_rows p)) 0 + weigh_nodes ps
+  weigh_nodes (p ∷ ps) = cond (test (tree_of format p)) (length (top_rows p)) 0 + weigh_nodes ps
 
   weigh_nodes-append : (ps qs : List Placed) → weigh_nodes (ps ++ qs) ≡ weigh_nodes ps + weigh_nodes qs
   weigh_nodes-append [] qs = omega arith
   weigh_nodes-append (p ∷ ps) qs = omega (arith, weigh_nodes-append ps qs)
 
   mutual
-    weigh_tree : (p : Placed) → weigh_nodes (placed_nodes p) ≡ weigh test (subtrees (tree_of One p))
+    weigh_tree : (p : Placed) → weigh_nodes (placed_nodes p) ≡ weigh test (subtrees (tree_of format p))
     weigh_tree none = refl
     weigh_tree (head at layer chain) =
-        let here = ap (λ (n : ℕ). cond (test (tree_of One (head at layer chain))) n 0) (top_length at layer chain) in
+        let here = ap (λ (n : ℕ). cond (test (tree_of format (head at layer chain))) n 0) (top_length format at layer chain) in
         omega (arith, here, weigh_chain chain)
 
-    weigh_chain : (chain : Chain) → weigh_nodes (chain_nodes chain) ≡ weigh test (entries_subtrees (entries_of One chain))
+    weigh_chain : (chain : Chain) → weigh_nodes (chain_nodes chain) ≡ weigh test (entries_subtrees (entries_of format chain))
     weigh_chain (end child) = weigh_tree child
     weigh_chain (cell at child key value rest) =
-        omega (arith, weigh_tree child, weigh_chain rest, weigh_nodes-append (placed_nodes child) (chain_nodes rest), weigh-append test (subtrees (tree_of One child)) (entries_subtrees (entries_of One rest)))
+        omega (arith, weigh_tree child, weigh_chain rest, weigh_nodes-append (placed_nodes child) (chain_nodes rest), weigh-append test (subtrees (tree_of format child)) (entries_subtrees (entries_of format rest)))
 
 -- ---- bools
 
@@ -113,7 +113,7 @@ any_from p (u ∷ live) v i is = go (eqb v u) refl i (λ j. any_from p live v j 
     go true e j more = let same : v ≡ u = grind (arith, nat_tests, e) in true_left (p u) (list_any p live) (ap p (sym same) ∙ is)
     go false e j more = true_right (p u) (list_any p live) (more (omega (arith, j)))
 
-module _ (lives : List Life) (h : History) (live : List ℕ) (places : (v : ℕ) → In v live → (v ≤ length h) × HasPlace lives h v) where
+module _ (first : Format) (lives : List Life) (h : History) (live : List ℕ) (places : (v : ℕ) → In v live → (v ≤ length h) × HasPlace first lives h v) where
   abbrev kept : ℕ → Bool
   kept v = is_kept live v
 
@@ -124,8 +124,12 @@ module _ (lives : List Life) (h : History) (live : List ℕ) (places : (v : ℕ)
   nodes : ℕ → List Placed
   nodes v = nodes_if v (kept v) refl
 
+  abbrev form : ℕ → Format
+  form w = format_after first (take w h)
+
+  -- the node is one of version w
   abbrev run : ℕ → ℕ → Placed → Bool
-  run u w p = lasts One h u w (tree_of One p)
+  run u w p = lasts first h u w (tree_of (form w) p)
 
   abbrev met : ℕ → ℕ → Placed → Bool
   met = counting.met_below Placed top_rows nodes run kept
@@ -158,18 +162,18 @@ module _ (lives : List Life) (h : History) (live : List ℕ) (places : (v : ℕ)
       let same : times x (rows_of_all (nodes v)) ≡ times x (used p.placed) = ap (λ (ps : List Placed). times x (rows_of_all ps)) k.1 ∙ sym (rows_of_nodes x p.placed) in
       omega (arith, same, distinct_times (used p.placed) p.once x)
 
-  lasts_front : (v w n : ℕ) (t : Tree) → w ≤ n → lasts One (take n h) v w t ≡ lasts One h v w t
-  lasts_front v zero n t le = ap (λ (g : History). is_subtree t (tree One (after g))) (take-take zero n h le)
+  lasts_front : (v w n : ℕ) (t : Tree) → w ≤ n → lasts first (take n h) v w t ≡ lasts first h v w t
+  lasts_front v zero n t le = ap (λ (g : History). is_subtree t (tree (format_after first g) (after g))) (take-take zero n h le)
   lasts_front v (suc w) n t le =
       let here = take-take (suc w) n h le in
       let back = lasts_front v w n t (omega (arith, le)) in
-      λ i. is_subtree t (tree One (after (here i))) && (nat_lt w v || back i)
+      λ i. is_subtree t (tree (format_after first (here i)) (after (here i))) && (nat_lt w v || back i)
 
-  aged_list : (w v : ℕ) → w ≤ length h → v < w → (ps : List Placed) → AllByRecursion (HasAge lives (take w h)) ps → counting.Aged Placed top_rows nodes run kept reach w v ps
+  aged_list : (w v : ℕ) → w ≤ length h → v < w → (ps : List Placed) → AllByRecursion (HasAge first lives (take w h)) ps → counting.Aged Placed top_rows nodes run kept reach w v ps
   aged_list w v le lt [] all = tt
   aged_list w v le lt (p ∷ ps) all =
       let long : length (take w h) ≡ w = length-take-le w h le in (
-        λ x i. all.0 x v i (omega (arith, lt, long)) ∙ ap (λ (n : ℕ). lasts One (take w h) v n (tree_of One p)) long ∙ lasts_front v w w (tree_of One p) (omega arith),
+        λ x i. all.0 x v i (omega (arith, lt, long)) ∙ ap (λ (n : ℕ). lasts first (take w h) v n (tree_of (form w) p)) long ∙ lasts_front v w w (tree_of (form w) p) (omega arith),
         aged_list w v le lt ps all.1,
       )
 
@@ -196,10 +200,10 @@ module _ (lives : List Life) (h : History) (live : List ℕ) (places : (v : ℕ)
       go true e back = let same : u ≡ m = grind (arith, nat_tests, e) in true_left (kept m && run m w p) (met m w p) (true_and (kept m) (run m w p) (ap kept (sym same) ∙ is) (ap (λ (n : ℕ). run n w p) (sym same) ∙ long))
       go false e back = let other : u ≡ m → ⊥ = grind (arith, nat_tests, e) in true_right (kept m && run m w p) (met m w p) (back (omega (arith, lt, other)))
 
-  met_stayed : (w : ℕ) (p : Placed) → met w w p ≡ has_stayed One h live w (tree_of One p)
-  met_stayed w p = same_bool (met w w p) (has_stayed One h live w (tree_of One p))
-      (λ is. let m = met_in w w p is in let e : nat_lt m.0 w ≡ true = below m.0 m.1 in any_from (λ u. nat_lt u w && lasts One h u w (tree_of One p)) live m.0 (kept_in live m.0 m.2) (true_and (nat_lt m.0 w) (run m.0 w p) e m.3))
-      (λ is. let found = any_in (λ u. nat_lt u w && lasts One h u w (tree_of One p)) live is in let both = and_true (nat_lt found.0 w) (run found.0 w p) found.2 in in_met w w p found.0 (above found.0 both.0) (has_in found.0 live found.1) both.1)
+  met_stayed : (w : ℕ) (p : Placed) → met w w p ≡ has_stayed first h live w (tree_of (form w) p)
+  met_stayed w p = same_bool (met w w p) (has_stayed first h live w (tree_of (form w) p))
+      (λ is. let m = met_in w w p is in let e : nat_lt m.0 w ≡ true = below m.0 m.1 in any_from (λ u. nat_lt u w && lasts first h u w (tree_of (form w) p)) live m.0 (kept_in live m.0 m.2) (true_and (nat_lt m.0 w) (run m.0 w p) e m.3))
+      (λ is. let found = any_in (λ u. nat_lt u w && lasts first h u w (tree_of (form w) p)) live is in let both = and_true (nat_lt found.0 w) (run found.0 w p) found.2 in in_met w w p found.0 (above found.0 both.0) (has_in found.0 live found.1) both.1)
     where
       below : (u : ℕ) → u < w → nat_lt u w ≡ true
       below u lt = grind (arith, nat_tests, lt)
@@ -207,30 +211,30 @@ module _ (lives : List Life) (h : History) (live : List ℕ) (places : (v : ℕ)
       above : (u : ℕ) → nat_lt u w ≡ true → u < w
       above u e = grind (arith, nat_tests, e)
 
-  firsts_weigh : (w : ℕ) (ps : List Placed) → counting.weigh Placed top_rows nodes run kept (counting.firsts Placed top_rows nodes run kept w ps) ≡ weigh_nodes (λ t. not (has_stayed One h live w t)) ps
+  firsts_weigh : (w : ℕ) (ps : List Placed) → counting.weigh Placed top_rows nodes run kept (counting.firsts Placed top_rows nodes run kept w ps) ≡ weigh_nodes (form w) (λ t. not (has_stayed first h live w t)) ps
   firsts_weigh w [] = refl
-  firsts_weigh w (p ∷ ps) = go (met w w p) (has_stayed One h live w (tree_of One p)) (met_stayed w p) (firsts_weigh w ps)
+  firsts_weigh w (p ∷ ps) = go (met w w p) (has_stayed first h live w (tree_of (form w) p)) (met_stayed w p) (firsts_weigh w ps)
     where
-      go : (a b : Bool) → a ≡ b → counting.weigh Placed top_rows nodes run kept (counting.firsts Placed top_rows nodes run kept w ps) ≡ weigh_nodes (λ t. not (has_stayed One h live w t)) ps
-          → counting.weigh Placed top_rows nodes run kept (counting.either_list Placed top_rows nodes run kept a (counting.firsts Placed top_rows nodes run kept w ps) (p ∷ counting.firsts Placed top_rows nodes run kept w ps)) ≡ cond (not b) (length (top_rows p)) 0 + weigh_nodes (λ t. not (has_stayed One h live w t)) ps
+      go : (a b : Bool) → a ≡ b → counting.weigh Placed top_rows nodes run kept (counting.firsts Placed top_rows nodes run kept w ps) ≡ weigh_nodes (form w) (λ t. not (has_stayed first h live w t)) ps
+          → counting.weigh Placed top_rows nodes run kept (counting.either_list Placed top_rows nodes run kept a (counting.firsts Placed top_rows nodes run kept w ps) (p ∷ counting.firsts Placed top_rows nodes run kept w ps)) ≡ cond (not b) (length (top_rows p)) 0 + weigh_nodes (form w) (λ t. not (has_stayed first h live w t)) ps
       go true true e rest = omega (arith, rest)
       go true false e rest = absurd (true≢false e)
       go false true e rest = absurd (true≢false (sym e))
       go false false e rest = omega (arith, rest)
 
-  first_rows : (w : ℕ) (b : Bool) → kept w ≡ b → counting.weigh Placed top_rows nodes run kept (counting.pick Placed top_rows nodes run kept b (counting.firsts Placed top_rows nodes run kept w (nodes w))) ≡ cond b (rows_first_at One h live w) 0
+  first_rows : (w : ℕ) (b : Bool) → kept w ≡ b → counting.weigh Placed top_rows nodes run kept (counting.pick Placed top_rows nodes run kept b (counting.firsts Placed top_rows nodes run kept w (nodes w))) ≡ cond b (rows_first_at first h live w) 0
   first_rows w false is = refl
   first_rows w true is =
       let k = nodes_kept w is in
       let p = (places w k.0).1 in
-      let test : Tree → Bool = λ t. not (has_stayed One h live w t) in
+      let test : Tree → Bool = λ t. not (has_stayed first h live w t) in
       firsts_weigh w (nodes w)
-      ∙ ap (weigh_nodes test) k.1
-      ∙ weigh_tree test p.placed
+      ∙ ap (weigh_nodes (form w) test) k.1
+      ∙ weigh_tree (form w) test p.placed
       ∙ ap (λ (t : Tree). weigh test (subtrees t)) p.is
-      ∙ sym (weigh_is test (subtrees (tree_at One h w)))
+      ∙ sym (weigh_is test (subtrees (tree_at first h w)))
 
-  held_is : (n : ℕ) → counting.held_below Placed top_rows nodes run kept n ≡ held_below One h live n
+  held_is : (n : ℕ) → counting.held_below Placed top_rows nodes run kept n ≡ held_below first h live n
   held_is zero = refl
   held_is (suc n) = omega (arith, first_rows n (kept n) refl, held_is n)
 
@@ -248,9 +252,9 @@ module _ (lives : List Life) (h : History) (live : List ℕ) (places : (v : ℕ)
   rows_distinct : IsDistinct rows
   rows_distinct = times_distinct rows (λ r. counting.rows_once Placed top_rows nodes run kept reach exact once aged (length h + 1) r)
 
-  rows_length : length rows ≡ held One h live
+  rows_length : length rows ≡ held first h live
   rows_length = counting.counted Placed top_rows nodes run kept (length h + 1) ∙ held_is (length h + 1)
 
-pub held_free : (s : State) (h : History) (live : List ℕ) → IsSettled s → In (version s) live → ((v : ℕ) → In v live → (v ≤ length h) × HasPlace s.lives h v) → free_count (swept_by live s).lives + held One h live ≡ length s.lives
-held_free s h live settled now places =
-    omega (arith, count_swept s live (rows s.lives h live places) settled now (rows_distinct s.lives h live places) (rows_together s.lives h live places), rows_length s.lives h live places)
+pub held_free : (first : Format) (s : State) (h : History) (live : List ℕ) → IsSettled s → In (version s) live → ((v : ℕ) → In v live → (v ≤ length h) × HasPlace first s.lives h v) → free_count (swept_by live s).lives + held first h live ≡ length s.lives
+held_free first s h live settled now places =
+    omega (arith, count_swept s live (rows first s.lives h live places) settled now (rows_distinct first s.lives h live places) (rows_together first s.lives h live places), rows_length first s.lives h live places)

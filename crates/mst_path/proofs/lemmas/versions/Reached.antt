@@ -44,7 +44,7 @@ reached_old s rows settled exact r i = alive_now (version s) (slice_get s.lives 
 
 -- ---- a change
 
-by_in : {A : Type 0} (r : ℕ) (rows : List ℕ) → (times r rows ≡ 0 → A) → (In r rows → A) → A
+pub by_in : {A : Type 0} (r : ℕ) (rows : List ℕ) → (times r rows ≡ 0 → A) → (In r rows → A) → A
 by_in {A} r rows out is = go (times r rows) refl
   where
     go : (n : ℕ) → times r rows ≡ n → A

@@ -20,8 +20,8 @@ use Rattle.mst_path.proofs.making.make_node_with.Goals as goal
 -- ---- the node is begun
 
 module _ (g : Over) (c : goal.After-begin-writer g) where
-  begun : Begun c.begin-writer.result (g.R.Rows.content c.args.rows.now) c.args.desk.now c.begin-writer.new.desk
-  begun = begun_by c.begin-writer.ensures.takes c.begin-writer.ensures.written (g.R.Rows.content c.args.rows.now)
+  begun : Begun c.args.format c.begin-writer.result (g.R.Rows.content c.args.rows.now) c.args.desk.now c.begin-writer.new.desk
+  begun = begun_by c.args.format c.begin-writer.ensures.takes c.begin-writer.ensures.written (g.R.Rows.content c.args.rows.now)
 
   one_ahead : length (ahead c.begin-writer.result.next) ≡ 1
   one_ahead = (ahead_length c.begin-writer.result.next c.begin-writer.result.left c.begin-writer.ensures.writer.reserved).1 (omega (arith, c.begin-writer.ensures.node))
@@ -30,7 +30,7 @@ module _ (g : Over) (c : goal.After-begin-writer g) where
   blank_begun = blank_free c.args.desk.now c.begin-writer.new.desk (c.begin-writer.result.head ∷ ahead c.begin-writer.result.next) [] begun.moves (g.R.Rows.blank c.args.rows.now) c.requires.free
 
 pub move_run-requires-clause-copying : goal.move_run-requires-clause-copying
-move_run-requires-clause-copying g c = begins_copying c.requires.parts.0 (begun g (goal.at.move_run-requires-clause-copying g c).After-begin-writer)
+move_run-requires-clause-copying g c = (c.args.format, begins_copying c.args.format c.requires.parts.0 (begun g (goal.at.move_run-requires-clause-copying g c).After-begin-writer))
 
 pub move_run-requires-clause-room : goal.move_run-requires-clause-room
 move_run-requires-clause-room g c =
@@ -49,10 +49,10 @@ module _ (g : Over) (c : goal.After-move_run g) where
   next_ahead : length (ahead c.move_run.new.writer.next) ≡ 1
   next_ahead = (ahead_length c.move_run.new.writer.next c.move_run.new.writer.left c.move_run.ensures.writer.reserved).1 some_left
 
-module _ (g : Over) (c : goal.After-move_run g) (p : PartsStand (g.R.Rows.content c.args.rows.now) c.args.desk.now c.args.parts.now) (b : Begun c.begin-writer.result (g.R.Rows.content c.args.rows.now) c.args.desk.now c.begin-writer.new.desk) where
-  copied : Copied c.begin-writer.result c.move_run.new.writer (g.R.Rows.content c.args.rows.now) (g.R.Rows.content c.move_run.new.rows) c.begin-writer.new.desk c.move_run.new.desk [] p.front
+module _ (g : Over) (c : goal.After-move_run g) (p : PartsStand c.args.format (g.R.Rows.content c.args.rows.now) c.args.desk.now c.args.parts.now) (b : Begun c.args.format c.begin-writer.result (g.R.Rows.content c.args.rows.now) c.args.desk.now c.begin-writer.new.desk) where
+  copied : Copied c.args.format c.begin-writer.result c.move_run.new.writer (g.R.Rows.content c.args.rows.now) (g.R.Rows.content c.move_run.new.rows) c.begin-writer.new.desk c.move_run.new.desk [] p.front
   unfolding begins_copying
-  copied = (c.move_run.ensures.copied (begins_copying p b)).1
+  copied = (c.move_run.ensures.copied c.args.format (begins_copying c.args.format p b)).1
 
   room_left : length (ahead c.begin-writer.result.next) ≡ 1 → c.args.parts.now.back.count ≤ free_count c.move_run.new.desk.lives
   room_left one = omega (arith, one, b.moves.room, c.begin-writer.ensures.node, c.requires.room, copied.moves.room, copied.counted, p.front_run.counted, next_ahead g c, c.move_run.ensures.node.2)
@@ -76,7 +76,7 @@ entry-requires-clause-few g c =
 
 pub entry-requires-clause-child : goal.entry-requires-clause-child
 entry-requires-clause-child g c =
-    omega (arith, c.requires.parts.2.link, small_link c.args.desk.now c.requires.parts.1 (piece_alive c.requires.parts.3) c.requires.few)
+    omega (arith, c.requires.parts.2.link, small_link c.args.desk.now c.requires.parts.1 (piece_alive c.args.format c.requires.parts.3) c.requires.few)
 
 -- ---- the new entry is written
 
@@ -87,9 +87,9 @@ module _ (g : Over) (c : goal.After-entry g) where
   next_row : (r : ℕ) × (c.move_run.new.writer.next ≡ Some r)
   next_row = next_some c.move_run.new.writer.next c.move_run.new.writer.left c.move_run.ensures.writer.reserved (omega (arith, c.begin-writer.ensures.node, c.move_run.ensures.node.2))
 
-  module _ (p : PartsStand (g.R.Rows.content c.args.rows.now) c.args.desk.now c.args.parts.now) (b : Begun c.begin-writer.result (g.R.Rows.content c.args.rows.now) c.args.desk.now c.begin-writer.new.desk) (k : Copied c.begin-writer.result c.move_run.new.writer (g.R.Rows.content c.args.rows.now) (g.R.Rows.content c.move_run.new.rows) c.begin-writer.new.desk c.move_run.new.desk [] p.front) (q : Placed) (root : IsRootOf q c.args.child.now) (stands : Piece (g.R.Rows.content c.args.rows.now) c.args.desk.now q) (apart : (x : ℕ) → in_parts p x + times x (used q) ≤ 1) where
-    entry_written : IsWritten c.entry.new.self (g.R.Rows.content c.entry.new.rows) (k.copies ++ record { at = next_row.0; child = q; key = c.args.key.now; value = c.args.value.now } ∷ [])
-    entry_written = c.entry.ensures.written k.copies q next_row.0 next_row.1 k.going.written root (child_later p b k c.move_run.ensures.node.3 stands apart).rows (with_out p b k c.move_run.ensures.node.3 next_row.1 stands apart)
+  module _ (p : PartsStand c.args.format (g.R.Rows.content c.args.rows.now) c.args.desk.now c.args.parts.now) (b : Begun c.args.format c.begin-writer.result (g.R.Rows.content c.args.rows.now) c.args.desk.now c.begin-writer.new.desk) (k : Copied c.args.format c.begin-writer.result c.move_run.new.writer (g.R.Rows.content c.args.rows.now) (g.R.Rows.content c.move_run.new.rows) c.begin-writer.new.desk c.move_run.new.desk [] p.front) (q : Placed) (root : IsRootOf c.args.format q c.args.child.now) (stands : Piece c.args.format (g.R.Rows.content c.args.rows.now) c.args.desk.now q) (apart : (x : ℕ) → in_parts c.args.format p x + times x (used q) ≤ 1) where
+    entry_written : IsWritten c.args.format c.entry.new.self (g.R.Rows.content c.entry.new.rows) (k.copies ++ record { at = next_row.0; child = q; key = c.args.key.now; value = c.args.value.now } ∷ [])
+    entry_written = c.entry.ensures.written c.args.format k.copies q next_row.0 next_row.1 k.going.written root (child_later c.args.format p b k c.move_run.ensures.node.3 stands apart).rows (with_out c.args.format p b k c.move_run.ensures.node.3 next_row.1 stands apart)
 
 pub finish_node-requires-clause-rest : goal.finish_node-requires-clause-rest
 finish_node-requires-clause-rest g c =
@@ -98,7 +98,7 @@ finish_node-requires-clause-rest g c =
     let parts = c.requires.parts in
     let b = begun g at.After-begin-writer in
     let k = copied g at.After-move_run parts.0 b in
-    rest_three parts.0 b k c.move_run.ensures.node.3 c.args.key.now c.args.value.now (next_row g entry).1 parts.3 parts.4 (moves_entry g entry) c.entry.ensures.keeps (entry_written g entry parts.0 b k parts.1 parts.2 parts.3 parts.4) c.entry.ensures.node.3
+    (c.args.format, rest_three c.args.format parts.0 b k c.move_run.ensures.node.3 c.args.key.now c.args.value.now (next_row g entry).1 parts.3 parts.4 (moves_entry g entry) c.entry.ensures.keeps (entry_written g entry parts.0 b k parts.1 parts.2 parts.3 parts.4) c.entry.ensures.node.3)
 
 pub finish_node-requires-clause-room : goal.finish_node-requires-clause-room
 finish_node-requires-clause-room g c =
@@ -133,8 +133,8 @@ returns-clause-made g c = λ p q root stands apart.
     let b = begun g at.After-begin-writer in
     let k = copied g at.After-move_run p b in
     let written = entry_written g entry p b k q root stands apart in
-    let rest = rest_three p b k c.move_run.ensures.node.3 c.args.key.now c.args.value.now (next_row g entry).1 stands apart (moves_entry g entry) c.entry.ensures.keeps written c.entry.ensures.node.3 in
-    made_with p b k c.move_run.ensures.node.3 c.args.key.now c.args.value.now (next_row g entry).1 stands apart (moves_entry g entry) c.entry.ensures.keeps written c.entry.ensures.node.3 (c.finish_node.ensures.finished rest)
+    let rest = rest_three c.args.format p b k c.move_run.ensures.node.3 c.args.key.now c.args.value.now (next_row g entry).1 stands apart (moves_entry g entry) c.entry.ensures.keeps written c.entry.ensures.node.3 in
+    made_with c.args.format p b k c.move_run.ensures.node.3 c.args.key.now c.args.value.now (next_row g entry).1 stands apart (moves_entry g entry) c.entry.ensures.keeps written c.entry.ensures.node.3 (c.finish_node.ensures.finished c.args.format rest)
     (c.entry.ensures.node.0 ∙ c.move_run.ensures.node.0 ∙ c.begin-writer.ensures.node.0)
     (omega (arith, c.entry.ensures.node.2, c.move_run.ensures.node.2, c.begin-writer.ensures.node.2))
     (one_ahead g at.After-begin-writer)

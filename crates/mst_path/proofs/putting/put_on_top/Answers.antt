@@ -10,7 +10,7 @@ split-requires-clause-tree g c = (c.requires.tree.0, omega (arith, c.requires.tr
 pub put_between-requires-clause-trees : goal.put_between-requires-clause-trees
 put_between-requires-clause-trees g c =
     let t = c.requires.tree.0 in
-    sides_stand _ _ _ _ _ _ _ _ t.tree.placed _ t.tree.once (λ x i. old_alive c.args.desk.now x (t.tree.piece.old x i)) (c.split.ensures.split t)
+    sides_stand c.args.format _ _ _ _ _ _ _ _ t.tree.placed _ t.tree.once (λ x i. old_alive c.args.desk.now x (t.tree.piece.old x i)) (c.split.ensures.split t)
 
 pub put_between-requires-clause-room : goal.put_between-requires-clause-room
 put_between-requires-clause-room g c =
@@ -27,4 +27,4 @@ put_between-requires-clause-free g c =
 pub returns-clause-made : goal.returns-clause-made
 returns-clause-made g c t =
     let r = c.split.ensures.split t in
-    rw c.key.ensures.key at (on_top _ _ _ _ _ _ _ _ t.tree.placed _ t.tree.once (λ x i. old_alive c.args.desk.now x (t.tree.piece.old x i)) r _ _ _ _ _ _ (c.put_between.ensures.made (sides_stand _ _ _ _ _ _ _ _ t.tree.placed _ t.tree.once (λ x i. old_alive c.args.desk.now x (t.tree.piece.old x i)) r)))
+    rw c.key.ensures.key at (on_top c.args.format _ _ _ _ _ _ _ _ t.tree.placed _ t.tree.once (λ x i. old_alive c.args.desk.now x (t.tree.piece.old x i)) r _ _ _ _ _ _ (c.put_between.ensures.made (sides_stand c.args.format _ _ _ _ _ _ _ _ t.tree.placed _ t.tree.once (λ x i. old_alive c.args.desk.now x (t.tree.piece.old x i)) r)))

@@ -8,9 +8,9 @@ join-seam-requires-clause-trees g c = (c.requires.met.0, omega (arith, c.require
 pub close-requires-clause-frame : goal.close-requires-clause-frame
 close-requires-clause-frame g c =
     let done = c.join-seam.ensures.joined c.requires.met.0 in
-    (done.placed, done.root, done.piece, frame_after done c.requires.met.1)
+    (done.placed, done.root, done.piece, frame_after c.args.format done c.requires.met.1)
 
 pub returns-clause-made : goal.returns-clause-made
 returns-clause-made g c = λ z f.
     let done = c.join-seam.ensures.joined z in
-    closed_round done f (c.close.ensures.made done.placed done.root done.piece (frame_after done f))
+    closed_round c.args.format done f (c.close.ensures.made done.placed done.root done.piece (frame_after c.args.format done f))

@@ -1,6 +1,6 @@
 use Rattle.std.proofs.Common.{◌≡◌, ◌+◌, ◌<◌, ◌≤◌, ℕ, length, get_or, map, take, ap, refl, subst, arith, rules}
 use Rattle.std.proofs.lemmas.Grind.{common_steps}
-use Rattle.mst_key.specs.declared.format.Format.TheVariants.{One}
+use Rattle.mst_key.specs.declared.format.Format.{Format}
 use Rattle.mst_node.specs.Shape.{tree_of, tree_of_child, tree_entry}
 use Rattle.mst_node.specs.declared.node.Entry.{out-Entry}
 use Rattle.mst_node.specs.declared.node.Entry.TheViews.{the_lemmas}
@@ -13,18 +13,19 @@ use Rattle.mst_path.proofs.whole_tree.+count.Goals as goal
 
 -- ---- the next entry
 
-module _ (g : Over) (t : ℕ) (c : goal.rows_of_node-After-entry-item g t) where
-  inside : c.loop-entry.entry-index < length (items g.row.B.Denot c.args.node.now)
+module _ (g : Over) (t : ℕ) (c : goal.rows_of_node-After-entry-item g t) (format : Format) where
+  inside : c.loop-entry.entry-index < length (items format g.row.B.Denot c.args.node.now)
   inside = subst (λ xs. c.loop-entry.entry-index < length xs) c.deref-entry-items.ensures.value c.loop-entry-test.true
 
-  item_is : c.entry-item.result ≡ get_or (items g.row.B.Denot c.args.node.now) c.loop-entry.entry-index c.entry-item.result
+  item_is : c.entry-item.result ≡ get_or (items format g.row.B.Denot c.args.node.now) c.loop-entry.entry-index c.entry-item.result
   item_is = subst (λ xs. c.entry-item.result ≡ get_or xs c.loop-entry.entry-index c.entry-item.result) c.deref-entry-items.ensures.value c.entry-item.is
 
-  rows_ahead : entries_needed (map (tree_entry One) (take c.loop-entry.entry-index (items g.row.B.Denot c.args.node.now))) + rows_needed (tree_of_child One (out-Entry g.row.B.Denot c.entry-item.result).child) + length (items g.row.B.Denot c.args.node.now) + 1 ≤ rows_needed (tree_of One c.args.node.now) + c.loop-entry.entry-index
-  rows_ahead = needed_ahead g.row.B.Denot c.args.node.now c.loop-entry.entry-index c.entry-item.result inside item_is
+  rows_ahead : entries_needed (map (tree_entry format) (take c.loop-entry.entry-index (items format g.row.B.Denot c.args.node.now))) + rows_needed (tree_of_child format (out-Entry g.row.B.Denot c.entry-item.result).child) + length (items format g.row.B.Denot c.args.node.now) + 1 ≤ rows_needed (tree_of format c.args.node.now) + c.loop-entry.entry-index
+  rows_ahead = needed_ahead format g.row.B.Denot c.args.node.now c.loop-entry.entry-index c.entry-item.result inside item_is
 
 pub rows_of_node-rows_of_child-requires : goal.rows_of_node-rows_of_child-requires
 rows_of_node-rows_of_child-requires g t c κs within =
+    let format = c.requires.tree.0 in
     let A = g.row.B.Denot in
     let n = c.args.node.now in
     let i = c.loop-entry.entry-index in
@@ -33,37 +34,44 @@ rows_of_node-rows_of_child-requires g t c κs within =
       grind (arith, common_steps, the_lemmas),
       (
         search rules,
-        (omega (arith, c.requires.few, child-fits A One n (items A n) i e refl (inside g t here) (item_is g t here)), node_child A n i e c.requires.tree (inside g t here) (item_is g t here)),
+        (format, node_child format A n i e c.requires.tree.1 (inside g t here format) (item_is g t here format), omega (arith, c.requires.tree.2, child-fits A format n (items format A n) i e refl (inside g t here format) (item_is g t here format))),
       ),
     )
 
 pub rows_of_node-overflow_add-rows : goal.rows_of_node-overflow_add-rows
 rows_of_node-overflow_add-rows g t c =
+    let format = c.requires.tree.0 in
     let here = (goal.at.rows_of_node-overflow_add-rows g t c).After-entry-item in
-    omega (arith, c.requires.few, nodes_le (tree_of One c.args.node.now) c.requires.tree, inside g t here, rows_ahead g t here, c.rows_of_child.ensures.rows)
+    omega (arith, c.requires.tree.2, nodes_le format (tree_of format c.args.node.now) c.requires.tree.1, inside g t here format, rows_ahead g t here format, c.rows_of_child.ensures.rows format)
 
 pub rows_of_node-overflow_add-rows-in-loop-entry : goal.rows_of_node-overflow_add-rows-in-loop-entry
 rows_of_node-overflow_add-rows-in-loop-entry g t c =
+    let format = c.requires.tree.0 in
     let here = (goal.at.rows_of_node-overflow_add-rows-in-loop-entry g t c).After-entry-item in
-    omega (arith, c.requires.few, c.loop-entry.invariant, nodes_le (tree_of One c.args.node.now) c.requires.tree, inside g t here, rows_ahead g t here, c.rows_of_child.ensures.rows)
+    omega (arith, c.requires.tree.2, c.loop-entry.invariant format, nodes_le format (tree_of format c.args.node.now) c.requires.tree.1, inside g t here format, rows_ahead g t here format, c.rows_of_child.ensures.rows format)
 
 pub rows_of_node-loop-entry-preserved : goal.rows_of_node-loop-entry-preserved
-rows_of_node-loop-entry-preserved g t c =
+rows_of_node-loop-entry-preserved g t c = λ format.
     let here = (goal.at.rows_of_node-loop-entry-preserved g t c).After-entry-item in
-    omega (arith, c.loop-entry.invariant, needed_more g.row.B.Denot c.args.node.now c.loop-entry.entry-index c.entry-item.result (inside g t here) (item_is g t here), c.rows_of_child.ensures.rows)
+    omega (arith, c.loop-entry.invariant format, needed_more format g.row.B.Denot c.args.node.now c.loop-entry.entry-index c.entry-item.result (inside g t here format) (item_is g t here format), c.rows_of_child.ensures.rows format)
 
 -- ---- the tree behind the entries
 
 pub rows_of_node-rows_of_child-requires-2 : goal.rows_of_node-rows_of_child-requires-2
 rows_of_node-rows_of_child-requires-2 g t c κs within =
-    (search (rules, the_lemmas), (search rules, (omega (arith, c.requires.few, tail-fits g.row.B.Denot One c.args.node.now), node_last g.row.B.Denot c.args.node.now c.requires.tree)))
+    let format = c.requires.tree.0 in
+    (search (rules, the_lemmas), (search rules, (format, node_last format g.row.B.Denot c.args.node.now c.requires.tree.1, omega (arith, c.requires.tree.2, tail-fits g.row.B.Denot format c.args.node.now))))
 
 pub rows_of_node-overflow_add-result : goal.rows_of_node-overflow_add-result
 rows_of_node-overflow_add-result g t c =
-    let within : c.loop-entry.entry-index ≤ length (items g.row.B.Denot c.args.node.now) = subst (λ xs. c.loop-entry.entry-index ≤ length xs) c.deref-entry-items.ensures.value c.loop-entry.auto.entry-index-end in
-    omega (arith, c.requires.few, c.loop-entry.invariant, nodes_le (tree_of One c.args.node.now) c.requires.tree, node_needed g.row.B.Denot c.args.node.now, needed_take _ (tree_entry One) (items g.row.B.Denot c.args.node.now) c.loop-entry.entry-index within, c.rows_of_child-2.ensures.rows)
+    let format = c.requires.tree.0 in
+    let within : c.loop-entry.entry-index ≤ length (items format g.row.B.Denot c.args.node.now) = subst (λ xs. c.loop-entry.entry-index ≤ length xs) c.deref-entry-items.ensures.value c.loop-entry.auto.entry-index-end in
+    omega (arith, c.requires.tree.2, c.loop-entry.invariant format, nodes_le format (tree_of format c.args.node.now) c.requires.tree.1, node_needed format g.row.B.Denot c.args.node.now, needed_take _ (tree_entry format) (items format g.row.B.Denot c.args.node.now) c.loop-entry.entry-index within, c.rows_of_child-2.ensures.rows format)
 
 pub rows_of_node-returns : goal.rows_of_node-returns
-rows_of_node-returns g t c =
-    let whole = take_all g.row.B.Denot c.args.node.now c.loop-entry.entry-index (omega (arith, ap length c.deref-entry-items.ensures.value)) in
-    record { rows = omega (arith, rw whole at c.loop-entry.invariant, node_needed g.row.B.Denot c.args.node.now, c.rows_of_child-2.ensures.rows) }
+rows_of_node-returns g t c = record {
+  rows = λ format.
+      let whole = take_all format g.row.B.Denot c.args.node.now c.loop-entry.entry-index (omega (arith, ap length c.deref-entry-items.ensures.value)) in
+      let counted = c.loop-entry.invariant format in
+      omega (arith, rw whole at counted, node_needed format g.row.B.Denot c.args.node.now, c.rows_of_child-2.ensures.rows format);
+}

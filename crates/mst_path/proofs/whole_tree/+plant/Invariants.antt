@@ -1,5 +1,4 @@
 use Rattle.std.proofs.Common.{◌≡◌, ◌+◌, length, map, take}
-use Rattle.mst_key.specs.declared.format.Format.TheVariants.{One}
 use Rattle.mst_node.specs.Shape.{tree_entry}
 use Rattle.mst_node.specs.declared.node.Node.{out-Node}
 use Rattle.mst_path.specs.Writing.{IsWriter}
@@ -12,8 +11,8 @@ abbrev pub invariant-plant_node-loop-entry : goal.invariant-plant_node-loop-entr
 invariant-plant_node-loop-entry g l = record {
   writer : IsWriter l.writer;
   layer : l.writer.layer ≡ (out-Node g.row.B.Denot l.node).layer;
-  left : l.writer.left + l.entry-index ≡ length (items g.row.B.Denot l.node);
+  left : l.writer.left + l.entry-index ≡ length (items l.format g.row.B.Denot l.node);
   blank : g.R.Rows.blank l.rows ≡ g.R.Rows.blank l.fn.rows;
   kept : g.R.Rows.kept l.rows ≡ g.R.Rows.kept l.fn.rows;
-  so_far : PlantedSoFar l.fn.desk l.desk (g.R.Rows.content l.fn.rows) (g.R.Rows.content l.rows) l.writer (map (tree_entry One) (take l.entry-index (items g.row.B.Denot l.node)));
+  so_far : PlantedSoFar l.format l.fn.desk l.desk (g.R.Rows.content l.fn.rows) (g.R.Rows.content l.rows) l.writer (map (tree_entry l.format) (take l.entry-index (items l.format g.row.B.Denot l.node)));
 }

@@ -1,5 +1,9 @@
+use Rattle.mst_key.specs.declared.format.Format.TheVariants.{One, Two}
 use Rattle.mst_proof.proofs.Heights.{trail_few}
 use Rattle.mst_proof.proofs.laws.trail_is_short.Goals as goal
 
-pub returns : goal.returns
-returns c = record { few = trail_few }
+pub returns-clause-few : goal.returns-clause-few
+returns-clause-few c = trail_few One
+
+pub returns-clause-few_in_format_2 : goal.returns-clause-few_in_format_2
+returns-clause-few_in_format_2 c = trail_few Two

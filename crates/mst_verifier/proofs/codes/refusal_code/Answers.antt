@@ -36,3 +36,6 @@ returns-in-Proof-Unfinished c = search rules
 
 pub returns-in-Proof-TextBehind : goal.returns-in-Proof-TextBehind
 returns-in-Proof-TextBehind c = search rules
+
+pub returns-in-Proof-OtherValue : goal.returns-in-Proof-OtherValue
+returns-in-Proof-OtherValue c = search rules

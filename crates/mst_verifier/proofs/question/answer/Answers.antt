@@ -1,9 +1,6 @@
 use Rattle.std.proofs.Common.{rules}
 use Rattle.mst_verifier.proofs.question.answer.Goals as goal
 
-pub returns-then-format-ne-FORMAT : goal.returns-then-format-ne-FORMAT
-returns-then-format-ne-FORMAT c = search rules
-
 pub as_array-requires : goal.as_array-requires
 as_array-requires c = search rules
 
@@ -12,9 +9,6 @@ returns-in_default c = search rules
 
 pub returns-in_default-new : goal.returns-in_default-new
 returns-in_default-new c = search rules
-
-pub returns-in-Ok-verify : goal.returns-in-Ok-verify
-returns-in-Ok-verify c = search rules
 
 pub returns-in-Err : goal.returns-in-Err
 returns-in-Err c = search rules

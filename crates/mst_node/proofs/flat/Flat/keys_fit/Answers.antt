@@ -1,8 +1,8 @@
 use Rattle.std.proofs.Common.{◌≡◌, ◌-◌, ◌+◌, ◌↔◌, List, ℕ, Option, Some, None, sym, ap, ◌∙◌, refl, arith, subst, rules}
 use Rattle.std.specs.Prelude.{IfSome}
 use Rattle.std.specs.declared.cmp.Ordering.TheVariants.{Less}
-use Rattle.mst_key.specs.declared.format.Format.TheVariants.{One}
-use Rattle.mst_key.specs.Layer.{layer}
+use Rattle.mst_key.specs.declared.format.Format.{Format}
+use Rattle.mst_key.specs.Layer.{layer_in}
 use Rattle.mst_key.specs.Map.{key_cmp}
 use Rattle.mst_node.specs.Text.{FlatNode}
 use Rattle.mst_node.specs.Grammar.{KeysFit}
@@ -13,32 +13,32 @@ use Rattle.mst_node.proofs.Places.{parts}
 use Rattle.mst_node.proofs.flat.Flat.keys_fit.Goals as goal
 
 -- the key fits behind the last one
-abbrev Fits : ℕ → Option (List ℕ) → List ℕ → Type 0
-Fits l last k = (layer k ≡ l) × IfSome last (λ low. key_cmp low k ≡ Less)
+abbrev Fits : Format → ℕ → Option (List ℕ) → List ℕ → Type 0
+Fits format l last k = (layer_in format k ≡ l) × IfSome last (λ low. key_cmp low k ≡ Less)
 
 pub loop-init : goal.loop-init
 loop-init c =
     let f = c.self.inside in
-    let b = body_or_empty One f.count f.body.now in
-    let p = parts One f.count f.body.now c.self.invariant in
+    let b = body_or_empty c.self.inside.format f.count f.body.now in
+    let p = parts c.self.inside.format f.count f.body.now c.self.invariant in
     let all : f.count ≡ f.count - 0 = omega arith in
-    ((b.0, p.rest), ap (λ (n : ℕ). entries_at One n f.body.now) (sym all) ∙ p.entries, subst (λ (n : FlatNode). KeysFit n ↔ FitsFrom None f.layer b.0) c.self.view_is (fits-all f.layer b))
+    ((b.0, p.rest), ap (λ (n : ℕ). entries_at c.self.inside.format n f.body.now) (sym all) ∙ p.entries, subst (λ (n : FlatNode). KeysFit n ↔ FitsFrom f.format None f.layer b.0) c.self.view_is (fits-all f.format f.layer b))
 
 pub unreachable-requires : goal.unreachable-requires
-unreachable-requires c = entries-first (c.self.inside.count - c.loop.counter) c.loop.rest.now c.loop.invariant.0 c.loop.invariant.1 (omega arith) c.in_default.ensures.reading
+unreachable-requires c = entries-first c.self.inside.format (c.self.inside.count - c.loop.counter) c.loop.rest.now c.loop.invariant.0 c.loop.invariant.1 (omega arith) c.in_default.ensures.reading
 
 pub returns-then-not-fits : goal.returns-then-not-fits
 returns-then-not-fits c =
     let l = c.self.inside.layer in
     let e = seen c.in-Some.entry in
-    let step = entries-step (c.self.inside.count - c.loop.counter) (c.self.inside.count - (c.loop.counter + 1)) c.loop.rest.now c.loop.invariant.0 (e, c.in-Some.after.now) c.loop.invariant.1 (omega arith) c.in-Some.ensures.reading in
+    let step = entries-step c.self.inside.format (c.self.inside.count - c.loop.counter) (c.self.inside.count - (c.loop.counter + 1)) c.loop.rest.now c.loop.invariant.0 (e, c.in-Some.after.now) c.loop.invariant.1 (omega arith) c.in-Some.ensures.reading in
     let key_is : c.in-Ok.key ≡ e.key = c.in-Ok.ensures.ok in
     record {
       fit = (
         λ f. absurd (search rules),
         λ fit.
-            let now = subst (FitsFrom c.loop.last l) step.1 (c.loop.invariant.2.0 fit) in
-            c.if-not-fits.ensures.fits.1 (subst (Fits l c.loop.last) (sym key_is) (now.0, now.1)),
+            let now = subst (FitsFrom c.self.inside.format c.loop.last l) step.1 (c.loop.invariant.2.0 fit) in
+            c.if-not-fits.ensures.fits.1 (subst (Fits c.self.inside.format l c.loop.last) (sym key_is) (now.0, now.1)),
       );
     }
 
@@ -46,19 +46,19 @@ pub loop-preserved : goal.loop-preserved
 loop-preserved c =
     let l = c.self.inside.layer in
     let e = seen c.in-Some.entry in
-    let step = entries-step (c.self.inside.count - c.loop.counter) (c.self.inside.count - (c.loop.counter + 1)) c.loop.rest.now c.loop.invariant.0 (e, c.in-Some.after.now) c.loop.invariant.1 (omega arith) c.in-Some.ensures.reading in
+    let step = entries-step c.self.inside.format (c.self.inside.count - c.loop.counter) (c.self.inside.count - (c.loop.counter + 1)) c.loop.rest.now c.loop.invariant.0 (e, c.in-Some.after.now) c.loop.invariant.1 (omega arith) c.in-Some.ensures.reading in
     let key_is : c.in-Ok.key ≡ e.key = c.in-Ok.ensures.ok in
-    let P : List ℕ → Type 0 = λ k. FitsFrom (Some k) l step.0 in
-    let here = subst (Fits l c.loop.last) key_is (c.if-not-fits.ensures.fits.0 refl) in (
+    let P : List ℕ → Type 0 = λ k. FitsFrom c.self.inside.format (Some k) l step.0 in
+    let here = subst (Fits c.self.inside.format l c.loop.last) key_is (c.if-not-fits.ensures.fits.0 refl) in (
       (step.0, c.loop.invariant.0.1),
       step.2,
       (
-        λ fit. let now = subst (FitsFrom c.loop.last l) step.1 (c.loop.invariant.2.0 fit) in subst P (sym key_is) now.2,
-        λ fits. c.loop.invariant.2.1 (subst (FitsFrom c.loop.last l) (sym step.1) (here.0, here.1, subst P key_is fits)),
+        λ fit. let now = subst (FitsFrom c.self.inside.format c.loop.last l) step.1 (c.loop.invariant.2.0 fit) in subst P (sym key_is) now.2,
+        λ fits. c.loop.invariant.2.1 (subst (FitsFrom c.self.inside.format c.loop.last l) (sym step.1) (here.0, here.1, subst P key_is fits)),
       ),
     )
 
 pub returns : goal.returns
 returns c =
-    let none = entries-none (c.self.inside.count - c.loop.counter) c.loop.rest.now c.loop.invariant.0 c.loop.invariant.1 (omega arith) in
-    record { fit = (λ t. c.loop.invariant.2.1 (subst (FitsFrom c.loop.last c.self.inside.layer) (sym none) tt), λ fit. refl) }
+    let none = entries-none c.self.inside.format (c.self.inside.count - c.loop.counter) c.loop.rest.now c.loop.invariant.0 c.loop.invariant.1 (omega arith) in
+    record { fit = (λ t. c.loop.invariant.2.1 (subst (FitsFrom c.self.inside.format c.loop.last c.self.inside.layer) (sym none) tt), λ fit. refl) }

@@ -1,8 +1,7 @@
 use Rattle.std.proofs.Common.{ap}
-use Rattle.mst_key.specs.declared.format.Format.TheVariants.{One}
 use Rattle.mst_node.specs.Text.{FlatNode}
 use Rattle.mst_node.proofs.Places.{seen-count}
 use Rattle.mst_node.proofs.flat.Flat.len.Goals as goal
 
 pub returns : goal.returns
-returns c = record { len = seen-count One c.self.inside.count c.self.inside.body.now c.args.self.now.entries c.self.invariant (ap (λ (n : FlatNode). n.entries) c.self.view_is) }
+returns c = record { len = seen-count c.self.inside.format c.self.inside.count c.self.inside.body.now c.args.self.now.entries c.self.invariant (ap (λ (n : FlatNode). n.entries) c.self.view_is) }

@@ -4,8 +4,8 @@ use Rattle.mst_node.proofs.sinks.TextSink.entry.Goals as goal
 pub take_counted-requires : goal.take_counted-requires
 take_counted-requires g c = search rules
 
-pub take_counted-requires-2 : goal.take_counted-requires-2
-take_counted-requires-2 g c = search rules
+pub take_held-requires : goal.take_held-requires
+take_held-requires g c = search rules
 
 pub returns : goal.returns
 returns g c = search rules

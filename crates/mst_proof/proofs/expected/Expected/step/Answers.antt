@@ -22,19 +22,19 @@ yes_from_not false e = e
 pub returns-in_default : goal.returns-in_default
 returns-in_default c =
     let b = bytes-at c.args.text.now (λ i. omega (arith, c.type_inv.text i)) in
-    let none = node_in-none c.args.text.now b (λ g. absurd (search (rules, c.in_default.ensures.grammar.1 g))) in
-    record { step = sym (step-no_node c.args.key.now c.args.text.now c.args.self none) }
+    let none = node_in-none c.args.format c.args.text.now b (λ g. absurd (search (rules, c.in_default.ensures.grammar.1 g))) in
+    record { step = sym (step-no_node c.args.format c.args.key.now c.args.text.now c.args.self none) }
 
 -- ---- the text is a node's
 
 module _ (c : goal.In-Ok) where
-  read : node_in c.args.text.now ≡ Some c.in-Ok.node
-  read = node_in-read c.args.text.now (c.in-Ok.node, c.in-Ok.ensures.spelling.0, c.in-Ok.ensures.spelling.1, c.in-Ok.ensures.spelling.2)
+  read : node_in c.args.format c.args.text.now ≡ Some c.in-Ok.node
+  read = node_in-read c.args.format c.args.text.now (c.in-Ok.node, c.in-Ok.ensures.spelling.0, c.in-Ok.ensures.spelling.1, c.in-Ok.ensures.spelling.2)
 
 pub returns-then-ne : goal.returns-then-ne
 returns-then-ne c =
     let other : bytes_eq (digest_of c.args.text.now) c.args.self.digest ≡ false = ap (λ (y : List ℕ). bytes_eq y c.args.self.digest) (sym c.digest.ensures.digest) ∙ no_from_not _ c.if-ne.ensures in
-    record { step = sym (step-other_digest c.args.key.now c.args.text.now c.args.self c.in-Ok.node (read (goal.at.returns-then-ne c).In-Ok) other) }
+    record { step = sym (step-other_digest c.args.format c.args.key.now c.args.text.now c.args.self c.in-Ok.node (read (goal.at.returns-then-ne c).In-Ok) other) }
 
 -- ---- and it has the digest
 
@@ -48,17 +48,17 @@ module _ (c : goal.After-layer-layer) where
 pub returns-then-not-is_under : goal.returns-then-not-is_under
 returns-then-not-is_under c =
     let at = goal.at.returns-then-not-is_under c in
-    record { step = sym (step-not_below c.args.key.now c.args.text.now c.args.self c.in-Ok.node (read at.In-Ok) (same_digest at.After-layer-layer) (under_is at.After-layer-layer ∙ sym c.if-not-is_under.ensures.under)) }
+    record { step = sym (step-not_below c.args.format c.args.key.now c.args.text.now c.args.self c.in-Ok.node (read at.In-Ok) (same_digest at.After-layer-layer) (under_is at.After-layer-layer ∙ sym c.if-not-is_under.ensures.under)) }
 
 pub returns-then-not-lies_within : goal.returns-then-not-lies_within
 returns-then-not-lies_within c =
     let at = goal.at.returns-then-not-lies_within c in
     let outside = keys_inside c.args.self.span c.in-Ok.node c.lies_within.result c.lies_within.ensures.within ∙ c.if-not-lies_within.true in
-    record { step = sym (step-outside c.args.key.now c.args.text.now c.args.self c.in-Ok.node (read at.In-Ok) (same_digest at.After-layer-layer) (under_is at.After-layer-layer ∙ sym c.if-not-is_under.ensures.under) outside) }
+    record { step = sym (step-outside c.args.format c.args.key.now c.args.text.now c.args.self c.in-Ok.node (read at.In-Ok) (same_digest at.After-layer-layer) (under_is at.After-layer-layer ∙ sym c.if-not-is_under.ensures.under) outside) }
 
 pub returns : goal.returns
 returns c =
     let at = goal.at.returns c in
     let inside = keys_inside c.args.self.span c.in-Ok.node c.lies_within.result c.lies_within.ensures.within ∙ c.if-not-lies_within.false in
     let step = c.of.ensures.step ∙ ap (λ (k : ℕ). step_of k c.locate-place.result) c.layer-layer.ensures.layer ∙ ap (step_of c.in-Ok.node.layer) c.locate-place.ensures.place in
-    record { step = ap Ok step ∙ sym (step-passed c.args.key.now c.args.text.now c.args.self c.in-Ok.node (read at.In-Ok) (same_digest at.After-layer-layer) (under_is at.After-layer-layer ∙ sym c.if-not-is_under.ensures.under) inside) }
+    record { step = ap Ok step ∙ sym (step-passed c.args.format c.args.key.now c.args.text.now c.args.self c.in-Ok.node (read at.In-Ok) (same_digest at.After-layer-layer) (under_is at.After-layer-layer ∙ sym c.if-not-is_under.ensures.under) inside) }

@@ -1,0 +1,13 @@
+use Rattle.std.proofs.Common.{length, ◌≡◌, ◌++◌, take}
+use Rattle.std.specs.Prelude.{IfSome}
+use Rattle.std.specs.List.{flat_map}
+use Rattle.mst_node.specs.Text.{heading}
+use Rattle.mst_node.specs.declared.node.Node.{out-Node}
+use Rattle.mst_node.proofs.Shapes.{text_of_entry}
+use Rattle.mst_node.proofs.texts.text_in.Given as goal
+
+-- the text up to the entry
+abbrev pub invariant-loop-entry : goal.invariant-loop-entry
+invariant-loop-entry g l =
+    let n = out-Node g.row.A.Denot l.node in
+    IfSome l.out (λ bytes. bytes ≡ heading l.format n.layer (length n.entries.items) ++ flat_map (text_of_entry l.format) (take l.entry-index n.entries.items))

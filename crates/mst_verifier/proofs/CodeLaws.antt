@@ -1,0 +1,97 @@
+-- The numbers of refusals, one for each, by what is refused.
+use Rattle.std.proofs.Common.{◌≡◌, ℕ, ◌+◌, ◌<◌, List, Option, Some, None, refl, sym, ◌∙◌, ap, subst}
+use Rattle.std.proofs.lemmas.Option.{same_Some}
+use Rattle.std.specs.Prelude.{ℤ, pos, negsuc, ◌==◌, ◌≢◌, if◌then◌else◌, IfSome}
+use Rattle.std.specs.List.{AllByRecursion}
+use Rattle.mst_key.specs.declared.format.Format.{Format as TreeFormat}
+use Rattle.mst_node.specs.Gaps.{IsBetween}
+use Rattle.mst_node.specs.Grammar.{InGrammar}
+use Rattle.mst_node.specs.Text.{FlatNode, digest_of}
+use Rattle.mst_proof.specs.Faults.{FailsBy, Spells}
+use Rattle.mst_proof.specs.declared.fault.ProofFault.{ProofFault}
+use Rattle.mst_proof.specs.declared.fault.ProofFault.TheVariants.{Version, CutShort, LeftOver, NoNode, OtherDigest, LayerNotBelow, KeyOutside, Unfinished, TextBehind, OtherValue}
+use Rattle.mst_verifier.specs.declared.question.Refusal.{Refusal}
+use Rattle.mst_verifier.specs.declared.question.Refusal.TheVariants.{Format, Root, Key, Proof}
+use Rattle.mst_verifier.specs.Codes.{fault_code, refusal_code}
+
+-- ---- no two refusals have one number
+
+abbrev place : ℤ → ℕ
+place (pos n) = 0
+place (negsuc n) = n
+
+abbrev refusal_at : ℕ → Option Refusal
+refusal_at n =
+    if n == 2 then Some Format
+    else if n == 3 then Some Root
+    else if n == 4 then Some Key
+    else if n == 10 then Some (Proof Version)
+    else if n == 11 then Some (Proof CutShort)
+    else if n == 12 then Some (Proof LeftOver)
+    else if n == 13 then Some (Proof NoNode)
+    else if n == 14 then Some (Proof OtherDigest)
+    else if n == 15 then Some (Proof LayerNotBelow)
+    else if n == 16 then Some (Proof KeyOutside)
+    else if n == 17 then Some (Proof Unfinished)
+    else if n == 18 then Some (Proof TextBehind)
+    else if n == 19 then Some (Proof OtherValue)
+    else None
+
+named : (r : Refusal) → refusal_at (place (refusal_code r)) ≡ Some r
+named Format = refl
+named Root = refl
+named Key = refl
+named (Proof Version) = refl
+named (Proof CutShort) = refl
+named (Proof LeftOver) = refl
+named (Proof NoNode) = refl
+named (Proof OtherDigest) = refl
+named (Proof LayerNotBelow) = refl
+named (Proof KeyOutside) = refl
+named (Proof Unfinished) = refl
+named (Proof TextBehind) = refl
+named (Proof OtherValue) = refl
+
+pub differ : (a b : Refusal) → refusal_code a ≡ refusal_code b → a ≡ b
+differ a b e = same_Some a b (sym (named a) ∙ ap (λ (z : ℤ). refusal_at (place z)) e ∙ named b)
+
+-- ---- none is that of an answer
+
+pub apart : (r : Refusal) → (n : ℕ) × (refusal_code r ≡ negsuc (2 + n))
+apart Format = (0, refl)
+apart Root = (1, refl)
+apart Key = (2, refl)
+apart (Proof Version) = (8, refl)
+apart (Proof CutShort) = (9, refl)
+apart (Proof LeftOver) = (10, refl)
+apart (Proof NoNode) = (11, refl)
+apart (Proof OtherDigest) = (12, refl)
+apart (Proof LayerNotBelow) = (13, refl)
+apart (Proof KeyOutside) = (14, refl)
+apart (Proof Unfinished) = (15, refl)
+apart (Proof TextBehind) = (16, refl)
+apart (Proof OtherValue) = (17, refl)
+
+-- ---- the fault that has a number
+
+fault_is : (fault other : ProofFault) → fault_code fault ≡ fault_code other → fault ≡ other
+fault_is fault other e =
+    let same : Proof fault ≡ Proof other = differ (Proof fault) (Proof other) e in
+    cc same
+
+-- ---- what a text fails, by the number
+
+module _ (format : TreeFormat) (d text : List ℕ) (upper : Option ℕ) (low high : Option (List ℕ)) where
+  pub grammar : (fault : ProofFault) → fault_code fault ≡ negsuc 13 → FailsBy format d upper low high text fault → InGrammar format text → ⊥
+  grammar fault e fails = subst (FailsBy format d upper low high text) (fault_is fault NoNode e) fails
+
+  pub digest : (fault : ProofFault) → fault_code fault ≡ negsuc 14 → FailsBy format d upper low high text fault → digest_of text ≢ d
+  digest fault e fails = (subst (FailsBy format d upper low high text) (fault_is fault OtherDigest e) fails).1
+
+  pub layer : (fault : ProofFault) → fault_code fault ≡ negsuc 15 → FailsBy format d upper low high text fault →
+      (n : FlatNode) × Spells format text n × (IfSome upper (λ u. n.layer < u) → ⊥)
+  layer fault e fails = let x = subst (FailsBy format d upper low high text) (fault_is fault LayerNotBelow e) fails in (x.0, x.1, x.3)
+
+  pub keys : (fault : ProofFault) → fault_code fault ≡ negsuc 16 → FailsBy format d upper low high text fault →
+      (n : FlatNode) × Spells format text n × IfSome upper (λ u. n.layer < u) × (AllByRecursion (λ e. IsBetween low high e.key) n.entries → ⊥)
+  keys fault e fails = let x = subst (FailsBy format d upper low high text) (fault_is fault KeyOutside e) fails in (x.0, x.1, x.3, x.4)

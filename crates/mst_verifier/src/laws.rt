@@ -1,0 +1,53 @@
+//! Laws of what the library tells. Each function does nothing: its contract is the law.
+ghost use Rattle.std.specs.Prelude.{◌≡◌, ◌≢◌, ◌<◌, ◌+◌, ℕ, List, [], ◌∷◌, Option, map, pos, negsuc, length, IfSome};
+ghost use Rattle.std.specs.List.{AllByRecursion};
+ghost use Rattle.mst_key.specs.declared.format.Format.{Format};
+ghost use Rattle.mst_node.specs.Frame.{FramesFirst};
+ghost use Rattle.mst_node.specs.Gaps.{IsBetween};
+ghost use Rattle.mst_node.specs.Grammar.{InGrammar};
+ghost use Rattle.mst_node.specs.Text.{FlatNode, digest_of};
+ghost use Rattle.mst_proof.specs.Faults.{FailsBy, Spells};
+ghost use Rattle.mst_proof.specs.declared.fault.ProofFault.{ProofFault};
+ghost use Rattle.mst_proof.specs.declared.fault.ProofFault.TheVariants.{Version, CutShort, LeftOver, NoNode, OtherDigest, LayerNotBelow, KeyOutside, Unfinished, TextBehind, OtherValue};
+ghost use Rattle.mst_verifier.specs.Codes.{fault_code, refusal_code};
+ghost use Rattle.mst_verifier.specs.Top.{TellsTop};
+ghost use Rattle.mst_verifier.specs.declared.question.Refusal.{Refusal};
+
+/// The numbers of refusals: -11 to -20 in the order of the tests, no two the same, and none that of
+/// an answer. Of the tests of a text each is named by what the text then fails.
+pub fn code_laws()
+    ensures tests { map fault_code (Version ∷ CutShort ∷ LeftOver ∷ NoNode ∷ OtherDigest
+        ∷ LayerNotBelow ∷ KeyOutside ∷ Unfinished ∷ TextBehind ∷ OtherValue ∷ [])
+        ≡ negsuc 10 ∷ negsuc 11 ∷ negsuc 12 ∷ negsuc 13 ∷ negsuc 14 ∷ negsuc 15 ∷ negsuc 16
+        ∷ negsuc 17 ∷ negsuc 18 ∷ negsuc 19 ∷ [] }
+    ensures differ { (a b : Refusal) → refusal_code a ≡ refusal_code b → a ≡ b }
+    ensures apart { (r : Refusal) → (n : ℕ) × (refusal_code r ≡ negsuc (2 + n)) }
+    // -14: it is the text of no node
+    ensures grammar { (format : Format) (d text : List ℕ) (upper : Option ℕ)
+        (low high : Option (List ℕ)) (fault : ProofFault) → fault_code fault ≡ negsuc 13
+        → FailsBy format d upper low high text fault → ¬ (InGrammar format text) }
+    // -15: its digest is another
+    ensures digest { (format : Format) (d text : List ℕ) (upper : Option ℕ)
+        (low high : Option (List ℕ)) (fault : ProofFault) → fault_code fault ≡ negsuc 14
+        → FailsBy format d upper low high text fault → digest_of text ≢ d }
+    // -16: its node's layer is not below that of the node above
+    ensures layer { (format : Format) (d text : List ℕ) (upper : Option ℕ)
+        (low high : Option (List ℕ)) (fault : ProofFault) → fault_code fault ≡ negsuc 15
+        → FailsBy format d upper low high text fault
+        → (n : FlatNode) × Spells format text n × ¬ (IfSome upper (λ u. n.layer < u)) }
+    // -17: the layer is below, and some key lies outside the gap
+    ensures keys { (format : Format) (d text : List ℕ) (upper : Option ℕ)
+        (low high : Option (List ℕ)) (fault : ProofFault) → fault_code fault ≡ negsuc 16
+        → FailsBy format d upper low high text fault
+        → (n : FlatNode) × Spells format text n × IfSome upper (λ u. n.layer < u)
+        × ¬ (AllByRecursion (λ e. IsBetween low high e.key) n.entries) }
+{}
+
+/// What is told of a proof's first text is its length and no other number, and -1 only where there
+/// is none.
+pub fn top_laws()
+    ensures length { (proof text : List ℕ) (n : ℕ) → FramesFirst proof text
+        → TellsTop proof (pos n) → n ≡ length text }
+    ensures none { (proof text : List ℕ) (n : ℕ) → FramesFirst proof text
+        → ¬ (TellsTop proof (negsuc n)) }
+{}
