@@ -72,7 +72,7 @@ head_with {A} part words not some = go (row_in words) refl some
 
 -- ---- a head
 
-pub head_links_of : (words all : List ℕ) (o : Option HeadLinks) → ((layer count first tail : ℕ) → layer ≤ 64 → count ≤ 65534 → first ≤ 65535 → tail ≤ 65535 → words ≡ layer ∷ count ∷ first ∷ tail ∷ [] → Some (record { layer = layer; count = count; first = first; tail = tail }) ≡ o) → words ≡ slice_range all 1 5 → IsSome (part_in head_links all) → part_in head_links all ≡ o
+pub head_links_of : (words all : List ℕ) (o : Option HeadLinks) → ((layer count first tail : ℕ) → layer ≤ 128 → count ≤ 65534 → first ≤ 65535 → tail ≤ 65535 → words ≡ layer ∷ count ∷ first ∷ tail ∷ [] → Some (record { layer = layer; count = count; first = first; tail = tail }) ≡ o) → words ≡ slice_range all 1 5 → IsSome (part_in head_links all) → part_in head_links all ≡ o
 head_links_of words all o exact at some =
     let h : HeadIn all = head_with head_links all (λ child next key value. refl) some in
     let limits : IsRow (Head h.layer h.count h.first h.tail h.digest) = h.limits in

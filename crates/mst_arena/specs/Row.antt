@@ -10,11 +10,11 @@ use Rattle.mst_arena.specs.declared.row.EntryLinks.{EntryLinks}
 abbrev pub IsRow : Row → Type 0
 IsRow (Entry child next key value) = (child ≤ 65535) × (next ≤ 65535)
 IsRow (Head layer count first tail digest) =
-    (layer ≤ 64) × (0 < count) × (count ≤ 65534) × (0 < first) × (first ≤ 65535) × (tail ≤ 65535)
+    (layer ≤ 128) × (0 < count) × (count ≤ 65534) × (0 < first) × (first ≤ 65535) × (tail ≤ 65535)
 
 -- layer, count and links of a head are within their limits, and it has a first entry
 abbrev pub IsHead : HeadLinks → Type 0
-IsHead head = (head.layer ≤ 64) × (0 < head.count) × (head.count ≤ 65534) × (0 < head.first)
+IsHead head = (head.layer ≤ 128) × (0 < head.count) × (head.count ≤ 65534) × (0 < head.first)
     × (head.first ≤ 65535) × (head.tail ≤ 65535)
 
 -- the bytes are those of a key and a value, or of a digest, as they are in each row of the program

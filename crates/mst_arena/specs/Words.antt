@@ -68,7 +68,7 @@ has_limits (Entry child next key value) =
     nat_le child 65535 && nat_le next 65535
     && nat_lt 0 (length key) && nat_le (length key) 32 && nat_le (length value) 64
 has_limits (Head layer count first tail digest) =
-    nat_le layer 64 && nat_lt 0 count && nat_le count 65534
+    nat_le layer 128 && nat_lt 0 count && nat_le count 65534
     && nat_lt 0 first && nat_le first 65535 && nat_le tail 65535 && length digest == 32
 
 -- the row that sixteen words spell: the only one that they may be of, where it is within its limits

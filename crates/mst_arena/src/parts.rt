@@ -1,11 +1,12 @@
 //! The parts of a row, each from the words that it stands in. The sixteen words are counted from 0.
-ghost use Rattle.std.specs.Prelude.{◌≡◌, ◌<◌, ◌*◌, ℕ, List, map, slice_index, slice_range, Some, IsSome};
+ghost use Rattle.std.specs.Prelude.{◌≡◌, ◌≤◌, ◌<◌, ◌*◌, ◌↔◌, ℕ, List, map, take, slice_index, slice_range, Some, IsSome, IsOk, IfOk};
+ghost use Rattle.mst_key.specs.Bytes.{IsKey, IsValue};
 ghost use Rattle.std.specs.List.{range_with_len};
 ghost use Rattle.mst_arena.specs.Row.{head_links, head_digest, entry_links, entry_value};
 ghost use Rattle.mst_arena.specs.Words.{byte_of_words, part_in};
 
 use crate::row::{EntryLinks, HeadLinks, Row};
-use mst_key::{Key, Value};
+use mst_key::{Key, KeySize, Value, ValueSize};
 
 /// The 32 bytes of four words, the highest byte of each word first.
 ///
@@ -34,6 +35,52 @@ fn bytes_of_eight(words: &[u64; 8]) -> [u8; 64]
     bytes
 }
 
+/// The 16 bytes of two words, as [`bytes_of_four`] has those of four.
+fn bytes_of_two(words: &[u64; 2]) -> [u8; 16]
+    ensures bytes { result ≡ map (byte_of_words words.now) (range_with_len 0 16) }
+{
+    let [a, b] = *words;
+    let mut bytes = [0; 16];
+    bytes[..8].copy_from_slice(&a.to_be_bytes());
+    bytes[8..].copy_from_slice(&b.to_be_bytes());
+    bytes
+}
+
+/// The key of the first bytes of words, so many.
+///
+/// Keys of 16 and of 32 bytes have an arm of their own, in which the compiled code knows how many
+/// bytes it copies: there it moves words, and else it calls what copies any number.
+fn key_of(words: &[u64; 4], len: usize) -> Result<Key, KeySize>
+    requires few { len ≤ 32 }
+    ensures ok { IfOk result
+        (λ key. key ≡ take len (map (byte_of_words words.now) (range_with_len 0 32))) }
+    ensures when { IsOk result
+        ↔ IsKey (take len (map (byte_of_words words.now) (range_with_len 0 32))) }
+{
+    let [a, b, c, d] = *words;
+    match len {
+        16 => Key::new(&bytes_of_two(&[a, b])),
+        32 => Key::new(&bytes_of_four(&[a, b, c, d])),
+        _ => Key::new(&bytes_of_four(&[a, b, c, d])[..len]),
+    }
+}
+
+/// The value of the first bytes of words, so many; of 32 and of 64 bytes as in [`key_of`].
+fn value_of(words: &[u64; 8], len: usize) -> Result<Value, ValueSize>
+    requires few { len ≤ 64 }
+    ensures ok { IfOk result
+        (λ value. value ≡ take len (map (byte_of_words words.now) (range_with_len 0 64))) }
+    ensures when { IsOk result
+        ↔ IsValue (take len (map (byte_of_words words.now) (range_with_len 0 64))) }
+{
+    let [a, b, c, d, _, _, _, _] = *words;
+    match len {
+        32 => Value::new(&bytes_of_four(&[a, b, c, d])),
+        64 => Value::new(&bytes_of_eight(words)),
+        _ => Value::new(&bytes_of_eight(words)[..len]),
+    }
+}
+
 impl HeadLinks {
     /// The layer, the count and the links of a head, from words 1 to 4 of its sixteen.
     ///
@@ -60,7 +107,6 @@ impl EntryLinks {
             → IsSome (part_in entry_links all) → part_in entry_links all ≡ result }
     {
         let [child, next, lengths, a, b, c, d] = *words;
-        let bytes = bytes_of_four(&[a, b, c, d]);
         let len = (lengths % 256) as usize;
         if len > 32 {
             return None;
@@ -68,7 +114,7 @@ impl EntryLinks {
         Some(EntryLinks {
             child: u32::try_from(child).ok()?,
             next: u32::try_from(next).ok()?,
-            key: Key::new(&bytes[..len]).ok()?,
+            key: key_of(&[a, b, c, d], len).ok()?,
         })
     }
 }
@@ -90,11 +136,10 @@ impl Row {
             → words.now ≡ slice_range all 8 16
             → IsSome (part_in entry_value all) → part_in entry_value all ≡ result }
     {
-        let bytes = bytes_of_eight(words);
         let len = lengths / 256;
         if len > 64 {
             return None;
         }
-        Value::new(&bytes[..len as usize]).ok()
+        value_of(words, len as usize).ok()
     }
 }

@@ -20,7 +20,7 @@ pub enum Row {
     },
     /// What a node has once.
     Head {
-        /// The layer of the node's keys, 0 to 64.
+        /// The layer of the node's keys, 0 to 64, in format 2 to 128.
         layer: u8,
         /// The number of the node's entries, 1 to 65,534.
         count: u32,
@@ -105,7 +105,7 @@ impl Row {
                 tail,
                 ..
             } => {
-                *layer <= 64
+                *layer <= 128
                     && (1..=65_534).contains(count)
                     && (1..=65_535).contains(first)
                     && *tail <= 65_535

@@ -1,7 +1,7 @@
 //! Standard input and output.
-ghost use Rattle.std.specs.Prelude.{◌≡◌, ◌<◌, false, Some, length, min};
+ghost use Rattle.std.specs.Prelude.{◌≡◌, ◌<◌, ◌++◌, false, Some, length, min};
 ghost use Rattle.std.specs.Io.KnownBytes.{Appends};
-ghost use Rattle.mst_devices.specs.Device.{GaveKnown, left_of};
+ghost use Rattle.mst_devices.specs.Device.{GaveKnown, Written, left_of};
 ghost use Rattle.mst_devices.specs.Laws.{gave_none, gave_more, gave_within, appended_none, appended_more};
 
 use crate::{Device, Sink, Source};
@@ -108,9 +108,12 @@ pub struct StdSink<W: Write> {
 }
 
 impl<W: Write> StdSink<W> {
-    /// A sink over one of the two standard outputs.
+    /// A sink over one of the two standard outputs. Where std knows the writer's bytes, it holds what
+    /// it held, and behind that all that the sink took.
     pub fn new(output: W) -> StdSink<W>
-        ensures { result ≡ record { failures = 0; known = W.contents output } }
+        ensures fresh { result ≡ record { failures = 0; known = W.contents output } }
+        ensures whole { (held taken : _) (last : Written) → W.contents output ≡ Some held
+            → Appends result.known last.known taken → last.known ≡ Some (held ++ taken) }
     {
         StdSink {
             output,

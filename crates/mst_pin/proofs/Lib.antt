@@ -1,3 +1,4 @@
+pub mod Asks
 pub mod Bits
 pub mod Cores
 pub mod Masks

@@ -1,11 +1,12 @@
 //! Laws of the core, over every list of events. Each function does nothing: its contract is the
 //! law.
 
-ghost use Rattle.std.specs.Prelude.{◌≡◌, ◌⊎◌, ℕ, true, false, None, Some};
+ghost use Rattle.std.specs.Prelude.{◌≡◌, ◌≢◌, ◌⊎◌, ℕ, true, false, None, Some};
 ghost use Rattle.mst_pin.specs.Laws.{WritesAreBlank, SomeRecordIsFree, FromPinOn, WhilePinned};
 ghost use Rattle.mst_pin.specs.State.{State, IsRow, IsTaken, AreUsable, Steps, row_set};
-ghost use Rattle.mst_pin.specs.declared.event.Event.TheVariants.{Write};
-ghost use Rattle.mst_pin.specs.declared.event.Answer.TheVariants.{Done};
+ghost use Rattle.mst_pin.specs.declared.event.Event.TheVariants.{Write, Publish, Ask};
+ghost use Rattle.mst_pin.specs.declared.event.Answer.{Answer};
+ghost use Rattle.mst_pin.specs.declared.event.Answer.TheVariants.{Done, Yes, No};
 
 /// A write that is taken is of a row that no current and no pinned record has, whatever events
 /// came before.
@@ -40,4 +41,19 @@ pub fn other_rows_are_free()
     ensures publish { (s : State) (rows : ℕ)
         → ((x : ℕ) → row_set rows x ≡ true → (s.rows s.current x ≡ true) ⊎ IsTaken s (Write x))
         → AreUsable s (row_set rows) }
+{}
+
+/// An ask that is taken is answered `Yes` where nobody pins the record and `No` where some pass
+/// does, and changes nothing. So a record that was found drained may be published at once, and one
+/// that was found pinned may not.
+pub fn asks_tell_pins()
+    ensures yes { (s t : State) (r : ℕ) → Steps s (Ask r) Yes t → (p : ℕ) → s.pins p ≢ Some r }
+    ensures no { (s t : State) (r : ℕ) → Steps s (Ask r) No t → (p : ℕ) × (s.pins p ≡ Some r) }
+    ensures either { (s t : State) (r : ℕ) (a : Answer) → IsTaken s (Ask r) → Steps s (Ask r) a t
+        → (a ≡ Yes) ⊎ (a ≡ No) }
+    ensures same { (s t : State) (r : ℕ) (a : Answer) → Steps s (Ask r) a t → t ≡ s }
+    ensures publish { (s t : State) (r rows : ℕ) → Steps s (Ask r) Yes t
+        → AreUsable s (row_set rows) → IsTaken s (Publish r rows) }
+    ensures pinned { (s t : State) (r rows : ℕ) → Steps s (Ask r) No t
+        → ¬ (IsTaken s (Publish r rows)) }
 {}

@@ -40,7 +40,9 @@ mod words;
 mod writer;
 
 pub use event::{Answer, Event, Memory};
-pub use laws::{other_rows_are_free, pinned_rows_stay, some_record_is_free, writes_are_blank};
+pub use laws::{
+    asks_tell_pins, other_rows_are_free, pinned_rows_stay, some_record_is_free, writes_are_blank,
+};
 use std::alloc::Allocator;
 use words::Words;
 

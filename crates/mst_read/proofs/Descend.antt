@@ -49,8 +49,8 @@ depth (Some links) = links.layer + 1
 pub depth_is : {top : Option HeadLinks} {links : HeadLinks} → top ≡ Some links → depth top ≡ links.layer + 1
 depth_is some = ap depth some
 
--- no layer is above 64
-pub depth_small : (top : Option HeadLinks) → IfSome top IsHead → depth top ≤ 65
+-- no layer is above 128
+pub depth_small : (top : Option HeadLinks) → IfSome top IsHead → depth top ≤ 129
 depth_small None is = omega arith
 depth_small (Some links) is = omega (arith, is.0)
 

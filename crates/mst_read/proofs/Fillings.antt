@@ -1,7 +1,8 @@
 -- What a range that is gathered part by part comes to.
-use Rattle.std.proofs.Common.{◌≡◌, ℕ, zero, suc, ◌+◌, ◌-◌, ◌<◌, ◌≤◌, Bool, true, false, not, List, [], ◌∷◌, ◌++◌, length, take, filter, Option, Some, None, refl, sym, ◌∙◌, ap, subst, arith, append_assoc, length-append, is_lt, is_gt, true≢false}
+use Rattle.std.proofs.Common.{◌≡◌, ℕ, zero, suc, ◌+◌, ◌-◌, ◌<◌, ◌≤◌, ◌⊎◌, inl, inr, Bool, true, false, cond, not, List, [], ◌∷◌, ◌++◌, length, take, filter, Option, Some, None, refl, sym, ◌∙◌, ap, subst, arith, append_assoc, length-append, is_lt, true≢false}
 use Rattle.std.specs.Prelude.{◌&&◌}
 use Rattle.std.proofs.lemmas.Bool.{cond-true}
+use Rattle.std.proofs.lemmas.Option.{same_Some}
 use Rattle.std.proofs.lemmas.List.{append-nil}
 use Rattle.std.proofs.lemmas.List.Elements.{filter-append}
 use Rattle.std.specs.List.{AllByRecursion}
@@ -9,7 +10,7 @@ use Rattle.std.specs.declared.cmp.Ordering.{Ordering}
 use Rattle.std.specs.declared.cmp.Ordering.TheVariants.{Less}
 use Rattle.mst_key.specs.Map.{Pair, key_cmp, AllBelow, AllAbove, above, below, from_on, map_range}
 use Rattle.mst_key.proofs.Alls.{alls-weaker, filter-nothing}
-use Rattle.mst_key.proofs.KeyOrder.{by_order, less_chain, greater_from_less}
+use Rattle.mst_key.proofs.KeyOrder.{by_order, less_chain, greater_from_less, equal_from_same}
 use Rattle.mst_read.specs.Span.{within, filled}
 
 -- the first of two lists in turn: those of the one, and of the other as many as are left
@@ -31,19 +32,53 @@ and-false : (t : Bool) → (t && false) ≡ false
 and-false true = refl
 and-false false = refl
 
-not_from : (bound : Option (List ℕ)) (k key : List ℕ) → key_cmp k key ≡ Less → above bound key ≡ false → from_on bound k ≡ false
-not_from None k key less fails = absurd (true≢false fails)
-not_from (Some b) k key less fails = by_order {G = not (is_lt (key_cmp k b)) ≡ false} key b
-    (λ e. ap (λ (r : Ordering). not (is_lt r)) (less_chain k key b less e))
-    (λ same. ap (λ (r : Ordering). not (is_lt r)) (subst (λ (x : List ℕ). key_cmp k x ≡ Less) same less))
-    (λ more. absurd (true≢false (sym (ap is_gt (greater_from_less b key more)) ∙ fails)))
-
 not_below : (bound : Option (List ℕ)) (key k : List ℕ) → key_cmp key k ≡ Less → below bound key ≡ false → below bound k ≡ false
 not_below None key k less fails = absurd (true≢false fails)
 not_below (Some b) key k less fails = by_order {G = is_lt (key_cmp k b) ≡ false} k b
     (λ e. absurd (true≢false (sym (ap is_lt (less_chain key k b less e)) ∙ fails)))
     (λ same. absurd (true≢false (sym (ap is_lt (subst (λ (x : List ℕ). key_cmp key x ≡ Less) same less)) ∙ fails)))
     (λ more. ap is_lt (greater_from_less b k more))
+
+-- keys that are not below the lower bound, and those above one that is not
+
+pub from_less : (k key : List ℕ) → key_cmp k key ≡ Less → from_on (Some k) key ≡ true
+from_less k key less = ap (λ (r : Ordering). not (is_lt r)) (greater_from_less k key less)
+
+pub from_same : (k key : List ℕ) → k ≡ key → from_on (Some k) key ≡ true
+from_same k key same = ap (λ (r : Ordering). not (is_lt r)) (equal_from_same key k (sym same))
+
+pub not_from_more : (k key : List ℕ) → key_cmp key k ≡ Less → from_on (Some k) key ≡ false
+not_from_more k key more = ap (λ (r : Ordering). not (is_lt r)) more
+
+from_above : (k key x : List ℕ) → from_on (Some k) key ≡ true → key_cmp key x ≡ Less → from_on (Some k) x ≡ true
+from_above k key x high less = by_order {G = from_on (Some k) x ≡ true} k key
+    (λ e. from_less k x (less_chain k key x e less))
+    (λ same. from_less k x (subst (λ (y : List ℕ). key_cmp y x ≡ Less) (sym same) less))
+    (λ more. absurd (true≢false (sym high ∙ not_from_more k key more)))
+
+pub all_from : (k key v : List ℕ) (back : List Pair) → from_on (Some k) key ≡ true → AllAbove back key → AllByRecursion (λ p. from_on (Some k) p.0 ≡ true) ((key, v) ∷ back)
+all_from k key v back high above =
+    (high, alls-weaker (λ p. key_cmp key p.0 ≡ Less) (λ p. from_on (Some k) p.0 ≡ true) (λ p less. from_above k key p.0 high less) back above)
+
+pub none_from : (k key : List ℕ) (front : List Pair) (to : Option (List ℕ)) → AllBelow front key → (key_cmp key k ≡ Less) ⊎ (key ≡ k) → AllByRecursion (λ p. within (Some k) to p ≡ false) front
+none_from k key front to less low =
+    alls-weaker (λ p. key_cmp p.0 key ≡ Less) (λ p. within (Some k) to p ≡ false)
+    (λ p e. ap (λ (t : Bool). t && below to p.0) (not_from_more k p.0 (go low p.0 e))) front less
+  where
+    go : (key_cmp key k ≡ Less) ⊎ (key ≡ k) → (x : List ℕ) → key_cmp x key ≡ Less → key_cmp x k ≡ Less
+    go (inl more) x e = less_chain x key k e more
+    go (inr same) x e = subst (λ (y : List ℕ). key_cmp x y ≡ Less) same e
+
+-- the pairs of a list within the bounds, where none is below the lower one
+same_filter : (from to : Option (List ℕ)) (m : List Pair) → AllByRecursion (λ p. from_on from p.0 ≡ true) m → filter (within from to) m ≡ filter (within None to) m
+same_filter from to [] high = refl
+same_filter from to (p ∷ m) high =
+    ap (λ (t : Bool). cond (t && below to p.0) (p ∷ filter (within from to) m) (filter (within from to) m)) high.0
+    ∙ ap (λ (l : List Pair). cond (below to p.0) (p ∷ l) l) (same_filter from to m high.1)
+
+pub filled-unbound : (from to : Option (List ℕ)) (limit : ℕ) (found m : List Pair) → AllByRecursion (λ p. from_on from p.0 ≡ true) m → filled from to limit found m ≡ filled None to limit found m
+unfolding filled
+filled-unbound from to limit found m high = ap (λ (l : List Pair). found ++ take (limit - length found) l) (same_filter from to m high)
 
 module _ (from to : Option (List ℕ)) (limit : ℕ) where
   pub filled-append : (found xs ys : List Pair) → filled from to limit found (xs ++ ys) ≡ filled from to limit (filled from to limit found xs) ys
@@ -86,12 +121,6 @@ module _ (from to : Option (List ℕ)) (limit : ℕ) where
   unfolding filled
   filled-span m = let all : limit - 0 ≡ limit = omega arith in ap (λ (n : ℕ). take n (filter (within from to) m)) all
 
-  -- a key that is not above the lower bound: the lesser keys are outside
-  pub outside-below : (m : List Pair) (key : List ℕ) → AllBelow m key → above from key ≡ false → AllByRecursion (λ p. within from to p ≡ false) m
-  outside-below m key less fails =
-      alls-weaker (λ p. key_cmp p.0 key ≡ Less) (λ p. within from to p ≡ false)
-      (λ p e. ap (λ (t : Bool). t && below to p.0) (not_from from p.0 key e fails)) m less
-
   -- a key that is not below the upper bound, and the greater ones
   pub outside-at : (key v : List ℕ) → below to key ≡ false → within from to (key, v) ≡ false
   outside-at key v fails = ap (λ (t : Bool). from_on from key && t) fails ∙ and-false (from_on from key)
@@ -108,3 +137,16 @@ module _ (from to : Option (List ℕ)) (limit : ℕ) where
 
   pub outside-from : (key v : List ℕ) → from_on from key ≡ false → within from to (key, v) ≡ false
   outside-from key v fails = ap (λ (t : Bool). t && below to key) fails
+
+-- a pair that is not to be added, and one that is
+pub own-ends : (to : Option (List ℕ)) (limit : ℕ) (found : List Pair) (key v : List ℕ) → (limit ≤ length found) ⊎ (below to key ≡ false) → found ≡ filled None to limit found ((key, v) ∷ [])
+own-ends to limit found key v (inl full) = sym (filled-full None to limit found ((key, v) ∷ []) full)
+own-ends to limit found key v (inr past) = sym (filled-nothing None to limit found ((key, v) ∷ []) (outside-at None to limit key v past, tt))
+
+pub own-wanted : (to : Option (List ℕ)) (limit : ℕ) (found : List Pair) (key v : List ℕ) → (length found < limit) × (below to key ≡ true) → found ++ (key, v) ∷ [] ≡ filled None to limit found ((key, v) ∷ [])
+own-wanted to limit found key v is = sym (filled-one None to limit found (key, v) is.0 (inside-at None to limit key v refl is.1))
+
+-- a pair that was pushed, with the value that stands there
+pub own-pushed : (to : Option (List ℕ)) (limit : ℕ) (found next : List Pair) (key v x : List ℕ) (o : Option (List ℕ)) → next ≡ found ++ (key, x) ∷ [] → o ≡ Some x → o ≡ Some v → (length found < limit) × (below to key ≡ true) → next ≡ filled None to limit found ((key, v) ∷ [])
+own-pushed to limit found next key v x o pushed read is wanted =
+    pushed ∙ ap (λ (y : List ℕ). found ++ (key, y) ∷ []) (same_Some x v (sym read ∙ is)) ∙ own-wanted to limit found key v wanted

@@ -6,5 +6,6 @@ pub mod Look
 pub mod Successor
 pub mod Fillings
 pub mod Gathering
+pub mod Parts
 pub mod NodeTexts
 pub mod Trails

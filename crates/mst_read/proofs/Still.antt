@@ -6,7 +6,7 @@ use Rattle.mst_arena.specs.declared.row.HeadLinks.{HeadLinks}
 use Rattle.mst_arena.specs.declared.row.Row.{Row}
 use Rattle.mst_arena.specs.Standing.{Placed, Chain}
 use Rattle.mst_read.specs.Search.{Lies, LiesBehind}
-use Rattle.mst_read.specs.Span.{HeadStands}
+use Rattle.mst_read.specs.Span.{HeadStands, PartStands}
 
 module _ {before after : Content} (same : after ≡ before) where
   pub lies_still : {format : Format} {link : ℕ} {p : Placed} → Lies format before link p → Lies format after link p
@@ -17,6 +17,9 @@ module _ {before after : Content} (same : after ≡ before) where
 
   pub stands_still : {format : Format} {top : Option HeadLinks} {p : Placed} → HeadStands format before top p → HeadStands format after top p
   stands_still {format} {top} {p} = subst (λ (x : Content). HeadStands format x top p) (sym same)
+
+  pub part_still : {format : Format} {part : HeadLinks} {c : Chain} → PartStands format before part c → PartStands format after part c
+  part_still {format} {part} {c} = subst (λ (x : Content). PartStands format x part c) (sym same)
 
   -- and what is read later stood there before
   pub read_before : {A : Type 0} (part : Row → Option A) (row : ℕ) {value : A} → part_at part after row ≡ Some value → part_at part before row ≡ Some value

@@ -6,7 +6,6 @@ use Rattle.mst_node.specs.Text.{root}
 use Rattle.mst_node.specs.Trail.{by_order}
 use Rattle.mst_arena.specs.Content.{Content}
 use Rattle.mst_arena.specs.Standing.{Placed, none, head, Chain, end, cell, link_of, first_of, tail_of, count_of, rows_of, chain_rows, HasRows, Stands}
-use Rattle.mst_arena.specs.declared.row.EntryLinks.{EntryLinks}
 use Rattle.mst_arena.specs.declared.row.HeadLinks.{HeadLinks}
 use Rattle.mst_arena.specs.declared.row.Root.{Root}
 use Rattle.mst_read.specs.declared.lookup.Place.{Place}
@@ -47,15 +46,19 @@ abbrev pub ChainLies : Content → HeadLinks → Type 0
 ChainLies content links =
     (format : Format) × (chain : Chain) × LiesBehind format content links chain
 
--- what a search reads of a tree's head: none of the empty tree
-abbrev pub head_of : Placed → Option HeadLinks
-head_of none = None
-head_of (head at layer chain) = Some (record {
+-- layer, count and links of a chain, as the head of its node has them
+abbrev pub chain_links : ℕ → Chain → HeadLinks
+chain_links layer chain = record {
   layer = layer;
   count = count_of chain;
   first = first_of chain;
   tail = tail_of chain;
-})
+}
+
+-- what a search reads of a tree's head: none of the empty tree
+abbrev pub head_of : Placed → Option HeadLinks
+head_of none = None
+head_of (head at layer chain) = Some (chain_links layer chain)
 
 -- ---- where a search comes to
 
@@ -65,13 +68,12 @@ place k (end child) = Gap (link_of child)
 place k (cell at child key value rest) =
     by_order (key_cmp k key) (Gap (link_of child)) (Held at) (place k rest)
 
--- the first entry whose key is above the bound, and its row
-abbrev pub entry_above : Option (List ℕ) → Chain → Option (ℕ × EntryLinks)
+-- the row of the first entry whose key is above the bound, and the link of the tree in the gap
+-- before it
+abbrev pub entry_above : Option (List ℕ) → Chain → Option (ℕ × ℕ)
 entry_above bound (end child) = None
 entry_above bound (cell at child key value rest) =
-    if above bound key
-    then Some (at, record { child = link_of child; next = first_of rest; key = key })
-    else entry_above bound rest
+    if above bound key then Some (at, link_of child) else entry_above bound rest
 
 -- the tree in the gap in which the key would lie; the empty tree where an entry has the key
 abbrev pub gap_placed : List ℕ → Chain → Placed

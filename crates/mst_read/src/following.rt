@@ -1,74 +1,95 @@
 //! The pair of the least key above a bound.
-ghost use Rattle.std.specs.Prelude.{◌≡◌, List};
+ghost use Rattle.std.specs.Prelude.{◌≡◌, List, Some};
 ghost use Rattle.std.specs.Option.{option_copied};
 ghost use Rattle.mst_key.specs.declared.format.Format.{Format};
-ghost use Rattle.mst_key.specs.Map.{Pair, above, map_next};
+ghost use Rattle.mst_key.specs.Map.{Pair, map_next};
+ghost use Rattle.mst_arena.specs.Row.{IsHead};
 ghost use Rattle.mst_arena.specs.Standing.{Chain, Stands};
 ghost use Rattle.mst_read.specs.Search.{ChainLies, LiesBehind, LinkStands, MapStands, StandsBelow, entry_above};
 
 use crate::descent::head_at;
-use mst_arena::{EntryLinks, HeadLinks, Root, Rows};
+use mst_arena::{HeadLinks, Root, Rows, Sought, Way};
 use mst_key::{Key, Value};
 
-/// Whether the key is above the bound. A bound that is not given does not bind.
-pub fn is_above(key: &Key, bound: Option<&Key>) -> bool
-    ensures { result ≡ above (option_copied bound.entry) key.now }
+/// The bound to be sought.
+fn sought(bound: Option<&Key>) -> Option<Sought>
+    ensures { result ≡ option_copied bound.entry }
 {
     match bound {
-        Some(bound) => key.cmp(bound).is_gt(),
-        None => true,
+        Some(bound) => Some(Sought::new(bound)),
+        None => None,
     }
 }
 
-/// The first entry of a node whose key is above the bound, and its row.
-fn first_above<R: Rows>(
-    rows: &mut R,
-    head: &HeadLinks,
-    bound: Option<&Key>,
-) -> Option<(u32, EntryLinks)>
+/// The row of the first entry of a node whose key is above the bound, and the link of its child. No
+/// bytes are made of a key that is passed by.
+fn first_above<R: Rows>(rows: &mut R, head: &HeadLinks, bound: &Sought) -> Option<(u32, u32)>
     requires lies { ChainLies (R.content rows.old) head.now }
     ensures first { (f : Format) (c : Chain) → LiesBehind f (R.content rows.old) head.now c
-        → result ≡ entry_above (option_copied bound.entry) c }
+        → result ≡ entry_above (Some bound.now) c }
     ensures same { rows.new ≡ rows.old }
 {
     let mut link = head.first;
     for _ in 0..head.count {
         let row = link - 1;
-        let entry = rows.entry(row);
-        if is_above(&entry.key, bound) {
-            return Some((row, entry));
+        match rows.way(row, bound) {
+            Way::Child(child) => return Some((row, child)),
+            Way::Here => link = rows.entry(row).next,
+            Way::Next(next) => link = next,
         }
-        link = entry.next;
     }
     None
+}
+
+/// The same by a bound that may not be given, and then does not bind.
+fn first_entry<R: Rows>(
+    rows: &mut R,
+    head: &HeadLinks,
+    bound: &Option<Sought>,
+) -> Option<(u32, u32)>
+    requires lies { ChainLies (R.content rows.old) head.now }
+    requires limits { IsHead head.now }
+    ensures first { (f : Format) (c : Chain) → LiesBehind f (R.content rows.old) head.now c
+        → result ≡ entry_above bound.now c }
+    ensures same { rows.new ≡ rows.old }
+{
+    match bound {
+        Some(bound) => first_above(rows, head, bound),
+        None => {
+            let row = head.first - 1;
+            Some((row, rows.entry(row).child))
+        }
+    }
 }
 
 /// The pair of the least key above the bound, in the map that stands at the link; with no bound, of
 /// the least key.
 ///
-/// It reads the head of each node on the way to the place just above the bound, at most 65, and of
+/// It reads the head of each node on the way to the place just above the bound, 129 at most, and of
 /// the entries of these nodes those with keys up to the first that is above the bound; and at last
-/// the value of the pair, once.
+/// the key and the value of the pair, once.
 pub fn next_below<R: Rows>(rows: &mut R, link: u32, after: Option<&Key>) -> Option<(Key, Value)>
     requires stands { LinkStands (R.content rows.old) link }
     ensures found { (f : Format) (m : List Pair) → StandsBelow f (R.content rows.old) link m
         → result ≡ map_next m (option_copied after.entry) }
     ensures same { rows.new ≡ rows.old }
 {
-    // the pair of the answer, if the tree at hand has none: that of the entry right of its gap
+    let bound = sought(after);
+    // the row of the answer, if the tree at hand has none: that of the entry right of its gap
     let mut right = None;
     let mut top = head_at(rows, link);
     while let Some(head) = top {
-        match first_above(rows, &head, after) {
-            Some((row, entry)) => {
-                top = head_at(rows, entry.child);
-                right = Some((row, entry.key));
+        match first_entry(rows, &head, &bound) {
+            Some((row, child)) => {
+                top = head_at(rows, child);
+                right = Some(row);
             }
             None => top = head_at(rows, head.tail),
         }
     }
-    let (row, key) = right?;
-    Some((key, rows.value(row)))
+    let row = right?;
+    let entry = rows.entry(row);
+    Some((entry.key, rows.value(row)))
 }
 
 /// The pair of the least key above the bound, in the map that stands at the root, as [`next_below`]

@@ -18,6 +18,7 @@
 //! while it reads. Only [`range`] and [`prove`] take memory, for what they answer.
 #![tactic(auto)]
 
+mod buffer;
 mod descent;
 mod following;
 mod laws;

@@ -39,7 +39,7 @@ pub fn seek<R: Rows>(rows: &mut R, head: &HeadLinks, key: &Sought) -> Place
 
 /// The value of the key in the map that stands at the link.
 ///
-/// It reads the head of each node on the way to the key, at most 65, and of the entries of these
+/// It reads the head of each node on the way to the key, at most 129, and of the entries of these
 /// nodes those with keys up to the first that is not below the key; and at last the key's value,
 /// once.
 pub fn get_below<R: Rows>(rows: &mut R, link: u32, key: &Key) -> Option<Value>

@@ -1,30 +1,19 @@
 //! The pairs between two bounds.
-ghost use Rattle.std.specs.Prelude.{◌≡◌, ◌≤◌, ◌⊎◌, if◌then◌else◌, false, List, ℕ, None, Some, [], ◌∷◌, length, OnOk, IfOk, IsSome};
+ghost use Rattle.std.specs.Prelude.{◌≡◌, ◌≤◌, ◌<◌, ◌⊎◌, true, false, List, ℕ, None, Some, [], ◌∷◌, length, OnOk, IfOk, IsSome};
 ghost use Rattle.std.specs.Option.{option_copied};
 ghost use Rattle.mst_key.specs.declared.format.Format.{Format};
-ghost use Rattle.mst_key.specs.Map.{Pair, above, below, from_on, map_range};
-ghost use Rattle.mst_node.specs.Tree.{pairs};
+ghost use Rattle.mst_key.specs.Map.{Pair, below, map_range};
+ghost use Rattle.mst_node.specs.Tree.{pairs, entries_pairs};
 ghost use Rattle.mst_arena.specs.Content.{part_at};
 ghost use Rattle.mst_arena.specs.Row.{entry_value};
-ghost use Rattle.mst_arena.specs.Standing.{Placed, Stands, tree_of};
-ghost use Rattle.mst_read.specs.Search.{Lies, LinkStands, MapStands, StandsBelow, TreeLies, head_of};
-ghost use Rattle.mst_read.specs.Span.{HeadStands, filled};
+ghost use Rattle.mst_arena.specs.Standing.{Placed, Chain, Stands, tree_of, entries_of, link_of};
+ghost use Rattle.mst_read.specs.Search.{ChainLies, LiesBehind, LinkStands, MapStands, StandsBelow, chain_links, gap_placed};
+ghost use Rattle.mst_read.specs.Span.{HeadStands, PartStands, filled, past_gap, rest_from};
 
 use crate::descent::head_at;
-use crate::following::is_above;
-use mst_arena::{EntryLinks, HeadLinks, Root, Rows};
+use mst_arena::{HeadLinks, Root, Rows, Sought, Way};
 use mst_key::{Key, Memory, Value};
 use std::alloc::Allocator;
-
-/// Whether the key is at least the bound. A bound that is not given does not bind.
-fn is_from(key: &Key, bound: Option<&Key>) -> bool
-    ensures { result ≡ from_on (option_copied bound.entry) key.now }
-{
-    match bound {
-        Some(bound) => !key.cmp(bound).is_lt(),
-        None => true,
-    }
-}
 
 /// Whether the key is below the bound. A bound that is not given does not bind.
 fn is_below(key: &Key, bound: Option<&Key>) -> bool
@@ -36,48 +25,154 @@ fn is_below(key: &Key, bound: Option<&Key>) -> bool
     }
 }
 
-/// The head of the tree in the gap before the entry, if keys there can be at least the bound: where
-/// the entry's key is above it.
-fn gap_from<R: Rows>(rows: &mut R, entry: &EntryLinks, from: Option<&Key>) -> Option<HeadLinks>
-    requires lies { TreeLies (R.content rows.old) entry.now.child }
-    ensures head { (f : Format) (p : Placed) → Lies f (R.content rows.old) entry.now.child p
-        → result ≡ (if above (option_copied from.entry) entry.now.key then head_of p else None) }
+/// The link of the tree in the gap in which a key would lie, and 0 where an entry of the node has
+/// the key; and the part of the node from the first entry on whose key is not below it. No bytes
+/// are made of a key that is passed by.
+fn part_from<R: Rows>(rows: &mut R, head: &HeadLinks, from: &Sought) -> (u32, HeadLinks)
+    requires lies { ChainLies (R.content rows.old) head.now }
+    ensures part { (f : Format) (c : Chain) → LiesBehind f (R.content rows.old) head.now c
+        → result ≡ (
+          link_of (gap_placed from.now c),
+          chain_links head.now.layer (rest_from from.now c),
+        ) }
     ensures same { rows.new ≡ rows.old }
 {
-    if is_above(&entry.key, from) {
-        head_at(rows, entry.child)
-    } else {
-        None
+    let mut link = head.first;
+    for passed in 0..head.count {
+        let row = link - 1;
+        match rows.way(row, from) {
+            Way::Child(child) => return (child, part_of(head, link, head.count - passed)),
+            Way::Here => return (0, part_of(head, link, head.count - passed)),
+            Way::Next(next) => link = next,
+        }
+    }
+    (head.tail, part_of(head, 0, 0))
+}
+
+/// The part of a node of so many entries from the link on.
+fn part_of(head: &HeadLinks, first: u32, count: u32) -> HeadLinks
+    ensures { result ≡ record head.now { first = first; count = count } }
+{
+    HeadLinks {
+        layer: head.layer,
+        count,
+        first,
+        tail: head.tail,
     }
 }
 
-/// Adds the entry's own pair, if it is within the bounds and below the limit, and answers whether
-/// pairs behind it may be.
-fn add<R: Rows, A: Allocator>(
+/// Whether the pair of a key is to be added behind those that were found: they are fewer than the
+/// limit, and the key is below the upper bound.
+fn is_wanted<A: Allocator>(
+    key: &Key,
+    to: Option<&Key>,
+    limit: usize,
+    found: &Vec<(Key, Value), A>,
+) -> bool
+    ensures wanted { result ≡ true → (length found.now.items < limit)
+        × (below (option_copied to.entry) key.now ≡ true) }
+    ensures ends { result ≡ false → (limit ≤ length found.now.items)
+        ⊎ (below (option_copied to.entry) key.now ≡ false) }
+{
+    found.len() < limit && is_below(key, to)
+}
+
+/// Adds the pairs of a part of a node, with the tree in the gap before each entry, that are below
+/// the upper bound, in the order of their keys, until there are as many as the limit.
+fn gather_part<R: Rows, A: Allocator>(
     rows: &mut R,
-    row: u32,
-    key: Key,
-    from: Option<&Key>,
+    part: &HeadLinks,
     to: Option<&Key>,
     limit: usize,
     found: &mut Vec<(Key, Value), A>,
-) -> Result<bool, Memory>
-    requires there { IsSome (part_at entry_value (R.content rows.old) row) }
-    ensures found { (v : List ℕ) → part_at entry_value (R.content rows.old) row ≡ Some v
+) -> Result<(), Memory>
+    requires stands { (f : Format) × (c : Chain) × PartStands f (R.content rows.old) part.now c }
+    ensures found { (f : Format) (c : Chain) → PartStands f (R.content rows.old) part.now c
         → OnOk result
-        (found.new.items ≡ filled (option_copied from.entry)
-        (option_copied to.entry) limit found.old.items ((key, v) ∷ [])) }
-    ensures ends { IfOk result (λ more. more ≡ false
-        → (limit ≤ length found.new.items) ⊎ (below (option_copied to.entry) key ≡ false)) }
+        (found.new.items ≡ filled None
+        (option_copied to.entry) limit found.old.items (entries_pairs (entries_of f c))) }
     ensures same { rows.new ≡ rows.old }
 {
-    if found.len() >= limit || !is_below(&key, to) {
-        return Ok(false);
+    let mut link = part.first;
+    for _ in 0..part.count {
+        let row = link - 1;
+        let entry = rows.entry(row);
+        if let Some(gap) = head_at(rows, entry.child) {
+            gather_part(rows, &gap, to, limit, found)?;
+        }
+        link = entry.next;
+        if !is_wanted(&entry.key, to, limit, found) {
+            return Ok(());
+        }
+        found.push((entry.key, rows.value(row)))?;
+        if found.len() >= limit {
+            return Ok(());
+        }
     }
-    if is_from(&key, from) {
-        found.push((key, rows.value(row)))?;
+    match head_at(rows, part.tail) {
+        Some(gap) => gather_part(rows, &gap, to, limit, found),
+        None => Ok(()),
     }
-    Ok(found.len() < limit)
+}
+
+/// Adds the pairs of a part of a node as [`gather_part`] does, but none of the tree in its first
+/// gap.
+fn gather_behind<R: Rows, A: Allocator>(
+    rows: &mut R,
+    part: &HeadLinks,
+    to: Option<&Key>,
+    limit: usize,
+    found: &mut Vec<(Key, Value), A>,
+) -> Result<(), Memory>
+    requires stands { (f : Format) × (c : Chain) × PartStands f (R.content rows.old) part.now c }
+    ensures found { (f : Format) (c : Chain) → PartStands f (R.content rows.old) part.now c
+        → OnOk result
+        (found.new.items ≡ filled None
+        (option_copied to.entry) limit found.old.items (past_gap f c)) }
+    ensures same { rows.new ≡ rows.old }
+{
+    if part.count == 0 {
+        return Ok(());
+    }
+    if found.len() >= limit {
+        return Ok(());
+    }
+    let row = part.first - 1;
+    let entry = rows.entry(row);
+    let rest = part_of(part, entry.next, part.count - 1);
+    if !is_wanted(&entry.key, to, limit, found) {
+        return Ok(());
+    }
+    found.push((entry.key, rows.value(row)))?;
+    if found.len() >= limit {
+        return Ok(());
+    }
+    gather_part(rows, &rest, to, limit, found)
+}
+
+/// Adds the pairs of a tree, by its head, that are at least the lower bound and below the upper, in
+/// the order of their keys, until there are as many as the limit. It compares keys with the lower
+/// bound only on the way to the first that is not below it.
+fn gather_from<R: Rows, A: Allocator>(
+    rows: &mut R,
+    top: Option<HeadLinks>,
+    from: &Sought,
+    to: Option<&Key>,
+    limit: usize,
+    found: &mut Vec<(Key, Value), A>,
+) -> Result<(), Memory>
+    requires stands { (f : Format) × (p : Placed) × HeadStands f (R.content rows.old) top p }
+    ensures found { (f : Format) (p : Placed) → HeadStands f (R.content rows.old) top p
+        → OnOk result
+        (found.new.items ≡ filled (Some from.now)
+        (option_copied to.entry) limit found.old.items (pairs (tree_of f p))) }
+    ensures same { rows.new ≡ rows.old }
+{
+    let Some(head) = top else { return Ok(()) };
+    let (link, part) = part_from(rows, &head, from);
+    let gap = head_at(rows, link);
+    gather_from(rows, gap, from, to, limit, found)?;
+    gather_behind(rows, &part, to, limit, found)
 }
 
 /// Adds the pairs of a tree, by its head, that are within the bounds, in the order of their keys,
@@ -97,20 +192,13 @@ fn gather<R: Rows, A: Allocator>(
         (option_copied to.entry) limit found.old.items (pairs (tree_of f p))) }
     ensures same { rows.new ≡ rows.old }
 {
-    let Some(head) = top else { return Ok(()) };
-    let mut link = head.first;
-    for _ in 0..head.count {
-        let row = link - 1;
-        let entry = rows.entry(row);
-        let child = gap_from(rows, &entry, from);
-        gather(rows, child, from, to, limit, found)?;
-        link = entry.next;
-        if !add(rows, row, entry.key, from, to, limit, found)? {
-            return Ok(());
-        }
+    match from {
+        Some(from) => gather_from(rows, top, &Sought::new(from), to, limit, found),
+        None => match top {
+            Some(head) => gather_part(rows, &head, to, limit, found),
+            None => Ok(()),
+        },
     }
-    let tail = head_at(rows, head.tail);
-    gather(rows, tail, from, to, limit, found)
 }
 
 /// The first pairs, at most `limit`, of the keys that are at least `from` and below `to`, in the
@@ -119,8 +207,8 @@ fn gather<R: Rows, A: Allocator>(
 ///
 /// `Memory` comes only where a growth of the list was refused, and changes nothing.
 ///
-/// It visits the nodes on the way to the two bounds, at most 65 each, and of the nodes between them
-/// only those that hold a pair of the answer; it reads the head of each node once and of its
+/// It visits the nodes on the way to the two bounds, at most 129 each, and of the nodes between
+/// them only those that hold a pair of the answer; it reads the head of each node once and of its
 /// entries those up to the upper bound, and the value of each pair of the answer once. It stops at
 /// the limit, and reads nothing where that is 0.
 pub fn range_below<R: Rows, A: Allocator>(

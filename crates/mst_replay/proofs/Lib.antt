@@ -1,3 +1,5 @@
 pub mod Blanks
+pub mod FaultLines
 pub mod Numbers
 pub mod RowLists
+pub mod Worked

@@ -21,11 +21,13 @@
 ghost use Rattle.std.specs.Prelude.{◌≡◌, None};
 
 mod command;
+mod laws;
 mod number;
 mod reply;
 mod rows;
 
 pub use command::{Command, read_command};
+pub use laws::fault_lines;
 use mst_pin::Core;
 pub use reply::Reply;
 

@@ -1,6 +1,7 @@
 -- The ages of the rows of a tree are known to each desk that says of these rows what the old one
 -- said.
 use Rattle.std.proofs.Common.{◌≡◌, ℕ, ◌≤◌, List, length, ◌∙◌}
+use Rattle.mst_key.specs.declared.format.Format.{Format}
 use Rattle.mst_key.specs.History.{History}
 use Rattle.mst_key.proofs.SpanLaws.{contains-all}
 use Rattle.mst_arena.specs.Lives.{reaches}
@@ -14,5 +15,5 @@ use Rattle.mst_path.proofs.lemmas.versions.AgeSteps.{all_contained, top_inside}
 abbrev pub SameAges : List Life → List Life → History → List ℕ → Type 0
 SameAges lives lives' h rows = (x v : ℕ) → In x rows → v ≤ length h → reaches lives' v x ≡ reaches lives v x
 
-pub ages_to : (lives lives' : List Life) (h : History) (p : Placed) → SameAges lives lives' h (used p) → HasAges lives h p → HasAges lives' h p
-ages_to lives lives' h p same ages = all_contained (HasAge lives' h) (placed_nodes p) (λ q has r v i le. same r v (top_inside p q has r i) le ∙ contains-all (HasAge lives h) (placed_nodes p) q ages has r v i le)
+pub ages_to : (first : Format) (lives lives' : List Life) (h : History) (p : Placed) → SameAges lives lives' h (used p) → HasAges first lives h p → HasAges first lives' h p
+ages_to first lives lives' h p same ages = all_contained (HasAge first lives' h) (placed_nodes p) (λ q has r v i le. same r v (top_inside p q has r i) le ∙ contains-all (HasAge first lives h) (placed_nodes p) q ages has r v i le)

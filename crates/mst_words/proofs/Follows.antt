@@ -26,9 +26,9 @@ module _ {S : Type 0} (T : Meaning S) (framed : IsFramed T) (R N : ℕ) where
       (subst (λ (n : ℕ). T.Reaches v.desk n x) (sym h.filed ∙ ap (λ (d : DeskState). T.version d r) (sym (q.turn.holder id v at on).3)) (subst (λ (d : DeskState). T.Reaches d (length (q.place r)) x) (sym (q.turn.holder id v at on).3) (h.reached x within)))
 
   -- the last event of the history is of a pass that has a seat, and has seen its own events
-  whole_seen : (next : ℕ) (log : History) (views : List View) → World R N next log views → (log ≡ []) ⊎ ((i : ℕ) × (v : View) × SeatAt views i v × (v.seen ≡ log))
+  whole_seen : (next : ℕ) (log : History) (views : List View) → World R N T.first next log views → (log ≡ []) ⊎ ((i : ℕ) × (v : View) × SeatAt views i v × (v.seen ≡ log))
   whole_seen next log views w = ⊎_elim (λ none. inl none)
-      (λ (t : (front : History) × (e : Event) × (log ≡ front ++ e ∷ [])). let longer : History = t.0 ++ t.1 ∷ [] in let h : World R N next longer views = subst (λ (l : History). World R N next l views) t.2 w in
+      (λ (t : (front : History) × (e : Event) × (log ≡ front ++ e ∷ [])). let longer : History = t.0 ++ t.1 ∷ [] in let h : World R N T.first next longer views = subst (λ (l : History). World R N T.first next l views) t.2 w in
       let n = last_named (λ x. (0 < x.pass) × (x.pass < next)) t.0 t.1 h.named in let seat = h.seated t.1.pass n.0 n.1 in let v : View = seat.1 in let f = h.fits seat.0 v seat.2 in
       inr (seat.0, v, seat.2, all_seen v.number v.mine v.seen t.0 t.1 (sym seat.3) f.seen (f.mine (subst (λ (z : ℕ). 0 < z) (sym seat.3) n.0)) f.own ∙ sym t.2)) (last_of log)
 

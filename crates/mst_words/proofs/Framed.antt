@@ -1,8 +1,8 @@
 -- What stands by the words of a record and of some rows stands by any words that agree there.
 use Rattle.std.proofs.Common.{◌≡◌, ℕ, zero, suc, ◌<◌, Bool, true, false, List, length, refl, sym, ap, ◌∙◌, subst, arith}
 use Rattle.std.specs.List.{AllByRecursion}
-use Rattle.mst_key.specs.declared.format.Format.TheVariants.{One}
-use Rattle.mst_key.specs.History.{History, after}
+use Rattle.mst_key.specs.declared.format.Format.{Format}
+use Rattle.mst_key.specs.History.{History, after, format_after}
 use Rattle.mst_key.specs.Map.{Pair}
 use Rattle.mst_arena.specs.Content.{Content}
 use Rattle.mst_arena.specs.Lives.{reaches}
@@ -14,7 +14,7 @@ use Rattle.mst_arena.proofs.Stands.{placed_frame}
 use Rattle.mst_arena.specs.Lists.{In}
 use Rattle.mst_path.specs.Ages.{HasAges}
 use Rattle.mst_words.specs.Records.{SameWords, Agrees, IsFramed}
-use Rattle.mst_words.specs.Stored.{rows_in, root_in, StandsOn, AgedOn, Reaches, version_of, stored}
+use Rattle.mst_words.specs.Stored.{rows_in, root_in, Contents, StandsOn, AgedOn, Reaches, version_of, stored}
 use Rattle.mst_words.specs.declared.view.DeskState.{DeskState}
 use Rattle.mst_words.proofs.AgeFrames.{SameAges, ages_to}
 use Rattle.mst_words.proofs.Members.{each}
@@ -33,14 +33,14 @@ below_same (suc n) f g same (suc k) = below_same n (λ j. f (suc j)) (λ j. g (s
 pub same_row : (f g : ℕ → ℕ → ℕ) (x : ℕ) → ((k : ℕ) → k < 16 → g x k ≡ f x k) → rows_in g x ≡ rows_in f x
 same_row f g x same = λ i. rows_in (λ _ k. below_same 16 (f x) (g x) same k i) x
 
-same_root : (p q : ℕ → ℕ) → ((k : ℕ) → k < 6 → q k ≡ p k) → root_in q ≡ root_in p
-same_root p q same = λ i. root_in (λ k. below_same 6 p q same k i)
+same_root : (p q : ℕ → ℕ) → ((k : ℕ) → k < 7 → q k ≡ p k) → root_in q ≡ root_in p
+same_root p q same = λ i. root_in (λ k. below_same 7 p q same k i)
 
 -- rows that stand do so by their own numbers, on any content and root that agree there, and by the
 -- same placing
-stands_placed : (old new : Content) (at at' : Root) (m : List Pair) (s : Stands One old at m) → AllByRecursion (λ x. new x ≡ old x) (numbers s) → at' ≡ at
-    → (t : Stands One new at' m) × (t.tree.placed ≡ s.tree.placed)
-stands_placed old new at at' m s same is = (
+stands_placed : (f : Format) (old new : Content) (at at' : Root) (m : List Pair) (s : Stands f old at m) → AllByRecursion (λ x. new x ≡ old x) (numbers s) → at' ≡ at
+    → (t : Stands f new at' m) × (t.tree.placed ≡ s.tree.placed)
+stands_placed f old new at at' m s same is = (
   record {
     map = s.map;
     digest = ap (λ (r : Root). r.digest) is ∙ s.digest;
@@ -48,22 +48,22 @@ stands_placed old new at at' m s same is = (
       placed = s.tree.placed;
       at = s.tree.at ∙ ap (λ (r : Root). r.link) (sym is);
       is = s.tree.is;
-      rows = placed_frame One old new s.tree.placed same s.tree.rows;
+      rows = placed_frame f old new s.tree.placed same s.tree.rows;
       once = s.tree.once;
     };
   },
   refl,
 )
 
-pub stands_frame : (old new : Content) (at at' : Root) (m : List Pair) (s : Stands One old at m) → AllByRecursion (λ x. new x ≡ old x) (numbers s) → at' ≡ at
-    → (t : Stands One new at' m) × (numbers t ≡ numbers s)
-stands_frame old new at at' m s same is = let t = stands_placed old new at at' m s same is in (t.0, ap standing.used t.1)
+pub stands_frame : (f : Format) (old new : Content) (at at' : Root) (m : List Pair) (s : Stands f old at m) → AllByRecursion (λ x. new x ≡ old x) (numbers s) → at' ≡ at
+    → (t : Stands f new at' m) × (numbers t ≡ numbers s)
+stands_frame f old new at at' m s same is = let t = stands_placed f old new at at' m s same is in (t.0, ap standing.used t.1)
 
 -- and what is known of their ages stays known to each desk that says of them what the old one said
-pub aged_frame : (old new : Content) (at at' : Root) (h : History) (lives lives' : List Life) (s : Stands One old at (after h)) → AllByRecursion (λ x. new x ≡ old x) (numbers s) → at' ≡ at
-    → SameAges lives lives' h (numbers s) → HasAges lives h s.tree.placed → (t : Stands One new at' (after h)) × (numbers t ≡ numbers s) × HasAges lives' h t.tree.placed
-aged_frame old new at at' h lives lives' s same is reach ages = let t = stands_placed old new at at' (after h) s same is in
-    (t.0, ap standing.used t.1, subst (HasAges lives' h) (sym t.1) (ages_to lives lives' h s.tree.placed reach ages))
+pub aged_frame : (first f : Format) (old new : Content) (at at' : Root) (h : History) (lives lives' : List Life) (s : Stands f old at (after h)) → AllByRecursion (λ x. new x ≡ old x) (numbers s) → at' ≡ at
+    → SameAges lives lives' h (numbers s) → HasAges first lives h s.tree.placed → (t : Stands f new at' (after h)) × (numbers t ≡ numbers s) × HasAges first lives' h t.tree.placed
+aged_frame first f old new at at' h lives lives' s same is reach ages = let t = stands_placed f old new at at' (after h) s same is in
+    (t.0, ap standing.used t.1, subst (HasAges first lives' h) (sym t.1) (ages_to first lives lives' h s.tree.placed reach ages))
 
 same_rows : (f g : ℕ → ℕ → ℕ) (p q : ℕ → ℕ) (used : List ℕ) → SameWords f g p q used → AllByRecursion (λ x. rows_in g x ≡ rows_in f x) used
 same_rows f g p q used same = each (λ x. rows_in g x ≡ rows_in f x) used (λ x within. same_row f g x (same.0 x within))
@@ -74,29 +74,29 @@ both_ways false true there back = sym (back refl)
 both_ways false false there back = refl
 
 -- two desks that agree on a record say the same of its rows
-same_ages : (d d' : DeskState) (r : ℕ) (h : History) (rows : List ℕ) → version_of d r ≡ length h → ((x : ℕ) → In x rows → Reaches d (length h) x) → Agrees stored d d' r → SameAges d.lives d'.lives h rows
-same_ages d d' r h rows filed reached a x v i le =
+same_ages : (first : Format) (d d' : DeskState) (r : ℕ) (h : History) (rows : List ℕ) → version_of d r ≡ length h → ((x : ℕ) → In x rows → Reaches d (length h) x) → Agrees (stored first) d d' r → SameAges d.lives d'.lives h rows
+same_ages first d d' r h rows filed reached a x v i le =
     let here : Reaches d (version_of d r) x = subst (λ (n : ℕ). Reaches d n x) (sym filed) (reached x i) in
     let both = a.ages x v (omega (arith, le, filed)) here in
     both_ways (reaches d.lives v x) (reaches d'.lives v x) both.0 both.1
 
-stored_stands : (f g : ℕ → ℕ → ℕ) (p q : ℕ → ℕ) (m : List Pair) (used : List ℕ) → SameWords f g p q used → StandsOn f p m used → StandsOn g q m used
+stored_stands : (f g : ℕ → ℕ → ℕ) (p q : ℕ → ℕ) (m : Contents) (used : List ℕ) → SameWords f g p q used → StandsOn f p m used → StandsOn g q m used
 stored_stands f g p q m used same s =
-    let t = stands_frame (rows_in f) (rows_in g) (root_in p) (root_in q) m s.0
+    let t = stands_frame m.format (rows_in f) (rows_in g) (root_in p) (root_in q) m.pairs s.0
     (subst (AllByRecursion (λ x. rows_in g x ≡ rows_in f x)) (sym s.1) (same_rows f g p q used same))
-    (same_root p q same.1) in (t.0, t.1 ∙ s.1)
+    (same_root p q same.1) in (t.0, t.1 ∙ s.1, same.1 6 (omega arith) ∙ s.2)
 
-stored_aged : (f g : ℕ → ℕ → ℕ) (p q : ℕ → ℕ) (h : History) (used : List ℕ) (d d' : DeskState) (r : ℕ) → SameWords f g p q used → version_of d r ≡ length h
-    → ((x : ℕ) → In x used → Reaches d (length h) x) → Agrees stored d d' r → AgedOn f p d h used → AgedOn g q d' h used
-stored_aged f g p q h used d d' r same filed reached a s =
-    let t = aged_frame (rows_in f) (rows_in g) (root_in p) (root_in q) h d.lives d'.lives s.0.0
+stored_aged : (first : Format) (f g : ℕ → ℕ → ℕ) (p q : ℕ → ℕ) (h : History) (used : List ℕ) (d d' : DeskState) (r : ℕ) → SameWords f g p q used → version_of d r ≡ length h
+    → ((x : ℕ) → In x used → Reaches d (length h) x) → Agrees (stored first) d d' r → AgedOn first f p d h used → AgedOn first g q d' h used
+stored_aged first f g p q h used d d' r same filed reached a s =
+    let t = aged_frame first (format_after first h) (rows_in f) (rows_in g) (root_in p) (root_in q) h d.lives d'.lives s.0.0
     (subst (AllByRecursion (λ x. rows_in g x ≡ rows_in f x)) (sym s.0.1) (same_rows f g p q used same))
     (same_root p q same.1)
-    (subst (SameAges d.lives d'.lives h) (sym s.0.1) (same_ages d d' r h used filed reached a)) s.1 in
-    ((t.0, t.1 ∙ s.0.1), t.2)
+    (subst (SameAges d.lives d'.lives h) (sym s.0.1) (same_ages first d d' r h used filed reached a)) s.1 in
+    ((t.0, t.1 ∙ s.0.1, same.1 6 (omega arith) ∙ s.0.2), t.2)
 
-pub stored_framed : IsFramed stored
-stored_framed = record {
+pub stored_framed : (first : Format) → IsFramed (stored first)
+stored_framed first = record {
   stands = λ f g p q m used same s. stored_stands f g p q m used same s;
-  aged = λ f g p q h used d d' r same filed reached a s. stored_aged f g p q h used d d' r same filed reached a s;
+  aged = λ f g p q h used d d' r same filed reached a s. stored_aged first f g p q h used d d' r same filed reached a s;
 }

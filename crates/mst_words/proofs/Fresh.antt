@@ -6,6 +6,7 @@ use Rattle.std.proofs.lemmas.List.{length-replicate, get_or-replicate}
 use Rattle.std.proofs.lemmas.Option.{slice_get-get_or, slice_get_past}
 use native.Mathlib.Decide.{dec_le}
 use Rattle.mst_key.specs.Bytes.{IsBytes}
+use Rattle.mst_key.specs.declared.format.Format.{Format}
 use Rattle.mst_key.proofs.HistoryLaws.{IsPrefix-nil}
 use Rattle.mst_node.specs.Text.{digest_of}
 use Rattle.mst_node.specs.Tree.{tree, tree_within}
@@ -17,7 +18,7 @@ use Rattle.mst_arena.specs.Words.{word_from, byte_of_words, bytes_in}
 use Rattle.mst_arena.proofs.Packing.{packed, bytes_back}
 use Rattle.mst_words.specs.Records.{field, row, Standing}
 use Rattle.mst_words.specs.declared.view.DeskState.{DeskState}
-use Rattle.mst_words.specs.Stored.{AgedOn, IsDesk, stored, fresh_desk, desk_state}
+use Rattle.mst_words.specs.Stored.{AgedOn, IsDesk, stored, format_number, fresh_desk, desk_state}
 use Rattle.mst_words.proofs.Members.{in_nothing}
 
 -- ---- a digest in four words
@@ -41,6 +42,12 @@ four_set ws a b c d long =
     let at_c : get_or (set three 41 d) 40 0 ≡ c = get_or-set_other three 41 40 d 0 (omega arith) ∙ get_or-set_same two 40 c 0 (omega arith) in
     let at_d : get_or (set three 41 d) 41 0 ≡ d = get_or-set_same three 41 d 0 (omega arith) in
     λ i. bytes_in (at_a i ∷ at_b i ∷ at_c i ∷ at_d i ∷ [])
+
+-- and a word behind them is as it was
+pub behind_four : (ws : List ℕ) (a b c d : ℕ) → get_or (set (set (set (set ws 38 a) 39 b) 40 c) 41 d) 42 0 ≡ get_or ws 42 0
+behind_four ws a b c d =
+    let one : List ℕ = set ws 38 a in let two : List ℕ = set one 39 b in let three : List ℕ = set two 40 c in
+    get_or-set_other three 41 42 d 0 (omega arith) ∙ get_or-set_other two 40 42 c 0 (omega arith) ∙ get_or-set_other one 39 42 b 0 (omega arith) ∙ get_or-set_other ws 38 42 a 0 (omega arith)
 
 -- a list of four is its elements
 pub four_of : (l : List ℕ) → length l ≡ 4 → get_or l 0 0 ∷ get_or l 1 0 ∷ get_or l 2 0 ∷ get_or l 3 0 ∷ [] ≡ l
@@ -66,9 +73,9 @@ unreached : (n v x : ℕ) → reaches (replicate n Free) v x ≡ true → ⊥
 unreached n v x = at_free (λ l. reached_at l v ≡ true → ⊥) (λ e. let c : false ≡ true = e in cc) (λ e. let c : false ≡ true = e in cc) n x
 
 -- words that spell the empty root stand for the empty map, on no row
-empty_stands : (word : ℕ → ℕ → ℕ) (fields : ℕ → ℕ) (d : DeskState) → fields 1 ≡ 0 → bytes_in (fields 2 ∷ fields 3 ∷ fields 4 ∷ fields 5 ∷ []) ≡ digest_of [] → AgedOn word fields d [] []
+empty_stands : (first : Format) (word : ℕ → ℕ → ℕ) (fields : ℕ → ℕ) (d : DeskState) → fields 1 ≡ 0 → bytes_in (fields 2 ∷ fields 3 ∷ fields 4 ∷ fields 5 ∷ []) ≡ digest_of [] → fields 6 ≡ format_number first → AgedOn first word fields d [] []
 unfolding tree tree_within
-empty_stands word fields d link digest = (
+empty_stands first word fields d link digest number = (
   (
     record {
       map = record { ascending = tt; limits = tt };
@@ -76,19 +83,20 @@ empty_stands word fields d link digest = (
       tree = record { placed = none; at = sym link; is = refl; rows = tt; once = tt };
     },
     refl,
+    number,
   ),
   tt,
 )
 
-pub fresh_standing : (R N : ℕ) (ws : List ℕ) → ((i : ℕ) → i < 38 → slice_index ws i ≡ 0) → bytes_in (slice_index ws 38 ∷ slice_index ws 39 ∷ slice_index ws 40 ∷ slice_index ws 41 ∷ []) ≡ digest_of []
-    → Standing stored R N ws [] (desk_state (fresh_desk R N)) 0 [] []
-fresh_standing R N ws front digest = record {
+pub fresh_standing : (first : Format) (R N : ℕ) (ws : List ℕ) → ((i : ℕ) → i < 38 → slice_index ws i ≡ 0) → bytes_in (slice_index ws 38 ∷ slice_index ws 39 ∷ slice_index ws 40 ∷ slice_index ws 41 ∷ []) ≡ digest_of [] → slice_index ws 42 ≡ format_number first
+    → Standing (stored first) R N ws [] (desk_state (fresh_desk R N)) 0 [] []
+fresh_standing first R N ws front digest number = record {
   numbered = omega arith;
   begins = IsPrefix-nil [];
   version = front 36 (omega arith);
   filed = get_or-replicate (N + 2) 0 0 0 (omega arith);
-  stands = (empty_stands (row ws) (field ws 0) (desk_state (fresh_desk R N)) (front 37 (omega arith)) digest).0;
-  aged = empty_stands (row ws) (field ws 0) (desk_state (fresh_desk R N)) (front 37 (omega arith)) digest;
+  stands = (empty_stands first (row ws) (field ws 0) (desk_state (fresh_desk R N)) (front 37 (omega arith)) digest number).0;
+  aged = empty_stands first (row ws) (field ws 0) (desk_state (fresh_desk R N)) (front 37 (omega arith)) digest number;
   inside = λ x within. absurd (in_nothing x within);
   reached = λ x within. absurd (in_nothing x within);
   exactly = λ x l e. absurd (unreached R 0 x e);

@@ -6,22 +6,25 @@ use Rattle.atomic_table.specs.Table.{State, Me, step, keeps, stepped, Allows, Sp
 use Rattle.atomic_table.proofs.Lists.{at_snoc, at_longer, set_again, set_else}
 use Rattle.mst_key.specs.History.{History, events_of, IsPrefix}
 use Rattle.mst_key.proofs.HistoryLaws.{IsPrefix-itself, IsPrefix-nil, events_of-between}
+use Rattle.mst_key.specs.declared.format.Format.{Format}
 use Rattle.mst_words.specs.declared.view.View.{View}
 use Rattle.mst_words.specs.World.{SeatAt, Fits, IsPlaced, World}
 use Rattle.mst_words.specs.Records.{Meaning, IsFramed}
 use Rattle.mst_words.specs.Rule.{Parts, Ruled}
-use Rattle.mst_words.specs.Notes.{note_of, having_heard, IsOfPasses, Finds, sees_all, sees_told}
+use Rattle.mst_words.specs.Notes.{note_of, having_heard, Finds, sees_all, sees_told}
 use Rattle.mst_words.proofs.Histories.{events_none}
+use Rattle.mst_words.proofs.Worlds.{each_dealt}
 use Rattle.mst_words.proofs.PinParts.{drains_same}
 use Rattle.mst_words.proofs.Marks.{counts_same}
 use Rattle.mst_words.proofs.Stills.{still_same}
 use Rattle.mst_words.proofs.Follows.{ruled}
-use Rattle.mst_words.proofs.Looked.{view_set, looked}
+use Rattle.mst_words.specs.Steps.{glances}
+use Rattle.mst_words.proofs.Looked.{view_set, looked, counted}
 use Rattle.mst_words.proofs.Seated.{off_true, turn_more, rows_more, pins_more, clear_more, counts_more, path_more, still_more}
 
 -- a note comes to the seats
-world_note : (rows passes next : ℕ) (log : History) (views : List View) (id : ℕ) (v : View) → World rows passes next log views → SeatAt views id v → World rows passes next log (views ++ note_of v ∷ [])
-world_note rows passes next log views id v h at = let n : View = note_of v in record {
+world_note : (rows passes : ℕ) (first : Format) (next : ℕ) (log : History) (views : List View) (id : ℕ) (v : View) → World rows passes first next log views → SeatAt views id v → World rows passes first next log (views ++ note_of v ∷ [])
+world_note rows passes first next log views id v h at = let n : View = note_of v in record {
   fits = λ i u e. ⊎_elim (λ (t : SeatAt views i u). h.fits i u t) (λ (t : n ≡ u). subst (Fits log) t (record {
     seen = (h.fits id v at).seen;
     told = IsPrefix-nil log;
@@ -29,9 +32,10 @@ world_note rows passes next log views id v h at = let n : View = note_of v in re
     mine = λ l. absurd (omega arith);
     pinned = λ r is. absurd (none-some r is);
   })) (at_snoc views n u i e);
-  placed = λ i u e. ⊎_elim (λ (t : SeatAt views i u). h.placed i u t) (λ (t : n ≡ u). subst (IsPlaced rows passes next) t (record {
+  placed = λ i u e. ⊎_elim (λ (t : SeatAt views i u). h.placed i u t) (λ (t : n ≡ u). subst (IsPlaced rows passes first next) t (record {
     rows_is = (h.placed id v at).rows_is;
     passes_is = (h.placed id v at).passes_is;
+    format_is = (h.placed id v at).format_is;
     number = (let l = (h.placed id v at).number in omega arith);
     deals = λ l. absurd (omega arith);
   })) (at_snoc views n u i e);
@@ -53,37 +57,40 @@ module _ {S : Type 0} (T : Meaning S) (framed : IsFramed T) (R N : ℕ) where
   seen_set : (s : State S View) (q : Parts T R N s) (id i : ℕ) (cs : List (ℕ × S)) (v : View) (seen : History) → SeatAt s.views id v → v.turn ≡ false → IsPrefix seen q.log → (0 < v.number → events_of v.number seen ≡ v.mine)
       → Parts T R N (stepped s i (get_or s.words i 0) id cs (record v { seen = seen; asked = v.asked + 1 }) keeps)
   seen_set s q id i cs v seen at off begins own = let w : View = record v { seen = seen; asked = v.asked + 1 } in
-      looked T framed R N s q id i cs v w at refl refl refl refl refl refl refl refl refl (λ on. off_true v off on) (let f = q.world.fits id v at in record { seen = begins; told = f.told; own = f.own; mine = own; pinned = f.pinned }) (off_true w off)
+      looked T framed R N s q id i cs v w at refl refl refl refl refl refl refl refl refl refl (λ on. off_true v off on) (let f = q.world.fits id v at in record { seen = begins; told = f.told; own = f.own; mine = own; pinned = f.pinned }) (off_true w off)
       (counts_same N q.cur s.views id v w q.counts at refl (inl refl) refl refl)
       (still_same N (get_or s.words 1 0) (get_or s.words 1 0) s.views id w v q.still at refl refl refl)
 
   found : (s : State S View) (q : Parts T R N s) (id : ℕ) (me : Me S View) → SeatAt s.views id me.0 → Finds me q.log
-  found s q id me at = let f = q.world.fits id me.0 at in let few = q.world.few in record {
+  found s q id me at = let f = q.world.fits id me.0 at in record {
     later = f.seen;
     told = f.told;
     pinned = λ r is. (f.pinned r is).0;
     own = f.own;
-    alone = subst (λ (n : ℕ). IsOfPasses n q.log) (sym (q.world.placed id me.0 at).passes_is)
-        (λ k d l. let b = q.world.named k d l in (b.0, (let m = b.1 in omega arith)));
+    alone = each_dealt R N T.first q.next q.log s.views id me.0 q.world at;
   }
 
-  pub all_allows : (slots id i : ℕ) (me : Me S View) → me.0.turn ≡ false → Allows (Ruled T R N) slots id me i (λ n. n) (λ r. sees_all (step slots i 0 0 none) me r)
-  all_allows slots id i me off s whole _ at _ = let q = whole.parts in (
+  pub all_allows : (slots id : ℕ) (me : Me S View) → me.0.turn ≡ false → Allows (Ruled T R N) slots id me 1 (λ n. n) (λ r. sees_all (step slots 1 0 0 none) me r)
+  all_allows slots id me off s whole _ at _ = let q = whole.parts in (
     record me.0 { seen = q.log; asked = me.0.asked + 1 },
     keeps,
     tt,
-    ruled T framed R N _ (seen_set s q id i me.1 me.0 q.log at off (IsPrefix-itself q.log) (λ _. (q.world.fits id me.0 at).own)),
-    record { log = q.log; finds = found s q id me at; is = refl },
+    ruled T framed R N _ (seen_set s q id 1 me.1 me.0 q.log at off (IsPrefix-itself q.log) (λ _. (q.world.fits id me.0 at).own)),
+    (refl, record { log = q.log; finds = found s q id me at; is = refl }),
   )
 
-  pub told_allows : (slots id i : ℕ) (me : Me S View) → me.0.turn ≡ false → IsPrefix me.0.seen me.0.told → Allows (Ruled T R N) slots id me i (λ n. n) (λ r. sees_told (step slots i 0 0 none) me r)
-  told_allows slots id i me off forward s whole _ at _ = let q = whole.parts in (
+  pub told_allows : (slots id : ℕ) (me : Me S View) → me.0.turn ≡ false → IsPrefix me.0.seen me.0.told → Allows (Ruled T R N) slots id me 1 (λ n. n) (λ r. sees_told (step slots 1 0 0 none) me r)
+  told_allows slots id me off forward s whole _ at _ = let q = whole.parts in (
     record me.0 { seen = me.0.told; asked = me.0.asked + 1 },
     keeps,
     tt,
-    ruled T framed R N _ (seen_set s q id i me.1 me.0 me.0.told at off (q.world.fits id me.0 at).told (λ pos. let f = q.world.fits id me.0 at in events_of-between me.0.number me.0.mine me.0.seen me.0.told q.log forward f.told (f.mine pos) f.own)),
-    record { log = q.log; forward = forward; finds = found s q id me at; is = refl },
+    ruled T framed R N _ (seen_set s q id 1 me.1 me.0 me.0.told at off (q.world.fits id me.0 at).told (λ pos. let f = q.world.fits id me.0 at in events_of-between me.0.number me.0.mine me.0.seen me.0.told q.log forward f.told (f.mine pos) f.own)),
+    (refl, record { log = q.log; forward = forward; finds = found s q id me at; is = refl }),
   )
+
+  -- a word is loaded, and nothing is said of it
+  pub glances_allows : (slots id i : ℕ) (me : Me S View) → Allows (Ruled T R N) slots id me i (λ n. n) (glances (step slots i 0 0 none) me)
+  glances_allows slots id i me s whole _ at _ = (record me.0 { asked = me.0.asked + 1 }, keeps, tt, ruled T framed R N _ (counted T framed R N s whole.parts id i me.1 me.0 me.0.missed at), refl)
 
   -- a note is written, and the writer's own view stays
   pub note_splits : (id : ℕ) (v : View) → Splits (Ruled T R N) id v v (note_of v)
@@ -105,7 +112,7 @@ module _ {S : Type 0} (T : Meaning S) (framed : IsFramed T) (R N : ℕ) where
       unpinned = λ r l _ _. absurd (omega arith);
     });
     rows = rows_more T R N q.cur s.words q.log q.desk q.place q.used s.views n q.rows refl refl;
-    world = world_note R N q.next q.log s.views id v q.world at;
+    world = world_note R N T.first q.next q.log s.views id v q.world at;
     clear = clear_more N q.beside s.words s.views n q.clear;
     counts = counts_more N q.cur s.views n q.counts refl refl;
     path = path_more N q.cur q.due s.views n q.path (λ l. absurd (omega arith));
@@ -117,7 +124,7 @@ module _ {S : Type 0} (T : Meaning S) (framed : IsFramed T) (R N : ℕ) where
   note_joins id v other n s whole at apart there = let w : View = having_heard v n in let q = whole.parts in let f = q.world.fits id v at in
       let there' : SeatAt s.views other n = sym (set_else s.views id other w apart) ∙ there in
       ruled T framed R N _ (subst (λ (l : List View). Parts T R N record { words = s.words; homes = s.homes; views = l }) (sym (set_again (set s.views id w) other n there))
-      (view_set T framed R N s q id v w at refl refl refl refl refl refl refl refl refl (λ on. ((q.turn.holder id v at on).2, refl)) (record { seen = f.seen; told = (q.world.fits other n there').seen; own = f.own; mine = f.mine; pinned = f.pinned })
+      (view_set T framed R N s q id v w at refl refl refl refl refl refl refl refl refl refl (λ on. ((q.turn.holder id v at on).2, refl)) (record { seen = f.seen; told = (q.world.fits other n there').seen; own = f.own; mine = f.mine; pinned = f.pinned })
       (drains_same N q.cur q.mask q.due q.beside s.words s.words s.views id v w q.pins at refl refl refl refl refl)
       (counts_same N q.cur s.views id v w q.counts at refl (inl refl) refl refl)
       (still_same N (get_or s.words 1 0) (get_or s.words 1 0) s.views id w v q.still at refl refl refl)))

@@ -62,13 +62,13 @@ module _ {S : Type 0} (T : Meaning S) (framed : IsFramed T) (R N : ℕ) where
           pins = pins_publish N q.cur q.mask q.due q.beside s.words ws s.views id v w q.pins at into (get_or-set_same s.words 1 b 0 (let a = q.wide in omega arith) ∙ (let f = is in omega arith))
               (λ r l. stays s.words 1 b (r + 2) (λ f. omega arith)) mine.0 mine.1 (sym known.due_is ∙ ready.settled) refl refl due_now refl refl only;
           rows = rows.2;
-          world = world_add R N q.next q.log s.views id v w e q.world at (record { number = refl; deals = refl; rows = refl; passes = refl }) refl ready.mine (subst (λ (z : ℕ). 0 < z) (sym h.1) h.0) (ap (λ (l : History). l ++ e ∷ []) h.2) refl ready.unpinned;
+          world = world_add R N T.first q.next q.log s.views id v w e q.world at (record { number = refl; deals = refl; rows = refl; passes = refl; format = refl }) refl ready.mine (subst (λ (z : ℕ). 0 < z) (sym h.1) h.0) (ap (λ (l : History). l ++ e ∷ []) h.2) refl ready.unpinned;
           clear = clear_same N q.beside q.beside s.words ws s.views id v w q.clear at (λ r k l. bits_stay q.beside s.words ws r k (stays s.words 1 b (r + 2) (λ f. omega arith))) refl refl;
           counts = counts_none N q.cur into s.views id w refl only;
           path = path_publish N q.cur q.due s.views id v w q.path at into refl refl (sym known.due_is ∙ ready.settled) mine.0 mine.1 mine.3;
           still = still_new N (get_or s.words 1 0) (get_or ws 1 0) s.views id w (λ _ _ k is. absurd (let c : None ≡ Some k = is in cc)) (λ i x away f own _. away (only i x f own));
         },
-        record { mask = q.mask; small = q.pins.small; returned = q.pins.current ∙ ap (λ (z : ℕ). z * 4294967296 + q.mask) cur_now; is = refl },
+        (refl, record { mask = q.mask; small = q.pins.small; returned = q.pins.current ∙ ap (λ (z : ℕ). z * 4294967296 + q.mask) cur_now; is = refl }),
       )
 
   -- ---- the transfer
@@ -101,14 +101,14 @@ module _ {S : Type 0} (T : Meaning S) (framed : IsFramed T) (R N : ℕ) where
           rows = rows_upper T framed R N q.cur s.words q.log q.desk q.place q.used s.views id v q.rows at ws w upper (length-set s.words (o + 2) n)
               (pin_stays T framed R N q.cur s.words q.log q.desk q.place q.used s.views id v q.rows at ws w upper refl refl refl refl)
               (λ _. held_upper T framed R N s.words ws v w upper (length-set s.words (o + 2) n) refl (q.rows.held id v at on));
-          world = world_set R N q.next q.log s.views id v w q.world at (record { number = refl; deals = refl; rows = refl; passes = refl }) (let f = q.world.fits id v at in record { seen = f.seen; told = f.told; own = f.own; mine = f.mine; pinned = f.pinned });
+          world = world_set R N T.first q.next q.log s.views id v w q.world at (record { number = refl; deals = refl; rows = refl; passes = refl; format = refl }) (let f = q.world.fits id v at in record { seen = f.seen; told = f.told; own = f.own; mine = f.mine; pinned = f.pinned });
           clear = clear_same N q.beside (cleared q.beside o) s.words ws s.views id v w q.clear at
               (λ r k l. transfer_bits q.beside s.words ws o (here ∙ ap (bit_xor (done s.words o)) (is ∙ sym (known.mask_is o (sym known.due_is ∙ is_due)))) r k (λ other. stays s.words (o + 2) n (r + 2) (λ f. other (omega arith)))) refl refl;
           counts = counts_same N q.cur s.views id v w q.counts at refl (inl refl) refl refl;
           path = path_transfer N q.cur q.due s.views id v w q.path at o refl refl (sym known.due_is ∙ is_due);
           still = still_same N (get_or s.words 1 0) (get_or ws 1 0) s.views id w v q.still at (stays s.words (o + 2) n 1 (λ f. omega arith)) refl refl;
         },
-        refl,
+        ((o, is_due, refl), refl),
       )
 
   -- ---- a record is asked
@@ -148,7 +148,7 @@ module _ {S : Type 0} (T : Meaning S) (framed : IsFramed T) (R N : ℕ) where
         w,
         keeps,
         tt,
-        ruled T framed R N _ (looked T framed R N s q id (r + 2) me.1 v w at refl refl refl refl refl refl refl refl refl (λ _. (h.2, refl))
+        ruled T framed R N _ (looked T framed R N s q id (r + 2) me.1 v w at refl refl refl refl refl refl refl refl refl refl (λ _. (h.2, refl))
             (record { seen = fits.seen; told = fits.told; own = fits.own; mine = fits.mine; pinned = fits.pinned })
             (λ _. drains_ask N q.cur q.mask q.due q.beside s.words s.words s.views id v w q.pins at r zero_there not_cur inside on settled refl refl refl refl)
             (counts_same N q.cur s.views id v w q.counts at refl (inl refl) refl refl)
@@ -163,7 +163,7 @@ module _ {S : Type 0} (T : Meaning S) (framed : IsFramed T) (R N : ℕ) where
         w,
         keeps,
         tt,
-        ruled T framed R N _ (looked T framed R N s q id (r + 2) me.1 v w at refl refl refl refl refl refl refl refl refl (λ _. (h.2, refl))
+        ruled T framed R N _ (looked T framed R N s q id (r + 2) me.1 v w at refl refl refl refl refl refl refl refl refl refl (λ _. (h.2, refl))
             (record { seen = fits.seen; told = fits.told; own = fits.own; mine = fits.mine; pinned = fits.pinned })
             (drains_same N q.cur q.mask q.due q.beside s.words s.words s.views id v w q.pins at refl refl refl refl refl)
             (counts_set N q.cur s.views id v w q.counts at refl (inl refl) (λ _. (t.1.number ∷ b.0, blamed_keep N v.number q.cur s.views id v w at refl (inl refl) (t.1.number ∷ b.0) w.blocked more)))
@@ -178,12 +178,12 @@ module _ {S : Type 0} (T : Meaning S) (framed : IsFramed T) (R N : ℕ) where
         w,
         keeps,
         tt,
-        ruled T framed R N _ (looked T framed R N s q id 1 me.1 v w at refl refl refl refl refl refl refl refl refl (λ _. (h.2, refl))
+        ruled T framed R N _ (looked T framed R N s q id 1 me.1 v w at refl refl refl refl refl refl refl refl refl refl (λ _. (h.2, refl))
             (record { seen = fits.seen; told = fits.told; own = fits.own; mine = fits.mine; pinned = fits.pinned })
             (drains_same N q.cur q.mask q.due q.beside s.words s.words s.views id v w q.pins at refl refl refl refl refl)
             (counts_same N q.cur s.views id v w q.counts at refl (inl refl) refl refl)
             (still_set N (get_or s.words 1 0) (get_or s.words 1 0) s.views id w q.still refl (λ _ _ k is. (let c : Some (get_or s.words 1 0) ≡ Some k = is in let d : k ≡ get_or s.words 1 0 = cc in d)))),
-        record { mask = q.mask; small = q.pins.small; found = q.pins.current ∙ ap (λ (z : ℕ). z * 4294967296 + q.mask) cur_now; is = refl },
+        (refl, record { mask = q.mask; small = q.pins.small; found = q.pins.current ∙ ap (λ (z : ℕ). z * 4294967296 + q.mask) cur_now; is = refl }),
       )
 
   -- ---- the current record is asked
@@ -192,6 +192,6 @@ module _ {S : Type 0} (T : Meaning S) (framed : IsFramed T) (R N : ℕ) where
     record me.0 { asked = me.0.asked + 1 },
     keeps,
     tt,
-    ruled T framed R N _ (counted T framed R N s q id (r + 2) me.1 me.0 at),
-    record { is = refl; alone = λ one mask small noted. ap (done s.words) here ∙ alone T R N s q id me.0 at holder.0 holder.1 one mask small noted },
+    ruled T framed R N _ (counted T framed R N s q id (r + 2) me.1 me.0 me.0.missed at),
+    (ap (λ (z : ℕ). z + 2) here, record { is = refl; alone = λ one mask small noted. ap (done s.words) here ∙ alone T R N s q id me.0 at holder.0 holder.1 one mask small noted }),
   )

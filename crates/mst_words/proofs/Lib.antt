@@ -18,6 +18,7 @@ pub mod Steps
 pub mod HoldSteps
 pub mod PinSteps
 pub mod TurnSteps
+pub mod Formats
 pub mod Looked
 pub mod Seated
 pub mod Hearing

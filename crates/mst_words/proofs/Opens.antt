@@ -67,7 +67,7 @@ module _ {S : Type 0} (T : Meaning S) (framed : IsFramed T) (R N : ℕ) where
         });
         rows = rows_more T R N q.cur s.words q.log q.desk q.place q.used vs n (rows_upper T framed R N q.cur s.words q.log q.desk q.place q.used s.views id v q.rows at s.words w (λ k _. refl) refl
             (pin_stays T framed R N q.cur s.words q.log q.desk q.place q.used s.views id v q.rows at s.words w (λ k _. refl) refl refl refl refl) (off_true w off)) refl refl;
-        world = world_deal R N q.next q.log s.views id v q.world at some_deal left;
+        world = world_deal R N T.first q.next q.log s.views id v q.world at some_deal left;
         clear = clear_more N q.beside s.words vs n (clear_same N q.beside q.beside s.words s.words s.views id v w q.clear at (λ r k _. refl) refl refl);
         counts = counts_more N q.cur vs n (counts_same N q.cur s.views id v w q.counts at refl (inl refl) refl refl) refl refl;
         path = let moved = path_same N q.cur q.due s.views id v w q.path at refl refl in path_more N q.cur q.due vs n moved
@@ -78,23 +78,23 @@ module _ {S : Type 0} (T : Meaning S) (framed : IsFramed T) (R N : ℕ) where
   -- ---- the table at the start
 
   -- the dealer's seat is the only one
-  one : (i : ℕ) (u : View) → SeatAt (dealer R N 1 ∷ []) i u → dealer R N 1 ≡ u
-  one zero u e = some-injective (dealer R N 1) u e
+  one : (i : ℕ) (u : View) → SeatAt (dealer R N T.first 1 ∷ []) i u → dealer R N T.first 1 ≡ u
+  one zero u e = some-injective (dealer R N T.first 1) u e
   one (suc i) u e = absurd (some-ne-none u (sym e))
 
-  here : (i : ℕ) (u : View) → SeatAt (dealer R N 1 ∷ []) i u → i ≡ 0
+  here : (i : ℕ) (u : View) → SeatAt (dealer R N T.first 1 ∷ []) i u → i ≡ 0
   here zero u e = refl
   here (suc i) u e = absurd (some-ne-none u (sym e))
 
-  off : {A : Type 0} (i : ℕ) (u : View) → SeatAt (dealer R N 1 ∷ []) i u → u.turn ≡ true → A
+  off : {A : Type 0} (i : ℕ) (u : View) → SeatAt (dealer R N T.first 1 ∷ []) i u → u.turn ≡ true → A
   off i u e on = off_true u (ap (λ (z : View). z.turn) (sym (one i u e))) on
 
-  free_too : {A : Type 0} (i : ℕ) (u : View) (r : ℕ) → SeatAt (dealer R N 1 ∷ []) i u → u.pin ≡ Some r → A
+  free_too : {A : Type 0} (i : ℕ) (u : View) (r : ℕ) → SeatAt (dealer R N T.first 1 ∷ []) i u → u.pin ≡ Some r → A
   free_too i u r e pin = free_pins u r (ap (λ (z : View). z.pin) (sym (one i u e))) pin
 
-  pub opens : (ws : List ℕ) (x : S) (d : DeskState) → length ws ≡ R * 16 + 240 → ((i : ℕ) → i < 36 → get_or ws i 0 ≡ 0) → N ≤ 32 → T.IsDesk x R N d → d.current ≡ 0 → Standing T R N ws [] d 0 [] []
-      → Ruled T R N (opening ws (x ∷ []) (dealer R N 1))
-  opens ws x d wide front few is_desk current stands = ruled T framed R N (opening ws (x ∷ []) (dealer R N 1)) record {
+  pub opens : (ws : List ℕ) (x : S) (d : DeskState) → length ws ≡ R * 16 + 278 → ((i : ℕ) → i < 36 → get_or ws i 0 ≡ 0) → N ≤ 32 → T.IsDesk x R N d → d.current ≡ 0 → Standing T R N ws [] d 0 [] []
+      → Ruled T R N (opening ws (x ∷ []) (dealer R N T.first 1))
+  opens ws x d wide front few is_desk current stands = ruled T framed R N (opening ws (x ∷ []) (dealer R N T.first 1)) record {
     log = [];
     next = 1;
     cur = 0;
@@ -127,13 +127,13 @@ module _ {S : Type 0} (T : Meaning S) (framed : IsFramed T) (R N : ℕ) where
       desk_at = current;
       short = lit< tt;
       live = λ r l. ⊎_elim (λ (is : r ≡ 0). subst (λ (z : ℕ). Standing T R N ws [] d z [] []) (sym is) stands)
-          (λ (t : (i : ℕ) × (u : View) × SeatAt (dealer R N 1 ∷ []) i u × (u.pin ≡ Some r)). free_too t.0 t.1 r t.2 t.3) l;
+          (λ (t : (i : ℕ) × (u : View) × SeatAt (dealer R N T.first 1 ∷ []) i u × (u.pin ≡ Some r)). free_too t.0 t.1 r t.2 t.3) l;
       reads = λ i u e r pin. free_too i u r e pin;
       held = λ i u e on. off i u e on;
     };
     world = record {
       fits = λ i u e. subst (Fits []) (one i u e) (record { seen = IsPrefix-nil []; told = IsPrefix-nil []; own = refl; mine = λ _. refl; pinned = λ r is. absurd (none-some r is) });
-      placed = λ i u e. subst (IsPlaced R N 1) (one i u e) (record { rows_is = refl; passes_is = refl; number = omega arith; deals = λ _. (refl, refl) });
+      placed = λ i u e. subst (IsPlaced R N T.first 1) (one i u e) (record { rows_is = refl; passes_is = refl; format_is = refl; number = omega arith; deals = λ _. (refl, refl) });
       apart = λ i j a b p q _ _. here i a p ∙ sym (here j b q);
       seated = λ p pos below. absurd (omega arith);
       dealer = λ i j a b p q _ _. here i a p ∙ sym (here j b q);

@@ -12,7 +12,7 @@ use Rattle.mst_words.specs.Records.{Meaning, IsFramed, field, row, Reads}
 use Rattle.mst_words.specs.Rule.{Turn, Parts, Ruled}
 use Rattle.mst_words.specs.Steps.{IsFree, IsPinned, pins_now, unpins, forgets}
 use Rattle.mst_words.proofs.Bits.{xor_low}
-use Rattle.mst_words.proofs.Worlds.{IsInPlaceOf, world_set}
+use Rattle.mst_words.proofs.Worlds.{IsInPlaceOf, world_set, each_dealt}
 use Rattle.mst_words.proofs.Turns.{turn_same}
 use Rattle.mst_words.proofs.PinParts.{bits_stay, turned, pin_elsewhere, pin_others, pins_pin}
 use Rattle.mst_words.proofs.PinMoves.{unpin_others, unpin_turns, pins_unpin}
@@ -41,8 +41,8 @@ module _ {S : Type 0} (T : Meaning S) (framed : IsFramed T) (R N : ℕ) where
   read_now s q w n place rows known = record {
     place_is = place ∙ sym q.rows.now;
     rows_are = rows;
-    fields = λ k l. stays s.words 1 n (q.cur * 6 + k + 36) (λ f. omega arith) ∙ ap (λ (z : List ℕ). field z q.cur k) (sym known);
-    kept = λ x within k l. stays s.words 1 n (x * 16 + k + 240) (λ f. omega arith) ∙ ap (λ (z : List ℕ). row z x k) (sym known);
+    fields = λ k l. stays s.words 1 n (q.cur * 7 + k + 36) (λ f. omega arith) ∙ ap (λ (z : List ℕ). field z q.cur k) (sym known);
+    kept = λ x within k l. stays s.words 1 n (x * 16 + k + 278) (λ f. omega arith) ∙ ap (λ (z : List ℕ). row z x k) (sym known);
   }
 
   -- the bit k is that of the pass
@@ -68,7 +68,7 @@ module _ {S : Type 0} (T : Meaning S) (framed : IsFramed T) (R N : ℕ) where
         rows = rows_upper T framed R N q.cur s.words q.log q.desk q.place q.used s.views id v q.rows at ws w (λ j l. stays s.words 1 n j (λ f. omega arith)) (length-set s.words 1 n)
             (λ r e. let same : q.cur ≡ r = same_Some q.cur r e in (inl (sym same), subst (λ (z : ℕ). Reads T R N ws z (q.place z) (q.used z) w) same (read_now s q w n refl refl refl)))
             (λ on. absurd (let c : true ≡ false = sym on ∙ off in cc));
-        world = world_set R N q.next q.log s.views id v w q.world at (record { number = refl; deals = refl; rows = refl; passes = refl }) (let f = q.world.fits id v at in record { seen = f.seen; told = f.told; own = f.own; mine = f.mine; pinned = λ r _. (IsPrefix-itself q.log, f.own) });
+        world = world_set R N T.first q.next q.log s.views id v w q.world at (record { number = refl; deals = refl; rows = refl; passes = refl; format = refl }) (let f = q.world.fits id v at in record { seen = f.seen; told = f.told; own = f.own; mine = f.mine; pinned = λ r _. (IsPrefix-itself q.log, f.own) });
         clear = clear_set N q.beside (turned q.cur q.beside k) s.words ws s.views id v w q.clear at q.cur k (λ r b l other. pin_others q.cur q.beside s.words ws k r b (done_same r) other)
             (λ r b l other. pin_elsewhere q.cur q.beside s.words ws k r b (done_same r) other) number refl (λ r e. absurd (none-some r (sym free ∙ e))) (inl refl);
         counts = counts_set N q.cur s.views id v w q.counts at refl (inr (inr refl)) (λ on. absurd (let c : true ≡ false = sym on ∙ off in cc));
@@ -83,23 +83,27 @@ module _ {S : Type 0} (T : Meaning S) (framed : IsFramed T) (R N : ℕ) where
         keeps,
         tt,
         ruled T framed R N _ (pinned_now s q id (bit_xor (get_or s.words 1 0) b) (number - 1) me.1 v at free.1 free.2 (let a = free.3 in let p = free.4 in omega arith) (ap (bit_xor (get_or s.words 1 0)) power)),
-        record {
-          cur = q.cur;
-          mask = q.mask;
-          log = q.log;
-          words = s.words;
-          used = q.used q.cur;
-          found_is = q.pins.current;
-          small = q.pins.small;
-          in_table = subst (λ (z : ℕ). q.cur < z + 2) (sym place.passes_is) q.pins.cur_in;
-          wide = q.wide ∙ ap (λ (z : ℕ). z * 16 + 240) (sym place.rows_is);
-          later = fits.seen;
-          own = fits.own;
-          version = stood.version ∙ ap (λ (l : History). length l) q.rows.now;
-          stands = subst (λ (l : History). T.Stands (row s.words) (field s.words q.cur) (T.after l) (q.used q.cur)) q.rows.now stood.stands;
-          inside = λ x within. subst (λ (z : ℕ). x < z) (sym place.rows_is) (stood.inside x within);
-          is = refl;
-        },
+        (
+          refl,
+          record {
+            cur = q.cur;
+            mask = q.mask;
+            log = q.log;
+            words = s.words;
+            used = q.used q.cur;
+            found_is = q.pins.current;
+            small = q.pins.small;
+            in_table = subst (λ (z : ℕ). q.cur < z + 2) (sym place.passes_is) q.pins.cur_in;
+            wide = q.wide ∙ ap (λ (z : ℕ). z * 16 + 278) (sym place.rows_is);
+            later = fits.seen;
+            own = fits.own;
+            alone = each_dealt R N T.first q.next q.log s.views id v q.world at;
+            version = stood.version ∙ ap (λ (l : History). length l) q.rows.now;
+            stands = subst (λ (l : History). T.Stands (row s.words) (field s.words q.cur) (T.after l) (q.used q.cur)) q.rows.now stood.stands;
+            inside = λ x within. subst (λ (z : ℕ). x < z) (sym place.rows_is) (stood.inside x within);
+            is = refl;
+          },
+        ),
       )
 
   -- ---- the end of a pin
@@ -126,7 +130,7 @@ module _ {S : Type 0} (T : Meaning S) (framed : IsFramed T) (R N : ℕ) where
         rows = rows_upper T framed R N q.cur s.words q.log q.desk q.place q.used s.views id v q.rows at ws w (λ j l. stays s.words (o + 2) n j (λ f. omega arith)) (length-set s.words (o + 2) n)
             (λ r e. absurd (none-some r (sym free ∙ e)))
             (λ on. absurd (let c : true ≡ false = sym on ∙ off_now in cc));
-        world = world_set R N q.next q.log s.views id v w q.world at same fits;
+        world = world_set R N T.first q.next q.log s.views id v w q.world at same fits;
         clear = clear_set N q.beside q.beside s.words ws s.views id v w q.clear at o k (λ r b _ other. unpin_others q.beside s.words ws k o here r b (elsewhere r) other) (λ r b _ other. bits_stay q.beside s.words ws r b (elsewhere r other))
             number same.number (λ r e. sym (same_Some o r (sym pinned ∙ e))) (inr (unpin_turns q.beside s.words ws k o here (ap (pin_bit q.beside s.words o) (let g : k ≡ v.number - 1 = omega arith in g) ∙ mine.2)));
         counts = counts_set N q.cur s.views id v w q.counts at same.number (inr (inl free)) (λ on. absurd (let c : true ≡ false = sym on ∙ off_now in cc));
@@ -140,9 +144,9 @@ module _ {S : Type 0} (T : Meaning S) (framed : IsFramed T) (R N : ℕ) where
     w,
     keeps,
     tt,
-    ruled T framed R N _ (ended s q id o (bit_xor (done s.words o) b) (number - 1) me.1 v w at (record { number = refl; deals = refl; rows = refl; passes = refl }) pinned.0 pinned.1 (let a = pinned.2 in omega arith) refl refl
+    ruled T framed R N _ (ended s q id o (bit_xor (done s.words o) b) (number - 1) me.1 v w at (record { number = refl; deals = refl; rows = refl; passes = refl; format = refl }) pinned.0 pinned.1 (let a = pinned.2 in omega arith) refl refl
         (record { seen = (fits.pinned o pinned.0).0; told = fits.told; own = fits.own; mine = λ _. (fits.pinned o pinned.0).1; pinned = λ r is. absurd (none-some r is) }) (ap (bit_xor (done s.words o)) power)),
-    refl,
+    ((o, pinned.0, refl), refl),
   )
 
   -- nothing more is seen
@@ -151,7 +155,7 @@ module _ {S : Type 0} (T : Meaning S) (framed : IsFramed T) (R N : ℕ) where
     w,
     keeps,
     tt,
-    ruled T framed R N _ (ended s q id o (bit_xor (done s.words o) b) (number - 1) me.1 v w at (record { number = refl; deals = refl; rows = refl; passes = refl }) pinned.0 pinned.1 (let a = pinned.2 in omega arith) refl refl
+    ruled T framed R N _ (ended s q id o (bit_xor (done s.words o) b) (number - 1) me.1 v w at (record { number = refl; deals = refl; rows = refl; passes = refl; format = refl }) pinned.0 pinned.1 (let a = pinned.2 in omega arith) refl refl
         (record { seen = fits.seen; told = fits.told; own = fits.own; mine = fits.mine; pinned = λ r is. absurd (none-some r is) }) (ap (bit_xor (done s.words o)) power)),
-    refl,
+    ((o, pinned.0, refl), refl),
   )

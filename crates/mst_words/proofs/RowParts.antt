@@ -16,17 +16,17 @@ use Rattle.mst_words.proofs.Histories.{begins_longer}
 -- ---- the words that a record and rows stand on stay
 
 pub Kept : List ℕ → List ℕ → ℕ → List ℕ → Type 0
-Kept ws ws' r u = ((k : ℕ) → k < 6 → field ws' r k ≡ field ws r k) × ((x : ℕ) → In x u → (k : ℕ) → k < 16 → row ws' x k ≡ row ws x k)
+Kept ws ws' r u = ((k : ℕ) → k < 7 → field ws' r k ≡ field ws r k) × ((x : ℕ) → In x u → (k : ℕ) → k < 16 → row ws' x k ≡ row ws x k)
 
 pub kept_upper : (ws ws' : List ℕ) → ((k : ℕ) → 36 ≤ k → get_or ws' k 0 ≡ get_or ws k 0) → (r : ℕ) (u : List ℕ) → Kept ws ws' r u
 unfolding Kept
-kept_upper ws ws' upper r u = ((λ k l. upper (r * 6 + k + 36) (omega arith)), (λ x _ k l. upper (x * 16 + k + 240) (omega arith)))
+kept_upper ws ws' upper r u = ((λ k l. upper (r * 7 + k + 36) (omega arith)), (λ x _ k l. upper (x * 16 + k + 278) (omega arith)))
 
 -- one word above the front changes, which is none of those
-pub kept_else : (ws : List ℕ) (i n r : ℕ) (u : List ℕ) → ((k : ℕ) → k < 6 → r * 6 + k + 36 ≢ i) → ((x : ℕ) → In x u → (k : ℕ) → k < 16 → x * 16 + k + 240 ≢ i)
+pub kept_else : (ws : List ℕ) (i n r : ℕ) (u : List ℕ) → ((k : ℕ) → k < 7 → r * 7 + k + 36 ≢ i) → ((x : ℕ) → In x u → (k : ℕ) → k < 16 → x * 16 + k + 278 ≢ i)
     → ((j : ℕ) → j ≢ i → get_or (set ws i n) j 0 ≡ get_or ws j 0) → Kept ws (set ws i n) r u
 unfolding Kept
-kept_else ws i n r u fields rows stay = ((λ k l. stay (r * 6 + k + 36) (fields k l)), (λ x within k l. stay (x * 16 + k + 240) (rows x within k l)))
+kept_else ws i n r u fields rows stay = ((λ k l. stay (r * 7 + k + 36) (fields k l)), (λ x within k l. stay (x * 16 + k + 278) (rows x within k l)))
 
 module _ {S : Type 0} (T : Meaning S) (framed : IsFramed T) (R N : ℕ) where
   pub agrees_same : (d : DeskState) (r : ℕ) → Agrees T d d r

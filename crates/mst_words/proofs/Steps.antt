@@ -11,7 +11,7 @@ use Rattle.mst_arena.specs.Lists.{In}
 use Rattle.mst_words.specs.declared.view.View.{View}
 use Rattle.mst_words.specs.Records.{Meaning, IsFramed, IsLive, IsBlank}
 use Rattle.mst_words.specs.Rule.{Turn, Parts, Ruled}
-use Rattle.mst_words.specs.Steps.{IsWritable, reads, writes}
+use Rattle.mst_words.specs.Steps.{IsReadable, IsWritable, reads, writes}
 use Rattle.mst_words.proofs.Worlds.{world_set}
 use Rattle.mst_words.proofs.Turns.{turn_same, only_one}
 use Rattle.mst_words.proofs.PinParts.{bits_stay, pins_same, drains_same}
@@ -36,19 +36,20 @@ module _ {S : Type 0} (T : Meaning S) (framed : IsFramed T) (R N : ℕ) where
       (λ j. (sym (set-get_or s.words i 0) j, sym (set_again s.views id v at) j)) q
 
   -- ---- a word is loaded
-  pub reads_allows : (slots id i : ℕ) (me : Me S View) → Allows (Ruled T R N) slots id me i (λ n. n) (reads (step slots i 0 0 none) me)
-  reads_allows slots id i me s whole _ at _ = let q = whole.parts in let v : View = me.0 in (
+  pub reads_allows : (slots id i : ℕ) (me : Me S View) → IsReadable me.0 i → Allows (Ruled T R N) slots id me i (λ n. n) (reads (step slots i 0 0 none) me)
+  reads_allows slots id i me can s whole _ at _ = let q = whole.parts in let v : View = me.0 in (
     v,
     keeps,
     tt,
     ruled T framed R N _ (unmoved s q id i me.1 v at),
     (
+      can,
       refl,
-      λ can. ⊎_elim
+      ⊎_elim
           (λ (t : (v.turn ≡ true) × (36 ≤ i)). (q.rows.held id v at t.0).1 i t.1)
-          (λ (t : ((r k : ℕ) × (v.pin ≡ Some r) × (k < 6) × (i ≡ r * 6 + k + 36)) ⊎ ((r x k : ℕ) × (v.pin ≡ Some r) × In x v.pinned_rows × (k < 16) × (i ≡ x * 16 + k + 240))). ⊎_elim
-          (λ (t : (r k : ℕ) × (v.pin ≡ Some r) × (k < 6) × (i ≡ r * 6 + k + 36)). ap (λ (z : ℕ). get_or s.words z 0) t.4 ∙ (q.rows.reads id v at t.0 t.2).fields t.1 t.3 ∙ ap (λ (z : ℕ). get_or v.known_words z 0) (sym t.4))
-          (λ (t : (r x k : ℕ) × (v.pin ≡ Some r) × In x v.pinned_rows × (k < 16) × (i ≡ x * 16 + k + 240)). let h = q.rows.reads id v at t.0 t.3 in
+          (λ (t : ((r k : ℕ) × (v.pin ≡ Some r) × (k < 7) × (i ≡ r * 7 + k + 36)) ⊎ ((r x k : ℕ) × (v.pin ≡ Some r) × In x v.pinned_rows × (k < 16) × (i ≡ x * 16 + k + 278))). ⊎_elim
+          (λ (t : (r k : ℕ) × (v.pin ≡ Some r) × (k < 7) × (i ≡ r * 7 + k + 36)). ap (λ (z : ℕ). get_or s.words z 0) t.4 ∙ (q.rows.reads id v at t.0 t.2).fields t.1 t.3 ∙ ap (λ (z : ℕ). get_or v.known_words z 0) (sym t.4))
+          (λ (t : (r x k : ℕ) × (v.pin ≡ Some r) × In x v.pinned_rows × (k < 16) × (i ≡ x * 16 + k + 278)). let h = q.rows.reads id v at t.0 t.3 in
           ap (λ (z : ℕ). get_or s.words z 0) t.6 ∙ h.kept t.1 (subst (λ (l : List ℕ). In t.1 l) h.rows_are t.4) t.2 t.5 ∙ ap (λ (z : ℕ). get_or v.known_words z 0) (sym t.6)) t)
           can,
     ),
@@ -85,7 +86,7 @@ module _ {S : Type 0} (T : Meaning S) (framed : IsFramed T) (R N : ℕ) where
                     (λ not. stays s.words i x k not ∙ h.1 k l ∙ sym (stays v.known_words i x k not)),
               ))
               (λ j u other e own. absurd (other (only j u e own)));
-          world = world_set R N q.next q.log s.views id v w q.world at (record { number = refl; deals = refl; rows = refl; passes = refl }) (let f = q.world.fits id v at in record { seen = f.seen; told = f.told; own = f.own; mine = f.mine; pinned = f.pinned });
+          world = world_set R N T.first q.next q.log s.views id v w q.world at (record { number = refl; deals = refl; rows = refl; passes = refl; format = refl }) (let f = q.world.fits id v at in record { seen = f.seen; told = f.told; own = f.own; mine = f.mine; pinned = f.pinned });
           clear = clear_same N q.beside q.beside s.words ws s.views id v w q.clear at (λ r k l. bits_stay q.beside s.words ws r k (low (r + 2) (let few = q.pins.few in omega arith))) refl refl;
           counts = counts_same N q.cur s.views id v w q.counts at refl (inl refl) refl refl;
           path = path_same N q.cur q.due s.views id v w q.path at refl refl;
@@ -94,23 +95,23 @@ module _ {S : Type 0} (T : Meaning S) (framed : IsFramed T) (R N : ℕ) where
         refl,
       )
     where
-      below : (s : St) (q : Parts T R N s) → get_elem? s.views id ≡ some me.0 → i < R * 16 + 240
-      below s q at = let e = (q.world.placed id me.0 at).rows_is in let few = q.pins.few in ⊎_elim (λ (t : (x k : ℕ) × IsBlank T me.0 x × (k < 16) × (i ≡ x * 16 + k + 240)). let a = t.4 in let b = t.3 in let c = t.2.0 in omega arith)
-          (λ (t : (r k : ℕ) × In r me.0.drained × (k < 6) × (i ≡ r * 6 + k + 36)). let a = t.4 in let b = t.3 in let c = ((q.pins.holder id me.0 at on).drained t.0 t.2).0 in omega arith) can
+      below : (s : St) (q : Parts T R N s) → get_elem? s.views id ≡ some me.0 → i < R * 16 + 278
+      below s q at = let e = (q.world.placed id me.0 at).rows_is in let few = q.pins.few in ⊎_elim (λ (t : (x k : ℕ) × IsBlank T me.0 x × (k < 16) × (i ≡ x * 16 + k + 278)). let a = t.4 in let b = t.3 in let c = t.2.0 in omega arith)
+          (λ (t : (r k : ℕ) × In r me.0.drained × (k < 7) × (i ≡ r * 7 + k + 36)). let a = t.4 in let b = t.3 in let c = ((q.pins.holder id me.0 at on).drained t.0 t.2).0 in omega arith) can
 
       above : 36 ≤ i
-      above = ⊎_elim (λ (t : (x k : ℕ) × IsBlank T me.0 x × (k < 16) × (i ≡ x * 16 + k + 240)). let e = t.4 in omega arith) (λ (t : (r k : ℕ) × In r me.0.drained × (k < 6) × (i ≡ r * 6 + k + 36)). let e = t.4 in omega arith) can
+      above = ⊎_elim (λ (t : (x k : ℕ) × IsBlank T me.0 x × (k < 16) × (i ≡ x * 16 + k + 278)). let e = t.4 in omega arith) (λ (t : (r k : ℕ) × In r me.0.drained × (k < 7) × (i ≡ r * 7 + k + 36)). let e = t.4 in omega arith) can
 
       low : (j : ℕ) → j < 36 → get_or (set s.words i x) j 0 ≡ get_or s.words j 0
       low j l = stays s.words i x j (λ e. let a = above in omega arith)
 
       kept : (r : ℕ) → IsLive whole.parts.cur s.views r → Kept s.words (set s.words i x) r (whole.parts.used r)
       kept r live = ⊎_elim
-          (λ (t : (x k : ℕ) × IsBlank T me.0 x × (k < 16) × (i ≡ x * 16 + k + 240)). kept_else s.words i x r (whole.parts.used r)
+          (λ (t : (x k : ℕ) × IsBlank T me.0 x × (k < 16) × (i ≡ x * 16 + k + 278)). kept_else s.words i x r (whole.parts.used r)
           (λ k l e. let a = t.4 in let b = (whole.parts.rows.live r live).numbered in let few = whole.parts.pins.few in omega arith)
           (λ y within k l e. let a = t.4 in let b = t.3 in let same : y ≡ t.0 = omega arith in blank_apart T framed R N s whole.parts id me.0 at on t.0 t.2 r live (subst (λ (z : ℕ). In z (whole.parts.used r)) same within))
           (λ j other. stays s.words i x j other))
-          (λ (t : (r k : ℕ) × In r me.0.drained × (k < 6) × (i ≡ r * 6 + k + 36)). kept_else s.words i x r (whole.parts.used r)
+          (λ (t : (r k : ℕ) × In r me.0.drained × (k < 7) × (i ≡ r * 7 + k + 36)). kept_else s.words i x r (whole.parts.used r)
           (λ k l e. let a = t.4 in let b = t.3 in let same : t.0 ≡ r = omega arith in live_not_drained N whole.parts.cur whole.parts.due whole.parts.beside s.views me.0 (whole.parts.pins.holder id me.0 at on) r live (subst (λ (z : ℕ). In z me.0.drained) same t.2))
           (λ y within k l e. let a = t.4 in let b = t.3 in let c = ((whole.parts.pins.holder id me.0 at on).drained t.0 t.2).0 in let few = whole.parts.pins.few in omega arith)
           (λ j other. stays s.words i x j other)) can

@@ -13,7 +13,7 @@ use Rattle.mst_words.specs.Records.{Meaning, IsFramed, Agrees, Standing}
 use Rattle.mst_words.specs.Rule.{Turn, Parts, Ruled}
 use Rattle.mst_words.specs.Steps.{IsFree, takes_turn, IsGiving, gives_turn}
 use Rattle.mst_words.proofs.Members.{in_nothing}
-use Rattle.mst_words.proofs.Worlds.{world_set}
+use Rattle.mst_words.proofs.Worlds.{world_set, each_dealt}
 use Rattle.mst_key.proofs.HistoryLaws.{IsPrefix-itself}
 use Rattle.mst_words.proofs.Seats.{same_view}
 use Rattle.mst_words.proofs.Turns.{turn_taken, turn_given, only_one}
@@ -56,7 +56,7 @@ module _ {S : Type 0} (T : Meaning S) (framed : IsFramed T) (R N : ℕ) where
         rows = rows_upper T framed R N q.cur s.words q.log q.desk q.place q.used s.views id v q.rows at ws w upper (length-set s.words 0 p)
             (λ r e. absurd (let f : None ≡ Some r = sym unpinned ∙ e in cc))
             (λ _. (sym (length-set s.words 0 p), upper));
-        world = world_set R N q.next q.log s.views id v w q.world at (record { number = refl; deals = refl; rows = refl; passes = refl }) (let f = q.world.fits id v at in record { seen = IsPrefix-itself q.log; told = f.told; own = f.own; mine = λ _. f.own; pinned = f.pinned });
+        world = world_set R N T.first q.next q.log s.views id v w q.world at (record { number = refl; deals = refl; rows = refl; passes = refl; format = refl }) (let f = q.world.fits id v at in record { seen = IsPrefix-itself q.log; told = f.told; own = f.own; mine = λ _. f.own; pinned = f.pinned });
         clear = clear_same N q.beside q.beside s.words ws s.views id v w q.clear at (λ r k l. bits_stay q.beside s.words ws r k (stays s.words 0 p (r + 2) (λ f. omega arith))) refl refl;
         counts = counts_set N q.cur s.views id v w q.counts at refl (inl refl) (λ _. ([], tt));
         path = path_same N q.cur q.due s.views id v w q.path at refl refl;
@@ -82,6 +82,7 @@ module _ {S : Type 0} (T : Meaning S) (framed : IsFramed T) (R N : ℕ) where
         ap (λ (l : List (mathlib.Core.Option.Option S)). get_elem? l 0) h.1,
         ruled T framed R N _ (subst (λ (c : List (ℕ × S)). Parts T R N (stepped s 0 p id c w (takes 0 h.0))) (sym free.0) (taken s q id p me.0 at (free.3 ∙ sym same) (subst (λ (z : ℕ). 0 < z) (sym same) free.4) free.2 h.0 h.1 h.3 hit)),
         (
+          refl,
           (λ _. record {
             value = h.0;
             desk = q.desk;
@@ -92,8 +93,9 @@ module _ {S : Type 0} (T : Meaning S) (framed : IsFramed T) (R N : ℕ) where
             is_desk = rw place.rows_is (rw place.passes_is h.2);
             later = (q.world.fits id me.0 at).seen;
             own = (q.world.fits id me.0 at).own;
+            alone = each_dealt R N T.first q.next q.log s.views id me.0 q.world at;
             short = q.rows.short;
-            wide = q.wide ∙ ap (λ (z : ℕ). z * 16 + 240) (sym place.rows_is);
+            wide = q.wide ∙ ap (λ (z : ℕ). z * 16 + 278) (sym place.rows_is);
             stands = rw place.rows_is (rw place.passes_is (subst (λ (c : ℕ). Standing T R N s.words q.log q.desk c q.log (q.used q.cur)) (sym q.rows.desk_at)
                 (subst (λ (l : History). Standing T R N s.words q.log q.desk q.cur l (q.used q.cur)) q.rows.now (q.rows.live q.cur (inl refl)))));
             is = ap (λ (c : List (ℕ × S)). (w, (0, h.0) ∷ c)) free.0;
@@ -102,11 +104,11 @@ module _ {S : Type 0} (T : Meaning S) (framed : IsFramed T) (R N : ℕ) where
         ),
       ))
       (λ miss. (
-        record me.0 { asked = me.0.asked + 1 },
+        record me.0 { asked = me.0.asked + 1; missed = me.0.missed + 1 },
         keeps,
         tt,
-        ruled T framed R N _ (counted T framed R N s q id 0 me.1 me.0 at),
-        ((λ hit. absurd (miss hit)), (λ _. record { is = refl; others = other_holder s q id number me at free miss })),
+        ruled T framed R N _ (counted T framed R N s q id 0 me.1 me.0 (me.0.missed + 1) at),
+        (refl, (λ hit. absurd (miss hit)), (λ _. record { is = refl; others = other_holder s q id number me at free miss })),
       ))
 
   -- ---- the turn is given back
@@ -134,7 +136,7 @@ module _ {S : Type 0} (T : Meaning S) (framed : IsFramed T) (R N : ℕ) where
             (λ r e. (inr (id, v, at, e), reads_to T framed R N s.words ws r (q.place r) (q.used r) v w (q.rows.reads id v at r e) (kept_upper s.words ws upper r (q.used r)) refl refl refl))
             (λ own. absurd (let c : false ≡ true = own in cc))
             (λ i u _ e own. held_upper T framed R N s.words ws u u upper (length-set s.words 0 0) refl (q.rows.held i u e own));
-        world = world_set R N q.next q.log s.views id v w q.world at (record { number = refl; deals = refl; rows = refl; passes = refl }) (let f = q.world.fits id v at in record { seen = f.seen; told = f.told; own = f.own; mine = f.mine; pinned = f.pinned });
+        world = world_set R N T.first q.next q.log s.views id v w q.world at (record { number = refl; deals = refl; rows = refl; passes = refl; format = refl }) (let f = q.world.fits id v at in record { seen = f.seen; told = f.told; own = f.own; mine = f.mine; pinned = f.pinned });
         clear = clear_same N q.beside q.beside s.words ws s.views id v w q.clear at (λ r k l. bits_stay q.beside s.words ws r k (stays s.words 0 0 (r + 2) (λ f. omega arith))) refl refl;
         counts = counts_set N q.cur s.views id v w q.counts at refl (inl refl) (λ own. absurd (let c : false ≡ true = own in cc));
         path = path_same N q.cur q.due s.views id v w q.path at refl refl;
@@ -147,5 +149,5 @@ module _ {S : Type 0} (T : Meaning S) (framed : IsFramed T) (R N : ℕ) where
     gives,
     tt,
     ruled T framed R N _ (subst (λ (c : List (ℕ × S)). Parts T R N (stepped s 0 0 id c w gives)) (sym g.slot) (let place = q.world.placed id v at in given s q id v x d at g.on g.settled (rw (sym place.rows_is) (rw (sym place.passes_is) g.is_desk)) g.current (rw (sym place.passes_is) g.agrees))),
-    ap (λ (c : List (ℕ × S)). (w, rest c)) g.slot,
+    (refl, ap (λ (c : List (ℕ × S)). (w, rest c)) g.slot),
   )

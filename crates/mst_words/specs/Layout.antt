@@ -11,10 +11,10 @@ most_passes = 32
 abbrev pub most_records : ℕ
 most_records = 34
 
--- how many words a record has: the number of its version, the link of its root, and the four words
--- of its root digest
+-- how many words a record has: the number of its version, the link of its root, the four words of
+-- its root digest, and the number of its format
 abbrev pub record_words : ℕ
-record_words = 6
+record_words = 7
 
 -- how many words a row has
 abbrev pub row_words : ℕ
@@ -36,9 +36,9 @@ done_word r = r + 2
 abbrev pub first_record : ℕ
 first_record = 36
 
--- the place of the first word of row 0
+-- the place of the first word of the first row, behind the records and four unused words
 abbrev pub first_row : ℕ
-first_row = 240
+first_row = 278
 
 -- the place of word k of a record
 abbrev pub record_word : ℕ → ℕ → ℕ

@@ -4,12 +4,14 @@ use Rattle.std.specs.Prelude.{◌≡◌, ℕ, ◌+◌, ◌<◌, ◌≤◌, Some}
 use Rattle.std.specs.List.{All}
 use Rattle.atomic_table.specs.Table.{Me, Step}
 use Rattle.mst_key.specs.History.{History, events_of, IsPrefix}
+use Rattle.mst_key.specs.declared.format.Format.TheVariants.{One}
 use Rattle.mst_words.specs.declared.view.View.{View}
 use Rattle.mst_words.specs.World.{idle}
+use Rattle.mst_words.specs.Layout.{current_word}
 
 -- a note of what a seat has seen. It is no pass
 abbrev pub note_of : View → View
-note_of v = record (idle v.rows v.passes 0 0) { seen = v.seen }
+note_of v = record (idle v.rows v.passes v.format 0 0) { seen = v.seen }
 
 -- the seat, when it has heard a note
 abbrev pub having_heard : View → View → View
@@ -17,7 +19,7 @@ having_heard v note = record v { told = note.seen; asked = v.asked + 1 }
 
 -- the note that is named where none is picked
 abbrev pub no_note : View
-no_note = idle 0 0 0 0
+no_note = idle 0 0 One 0 0
 
 -- each event is of a pass from 1 to n
 abbrev pub IsOfPasses : ℕ → History → Type 0
@@ -48,8 +50,9 @@ module _ {S : Type 0} where
     pub finds : Finds m log
     pub is : m' ≡ (record m.0 { seen = m.0.told; asked = m.0.asked + 1 }, m.1)
 
+  -- by one load of the word of the current record
   abbrev pub sees_all : Step S → Me S View → ℕ → Me S View → Type 0
-  sees_all st m r m' = SeesAll m m'
+  sees_all st m r m' = (st.word ≡ current_word) × SeesAll m m'
 
   abbrev pub sees_told : Step S → Me S View → ℕ → Me S View → Type 0
-  sees_told st m r m' = SeesTold m m'
+  sees_told st m r m' = (st.word ≡ current_word) × SeesTold m m'

@@ -2,13 +2,15 @@
 -- the map at its place in the history, on exactly the rows that the desk says its version reaches.
 use Rattle.std.specs.Prelude.{◌≡◌, ◌⊎◌, ◌↔◌, ℕ, ◌+◌, ◌<◌, ◌≤◌, true, List, length, slice_index, Some}
 use Rattle.mst_key.specs.History.{History, IsPrefix}
+use Rattle.mst_key.specs.declared.format.Format.{Format}
 use Rattle.mst_arena.specs.Lists.{In}
 use Rattle.mst_words.specs.declared.view.View.{View}
 use Rattle.mst_words.specs.declared.view.DeskState.{DeskState}
 use Rattle.mst_words.specs.Layout.{record_words, row_words, first_record, record_word, row_word}
 use Rattle.mst_words.specs.World.{SeatAt}
 
--- a word of a record: its version number, the link of its root, and the four words of its digest
+-- a word of a record: its version number, the link of its root, the four words of its digest, and
+-- the number of its format
 abbrev pub field : List ℕ → ℕ → ℕ → ℕ
 field ws r k = slice_index ws (record_word r k)
 
@@ -16,10 +18,12 @@ field ws r k = slice_index ws (record_word r k)
 abbrev pub row : List ℕ → ℕ → ℕ → ℕ
 row ws x k = slice_index ws (row_word x k)
 
--- What the rule is about: the map of a history; when the words of rows and of a record stand for a
--- map, on which rows; when they stand for the map of a history, and the desk knows how old these
--- rows are; what lies in the slot; which rows a version reaches; and the version of each record.
+-- What the rule is about: the format of version 0; the map of a history with its format; when the
+-- words of rows and of a record stand for a map, on which rows; when they stand for the map of a
+-- history, and the desk knows how old these rows are; what lies in the slot; which rows a version
+-- reaches; and the version of each record.
 pub record Meaning (S : Type 0) : Type 1 where
+  pub first : Format
   pub M : Type 0
   pub after : History → M
   pub Stands : (ℕ → ℕ → ℕ) → (ℕ → ℕ) → M → List ℕ → Type 0

@@ -55,7 +55,7 @@ module _ {S : Type 0} (T : Meaning S) (R n : ℕ) where
     pub turn : Turn (slice_index s.words turn_word) s.homes desk due log s.views
     pub pins : Pins n cur mask due beside s.words s.views
     pub rows : Rows T R n cur s.words log desk place used s.views
-    pub world : World R n next log s.views
+    pub world : World R n T.first next log s.views
     pub clear : Clear n beside s.words s.views
     pub counts : Counts n cur s.views
     pub path : Path n cur due s.views

@@ -1,6 +1,7 @@
 -- What each step tells the seat that makes it, as a relation between what the seat had before and
--- after: its view, and what it holds of the slot. A step whose answer depends on what other passes
--- do adds one to `asked`.
+-- after: its view, and what it holds of the slot; and on which word it is made. A step whose answer
+-- depends on what other passes do adds one to `asked`, and a try of the turn that misses one to
+-- `missed`.
 use Rattle.std.specs.Prelude.{◌≡◌, ◌≢◌, ◌⊎◌, ℕ, ◌+◌, ◌*◌, ◌<◌, ◌≤◌, true, false, List, [], ◌∷◌, ◌++◌, length, slice_index, slice_set, Some, None}
 use Rattle.atomic_table.specs.Table.{Me, Step}
 use Rattle.mst_key.specs.declared.history.Change.TheVariants.{Remove}
@@ -9,8 +10,9 @@ use Rattle.mst_key.specs.History.{History, events_of, IsPrefix}
 use Rattle.mst_arena.specs.Lists.{In}
 use Rattle.mst_words.specs.declared.view.View.{View}
 use Rattle.mst_words.specs.declared.view.DeskState.{DeskState}
-use Rattle.mst_words.specs.Layout.{record_words, row_words, first_record, done_word, record_word, row_word, table_words}
+use Rattle.mst_words.specs.Layout.{record_words, row_words, turn_word, current_word, first_record, done_word, record_word, row_word, table_words}
 use Rattle.mst_words.specs.Records.{Meaning, field, row, Standing, Agrees, IsBlank}
+use Rattle.mst_words.specs.Notes.{IsOfPasses}
 
 -- the event that is named where none is picked
 abbrev pub no_event : Event
@@ -22,6 +24,14 @@ abbrev pub IsReadable : View → ℕ → Type 0
 IsReadable v i = ((v.turn ≡ true) × (first_record ≤ i))
     ⊎ (((r k : ℕ) × (v.pin ≡ Some r) × (k < record_words) × (i ≡ record_word r k))
     ⊎ ((r x k : ℕ) × (v.pin ≡ Some r) × In x v.pinned_rows × (k < row_words) × (i ≡ row_word x k)))
+
+-- the word DONE of the record that the seat pins
+abbrev pub IsDoneAtPin : View → ℕ → Type 0
+IsDoneAtPin v i = (r : ℕ) × (v.pin ≡ Some r) × (i ≡ done_word r)
+
+-- the word DONE of the record whose transfer waits
+abbrev pub IsDoneAtDue : View → ℕ → Type 0
+IsDoneAtDue v i = (r : ℕ) × (v.due ≡ Some r) × (i ≡ done_word r)
 
 module _ {S : Type 0} where
   -- a pass that has neither the turn nor the slot nor a pin
@@ -44,9 +54,9 @@ module _ {S : Type 0} where
 
   -- ---- the turn
 
-  -- nothing changed but that the turn was tried once: another pass of the store has it
+  -- nothing changed but that the turn was tried once, in vain: another pass of the store has it
   pub record Misses (m m' : Me S View) : Type 0 where
-    pub is : m' ≡ (record m.0 { asked = m.0.asked + 1 }, m.1)
+    pub is : m' ≡ (record m.0 { asked = m.0.asked + 1; missed = m.0.missed + 1 }, m.1)
     pub others : 1 < m.0.passes
 
   -- the turn and the slot were given back
@@ -54,7 +64,7 @@ module _ {S : Type 0} where
   Gives m m' = m' ≡ (record m.0 { turn = false }, [])
 
   abbrev pub gives_turn : Step S → Me S View → ℕ → Me S View → Type 0
-  gives_turn st m r m' = Gives m m'
+  gives_turn st m r m' = (st.word ≡ turn_word) × Gives m m'
 
   -- ---- pins
 
@@ -63,20 +73,21 @@ module _ {S : Type 0} where
   Unpins m m' = m' ≡ (record m.0 { pin = None; seen = m.0.pinned_history }, m.1)
 
   abbrev pub unpins : Step S → Me S View → ℕ → Me S View → Type 0
-  unpins st m r m' = Unpins m m'
+  unpins st m r m' = IsDoneAtPin m.0 st.word × Unpins m m'
 
   -- the pass has no pin, and has seen what it had seen
   abbrev pub Forgets : Me S View → Me S View → Type 0
   Forgets m m' = m' ≡ (record m.0 { pin = None }, m.1)
 
   abbrev pub forgets : Step S → Me S View → ℕ → Me S View → Type 0
-  forgets st m r m' = Forgets m m'
+  forgets st m r m' = IsDoneAtPin m.0 st.word × Forgets m m'
 
   -- ---- words of records and rows
 
-  -- the word is the one that is known
+  -- the word may be loaded, and it is the one that is known
   abbrev pub reads : Step S → Me S View → ℕ → Me S View → Type 0
-  reads st m r m' = (m' ≡ m) × (IsReadable m.0 st.word → r ≡ slice_index m.0.known_words st.word)
+  reads st m r m' =
+      IsReadable m.0 st.word × (m' ≡ m) × (r ≡ slice_index m.0.known_words st.word)
 
   -- the word is stored
   abbrev pub writes : Step S → Me S View → ℕ → Me S View → Type 0
@@ -108,14 +119,14 @@ module _ {S : Type 0} where
     )
 
   abbrev pub publishes : Event → DeskState → Step S → Me S View → ℕ → Me S View → Type 0
-  publishes e d st m r m' = Publishes e d m r m'
+  publishes e d st m r m' = (st.word ≡ current_word) × Publishes e d m r m'
 
   -- the mask that came back stands in the word DONE of its record
   abbrev pub Transfers : Me S View → Me S View → Type 0
   Transfers m m' = m' ≡ (record m.0 { due = None }, m.1)
 
   abbrev pub transfers : Step S → Me S View → ℕ → Me S View → Type 0
-  transfers st m r m' = Transfers m m'
+  transfers st m r m' = IsDoneAtDue m.0 st.word × Transfers m m'
 
   -- ---- asking
 
@@ -131,7 +142,7 @@ module _ {S : Type 0} where
     pub is : m' ≡ (record m.0 { noted = Some r; asked = m.0.asked + 1 }, m.1)
 
   abbrev pub notes_current : Step S → Me S View → ℕ → Me S View → Type 0
-  notes_current st m r m' = NotesCurrent m r m'
+  notes_current st m r m' = (st.word ≡ current_word) × NotesCurrent m r m'
 
   -- In a store of one pass, which pins nothing while it has the turn, the word DONE of the current
   -- record is the mask that was noted. In a larger store nothing is said of the word: others may
@@ -142,7 +153,16 @@ module _ {S : Type 0} where
         → m.0.noted ≡ Some (m.0.desk.current * 4294967296 + mask) → r ≡ mask
 
   abbrev pub asks_current : Step S → Me S View → ℕ → Me S View → Type 0
-  asks_current st m r m' = AsksCurrent m r m'
+  asks_current st m r m' = (st.word ≡ done_word m.0.desk.current) × AsksCurrent m r m'
+
+  -- ---- for tests
+
+  -- some word was loaded, and nothing is said of it
+  abbrev pub Glances : Me S View → Me S View → Type 0
+  Glances m m' = m' ≡ (record m.0 { asked = m.0.asked + 1 }, m.1)
+
+  abbrev pub glances : Step S → Me S View → ℕ → Me S View → Type 0
+  glances st m r m' = Glances m m'
 
 module _ {S : Type 0} (T : Meaning S) where
   -- a word of a blank row, or of a record that was found drained
@@ -151,7 +171,8 @@ module _ {S : Type 0} (T : Meaning S) where
       ⊎ ((r k : ℕ) × In r v.drained × (k < record_words) × (i ≡ record_word r k))
 
   -- The pass, one of the store's, has the turn and the slot with its desk, and has seen the whole
-  -- history. The words of the table are known; in them the current record stands for the history
+  -- history, in which each event is of a pass of the store. The words of the table are known; in
+  -- them the current record stands for the history
   pub record Takes (m m' : Me S View) : Type 0 where
     pub value : S
     pub desk : DeskState
@@ -162,6 +183,7 @@ module _ {S : Type 0} (T : Meaning S) where
     pub is_desk : T.IsDesk value m.0.rows m.0.passes desk
     pub later : IsPrefix m.0.seen log
     pub own : events_of m.0.number log ≡ m.0.mine
+    pub alone : IsOfPasses m.0.passes log
     pub short : length log < 9223372036854775808
     pub wide : length words ≡ table_words m.0.rows
     pub stands : Standing T m.0.rows m.0.passes words log desk desk.current log used
@@ -196,7 +218,8 @@ module _ {S : Type 0} (T : Meaning S) where
       × (r ≡ 0 → Drained a m m') × (r ≢ 0 → Blocked a m m')
 
   abbrev pub takes_turn : Step S → Me S View → ℕ → Me S View → Type 0
-  takes_turn st m r m' = (r ≡ 0 → Takes m m') × (r ≢ 0 → Misses m m')
+  takes_turn st m r m' =
+      (st.word ≡ turn_word) × (r ≡ 0 → Takes m m') × (r ≢ 0 → Misses m m')
 
   -- what the holder of the turn has to know to give it back with a desk: for each record that it
   -- did not find drained, its version reaches the same rows as before
@@ -208,8 +231,8 @@ module _ {S : Type 0} (T : Meaning S) where
     pub current : d.current ≡ m.0.desk.current
     pub agrees : (r : ℕ) → r < m.0.passes + 2 → (In r m.0.drained → ⊥) → Agrees T m.0.desk d r
 
-  -- the pass pins the current record, which stands for the whole history; its words and those of
-  -- its rows stay
+  -- The pass pins the current record, which stands for the whole history, in which each event is of
+  -- a pass of the store. The record's words and those of its rows stay
   pub record PinsNow (m : Me S View) (found : ℕ) (m' : Me S View) : Type 0 where
     pub cur : ℕ
     pub mask : ℕ
@@ -222,6 +245,7 @@ module _ {S : Type 0} (T : Meaning S) where
     pub wide : length words ≡ table_words m.0.rows
     pub later : IsPrefix m.0.seen log
     pub own : events_of m.0.number log ≡ m.0.mine
+    pub alone : IsOfPasses m.0.passes log
     pub version : field words cur 0 ≡ length log
     pub stands : T.Stands (row words) (field words cur) (T.after log) used
     pub inside : (x : ℕ) → In x used → x < m.0.rows
@@ -238,7 +262,7 @@ module _ {S : Type 0} (T : Meaning S) where
     )
 
   abbrev pub pins_now : Step S → Me S View → ℕ → Me S View → Type 0
-  pins_now st m r m' = PinsNow m r m'
+  pins_now st m r m' = (st.word ≡ current_word) × PinsNow m r m'
 
   -- what the holder of the turn has to know to publish a drained record, of an event, after which
   -- the desk is d: the record stands for the longer history, and for each record that it did not

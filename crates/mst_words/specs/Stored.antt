@@ -1,9 +1,10 @@
 -- What the words of the store mean: rows that stand for the map of a history, at the root of a
 -- record; and the desk in the slot, with no write under way.
 use Rattle.std.specs.Prelude.{◌≡◌, ℕ, ◌+◌, ◌<◌, ◌≤◌, List, [], ◌∷◌, length, true, slice_index, replicate, Option, Some}
-use Rattle.mst_key.specs.declared.format.Format.TheVariants.{One}
+use Rattle.mst_key.specs.declared.format.Format.{Format}
+use Rattle.mst_key.specs.declared.format.Format.TheVariants.{One, Two}
 use Rattle.mst_key.specs.Map.{Pair}
-use Rattle.mst_key.specs.History.{History, after}
+use Rattle.mst_key.specs.History.{History, after, format_after}
 use Rattle.mst_arena.specs.Words as words
 use Rattle.mst_arena.specs.Words.{row_in}
 use Rattle.mst_arena.specs.Content.{Content}
@@ -26,10 +27,25 @@ rows_in word x = row_in (word x 0 ∷ word x 1 ∷ word x 2 ∷ word x 3
 abbrev pub root_in : (ℕ → ℕ) → Root
 root_in field = words.root_in (field 1 ∷ field 2 ∷ field 3 ∷ field 4 ∷ field 5 ∷ [])
 
--- the words of rows and of a record stand for a map, on exactly these rows
-abbrev pub StandsOn : (ℕ → ℕ → ℕ) → (ℕ → ℕ) → List Pair → List ℕ → Type 0
+-- a map with the format of its tree
+pub record Contents : Type 0 where
+  pub format : Format
+  pub pairs : List Pair
+
+-- what a history leaves, from a format on
+abbrev pub contents_after : Format → History → Contents
+contents_after first h = record { format = format_after first h; pairs = after h }
+
+-- the number of a format, as a record has it
+abbrev pub format_number : Format → ℕ
+format_number One = 1
+format_number Two = 2
+
+-- the words of rows and of a record stand for a map in a format, on exactly these rows
+abbrev pub StandsOn : (ℕ → ℕ → ℕ) → (ℕ → ℕ) → Contents → List ℕ → Type 0
 StandsOn word field m used =
-    (s : standing.Stands One (rows_in word) (root_in field) m) × (standing.numbers s ≡ used)
+    (s : standing.Stands m.format (rows_in word) (root_in field) m.pairs)
+    × (standing.numbers s ≡ used) × (field 6 ≡ format_number m.format)
 
 -- the desk as the crate of rows knows it
 abbrev pub state_of : DeskState → lives.State
@@ -49,9 +65,10 @@ pub record IsDesk (x : Option lives.State) (rows passes : ℕ) (d : DeskState) :
 
 -- They stand for the map of a history, and the desk says of the rows of each node that the versions
 -- that reach them are those since which the node's tree has stood
-abbrev pub AgedOn : (ℕ → ℕ → ℕ) → (ℕ → ℕ) → DeskState → History → List ℕ → Type 0
-AgedOn word field d h used =
-    (s : StandsOn word field (after h) used) × HasAges d.lives h s.0.tree.placed
+abbrev pub AgedOn : Format → (ℕ → ℕ → ℕ) → (ℕ → ℕ) → DeskState → History → List ℕ → Type 0
+AgedOn first word field d h used =
+    (s : StandsOn word field (contents_after first h) used)
+    × HasAges first d.lives h s.0.tree.placed
 
 -- the desk of a new store: record 0 is current, each record has version 0, and each row is free
 abbrev pub fresh_desk : ℕ → ℕ → lives.State
@@ -65,12 +82,13 @@ Reaches d v x = lives.reaches d.lives v x ≡ true
 abbrev pub version_of : DeskState → ℕ → ℕ
 version_of d r = slice_index d.versions r
 
-abbrev pub stored : Meaning (Option lives.State)
-stored = record {
-  M = List Pair;
-  after = after;
+abbrev pub stored : Format → Meaning (Option lives.State)
+stored first = record {
+  first = first;
+  M = Contents;
+  after = contents_after first;
   Stands = StandsOn;
-  Aged = AgedOn;
+  Aged = AgedOn first;
   IsDesk = IsDesk;
   Reaches = Reaches;
   version = version_of;

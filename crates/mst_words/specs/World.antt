@@ -6,6 +6,7 @@ use Rattle.std.specs.List.{All}
 use mathlib.Core.Option.{some}
 use lib.ListN.{get_elem?}
 use Rattle.mst_key.specs.History.{History, events_of, IsPrefix}
+use Rattle.mst_key.specs.declared.format.Format.{Format}
 use Rattle.mst_words.specs.declared.view.View.{View}
 use Rattle.mst_words.specs.declared.view.DeskState.{DeskState}
 
@@ -26,18 +27,20 @@ pub record Fits (log : History) (v : View) : Type 0 where
 
 -- the seat knows the size of the store. Its number is below the next one to be dealt, and only the
 -- dealer's seat, which is no pass, deals
-pub record IsPlaced (rows passes next : ℕ) (v : View) : Type 0 where
+pub record IsPlaced (rows passes : ℕ) (first : Format) (next : ℕ) (v : View) : Type 0 where
   pub rows_is : v.rows ≡ rows
   pub passes_is : v.passes ≡ passes
+  pub format_is : v.format ≡ first
   pub number : v.number < next
   pub deals : 0 < v.deals → (v.deals ≡ next) × (v.number ≡ 0)
 
 -- Each seat fits the history. No two passes have one number, each pass that was dealt has a seat,
 -- there is one dealer, no more passes were dealt than the store has, and each event is of a pass
 -- that was dealt
-pub record World (rows passes next : ℕ) (log : History) (views : List View) : Type 0 where
+pub record World (rows passes : ℕ) (first : Format) (next : ℕ) (log : History)
+    (views : List View) : Type 0 where
   pub fits : (i : ℕ) (v : View) → SeatAt views i v → Fits log v
-  pub placed : (i : ℕ) (v : View) → SeatAt views i v → IsPlaced rows passes next v
+  pub placed : (i : ℕ) (v : View) → SeatAt views i v → IsPlaced rows passes first next v
   pub apart : (i j : ℕ) (v w : View) → SeatAt views i v → SeatAt views j w → 0 < v.number
       → v.number ≡ w.number → i ≡ j
   pub seated : (p : ℕ) → 0 < p → p < next → (i : ℕ) × (v : View) × SeatAt views i v × (v.number ≡ p)
@@ -51,11 +54,12 @@ abbrev pub no_desk : DeskState
 no_desk = record { current = 0; versions = []; lives = [] }
 
 -- a seat that has seen and done nothing
-abbrev pub idle : ℕ → ℕ → ℕ → ℕ → View
-idle rows passes number deals = record {
+abbrev pub idle : ℕ → ℕ → Format → ℕ → ℕ → View
+idle rows passes first number deals = record {
   number = number;
   rows = rows;
   passes = passes;
+  format = first;
   deals = deals;
   seen = [];
   mine = [];
@@ -72,11 +76,12 @@ idle rows passes number deals = record {
   blocked = [];
   noted = None;
   asked = 0;
+  missed = 0;
 }
 
 -- the dealer's seat, which deals the pass of the number `next` next
-abbrev pub dealer : ℕ → ℕ → ℕ → View
-dealer rows passes next = idle rows passes 0 next
+abbrev pub dealer : ℕ → ℕ → Format → ℕ → View
+dealer rows passes first next = idle rows passes first 0 next
 
 -- the dealer's seat after the next pass is dealt
 abbrev pub having_dealt : View → View
@@ -84,4 +89,4 @@ having_dealt v = record v { deals = v.deals + 1 }
 
 -- the pass that the dealer deals next
 abbrev pub newcomer : View → View
-newcomer v = idle v.rows v.passes v.deals 0
+newcomer v = idle v.rows v.passes v.format v.deals 0

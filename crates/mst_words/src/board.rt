@@ -66,9 +66,9 @@ impl<A: Allocator + Copy> Board<A> {
         requires few_passes { shape.passes ≤ most_passes }
         requires fresh { desk ≡ fresh_desk shape.rows shape.passes }
         ensures ok { IfOk result (λ r. (r.1.table_id ≡ r.0) × (r.0.words ≡ table_words shape.rows)
-            × (r.1.me ≡ (dealer shape.rows shape.passes 1, []))) }
+            × (r.1.me ≡ (dealer shape.rows shape.passes shape.format 1, []))) }
     {
-        let words = first_words(alloc, shape.rows)?;
+        let words = first_words(alloc, shape)?;
         let slots = one_slot(alloc, desk)?;
         let Ok((table, seat)) = Table::new(alloc, &words, slots, &shape) else {
             return Err(Memory);
@@ -96,7 +96,7 @@ impl<A: Allocator + Copy> Board<A> {
         requires wide { self.now.words ≡ table_words seat.old.me.0.rows }
         requires free { IsFree number seat.old.me }
         ensures same { (seat.new.table_id ≡ seat.old.table_id) × (seat.new.id ≡ seat.old.id) }
-        ensures taken { result ≡ true → Takes stored seat.old.me seat.new.me }
+        ensures taken { result ≡ true → Takes (stored seat.old.me.0.format) seat.old.me seat.new.me }
         ensures missed { result ≡ false → Misses seat.old.me seat.new.me }
     {
         let found = self
@@ -139,7 +139,7 @@ impl<A: Allocator + Copy> Board<A> {
     pub(crate) fn give_turn(&self, seat: &mut Token<A>)
         requires own { seat.old.table_id ≡ self.now }
         requires wide { self.now.words ≡ table_words seat.old.me.0.rows }
-        requires giving { (x : Option State) × (d : DeskState) × IsGiving stored x d seat.old.me }
+        requires giving { (x : Option State) × (d : DeskState) × IsGiving (stored seat.old.me.0.format) x d seat.old.me }
         ensures same { (seat.new.table_id ≡ seat.old.table_id) × (seat.new.id ≡ seat.old.id) }
         ensures gave { Gives seat.old.me seat.new.me }
     {

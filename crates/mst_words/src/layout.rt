@@ -11,9 +11,9 @@ pub const MOST_PASSES: u32 = 32;
 /// The most records that a table has: one for each pass, and two more.
 pub const MOST_RECORDS: usize = 34;
 
-/// How many words a record has: the number of its version, the link of its root, and the four words
-/// of its root digest.
-pub const RECORD_WORDS: usize = 6;
+/// How many words a record has: the number of its version, the link of its root, the four words
+/// of its root digest, and the number of its format.
+pub const RECORD_WORDS: usize = 7;
 
 /// How many words a row has.
 pub const ROW_WORDS: usize = 16;
@@ -33,8 +33,15 @@ const FIRST_RECORD: usize = FIRST_DONE + MOST_RECORDS;
 /// The place of the first word of the digest in record 0, behind the version and the link.
 pub(crate) const FIRST_DIGEST: usize = FIRST_RECORD + 2;
 
-/// The place of the first word of row 0.
-const FIRST_ROW: usize = FIRST_RECORD + MOST_RECORDS * RECORD_WORDS;
+/// The place of the word of the format in record 0.
+pub(crate) const FIRST_FORMAT: usize = FIRST_RECORD + 6;
+
+/// How many words lie unused behind the records. With them the first row begins at a cache line of
+/// 64 bytes where the allocator gives memory at 16 bytes behind one, as that of glibc does.
+const SPARE_WORDS: usize = 4;
+
+/// The place of the first word of the first row.
+const FIRST_ROW: usize = FIRST_RECORD + MOST_RECORDS * RECORD_WORDS + SPARE_WORDS;
 
 /// The place of word k of a record.
 pub const fn record_word(which: u32, k: usize) -> usize

@@ -41,3 +41,4 @@ pub use notes::Telling;
 pub use plays::Naming;
 pub use seat::PassSeat;
 pub use view::{DeskState, Shape, View};
+pub use words::{format_number, format_of};

@@ -1,12 +1,14 @@
 //! The steps of a pass that pins: the pin, the loads of words, and the end of the pin.
-ghost use Rattle.std.specs.Prelude.{◌≡◌, ◌%◌, ◌^◌, ◌<◌, ◌≤◌, ◌-◌, ℕ, slice_index};
-ghost use Rattle.mst_words.specs.Layout.{most_passes, most_records, first_row, table_words};
+ghost use Rattle.std.specs.Prelude.{◌≡◌, ◌+◌, ◌%◌, ◌^◌, ◌<◌, ◌≤◌, ◌-◌, ℕ, slice_index};
+ghost use Rattle.mst_words.specs.Access.{IsSameSeat};
+ghost use Rattle.mst_words.specs.Layout.{most_passes, most_records, table_words};
 ghost use Rattle.mst_words.specs.Stored.{stored};
-ghost use Rattle.mst_words.specs.Steps.{IsFree, IsPinned, PinsNow, Unpins, Forgets, IsReadable};
+ghost use Rattle.mst_words.specs.Steps.{IsFree, IsPinned, PinsNow, Unpins, Forgets, IsReadable, Glances};
 
 use crate::board::{Board, Token};
 use crate::layout::{CURRENT, FIRST_DONE};
-use crate::plays::{Forget, Pin, Read, Unpin};
+use crate::plays::{Forget, Glance, Pin, Read, Unpin};
+use crate::seat::PassSeat;
 use std::alloc::Allocator;
 
 /// The bit of a pass in the masks: pass p has bit p - 1.
@@ -27,7 +29,7 @@ impl<A: Allocator + Copy> Board<A> {
         requires free { IsFree number seat.old.me }
         requires few { number ≤ most_passes }
         ensures same { (seat.new.table_id ≡ seat.old.table_id) × (seat.new.id ≡ seat.old.id) }
-        ensures pinned { (found : ℕ) × (p : PinsNow stored seat.old.me found seat.new.me)
+        ensures pinned { (found : ℕ) × (p : PinsNow (stored seat.old.me.0.format) seat.old.me found seat.new.me)
             × (p.cur ≡ result) }
     {
         let found = self
@@ -91,18 +93,35 @@ fn low_half(word: u64) -> u32
 }
 
 impl<A: Allocator + Copy> Board<A> {
-    /// For tests: the passes that pin a record, by what the words say; pass p has bit p - 1. It
-    /// takes no seat, and nothing is proved of its answer.
+    /// For tests: loads a word, of which nothing is said: one load.
+    pub(crate) fn glance(&self, seat: &mut Token<A>, word: usize) -> u64
+        requires own { seat.old.table_id ≡ self.now }
+        requires there { word < self.now.words }
+        ensures same { (seat.new.table_id ≡ seat.old.table_id) × (seat.new.id ≡ seat.old.id) }
+        ensures counted { Glances seat.old.me seat.new.me }
+    {
+        self.table.shared.load::<Glance>(seat, word)
+    }
+}
+
+impl<'a, A: Allocator + Copy> PassSeat<'a, A> {
+    /// For tests: the passes that pin a record, by what the words say; pass p has bit p - 1.
+    /// Nothing is proved of its answer.
     ///
     /// It loads two words, one after the other, so it tells the pins of one moment only while no
     /// pass makes a step. Between a publication and its transfer the mask of the old record stands
     /// in no word, and the answer for that record lacks it.
-    pub fn pins(&self, which: u32) -> u32
+    pub fn pins(&mut self, which: u32) -> u32
         requires there { which < most_records }
-        requires wide { first_row ≤ self.now.words }
+        ensures same { IsSameSeat self.old self.new }
+        ensures counted { self.new.me
+            ≡ (record self.old.me.0 { asked = self.old.me.0.asked + 1 + 1 }, self.old.me.1) }
     {
-        let current = self.table.shared.peek(CURRENT);
-        let done = low_half(self.table.shared.peek(which as usize + FIRST_DONE));
+        let current = self.board.glance(&mut self.token, CURRENT);
+        let done = low_half(
+            self.board
+                .glance(&mut self.token, which as usize + FIRST_DONE),
+        );
         if current >> 32 == u64::from(which) {
             low_half(current) ^ done
         } else {

@@ -12,7 +12,7 @@ impl<A: Allocator> Play<Option<Desk<A>>, View> for TakeTurn {
     ghost use Rattle.mst_words.specs.Stored.{stored};
     ghost use Rattle.mst_words.specs.Steps.{takes_turn};
 
-    ghost then = { takes_turn stored };
+    ghost then = { λ st m r n. takes_turn (stored m.0.format) st m r n };
 }
 
 /// The turn is given back.
@@ -31,7 +31,7 @@ impl<A: Allocator> Play<Option<Desk<A>>, View> for Pin {
     ghost use Rattle.mst_words.specs.Stored.{stored};
     ghost use Rattle.mst_words.specs.Steps.{pins_now};
 
-    ghost then = { pins_now stored };
+    ghost then = { λ st m r n. pins_now (stored m.0.format) st m r n };
 }
 
 /// The pin ends, and the history at the pin is seen.
@@ -117,7 +117,7 @@ impl<A: Allocator> Play<Option<Desk<A>>, View> for Ask {
     ghost use Rattle.mst_words.specs.Stored.{stored};
     ghost use Rattle.mst_words.specs.Steps.{asks};
 
-    ghost then = { asks stored };
+    ghost then = { λ st m r n. asks (stored m.0.format) st m r n };
 }
 
 /// The holder of the turn notes the word of the current record.
@@ -136,6 +136,15 @@ impl<A: Allocator> Play<Option<Desk<A>>, View> for AskCurrent {
     ghost use Rattle.mst_words.specs.Steps.{asks_current};
 
     ghost then = { asks_current };
+}
+
+/// For tests: a word is loaded, of which nothing is said.
+pub struct Glance;
+
+impl<A: Allocator> Play<Option<Desk<A>>, View> for Glance {
+    ghost use Rattle.mst_words.specs.Steps.{glances};
+
+    ghost then = { glances };
 }
 
 /// The dealer deals the next pass.

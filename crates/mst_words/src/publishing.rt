@@ -18,7 +18,7 @@ impl<A: Allocator + Copy> Board<A> {
         requires own { seat.old.table_id ≡ self.now }
         requires there { word < self.now.words }
         requires holder { IsHolder seat.old.me }
-        requires writable { IsWritable stored seat.old.me.0 word }
+        requires writable { IsWritable (stored seat.old.me.0.format) seat.old.me.0 word }
         ensures same { (seat.new.table_id ≡ seat.old.table_id) × (seat.new.id ≡ seat.old.id) }
         ensures written { seat.new.me ≡ (
           record seat.old.me.0 { known_words = slice_set seat.old.me.0.known_words word value },
@@ -39,7 +39,7 @@ impl<A: Allocator + Copy> Board<A> {
         requires new { In which seat.old.me.0.blocked → ⊥ }
         ensures same { (seat.new.table_id ≡ seat.old.table_id) × (seat.new.id ≡ seat.old.id) }
         ensures drained { result ≡ true → Drained which seat.old.me seat.new.me }
-        ensures blocked { result ≡ false → Blocked stored which seat.old.me seat.new.me }
+        ensures blocked { result ≡ false → Blocked (stored seat.old.me.0.format) which seat.old.me seat.new.me }
     {
         self.table
             .shared
@@ -60,7 +60,7 @@ impl<A: Allocator + Copy> Board<A> {
         requires wide { self.now.words ≡ table_words seat.old.me.0.rows }
         requires named { (J.event ≡ event.now) × (J.desk ≡ desk_state desk.now) }
         requires ready { (used : List ℕ)
-            × IsReady stored into event.now (desk_state desk.now) used seat.old.me.0 }
+            × IsReady (stored seat.old.me.0.format) into event.now (desk_state desk.now) used seat.old.me.0 }
         ensures same { (seat.new.table_id ≡ seat.old.table_id) × (seat.new.id ≡ seat.old.id) }
         ensures published { Publishes event.now
             (desk_state desk.now) seat.old.me result seat.new.me }

@@ -15,7 +15,7 @@ impl<A: Allocator> TableRule<Option<Desk<A>>, View, Shape> for Law<A> {
     ghost use Rattle.mst_words.specs.Stored.{stored};
     ghost use Rattle.mst_words.specs.World.{dealer};
 
-    ghost holds = { λ shape s. Ruled stored shape.rows shape.passes s };
+    ghost holds = { λ shape s. Ruled (stored shape.format) shape.rows shape.passes s };
 
-    ghost first = { λ shape. dealer shape.rows shape.passes 1 };
+    ghost first = { λ shape. dealer shape.rows shape.passes shape.format 1 };
 }

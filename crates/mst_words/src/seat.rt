@@ -58,6 +58,26 @@ impl<A: Allocator + Copy> Board<A> {
         let token = self.deal_token(dealer);
         PassSeat { board: self, token }
     }
+
+    /// The seat whose token this is.
+    pub fn seat<'a>(&'a self, token: Token<A>) -> PassSeat<'a, A>
+        requires own { token.table_id ≡ self.now }
+        requires wide { self.now.words ≡ table_words token.me.0.rows }
+        ensures same { result ≡ record { table = token.table_id; id = token.id; me = token.me } }
+    {
+        PassSeat { board: self, token }
+    }
+}
+
+impl<'a, A: Allocator + Copy> PassSeat<'a, A> {
+    /// The token of the seat, apart from the board. [`Board::seat`] makes the seat of it again.
+    pub fn into_token(self) -> Token<A>
+        ensures same { self.entry ≡ record { table = result.table_id; id = result.id; me = result.me } }
+        ensures wide { self.entry.table.words ≡ table_words self.entry.me.0.rows }
+    {
+        let PassSeat { board: _, token } = self;
+        token
+    }
 }
 
 impl<'a, A: Allocator + Copy> PassSeat<'a, A> {
@@ -66,7 +86,7 @@ impl<'a, A: Allocator + Copy> PassSeat<'a, A> {
     pub fn take_turn(&mut self, number: u32) -> bool
         requires free { IsFree number self.old.me }
         ensures same { IsSameSeat self.old self.new }
-        ensures taken { result ≡ true → Takes stored self.old.me self.new.me }
+        ensures taken { result ≡ true → Takes (stored self.old.me.0.format) self.old.me self.new.me }
         ensures missed { result ≡ false → Misses self.old.me self.new.me }
     {
         self.board.take_turn(&mut self.token, number)
@@ -96,7 +116,7 @@ impl<'a, A: Allocator + Copy> PassSeat<'a, A> {
     /// The desk in the slot has to say of each record that was not found drained, that its version
     /// reaches the same rows as when the turn was taken.
     pub fn give_turn(&mut self)
-        requires giving { (x : Option State) × (d : DeskState) × IsGiving stored x d self.old.me }
+        requires giving { (x : Option State) × (d : DeskState) × IsGiving (stored self.old.me.0.format) x d self.old.me }
         ensures same { IsSameSeat self.old self.new }
         ensures gave { Gives self.old.me self.new.me }
     {
@@ -111,7 +131,7 @@ impl<'a, A: Allocator + Copy> PassSeat<'a, A> {
         requires free { IsFree number self.old.me }
         requires few { number ≤ most_passes }
         ensures same { IsSameSeat self.old self.new }
-        ensures pinned { (found : ℕ) × (p : PinsNow stored self.old.me found self.new.me)
+        ensures pinned { (found : ℕ) × (p : PinsNow (stored self.old.me.0.format) self.old.me found self.new.me)
             × (p.cur ≡ result) }
     {
         self.board.pin(&mut self.token, number)
@@ -158,7 +178,7 @@ impl<'a, A: Allocator + Copy> PassSeat<'a, A> {
     pub fn store(&mut self, word: usize, value: u64)
         requires there { word < table_words self.old.me.0.rows }
         requires holder { IsHolder self.old.me }
-        requires writable { IsWritable stored self.old.me.0 word }
+        requires writable { IsWritable (stored self.old.me.0.format) self.old.me.0 word }
         ensures written { self.new ≡ record self.old {
           me = (
             record self.old.me.0 { known_words = slice_set self.old.me.0.known_words word value },
@@ -178,7 +198,7 @@ impl<'a, A: Allocator + Copy> PassSeat<'a, A> {
         requires new { In which self.old.me.0.blocked → ⊥ }
         ensures same { IsSameSeat self.old self.new }
         ensures drained { result ≡ true → Drained which self.old.me self.new.me }
-        ensures blocked { result ≡ false → Blocked stored which self.old.me self.new.me }
+        ensures blocked { result ≡ false → Blocked (stored self.old.me.0.format) which self.old.me self.new.me }
     {
         self.board.ask(&mut self.token, which)
     }
@@ -188,7 +208,7 @@ impl<'a, A: Allocator + Copy> PassSeat<'a, A> {
     pub fn publish<J: Naming>(&mut self, into: u32, event: &Event, desk: &Desk<A>) -> u64
         requires named { (J.event ≡ event.now) × (J.desk ≡ desk_state desk.now) }
         requires ready { (used : List ℕ)
-            × IsReady stored into event.now (desk_state desk.now) used self.old.me.0 }
+            × IsReady (stored self.old.me.0.format) into event.now (desk_state desk.now) used self.old.me.0 }
         ensures same { IsSameSeat self.old self.new }
         ensures published { Publishes event.now
             (desk_state desk.now) self.old.me result self.new.me }

@@ -1,13 +1,15 @@
 //! What a pass knows of the table.
 use mst_arena::Life;
-use mst_key::Event;
+use mst_key::{Event, Format};
 use std::collections::LinkedList;
 
-/// The size of a store: how many rows it has (4 to 65,535) and how many passes (1 to 32).
+/// The size of a store: how many rows it has (4 to 65,535) and how many passes (1 to 32); and the
+/// format of its version 0.
 #[derive(Clone, Copy, Debug, PartialEq, Eq)]
 pub struct Shape {
     pub rows: u32,
     pub passes: u32,
+    pub format: Format,
 }
 
 /// What the desk knows, as contracts see it.
@@ -27,6 +29,8 @@ pub struct View {
     /// The size of the store.
     pub rows: u32,
     pub passes: u32,
+    /// The format of the store's version 0.
+    pub format: Format,
     /// At the dealer's seat the number of the next pass that it deals, else 0.
     pub deals: u32,
     /// The beginning of the history that the pass has seen.
@@ -63,4 +67,7 @@ pub struct View {
     /// record, and a note that was heard. No part of the rule speaks of it, and no other step
     /// changes it.
     pub asked: u64,
+    /// How many of these were tries of the turn that missed, since another pass had it. No part of
+    /// the rule speaks of it, and no other step changes it.
+    pub missed: u64,
 }

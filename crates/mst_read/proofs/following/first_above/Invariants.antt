@@ -1,5 +1,4 @@
-use Rattle.std.proofs.Common.{◌≡◌}
-use Rattle.std.specs.Option.{option_copied}
+use Rattle.std.proofs.Common.{◌≡◌, Some}
 use Rattle.mst_key.specs.declared.format.Format.{Format}
 use Rattle.mst_arena.specs.Standing.{Chain}
 use Rattle.mst_read.specs.Search.{LiesBehind}
@@ -12,5 +11,5 @@ abbrev pub invariant-loop : goal.invariant-loop
 invariant-loop g l = record {
   same : l.rows ≡ l.initial.rows;
   onward : (f : Format) (c : Chain) → LiesBehind f (g.R.Rows.content l.initial.rows) l.initial.head c
-      → Onward f (g.R.Rows.content l.initial.rows) l.head.tail l.link l.counter l.end (BeginsAbove (option_copied l.bound) c);
+      → Onward f (g.R.Rows.content l.initial.rows) l.head.tail l.link l.counter l.end (BeginsAbove (Some l.bound) c);
 }

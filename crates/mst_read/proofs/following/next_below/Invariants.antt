@@ -1,15 +1,18 @@
 use Rattle.std.proofs.Common.{◌≡◌}
 use Rattle.std.specs.Option.{option_copied}
+use Rattle.std.specs.Prelude.{IfSome}
+use Rattle.mst_arena.specs.Row.{IsHead}
 use Rattle.mst_read.specs.Search.{LinkStands}
 use Rattle.mst_read.proofs.Descend.{Reached, depth}
-use Rattle.mst_read.proofs.Successor.{Answers, HasValue}
+use Rattle.mst_read.proofs.Successor.{Answers, HasPair}
 use Rattle.mst_read.proofs.following.next_below.Given as goal
 
 -- the answer is in the tree under the search, or else it is the pair to the right
 abbrev pub invariant-loop-top : goal.invariant-loop-top
 invariant-loop-top g l = record {
   same : l.rows ≡ l.fn.rows;
-  value : HasValue (g.R.Rows.content l.fn.rows) l.right;
+  limits : IfSome l.top IsHead;
+  pair : HasPair (g.R.Rows.content l.fn.rows) l.right;
   reached : (s : LinkStands (g.R.Rows.content l.fn.rows) l.link)
       → Reached s.0 (g.R.Rows.content l.fn.rows) l.top (Answers (g.R.Rows.content l.fn.rows) (option_copied l.after) l.right s.1);
 }

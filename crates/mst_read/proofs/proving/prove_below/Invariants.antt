@@ -1,7 +1,7 @@
-use Rattle.std.proofs.Common.{◌≡◌, ◌≤◌, ◌+◌, ◌*◌, List, length}
+use Rattle.std.proofs.Common.{◌≡◌, ◌≤◌, ◌+◌, ◌*◌, ℕ, List, ◌∷◌, length}
 use Rattle.std.specs.Prelude.{IfSome}
-use Rattle.mst_key.specs.declared.format.Format.TheVariants.{One}
 use Rattle.mst_key.specs.Map.{Pair}
+use Rattle.mst_node.specs.Text.{version}
 use Rattle.mst_node.specs.Trail.{trail}
 use Rattle.mst_arena.specs.Row.{IsHead}
 use Rattle.mst_read.specs.Search.{StandsBelow}
@@ -9,16 +9,16 @@ use Rattle.mst_read.proofs.Descend.{depth}
 use Rattle.mst_read.proofs.Trails.{Met}
 use Rattle.mst_read.proofs.proving.prove_below.Given as goal
 
--- the texts so far begin those of the trail; no text is longer than the entries of one node make
--- it, and a layer is left for each node to come
+-- behind the format and room for a number the texts so far begin those of the trail; no text is
+-- longer than the entries of one node make it, and a layer is left for each node to come
 abbrev pub invariant-loop-top : goal.invariant-loop-top
 invariant-loop-top g l = record {
   same : l.rows ≡ l.fn.rows;
   limits : IfSome l.top IsHead;
-  few : l.count + depth l.top ≤ 65;
-  short : length l.texts.items ≤ 8584995 * l.count;
-  met : (m : List Pair) → StandsBelow One (g.R.Rows.content l.fn.rows) l.link m
-      → Met (g.R.Rows.content l.fn.rows) l.top l.key l.texts.items l.count (trail One m l.key);
+  few : l.count + depth l.top ≤ 129;
+  made : (texts : List ℕ) × (l.proof.items ≡ version l.format ∷ 0 ∷ texts) × (length texts ≤ 8584995 * l.count)
+      × ((m : List Pair) → StandsBelow l.format (g.R.Rows.content l.fn.rows) l.link m
+      → Met l.format (g.R.Rows.content l.fn.rows) l.top l.key texts l.count (trail l.format m l.key));
 }
 
 -- layers fall

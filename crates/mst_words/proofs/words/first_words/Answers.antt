@@ -1,18 +1,27 @@
 use Rattle.std.proofs.Common.{rules}
 use Rattle.std.proofs.lemmas.Grind.{common_steps, elements}
-use Rattle.std.proofs.Common.{◌≡◌, List, ℕ, ◌+◌, ◌*◌, length, ap, ◌∙◌, get_or, arith}
+use Rattle.std.proofs.Common.{◌≡◌, List, ℕ, ◌+◌, ◌*◌, length, ap, ◌∙◌, set, get_or, length-set, get_or-set_same, arith}
 use Rattle.std.proofs.lemmas.List.{length-replicate}
 use Rattle.mst_arena.specs.Words.{bytes_in}
-use Rattle.mst_words.proofs.Fresh.{four_set, four_of}
+use Rattle.mst_words.proofs.Fresh.{four_set, four_of, behind_four}
 use Rattle.mst_words.proofs.words.first_words.Goals as goal
 
 pub returns-clause-digest : goal.returns-clause-digest
 returns-clause-digest g c =
     let four : List ℕ = c.empty_digest_words.result in
-    let long : length c.in_ok-words.words.items ≡ c.args.rows * 16 + 240 = ap (λ (l : List ℕ). length l) c.in_ok-words.ensures.ok ∙ length-replicate _ _ ∙ c.table_words.ensures.count in
-    four_set c.in_ok-words.words.items (get_or four 0 0) (get_or four 1 0) (get_or four 2 0) (get_or four 3 0) (omega (arith, long))
+    let long : length c.in_ok-words.words.items ≡ c.args.shape.rows * 16 + 278 = ap (λ (l : List ℕ). length l) c.in_ok-words.ensures.ok ∙ length-replicate _ _ ∙ c.table_words.ensures.count in
+    let same = length-set c.in_ok-words.words.items 42 c.format_number-number.result in
+    four_set (set c.in_ok-words.words.items 42 c.format_number-number.result) (get_or four 0 0) (get_or four 1 0) (get_or four 2 0) (get_or four 3 0) (omega (arith, long, same))
     ∙ ap bytes_in (four_of four (omega (arith, c.empty_digest_words.type_inv)))
     ∙ c.empty_digest_words.ensures.bytes
+
+pub returns-clause-format : goal.returns-clause-format
+returns-clause-format g c =
+    let four : List ℕ = c.empty_digest_words.result in
+    let long : length c.in_ok-words.words.items ≡ c.args.shape.rows * 16 + 278 = ap (λ (l : List ℕ). length l) c.in_ok-words.ensures.ok ∙ length-replicate _ _ ∙ c.table_words.ensures.count in
+    behind_four (set c.in_ok-words.words.items 42 c.format_number-number.result) (get_or four 0 0) (get_or four 1 0) (get_or four 2 0) (get_or four 3 0)
+    ∙ get_or-set_same c.in_ok-words.words.items 42 c.format_number-number.result 0 (omega (arith, long))
+    ∙ c.format_number-number.ensures.number
 
 pub bounds-empty_digest_words-0 : goal.bounds-empty_digest_words-0
 bounds-empty_digest_words-0 g c = search rules
@@ -34,6 +43,12 @@ returns-in_err-words-clause-front g c = search rules
 
 pub returns-in_err-words-clause-digest : goal.returns-in_err-words-clause-digest
 returns-in_err-words-clause-digest g c = search rules
+
+pub returns-in_err-words-clause-format : goal.returns-in_err-words-clause-format
+returns-in_err-words-clause-format g c = search rules
+
+pub index_mut-requires-5 : goal.index_mut-requires-5
+index_mut-requires-5 g c = grind (arith, common_steps)
 
 pub returns-clause-long : goal.returns-clause-long
 returns-clause-long g c = grind (arith, common_steps)

@@ -17,9 +17,6 @@ returns-in_err-ok-3 c = record { part = λ all at some. entry_links_of c.args.wo
 pub returns : goal.returns
 returns c = record { part = λ all at some. entry_links_of c.args.words.now all _ (λ child next key a b size e f len front. search rules) at some }
 
-pub bytes_of_four-bytes-requires : goal.bytes_of_four-bytes-requires
-bytes_of_four-bytes-requires c = search rules
-
 pub bounds-words-2 : goal.bounds-words-2
 bounds-words-2 c = search rules
 
@@ -28,9 +25,3 @@ bounds-words-0 c = search rules
 
 pub bounds-words-1 : goal.bounds-words-1
 bounds-words-1 c = search rules
-
-pub slice_bounds-bytes-end : goal.slice_bounds-bytes-end
-slice_bounds-bytes-end c = search rules
-
-pub slice_bounds-new-end : goal.slice_bounds-new-end
-slice_bounds-new-end c = search rules

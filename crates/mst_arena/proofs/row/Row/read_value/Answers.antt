@@ -7,12 +7,3 @@ returns-then-len-gt64 c = record { part = λ all three at some. entry_value_of c
 
 pub returns : goal.returns
 returns c = record { part = λ all three at some. entry_value_of c.args.lengths c.args.words.now all _ (λ value few size front. search rules) three at some }
-
-pub bytes_of_eight-bytes-requires : goal.bytes_of_eight-bytes-requires
-bytes_of_eight-bytes-requires c = search rules
-
-pub slice_bounds-bytes-end : goal.slice_bounds-bytes-end
-slice_bounds-bytes-end c = search rules
-
-pub slice_bounds-new-end : goal.slice_bounds-new-end
-slice_bounds-new-end c = search rules

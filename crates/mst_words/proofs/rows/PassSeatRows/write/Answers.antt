@@ -6,7 +6,7 @@ use Rattle.mst_words.proofs.rows.PassSeatRows.write.Goals as goal
 
 pub loop-k-preserved : goal.loop-k-preserved
 loop-k-preserved g c = let old : Seated = c.args.self.now in let now : Seated = c.loop-k.self in let s = c.store_word.ensures.stored in let held = ap (λ (z : Seated). z.me.0.known_words) s in let k = c.loop-k.invariant in record {
-  kept = s ∙ ap (λ (z : Seated). record z { me = (record z.me.0 { known_words = set now.me.0.known_words (c.args.row * 16 + c.loop-k.k + 240) (get_or c.words-words.result c.loop-k.k 0) }, z.me.1) }) k.kept ∙ ap (λ (h : List ℕ). record old { me = (record old.me.0 { known_words = h }, old.me.1) }) (sym held);
+  kept = s ∙ ap (λ (z : Seated). record z { me = (record z.me.0 { known_words = set now.me.0.known_words (c.args.row * 16 + c.loop-k.k + 278) (get_or c.words-words.result c.loop-k.k 0) }, z.me.1) }) k.kept ∙ ap (λ (h : List ℕ). record old { me = (record old.me.0 { known_words = h }, old.me.1) }) (sym held);
   stored = subst (λ (h : List ℕ). Stored c.args.row (c.loop-k.k + 1) c.words-words.result old.me.0.known_words h) (sym held)
       (stored_more c.args.row c.loop-k.k c.words-words.result old.me.0.known_words now.me.0.known_words k.stored (omega arith) (let w = c.store_word.ensures.wide in let l = k.stored.long in omega arith) (get_or c.words-words.result c.loop-k.k 0) refl);
 }

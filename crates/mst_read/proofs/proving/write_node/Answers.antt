@@ -1,26 +1,23 @@
 use Rattle.std.proofs.Common.{◌≡◌, ◌-◌, ◌++◌, length, ℕ, List, [], Some, ◌∙◌, sym, ap, subst, refl, arith, length-append}
 use Rattle.std.specs.Prelude.{IfSome}
-use Rattle.std.proofs.lemmas.Result.{IfOk-weaker}
-use Rattle.mst_key.specs.declared.format.Format.TheVariants.{One}
-use Rattle.mst_node.specs.Text.{heading, child_text, child_digest, counted}
-use Rattle.mst_node.proofs.Buffers.{took_none, gives_taken}
+use Rattle.mst_node.specs.Text.{heading, child_text, child_digest, counted, held_text, held_of}
 use Rattle.mst_arena.specs.Row.{entry_value}
 use Rattle.mst_arena.specs.Standing.{tree_of}
 use Rattle.mst_read.proofs.Still.{read_before}
 use Rattle.mst_read.proofs.Walk.{at_cell, at_end, child_lies, tail_lies}
 use Rattle.mst_read.proofs.Gathering.{cell_value}
-use Rattle.mst_read.proofs.NodeTexts.{entry_length, text_starts, text_goes_on, text_ends}
-use Rattle.mst_read.proofs.proving.node_text.Goals as goal
+use Rattle.mst_read.proofs.NodeTexts.{entry_length, text_starts, text_goes_on, text_ends, short_text}
+use Rattle.mst_read.proofs.proving.write_node.Goals as goal
 
 pub loop-init : goal.loop-init
 loop-init g c =
-    let begun = heading One c.args.head.now.layer c.args.head.now.count in
+    let begun = heading c.args.format c.args.head.now.layer c.args.head.now.count in
     let size : length begun ≡ 4 = refl in
     record {
       same = refl;
       written = (
         begun,
-        c.heading.ensures.heading [] (took_none c.new-out.ensures.empty),
+        c.heading.ensures.heading [] c.begin.ensures.empty,
         omega (arith, size),
         λ chain lies. record {
           rest = chain;
@@ -28,7 +25,7 @@ loop-init g c =
           tail_is = lies.tail;
           left = omega (arith, lies.count);
           rows = lies.rows;
-          holds = text_starts c.args.head.now.layer c.args.head.now.count chain begun lies.count refl;
+          holds = text_starts c.args.format c.args.head.now.layer c.args.head.now.count chain begun lies.count refl;
         },
       );
     }
@@ -38,7 +35,7 @@ loop-init g c =
 pub digest_at-child-requires : goal.digest_at-child-requires
 digest_at-child-requires g c =
     let a = at_cell (c.loop.invariant.written.3 c.requires.lies.0 c.requires.lies.1) c.loop-test.true (ap g.R.Rows.content c.loop.invariant.same) c.entry-entry.ensures.value in
-    record { lies = (a.child, child_lies a (ap g.R.Rows.content (c.value-value.ensures.same ∙ c.entry-entry.ensures.same ∙ c.loop.invariant.same))) }
+    record { lies = (c.args.format, a.child, child_lies a (ap g.R.Rows.content (c.value-value.ensures.same ∙ c.entry-entry.ensures.same ∙ c.loop.invariant.same))) }
 
 pub loop-preserved : goal.loop-preserved
 loop-preserved g c =
@@ -48,14 +45,14 @@ loop-preserved g c =
       written = (
         _,
         c.entry.ensures.entry m c.loop.invariant.written.1,
-        omega (arith, entry_length m (child_text c.digest_at-child.result) c.bytes.result.now c.bytes-in-loop.result.now, c.digest_at-child.ensures.short, c.loop.invariant.written.2, c.bytes.ensures, c.bytes-in-loop.ensures),
+        omega (arith, entry_length c.args.format m (child_text c.digest_at-child.result) c.bytes.result.now c.bytes-in-loop.result.now (omega (arith, c.bytes-in-loop.ensures)), c.digest_at-child.ensures.short, c.loop.invariant.written.2, c.bytes.ensures, c.bytes-in-loop.ensures),
         λ chain behind.
             let here = at_cell (c.loop.invariant.written.3 chain behind) c.loop-test.true (ap g.R.Rows.content c.loop.invariant.same) c.entry-entry.ensures.value in
-            let gap : c.digest_at-child.result ≡ child_digest (tree_of One here.child) = c.digest_at-child.ensures.digest here.child (child_lies here (ap g.R.Rows.content (c.value-value.ensures.same ∙ c.entry-entry.ensures.same ∙ c.loop.invariant.same))) in
+            let gap : c.digest_at-child.result ≡ child_digest (tree_of c.args.format here.child) = c.digest_at-child.ensures.digest c.args.format here.child (child_lies here (ap g.R.Rows.content (c.value-value.ensures.same ∙ c.entry-entry.ensures.same ∙ c.loop.invariant.same))) in
             let read : Some c.value-value.result ≡ Some here.value = sym (read_before (ap g.R.Rows.content (c.entry-entry.ensures.same ∙ c.loop.invariant.same)) entry_value (c.loop.link - 1) c.value-value.ensures.value) ∙ cell_value here in
             let value : c.value-value.result ≡ here.value = cc in
-            let written : ((m ++ child_text c.digest_at-child.result) ++ counted c.bytes.result.now) ++ counted c.bytes-in-loop.result.now ≡ ((m ++ child_text (child_digest (tree_of One here.child))) ++ counted c.entry-entry.result.key) ++ counted here.value = cc (gap, value, c.bytes.ensures.bytes, c.bytes-in-loop.ensures.bytes) in
-            text_goes_on m here written,
+            let written : ((m ++ child_text c.digest_at-child.result) ++ counted c.bytes.result.now) ++ held_text c.args.format (held_of c.args.format c.bytes-in-loop.result.now) ≡ ((m ++ child_text (child_digest (tree_of c.args.format here.child))) ++ counted c.entry-entry.result.key) ++ held_text c.args.format (held_of c.args.format here.value) = cc (gap, value, c.bytes.ensures.bytes, c.bytes-in-loop.ensures.bytes) in
+            text_goes_on c.args.format m here written,
       );
     }
 
@@ -64,19 +61,18 @@ loop-preserved g c =
 pub digest_at-requires : goal.digest_at-requires
 digest_at-requires g c =
     let a = at_end (c.loop.invariant.written.3 c.requires.lies.0 c.requires.lies.1) (omega (arith, c.loop-test.false)) in
-    record { lies = (a.child, tail_lies a (ap g.R.Rows.content c.loop.invariant.same)) }
+    record { lies = (c.args.format, a.child, tail_lies a (ap g.R.Rows.content c.loop.invariant.same)) }
 
 pub returns-clause-ok : goal.returns-clause-ok
 returns-clause-ok g c chain behind =
     let m = c.loop.invariant.written.0 in
     let last = at_end (c.loop.invariant.written.3 chain behind) (omega (arith, c.loop-test.false)) in
-    let tail : c.digest_at.result ≡ child_digest (tree_of One last.child) = c.digest_at.ensures.digest last.child (tail_lies last (ap g.R.Rows.content c.loop.invariant.same)) in
-    let whole = text_ends m last (ap (λ d. m ++ child_text d) tail) in
-    gives_taken (λ t. t.items) _ _ c.finish.result c.finish.ensures.bytes (subst (λ (xs : List ℕ). IfSome c.child.new.self (λ bytes. bytes ≡ xs)) whole (c.child.ensures.child m c.loop.invariant.written.1))
+    let tail : c.digest_at.result ≡ child_digest (tree_of c.args.format last.child) = c.digest_at.ensures.digest c.args.format last.child (tail_lies last (ap g.R.Rows.content c.loop.invariant.same)) in
+    let whole = text_ends c.args.format m last (ap (λ d. m ++ child_text d) tail) in
+    subst (λ (xs : List ℕ). IfSome c.child.new.self (λ bytes. bytes ≡ xs)) whole (c.child.ensures.child m c.loop.invariant.written.1)
 
 pub returns-clause-short : goal.returns-clause-short
 returns-clause-short g c =
     let m = c.loop.invariant.written.0 in
     let done = (c.loop.invariant.written.3 c.requires.lies.0 c.requires.lies.1).left in
-    let taken = gives_taken (λ t. t.items) _ _ c.finish.result c.finish.ensures.bytes (c.child.ensures.child m c.loop.invariant.written.1) in
-    IfOk-weaker c.finish.result _ _ (λ t is. omega (arith, ap (λ (l : List ℕ). length l) is, length-append m (child_text c.digest_at.result), c.digest_at.ensures.short, c.loop.invariant.written.2, done, c.requires.limits.2)) taken
+    short_text c.child.new.self (m ++ child_text c.digest_at.result) 8584991 (c.child.ensures.child m c.loop.invariant.written.1) (omega (arith, length-append m (child_text c.digest_at.result), c.digest_at.ensures.short, c.loop.invariant.written.2, done, c.requires.limits.2))

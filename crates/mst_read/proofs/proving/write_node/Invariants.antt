@@ -1,13 +1,12 @@
 use Rattle.std.proofs.Common.{◌≡◌, ◌≤◌, ◌+◌, ◌*◌, ℕ, List, length}
 use Rattle.std.specs.Prelude.{IfSome}
-use Rattle.mst_key.specs.declared.format.Format.TheVariants.{One}
 use Rattle.mst_node.specs.Tree.{node}
 use Rattle.mst_node.specs.Text.{text}
 use Rattle.mst_arena.specs.Standing.{Chain, entries_of}
 use Rattle.mst_read.specs.Search.{LiesBehind}
 use Rattle.mst_read.proofs.Walk.{Onward}
 use Rattle.mst_read.proofs.NodeTexts.{Completes}
-use Rattle.mst_read.proofs.proving.node_text.Given as goal
+use Rattle.mst_read.proofs.proving.write_node.Given as goal
 
 -- what is written, with the text of the rest, is the text of the whole node; each entry takes at
 -- most 131 bytes
@@ -15,6 +14,6 @@ abbrev pub invariant-loop : goal.invariant-loop
 invariant-loop g l = record {
   same : l.rows ≡ l.initial.rows;
   written : (m : List ℕ) × IfSome l.out (λ bytes. bytes ≡ m) × (length m ≤ 4 + 131 * l.counter)
-      × ((c : Chain) → LiesBehind One (g.R.Rows.content l.initial.rows) l.head c
-      → Onward One (g.R.Rows.content l.initial.rows) l.head.tail l.link l.counter l.end (Completes m (text (node One l.head.layer (entries_of One c)))));
+      × ((c : Chain) → LiesBehind l.format (g.R.Rows.content l.initial.rows) l.head c
+      → Onward l.format (g.R.Rows.content l.initial.rows) l.head.tail l.link l.counter l.end (Completes l.format m (text (node l.format l.head.layer (entries_of l.format c)))));
 }

@@ -1,0 +1,71 @@
+//! The texts of nodes in memory, one after the other.
+ghost use Rattle.std.specs.Prelude.{◌≡◌, [], Some, IfOk, IfSome};
+
+use mst_key::Memory;
+use mst_node::TextSink;
+use std::alloc::Allocator;
+use std::marker::Model;
+
+/// The text of one node after another, each in the room of those before. A refused growth ends it,
+/// and is told by `bytes`.
+#[derive(Drop)]
+pub struct NodeBuffer<A: Allocator> {
+    bytes: Vec<u8, A>,
+    is_refused: bool,
+}
+
+/// Contracts see the bytes of the text at hand; none once a growth was refused.
+impl<A: Allocator> Model for NodeBuffer<A> {
+    ghost use Rattle.std.specs.Prelude.{List, ℕ, Option, Some, None, cond};
+
+    ghost Value = { Option (List ℕ) };
+
+    ghost view = { λ s. cond s.is_refused None (Some s.bytes.items) };
+}
+
+impl<A: Allocator> NodeBuffer<A> {
+    /// A text of no bytes, and no room.
+    pub fn new(alloc: A) -> NodeBuffer<A>
+        ensures empty { result ≡ Some [] }
+    {
+        NodeBuffer {
+            bytes: Vec::new(alloc),
+            is_refused: false,
+        }
+    }
+
+    /// Begins another text, and asks for room for so many bytes.
+    pub fn begin(&mut self, room: usize)
+        ensures empty { IfSome self.new (λ bytes. bytes ≡ []) }
+    {
+        self.bytes.clear();
+        match self.bytes.reserve(room) {
+            Ok(()) => {}
+            Err(_) => self.is_refused = true,
+        }
+    }
+
+    /// The bytes. `Memory` comes only where a growth was refused.
+    pub fn bytes(&self) -> Result<&[u8], Memory>
+        ensures bytes { IfOk result (λ bytes. self.now ≡ Some bytes.now) }
+    {
+        if self.is_refused {
+            Err(Memory)
+        } else {
+            Ok(self.bytes.as_slice())
+        }
+    }
+}
+
+impl<A: Allocator> TextSink for NodeBuffer<A> {
+    ghost took = { λ s m. IfSome s (λ bytes. bytes ≡ m) };
+
+    fn take(&mut self, bytes: &[u8]) {
+        if !self.is_refused {
+            match self.bytes.extend_from_slice(bytes) {
+                Ok(()) => {}
+                Err(_) => self.is_refused = true,
+            }
+        }
+    }
+}

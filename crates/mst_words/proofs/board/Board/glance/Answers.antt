@@ -1,0 +1,8 @@
+use Rattle.std.proofs.Common.{rules}
+use Rattle.mst_words.specs.Stored.{stored}
+use Rattle.mst_words.proofs.Framed.{stored_framed}
+use Rattle.mst_words.proofs.Hearing.{glances_allows}
+use Rattle.mst_words.proofs.board.Board.glance.Goals as goal
+
+pub load-requires : goal.load-requires
+load-requires g c = (search rules, search rules, glances_allows (stored _) (stored_framed _) _ _ _ _ _ c.args.seat.now.me)
