@@ -1,2 +1,3 @@
 mod Returning
 mod Working
+mod Kept

@@ -8,6 +8,7 @@ use native.Mathlib.Decide.{ℕ_discrete}
 use Rattle.mst_store.specs.Passes.{StoreId, Known, IsSamePass, new_pass, first_passes, new_passes}
 use Rattle.mst_store.specs.Settling.{AreAllPasses, numbers}
 use Rattle.mst_store.proofs.AllPasses.{all_new}
+use Rattle.mst_load.specs.Workers.{IsWorkerOf}
 
 same_numbers : (ps qs : List Known) → length qs ≡ length ps → ((k : ℕ) (d : Known) → k < length ps → IsSamePass (get_or ps k d) (get_or qs k d)) → numbers qs ≡ numbers ps
 same_numbers [] [] l same = refl
@@ -17,7 +18,7 @@ same_numbers (p ∷ ps) (q ∷ qs) l same =
     ap (λ (n : ℕ). n ∷ numbers qs) ((same 0 p (omega arith)).1) ∙ ap (λ (m : List ℕ). p.number ∷ m) (same_numbers ps qs (omega (arith, l)) (λ k d below. same (suc k) d (omega (arith, below))))
 
 -- each of them is the same pass as before
-all_same : (ps qs : List Known) → length qs ≡ length ps → ((k : ℕ) (d : Known) → k < length ps → IsSamePass (get_or ps k d) (get_or qs k d)) → AreAllPasses ps → AreAllPasses qs
+pub all_same : (ps qs : List Known) → length qs ≡ length ps → ((k : ℕ) (d : Known) → k < length ps → IsSamePass (get_or ps k d) (get_or qs k d)) → AreAllPasses ps → AreAllPasses qs
 all_same ps qs l same w = record {
   store = w.store;
   of_one = λ k d below. let here : k < length ps = omega (arith, l, below) in (same k d here).0 ∙ w.of_one k d here;
@@ -36,9 +37,9 @@ first_at s (suc n) k d below =
     ap (λ (j : ℕ). get_or (ps ++ p ∷ []) j d) at ∙ get_or-append-add ps (p ∷ []) 0 d ∙ ap (new_pass s) next)
     (λ (other : k ≢ n). let low : k < n = omega (arith, below, other) in let inside : k < length ps = omega (arith, low, e) in get_or-append ps (p ∷ []) d k inside ∙ first_at s n k d low)
 
--- each pass that was dealt is of the store
-pub dealt_own : (s : StoreId) (ps : List Known) (k : ℕ) (d : Known) → ps ≡ new_passes s → k < s.passes → (get_or ps k d).store ≡ s
-dealt_own s ps k d is below = ap (λ (qs : List Known). (get_or qs k d).store) is ∙ ap (λ (p : Known). p.store) (first_at s s.passes k d below)
+-- each pass that was dealt is of the store, and has no event yet
+pub dealt_worker : (s : StoreId) (ps : List Known) (k : ℕ) (d : Known) → ps ≡ new_passes s → k < s.passes → IsWorkerOf s (get_or ps k d)
+dealt_worker s ps k d is below = subst (IsWorkerOf s) (sym (ap (λ (qs : List Known). get_or qs k d) is ∙ first_at s s.passes k d below)) (record { of_store = refl; keeps = λ i e none. absurd (omega (arith, none)) })
 
 -- passes of the store with the numbers from 1 on, as many as it has
 pub all_back : (s : StoreId) (qs : List Known) → length qs ≡ s.passes → ((k : ℕ) (d : Known) → k < length qs → (get_or qs k d).store ≡ s) → ((k : ℕ) (d : Known) → k < length qs → (get_or qs k d).number ≡ k + 1) → AreAllPasses qs

@@ -1,5 +1,6 @@
 -- A store that a type names where none is picked.
 use Rattle.std.specs.Prelude.{[]}
+use Rattle.mst_key.specs.declared.format.Format.TheVariants.{One}
 use Rattle.mst_store.specs.Passes.{StoreId}
 
 -- the store that is named where none is picked
@@ -16,4 +17,5 @@ no_store = record {
   };
   rows = 0;
   passes = 0;
+  format = One;
 }

@@ -1,10 +1,15 @@
 -- What a worker gives back. Each clause follows from the contracts of the pass alone, whatever
 -- other threads do.
-use Rattle.std.specs.Prelude.{◌≡◌, ◌⊎◌, ℕ, zero, suc, ◌<◌, ◌≤◌, [], ◌∷◌, ◌++◌, length}
-use Rattle.mst_key.specs.History.{History}
-use Rattle.mst_store.specs.Passes.{Known, IsSamePass}
+use Rattle.std.specs.Prelude.{◌≡◌, ◌⊎◌, ℕ, zero, suc, ◌<◌, ◌≤◌, [], ◌∷◌, ◌++◌, length, All}
+use Rattle.mst_key.specs.History.{History, IsMigration}
+use Rattle.mst_store.specs.Passes.{StoreId, Known, IsSamePass}
 use Rattle.mst_load.specs.Calls.{event_of}
 use Rattle.mst_load.specs.declared.worker.Plan.{Plan}
+
+-- the pass is of the store, and none of its events is a migration
+pub record IsWorkerOf (store : StoreId) (p : Known) : Type 0 where
+  pub of_store : p.store ≡ store
+  pub keeps : All (λ e. IsMigration e.change → ⊥) p.mine
 
 -- These events are of the first so many calls of the writer, in their order, behind those before:
 -- each call was made or refused

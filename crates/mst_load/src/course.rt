@@ -2,6 +2,7 @@
 //! thread returns, its type alone is known.
 ghost use Rattle.std.specs.Prelude.{◌≡◌};
 ghost use Rattle.mst_store.specs.Passes.{StoreId};
+ghost use Rattle.mst_load.specs.Workers.{IsWorkerOf};
 
 use mst_store::Pass;
 use std::alloc::Global;
@@ -25,6 +26,6 @@ pub(crate) struct Worker<'a, C: Course> {
     pub(crate) pass: Pass<'a, Global>,
     pub(crate) falls: u64,
     pub(crate) of: PhantomData<C>,
-    pub ghost own: { pass.store ≡ C.store },
+    pub ghost own: { IsWorkerOf C.store pass },
     pub ghost never: { falls ≡ 0 },
 }

@@ -1,5 +1,7 @@
 //! A load of readers and writers, from the store's opening to its end.
-ghost use Rattle.std.specs.Prelude.{◌≡◌, ◌≤◌, IfOk};
+ghost use Rattle.std.specs.Prelude.{◌≡◌, ◌<◌, ◌≤◌, ◌∷◌, ◌++◌, [], All, IfOk, vec_len, vec_capacity};
+ghost use Rattle.mst_key.specs.declared.format.Format.TheVariants.{One};
+ghost use Rattle.mst_key.specs.History.{KeepsFormat};
 ghost use Rattle.mst_store.specs.Settling.{AreAllPasses};
 ghost use Rattle.mst_load.specs.Reports.{IsOneVersion};
 
@@ -8,7 +10,7 @@ use crate::gate::Gate;
 use crate::running::run_all;
 use crate::worker::Plan;
 use mst_node::root_of;
-use mst_store::{Pass, Shape, Store, settle};
+use mst_store::{Format, Pass, Shape, Store, settle};
 use std::alloc::{AllocGlobal, Allocator, Global};
 use std::marker::Brand;
 use std::sync::Wait;
@@ -42,31 +44,39 @@ pub enum LoadFault {
     Thread,
 }
 
-// Lets all passes settle, none of which pins a version.
-fn settle_all(passes: &mut [Pass<'_, Global>])
-    requires whole { AreAllPasses passes.old }
-{
-    settle(passes, &mut []);
-}
-
-// The number of the version that a pass finds, and the root digest of its map.
-fn version_of(pass: Pass<'_, Global>) -> (u64, [u8; 32])
+// The number of the version that a pass finds, and the root digest of its map. All passes then
+// settle, so that all events that led to it are known.
+fn version_of<'a, A: Allocator>(
+    pass: Pass<'a, Global>,
+    others: Vec<Pass<'a, Global>, A>,
+) -> (u64, [u8; 32])
+    requires room { vec_len others < vec_capacity others }
+    requires whole { AreAllPasses (others.items ++ pass ∷ []) }
+    requires format { pass.store.format ≡ One }
+    requires keeps { All (λ p. KeepsFormat p.mine) others.items }
+    requires own { KeepsFormat pass.mine }
     ensures version { IsOneVersion result.0 result.1 }
 {
     let mut pinned = pass.pin();
-    (pinned.version(), pinned.root())
+    let events = pinned.version();
+    let root = pinned.root();
+    let mut all = others;
+    all.push_reserved(pinned.unpin());
+    settle(all.as_mut_slice(), &mut []);
+    (events, root)
 }
 
 // What a pass finds when all have settled.
 fn report_of<A: Allocator>(passes: Vec<Pass<'_, Global>, A>, falls: u64, built: [u8; 32]) -> Report
     requires whole { AreAllPasses passes.items }
+    requires format { All (λ p. p.store.format ≡ One) passes.items }
+    requires keeps { All (λ p. KeepsFormat p.mine) passes.items }
     ensures falls { result.falls ≡ falls }
     ensures version { IsOneVersion result.events result.root }
 {
     let mut passes = passes;
-    settle_all(passes.as_mut_slice());
     let (events, root) = match passes.pop() {
-        Some(pass) => version_of(pass),
+        Some(pass) => version_of(pass, passes),
         None => (0, root_of(&[])),
     };
     Report {
@@ -88,7 +98,7 @@ fn report_of<A: Allocator>(passes: Vec<Pass<'_, Global>, A>, falls: u64, built: 
 /// which the threads share, lies in the runtime's memory, the lists of passes and threads in
 /// `alloc`. It returns when all threads have returned, also with a fault: `Memory` where a growth
 /// was refused, `Thread` where a thread could not be started.
-#[tactic(auto, using(crate::proofs::Returning::dealt_own, crate::proofs::Returning::all_back))]
+#[tactic(auto, using(crate::proofs::Returning::dealt_worker, crate::proofs::Returning::all_back))]
 pub fn load<R: Threads + Wait + AllocGlobal + Sync, A: Allocator + Copy, G: Gate + Sync>(
     rt: &R,
     alloc: A,
@@ -110,6 +120,7 @@ pub fn load<R: Threads + Wait + AllocGlobal + Sync, A: Allocator + Copy, G: Gate
     let shape = Shape {
         rows: ROWS,
         passes: readers + writers,
+        format: Format::One,
     };
     let Ok((store, seats)) = Store::open(rt.alloc(), shape) else {
         return Err(LoadFault::Memory);

@@ -1,6 +1,7 @@
 //! The threads: one for each worker, all of them joined.
 ghost use Rattle.std.specs.Prelude.{◌≡◌, ◌<◌, ◌≤◌, ◌+◌, ℕ, IfOk, get_or, vec_len};
 ghost use Rattle.mst_store.specs.Passes.{Known};
+ghost use Rattle.mst_load.specs.Workers.{IsWorkerOf};
 
 use crate::course::{Course, Worker};
 use crate::engine::LoadFault;
@@ -22,7 +23,7 @@ fn start<'s, 'a: 's, E, R: Wait + Sync, G: Gate + Sync, C: Course + Send + 's>(
     plan: Plan,
 ) -> Result<JoinHandle<Worker<'a, C>>, LoadFault>
     requires few { plan.writers ≤ 8 }
-    requires own { pass.store ≡ C.store }
+    requires own { IsWorkerOf C.store pass }
 {
     let worker = Worker {
         pass,
@@ -47,7 +48,7 @@ fn start_all<'s, 'a: 's, E, R: Wait + Sync, A: Allocator, G: Gate + Sync, C: Cou
 ) -> Result<Vec<JoinHandle<Worker<'a, C>>, A>, LoadFault>
     requires few { plan.writers ≤ 8 }
     requires own { (k : ℕ) (d : Known) → k < vec_len passes
-        → (get_or passes.items k d).store ≡ C.store }
+        → IsWorkerOf C.store (get_or passes.items k d) }
     ensures count { IfOk result (λ handles. vec_len handles ≡ vec_len passes.entry) }
 {
     let mut handles = Vec::new(alloc);
@@ -71,7 +72,7 @@ fn join_all<'a, R: Threads, A: Allocator, C: Course>(
     ensures count { IfOk result (λ r. vec_len r.0 ≡ vec_len handles.entry) }
     ensures never { IfOk result (λ r. r.1 ≡ 0) }
     ensures own { IfOk result (λ r. (k : ℕ) (d : Known) → k < vec_len r.0
-        → (get_or r.0.items k d).store ≡ C.store) }
+        → IsWorkerOf C.store (get_or r.0.items k d)) }
     ensures numbered { IfOk result (λ r. (k : ℕ) (d : Known) → k < vec_len r.0
         → (get_or r.0.items k d).number ≡ k + 1) }
 {
@@ -113,11 +114,11 @@ where
     requires few { plan.writers ≤ 8 }
     requires count { vec_len passes ≤ 32 }
     requires own { (k : ℕ) (d : Known) → k < vec_len passes
-        → (get_or passes.items k d).store ≡ C.store }
+        → IsWorkerOf C.store (get_or passes.items k d) }
     ensures count { IfOk result (λ r. vec_len r.0 ≡ vec_len passes.entry) }
     ensures never { IfOk result (λ r. r.1 ≡ 0) }
     ensures own { IfOk result (λ r. (k : ℕ) (d : Known) → k < vec_len r.0
-        → (get_or r.0.items k d).store ≡ C.store) }
+        → IsWorkerOf C.store (get_or r.0.items k d)) }
     ensures numbered { IfOk result (λ r. (k : ℕ) (d : Known) → k < vec_len r.0
         → (get_or r.0.items k d).number ≡ k + 1) }
 {
@@ -128,11 +129,11 @@ where
             requires few { plan.writers ≤ 8 }
             requires count { vec_len passes ≤ 32 }
             requires own { (k : ℕ) (d : Known) → k < vec_len passes
-                → (get_or passes.items k d).store ≡ C.store }
+                → IsWorkerOf C.store (get_or passes.items k d) }
             ensures count { IfOk result (λ r. vec_len r.0 ≡ vec_len passes.entry) }
             ensures never { IfOk result (λ r. r.1 ≡ 0) }
             ensures own { IfOk result (λ r. (k : ℕ) (d : Known) → k < vec_len r.0
-                → (get_or r.0.items k d).store ≡ C.store) }
+                → IsWorkerOf C.store (get_or r.0.items k d)) }
             ensures numbered { IfOk result (λ r. (k : ℕ) (d : Known) → k < vec_len r.0
                 → (get_or r.0.items k d).number ≡ k + 1) }
         {

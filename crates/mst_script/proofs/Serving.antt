@@ -7,13 +7,14 @@ use Rattle.std.proofs.lemmas.Bool.{false≢true}
 use Rattle.std.proofs.Math.Seq.{take-append_seam}
 use Rattle.std.proofs.lemmas.List.Elements.{All-append, All-map}
 use Rattle.std.proofs.lemmas.List.Sorted.{IsPermutation-refl, IsPermutation-sym, IsPermutation-trans, IsPermutation-append_left, IsPermutation-swap_remove}
-use Rattle.mst_key.specs.History.{History, after, events_of, IsPrefix}
+use Rattle.mst_key.specs.History.{History, after, format_after, events_of, IsPrefix}
 use Rattle.mst_key.proofs.HistoryLaws.{IsPrefix-itself}
 use Rattle.mst_store.specs.Passes.{StoreId, Known, having_asked}
 use Rattle.mst_store.specs.Settling.{having_seen, AreAllPasses, Settled}
 use Rattle.mst_requests.specs.declared.request.Fault.{Fault}
 use Rattle.mst_requests.specs.declared.request.Command.{Command}
-use Rattle.mst_requests.specs.declared.request.Command.TheVariants.{Put, Remove, Get, Next, Range, Root, Node, Prove, Pin, Unpin, Rows}
+use Rattle.mst_requests.specs.declared.request.Command.TheVariants.{Put, Remove, Migrate, Get, Next, Range, Root, Node, Prove, Pin, Unpin, Rows}
+use Rattle.mst_requests.specs.declared.request.Command.TheVariants as ask
 use Rattle.mst_requests.specs.declared.request.Request.{Request}
 use Rattle.mst_requests.specs.Grammar.{asked}
 use Rattle.mst_requests.specs.Texts.{line_of, pinned_words}
@@ -64,12 +65,14 @@ still_there m r s t shows moved st =
 free_step : (store : StoreId) (p : ℕ) (command : Command) (m new : Machine) (text : List ℕ) → is_pin command ≡ false → Acts store p command m.history text new.history → new.pinned ≡ m.pinned → FreeStep store p command m text new
 free_step store p (Put k v) m new text other step pins = (step, pins)
 free_step store p (Remove k) m new text other step pins = (step, pins)
+free_step store p (Migrate to) m new text other step pins = (step, pins)
 free_step store p (Get k) m new text other step pins = (step, pins)
 free_step store p (Next bound) m new text other step pins = (step, pins)
 free_step store p (Range from to n) m new text other step pins = (step, pins)
 free_step store p Root m new text other step pins = (step, pins)
 free_step store p Node m new text other step pins = (step, pins)
 free_step store p (Prove k) m new text other step pins = (step, pins)
+free_step store p ask.Format m new text other step pins = (step, pins)
 free_step store p Pin m new text other step pins = absurd (false≢true (sym other))
 free_step store p Unpin m new text other step pins = (step, pins)
 free_step store p Rows m new text other step pins = (step, pins)
@@ -78,7 +81,7 @@ free_step store p Rows m new text other step pins = (step, pins)
 step_free : (store : StoreId) (p : ℕ) (command : Command) (m new : Machine) (text : List ℕ) → m.pinned p ≡ None → FreeStep store p command m text new → Step store p command m text new
 step_free store p command m new text none step = subst (λ (v : Option ℕ). StepOf v store p command m text new) (sym none) step
 
-step_pinned : (store : StoreId) (p n : ℕ) (command : Command) (m new : Machine) (text : List ℕ) → m.pinned p ≡ Some n → PinnedStep p n command m text new → Step store p command m text new
+step_pinned : (store : StoreId) (p n : ℕ) (command : Command) (m new : Machine) (text : List ℕ) → m.pinned p ≡ Some n → PinnedStep store p n command m text new → Step store p command m text new
 step_pinned store p n command m new text some step = subst (λ (v : Option ℕ). StepOf v store p command m text new) (sym some) step
 
 acts_there : (store : StoreId) (n : ℕ) (command : Command) (text : List ℕ) (p q : Known) (log h new : History) → p.store ≡ store → p.number ≡ n → log ≡ h → q.seen ≡ new → Acts p.store p.number command log text q.seen → Acts store n command h text new
@@ -123,18 +126,20 @@ does_ask store n command r s place text all at nowhere other a = λ m shows t st
 
 -- ---- a pass that pins a version read it, or was refused
 
-pinned_step : (p n : ℕ) (command : Command) (m : Machine) (text : List ℕ) → is_unpin command ≡ false → Recalls command (after (take n m.history)) text → PinnedStep p n command m text m
-pinned_step p n (Put k v) m text other recalls = (recalls, refl)
-pinned_step p n (Remove k) m text other recalls = (recalls, refl)
-pinned_step p n (Get k) m text other recalls = (recalls, refl)
-pinned_step p n (Next bound) m text other recalls = (recalls, refl)
-pinned_step p n (Range from to limit) m text other recalls = (recalls, refl)
-pinned_step p n Root m text other recalls = (recalls, refl)
-pinned_step p n Node m text other recalls = (recalls, refl)
-pinned_step p n (Prove k) m text other recalls = (recalls, refl)
-pinned_step p n Pin m text other recalls = (recalls, refl)
-pinned_step p n Unpin m text other recalls = absurd (false≢true (sym other))
-pinned_step p n Rows m text other recalls = (recalls, refl)
+pinned_step : (store : StoreId) (p n : ℕ) (command : Command) (m : Machine) (text : List ℕ) → is_unpin command ≡ false → Recalls command (format_after store.format (take n m.history)) (after (take n m.history)) text → PinnedStep store p n command m text m
+pinned_step store p n (Put k v) m text other recalls = (recalls, refl)
+pinned_step store p n (Remove k) m text other recalls = (recalls, refl)
+pinned_step store p n (Migrate to) m text other recalls = (recalls, refl)
+pinned_step store p n (Get k) m text other recalls = (recalls, refl)
+pinned_step store p n (Next bound) m text other recalls = (recalls, refl)
+pinned_step store p n (Range from to limit) m text other recalls = (recalls, refl)
+pinned_step store p n Root m text other recalls = (recalls, refl)
+pinned_step store p n Node m text other recalls = (recalls, refl)
+pinned_step store p n (Prove k) m text other recalls = (recalls, refl)
+pinned_step store p n ask.Format m text other recalls = (recalls, refl)
+pinned_step store p n Pin m text other recalls = (recalls, refl)
+pinned_step store p n Unpin m text other recalls = absurd (false≢true (sym other))
+pinned_step store p n Rows m text other recalls = (recalls, refl)
 
 -- the version that the pass pins is of so many events
 version_seen : (g h : History) → IsPrefix g h → take (length g) h ≡ g
@@ -152,13 +157,16 @@ pinned_at m r n place p shows at here =
 pub all_recalled : (store : StoreId) (command : Command) (r s : Roster) (place : ℕ) (text : List ℕ) → AsksPinned command r place text s → AreAllOf store (everyone r) → AreAllOf store (everyone s)
 all_recalled store command r s place text a all = subst (λ (x : Roster). AreAllOf store (everyone x)) (sym a.same) all
 
-pub does_recall : (store : StoreId) (n : ℕ) (command : Command) (r s : Roster) (place : ℕ) (text : List ℕ) → IsPlace r.held n place → is_unpin command ≡ false → AsksPinned command r place text s → Does store n command r text s
-does_recall store n command r s place text at other a = λ m shows t st.
+pub does_recall : (store : StoreId) (n : ℕ) (command : Command) (r s : Roster) (place : ℕ) (text : List ℕ) → AreAllOf store (everyone r) → IsPlace r.held n place → is_unpin command ≡ false → AsksPinned command r place text s → Does store n command r text s
+does_recall store n command r s place text all at other a = λ m shows t st.
     let k = pinned_at m r n place a.p shows at (a.here a.p) in
     let moved : IsPermutation (everyone r) (everyone s) = subst (λ (x : Roster). IsPermutation (everyone r) (everyone x)) (sym a.same) (IsPermutation-refl (everyone r)) in
-    let recalls : Recalls command (after (take (length a.p.seen) m.history)) text = subst (λ (h : History). Recalls command (after h) text) (sym (version_seen a.p.seen m.history k.2)) a.recalls in (
+    let of_store : a.p.store ≡ store = ap (λ (x : Known). x.store) (sym (a.here a.p)) ∙ back_of (λ (x : Known). x.store ≡ store) r.free r.held all.of_one place a.p at.0 in
+    let seen = take (length a.p.seen) m.history in
+    let recalls : Recalls command (format_after store.format seen) (after seen) text = subst (λ (h : History). Recalls command (format_after store.format h) (after h) text) (sym (version_seen a.p.seen m.history k.2))
+    (subst (λ (x : StoreId). Recalls command (format_after x.format a.p.seen) (after a.p.seen) text) of_store a.recalls) in (
       m,
-      step_pinned store n (length a.p.seen) command m m text k.0 (pinned_step n (length a.p.seen) command m text other recalls),
+      step_pinned store n (length a.p.seen) command m m text k.0 (pinned_step store n (length a.p.seen) command m text other recalls),
       shows_settled m s t st (still_there m r s t shows moved st) (subst (λ (x : Roster). KnowsPins m.pinned x.held) (sym a.same) shows.pins),
     )
 
@@ -196,12 +204,14 @@ does_pin store n command r s place version text at nowhere pin is a = λ m shows
     pin_step : (store : StoreId) (p : ℕ) (c : Command) (m : Machine) (text : List ℕ) → is_pin c ≡ true → text ≡ line_of (pinned_words (length m.history)) → FreeStep store p c m text (with_pin p (Some (length m.history)) m)
     pin_step store p (Put k v) m text pin said = absurd (false≢true pin)
     pin_step store p (Remove k) m text pin said = absurd (false≢true pin)
+    pin_step store p (Migrate to) m text pin said = absurd (false≢true pin)
     pin_step store p (Get k) m text pin said = absurd (false≢true pin)
     pin_step store p (Next bound) m text pin said = absurd (false≢true pin)
     pin_step store p (Range from to limit) m text pin said = absurd (false≢true pin)
     pin_step store p Root m text pin said = absurd (false≢true pin)
     pin_step store p Node m text pin said = absurd (false≢true pin)
     pin_step store p (Prove k) m text pin said = absurd (false≢true pin)
+    pin_step store p ask.Format m text pin said = absurd (false≢true pin)
     pin_step store p Pin m text pin said = (said, refl)
     pin_step store p Unpin m text pin said = absurd (false≢true pin)
     pin_step store p Rows m text pin said = absurd (false≢true pin)
@@ -230,22 +240,24 @@ does_unpin store n command r s place text at unpin said a = λ m shows t st.
     let rest = swap_remove r.held place a.p in
     let knows : KnowsPins new.pinned rest = subst (λ (i : ℕ). KnowsPins (with_pin i None m).pinned rest) k.1 (knows_unpin m.pinned r.held rest a.p shows.pins (IsPermutation-swap_remove r.held place a.p at.0 a.here)) in (
       new,
-      step_pinned store n (length a.p.seen) command m new text k.0 (unpin_step n (length a.p.seen) command m text unpin said),
+      step_pinned store n (length a.p.seen) command m new text k.0 (unpin_step store n (length a.p.seen) command m text unpin said),
       shows_settled new s t st (still_there m r s t shows (unpins_moved r s place at.0 a) st) (subst (KnowsPins new.pinned) (sym a.held) knows),
     )
   where
-    unpin_step : (p n : ℕ) (c : Command) (m : Machine) (text : List ℕ) → is_unpin c ≡ true → text ≡ line_of (codes "unpinned") → PinnedStep p n c m text (with_pin p None m)
-    unpin_step p n (Put k v) m text unpin said = absurd (false≢true unpin)
-    unpin_step p n (Remove k) m text unpin said = absurd (false≢true unpin)
-    unpin_step p n (Get k) m text unpin said = absurd (false≢true unpin)
-    unpin_step p n (Next bound) m text unpin said = absurd (false≢true unpin)
-    unpin_step p n (Range from to limit) m text unpin said = absurd (false≢true unpin)
-    unpin_step p n Root m text unpin said = absurd (false≢true unpin)
-    unpin_step p n Node m text unpin said = absurd (false≢true unpin)
-    unpin_step p n (Prove k) m text unpin said = absurd (false≢true unpin)
-    unpin_step p n Pin m text unpin said = absurd (false≢true unpin)
-    unpin_step p n Unpin m text unpin said = (said, refl)
-    unpin_step p n Rows m text unpin said = absurd (false≢true unpin)
+    unpin_step : (store : StoreId) (p n : ℕ) (c : Command) (m : Machine) (text : List ℕ) → is_unpin c ≡ true → text ≡ line_of (codes "unpinned") → PinnedStep store p n c m text (with_pin p None m)
+    unpin_step store p n (Put k v) m text unpin said = absurd (false≢true unpin)
+    unpin_step store p n (Remove k) m text unpin said = absurd (false≢true unpin)
+    unpin_step store p n (Migrate to) m text unpin said = absurd (false≢true unpin)
+    unpin_step store p n (Get k) m text unpin said = absurd (false≢true unpin)
+    unpin_step store p n (Next bound) m text unpin said = absurd (false≢true unpin)
+    unpin_step store p n (Range from to limit) m text unpin said = absurd (false≢true unpin)
+    unpin_step store p n Root m text unpin said = absurd (false≢true unpin)
+    unpin_step store p n Node m text unpin said = absurd (false≢true unpin)
+    unpin_step store p n (Prove k) m text unpin said = absurd (false≢true unpin)
+    unpin_step store p n ask.Format m text unpin said = absurd (false≢true unpin)
+    unpin_step store p n Pin m text unpin said = absurd (false≢true unpin)
+    unpin_step store p n Unpin m text unpin said = (said, refl)
+    unpin_step store p n Rows m text unpin said = absurd (false≢true unpin)
 
 -- ---- lines
 

@@ -2,8 +2,11 @@
 use Rattle.std.specs.Prelude.{ℕ, List, Option, Result, Ok, Err}
 use Rattle.mst_store.specs.declared.faults.WriteFault.{WriteFault}
 use Rattle.mst_store.specs.declared.faults.WriteFault.TheVariants as write
+use Rattle.mst_store.specs.declared.faults.MigrateFault.{MigrateFault}
+use Rattle.mst_store.specs.declared.faults.MigrateFault.TheVariants as migrate
+use Rattle.mst_key.specs.declared.format.Format.{Format}
 use Rattle.mst_requests.specs.declared.answer.Answer.{Answer}
-use Rattle.mst_requests.specs.declared.answer.Answer.TheVariants.{Value, Rows, Busy, Spent, NoRoom}
+use Rattle.mst_requests.specs.declared.answer.Answer.TheVariants.{Value, Rows, Was, Busy, Spent, NoRoom, Memory}
 
 abbrev pub rows_answer : {A E : Type 0} → Result (Option ℕ) E → Answer A
 rows_answer (Ok found) = Rows found
@@ -14,3 +17,10 @@ write_answer (Ok old) = Value old
 write_answer (Err write.Busy) = Busy
 write_answer (Err write.VersionsSpent) = Spent
 write_answer (Err write.NoRoom) = NoRoom
+
+abbrev pub migration_answer : {A : Type 0} → Result Format MigrateFault → Answer A
+migration_answer (Ok format) = Was format
+migration_answer (Err migrate.Busy) = Busy
+migration_answer (Err migrate.VersionsSpent) = Spent
+migration_answer (Err migrate.Memory) = Memory
+migration_answer (Err migrate.NoRoom) = NoRoom

@@ -2,12 +2,12 @@
 -- history so far, and for each pass the version that it pins, or none.
 use Rattle.std.specs.Prelude.{◌≡◌, ◌≢◌, ℕ, ◌==◌, ◌<◌, ◌⊎◌, List, [], ◌∷◌, ◌++◌, length, take, if◌then◌else◌, Option, None, Some, Result, Ok, Err, codes}
 use Rattle.hex.specs.Hex.{encode_lower}
-use Rattle.mst_key.specs.declared.format.Format.TheVariants.{One}
+use Rattle.mst_key.specs.declared.format.Format.{Format}
 use Rattle.mst_key.specs.declared.history.Change.{Change}
 use Rattle.mst_key.specs.declared.history.Change.TheVariants as change
 use Rattle.mst_key.specs.declared.history.Event.{Event}
 use Rattle.mst_key.specs.Map.{Pair, map_get, map_next, map_range}
-use Rattle.mst_key.specs.History.{History, after, reply}
+use Rattle.mst_key.specs.History.{History, after, format_after, reply}
 use Rattle.mst_key.specs.Digits.{digits_of}
 use Rattle.mst_node.specs.Text.{root, text as text_of_node}
 use Rattle.mst_node.specs.Tree.{Tree, empty, node, tree}
@@ -18,10 +18,11 @@ use Rattle.mst_store.specs.Passes.{StoreId, HasRoom, LacksRoom}
 use Rattle.mst_requests.specs.declared.request.Fault.{Fault}
 use Rattle.mst_requests.specs.declared.request.Fault.TheVariants.{Pinning}
 use Rattle.mst_requests.specs.declared.request.Command.{Command}
-use Rattle.mst_requests.specs.declared.request.Command.TheVariants.{Put, Remove, Get, Next, Range, Root, Node, Prove, Pin, Unpin, Rows}
+use Rattle.mst_requests.specs.declared.request.Command.TheVariants.{Put, Remove, Migrate, Get, Next, Range, Root, Node, Prove, Pin, Unpin, Rows}
+use Rattle.mst_requests.specs.declared.request.Command.TheVariants as ask
 use Rattle.mst_requests.specs.declared.request.Request.{Request}
 use Rattle.mst_requests.specs.Grammar.{asked}
-use Rattle.mst_requests.specs.Texts.{line_of, fault_words, value_words, found_words, count_words, pair_lines, pinned_words, rows_words}
+use Rattle.mst_requests.specs.Texts.{line_of, fault_words, value_words, found_words, count_words, pair_lines, pinned_words, rows_words, format_words, reply_words}
 
 -- The history so far, and which version each pass pins, if it pins one: the version is that of so
 -- many first events.
@@ -55,7 +56,7 @@ IsBusy store text = (text ≡ line_of (codes "busy")) × (1 < store.passes)
 abbrev pub IsHeld : StoreId → List ℕ → Type 0
 IsHeld store text = (text ≡ line_of (rows_words None)) × (store.passes ≢ 1)
 
--- the memory for what a read finds was refused
+-- the memory for what a read finds, or for the tree of a migration, was refused
 abbrev pub LacksMemory : List ℕ → Type 0
 LacksMemory text = text ≡ line_of (codes "memory")
 
@@ -68,44 +69,57 @@ IsSpent h text = (text ≡ line_of (codes "spent")) × (length h ≡ last_versio
 -- the map leaves over are too few
 abbrev pub HasNoRoom : StoreId → Change → History → List ℕ → Type 0
 HasNoRoom store change h text = (text ≡ line_of (codes "noroom")) × (length h < last_version)
-    × (store.passes ≡ 1 → LacksRoom store.rows (after h) change)
-    × LacksKept store.rows store.passes h change
+    × (store.passes ≡ 1 → LacksRoom store.rows (format_after store.format h) (after h) change)
+    × LacksKept store.format store.rows store.passes h change
+
+-- there is a next version, and in another format the tree finds no memory or no room
+abbrev pub HasNoTree : StoreId → Format → History → List ℕ → Type 0
+HasNoTree store to h text = (format_after store.format h ≢ to) × (length h < last_version)
+    × (LacksMemory text ⊎ HasNoRoom store (change.Migrate to) h text)
 
 -- ---- writes and counts
 
--- The event is added, and the answer is the value that its key had. There is a next version, and
--- room.
+-- The event is added, and the answer is what the history replies: the value that its key had, or the
+-- format that was left. There is a next version, and room.
 pub record Adds (store : StoreId) (e : Event) (h : History) (text : List ℕ)
     (new : History) : Type 0 where
-  pub answer : text ≡ line_of (value_words (reply h e))
+  pub answer : text ≡ line_of (reply_words (reply store.format h e))
   pub added : new ≡ h ++ e ∷ []
   pub numbered : length h < last_version
-  pub room : HasRoom store.rows (after h) e.change
+  pub room : HasRoom store.rows (format_after store.format h) (after h) e.change
 
--- a write
+-- a put or a remove
 abbrev pub Writes : StoreId → ℕ → Change → History → List ℕ → History → Type 0
 Writes store p change h text new =
     Adds store (record { pass = p; change = change }) h text new
     ⊎ ((IsBusy store text ⊎ IsSpent h text ⊎ HasNoRoom store change h text) × (new ≡ h))
 
+-- a migration
+abbrev pub Migrates : StoreId → ℕ → Format → History → List ℕ → History → Type 0
+Migrates store p to h text new =
+    Adds store (record { pass = p; change = change.Migrate to }) h text new
+    ⊎ ((IsBusy store text ⊎ IsSpent h text ⊎ HasNoTree store to h text) × (new ≡ h))
+
 -- the count of the map's rows, for which the turn is taken
 abbrev pub Counts : StoreId → History → List ℕ → History → Type 0
-Counts store h text new = ((text ≡ line_of (rows_words (Some (rows_of (after h)))))
+Counts store h text new =
+    ((text ≡ line_of (rows_words (Some (rows_of (format_after store.format h) (after h)))))
     ⊎ IsBusy store text ⊎ IsHeld store text) × (new ≡ h)
 
 -- ---- reads
 
--- what a read finds in a map; for some of it memory is taken
-abbrev pub Finds : Command → List Pair → List ℕ → Type 0
-Finds (Get k) m text = text ≡ line_of (value_words (map_get m k))
-Finds (Next bound) m text = text ≡ line_of (found_words (map_next m bound))
-Finds (Range from to n) m text =
+-- what a read finds in a map whose tree is in a format; for some of it memory is taken
+abbrev pub Finds : Command → Format → List Pair → List ℕ → Type 0
+Finds (Get k) f m text = text ≡ line_of (value_words (map_get m k))
+Finds (Next bound) f m text = text ≡ line_of (found_words (map_next m bound))
+Finds (Range from to n) f m text =
     (text ≡ line_of (count_words (map_range m from to n)) ++ pair_lines (map_range m from to n))
     ⊎ LacksMemory text
-Finds Root m text = text ≡ line_of (digits_of (root One m))
-Finds Node m text = (text ≡ line_of (top_words (tree One m))) ⊎ LacksMemory text
-Finds (Prove k) m text = (text ≡ line_of (encode_lower (proof_text One m k))) ⊎ LacksMemory text
-Finds _ m text = ⊥
+Finds Root f m text = text ≡ line_of (digits_of (root f m))
+Finds Node f m text = (text ≡ line_of (top_words (tree f m))) ⊎ LacksMemory text
+Finds (Prove k) f m text = (text ≡ line_of (encode_lower (proof_text f m k))) ⊎ LacksMemory text
+Finds ask.Format f m text = text ≡ line_of (format_words f)
+Finds _ f m text = ⊥
 
 -- ---- the steps
 
@@ -117,10 +131,12 @@ IsMispinned text = text ≡ line_of (fault_words Pinning)
 abbrev pub Acts : StoreId → ℕ → Command → History → List ℕ → History → Type 0
 Acts store p (Put k v) h text new = Writes store p (change.Put k v) h text new
 Acts store p (Remove k) h text new = Writes store p (change.Remove k) h text new
+Acts store p (Migrate to) h text new = Migrates store p to h text new
 Acts store p Rows h text new = Counts store h text new
 Acts store p Pin h text new = ⊥
 Acts store p Unpin h text new = IsMispinned text × (new ≡ h)
-Acts store p read h text new = Finds read (after h) text × (new ≡ h)
+Acts store p read h text new =
+    Finds read (format_after store.format h) (after h) text × (new ≡ h)
 
 -- the step of a pass that pins no version
 abbrev pub FreeStep : StoreId → ℕ → Command → Machine → List ℕ → Machine → Type 0
@@ -129,23 +145,28 @@ FreeStep store p Pin m text new = (text ≡ line_of (pinned_words (length m.hist
 FreeStep store p command m text new =
     Acts store p command m.history text new.history × (new.pinned ≡ m.pinned)
 
--- what a pass is asked for that pins a version with this map, but to unpin it, and answers
-abbrev pub Recalls : Command → List Pair → List ℕ → Type 0
-Recalls (Put k v) m text = IsMispinned text
-Recalls (Remove k) m text = IsMispinned text
-Recalls Rows m text = IsMispinned text
-Recalls Pin m text = IsMispinned text
-Recalls Unpin m text = ⊥
-Recalls read m text = Finds read m text
+-- what a pass is asked for that pins a version with this map, in this format, but to unpin it, and
+-- answers
+abbrev pub Recalls : Command → Format → List Pair → List ℕ → Type 0
+Recalls (Put k v) f m text = IsMispinned text
+Recalls (Remove k) f m text = IsMispinned text
+Recalls (Migrate to) f m text = IsMispinned text
+Recalls Rows f m text = IsMispinned text
+Recalls Pin f m text = IsMispinned text
+Recalls Unpin f m text = ⊥
+Recalls read f m text = Finds read f m text
 
 -- the step of a pass that pins the version n
-abbrev pub PinnedStep : ℕ → ℕ → Command → Machine → List ℕ → Machine → Type 0
-PinnedStep p n Unpin m text new = (text ≡ line_of (codes "unpinned")) × (new ≡ with_pin p None m)
-PinnedStep p n command m text new = Recalls command (after (take n m.history)) text × (new ≡ m)
+abbrev pub PinnedStep : StoreId → ℕ → ℕ → Command → Machine → List ℕ → Machine → Type 0
+PinnedStep store p n Unpin m text new =
+    (text ≡ line_of (codes "unpinned")) × (new ≡ with_pin p None m)
+PinnedStep store p n command m text new =
+    Recalls command (format_after store.format (take n m.history)) (after (take n m.history)) text
+    × (new ≡ m)
 
 abbrev pub StepOf : Option ℕ → StoreId → ℕ → Command → Machine → List ℕ → Machine → Type 0
 StepOf None store p command m text new = FreeStep store p command m text new
-StepOf (Some n) store p command m text new = PinnedStep p n command m text new
+StepOf (Some n) store p command m text new = PinnedStep store p n command m text new
 
 -- what the pass p is asked for, and answers
 abbrev pub Step : StoreId → ℕ → Command → Machine → List ℕ → Machine → Type 0

@@ -3,10 +3,10 @@
 use Rattle.std.specs.Prelude.{◌≡◌, ◌≢◌, ℕ, ◌==◌, ◌<◌, ◌≤◌, ◌⊎◌, Bool, true, false, List, [], ◌∷◌, ◌++◌, length, slice_index_or, All, Contains, Option, None, Some}
 use Rattle.std.specs.List.{AllByRecursion, count_by, slice_set, swap_remove}
 use Rattle.std.specs.List.Sorted.{IsPermutation}
-use Rattle.mst_key.specs.declared.format.Format.TheVariants.{One}
+use Rattle.mst_key.specs.declared.format.Format.{Format}
 use Rattle.mst_key.specs.Map.{Pair}
 use Rattle.mst_key.specs.History.{History, after, events_of, IsPrefix}
-use Rattle.mst_store.specs.Passes.{StoreId, Known, IsSamePass, Looks}
+use Rattle.mst_store.specs.Passes.{StoreId, Known, format_seen, IsSamePass, Looks}
 use Rattle.mst_store.specs.Settling.{numbers, IsOfOne, Settled}
 use Rattle.mst_requests.specs.declared.request.Command.{Command}
 use Rattle.mst_requests.specs.declared.request.Command.TheVariants.{Pin, Unpin}
@@ -97,11 +97,11 @@ abbrev pub is_unpin : Command → Bool
 is_unpin Unpin = true
 is_unpin _ = false
 
--- Of a proof that a map gives for a key, whichever these are, the text is the line of the top node
--- of the map's tree; or memory was refused.
+-- Of a proof that a map gives for a key in a format, whichever these are, the text is the line of the
+-- top node of the map's tree; or memory was refused.
 abbrev pub Tops : List ℕ → List ℕ → Type 0
-Tops proof text = (m : List Pair) (k : List ℕ) → proof ≡ proof_text One m k
-    → (text ≡ line_of (top_words (tree One m))) ⊎ LacksMemory text
+Tops proof text = (f : Format) (m : List Pair) (k : List ℕ) → proof ≡ proof_text f m k
+    → (text ≡ line_of (top_words (tree f m))) ⊎ LacksMemory text
 
 -- where the passes are in a state of the machine, the line is answered as the machine does there,
 -- and they are then in its next
@@ -141,7 +141,7 @@ pub record AsksPinned (command : Command) (r : Roster) (place : ℕ) (text : Lis
     (s : Roster) : Type 0 where
   pub p : Known
   pub here : (d : Known) → slice_index_or r.held place d ≡ p
-  pub recalls : Recalls command (after p.seen) text
+  pub recalls : Recalls command (format_seen p) (after p.seen) text
   pub same : s ≡ r
 
 -- the free pass at this place pinned this version

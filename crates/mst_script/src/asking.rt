@@ -3,13 +3,13 @@ ghost use Rattle.std.specs.Prelude.{◌≡◌, ◌<◌, ◌^◌, false, length};
 ghost use Rattle.std.specs.Option.{option_copied};
 ghost use Rattle.mst_requests.specs.declared.request.Command.TheVariants.{Range, Node, Prove};
 ghost use Rattle.mst_requests.specs.Answers.{text_of};
-ghost use Rattle.mst_script.specs.Answers.{rows_answer, write_answer};
+ghost use Rattle.mst_script.specs.Answers.{rows_answer, write_answer, migration_answer};
 ghost use Rattle.mst_script.specs.Serving.{Asked, Tops, is_pin};
 
-use mst_key::{Key, Value};
+use mst_key::{Format, Key, Value};
 use mst_node::top_text;
 use mst_requests::{Answer, Command, Fault};
-use mst_store::{Busy, Memory, Pass, WriteFault};
+use mst_store::{Busy, Memory, MigrateFault, Pass, WriteFault};
 use std::alloc::Allocator;
 
 // How many rows the map takes, as an answer.
@@ -31,6 +31,19 @@ fn write_answer_of<A: Allocator>(written: Result<Option<Value>, WriteFault>) -> 
         Err(WriteFault::Busy) => Answer::Busy,
         Err(WriteFault::VersionsSpent) => Answer::Spent,
         Err(WriteFault::NoRoom) => Answer::NoRoom,
+    }
+}
+
+// What a migration answered, as an answer.
+fn migration_answer_of<A: Allocator>(migrated: Result<Format, MigrateFault>) -> Answer<A>
+    ensures { result ≡ migration_answer migrated }
+{
+    match migrated {
+        Ok(format) => Answer::Was(format),
+        Err(MigrateFault::Busy) => Answer::Busy,
+        Err(MigrateFault::VersionsSpent) => Answer::Spent,
+        Err(MigrateFault::Memory) => Answer::Memory,
+        Err(MigrateFault::NoRoom) => Answer::NoRoom,
     }
 }
 
@@ -104,6 +117,7 @@ pub fn ask<A: Allocator + Copy, B: Allocator + Copy>(
     match command {
         Command::Put(key, value) => write_answer_of(pass.try_put(key, value)),
         Command::Remove(key) => write_answer_of(pass.try_remove(key)),
+        Command::Migrate(to) => migration_answer_of(pass.try_migrate(alloc, *to)),
         Command::Get(key) => Answer::Value(pass.get(key)),
         Command::Next(bound) => Answer::Pair(pass.next(bound.as_ref())),
         Command::Range(from, to, limit) => {
@@ -112,6 +126,7 @@ pub fn ask<A: Allocator + Copy, B: Allocator + Copy>(
         Command::Root => Answer::Root(pass.root()),
         Command::Node => ask_node(alloc, pass),
         Command::Prove(key) => ask_proof(alloc, pass, key),
+        Command::Format => Answer::Format(pass.format()),
         Command::Rows => rows_answer_of(pass.rows()),
         Command::Unpin => Answer::Refused(Fault::Pinning),
         // a pin is no call of a pass that stays free

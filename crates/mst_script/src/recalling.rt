@@ -4,6 +4,7 @@ ghost use Rattle.std.specs.Option.{option_copied};
 ghost use Rattle.mst_key.specs.History.{after as after_events};
 ghost use Rattle.mst_requests.specs.declared.request.Command.TheVariants.{Range, Node, Prove};
 ghost use Rattle.mst_requests.specs.Answers.{text_of};
+ghost use Rattle.mst_store.specs.Passes.{format_seen};
 ghost use Rattle.mst_script.specs.Machine.{Recalls};
 ghost use Rattle.mst_script.specs.Serving.{is_unpin};
 
@@ -22,7 +23,7 @@ fn recall_range<A: Allocator, B: Allocator + Copy>(
     limit: u32,
 ) -> Answer<A>
     ensures found { Recalls (Range (option_copied from.entry) (option_copied to.entry) limit)
-        (after_events pinned.old.seen) (text_of result) }
+        (format_seen pinned.old) (after_events pinned.old.seen) (text_of result) }
     ensures same { pinned.new ≡ pinned.old }
 {
     match pinned.range(alloc, from, to, limit as usize) {
@@ -37,7 +38,8 @@ fn recall_proof<A: Allocator + Copy, B: Allocator + Copy>(
     pinned: &mut Pinned<'_, B>,
     key: &Key,
 ) -> Answer<A>
-    ensures found { Recalls (Prove key.now) (after_events pinned.old.seen) (text_of result) }
+    ensures found { Recalls (Prove key.now)
+        (format_seen pinned.old) (after_events pinned.old.seen) (text_of result) }
     ensures same { pinned.new ≡ pinned.old }
 {
     match pinned.prove(alloc, key) {
@@ -51,7 +53,8 @@ fn recall_node<A: Allocator + Copy, B: Allocator + Copy>(
     alloc: A,
     pinned: &mut Pinned<'_, B>,
 ) -> Answer<A>
-    ensures found { Recalls Node (after_events pinned.old.seen) (text_of result) }
+    ensures found { Recalls Node
+        (format_seen pinned.old) (after_events pinned.old.seen) (text_of result) }
     ensures same { pinned.new ≡ pinned.old }
 {
     let Ok(least) = Key::new(&[0]) else {
@@ -63,15 +66,16 @@ fn recall_node<A: Allocator + Copy, B: Allocator + Copy>(
     }
 }
 
-/// Lets a pinned pass read its version as it is asked to. It makes no write, counts no rows and
-/// pins no other version.
+/// Lets a pinned pass read its version as it is asked to. It makes no write and no migration,
+/// counts no rows and pins no other version.
 pub fn recall<A: Allocator + Copy, B: Allocator + Copy>(
     alloc: A,
     pinned: &mut Pinned<'_, B>,
     command: &Command,
 ) -> Answer<A>
     requires other { is_unpin command.now ≡ false }
-    ensures found { Recalls command.now (after_events pinned.old.seen) (text_of result) }
+    ensures found { Recalls command.now
+        (format_seen pinned.old) (after_events pinned.old.seen) (text_of result) }
     ensures same { pinned.new ≡ pinned.old }
 {
     match command {
@@ -83,8 +87,12 @@ pub fn recall<A: Allocator + Copy, B: Allocator + Copy>(
         Command::Root => Answer::Root(pinned.root()),
         Command::Node => recall_node(alloc, pinned),
         Command::Prove(key) => recall_proof(alloc, pinned, key),
-        Command::Put(..) | Command::Remove(_) | Command::Rows | Command::Pin | Command::Unpin => {
-            Answer::Refused(Fault::Pinning)
-        }
+        Command::Format => Answer::Format(pinned.format()),
+        Command::Put(..)
+        | Command::Remove(_)
+        | Command::Migrate(_)
+        | Command::Rows
+        | Command::Pin
+        | Command::Unpin => Answer::Refused(Fault::Pinning),
     }
 }

@@ -95,7 +95,7 @@ asked_drained n desk a b m m' h other is live into = subst (λ (z : Seat). HasAs
         }
 
 -- a record is pinned, and its version live
-pub asked_blocked : (n : ℕ) (desk : State) (a b : Asked) (m m' : Seat) → HasAsked n desk a m → (n ≡ desk.current → ⊥) → Blocked stored n m m'
+pub asked_blocked : (n : ℕ) (desk : State) (a b : Asked) (m m' : Seat) → HasAsked n desk a m → (n ≡ desk.current → ⊥) → Blocked (stored m.0.format) n m m'
     → b.live.items ≡ a.live.items ++ slice_index desk.versions n ∷ [] → b.into ≡ a.into → HasAsked (n + 1) desk b m'
 asked_blocked n desk a b m m' h other is live into = subst (λ (z : Seat). HasAsked (n + 1) desk b z) (sym is.is) known
   where
@@ -142,6 +142,6 @@ pub asks_drained : (n : ℕ) (m m' : Seat) → Drained n m m' → AsksEach m m'
 asks_drained n m m' is = let a : m'.0.asked ≡ m.0.asked + 1 = ap (λ (z : Seat). z.0.asked) is in let b : length m'.0.blocked ≡ length m.0.blocked = ap (λ (z : Seat). length z.0.blocked) is in
     let d : length m'.0.drained ≡ length (n ∷ m.0.drained) = ap (λ (z : Seat). length z.0.drained) is in omega (arith, a, b, d)
 
-pub asks_blocked : (n : ℕ) (m m' : Seat) → Blocked stored n m m' → AsksEach m m'
+pub asks_blocked : (n : ℕ) (m m' : Seat) → Blocked (stored m.0.format) n m m' → AsksEach m m'
 asks_blocked n m m' is = let a : m'.0.asked ≡ m.0.asked + 1 = ap (λ (z : Seat). z.0.asked) is.is in let b : length m'.0.blocked ≡ length (n ∷ m.0.blocked) = ap (λ (z : Seat). length z.0.blocked) is.is in
     let d : length m'.0.drained ≡ length m.0.drained = ap (λ (z : Seat). length z.0.drained) is.is in omega (arith, a, b, d)

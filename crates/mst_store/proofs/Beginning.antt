@@ -8,7 +8,8 @@ use Rattle.std.proofs.lemmas.Bool.{lt-ltb}
 use Rattle.std.proofs.lemmas.Bool.Decides.{nat_tests}
 use Rattle.std.proofs.lemmas.Option.{slice_get_within, slice_get-map}
 use Rattle.std.proofs.lemmas.List.{length-map}
-use Rattle.mst_key.specs.History.{after}
+use Rattle.mst_key.specs.declared.format.Format.{Format}
+use Rattle.mst_key.specs.History.{after, format_after}
 use Rattle.mst_arena.specs.Lives.{State, version, reaches, reached_at, free_count, swept_life, IsSettled}
 use Rattle.mst_arena.specs.declared.life.Life.{Life}
 use Rattle.mst_arena.specs.declared.life.Life.TheVariants.{Free, Born, Dead}
@@ -24,7 +25,7 @@ use Rattle.mst_words.specs.declared.view.View.{View}
 use Rattle.mst_words.specs.Layout.{row_word}
 use Rattle.mst_words.specs.Records.{IsBlank, row, field}
 use Rattle.mst_words.specs.Steps.{IsHolder, Takes, IsGiving}
-use Rattle.mst_words.specs.Stored.{rows_in, root_in, stored, state_of, desk_state}
+use Rattle.mst_words.specs.Stored.{contents_after, format_number, rows_in, root_in, stored, state_of, desk_state}
 use Rattle.mst_words.specs.Access.{content_of, all_below, is_unreached, is_blank}
 use Rattle.mst_words.proofs.Accesses.{blank_row}
 use Rattle.mst_words.proofs.Framed.{aged_frame}
@@ -96,14 +97,18 @@ desk_in [] d = d
 desk_in (s ∷ rest) d = or_else d s.1
 
 -- what the turn is made of
-abbrev pub of_turn : {A : Type 0} → State → Root → ℕ → ℕ → Turn A
-of_turn {A} desk root into kept = record { desk = desk; root = root; into = into; kept = kept }
+abbrev pub of_turn : {A : Type 0} → State → Root → Format → ℕ → ℕ → Turn A
+of_turn {A} desk root format into kept = record { desk = desk; root = root; format = format; into = into; kept = kept }
 
 -- from the seat with the desk out of the slot to the one that has asked
 pub only_asked : (m n m' : Seat) → n ≡ (m.0, (0, None) ∷ []) → AsksOnly n m' → m' ≡ (record m.0 { drained = m'.0.drained; blocked = m'.0.blocked; asked = m'.0.asked }, (0, None) ∷ [])
 only_asked m n m' left is = is ∙ ap (λ (z : Seat). (record z.0 { drained = m'.0.drained; blocked = m'.0.blocked; asked = m'.0.asked }, z.1)) left
 
-module _ (before taken : Seat) (p : Takes stored before taken) where
+module _ (before taken : Seat) (p : Takes (stored before.0.format) before taken) where
+  -- the format of the current version
+  abbrev pub format_there : Format
+  format_there = format_after before.0.format p.log
+
   -- only what was asked has changed, and the desk is out of the slot
   abbrev pub IsAskedOf : Seat → Type 0
   IsAskedOf m = m ≡ (record taken.0 { drained = m.0.drained; blocked = m.0.blocked; asked = m.0.asked }, (0, None) ∷ [])
@@ -116,7 +121,7 @@ module _ (before taken : Seat) (p : Takes stored before taken) where
   asked_seat drained blocked asked = (asked_view drained blocked asked, (0, None) ∷ [])
 
   abbrev turn_of : {A : Type 0} → State → Asked → Root → Turn A
-  turn_of {A} desk a root = record { desk = swept_by a.live.items desk; root = root; into = a.into; kept = length a.live.items }
+  turn_of {A} desk a root = record { desk = swept_by a.live.items desk; root = root; format = format_there; into = a.into; kept = length a.live.items }
 
   blank_free : (drained blocked : List ℕ) (asked : ℕ) (a : Asked) → HasAsked (before.0.passes + 2) (state_of p.desk) a (asked_seat drained blocked asked) → (x : ℕ)
       → slice_get (map (swept_life a.live.items) p.desk.lives) x ≡ Some Free → IsTrue (is_blank (asked_view drained blocked asked) x)
@@ -144,7 +149,7 @@ module _ (before taken : Seat) (p : Takes stored before taken) where
   free_blank : (drained blocked : List ℕ) (asked : ℕ) (a : Asked) → HasAsked (before.0.passes + 2) (state_of p.desk) a (asked_seat drained blocked asked) → (x : ℕ)
       → is_blank (asked_view drained blocked asked) x ≡ true → slice_get (map (swept_life a.live.items) p.desk.lives) x ≡ Some Free
   free_blank drained blocked asked a h x blank =
-      let b : IsBlank stored (asked_view drained blocked asked) x = blank_row (asked_view drained blocked asked) x blank in
+      let b : IsBlank (stored before.0.format) (asked_view drained blocked asked) x = blank_row (asked_view drained blocked asked) x blank in
       let inside : x < length p.desk.lives = (let r = p.is_desk.rows_is in let l = b.0 in omega (arith, l, r)) in
       (free_swept (state_of p.desk) a.live.items x p.is_desk.settled h.now inside).1
       (λ v i. let k = kept_of drained blocked asked a h v i in is_not (reaches p.desk.lives v x) (λ (reached : reaches p.desk.lives v x ≡ true). b.1 k.0 k.1 k.2 (subst (λ (n : ℕ). reaches p.desk.lives n x ≡ true) k.3 reached)))
@@ -196,23 +201,23 @@ module _ (before taken : Seat) (p : Takes stored before taken) where
       )
 
   -- each version that is live has its place in rows
-  places : (drained blocked : List ℕ) (asked : ℕ) (a : Asked) → HasAsked (before.0.passes + 2) (state_of p.desk) a (asked_seat drained blocked asked) → (v : ℕ) → In v a.live.items → (v ≤ length p.log) × HasPlace p.desk.lives p.log v
+  places : (drained blocked : List ℕ) (asked : ℕ) (a : Asked) → HasAsked (before.0.passes + 2) (state_of p.desk) a (asked_seat drained blocked asked) → (v : ℕ) → In v a.live.items → (v ≤ length p.log) × HasPlace before.0.format p.desk.lives p.log v
   places drained blocked asked a h v i = ⊎_elim (λ (e : v ≡ version (state_of p.desk)). current v e)
       (λ (t : (r : ℕ) × (r < before.0.passes + 2) × (In r drained → ⊥) × (v ≡ slice_index p.desk.versions r)). dite (ℕ_discrete t.0 p.desk.current)
       (λ same. current v (t.3 ∙ ap (λ (r : ℕ). slice_index p.desk.versions r) same))
       (λ other. let stood : StoodAtAsk t.0 (asked_view drained blocked asked) = h.stood t.0 (h.found t.0 t.1 other t.2) in
-      place_of before.0.rows before.0.passes p.words p.log p.desk t.0 stood.0 stood.1 p.is_desk.rows_is stood.2 v t.3)) (h.only v i)
+      place_of before.0.format before.0.rows before.0.passes p.words p.log p.desk t.0 stood.0 stood.1 p.is_desk.rows_is stood.2 v t.3)) (h.only v i)
     where
-      current : (v : ℕ) → v ≡ version (state_of p.desk) → (v ≤ length p.log) × HasPlace p.desk.lives p.log v
-      current v e = place_of before.0.rows before.0.passes p.words p.log p.desk p.desk.current p.log p.used p.is_desk.rows_is p.stands v e
+      current : (v : ℕ) → v ≡ version (state_of p.desk) → (v ≤ length p.log) × HasPlace before.0.format p.desk.lives p.log v
+      current v e = place_of before.0.format before.0.rows before.0.passes p.words p.log p.desk p.desk.current p.log p.used p.is_desk.rows_is p.stands v e
 
-  leaves : (drained blocked : List ℕ) (asked : ℕ) (a : Asked) → HasAsked (before.0.passes + 2) (state_of p.desk) a (asked_seat drained blocked asked) → LeavesFree (map (swept_life a.live.items) p.desk.lives) p.log (length a.live.items) before.0.rows
+  leaves : (drained blocked : List ℕ) (asked : ℕ) (a : Asked) → HasAsked (before.0.passes + 2) (state_of p.desk) a (asked_seat drained blocked asked) → LeavesFree before.0.format (map (swept_life a.live.items) p.desk.lives) p.log (length a.live.items) before.0.rows
   leaves drained blocked asked a h = record {
     live = a.live.items;
     now = subst (λ (v : ℕ). In v a.live.items) p.stands.filed h.now;
     below = λ v i. (places drained blocked asked a h v i).0;
     as_many = refl;
-    left = held_free (state_of p.desk) p.log a.live.items p.is_desk.settled h.now (places drained blocked asked a h) ∙ p.is_desk.rows_is;
+    left = held_free before.0.format (state_of p.desk) p.log a.live.items p.is_desk.settled h.now (places drained blocked asked a h) ∙ p.is_desk.rows_is;
   }
 
   -- the rows of the map keep their ages in the sweep
@@ -228,10 +233,11 @@ module _ (before taken : Seat) (p : Takes stored before taken) where
       let s = p.stands.aged.0 in
       let content : AllByRecursion (λ x. content_of v x ≡ rows_in (row p.words) x) (numbers s.0) = subst (AllByRecursion (λ x. content_of v x ≡ rows_in (row p.words) x)) (sym s.1)
       (each (λ x. content_of v x ≡ rows_in (row p.words) x) p.used (λ x within. reads_held v x refl (p.stands.inside x within))) in
-      let t = aged_frame (rows_in (row p.words)) (content_of v) (root_in (field p.words p.desk.current)) root p.log p.desk.lives (map (swept_life a.live.items) p.desk.lives) s.0 content here (swept_ages a h.now) p.stands.aged.1 in
+      let t = aged_frame before.0.format format_there (rows_in (row p.words)) (content_of v) (root_in (field p.words p.desk.current)) root p.log p.desk.lives (map (swept_life a.live.items) p.desk.lives) s.0 content here (swept_ages a h.now) p.stands.aged.1 in
       record {
         holds = holds {A = A} drained blocked asked a root h;
         settled = settled_swept (state_of p.desk) a.live.items p.is_desk.settled;
+        format = refl;
         stands = t.0;
         reached = λ x. subst (λ (used : List ℕ). reaches (map (swept_life a.live.items) p.desk.lives) (version (state_of p.desk)) x ≡ true ↔ In x used) (sym (t.1 ∙ s.1)) (reached_now a h.now x);
         aged = t.2;
@@ -263,13 +269,19 @@ module _ (before taken : Seat) (p : Takes stored before taken) where
   link_there desk m which slot is current few =
       let few_rows : before.0.rows ≤ 65535 = subst (λ (z : Seat). z.0.rows ≤ 65535) p.is few in
       let at : which ≡ p.desk.current = current ∙ ap (λ (d : State). d.current) (desk_there desk slot) in
-      let link = link_of_root (row p.words) (field p.words p.desk.current) (after p.log) p.used before.0.rows p.stands.stands p.stands.inside in
+      let link = link_of_root (row p.words) (field p.words p.desk.current) (contents_after before.0.format p.log) p.used before.0.rows p.stands.stands p.stands.inside in
       let same : field m.0.known_words which 1 ≡ field p.words p.desk.current 1 = ap (λ (z : Seat). field z.0.known_words which 1) (whole m is) ∙ ap (λ (r : ℕ). field p.words r 1) at in
       omega (arith, few_rows, link, same)
 
-  pub ready : {A : Type 0} (desk swept_life : State) (a : Asked) (live : List ℕ) (root : Root) (m : Seat) (which passes kept : ℕ) → kept ≡ length a.live.items → taken.1 ≡ (0, Some desk) ∷ [] → IsAskedOf m → passes ≡ taken.0.passes
-      → HasAsked (passes + 2) desk a m → which ≡ desk.current → root ≡ root_in (field m.0.known_words which) → live ≡ a.live.items → swept_life ≡ swept_by live desk → HasTurn (of_turn {A = A} swept_life root a.into kept) m
-  ready {A} desk swept_life a live root m which passes kept number slot is few h current here all by =
+  -- the number of the format that the current record has
+  pub number_there : (desk : State) (m : Seat) (which : ℕ) → taken.1 ≡ (0, Some desk) ∷ [] → IsAskedOf m → which ≡ desk.current → field m.0.known_words which 6 ≡ format_number format_there
+  number_there desk m which slot is current =
+      let at : which ≡ p.desk.current = current ∙ ap (λ (d : State). d.current) (desk_there desk slot) in
+      ap (λ (z : Seat). field z.0.known_words which 6) (whole m is) ∙ ap (λ (r : ℕ). field p.words r 6) at ∙ p.stands.aged.0.2
+
+  pub ready : {A : Type 0} (desk swept_life : State) (a : Asked) (live : List ℕ) (root : Root) (format : Format) (m : Seat) (which passes kept : ℕ) → kept ≡ length a.live.items → taken.1 ≡ (0, Some desk) ∷ [] → IsAskedOf m → passes ≡ taken.0.passes
+      → HasAsked (passes + 2) desk a m → which ≡ desk.current → root ≡ root_in (field m.0.known_words which) → format ≡ format_there → live ≡ a.live.items → swept_life ≡ swept_by live desk → HasTurn (of_turn {A = A} swept_life root format a.into kept) m
+  ready {A} desk swept_life a live root format m which passes kept number slot is few h current here in_format all by =
       let d : desk ≡ state_of p.desk = desk_there desk slot in
       let w : m ≡ asked_seat m.0.drained m.0.blocked m.0.asked = whole m is in
       let n : passes ≡ before.0.passes = few ∙ ap (λ (z : Seat). z.0.passes) p.is in
@@ -277,13 +289,14 @@ module _ (before taken : Seat) (p : Takes stored before taken) where
       (subst (λ (s : State). HasAsked (before.0.passes + 2) s a m) d (subst (λ (k : ℕ). HasAsked (k + 2) desk a m) n h)) in
       let root_is : root ≡ root_in (field p.words p.desk.current) = here ∙ ap (λ (z : Seat). root_in (field z.0.known_words which)) w ∙ ap (λ (r : ℕ). root_in (field p.words r)) (current ∙ ap (λ (s : State). s.current) d) in
       let swept_is : swept_life ≡ swept_by a.live.items (state_of p.desk) = by ∙ ap (λ (l : List ℕ). swept_by l desk) all ∙ ap (λ (s : State). swept_by a.live.items s) d in
-      subst (λ (s : State). HasTurn (of_turn {A = A} s root a.into kept) m) (sym swept_is)
-      (subst (λ (k : ℕ). HasTurn (of_turn {A = A} (swept_by a.live.items (state_of p.desk)) root a.into k) m) (sym number)
-      (subst (λ (z : Seat). HasTurn (of_turn {A = A} (swept_by a.live.items (state_of p.desk)) root a.into (length a.live.items)) z) (sym w) (known {A = A} m.0.drained m.0.blocked m.0.asked a root known_asked root_is)))
+      subst (λ (s : State). HasTurn (of_turn {A = A} s root format a.into kept) m) (sym swept_is)
+      (subst (λ (k : ℕ). HasTurn (of_turn {A = A} (swept_by a.live.items (state_of p.desk)) root format a.into k) m) (sym number)
+      (subst (λ (f : Format). HasTurn (of_turn {A = A} (swept_by a.live.items (state_of p.desk)) root f a.into (length a.live.items)) m) (sym in_format)
+      (subst (λ (z : Seat). HasTurn (of_turn {A = A} (swept_by a.live.items (state_of p.desk)) root format_there a.into (length a.live.items)) z) (sym w) (known {A = A} m.0.drained m.0.blocked m.0.asked a root known_asked root_is))))
 
 -- the turn may be given back once the desk lies in the slot again
-pub giving : {A : Type 0} (t : Turn A) (m m' : Seat) → HasTurn t m → m' ≡ (m.0, (0, Some t.desk) ∷ []) → IsGiving stored (Some t.desk) (desk_state t.desk) m'
-giving t m m' h is = let k = h.holds in subst (λ (z : Seat). IsGiving stored (Some t.desk) (desk_state t.desk) z) (sym is) record {
+pub giving : {A : Type 0} (t : Turn A) (m m' : Seat) → HasTurn t m → m' ≡ (m.0, (0, Some t.desk) ∷ []) → IsGiving (stored m'.0.format) (Some t.desk) (desk_state t.desk) m'
+giving t m m' h is = let k = h.holds in subst (λ (z : Seat). IsGiving (stored z.0.format) (Some t.desk) (desk_state t.desk) z) (sym is) record {
   on = k.holder.0;
   settled = k.holder.2;
   slot = refl;
@@ -295,7 +308,7 @@ giving t m m' h is = let k = h.holds in subst (λ (z : Seat). IsGiving stored (S
 -- ---- the desk as it was taken
 
 module _ (before : Seat) (desk : State) (m : Seat) (out : TakesDesk before desk m) where
-  abbrev p : Takes stored before out.0
+  abbrev p : Takes (stored before.0.format) before out.0
   p = out.1
 
   -- the view of the holder of the turn

@@ -1,9 +1,10 @@
 -- From the turn that was begun to how many rows the map takes.
 use Rattle.std.proofs.Common.{◌≡◌, ℕ, ◌+◌, ◌-◌, ◌*◌, ◌%◌, [], is_some, IfSome, Option, Some, false, sym, ap, ◌∙◌, subst, arith}
 use Rattle.std.proofs.lemmas.Nat.{mod-mul-add}
-use Rattle.mst_key.specs.History.{after, events_of, IsPrefix}
+use Rattle.mst_key.specs.History.{after, format_after, events_of, IsPrefix}
 use Rattle.mst_arena.specs.Lives.{free_count}
 use Rattle.mst_words.specs.declared.view.View.{View}
+use Rattle.mst_words.specs.Notes.{IsOfPasses}
 use Rattle.mst_words.specs.Steps.{NotesCurrent, AsksCurrent}
 use Rattle.mst_store.specs.declared.turn.Turn.{Turn}
 use Rattle.mst_store.specs.Turns.{Seat, HasTurn, Begun}
@@ -16,6 +17,7 @@ still : {A : Type 0} (t : Turn A) (m : Seat) (noted : Option ℕ) (asked : ℕ) 
 still t m noted asked h = let k = h.holds in record {
   holds = record { holder = k.holder; slot = k.slot; known = k.known; few = k.few; short = k.short; current = k.current; rows_is = k.rows_is; records = k.records; version_is = k.version_is; earlier = k.earlier; agrees = k.agrees; into_drained = k.into_drained; into_in = k.into_in; into_other = k.into_other };
   settled = h.settled;
+  format = h.format;
   stands = h.stands;
   reached = h.reached;
   aged = h.aged;
@@ -53,11 +55,14 @@ module _ {A : Type 0} (t : Turn A) (m1 m2 m3 : Seat) (noted done : ℕ) (n : Not
         later = subst (λ (z : Seat). IsPrefix m.0.seen z.0.seen) (sym back) b.later;
         own = subst (λ (z : Seat). events_of m.0.number z.0.seen ≡ m.0.mine) (sym back) b.own;
         mine = ap (λ (z : Seat). z.0.mine) back ∙ ap (λ (v : View). v.mine) b.rest;
+        alone = subst (λ (z : Seat). IsOfPasses m.0.passes z.0.seen) (sym back) b.alone;
         number = λ k is. (let o = subst (λ (z : Option ℕ). IfSome z (λ i. (i ≡ used) × (t.kept ≡ 1))) is only in let f = b.has.number in let r = ap (λ (v : View). v.rows) b.rest in
             let map_is = room_alone_left t m1 b.has (omega (arith, f, o.1)) in
-            let here : k ≡ rows_of (after m1.0.seen) = omega (arith, all, o.0, map_is, r) in here ∙ ap (λ (log : _). rows_of (after log)) (sym seen));
-        alone = λ one. (let p = ap (λ (v : View). v.passes) b.rest in let f = b.has.fewer in let k = b.has.number in ap is_some (alone (omega (arith, f, k, p, one)) (same_mask (p ∙ one))));
+            let here : k ≡ rows_of t.format (after m1.0.seen) = omega (arith, all, o.0, map_is, r) in
+            here ∙ ap (λ (f : _). rows_of f (after m1.0.seen)) b.has.format ∙ ap (λ (z : Seat). rows_of (format_after z.0.format z.0.seen) (after z.0.seen)) (sym back));
+        found_alone = λ one. (let p = ap (λ (v : View). v.passes) b.rest in let f = b.has.fewer in let k = b.has.number in ap is_some (alone (omega (arith, f, k, p, one)) (same_mask (p ∙ one))));
         asked = (let q = ap (λ (z : Seat). z.0.asked) back in let k = b.asked in omega (arith, q, k));
+        missed = ap (λ (z : Seat). z.0.missed) back ∙ ap (λ (v : View). v.missed) b.rest;
       }
 
 -- the rows that are not free, and those that are, are all rows

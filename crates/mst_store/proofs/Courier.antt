@@ -58,7 +58,7 @@ asked_thrice (p ∷ ps) = let n : (p.asked + 1) + 2 ≡ p.asked + 3 = omega arit
 -- ---- pinned passes
 
 still : (at : PinnedRoot) (v : View) (h told : History) (n : ℕ) → HasPinned at v → HasPinned at (record v { seen = h; told = told; asked = n })
-still at v h told n p = record { pin = p.pin; there = p.there; low = p.low; version = p.version; stands = p.stands; digest = p.digest }
+still at v h told n p = record { pin = p.pin; there = p.there; low = p.low; version = p.version; stands = p.stands; digest = p.digest; number = p.number }
 
 -- a pinned pass that looks and hears pins what it pinned
 pub pinned_still : (number passes rows : ℕ) (at : PinnedRoot) (s t : Seated) (h told : History) (n : ℕ) → t.me ≡ (record s.me.0 { seen = h; told = told; asked = n }, s.me.1) → IsPinning number passes rows at s → IsPinning number passes rows at t

@@ -4,8 +4,10 @@ mod Places
 pub mod Pinning
 pub mod Filing
 pub mod Ready
+mod Lawful
 mod Made
 mod Written
+mod Migrated
 mod Counted
 pub mod Courier
 pub mod AllPasses

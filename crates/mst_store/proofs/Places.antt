@@ -3,10 +3,11 @@ use Rattle.std.proofs.Common.{◌≡◌, ℕ, ◌<◌, ◌≤◌, true, List, le
 use Rattle.std.specs.Prelude.{take, slice_get, ◌++◌}
 use Rattle.std.proofs.lemmas.List.{take_all, take-append-le}
 use Rattle.std.proofs.lemmas.Option.{slice_get_within}
-use Rattle.mst_key.specs.declared.format.Format.TheVariants.{One}
-use Rattle.mst_key.specs.History.{History, after}
+use Rattle.mst_key.specs.declared.format.Format.{Format}
+use Rattle.mst_key.specs.History.{History, after, format_after}
 use Rattle.mst_node.specs.Tree.{tree}
 use Rattle.mst_arena.specs.Lives.{reaches, reached_at}
+use Rattle.mst_arena.specs.Standing.{tree_of}
 use Rattle.mst_arena.specs.declared.life.Life.{Life}
 use Rattle.mst_arena.specs.Lists.{In}
 use Rattle.mst_path.specs.Ages.{HasAges, HasPlace}
@@ -22,7 +23,7 @@ reached_inside lives v x is = go (slice_get lives x) refl is
     go None e i = cc
     go (Some life) e i = slice_get_within lives x life e
 
-module _ (R n : ℕ) (ws : List ℕ) (log : History) (d : DeskState) (r : ℕ) (place : History) (used : List ℕ) (rows_is : length d.lives ≡ R) (s : Standing stored R n ws log d r place used) (v : ℕ) (is : v ≡ version_of d r) where
+module _ (first : Format) (R n : ℕ) (ws : List ℕ) (log : History) (d : DeskState) (r : ℕ) (place : History) (used : List ℕ) (rows_is : length d.lives ≡ R) (s : Standing (stored first) R n ws log d r place used) (v : ℕ) (is : v ≡ version_of d r) where
   number : v ≡ length place
   number = is ∙ s.filed
 
@@ -38,17 +39,17 @@ module _ (R n : ℕ) (ws : List ℕ) (log : History) (d : DeskState) (r : ℕ) (
   used_reached : (x : ℕ) → In x used → reaches d.lives v x ≡ true
   used_reached x within = subst (λ (k : ℕ). reaches d.lives k x ≡ true) (sym number) (s.reached x within)
 
-  pub place_of : (v ≤ length log) × HasPlace d.lives log v
+  pub place_of : (v ≤ length log) × HasPlace first d.lives log v
   place_of = let u = s.aged.0.0 in (
     inside,
     record {
       placed = u.tree.placed;
-      is = u.tree.is ∙ ap (λ (g : History). tree One (after g)) (sym taken);
+      is = subst (λ (g : History). tree_of (format_after first g) u.tree.placed ≡ tree (format_after first g) (after g)) (sym taken) u.tree.is;
       once = u.tree.once;
       rows = λ x. (
         (λ e. subst (In x) (sym s.aged.0.1) (reached_used x e)),
         (λ i. used_reached x (subst (In x) s.aged.0.1 i)),
       );
-      ages = subst (λ (g : History). HasAges d.lives g u.tree.placed) (sym taken) s.aged.1;
+      ages = subst (λ (g : History). HasAges first d.lives g u.tree.placed) (sym taken) s.aged.1;
     },
   )

@@ -1,29 +1,32 @@
 -- Tries in vain, and then one that is not.
-use Rattle.std.proofs.Common.{◌≡◌, ℕ, ◌+◌, ◌<◌, List, refl, ap, ◌∙◌, subst, arith}
-use Rattle.std.specs.Prelude.{Option}
+use Rattle.std.proofs.Common.{◌≡◌, ℕ, ◌+◌, ◌<◌, refl, ap, ◌∙◌, subst, arith}
 use Rattle.mst_key.specs.declared.history.Change.{Change}
+use Rattle.mst_key.specs.History.{Reply}
 use Rattle.mst_store.specs.declared.faults.ChangeFault.{ChangeFault}
-use Rattle.mst_store.specs.Passes.{Known, having_asked, made_by, Wrote, Refuses, FindsBusy}
+use Rattle.mst_store.specs.Passes.{Known, having_missed, made_by, Wrote, Refuses, FindsBusy}
 use Rattle.mst_store.specs.Waiting.{HasTried, WroteAfter, RefusesAfter, as_tried}
 
 -- before the first
 pub not_tried : (p : Known) → HasTried p p
-not_tried p = let none : p.asked ≡ p.asked + 0 = omega arith in record { tries = 0; vain = λ alone. refl; now = ap (λ (n : ℕ). record p { asked = n }) none }
+not_tried p = let none : p.asked ≡ p.asked + 0 = omega arith in let none_missed : p.missed ≡ p.missed + 0 = omega arith in
+    record { tries = 0; vain = λ alone. refl; now = ap (λ (n : ℕ). record p { asked = n }) none ∙ ap (λ (n : ℕ). record p { asked = p.asked + 0; missed = n }) none_missed }
 
 -- one more
 pub tried_again : (p q r : Known) → HasTried p q → FindsBusy q r → HasTried p r
 tried_again p q r had busy =
     let more : p.asked + had.tries + 1 ≡ p.asked + (had.tries + 1) = omega arith in
+    let more_missed : p.missed + had.tries + 1 ≡ p.missed + (had.tries + 1) = omega arith in
     let same : q.store.passes ≡ p.store.passes = ap (λ (s : Known). s.store.passes) had.now in
     let others : 1 < q.store.passes = busy.1 in record {
       tries = had.tries + 1;
       vain = λ alone. absurd (omega (arith, same, others, alone));
-      now = busy.0 ∙ ap (λ (s : Known). having_asked 1 s) had.now ∙ ap (λ (n : ℕ). record p { asked = n }) more;
+      now = busy.0 ∙ ap (λ (s : Known). having_missed 1 s) had.now ∙ ap (λ (n : ℕ). record p { asked = n; missed = p.missed + had.tries + 1 }) more
+          ∙ ap (λ (n : ℕ). record p { asked = p.asked + (had.tries + 1); missed = n }) more_missed;
     }
 
 -- one that wrote
-pub wrote_then : (change : Change) (p q : Known) (old : Option (List ℕ)) (r : Known) → HasTried p q → Wrote (made_by q change) q old r → WroteAfter (made_by p change) p old r
-wrote_then change p q old r had wrote = record { tries = had.tries; vain = had.vain; wrote = subst (λ (s : Known). Wrote (made_by s change) s old r) had.now wrote }
+pub wrote_then : (change : Change) (p q : Known) (answered : Reply) (r : Known) → HasTried p q → Wrote (made_by q change) q answered r → WroteAfter (made_by p change) p answered r
+wrote_then change p q answered r had wrote = record { tries = had.tries; vain = had.vain; wrote = subst (λ (s : Known). Wrote (made_by s change) s answered r) had.now wrote }
 
 -- one that was refused
 pub refused_then : (fault : ChangeFault) (change : Change) (p q r : Known) → HasTried p q → Refuses (as_tried fault) change q r → RefusesAfter fault change p r

@@ -1,17 +1,21 @@
 -- How many rows the map takes, as the holder of the turn counts them.
 use Rattle.std.specs.Prelude.{◌≡◌, ℕ, ◌+◌, IsSome, Option, Some}
-use Rattle.mst_key.specs.History.{after, events_of, IsPrefix}
+use Rattle.mst_key.specs.History.{after, format_after, events_of, IsPrefix}
+use Rattle.mst_words.specs.Notes.{IsOfPasses}
 use Rattle.mst_store.specs.Turns.{Seat}
 use Rattle.mst_store.specs.Writes.{rows_of}
 
--- The pass has now seen a history that begins with all that it had seen, and its events in it are
--- its own. A number that was found is that of the rows that the map of this history takes; in a
--- store of one pass one is found. The turn was tried once, each record but the current one asked
--- once, and the current one by two loads
+-- The pass has now seen a history that begins with all that it had seen, its events in it are its
+-- own, and each event is of a pass of the store. A number that was found is that of the rows that
+-- the map of this history takes; in a store of one pass one is found. The turn was tried once and
+-- taken, each record but the current one asked once, and the current one by two loads
 pub record Counts (m : Seat) (found : Option ℕ) (m' : Seat) : Type 0 where
   pub later : IsPrefix m.0.seen m'.0.seen
   pub own : events_of m.0.number m'.0.seen ≡ m.0.mine
   pub mine : m'.0.mine ≡ m.0.mine
-  pub number : (n : ℕ) → found ≡ Some n → n ≡ rows_of (after m'.0.seen)
-  pub alone : m.0.passes ≡ 1 → IsSome found
+  pub alone : IsOfPasses m.0.passes m'.0.seen
+  pub number : (n : ℕ) → found ≡ Some n
+      → n ≡ rows_of (format_after m'.0.format m'.0.seen) (after m'.0.seen)
+  pub found_alone : m.0.passes ≡ 1 → IsSome found
   pub asked : m'.0.asked ≡ m.0.asked + m.0.passes + 4
+  pub missed : m'.0.missed ≡ m.0.missed

@@ -7,3 +7,4 @@ pub mod Counting
 pub mod Passes
 pub mod Settling
 pub mod Waiting
+pub mod Migrating

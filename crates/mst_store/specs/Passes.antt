@@ -1,12 +1,14 @@
 -- What a pass is to its callers, and what its calls say.
-use Rattle.std.specs.Prelude.{◌≡◌, ℕ, zero, suc, ◌+◌, ◌<◌, ◌≤◌, List, [], ◌∷◌, ◌++◌, length, Option}
+use Rattle.std.specs.Prelude.{◌≡◌, ℕ, zero, suc, ◌+◌, ◌<◌, ◌≤◌, List, [], ◌∷◌, ◌++◌, length}
 use Rattle.atomic_table.specs.Seated.{TableId}
+use Rattle.mst_key.specs.declared.format.Format.{Format}
 use Rattle.mst_key.specs.declared.history.Change.{Change}
 use Rattle.mst_key.specs.declared.history.Event.{Event}
-use Rattle.mst_key.specs.History.{History, after, reply, events_of, IsPrefix}
+use Rattle.mst_key.specs.History.{History, after, format_after, Reply, reply, events_of, IsPrefix}
 use Rattle.mst_key.specs.Map.{Pair}
 use Rattle.mst_arena.specs.Lives.{last_version}
 use Rattle.mst_words.specs.Access as access
+use Rattle.mst_words.specs.Notes.{IsOfPasses}
 use Rattle.mst_words.specs.Steps.{IsFree, IsPinned}
 use Rattle.mst_words.specs.declared.view.Shape.{Shape}
 use Rattle.mst_store.specs.declared.reading.PinnedRoot.{PinnedRoot}
@@ -15,25 +17,29 @@ use Rattle.mst_store.specs.declared.faults.WriteFault.{WriteFault}
 use Rattle.mst_store.specs.declared.faults.WriteFault.TheVariants.{Busy, VersionsSpent, NoRoom}
 use Rattle.mst_store.specs.Writes.{rows_of, rows_taken, LacksKept}
 
--- which store it is, and its size
+-- which store it is, its size, and the format of its version 0
 pub record StoreId : Type 0 where
   pub table : TableId
   pub rows : ℕ
   pub passes : ℕ
+  pub format : Format
 
 -- Which store a pass is of, its number, the history that it has seen, and its own events. And how
 -- many of its steps so far had an answer that depends on what other passes do: a loop that waits
--- for another pass makes such a step in each turn
+-- for another pass makes such a step in each turn. And how many of these were tries of the turn
+-- that missed, since another pass had it
 pub record Known : Type 0 where
   pub store : StoreId
   pub number : ℕ
   pub seen : History
   pub mine : History
   pub asked : ℕ
+  pub missed : ℕ
 
 -- which store a seat is of
 abbrev pub store_of : access.Seated → StoreId
-store_of s = record { table = s.table; rows = s.me.0.rows; passes = s.me.0.passes }
+store_of s =
+    record { table = s.table; rows = s.me.0.rows; passes = s.me.0.passes; format = s.me.0.format }
 
 -- what the seat of a pass shows to callers
 abbrev pub known : ℕ → access.Seated → Known
@@ -43,6 +49,7 @@ known number s = record {
   seen = s.me.0.seen;
   mine = s.me.0.mine;
   asked = s.me.0.asked;
+  missed = s.me.0.missed;
 }
 
 -- What a pinned pass shows to callers: of what it has seen the history at its pin, which lasts
@@ -54,6 +61,7 @@ known_at_pin number s = record {
   seen = s.me.0.pinned_history;
   mine = s.me.0.mine;
   asked = s.me.0.asked;
+  missed = s.me.0.missed;
 }
 
 -- The pass has no pin and not the turn, and its events in what it has seen are its own
@@ -83,13 +91,15 @@ pub record IsPinning (number passes rows : ℕ) (at : PinnedRoot) (s : access.Se
 abbrev pub IsShape : Shape → Type 0
 IsShape shape = (4 ≤ shape.rows) × (shape.rows ≤ 65535) × (1 ≤ shape.passes) × (shape.passes ≤ 32)
 
--- the store has this size
+-- the store has this size, and its version 0 this format
 abbrev pub HasShape : Shape → StoreId → Type 0
 HasShape shape store = (store.rows ≡ shape.rows) × (store.passes ≡ shape.passes)
+    × (store.format ≡ shape.format)
 
 -- a pass that has seen and done nothing
 abbrev pub new_pass : StoreId → ℕ → Known
-new_pass store number = record { store = store; number = number; seen = []; mine = []; asked = 0 }
+new_pass store number =
+    record { store = store; number = number; seen = []; mine = []; asked = 0; missed = 0 }
 
 -- the first passes of a store, in the order of their numbers from 1
 abbrev pub first_passes : StoreId → ℕ → List Known
@@ -104,54 +114,69 @@ new_passes store = first_passes store store.passes
 abbrev pub having_asked : ℕ → Known → Known
 having_asked n p = record p { asked = p.asked + n }
 
+-- the pass, after n tries of the turn at which another pass had it
+abbrev pub having_missed : ℕ → Known → Known
+having_missed n p = record p { asked = p.asked + n; missed = p.missed + n }
+
 -- it is the same pass of the same store
 abbrev pub IsSamePass : Known → Known → Type 0
 IsSamePass p q = (q.store ≡ p.store) × (q.number ≡ p.number)
 
 -- The pass has now seen a history that begins with all that it had seen. Its events in it are its
--- own, and none was added to them
+-- own, and none was added to them. Each event is of a pass of the store. The pass never found the
+-- turn taken
 pub record Looks (p q : Known) : Type 0 where
   pub same : IsSamePass p q
   pub later : IsPrefix p.seen q.seen
   pub mine : q.mine ≡ p.mine
   pub own : events_of q.number q.seen ≡ q.mine
+  pub alone : IsOfPasses q.store.passes q.seen
+  pub missed : q.missed ≡ p.missed
 
--- A read answered what this question asks of the map of the history that the pass has now seen
-pub record Answers {R : Type 0} (question : List Pair → R)
+-- the format of the version that a pass has seen last
+abbrev pub format_seen : Known → Format
+format_seen q = format_after q.store.format q.seen
+
+-- A read answered what this question asks of the map of the history that the pass has now seen, and
+-- of the format of its version
+pub record Answers {R : Type 0} (question : Format → List Pair → R)
     (p : Known) (answer : R) (q : Known) : Type 0 where
   pub looks : Looks p q
-  pub answer_is : answer ≡ question (after q.seen)
+  pub answer_is : answer ≡ question (format_seen q) (after q.seen)
 
 -- a change, made by this pass
 abbrev pub made_by : Known → Change → Event
 made_by p change = record { pass = p.number; change = change }
 
--- Whether a change finds room among so many rows: the rows that the map leaves over are enough for
--- the nodes that the change makes new
-abbrev pub HasRoom : ℕ → List Pair → Change → Type 0
-HasRoom rows m change = rows_of m + rows_taken m change ≤ rows
+-- Whether a change of a map in a format finds room among so many rows: the rows that the map leaves
+-- over are enough for the nodes that the change makes new
+abbrev pub HasRoom : ℕ → Format → List Pair → Change → Type 0
+HasRoom rows format m change = rows_of format m + rows_taken format m change ≤ rows
 
-abbrev pub LacksRoom : ℕ → List Pair → Change → Type 0
-LacksRoom rows m change = rows < rows_of m + rows_taken m change
+abbrev pub LacksRoom : ℕ → Format → List Pair → Change → Type 0
+LacksRoom rows format m change = rows < rows_of format m + rows_taken format m change
 
 -- A write added its event right behind a history that begins with all that the pass had seen, and
--- answered what that history replies. The pass has now seen both, and its events there are its own.
--- It tried the turn once, asked each record but the current one once, and published once
-pub record Wrote (e : Event) (p : Known) (old : Option (List ℕ)) (q : Known) : Type 0 where
+-- answered what that history replies. The pass has now seen both, its events there are its own, and
+-- each event is of a pass of the store. It tried the turn once and got it, asked each record but
+-- the current one once, and published once
+pub record Wrote (e : Event) (p : Known) (answered : Reply) (q : Known) : Type 0 where
   pub log : History
   pub same : IsSamePass p q
   pub later : IsPrefix p.seen log
   pub seen : q.seen ≡ log ++ e ∷ []
-  pub answer : old ≡ reply log e
+  pub answer : answered ≡ reply p.store.format log e
   pub mine : q.mine ≡ p.mine ++ e ∷ []
   pub own : events_of q.number q.seen ≡ q.mine
+  pub alone : IsOfPasses q.store.passes q.seen
   pub numbered : length log < last_version
-  pub room : HasRoom p.store.rows (after log) e.change
+  pub room : HasRoom p.store.rows (format_after p.store.format log) (after log) e.change
   pub asked : q.asked ≡ p.asked + p.store.passes + 3
+  pub missed : q.missed ≡ p.missed
 
 -- the turn was tried once, and another pass had it, so there is one; nothing else changed
 abbrev pub FindsBusy : Known → Known → Type 0
-FindsBusy p q = (q ≡ having_asked 1 p) × (1 < p.store.passes)
+FindsBusy p q = (q ≡ having_missed 1 p) × (1 < p.store.passes)
 
 -- Why a change was refused. Nothing was added to the history. There is no room where the versions
 -- that are kept hold too many rows: the last one, and at most one for each other pass. In a store
@@ -161,5 +186,6 @@ Refuses Busy change p q = FindsBusy p q
 Refuses VersionsSpent change p q =
     Looks p q × (length q.seen ≡ last_version) × (q.asked ≡ p.asked + 1)
 Refuses NoRoom change p q = Looks p q × (length q.seen < last_version)
-    × (p.store.passes ≡ 1 → LacksRoom q.store.rows (after q.seen) change)
-    × (q.asked ≡ p.asked + p.store.passes + 2) × LacksKept p.store.rows p.store.passes q.seen change
+    × (p.store.passes ≡ 1 → LacksRoom q.store.rows (format_seen q) (after q.seen) change)
+    × (q.asked ≡ p.asked + p.store.passes + 2)
+    × LacksKept p.store.format p.store.rows p.store.passes q.seen change

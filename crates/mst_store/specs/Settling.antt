@@ -12,12 +12,14 @@ abbrev pub having_seen : History → Known → Known
 having_seen log p = record p { seen = log; asked = p.asked + 1 + 1 }
 
 -- Two passes have now heard of one history and seen it, and nothing else about them changed. It
--- begins with all that either had seen, and the events of each in it are its own
+-- begins with all that either had seen, the events of each in it are its own, and each event is of
+-- a pass of the store
 pub record Met (p q p' q' : Known) : Type 0 where
   pub log : History
   pub now : (p' ≡ having_seen log p) × (q' ≡ having_seen log q)
   pub later : IsPrefix p.seen log × IsPrefix q.seen log
   pub own : (events_of p.number log ≡ p.mine) × (events_of q.number log ≡ q.mine)
+  pub alone : IsOfPasses p.store.passes log
 
 -- the numbers of the passes
 abbrev pub numbers : List Known → List ℕ

@@ -1,13 +1,14 @@
 -- What a write that waits for the turn says: after some tries at which another pass had the turn,
 -- it is as one that tries once.
-use Rattle.std.specs.Prelude.{◌≡◌, ℕ, List, Option}
+use Rattle.std.specs.Prelude.{◌≡◌, ℕ}
 use Rattle.mst_key.specs.declared.history.Change.{Change}
 use Rattle.mst_key.specs.declared.history.Event.{Event}
+use Rattle.mst_key.specs.History.{Reply}
 use Rattle.mst_store.specs.declared.faults.WriteFault.{WriteFault}
 use Rattle.mst_store.specs.declared.faults.WriteFault.TheVariants as tried
 use Rattle.mst_store.specs.declared.faults.ChangeFault.{ChangeFault}
 use Rattle.mst_store.specs.declared.faults.ChangeFault.TheVariants.{VersionsSpent, NoRoom}
-use Rattle.mst_store.specs.Passes.{Known, having_asked, Wrote, Refuses}
+use Rattle.mst_store.specs.Passes.{Known, having_missed, Wrote, Refuses}
 
 -- so many tries at which another pass had the turn: in a store of one pass there are none
 abbrev pub InVain : ℕ → Known → Type 0
@@ -18,13 +19,13 @@ InVain tries p = p.store.passes ≡ 1 → tries ≡ 0
 pub record HasTried (p q : Known) : Type 0 where
   pub tries : ℕ
   pub vain : InVain tries p
-  pub now : q ≡ having_asked tries p
+  pub now : q ≡ having_missed tries p
 
 -- after some tries in vain the event was added, as by a write that tries once
-pub record WroteAfter (e : Event) (p : Known) (old : Option (List ℕ)) (q : Known) : Type 0 where
+pub record WroteAfter (e : Event) (p : Known) (answered : Reply) (q : Known) : Type 0 where
   pub tries : ℕ
   pub vain : InVain tries p
-  pub wrote : Wrote e (having_asked tries p) old q
+  pub wrote : Wrote e (having_missed tries p) answered q
 
 -- the same refusal of a write that tries once
 abbrev pub as_tried : ChangeFault → WriteFault
@@ -35,4 +36,4 @@ as_tried NoRoom = tried.NoRoom
 pub record RefusesAfter (fault : ChangeFault) (change : Change) (p q : Known) : Type 0 where
   pub tries : ℕ
   pub vain : InVain tries p
-  pub refused : Refuses (as_tried fault) change (having_asked tries p) q
+  pub refused : Refuses (as_tried fault) change (having_missed tries p) q

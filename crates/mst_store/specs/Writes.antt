@@ -1,17 +1,18 @@
 -- A write: what the holder of the turn makes of the map in free rows, what the pass then knows, and
 -- why a change is refused.
-use Rattle.std.specs.Prelude.{◌≡◌, ℕ, ◌+◌, ◌<◌, ◌≤◌, List, [], ◌∷◌, ◌++◌, length, Option, Contains}
+use Rattle.std.specs.Prelude.{◌≡◌, ℕ, ◌+◌, ◌<◌, ◌≤◌, List, [], ◌∷◌, ◌++◌, length, Contains}
 use Rattle.mst_key.specs.Map.{Pair}
-use Rattle.mst_key.specs.declared.format.Format.TheVariants.{One}
+use Rattle.mst_key.specs.declared.format.Format.{Format}
 use Rattle.mst_key.specs.declared.history.Change.{Change}
 use Rattle.mst_key.specs.declared.history.Event.{Event}
-use Rattle.mst_key.specs.History.{History, after, changed, reply, events_of, IsPrefix}
+use Rattle.mst_key.specs.History.{History, after, changed, format_after, changed_format, Reply, reply, events_of, IsPrefix}
 use Rattle.mst_node.specs.Tree.{tree}
-use Rattle.mst_node.specs.Cost.{cost}
+use Rattle.mst_node.specs.Cost.{new_rows}
 use Rattle.mst_node.specs.Stays.{held}
 use Rattle.mst_arena.specs.Lives.{free_count, last_version}
 use Rattle.mst_arena.specs.declared.row.Root.{Root}
 use Rattle.mst_path.specs.Planting.{node_count}
+use Rattle.mst_words.specs.Notes.{IsOfPasses}
 use Rattle.mst_words.specs.Steps.{Misses}
 use Rattle.mst_store.specs.declared.turn.Turn.{Turn}
 use Rattle.mst_store.specs.declared.faults.WriteFault.{WriteFault}
@@ -22,62 +23,81 @@ use Rattle.mst_store.specs.Turns.{Seat, HasMade, Spent}
 abbrev pub made_at_seat : Seat → Change → Event
 made_at_seat m change = record { pass = m.0.number; change = change }
 
--- how many rows a map takes: one for each key and one for each node of its tree
-abbrev pub rows_of : List Pair → ℕ
-rows_of m = length m + node_count (tree One m)
+-- how many rows a map takes in a format: one for each key and one for each node of its tree
+abbrev pub rows_of : Format → List Pair → ℕ
+rows_of format m = length m + node_count (tree format m)
 
--- how many rows a change takes: one for each entry and each node that it makes new
-abbrev pub rows_taken : List Pair → Change → ℕ
-rows_taken m change = cost One m (changed m change)
+-- how many rows a change takes: one for each entry and each node of the tree after it that do not
+-- stand in the tree before it
+abbrev pub rows_taken : Format → List Pair → Change → ℕ
+rows_taken format m change =
+    new_rows (tree format m) (tree (changed_format format change) (changed m change))
 
 -- The change is made in free rows, as many as it takes, and can be published. Of what the seat
 -- knows only the words of those rows have changed. The answer is what the history replies
 pub record Made {A : Type 0} (change : Change) (t : Turn A) (m : Seat)
-    (root : Root) (old : Option (List ℕ)) (t' : Turn A) (m' : Seat) : Type 0 where
-  pub has : HasMade t' root (made_at_seat m change) m'
-  pub answer : old ≡ reply m.0.seen (made_at_seat m change)
-  pub rows : free_count t'.desk.lives + rows_taken (after m.0.seen) change ≡ free_count t.desk.lives
+    (root : Root) (answered : Reply) (t' : Turn A) (m' : Seat) : Type 0 where
+  pub has : HasMade t' root (changed_format t.format change) (made_at_seat m change) m'
+  pub answer : answered ≡ reply m.0.format m.0.seen (made_at_seat m change)
+  pub rows : free_count t'.desk.lives + rows_taken t.format (after m.0.seen) change
+      ≡ free_count t.desk.lives
   pub kept : m' ≡ (record m.0 { known_words = m'.0.known_words }, m.1)
 
--- Versions are kept that hold too many of these rows for the change. The last one is among them,
--- none is above it, and they are at most as many as the passes
-pub record LacksKept (rows passes : ℕ) (log : History) (change : Change) : Type 0 where
+-- Versions are kept that hold too many of these rows for the change, which takes some; what they
+-- hold is there. The last one is among them, none is above it, and they are at most as many as the
+-- passes. The format is that of version 0
+pub record LacksKept (first : Format) (rows passes : ℕ)
+    (log : History) (change : Change) : Type 0 where
   pub live : List ℕ
   pub now : Contains live (length log)
   pub below : (v : ℕ) → Contains live v → v ≤ length log
   pub few : length live ≤ passes
-  pub lacks : rows < held One log live + rows_taken (after log) change
+  pub fits : held first log live ≤ rows
+  pub costs : 0 < rows_taken (format_after first log) (after log) change
+  pub lacks : rows < held first log live + rows_taken (format_after first log) (after log) change
 
 -- fewer rows are free than the change takes
 abbrev pub LacksRows : {A : Type 0} → Change → Turn A → Seat → Type 0
-LacksRows change t m = free_count t.desk.lives < rows_taken (after m.0.seen) change
+LacksRows change t m = free_count t.desk.lives < rows_taken t.format (after m.0.seen) change
 
 -- at the seat is the same pass of the same store, which was told the same
 abbrev pub KeepsPass : Seat → Seat → Type 0
 KeepsPass m m' = (m'.0.number ≡ m.0.number) × (m'.0.rows ≡ m.0.rows)
-    × (m'.0.passes ≡ m.0.passes) × (m'.0.told ≡ m.0.told)
+    × (m'.0.passes ≡ m.0.passes) × (m'.0.format ≡ m.0.format) × (m'.0.told ≡ m.0.told)
 
 -- The event stands right behind a history that begins with all that the pass had seen, and the
--- answer is what that history replies. The pass has now seen both. It tried the turn once, asked
--- each record but the current one once, and published once
-pub record WroteAtSeat (e : Event) (m : Seat) (old : Option (List ℕ)) (m' : Seat) : Type 0 where
+-- answer is what that history replies. The pass has now seen both, and each event there is of a
+-- pass of the store. It tried the turn once and got it, asked each record but the current one once,
+-- and published once
+pub record WroteAtSeat (e : Event) (m : Seat) (answered : Reply) (m' : Seat) : Type 0 where
   pub log : History
   pub later : IsPrefix m.0.seen log
   pub own : events_of m.0.number log ≡ m.0.mine
   pub numbered : length log < last_version
-  pub room : rows_of (after log) + rows_taken (after log) e.change ≤ m.0.rows
-  pub answer : old ≡ reply log e
+  pub room : rows_of (format_after m.0.format log) (after log)
+      + rows_taken (format_after m.0.format log) (after log) e.change ≤ m.0.rows
+  pub answer : answered ≡ reply m.0.format log e
   pub seen : m'.0.seen ≡ log ++ e ∷ []
   pub mine : m'.0.mine ≡ m.0.mine ++ e ∷ []
+  pub alone : IsOfPasses m.0.passes m'.0.seen
   pub asked : m'.0.asked ≡ m.0.asked + m.0.passes + 3
+  pub missed : m'.0.missed ≡ m.0.missed
 
 -- The pass has now seen a history that begins with all that it had seen. Its events in it are its
--- own, and none was added. It tried the turn once, and asked each record but the current one once
+-- own, none was added, and each event is of a pass of the store. It tried the turn once and got it,
+-- and asked each record but the current one once
 pub record LookedAtSeat (m m' : Seat) : Type 0 where
   pub later : IsPrefix m.0.seen m'.0.seen
   pub own : events_of m.0.number m'.0.seen ≡ m.0.mine
   pub mine : m'.0.mine ≡ m.0.mine
+  pub alone : IsOfPasses m.0.passes m'.0.seen
   pub asked : m'.0.asked ≡ m.0.asked + m.0.passes + 2
+  pub missed : m'.0.missed ≡ m.0.missed
+
+-- the rows that the map leaves over are too few for the change
+abbrev pub LacksAtSeat : Seat → Seat → Change → Type 0
+LacksAtSeat m m' change = m.0.rows < rows_of (format_after m.0.format m'.0.seen) (after m'.0.seen)
+    + rows_taken (format_after m.0.format m'.0.seen) (after m'.0.seen) change
 
 -- Why a change was refused. There is no room where the versions that are kept hold too many rows.
 -- In a store of one pass the map alone is kept, so there is none exactly where the rows that it
@@ -86,5 +106,5 @@ abbrev pub RefusesAtSeat : WriteFault → Change → Seat → Seat → Type 0
 RefusesAtSeat Busy change m m' = Misses m m'
 RefusesAtSeat VersionsSpent change m m' = Spent m m'
 RefusesAtSeat NoRoom change m m' = LookedAtSeat m m' × (length m'.0.seen < last_version)
-    × (m.0.passes ≡ 1 → m.0.rows < rows_of (after m'.0.seen) + rows_taken (after m'.0.seen) change)
-    × LacksKept m.0.rows m.0.passes m'.0.seen change
+    × (m.0.passes ≡ 1 → LacksAtSeat m m' change)
+    × LacksKept m.0.format m.0.rows m.0.passes m'.0.seen change

@@ -26,6 +26,23 @@ pub enum WriteFault {
     NoRoom,
 }
 
+/// Why a migration was refused. It changed nothing.
+#[derive(Clone, Copy, Debug, PartialEq, Eq, Error)]
+pub enum MigrateFault {
+    /// Another pass had the turn.
+    #[error("another pass has the turn")]
+    Busy,
+    /// The current version has the last number, 2^63 - 1.
+    #[error("version numbers are spent")]
+    VersionsSpent,
+    /// A growth of the list of the pairs or of their tree was refused.
+    #[error("no memory")]
+    Memory,
+    /// The rows that are free are too few for the tree in the other format.
+    #[error("no room")]
+    NoRoom,
+}
+
 /// Why a write that waits for the turn was refused. It changed nothing.
 #[derive(Clone, Copy, Debug, PartialEq, Eq, Error)]
 pub enum ChangeFault {

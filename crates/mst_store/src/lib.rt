@@ -23,6 +23,9 @@
 
 mod counting;
 mod faults;
+mod laid;
+mod laws;
+mod migrating;
 mod pass;
 mod pinned;
 mod publishing;
@@ -36,8 +39,10 @@ mod turn;
 mod waiting;
 mod writing;
 
-pub use faults::{Busy, ChangeFault, OpenFault, WriteFault};
-pub use mst_key::Memory;
+pub use faults::{Busy, ChangeFault, MigrateFault, OpenFault, WriteFault};
+pub use laid::{Laid, LaidPinned};
+pub use laws::{event_laws, room_laws};
+pub use mst_key::{Format, Memory};
 pub use mst_words::Shape;
 pub use pass::Pass;
 pub use pinned::Pinned;

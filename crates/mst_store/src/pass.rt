@@ -1,18 +1,18 @@
 //! A pass: the calls that one thread makes.
 ghost use Rattle.std.specs.Prelude.{◌≡◌, ◌+◌, ◌<◌, ◌^◌, length, IfOk, IfErr, IfSome, IsSome, OnOk, OnErr};
-ghost use Rattle.mst_key.specs.declared.history.Change.TheVariants.{Put, Remove};
+ghost use Rattle.mst_key.specs.declared.history.Change.TheVariants.{Put, Remove, Migrate};
 ghost use Rattle.mst_key.specs.Map.{map_get, map_next, map_range};
-ghost use Rattle.mst_key.specs.declared.format.Format.TheVariants.{One};
 ghost use Rattle.mst_node.specs.Text.{root};
 ghost use Rattle.mst_node.specs.Trail.{proof_text};
 ghost use Rattle.std.specs.Option.{option_copied};
-ghost use Rattle.mst_store.specs.Passes.{Looks, Answers, having_asked, made_by, Wrote, FindsBusy, Refuses};
-ghost use Rattle.mst_key.specs.History.{after};
+ghost use Rattle.mst_store.specs.Passes.{Looks, Answers, format_seen, having_asked, made_by, Wrote, FindsBusy, Refuses};
+ghost use Rattle.mst_key.specs.History.{after, had, was, IsMigration};
 ghost use Rattle.mst_store.specs.Writes.{rows_of};
+ghost use Rattle.mst_store.specs.Migrating.{RefusesMigration};
 
-use crate::faults::{Busy, WriteFault};
-use crate::{counting, reading, writing};
-use mst_key::{Change, Event, Key, Memory, Value};
+use crate::faults::{Busy, MigrateFault, WriteFault};
+use crate::{counting, migrating, reading, writing};
+use mst_key::{Change, Event, Format, Key, Memory, Value};
 use mst_words::PassSeat;
 use std::alloc::Allocator;
 use std::marker::Model;
@@ -51,7 +51,7 @@ impl<'a, A: Allocator + Copy> Pass<'a, A> {
 
     /// The value of the key. It takes no memory.
     pub fn get(&mut self, key: &Key) -> Option<Value>
-        ensures answers { Answers (λ m. map_get m key.now) self.old result self.new }
+        ensures answers { Answers (λ _ m. map_get m key.now) self.old result self.new }
         ensures once { self.new.asked ≡ self.old.asked + 1 }
     {
         let at = reading::pin(&mut self.seat, self.number);
@@ -63,7 +63,7 @@ impl<'a, A: Allocator + Copy> Pass<'a, A> {
     /// The pair of the least key above the bound; with no bound, of the least key. It takes no
     /// memory.
     pub fn next(&mut self, after: Option<&Key>) -> Option<(Key, Value)>
-        ensures answers { Answers (λ m. map_next m (option_copied after.entry)) self.old result
+        ensures answers { Answers (λ _ m. map_next m (option_copied after.entry)) self.old result
             self.new }
         ensures once { self.new.asked ≡ self.old.asked + 1 }
     {
@@ -87,7 +87,7 @@ impl<'a, A: Allocator + Copy> Pass<'a, A> {
     ) -> Result<Vec<(Key, Value), B>, Memory>
         ensures ok { IfOk result
             (λ found. Answers
-            (λ m. map_range m (option_copied from.entry) (option_copied to.entry) limit) self.old
+            (λ _ m. map_range m (option_copied from.entry) (option_copied to.entry) limit) self.old
             found.items self.new) }
         ensures memory { OnErr result (self.new ≡ having_asked 1 self.old) }
         ensures once { self.new.asked ≡ self.old.asked + 1 }
@@ -106,11 +106,23 @@ impl<'a, A: Allocator + Copy> Pass<'a, A> {
         }
     }
 
-    /// The root digest of the map: the SHA-256 (FIPS 180-4) of the text of its tree's top node, or
-    /// of the empty string for the empty map. It depends on the pairs of the map alone. It takes no
-    /// memory.
+    /// The format of the version: that of the last migration, and else the one that the store was
+    /// opened with. It takes no memory.
+    pub fn format(&mut self) -> Format
+        ensures answers { Answers (λ f _. f) self.old result self.new }
+        ensures once { self.new.asked ≡ self.old.asked + 1 }
+    {
+        let at = reading::pin(&mut self.seat, self.number);
+        let format = reading::format(&mut self.seat, &at);
+        self.seat.unpin(self.number, at.pinned);
+        format
+    }
+
+    /// The root digest of the map in the version's format: the SHA-256 (FIPS 180-4) of the text of
+    /// its tree's top node, or of the empty string for the empty map. It depends on the format and
+    /// the pairs of the map alone. It takes no memory.
     pub fn root(&mut self) -> [u8; 32]
-        ensures answers { Answers (root One) self.old result self.new }
+        ensures answers { Answers root self.old result self.new }
         ensures once { self.new.asked ≡ self.old.asked + 1 }
     {
         let at = reading::pin(&mut self.seat, self.number);
@@ -121,12 +133,13 @@ impl<'a, A: Allocator + Copy> Pass<'a, A> {
 
     /// The proof of the map's answer for the key, value or absence, against the root digest: the
     /// texts of the nodes that a search for the key meets, from the top down, each behind its
-    /// length in four bytes, and in front of them the version 1 and their number.
+    /// length in four bytes, and in front of them the number of the version's format and their
+    /// number. In format 2 the value itself, or that there is none, stands at the end.
     ///
     /// `Memory` comes where a growth was refused; the pass has then seen what it had seen before.
     pub fn prove<B: Allocator + Copy>(&mut self, alloc: B, key: &Key) -> Result<Vec<u8, B>, Memory>
         ensures ok { IfOk result
-            (λ found. Answers (λ m. proof_text One m key.now) self.old found.items self.new) }
+            (λ found. Answers (λ f m. proof_text f m key.now) self.old found.items self.new) }
         ensures short { IfOk result (λ found. length found.items < 2 ^ 32) }
         ensures memory { OnErr result (self.new ≡ having_asked 1 self.old) }
         ensures once { self.new.asked ≡ self.old.asked + 1 }
@@ -153,7 +166,7 @@ impl<'a, A: Allocator + Copy> Pass<'a, A> {
     pub fn rows(&mut self) -> Result<Option<u32>, Busy>
         ensures looks { OnOk result (Looks self.old self.new) }
         ensures some { IfOk result
-            (λ found. IfSome found (λ n. n ≡ rows_of (after self.new.seen))) }
+            (λ found. IfSome found (λ n. n ≡ rows_of (format_seen self.new) (after self.new.seen))) }
         ensures alone { IfOk result (λ found. self.old.store.passes ≡ 1 → IsSome found) }
         ensures steps { OnOk result (self.new.asked ≡ self.old.asked + self.old.store.passes + 4) }
         ensures busy { OnErr result (FindsBusy self.old self.new) }
@@ -172,9 +185,11 @@ impl<'a, A: Allocator + Copy> Pass<'a, A> {
         at.version
     }
 
-    // Makes a change, and answers the value that its key had.
+    // Makes a change of a key, and answers the value that it had.
     fn write(&mut self, change: Change) -> Result<Option<Value>, WriteFault>
-        ensures ok { IfOk result (λ old. Wrote (made_by self.old change) self.old old self.new) }
+        requires keyed { IsMigration change → ⊥ }
+        ensures ok { IfOk result
+            (λ old. Wrote (made_by self.old change) self.old (had old) self.new) }
         ensures err { IfErr result (λ fault. Refuses fault change self.old self.new) }
     {
         let event = Event {
@@ -195,7 +210,7 @@ impl<'a, A: Allocator + Copy> Pass<'a, A> {
     /// pass these are the rows of the map. A put of the value that stands costs nothing.
     pub fn try_put(&mut self, key: &Key, value: &Value) -> Result<Option<Value>, WriteFault>
         ensures ok { IfOk result
-            (λ old. Wrote (made_by self.old (Put key.now value.now)) self.old old self.new) }
+            (λ old. Wrote (made_by self.old (Put key.now value.now)) self.old (had old) self.new) }
         ensures err { IfErr result
             (λ fault. Refuses fault (Put key.now value.now) self.old self.new) }
     {
@@ -207,9 +222,32 @@ impl<'a, A: Allocator + Copy> Pass<'a, A> {
     /// The refusals come as those of [`Pass::try_put`]. A remove of an absent key costs nothing.
     pub fn try_remove(&mut self, key: &Key) -> Result<Option<Value>, WriteFault>
         ensures ok { IfOk result
-            (λ old. Wrote (made_by self.old (Remove key.now)) self.old old self.new) }
+            (λ old. Wrote (made_by self.old (Remove key.now)) self.old (had old) self.new) }
         ensures err { IfErr result (λ fault. Refuses fault (Remove key.now) self.old self.new) }
     {
         self.write(Change::Remove(key.copy()))
+    }
+
+    /// Turns the tree of the map to a format, and answers the format that it had. The map stays,
+    /// and the history gets one event. Readers go on: a pass that pins an older version reads and
+    /// proves in that version's format.
+    ///
+    /// To another format it takes a row for each pair and each node of the new tree, beside those
+    /// of the old one, and memory for the list of the pairs and for the tree, which is given back
+    /// before the call returns. To the format that stands it takes neither.
+    ///
+    /// `Busy` comes only where another pass has the turn, else `VersionsSpent` exactly where the
+    /// current version has the last number, else `Memory` where a growth was refused, else `NoRoom`
+    /// where too few rows are free, as [`Pass::try_put`] has it.
+    pub fn try_migrate<B: Allocator + Copy>(
+        &mut self,
+        alloc: B,
+        to: Format,
+    ) -> Result<Format, MigrateFault>
+        ensures ok { IfOk result
+            (λ format. Wrote (made_by self.old (Migrate to)) self.old (was format) self.new) }
+        ensures err { IfErr result (λ fault. RefusesMigration fault to self.old self.new) }
+    {
+        migrating::migrate(&mut self.seat, alloc, self.number, self.passes, to)
     }
 }

@@ -2,16 +2,15 @@
 //! write.
 ghost use Rattle.std.specs.Prelude.{◌≡◌, ◌+◌, ◌<◌, ◌^◌, length, IfOk};
 ghost use Rattle.mst_key.specs.Map.{map_get, map_next, map_range};
-ghost use Rattle.mst_key.specs.declared.format.Format.TheVariants.{One};
 ghost use Rattle.mst_node.specs.Text as text;
 ghost use Rattle.mst_node.specs.Trail.{proof_text};
 ghost use Rattle.std.specs.Option.{option_copied};
-ghost use Rattle.mst_store.specs.Passes.{Looks};
+ghost use Rattle.mst_store.specs.Passes.{Looks, format_seen};
 ghost use Rattle.mst_key.specs.History.{after as after_events};
 
 use crate::pass::Pass;
 use crate::reading::{self, PinnedRoot};
-use mst_key::{Key, Memory, Value};
+use mst_key::{Format, Key, Memory, Value};
 use mst_words::PassSeat;
 use std::alloc::Allocator;
 use std::marker::Model;
@@ -25,9 +24,9 @@ use std::marker::Model;
 pub struct Pinned<'a, A: Allocator + Copy> {
     pub(crate) seat: PassSeat<'a, A>,
     pub(crate) at: PinnedRoot,
-    number: u32,
-    passes: u32,
-    rows: u32,
+    pub(crate) number: u32,
+    pub(crate) passes: u32,
+    pub(crate) rows: u32,
 }
 
 /// Contracts see which store it is of, its number, the history at its pin, and its own events.
@@ -116,9 +115,17 @@ impl<'a, A: Allocator + Copy> Pinned<'a, A> {
         reading::range(&mut self.seat, alloc, &self.at, from, to, limit)
     }
 
+    /// The format of the pinned version, whatever migrations came since. It takes no memory.
+    pub fn format(&mut self) -> Format
+        ensures found { result ≡ format_seen self.old }
+        ensures same { self.new ≡ self.old }
+    {
+        reading::format(&mut self.seat, &self.at)
+    }
+
     /// The root digest of the pinned version, as [`Pass::root`] has it. It takes no memory.
     pub fn root(&mut self) -> [u8; 32]
-        ensures found { result ≡ text.root One (after_events self.old.seen) }
+        ensures found { result ≡ text.root (format_seen self.old) (after_events self.old.seen) }
         ensures same { self.new ≡ self.old }
     {
         reading::root(&mut self.seat, &self.at)
@@ -130,7 +137,8 @@ impl<'a, A: Allocator + Copy> Pinned<'a, A> {
     /// `Memory` comes where a growth was refused.
     pub fn prove<B: Allocator + Copy>(&mut self, alloc: B, key: &Key) -> Result<Vec<u8, B>, Memory>
         ensures found { IfOk result
-            (λ found. found.items ≡ proof_text One (after_events self.old.seen) key.now) }
+            (λ found. found.items
+            ≡ proof_text (format_seen self.old) (after_events self.old.seen) key.now) }
         ensures short { IfOk result (λ found. length found.items < 2 ^ 32) }
         ensures same { self.new ≡ self.old }
     {

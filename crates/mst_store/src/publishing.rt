@@ -6,27 +6,28 @@ ghost use Rattle.mst_store.specs.Turns.{HasMade, Added};
 use crate::roots::write_root;
 use crate::turn::Turn;
 use mst_arena::Root;
-use mst_key::Event;
+use mst_key::{Event, Format};
 use mst_words::PassSeat;
 use std::alloc::Allocator;
 use std::marker::Brand;
 
-/// Publishes the version to come, whose map stands at the root, with its event, and gives the turn
-/// back: the words of its record are stored, it becomes the current record by one swap, the mask of
-/// the pins of the one before is moved by one xor, and desk and turn go back.
+/// Publishes the version to come, whose map stands at the root in the format, with its event, and
+/// gives the turn back: the words of its record are stored, it becomes the current record by one
+/// swap, the mask of the pins of the one before is moved by one xor, and desk and turn go back.
 pub(crate) fn publish<A: Allocator + Copy>(
     seat: &mut PassSeat<'_, A>,
     turn: Turn<A>,
     root: &Root,
+    format: Format,
     event: &Event,
 )
-    requires made { HasMade turn root.now event.now seat.old.me }
+    requires made { HasMade turn root.now format event.now seat.old.me }
     ensures same { IsSameSeat seat.old seat.new }
     ensures added { Added event.now seat.old.me seat.new.me }
 {
     let Turn { mut desk, into, .. } = turn;
     let (old, version) = desk.current();
-    write_root(seat, into, version + 1, root);
+    write_root(seat, into, version + 1, root, format);
     desk.advance(into);
     let found = seat.publish::<Brand>(into, event, &desk);
     seat.transfer(old, found % 4_294_967_296);

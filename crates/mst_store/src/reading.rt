@@ -3,16 +3,15 @@ ghost use Rattle.std.specs.Prelude.{◌≡◌, ◌<◌, ◌≤◌, ◌^◌, leng
 ghost use Rattle.std.specs.Option.{option_copied};
 ghost use Rattle.mst_key.specs.Map.{map_get, map_next, map_range};
 ghost use Rattle.mst_key.specs.History.{after};
-ghost use Rattle.mst_key.specs.declared.format.Format.TheVariants.{One};
 ghost use Rattle.mst_node.specs.Text as text;
 ghost use Rattle.mst_node.specs.Trail.{proof_text};
 ghost use Rattle.mst_words.specs.Access.{IsSameSeat};
 ghost use Rattle.mst_words.specs.Layout.{most_passes};
 ghost use Rattle.mst_words.specs.Steps.{IsFree};
-ghost use Rattle.mst_store.specs.Pinned.{HasPinned, Pins};
+ghost use Rattle.mst_store.specs.Pinned.{format_pinned, HasPinned, Pins};
 
-use crate::roots::{read_digest, read_link};
-use mst_key::{Key, Memory, Value};
+use crate::roots::{read_digest, read_format, read_link};
+use mst_key::{Format, Key, Memory, Value};
 use mst_words::PassSeat;
 use std::alloc::Allocator;
 
@@ -73,10 +72,19 @@ pub(crate) fn next<A: Allocator + Copy>(
     mst_read::next_below(seat, at.link, bound)
 }
 
+/// The format of the pinned version: one load.
+pub(crate) fn format<A: Allocator + Copy>(seat: &mut PassSeat<'_, A>, at: &PinnedRoot) -> Format
+    requires pinned { HasPinned at.now seat.old.me.0 }
+    ensures found { result ≡ format_pinned seat.old.me.0 }
+    ensures same { seat.new ≡ seat.old }
+{
+    read_format(seat, at.pinned)
+}
+
 /// The root digest of the pinned version's map: four loads.
 pub(crate) fn root<A: Allocator + Copy>(seat: &mut PassSeat<'_, A>, at: &PinnedRoot) -> [u8; 32]
     requires pinned { HasPinned at.now seat.old.me.0 }
-    ensures found { result ≡ text.root One (after seat.old.me.0.pinned_history) }
+    ensures found { result ≡ text.root (format_pinned seat.old.me.0) (after seat.old.me.0.pinned_history) }
     ensures same { seat.new ≡ seat.old }
 {
     read_digest(seat, at.pinned)
@@ -104,7 +112,7 @@ pub(crate) fn range<A: Allocator + Copy, B: Allocator>(
 }
 
 /// The proof of the pinned version's answer for the key, against its root digest, of fewer than
-/// 2^32 bytes.
+/// 2^32 bytes, in its format.
 ///
 /// `Memory` comes where a growth was refused.
 pub(crate) fn prove<A: Allocator + Copy, B: Allocator + Copy>(
@@ -115,9 +123,11 @@ pub(crate) fn prove<A: Allocator + Copy, B: Allocator + Copy>(
 ) -> Result<Vec<u8, B>, Memory>
     requires pinned { HasPinned at.now seat.old.me.0 }
     ensures proof { IfOk result
-        (λ proof. proof.items ≡ proof_text One (after seat.old.me.0.pinned_history) key.now) }
+        (λ proof. proof.items ≡ proof_text (format_pinned seat.old.me.0)
+        (after seat.old.me.0.pinned_history) key.now) }
     ensures short { IfOk result (λ proof. length proof.items < 2 ^ 32) }
     ensures same { seat.new ≡ seat.old }
 {
-    mst_read::prove_below(alloc, seat, at.link, key)
+    let format = format(seat, at);
+    mst_read::prove_below(alloc, seat, at.link, key, format)
 }

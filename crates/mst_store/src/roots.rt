@@ -4,13 +4,15 @@ ghost use Rattle.mst_arena.specs.Lists.{In};
 ghost use Rattle.mst_words.specs.Access.{with_words};
 ghost use Rattle.mst_words.specs.Layout.{most_records, record_words, first_row, record_word};
 ghost use Rattle.mst_words.specs.Records.{field};
-ghost use Rattle.mst_words.specs.Stored.{root_in};
+ghost use Rattle.mst_key.specs.declared.format.Format.{Format};
+ghost use Rattle.mst_words.specs.Stored.{root_in, format_number};
 ghost use Rattle.mst_words.specs.Steps.{IsReadable, IsHolder};
 ghost use Rattle.mst_store.specs.Filing.{IsFiled, OthersKept};
 
 use mst_arena::Root;
-use mst_words::PassSeat;
+use mst_key::Format;
 use mst_words::layout::{RECORD_WORDS, record_word};
+use mst_words::{PassSeat, format_number, format_of};
 use std::alloc::Allocator;
 
 // Word k of a record: one load.
@@ -75,7 +77,19 @@ pub(crate) fn read_digest<A: Allocator + Copy>(seat: &mut PassSeat<'_, A>, which
     Root::read(&[0, first, second, third, last]).digest
 }
 
-// Stores the six words of a drained record.
+/// The format of a record's version.
+pub(crate) fn read_format<A: Allocator + Copy>(seat: &mut PassSeat<'_, A>, which: u32) -> Format
+    requires there { which < most_records }
+    requires readable { (k : ℕ) → k < record_words
+        → IsReadable seat.old.me.0 (record_word which k) }
+    ensures format { (f : Format) → field seat.old.me.0.known_words which 6 ≡ format_number f
+        → result ≡ f }
+    ensures same { seat.new ≡ seat.old }
+{
+    format_of(field(seat, which, 6))
+}
+
+// Stores the seven words of a drained record.
 fn store_all<A: Allocator + Copy>(
     seat: &mut PassSeat<'_, A>,
     which: u32,
@@ -94,12 +108,14 @@ fn store_all<A: Allocator + Copy>(
     }
 }
 
-/// Stores the version number and the root of a drained record: a store for each of its six words.
+/// Stores the version number, the root and the format of a drained record: a store for each of its
+/// seven words.
 pub(crate) fn write_root<A: Allocator + Copy>(
     seat: &mut PassSeat<'_, A>,
     which: u32,
     version: u64,
     root: &Root,
+    format: Format,
 )
     requires there { which < most_records }
     requires holder { IsHolder seat.old.me }
@@ -108,8 +124,14 @@ pub(crate) fn write_root<A: Allocator + Copy>(
     ensures kept { seat.new ≡ with_words seat.new.me.0.known_words seat.old }
     ensures version { field seat.new.me.0.known_words which 0 ≡ version }
     ensures root { root_in (field seat.new.me.0.known_words which) ≡ root.now }
+    ensures number { field seat.new.me.0.known_words which 6 ≡ format_number format }
     ensures others { OthersKept which seat.old.me.0.known_words seat.new.me.0.known_words }
 {
     let [link, first, second, third, last] = root.words();
-    store_all(seat, which, &[version, link, first, second, third, last]);
+    let number = format_number(format);
+    store_all(
+        seat,
+        which,
+        &[version, link, first, second, third, last, number],
+    );
 }

@@ -1,7 +1,6 @@
 //! A store, and the dealing of its passes.
-ghost use Rattle.std.specs.Prelude.{◌≡◌, ◌<◌, ◌↔◌, true, length, IfOk, IfErr, OnOk, IsErrOf};
+ghost use Rattle.std.specs.Prelude.{◌≡◌, ◌↔◌, true, length, IfOk, IfErr, OnOk, IsErrOf};
 ghost use Rattle.mst_store.specs.Passes.{IsShape, HasShape, new_passes};
-ghost use Rattle.mst_words.specs.Layout.{most_records};
 
 use crate::faults::OpenFault;
 use crate::pass::Pass;
@@ -14,7 +13,7 @@ use std::marker::Model;
 /// A store. Its passes share it through a reference.
 #[derive(Drop)]
 pub struct Store<A: Allocator + Copy> {
-    board: Board<A>,
+    pub(crate) board: Board<A>,
     shape: Shape,
 }
 
@@ -26,7 +25,12 @@ impl<A: Allocator + Copy> Model for Store<A> {
 
     ghost Value = { StoreId };
 
-    ghost view = { λ s. record { table = s.board; rows = s.shape.rows; passes = s.shape.passes } };
+    ghost view = { λ s. record {
+      table = s.board;
+      rows = s.shape.rows;
+      passes = s.shape.passes;
+      format = s.shape.format;
+    } };
 
     ghost invariant = { λ s. IsShape s.shape × (s.board.words ≡ table_words s.shape.rows) };
 }
@@ -49,9 +53,11 @@ impl<A: Allocator + Copy> Model for Seats<A> {
       table = s.token.table_id;
       rows = s.token.me.0.rows;
       passes = s.token.me.0.passes;
+      format = s.token.me.0.format;
     } };
 
-    ghost invariant = { λ s. s.token.me ≡ (dealer s.token.me.0.rows s.token.me.0.passes 1, []) };
+    ghost invariant = { λ s. s.token.me
+        ≡ (dealer s.token.me.0.rows s.token.me.0.passes s.token.me.0.format 1, []) };
 }
 
 /// Whether a store can have this size: 4 to 65,535 rows and 1 to 32 passes.
@@ -62,8 +68,8 @@ fn is_shape(shape: Shape) -> bool
 }
 
 impl<A: Allocator + Copy> Store<A> {
-    /// A store of the empty map, and the right to deal its passes. All memory of the store is taken
-    /// here.
+    /// A store of the empty map in the shape's format, and the right to deal its passes. All memory
+    /// of the store is taken here.
     ///
     /// `Shape` comes exactly where the size is out of its limits, else `Memory` where a growth was
     /// refused.
@@ -92,14 +98,6 @@ impl<A: Allocator + Copy> Store<A> {
         ensures passes { result ≡ self.now.passes }
     {
         self.shape.passes
-    }
-
-    // Who pins the record, by what the words say now, as a mask of their bits.
-    #[cfg(test)]
-    pub(crate) fn pins(&self, which: u32) -> u32
-        requires there { which < most_records }
-    {
-        self.board.pins(which)
     }
 
     /// The passes of the store, in the order of their numbers from 1. None of them has seen or done

@@ -7,9 +7,10 @@ ghost use Rattle.mst_words.specs.Stored.{stored, desk_state};
 ghost use Rattle.mst_store.specs.Asking.{KnowsRecords, HasAsked, AsksOnly, AsksEach};
 ghost use Rattle.mst_store.specs.Turns.{Seat, TakesDesk, HasTurn, Begun, IsNotBegun};
 
-use crate::roots::read_root;
+use crate::roots::{read_format, read_root};
 use arrayvec::ArrayVec;
 use mst_arena::{Desk, Root};
+use mst_key::Format;
 use mst_words::PassSeat;
 use mst_words::layout::MOST_RECORDS;
 use std::alloc::Allocator;
@@ -21,6 +22,8 @@ pub(crate) struct Turn<A: Allocator> {
     pub(crate) desk: Desk<A>,
     /// Where the map of the current version stands.
     pub(crate) root: Root,
+    /// The format of the current version.
+    pub(crate) format: Format,
     /// A record that nobody pins, for the version to come.
     pub(crate) into: u32,
     /// How many versions are kept: the current one, and those of the records that were found
@@ -109,7 +112,7 @@ fn take<A: Allocator + Copy>(seat: &mut PassSeat<'_, A>, number: u32) -> Option<
 // Gives the turn back, and the desk: one exchange and one store.
 fn lay_back<A: Allocator + Copy>(seat: &mut PassSeat<'_, A>, desk: Desk<A>)
     requires out { seat.old.me.1 ≡ (0, None) ∷ [] }
-    requires giving { IsGiving stored (Some desk) (desk_state desk)
+    requires giving { IsGiving (stored seat.old.me.0.format) (Some desk) (desk_state desk)
         (seat.old.me.0, (0, Some desk) ∷ []) }
     ensures same { IsSameSeat seat.old seat.new }
     ensures gave { seat.new.me ≡ (record seat.old.me.0 { turn = false }, []) }
@@ -138,10 +141,12 @@ fn make_ready<A: Allocator + Copy>(
     let asked = ask_others(seat, &desk, passes);
     let (current, _) = desk.current();
     let (_, root) = read_root(seat, current);
+    let format = read_format(seat, current);
     desk.sweep(&asked.live);
     Turn {
         desk,
         root,
+        format,
         into: asked.into,
         kept: asked.live.len() as u32,
     }
@@ -149,7 +154,7 @@ fn make_ready<A: Allocator + Copy>(
 
 /// Takes the turn, finds a record for a version to come, and frees the rows that no version
 /// reaches: one compare-exchange, one exchange, one load for each record but the current one, and
-/// six loads more. `None` comes where another pass has the turn.
+/// seven loads more. `None` comes where another pass has the turn.
 pub(crate) fn begin<A: Allocator + Copy>(
     seat: &mut PassSeat<'_, A>,
     number: u32,

@@ -1,6 +1,7 @@
 //! Writes that wait for the turn: the only calls of a store that may not return.
 ghost use Rattle.std.specs.Prelude.{IfOk, IfErr};
 ghost use Rattle.mst_key.specs.declared.history.Change.TheVariants.{Put, Remove};
+ghost use Rattle.mst_key.specs.History.{had};
 ghost use Rattle.mst_store.specs.Passes.{made_by};
 ghost use Rattle.mst_store.specs.Waiting.{WroteAfter, RefusesAfter};
 
@@ -25,7 +26,7 @@ impl<'a, A: Allocator + Copy> Pass<'a, A> {
         value: &Value,
     ) -> Result<Option<Value>, ChangeFault>
         ensures ok { IfOk result
-            (λ old. WroteAfter (made_by self.old (Put key.now value.now)) self.old old self.new) }
+            (λ old. WroteAfter (made_by self.old (Put key.now value.now)) self.old (had old) self.new) }
         ensures err { IfErr result
             (λ fault. RefusesAfter fault (Put key.now value.now) self.old self.new) }
     {
@@ -46,7 +47,7 @@ impl<'a, A: Allocator + Copy> Pass<'a, A> {
     #[tactic(auto, using(crate::proofs::Waits::all_tries))]
     pub fn remove<R: Wait>(&mut self, rt: &R, key: &Key) -> Result<Option<Value>, ChangeFault>
         ensures ok { IfOk result
-            (λ old. WroteAfter (made_by self.old (Remove key.now)) self.old old self.new) }
+            (λ old. WroteAfter (made_by self.old (Remove key.now)) self.old (had old) self.new) }
         ensures err { IfErr result
             (λ fault. RefusesAfter fault (Remove key.now) self.old self.new) }
     {

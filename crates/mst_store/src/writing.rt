@@ -1,5 +1,6 @@
 //! A write: the turn, the change in rows that are free, and the next version.
 ghost use Rattle.std.specs.Prelude.{◌≡◌, ◌<◌, ◌≤◌, length, IfOk, IfErr, OnErr};
+ghost use Rattle.mst_key.specs.History.{had, IsMigration};
 ghost use Rattle.mst_key.specs.declared.history.Change.TheVariants.{Put, Remove};
 ghost use Rattle.mst_arena.specs.Lives.{last_version};
 ghost use Rattle.mst_words.specs.Access.{IsSameSeat};
@@ -28,11 +29,13 @@ fn make_put<A: Allocator + Copy>(
     requires open { length seat.old.me.0.seen < last_version }
     ensures same { IsSameSeat seat.old seat.new }
     ensures made { IfOk result (λ done. Made (Put key.now value.now)
-        turn.old seat.old.me done.0 done.1 turn.new seat.new.me) }
+        turn.old seat.old.me done.0 (had done.1) turn.new seat.new.me) }
+    ensures kept { turn.new.format ≡ turn.old.format }
     ensures lacks { OnErr result (LacksRows (Put key.now value.now) turn.old seat.old.me) }
     ensures untouched { OnErr result ((turn.new ≡ turn.old) × (seat.new ≡ seat.old)) }
 {
-    let Ok((root, old)) = mst_path::put(seat, &mut turn.desk, &turn.root, key, value) else {
+    let format = turn.format;
+    let Ok((root, old)) = mst_path::put(seat, &mut turn.desk, &turn.root, key, value, format) else {
         return Err(NoRoom);
     };
     Ok((root, old))
@@ -49,33 +52,40 @@ fn make_remove<A: Allocator + Copy>(
     requires open { length seat.old.me.0.seen < last_version }
     ensures same { IsSameSeat seat.old seat.new }
     ensures made { IfOk result
-        (λ done. Made (Remove key.now) turn.old seat.old.me done.0 done.1 turn.new seat.new.me) }
+        (λ done. Made (Remove key.now)
+        turn.old seat.old.me done.0 (had done.1) turn.new seat.new.me) }
+    ensures kept { turn.new.format ≡ turn.old.format }
     ensures lacks { OnErr result (LacksRows (Remove key.now) turn.old seat.old.me) }
     ensures untouched { OnErr result ((turn.new ≡ turn.old) × (seat.new ≡ seat.old)) }
 {
-    let Ok((root, old)) = mst_path::remove(seat, &mut turn.desk, &turn.root, key) else {
+    let format = turn.format;
+    let Ok((root, old)) = mst_path::remove(seat, &mut turn.desk, &turn.root, key, format) else {
         return Err(NoRoom);
     };
     Ok((root, old))
 }
 
-// Makes the change in rows that are free.
+// Makes the change of a key in rows that are free.
 pub(crate) fn make<A: Allocator + Copy>(
     seat: &mut PassSeat<'_, A>,
     turn: &mut Turn<A>,
     change: &Change,
 ) -> Result<(Root, Option<Value>), NoRoom>
+    requires keyed { IsMigration change.now → ⊥ }
     requires turn { HasTurn turn.old seat.old.me }
     requires open { length seat.old.me.0.seen < last_version }
     ensures same { IsSameSeat seat.old seat.new }
     ensures made { IfOk result
-        (λ done. Made change.now turn.old seat.old.me done.0 done.1 turn.new seat.new.me) }
+        (λ done. Made change.now
+        turn.old seat.old.me done.0 (had done.1) turn.new seat.new.me) }
+    ensures kept { turn.new.format ≡ turn.old.format }
     ensures lacks { OnErr result (LacksRows change.now turn.old seat.old.me) }
     ensures untouched { OnErr result ((turn.new ≡ turn.old) × (seat.new ≡ seat.old)) }
 {
     match change {
         Change::Put(key, value) => make_put(seat, turn, key, value),
         Change::Remove(key) => make_remove(seat, turn, key),
+        Change::Migrate(_) => unreachable!(),
     }
 }
 
@@ -99,6 +109,7 @@ pub(crate) fn write<A: Allocator + Copy>(
     event: &Event,
 ) -> Result<Option<Value>, WriteFault>
     requires free { IsFree number seat.old.me }
+    requires keyed { IsMigration event.now.change → ⊥ }
     requires mine { event.now.pass ≡ number }
     requires passes { passes ≡ seat.old.me.0.passes }
     requires few { passes ≤ 32 }
@@ -106,7 +117,7 @@ pub(crate) fn write<A: Allocator + Copy>(
     ensures same { IsSameSeat seat.old seat.new }
     ensures pass { KeepsPass seat.old.me seat.new.me }
     ensures free { IsFree number seat.new.me }
-    ensures wrote { IfOk result (λ old. WroteAtSeat event.now seat.old.me old seat.new.me) }
+    ensures wrote { IfOk result (λ old. WroteAtSeat event.now seat.old.me (had old) seat.new.me) }
     ensures refused { IfErr result
         (λ fault. RefusesAtSeat fault event.now.change seat.old.me seat.new.me) }
 {
@@ -115,9 +126,10 @@ pub(crate) fn write<A: Allocator + Copy>(
         Err(NotBegun::Busy) => return Err(WriteFault::Busy),
         Err(NotBegun::VersionsSpent) => return Err(WriteFault::VersionsSpent),
     };
+    let format = turn.format;
     match make(seat, &mut turn, &event.change) {
         Ok((root, old)) => {
-            publish(seat, turn, &root, event);
+            publish(seat, turn, &root, format, event);
             Ok(old)
         }
         Err(NoRoom) => {

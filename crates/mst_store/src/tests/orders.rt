@@ -1,8 +1,12 @@
-//! Two passes that each pin and end their pin, and a third that puts twice, in each of the 90
-//! orders in which these calls can come. The answers are those of the plain list of the puts, and
-//! after each call the words say the pins of a core of pins that is fed the same events.
+//! Two passes that each pin and end their pin, and a third that puts twice, or puts and migrates,
+//! in each of the 90 orders in which these calls can come. The answers are those of the plain list
+//! of the puts, and after each call the words say the pins of a core of pins that is fed the same
+//! events.
+ghost use Rattle.std.specs.Prelude.{◌<◌};
+ghost use Rattle.mst_words.specs.Layout.{most_records};
+
 use crate::{Pass, Pinned, Shape, Store};
-use mst_key::{Key, Value};
+use mst_key::{Format, Key, Value};
 use mst_pin::{Answer, Core, Event};
 use std::alloc::Global;
 use std::process::Abort;
@@ -24,11 +28,20 @@ struct Pinner<'a> {
     held: Option<(u8, u8)>,
 }
 
+/// The second write of the writer.
+#[derive(Clone, Copy, PartialEq, Eq)]
+enum Second {
+    Put,
+    Migration,
+}
+
 /// The passes, and the core that is fed what they do. The current version has so many puts, and
 /// this record.
 #[derive(Drop)]
 struct World<'a> {
+    alloc: Global,
     core: Core,
+    second: Second,
     puts: u8,
     current: u8,
     pinners: Vec<Pinner<'a>>,
@@ -40,6 +53,15 @@ fn is_after(found: &Option<Value>, puts: u8) -> bool {
     match found {
         Some(value) => puts > 0 && value.bytes() == [puts].as_slice(),
         None => puts == 0,
+    }
+}
+
+impl<'a> Pass<'a, Global> {
+    // Who pins the record, by what the words say now, as a mask of their bits.
+    fn pins(&mut self, which: u32) -> u32
+        requires there { which < most_records }
+    {
+        self.seat.pins(which)
     }
 }
 
@@ -80,12 +102,8 @@ impl<'a> Pinner<'a> {
 }
 
 impl<'a> World<'a> {
-    // Puts, and feeds the core the publication and its transfer. The writer then pins to learn the
-    // record.
-    fn puts(&mut self) -> bool {
-        let Some(mut pass) = self.writer.take() else {
-            return false;
-        };
+    // Puts the number of the put, and answers whether the old value was right.
+    fn puts(&mut self, pass: &mut Pass<'a, Global>) -> bool {
         let next = self.puts.saturating_add(1);
         let (Ok(key), Ok(value)) = (Key::new(b"a"), Value::new(&[next])) else {
             return false;
@@ -94,10 +112,29 @@ impl<'a> World<'a> {
             Ok(old) => is_after(&old, self.puts),
             Err(_) => false,
         };
+        self.puts = next;
+        right
+    }
+
+    // The next write of the writer: a put, and where it is asked for a migration after it. Whether
+    // it was answered right.
+    fn changes(&mut self, pass: &mut Pass<'a, Global>) -> bool {
+        if self.puts == 1 && self.second == Second::Migration {
+            return pass.try_migrate(self.alloc, Format::Two) == Ok(Format::One);
+        }
+        self.puts(pass)
+    }
+
+    // Writes, and feeds the core the publication and its transfer. The writer then pins to learn
+    // the record.
+    fn writes(&mut self) -> bool {
+        let Some(mut pass) = self.writer.take() else {
+            return false;
+        };
+        let right = self.changes(&mut pass);
         let pinned = pass.pin();
         let into = (pinned.at.pinned % 256) as u8;
         self.writer = Some(pinned.unpin());
-        self.puts = next;
         self.current = into;
         right
             && self.core.step(Event::Publish { into, rows: 0 }) == Answer::Done
@@ -111,7 +148,7 @@ impl<'a> World<'a> {
         let puts = self.puts;
         match self.pinners.get_mut(who) {
             Some(pinner) => pinner.calls(&mut self.core, puts),
-            None => self.puts(),
+            None => self.writes(),
         }
     }
 
@@ -124,11 +161,23 @@ impl<'a> World<'a> {
         bits
     }
 
+    // Who pins the record, by what the writer loads.
+    fn loads(&mut self, which: u8) -> Option<u32>
+        requires there { which < most_records }
+    {
+        let mut pass = self.writer.take()?;
+        let pins = pass.pins(u32::from(which));
+        self.writer = Some(pass);
+        Some(pins)
+    }
+
     // Whether the words say of each record who pins it, and the core that it is drained where
     // nobody does.
-    fn agrees(&self, store: &Store<Global>) -> bool {
+    fn agrees(&mut self) -> bool {
         for record in 0..5u8 {
-            let pins = store.pins(u32::from(record));
+            let Some(pins) = self.loads(record) else {
+                return false;
+            };
             let mut core = self.core;
             let asked = match core.step(Event::Ask(record)) {
                 Answer::Yes => pins == 0,
@@ -148,6 +197,7 @@ fn begun<'a>(
     rt: &impl Abort,
     alloc: Global,
     passes: Vec<Pass<'a, Global>>,
+    second: Second,
 ) -> Result<World<'a>, Fail> {
     let mut passes = passes;
     let Some(core) = Core::new(3) else {
@@ -165,7 +215,9 @@ fn begun<'a>(
         })?;
     }
     Ok(World {
+        alloc,
         core,
+        second,
         puts: 0,
         current: 0,
         pinners,
@@ -186,33 +238,47 @@ fn is_order(order: u32) -> bool {
 }
 
 // Makes the calls in this order in a new store.
-fn runs(rt: &(impl Abort + AllocGlobal), order: u32) -> Result<(), Fail> {
-    let shape = Shape { rows: 6, passes: 3 };
+fn runs(rt: &(impl Abort + AllocGlobal), order: u32, second: Second) -> Result<(), Fail> {
+    let shape = Shape {
+        rows: 6,
+        passes: 3,
+        format: Format::One,
+    };
     let Ok((store, seats)) = Store::open(rt.alloc(), shape) else {
         panic!(rt; "no memory")
     };
     let Ok(passes) = store.deal(rt.alloc(), seats) else {
         panic!(rt; "no memory")
     };
-    let mut world = begun(rt, rt.alloc(), passes)?;
+    let mut world = begun(rt, rt.alloc(), passes, second)?;
     let mut rest = order;
     for _ in 0..6u32 {
         assert!(rt; world.calls((rest % 3) as usize), "order {order}");
-        assert!(rt; world.agrees(&store), "order {order}");
+        assert!(rt; world.agrees(), "order {order}");
         rest /= 3;
     }
     Ok(())
 }
 
-#[test]
-fn each_order_agrees_with_the_core(rt: HostRuntime) -> Result<(), Fail> {
+// Makes the calls in each order.
+fn each_order(rt: &(impl Abort + AllocGlobal), second: Second) -> Result<(), Fail> {
     let mut orders = 0u32;
     for order in 0..729u32 {
         if is_order(order) {
-            runs(&rt, order)?;
+            runs(rt, order, second)?;
             orders = orders.saturating_add(1);
         }
     }
     assert!(rt; orders == 90);
     Ok(())
+}
+
+#[test]
+fn each_order_agrees_with_the_core(rt: HostRuntime) -> Result<(), Fail> {
+    each_order(&rt, Second::Put)
+}
+
+#[test]
+fn each_order_with_a_migration_agrees_with_the_core(rt: HostRuntime) -> Result<(), Fail> {
+    each_order(&rt, Second::Migration)
 }

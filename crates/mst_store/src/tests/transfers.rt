@@ -1,6 +1,4 @@
 //! Who pins a record, by what the words say, while another pass publishes.
-ghost use Rattle.std.specs.Prelude.{◌≤◌};
-ghost use Rattle.mst_words.specs.Layout.{first_row};
 ghost use Rattle.mst_store.specs.Turns.{HasMade};
 
 use crate::reading::pin;
@@ -10,7 +8,7 @@ use crate::turn::{Turn, begin_write};
 use crate::writing::{make, write};
 use mst_arena::Root;
 use mst_key::Event;
-use mst_words::{Board, PassSeat};
+use mst_words::PassSeat;
 use std::alloc::Allocator;
 use std::marker::Brand;
 use std::test::Fail;
@@ -18,23 +16,26 @@ use std::test::Fail;
 // Publishes as `publish` does, up to the transfer. It answers who pins the record that was current,
 // before the transfer and behind it.
 fn publish_by_steps<A: Allocator + Copy>(
-    board: &Board<A>,
     seat: &mut PassSeat<'_, A>,
     turn: Turn<A>,
     root: &Root,
     event: &Event,
 ) -> (u32, u32)
-    requires made { HasMade turn root.now event.now seat.old.me }
-    requires wide { first_row ≤ board.now.words }
+    requires made { HasMade turn root.now turn.format event.now seat.old.me }
 {
-    let Turn { mut desk, into, .. } = turn;
+    let Turn {
+        mut desk,
+        into,
+        format,
+        ..
+    } = turn;
     let (old, version) = desk.current();
-    write_root(seat, into, version + 1, root);
+    write_root(seat, into, version + 1, root, format);
     desk.advance(into);
     let found = seat.publish::<Brand>(into, event, &desk);
-    let published = board.pins(old);
+    let published = seat.pins(old);
     seat.transfer(old, found % 4_294_967_296);
-    (published, board.pins(old))
+    (published, seat.pins(old))
 }
 
 #[test]
@@ -46,7 +47,7 @@ fn a_publication_leaves_the_pins_to_its_transfer(rt: HostRuntime) -> Result<(), 
     let mut second = board.deal(&mut dealer);
     let event = putting(1, b"1")?;
     let at = pin(&mut second, 2);
-    assert!(rt; board.pins(at.pinned) == 2);
+    assert!(rt; second.pins(at.pinned) == 2);
     let Ok(mut turn) = begin_write(&mut first, 1, 2) else {
         panic!(rt; "the turn is free")
     };
@@ -54,10 +55,10 @@ fn a_publication_leaves_the_pins_to_its_transfer(rt: HostRuntime) -> Result<(), 
         panic!(rt; "there is room")
     };
     // between the two steps the mask is with the first pass alone
-    let (published, moved) = publish_by_steps(&board, &mut first, turn, &root, &event);
+    let (published, moved) = publish_by_steps(&mut first, turn, &root, &event);
     assert!(rt; (published, moved) == (0, 2));
     second.unpin(2, at.pinned);
-    assert!(rt; board.pins(at.pinned) == 0);
+    assert!(rt; second.pins(at.pinned) == 0);
     Ok(())
 }
 
@@ -73,9 +74,9 @@ fn a_write_keeps_the_pins_of_the_record_before(rt: HostRuntime) -> Result<(), Fa
         panic!(rt; "the map was empty")
     };
     let new = pin(&mut first, 1);
-    assert!(rt; board.pins(old.pinned) == 2 && board.pins(new.pinned) == 1);
+    assert!(rt; first.pins(old.pinned) == 2 && first.pins(new.pinned) == 1);
     second.unpin(2, old.pinned);
     first.unpin(1, new.pinned);
-    assert!(rt; board.pins(old.pinned) == 0 && board.pins(new.pinned) == 0);
+    assert!(rt; first.pins(old.pinned) == 0 && first.pins(new.pinned) == 0);
     Ok(())
 }

@@ -5,7 +5,7 @@ ghost use Rattle.std.specs.Prelude.{◌≡◌};
 use crate::tests::tables::opened;
 use crate::turn::{NotBegun, begin, begin_write, give_back};
 use crate::{Busy, Pass, Seats, Shape, Store, WriteFault};
-use mst_key::{Key, Value};
+use mst_key::{Format, Key, Value};
 use std::alloc::{Allocator, Global};
 use std::process::Abort;
 use std::test::Fail;
@@ -111,7 +111,14 @@ fn both_passes<'a>(
 
 #[test]
 fn whoever_finds_the_turn_taken_is_told_so_and_reads_on(rt: HostRuntime) -> Result<(), Fail> {
-    let Ok((store, seats)) = Store::open(rt.alloc(), Shape { rows: 8, passes: 2 }) else {
+    let Ok((store, seats)) = Store::open(
+        rt.alloc(),
+        Shape {
+            rows: 8,
+            passes: 2,
+            format: Format::One,
+        },
+    ) else {
         panic!(rt; "no memory")
     };
     let (mut first, mut second) = both_passes(&rt, &store, seats);

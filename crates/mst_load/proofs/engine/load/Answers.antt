@@ -1,7 +1,10 @@
 use Rattle.std.specs.Prelude.{◌≡◌, vec_len, length}
-use Rattle.std.proofs.Common.{rules, arith}
+use Rattle.std.proofs.Common.{rules, arith, ap, ◌∙◌}
+use Rattle.mst_store.specs.Passes.{StoreId}
 use Rattle.mst_store.specs.Settling.{AreAllPasses}
-use Rattle.mst_load.proofs.Returning.{dealt_own, all_back}
+use Rattle.std.specs.Prelude.{get_or}
+use Rattle.mst_load.proofs.Kept.{each_keeps}
+use Rattle.mst_load.proofs.Returning.{dealt_worker, all_back}
 use Rattle.mst_load.proofs.engine.load.Goals as goal
 
 -- the passes that go to the workers are those that were dealt
@@ -9,12 +12,16 @@ pub run_all-requires-clause-own : goal.run_all-requires-clause-own
 run_all-requires-clause-own g c κs within =
     let store = c.in-Ok-open.store in let dealt = c.in-Ok-deal in
     let count : vec_len dealt.passes ≡ store.passes = search rules in
-    (λ k d below. dealt_own store dealt.passes.items k d dealt.ensures.ok (omega (arith, below, count)))
+    (λ k d below. dealt_worker store dealt.passes.items k d dealt.ensures.ok (omega (arith, below, count)))
 
 -- and those that come back are all of them
 pub report_of-requires : goal.report_of-requires
 report_of-requires g c =
     let store = c.in-Ok-open.store in let back = c.in_ok-passes in let passes = back.passes.items in
     let count : length passes ≡ store.passes = search rules in
-    let whole : AreAllPasses passes = all_back store passes count (λ k d below. back.ensures.own k d (search rules)) (λ k d below. back.ensures.numbered k d (search rules)) in
-    record { whole = whole }
+    let whole : AreAllPasses passes = all_back store passes count (λ k d below. (back.ensures.own k d (search rules)).of_store) (λ k d below. back.ensures.numbered k d (search rules)) in
+    record {
+      whole = whole;
+      format = λ k d below. (let own = back.ensures.own k d (search rules) in ap (λ (s : StoreId). s.format) own.of_store ∙ c.in-Ok-open.ensures.store.2);
+      keeps = λ k d below. (let own = back.ensures.own k d (search rules) in each_keeps (get_or passes k d).mine own.keeps);
+    }

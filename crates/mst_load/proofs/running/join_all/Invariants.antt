@@ -1,11 +1,12 @@
 use Rattle.std.specs.Prelude.{◌≡◌, ℕ, ◌+◌, ◌<◌, get_or, vec_items, vec_len}
 use Rattle.std.specs.Vec.Iter.{into_iter_len}
 use Rattle.mst_store.specs.Passes.{Known}
+use Rattle.mst_load.specs.Workers.{IsWorkerOf}
 use Rattle.mst_load.proofs.running.join_all.Given as goal
 
 abbrev pub invariant-loop-handle : goal.invariant-loop-handle
 invariant-loop-handle g l =
     (vec_len l.passes + into_iter_len l.handle-iterator ≡ vec_len l.fn.handles)
     × (l.falls ≡ 0)
-    × ((k : ℕ) (d : Known) → k < vec_len l.passes → (get_or (vec_items l.passes) k d).store ≡ g.C.Course.store)
+    × ((k : ℕ) (d : Known) → k < vec_len l.passes → IsWorkerOf g.C.Course.store (get_or (vec_items l.passes) k d))
     × ((k : ℕ) (d : Known) → k < vec_len l.passes → (get_or (vec_items l.passes) k d).number ≡ k + 1)

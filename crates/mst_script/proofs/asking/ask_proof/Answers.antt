@@ -1,7 +1,6 @@
 use Rattle.std.proofs.Common.{rules}
 use Rattle.std.proofs.Common.{refl}
 use Rattle.hex.specs.Hex.{encode_lower}
-use Rattle.mst_key.specs.declared.format.Format.TheVariants.{One}
 use Rattle.mst_node.specs.Trail.{proof_text}
 use Rattle.mst_requests.specs.declared.request.Command.TheVariants.{Prove}
 use Rattle.std.specs.Prelude.{codes}
@@ -12,7 +11,7 @@ use Rattle.mst_script.proofs.asking.ask_proof.Goals as goal
 pub returns-in-Err : goal.returns-in-Err
 returns-in-Err g c = let p = c.args.pass.now in let q = c.prove.new.self in let k = c.args.key.now in
     asked (Prove k) (Prove k) p q (line_of (codes "memory")) refl
-    (missed (λ m. line_of (encode_lower (proof_text One m k))) (line_of (codes "memory")) p q c.in-Err.ensures.memory refl)
+    (missed (λ f m. line_of (encode_lower (proof_text f m k))) (line_of (codes "memory")) p q c.in-Err.ensures.memory refl)
 
 pub returns-in-Ok : goal.returns-in-Ok
 returns-in-Ok g c = search rules

@@ -37,6 +37,12 @@ returns-in-Prove-clause-found g c = search rules
 pub returns-in-Prove-clause-same : goal.returns-in-Prove-clause-same
 returns-in-Prove-clause-same g c = search rules
 
+pub returns-in-Format-clause-found : goal.returns-in-Format-clause-found
+returns-in-Format-clause-found g c = search rules
+
+pub returns-in-Format-clause-same : goal.returns-in-Format-clause-same
+returns-in-Format-clause-same g c = search rules
+
 pub returns-in-Put-clause-found : goal.returns-in-Put-clause-found
 returns-in-Put-clause-found g c = search rules
 

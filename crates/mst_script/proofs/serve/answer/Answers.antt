@@ -40,7 +40,7 @@ returns-else-is_unpin-clause-whole g c = all_recalled c.args.store.now c.args.re
 pub returns-else-is_unpin-clause-does : goal.returns-else-is_unpin-clause-does
 returns-else-is_unpin-clause-does g c = let f = subst (IsFound c.args.passes.now c.args.request.now.pass) c.in-Held.is c.find.ensures.found in
     does_recall c.args.store.now c.args.request.now.pass c.args.request.now.command c.args.passes.now c.recall.new.self c.in-Held.place (text_of c.recall.result)
-    f (sym c.is_unpin.ensures ∙ c.if-is_unpin.false) c.recall.ensures.asked
+    c.requires.whole f (sym c.is_unpin.ensures ∙ c.if-is_unpin.false) c.recall.ensures.asked
 
 pub find-requires : goal.find-requires
 find-requires g c = search rules

@@ -1,17 +1,21 @@
 use Rattle.std.proofs.Common.{rules}
 use Rattle.std.proofs.Common.{sym, ap, subst, ◌∙◌}
+use Rattle.mst_key.specs.declared.format.Format.{Format}
 use Rattle.mst_key.specs.declared.history.Event.{Event}
+use Rattle.mst_key.specs.History.{had}
+use Rattle.mst_key.proofs.HistoryLaws.{format_kept}
 use Rattle.mst_words.specs.declared.view.View.{View}
 use Rattle.mst_words.specs.Access.{Seated}
 use Rattle.mst_store.specs.declared.turn.Turn.{Turn}
 use Rattle.mst_store.specs.Turns.{HasTurn, HasMade}
+use Rattle.mst_store.specs.Writes.{made_at_seat}
 use Rattle.mst_store.proofs.Written.{own_event, refused, wrote}
 use Rattle.mst_store.proofs.writing.write.Goals as goal
 
 pub publish-requires : goal.publish-requires
 publish-requires g c = record {
-  made = subst (λ (e : Event). HasMade c.make.new.turn c.in-Ok-make.root e c.make.new.seat.me)
-      (own_event c.args.seat.now.me c.begin_write.new.seat.me c.args.event.now (c.requires.mine ∙ sym c.requires.free.3) (ap (λ (v : View). v.number) c.in-Ok.ensures.begun.rest)) c.in-Ok-make.ensures.made.has;
+  made = subst (λ (e : Event). HasMade c.make.new.turn c.in-Ok-make.root c.in-Ok.turn.format e c.make.new.seat.me)
+      (own_event c.args.seat.now.me c.begin_write.new.seat.me c.args.event.now (c.requires.mine ∙ sym c.requires.free.3) (ap (λ (v : View). v.number) c.in-Ok.ensures.begun.rest)) (subst (λ (f : Format). HasMade c.make.new.turn c.in-Ok-make.root f (made_at_seat c.begin_write.new.seat.me c.args.event.now.change) c.make.new.seat.me) (format_kept c.in-Ok.turn.format c.args.event.now.change c.requires.keyed) c.in-Ok-make.ensures.made.has);
 }
 
 pub give_back-requires : goal.give_back-requires
@@ -21,8 +25,8 @@ give_back-requires g c = let same = c.in-Err.ensures.untouched in record {
 
 pub returns-in-Ok-make-clause-wrote : goal.returns-in-Ok-make-clause-wrote
 returns-in-Ok-make-clause-wrote g c =
-    wrote c.args.seat.now.me c.begin_write.new.seat.me c.in-Ok.turn c.in-Ok.ensures.begun c.args.event.now c.in-Ok-make.root c.in-Ok-make.old c.make.new.turn c.make.new.seat.me c.publish.new.seat.me
-    c.in-Ok-make.ensures.made c.publish.ensures.added c.in-Ok.ensures.room
+    wrote c.args.seat.now.me c.begin_write.new.seat.me c.in-Ok.turn c.in-Ok.ensures.begun c.args.event.now c.in-Ok-make.root (had c.in-Ok-make.old) c.make.new.turn c.make.new.seat.me c.publish.new.seat.me
+    c.in-Ok-make.ensures.made c.publish.ensures.added c.in-Ok.ensures.room (c.requires.mine ∙ sym c.requires.free.3)
 
 pub returns-in-Err-clause-refused : goal.returns-in-Err-clause-refused
 returns-in-Err-clause-refused g c =
@@ -100,3 +104,6 @@ returns-in-Err-clause-free g c = search rules
 
 pub returns-in-Err-clause-wrote : goal.returns-in-Err-clause-wrote
 returns-in-Err-clause-wrote g c = search rules
+
+pub make-requires-clause-keyed : goal.make-requires-clause-keyed
+make-requires-clause-keyed g c = search rules

@@ -25,3 +25,6 @@ returns-clause-ok g c = grind (arith, common_steps)
 
 pub returns-clause-err : goal.returns-clause-err
 returns-clause-err g c = search rules
+
+pub write-requires-clause-keyed : goal.write-requires-clause-keyed
+write-requires-clause-keyed g c = search rules

@@ -9,5 +9,5 @@ invariant-loop-index g l = record {
   counted : vec_len l.passes ≡ l.index;
   room : vec_capacity l.passes ≡ l.count;
   own : l.token.table_id ≡ l.fn.self.table;
-  next : l.token.me ≡ (dealer l.fn.self.rows l.fn.self.passes (l.index + 1), []);
+  next : l.token.me ≡ (dealer l.fn.self.rows l.fn.self.passes l.fn.self.format (l.index + 1), []);
 }

@@ -1,0 +1,150 @@
+//! A pass that is laid down: all of it but the reference to its store. So it can lie beside a share
+//! of the store, as whoever is no Rattle code has to hold it.
+ghost use Rattle.std.specs.Prelude.{◌≡◌};
+
+use crate::pass::Pass;
+use crate::pinned::Pinned;
+use crate::reading::PinnedRoot;
+use crate::store::Store;
+use mst_words::Token;
+use std::alloc::Allocator;
+use std::marker::Model;
+
+/// A pass that is laid down. [`Store::lift`] makes the pass of it again.
+#[derive(Drop)]
+pub struct Laid<A: Allocator + Copy> {
+    token: Token<A>,
+    number: u32,
+    passes: u32,
+    rows: u32,
+}
+
+/// Contracts see what they see of the pass.
+impl<A: Allocator + Copy> Model for Laid<A> {
+    ghost use Rattle.std.specs.Prelude.{◌≡◌};
+    ghost use Rattle.mst_words.specs.Layout.{table_words};
+    ghost use Rattle.mst_store.specs.Passes.{Known, known, IsAtRest};
+
+    ghost Value = { Known };
+
+    ghost view = { λ p. known p.number
+        (record { table = p.token.table_id; id = p.token.id; me = p.token.me }) };
+
+    ghost invariant = { λ p. IsAtRest p.number p.passes p.rows
+        (record { table = p.token.table_id; id = p.token.id; me = p.token.me })
+        × (p.token.table_id.words ≡ table_words p.token.me.0.rows) };
+}
+
+/// A pinned pass that is laid down. [`Store::lift_pinned`] makes the pinned pass of it again.
+#[derive(Drop)]
+pub struct LaidPinned<A: Allocator + Copy> {
+    token: Token<A>,
+    at: PinnedRoot,
+    number: u32,
+    passes: u32,
+    rows: u32,
+}
+
+/// Contracts see what they see of the pinned pass.
+impl<A: Allocator + Copy> Model for LaidPinned<A> {
+    ghost use Rattle.std.specs.Prelude.{◌≡◌};
+    ghost use Rattle.mst_words.specs.Layout.{table_words};
+    ghost use Rattle.mst_store.specs.Passes.{Known, known_at_pin, IsPinning};
+
+    ghost Value = { Known };
+
+    ghost view = { λ p. known_at_pin p.number
+        (record { table = p.token.table_id; id = p.token.id; me = p.token.me }) };
+
+    ghost invariant = { λ p. IsPinning p.number p.passes p.rows p.at
+        (record { table = p.token.table_id; id = p.token.id; me = p.token.me })
+        × (p.token.table_id.words ≡ table_words p.token.me.0.rows) };
+}
+
+impl<'a, A: Allocator + Copy> Pass<'a, A> {
+    /// Lays the pass down.
+    pub fn lay(self) -> Laid<A>
+        ensures same { result ≡ self.entry }
+    {
+        let Pass {
+            seat,
+            number,
+            passes,
+            rows,
+        } = self;
+        let token = seat.into_token();
+        Laid {
+            token,
+            number,
+            passes,
+            rows,
+        }
+    }
+}
+
+impl<'a, A: Allocator + Copy> Pinned<'a, A> {
+    /// Lays the pinned pass down, which keeps its pin.
+    pub fn lay(self) -> LaidPinned<A>
+        ensures same { result ≡ self.entry }
+    {
+        let Pinned {
+            seat,
+            at,
+            number,
+            passes,
+            rows,
+        } = self;
+        let token = seat.into_token();
+        LaidPinned {
+            token,
+            at,
+            number,
+            passes,
+            rows,
+        }
+    }
+}
+
+impl<A: Allocator + Copy> Store<A> {
+    /// The pass that was laid down. It has to be one of this store.
+    pub fn lift<'a>(&'a self, laid: Laid<A>) -> Pass<'a, A>
+        requires own { laid.store ≡ self.now }
+        ensures same { result ≡ laid }
+    {
+        let Laid {
+            token,
+            number,
+            passes,
+            rows,
+        } = laid;
+        let seat = self.board.seat(token);
+        Pass {
+            seat,
+            number,
+            passes,
+            rows,
+        }
+    }
+
+    /// The pinned pass that was laid down. It has to be one of this store.
+    pub fn lift_pinned<'a>(&'a self, laid: LaidPinned<A>) -> Pinned<'a, A>
+        requires own { laid.store ≡ self.now }
+        ensures same { result ≡ laid }
+    {
+        let LaidPinned {
+            token,
+            at,
+            number,
+            passes,
+            rows,
+        } = laid;
+        let seat = self.board.seat(token);
+        Pinned {
+            seat,
+            at,
+            number,
+            passes,
+            rows,
+        }
+    }
+}
