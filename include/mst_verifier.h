@@ -47,7 +47,7 @@ extern "C" {
 /* The proof shows a value that is longer than the room. MST_VALUE_ROOM is always enough. */
 #define MST_NO_ROOM (-2)
 
-/* No format has this number. Today there is format 1 alone. */
+/* No format has this number. There are formats 1 and 2. */
 #define MST_UNKNOWN_FORMAT (-3)
 
 /* A root digest has 32 bytes. */
@@ -56,16 +56,17 @@ extern "C" {
 /* A key has 1 to 32 bytes. */
 #define MST_BAD_KEY (-5)
 
-/* The proof fails this test first: P1 to P9 of docs/FORMAT.md are -11 to -19. */
-#define MST_P1_VERSION (-11)         /* the first byte is not 01 */
-#define MST_P2_CUT_SHORT (-12)       /* the version, the count, a length or a text is cut short */
-#define MST_P3_LEFT_OVER (-13)       /* bytes are left over behind the last text */
+/* The proof fails this test first: P1 to P10 of docs/FORMAT.md are -11 to -20. */
+#define MST_P1_VERSION (-11)         /* the first byte is not the format's */
+#define MST_P2_CUT_SHORT (-12)       /* the version, the count, a length, a text or the tail is cut short */
+#define MST_P3_LEFT_OVER (-13)       /* bytes are left over behind the last text, or the tail */
 #define MST_P4_NO_NODE (-14)         /* a text is not that of a node */
 #define MST_P5_OTHER_DIGEST (-15)    /* a digest is not the root's, or not the one the node above has */
 #define MST_P6_LAYER_NOT_BELOW (-16) /* a layer is not below that of the node above */
 #define MST_P7_KEY_OUTSIDE (-17)     /* a key lies outside the gap in which its node stands */
 #define MST_P8_UNFINISHED (-18)      /* the key's gap has a child, and no text follows */
 #define MST_P9_TEXT_BEHIND (-19)     /* a text follows although the key was decided */
+#define MST_P10_OTHER_VALUE (-20)    /* format 2: the answer claimed is not what is held */
 
 /*
  * What the proof shows of the key, in the map with this root digest.

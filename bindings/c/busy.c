@@ -1,0 +1,139 @@
+/*
+ * Calls while another pass has the turn. A migration asks for memory while it has the turn. This
+ * malloc, which stands before glibc's own, then makes calls by another hand: those that need the
+ * turn are told MST_BUSY, and the reads go on. Calls that try again, in a thread of their own,
+ * go through once the migration has ended.
+ */
+#include <stdatomic.h>
+static atomic_int pauses; /* how often a call has tried in vain */
+#define MST_PAUSE() (atomic_fetch_add(&pauses, 1), sched_yield())
+#include <sched.h>
+#include "tests.h"
+#include <pthread.h>
+#include <stdlib.h>
+
+extern void *__libc_malloc(size_t size);
+
+static mst_pass passes[3];
+static mst_pass *mover = &passes[0], *other = &passes[1], *pinned = &passes[2];
+static void (*meanwhile)(void); /* what the next malloc does first */
+static uint8_t root[32], room[64];
+
+void *malloc(size_t size) {
+    void (*then)(void) = meanwhile;
+    meanwhile = NULL;
+    if (then)
+        then();
+    return __libc_malloc(size);
+}
+
+/* Migrates by the mover, from 1 to 2 or back, with these calls made while it has the turn. */
+static void migrates_while(uint32_t from, void (*calls)(void)) {
+    meanwhile = calls;
+    EXPECT(mst_try_migrate(mover, 3 - from) == (int32_t)from);
+    EXPECT(meanwhile == NULL);
+}
+
+static int has_root(mst_pass *pass) {
+    uint8_t now[32];
+    return mst_root(pass, now, 32) == 32 && memcmp(now, root, 32) == 0;
+}
+
+/* Faults of the line come first, and then that another pass has the turn. */
+static void each_is_refused(void) {
+    uint32_t rows = 77;
+    EXPECT(mst_try_migrate(other, 2) == MST_BUSY && mst_try_migrate(other, 1) == MST_BUSY);
+    EXPECT(mst_try_migrate(other, 3) == MST_UNKNOWN_FORMAT);
+    EXPECT(mst_try_migrate(pinned, 2) == MST_WRONG_STATE);
+    EXPECT(mst_try_put(other, TEXT("a"), TEXT("2"), room, sizeof room) == MST_BUSY);
+    EXPECT(mst_try_put(other, NULL, 0, TEXT("2"), room, sizeof room) == MST_BAD_KEY);
+    EXPECT(mst_try_remove(other, TEXT("a"), room, sizeof room) == MST_BUSY);
+    EXPECT(mst_rows(other, &rows) == MST_BUSY && rows == 77);
+}
+
+/* The version is the one before the migration, and may be pinned. */
+static void reads_go_on(mst_pass *pass) {
+    uint8_t key[32], proof[256];
+    size_t length = 0;
+    uint64_t version = 0;
+    EXPECT(mst_get(pass, TEXT("a"), room, sizeof room) == 1 && room[0] == '1');
+    EXPECT(mst_next(pass, NULL, 0, key, 32, &length, room, 64) == 1 && length == 1);
+    EXPECT(has_root(pass) && mst_format(pass) == 1);
+    EXPECT(mst_prove(pass, TEXT("a"), proof, sizeof proof, &length) == MST_OK && proof[0] == 1);
+    EXPECT(mst_version(pass, &version) == MST_OK && version == 1);
+}
+
+static void others_call(void) {
+    each_is_refused();
+    reads_go_on(other);
+    reads_go_on(pinned);
+    EXPECT(mst_pin(other) == MST_OK);
+    reads_go_on(other);
+    EXPECT(mst_unpin(other) == MST_OK);
+    each_is_refused();
+}
+
+/* What was refused is not done, and goes through once the turn is free. */
+static void refusals(void) {
+    uint32_t rows = 0;
+    EXPECT(mst_pin(pinned) == MST_OK && mst_root(other, root, 32) == 32);
+    migrates_while(1, others_call);
+    EXPECT(mst_format(other) == 2 && !has_root(other));
+    EXPECT(mst_format(pinned) == 1 && has_root(pinned) && mst_unpin(pinned) == MST_OK);
+    EXPECT(mst_get(other, TEXT("a"), room, sizeof room) == 1 && room[0] == '1');
+    EXPECT(mst_rows(other, &rows) == MST_OK && rows == 2);
+    EXPECT(mst_try_migrate(other, 1) == 2 && has_root(other));
+}
+
+static int32_t told;
+
+static void *migrates(void *unused) {
+    told = mst_migrate(other, 1);
+    return unused;
+}
+
+static void *puts_one(void *unused) {
+    told = mst_put(other, TEXT("a"), TEXT("2"), room, sizeof room);
+    return unused;
+}
+
+static void *removes(void *unused) {
+    told = mst_remove(other, TEXT("a"), room, sizeof room);
+    return unused;
+}
+
+static void *(*waiting)(void *);
+static pthread_t waiter;
+
+/* Starts the thread, and lets the migration go on when the thread has tried in vain ten times. */
+static void starts_to_wait(void) {
+    atomic_store(&pauses, 0);
+    EXPECT(pthread_create(&waiter, NULL, waiting, NULL) == 0);
+    while (atomic_load(&pauses) < 10)
+        sched_yield();
+}
+
+static void goes_through(uint32_t from, void *(*call)(void *), int32_t wanted) {
+    waiting = call;
+    migrates_while(from, starts_to_wait);
+    EXPECT(pthread_join(waiter, NULL) == 0);
+    EXPECT(told == wanted);
+}
+
+int main(void) {
+    uint64_t version = 0;
+    EXPECT(mst_open(1, 64, passes, 3) == MST_OK);
+    EXPECT(mst_put(mover, TEXT("a"), TEXT("1"), room, sizeof room) == MST_ABSENT);
+    refusals();
+    goes_through(1, migrates, 2);
+    EXPECT(mst_format(mover) == 1 && has_root(mover));
+    goes_through(1, puts_one, 1);
+    EXPECT(mst_format(other) == 2 && mst_get(mover, TEXT("a"), room, sizeof room) == 1);
+    EXPECT(room[0] == '2');
+    goes_through(2, removes, 1);
+    EXPECT(mst_get(mover, TEXT("a"), room, sizeof room) == MST_ABSENT);
+    EXPECT(mst_version(mover, &version) == MST_OK && version == 9);
+    for (int i = 0; i < 3; i++)
+        EXPECT(mst_close(&passes[i]) == MST_OK);
+    return ended("busy");
+}

@@ -1,0 +1,163 @@
+/*
+ * The stack that calls take, over trees in format 2 of 3, of 9 and of 15 nodes one below the other.
+ * Each call runs in a thread whose stack is filled with a pattern first, so the bytes that it has
+ * written are counted. What six nodes more cost tells what 129 would, the most that a tree can have
+ * on one path. Such a tree cannot be had: a key of layer 128 is one of 2 to the power of 256.
+ */
+#include "tests.h"
+#include <pthread.h>
+#include <stdlib.h>
+#include <sys/mman.h>
+
+#define STACK (1 << 20)
+#define NODES 15
+#define MOST_NODES 129
+#define PATTERN 0xA5
+#define NODE 1024          /* a node more costs no more of the stack */
+#define LIMIT (128 * 1024) /* and a call over 129 nodes takes less */
+
+/* A key of each layer in format 2, from 14 down; each lies between the two before it. */
+static const char *const keys[NODES] = {
+    "z338499454", "b12483696", "y20022483", "c11371238", "x842172", "d467806", "w48396", "e17178",
+    "v6284", "f61", "u191", "g57", "t28", "h1", "s0",
+};
+
+static mst_pass pass = MST_PASS_CLOSED;
+static const uint8_t *low; /* the key of the lowest layer */
+static size_t low_length;
+static int32_t told;
+static uint8_t room[8192];
+static size_t length, count;
+
+static void *nothing(void *unused) {
+    return unused;
+}
+
+static void *gets(void *unused) {
+    told = mst_get(&pass, low, low_length, room, sizeof room);
+    return unused;
+}
+
+static void *nexts(void *unused) {
+    uint8_t key[32];
+    told = mst_next(&pass, low, low_length, key, sizeof key, &length, room, sizeof room);
+    return unused;
+}
+
+static void *ranges(void *unused) {
+    told = mst_range(&pass, NULL, 0, NULL, 0, 99, room, sizeof room, &count, &length);
+    return unused;
+}
+
+static void *proves(void *unused) {
+    told = mst_prove(&pass, low, low_length, room, sizeof room, &length);
+    return unused;
+}
+
+static void *puts_one(void *unused) {
+    told = mst_try_put(&pass, low, low_length, TEXT("2"), room, sizeof room);
+    return unused;
+}
+
+static void *removes(void *unused) {
+    told = mst_try_remove(&pass, low, low_length, room, sizeof room);
+    return unused;
+}
+
+static void *puts_again(void *unused) {
+    told = mst_try_put(&pass, low, low_length, TEXT("1"), room, sizeof room);
+    return unused;
+}
+
+static void *migrates_to_1(void *unused) {
+    told = mst_try_migrate(&pass, 1);
+    return unused;
+}
+
+static void *migrates_to_2(void *unused) {
+    told = mst_try_migrate(&pass, 2);
+    return unused;
+}
+
+struct call {
+    const char *name;
+    void *(*run)(void *);
+    int32_t answer;
+};
+
+/* In an order in which each finds what the one before left. */
+static const struct call calls[] = {
+    {"get", gets, 1},
+    {"next", nexts, 1},
+    {"range", ranges, MST_OK},
+    {"prove", proves, MST_OK},
+    {"put", puts_one, 1},
+    {"remove", removes, 1},
+    {"put of a new key", puts_again, MST_ABSENT},
+    {"migrate to 1", migrates_to_1, 2},
+    {"migrate to 2", migrates_to_2, 1},
+};
+
+enum { CALLS = sizeof calls / sizeof *calls };
+
+/* How many bytes of its stack the thread wrote. */
+static size_t stack_of(void *(*run)(void *)) {
+    pthread_attr_t how;
+    pthread_t thread;
+    uint8_t *stack = mmap(NULL, STACK, PROT_READ | PROT_WRITE, MAP_PRIVATE | MAP_ANONYMOUS, -1, 0);
+    if (stack == MAP_FAILED)
+        return STACK;
+    memset(stack, PATTERN, STACK);
+    EXPECT(pthread_attr_init(&how) == 0 && pthread_attr_setstack(&how, stack, STACK) == 0);
+    EXPECT(pthread_create(&thread, &how, run, NULL) == 0 && pthread_join(thread, NULL) == 0);
+    size_t spared = 0;
+    while (spared < STACK && stack[spared] == PATTERN)
+        spared++;
+    pthread_attr_destroy(&how);
+    munmap(stack, STACK);
+    return STACK - spared;
+}
+
+/* Puts the keys of the lowest layers, so many, in a new store of format 2. */
+static void opens(int nodes) {
+    EXPECT(mst_open(2, 128, &pass, 1) == MST_OK);
+    for (int i = NODES - nodes; i < NODES; i++)
+        EXPECT(mst_put(&pass, (const uint8_t *)keys[i], strlen(keys[i]), TEXT("1"), room, 64)
+               == MST_ABSENT);
+    low = (const uint8_t *)keys[NODES - 1];
+    low_length = strlen(keys[NODES - 1]);
+    uint32_t rows = 0;
+    EXPECT(mst_rows(&pass, &rows) == MST_OK && rows == 2 * (uint32_t)nodes);
+    EXPECT(mst_prove(&pass, low, low_length, room, sizeof room, &length) == MST_OK
+           && room[1] == nodes);
+}
+
+/* The stack of each call over a tree of so many nodes. */
+static void measure(int nodes, size_t *taken) {
+    size_t alone = stack_of(nothing);
+    opens(nodes);
+    for (int i = 0; i < CALLS; i++) {
+        size_t all = stack_of(calls[i].run);
+        taken[i] = all > alone ? all - alone : 0;
+        EXPECT(told == calls[i].answer);
+    }
+    EXPECT(mst_close(&pass) == MST_OK);
+}
+
+int main(void) {
+    size_t few[CALLS], some[CALLS], most[CALLS], greatest = 0;
+    measure(3, few);
+    measure(9, some);
+    measure(15, most);
+    for (int i = 0; i < CALLS; i++) {
+        size_t more = most[i] > some[i] ? most[i] - some[i] : 0;
+        size_t whole = most[i] + (more + 5) / 6 * (MOST_NODES - NODES);
+        EXPECT(more <= 6 * NODE);
+        EXPECT(whole < LIMIT);
+        printf("%s: %zu, %zu and %zu bytes, so at most %zu\n", calls[i].name, few[i], some[i],
+               most[i], whole);
+        greatest = whole > greatest ? whole : greatest;
+    }
+    printf("a call over 129 nodes takes less than %zu bytes of the stack\n", greatest + 1);
+    return ended("deep");
+}

@@ -1,0 +1,187 @@
+/*
+ * A malloc that counts, and that refuses its n-th call: mst_open leaves all hands empty, a proof
+ * leaves the pass as it was, a migration the format, and nothing is ever leaked. It stands before
+ * glibc's own.
+ */
+#include "tests.h"
+#include <stdlib.h>
+
+extern void *__libc_malloc(size_t size);
+extern void *__libc_realloc(void *at, size_t size);
+extern void __libc_free(void *at);
+
+static int counting = 0;
+static long live = 0;  /* what was taken and not given back while counting */
+static long left = -1; /* how many calls more are answered; -1: all */
+
+static int refuses(void) {
+    return counting && left >= 0 && left-- == 0;
+}
+
+void *malloc(size_t size) {
+    if (refuses())
+        return NULL;
+    void *at = __libc_malloc(size);
+    if (counting && at)
+        live++;
+    return at;
+}
+
+void *realloc(void *old, size_t size) {
+    if (refuses())
+        return NULL;
+    void *at = __libc_realloc(old, size);
+    if (counting && at && !old)
+        live++;
+    return at;
+}
+
+void free(void *at) {
+    if (counting && at)
+        live--;
+    __libc_free(at);
+}
+
+static void count_from(long calls) {
+    left = calls;
+    counting = 1;
+}
+
+static void count_on(void) {
+    left = -1;
+}
+
+/* How many openings were refused before one was not. */
+static long openings(void) {
+    for (long n = 0; n < 4000; n++) {
+        mst_pass passes[5] = {MST_PASS_CLOSED};
+        live = 0;
+        count_from(n);
+        int32_t told = mst_open(1, 64, passes, 5);
+        count_on();
+        for (int i = 0; i < 5; i++) {
+            int32_t closed = mst_close(&passes[i]);
+            EXPECT(closed == (told == MST_OK ? MST_OK : MST_CLOSED) && passes[i].at == NULL);
+        }
+        counting = 0;
+        EXPECT(live == 0);
+        EXPECT(told == MST_OK || told == MST_MEMORY);
+        if (told == MST_OK)
+            return n;
+    }
+    return -1;
+}
+
+/* How many proofs were refused before one was not. The pass goes on after each. */
+static long proofs(mst_pass *pass) {
+    uint8_t room[64], proof[4096];
+    for (long n = 0; n < 100; n++) {
+        size_t length = 7;
+        long before = live;
+        count_from(n);
+        int32_t told = mst_prove(pass, TEXT("key"), proof, sizeof proof, &length);
+        count_on();
+        EXPECT(live == before);
+        EXPECT(mst_get(pass, TEXT("key"), room, sizeof room) == 5);
+        if (told == MST_OK)
+            return n;
+        EXPECT(told == MST_MEMORY && length == 7);
+    }
+    return -1;
+}
+
+/* How many ranges were refused before one was not. The pass goes on after each. */
+static long ranges(mst_pass *pass) {
+    uint8_t room[MST_PAIR_LONGEST], value[64];
+    for (long n = 0; n < 100; n++) {
+        size_t count = 7, length = 7;
+        long before = live;
+        count_from(n);
+        int32_t told = mst_range(pass, TEXT("k"), NULL, 0, 9, room, sizeof room, &count, &length);
+        count_on();
+        EXPECT(live == before);
+        EXPECT(mst_get(pass, TEXT("key"), value, sizeof value) == 5);
+        if (told == MST_OK) {
+            EXPECT(count == 1 && length == 12 && memcmp(room, "\0\3\0\5keyvalue", 12) == 0);
+            return n;
+        }
+        EXPECT(told == MST_MEMORY && count == 7 && length == 7);
+    }
+    return -1;
+}
+
+/* How many migrations were refused before one was not. Format and root stay after each refusal. */
+static long migrations(mst_pass *pass, uint32_t from, uint32_t to) {
+    uint8_t root[32], after[32];
+    EXPECT(mst_root(pass, root, 32) == 32);
+    for (long n = 0; n < 100; n++) {
+        long before = live;
+        count_from(n);
+        int32_t told = mst_try_migrate(pass, to);
+        count_on();
+        EXPECT(live == before);
+        EXPECT(mst_root(pass, after, 32) == 32 && (memcmp(root, after, 32) == 0) == (told < 0));
+        if (told == (int32_t)from) {
+            EXPECT(mst_format(pass) == (int32_t)to);
+            return n;
+        }
+        EXPECT(told == MST_MEMORY && mst_format(pass) == (int32_t)from);
+    }
+    return -1;
+}
+
+/* Whether these calls take no memory: each one that is asked for is refused. */
+static void without_memory(mst_pass *pass) {
+    uint8_t room[64], key[32];
+    size_t length = 0;
+    uint64_t version = 0;
+    uint32_t rows = 0;
+    long before = live;
+    count_from(0);
+    EXPECT(mst_try_put(pass, TEXT("other"), TEXT("1"), room, sizeof room) == MST_ABSENT);
+    left = 0;
+    EXPECT(mst_get(pass, TEXT("other"), room, sizeof room) == 1);
+    left = 0;
+    EXPECT(mst_next(pass, TEXT("key"), key, 32, &length, room, 64) == 1 && length == 5);
+    left = 0;
+    EXPECT(mst_root(pass, key, 32) == 32);
+    left = 0;
+    EXPECT(mst_version(pass, &version) == MST_OK && version > 0);
+    left = 0;
+    EXPECT(mst_rows(pass, &rows) == MST_OK && rows > 0);
+    left = 0;
+    EXPECT(mst_format(pass) == 1 && mst_try_migrate(pass, 1) == 1);
+    left = 0;
+    EXPECT(mst_pin(pass) == MST_OK);
+    left = 0;
+    EXPECT(mst_unpin(pass) == MST_OK);
+    left = 0;
+    EXPECT(mst_try_remove(pass, TEXT("other"), room, sizeof room) == 1);
+    count_on();
+    EXPECT(live == before);
+}
+
+int main(void) {
+    mst_pass pass = MST_PASS_CLOSED;
+    uint8_t room[64];
+    long opened = openings();
+    EXPECT(opened > 0);
+    live = 0;
+    count_from(-1);
+    EXPECT(mst_open(1, 64, &pass, 1) == MST_OK);
+    EXPECT(mst_put(&pass, TEXT("key"), TEXT("value"), room, sizeof room) == MST_ABSENT);
+    long proved = proofs(&pass);
+    EXPECT(proved > 0);
+    long ranged = ranges(&pass);
+    EXPECT(ranged > 0 && mst_pin(&pass) == MST_OK);
+    EXPECT(ranges(&pass) == ranged && mst_unpin(&pass) == MST_OK);
+    long migrated = migrations(&pass, 1, 2);
+    EXPECT(migrated > 0 && proofs(&pass) > 0 && migrations(&pass, 2, 1) > 0);
+    without_memory(&pass);
+    EXPECT(mst_close(&pass) == MST_OK);
+    counting = 0;
+    EXPECT(live == 0);
+    printf("%ld openings, %ld proofs, %ld ranges and %ld migrations refused\n", opened, proved, ranged,
+           migrated);
+    return ended("nomem");
+}

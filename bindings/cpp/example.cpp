@@ -1,0 +1,15 @@
+// Two passes of one store: an old version stays readable, with its root digest and a proof.
+#include "mst_store.hpp"
+#include <iostream>
+
+int main() {
+    auto passes = mst::open(1000, 2);
+    passes[0].put("apple", "30");
+    {
+        auto then = passes[1].pin();
+        passes[0].put("apple", "35");
+        std::cout << "the pinned value: " << *then.get("apple") << "\n";
+        std::cout << "its proof: " << then.prove("apple").size() << " bytes\n";
+    }
+    std::cout << "the value now: " << *passes[1].get("apple") << "\n";
+}

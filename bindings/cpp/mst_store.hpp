@@ -1,0 +1,323 @@
+// The store from C++17: an ordered map of short keys and values with a root digest, proofs, and
+// versions that stay readable while they are pinned.
+//
+//     auto passes = mst::open(1000, 2);           // 1,000 rows, two passes
+//     passes[0].put("apple", "30");
+//     auto value = passes[1].get("apple");        // std::optional<std::string>
+//     passes[0].migrate(mst::format::two);        // shorter proofs; a store opens in format one
+//
+// A pass is one thread's at a time; it is moved, never copied, and closes itself. The store goes
+// with its last pass. Refusals are exceptions of the class mst::refused; that another pass has the
+// turn is none, but an answer of the calls that try. Keys have 1 to 32 bytes, values 0 to 64. What
+// the header mst_store.h says that a caller owes, callers of this one owe too.
+#pragma once
+#include "mst_store.h"
+
+#include <algorithm>
+#include <array>
+#include <cstddef>
+#include <cstdint>
+#include <optional>
+#include <stdexcept>
+#include <string>
+#include <string_view>
+#include <thread>
+#include <utility>
+#include <vector>
+
+namespace mst {
+
+using digest = std::array<std::uint8_t, MST_ROOT_LENGTH>;
+using pair = std::pair<std::string, std::string>;
+
+// The formats of trees and proofs, by their numbers in mst_store.h and mst_verifier.h.
+enum class format : std::uint32_t { one = 1, two = 2 };
+
+inline const char *meaning(int code) noexcept {
+    switch (code) {
+    case MST_NO_ROOM: return "the room is too short";
+    case MST_UNKNOWN_FORMAT: return "no format has this number";
+    case MST_BAD_KEY: return "a key has 1 to 32 bytes";
+    case MST_BAD_VALUE: return "a value has 0 to 64 bytes";
+    case MST_CLOSED: return "the pass is closed";
+    case MST_WRONG_STATE: return "a pinned pass neither writes, migrates, pins nor counts rows";
+    case MST_MEMORY: return "no memory";
+    case MST_BAD_SHAPE: return "a store has 4 to 65535 rows and 1 to 32 passes";
+    case MST_BUSY: return "another pass has the turn";
+    case MST_VERSIONS_SPENT: return "version numbers are spent";
+    case MST_ROWS_SPENT: return "fewer rows are free than the write or the migration needs";
+    case MST_ROWS_PINNED: return "a version is pinned, so the rows are not counted";
+    default: return "unknown code";
+    }
+}
+
+// Why a call was refused. It changed nothing.
+class refused : public std::runtime_error {
+    int number;
+
+public:
+    explicit refused(int code) : std::runtime_error(meaning(code)), number(code) {}
+
+    // One of the numbers of mst_store.h.
+    int code() const noexcept { return number; }
+};
+
+// What a call that tries to write has done.
+struct tried {
+    bool is_busy = false;           // another pass has the turn, and nothing is written
+    std::optional<std::string> old; // the value that the key had before, if it had one
+
+    explicit operator bool() const noexcept { return !is_busy; }
+};
+
+// What a call that tries to migrate has done.
+struct migrated {
+    bool is_busy = false;      // another pass has the turn, and nothing is written
+    std::optional<format> was; // the format before, if it is not busy
+
+    explicit operator bool() const noexcept { return !is_busy; }
+};
+
+// What a count of rows has found.
+struct counted {
+    bool is_busy = false;              // another pass has the turn, and nothing is counted
+    std::optional<std::uint32_t> rows; // nothing where some pass pins a version
+
+    explicit operator bool() const noexcept { return !is_busy; }
+};
+
+// The reads, which a pass and a pinned pass both have. The hand stands on the heap, so that a pass
+// may be moved while it is pinned.
+class reader {
+protected:
+    mst_pass *hand = nullptr;
+
+    reader() noexcept = default;
+    explicit reader(mst_pass *of) noexcept : hand(of) {}
+    ~reader() = default;
+
+    mst_pass *at() const {
+        if (hand == nullptr) throw refused(MST_CLOSED);
+        return hand;
+    }
+
+    static const std::uint8_t *bytes(std::string_view text) noexcept {
+        return reinterpret_cast<const std::uint8_t *>(text.data());
+    }
+
+    static std::string text(const std::uint8_t *room, std::size_t length) {
+        return std::string(reinterpret_cast<const char *>(room), length);
+    }
+
+    static void require_done(int code) {
+        if (code != MST_OK) throw refused(code);
+    }
+
+    static std::optional<std::string> told(int code, const std::uint8_t *room) {
+        if (code >= 0) return text(room, static_cast<std::size_t>(code));
+        if (code == MST_ABSENT) return std::nullopt;
+        throw refused(code);
+    }
+
+    static std::vector<pair> pairs(const std::uint8_t *room, std::size_t count) {
+        std::vector<pair> found;
+        found.reserve(count);
+        std::size_t at = 0;
+        while (found.size() < count) {
+            mst_pair one;
+            at = mst_pair_at(room, at, &one);
+            found.emplace_back(text(one.key, one.key_length), text(one.value, one.value_length));
+        }
+        return found;
+    }
+
+public:
+    reader(const reader &) = delete;
+    reader &operator=(const reader &) = delete;
+
+    // The value of the key, or nothing.
+    std::optional<std::string> get(std::string_view key) {
+        std::uint8_t room[MST_VALUE_LONGEST];
+        return told(mst_get(at(), bytes(key), key.size(), room, sizeof room), room);
+    }
+
+    // The pair of the least key above `after`; with no bound, of the least key of all.
+    std::optional<pair> next(std::string_view after = {}) {
+        std::uint8_t key[MST_KEY_LONGEST], room[MST_VALUE_LONGEST];
+        std::size_t length = 0;
+        auto value = told(mst_next(at(), bytes(after), after.size(), key, sizeof key, &length,
+                                   room, sizeof room), room);
+        if (!value) return std::nullopt;
+        return pair(text(key, length), std::move(*value));
+    }
+
+    // The first pairs, at most `limit`, with from <= key < to, all of one version. An empty bound
+    // does not bind.
+    std::vector<pair> range(std::string_view from = {}, std::string_view to = {},
+                            std::size_t limit = SIZE_MAX) {
+        auto most = static_cast<std::uint32_t>(std::min<std::size_t>(limit, UINT32_MAX));
+        std::vector<std::uint8_t> room(MST_PAIR_LONGEST * std::min<std::size_t>(limit, 64));
+        for (;;) {
+            std::size_t count = 0, length = 0;
+            int code = mst_range(at(), bytes(from), from.size(), bytes(to), to.size(), most,
+                                 room.data(), room.size(), &count, &length);
+            if (code == MST_OK) return pairs(room.data(), count);
+            if (code != MST_NO_ROOM) throw refused(code);
+            room.resize(length); // by the next try a free pass may have more: so this is a loop
+        }
+    }
+
+    // The root digest of the version. It depends on its pairs and its format alone.
+    digest root() {
+        digest root;
+        int code = mst_root(at(), root.data(), root.size());
+        if (code < 0) throw refused(code);
+        return root;
+    }
+
+    // The proof of the key's answer, for mst_verify and the format and root digest of the same version.
+    std::vector<std::uint8_t> prove(std::string_view key) {
+        std::vector<std::uint8_t> proof(4096);
+        for (;;) {
+            std::size_t length = 0;
+            int code = mst_prove(at(), bytes(key), key.size(), proof.data(), proof.size(), &length);
+            if (code != MST_NO_ROOM) require_done(code);
+            proof.resize(length);
+            if (code == MST_OK) return proof;
+        }
+    }
+
+    // The number of the version: how many writes and migrations there were before it.
+    std::uint64_t version() {
+        std::uint64_t number = 0;
+        require_done(mst_version(at(), &number));
+        return number;
+    }
+
+    // The format of the version, in which its root digest and its proofs are.
+    mst::format format() {
+        int code = mst_format(at());
+        if (code < 0) throw refused(code);
+        return static_cast<mst::format>(code);
+    }
+};
+
+// A pass while it pins a version: all reads are of that version. It ends with the object, which may
+// not outlive its pass.
+class pinned : public reader {
+    friend class pass;
+    explicit pinned(mst_pass *of) : reader(of) { require_done(mst_pin(at())); }
+
+public:
+    pinned(pinned &&other) noexcept : reader(std::exchange(other.hand, nullptr)) {}
+    pinned &operator=(pinned &&) = delete;
+    ~pinned() { unpin(); }
+
+    // Ends the pin before the object does. No read follows.
+    void unpin() noexcept {
+        if (mst_pass *of = std::exchange(hand, nullptr)) mst_unpin(of);
+    }
+};
+
+// A pass of a store: reads of the current version, and writes.
+class pass : public reader {
+    friend std::vector<pass> open(std::uint32_t, std::size_t, mst::format);
+
+    template <typename Try> static auto wait(Try once) {
+        for (;;) {
+            if (auto done = once()) return done;
+            std::this_thread::yield();
+        }
+    }
+
+public:
+    pass() noexcept = default;
+    pass(pass &&other) noexcept : reader(std::exchange(other.hand, nullptr)) {}
+    pass &operator=(pass &&other) noexcept {
+        if (this != &other) {
+            close();
+            hand = std::exchange(other.hand, nullptr);
+        }
+        return *this;
+    }
+    ~pass() { close(); }
+
+    // Lets the pass go before the object does. All calls are refused from then on.
+    void close() noexcept {
+        if (hand == nullptr) return;
+        mst_close(hand);
+        delete std::exchange(hand, nullptr);
+    }
+
+    // How many rows the current version takes.
+    counted rows() {
+        counted answer;
+        std::uint32_t rows = 0;
+        int code = mst_rows(at(), &rows);
+        answer.is_busy = code == MST_BUSY;
+        if (answer.is_busy || code == MST_ROWS_PINNED) return answer;
+        require_done(code);
+        answer.rows = rows;
+        return answer;
+    }
+
+    // Gives the key the value, if no other pass has the turn.
+    tried try_put(std::string_view key, std::string_view value) {
+        std::uint8_t room[MST_VALUE_LONGEST];
+        int code = mst_try_put(at(), bytes(key), key.size(), bytes(value), value.size(),
+                               room, sizeof room);
+        if (code == MST_BUSY) return tried{true, std::nullopt};
+        return tried{false, told(code, room)};
+    }
+
+    // Takes the key out, if no other pass has the turn.
+    tried try_remove(std::string_view key) {
+        std::uint8_t room[MST_VALUE_LONGEST];
+        int code = mst_try_remove(at(), bytes(key), key.size(), room, sizeof room);
+        if (code == MST_BUSY) return tried{true, std::nullopt};
+        return tried{false, told(code, room)};
+    }
+
+    // As try_put, waiting for the turn: the value that the key had before.
+    std::optional<std::string> put(std::string_view key, std::string_view value) {
+        return wait([&] { return try_put(key, value); }).old;
+    }
+
+    // As try_remove, waiting for the turn: the value that the key had before.
+    std::optional<std::string> remove(std::string_view key) {
+        return wait([&] { return try_remove(key); }).old;
+    }
+
+    // Turns the tree of the map to a format, if no other pass has the turn. The map stays, and so do
+    // the pinned versions, each in its format.
+    migrated try_migrate(mst::format to) {
+        int code = mst_try_migrate(at(), static_cast<std::uint32_t>(to));
+        if (code == MST_BUSY) return migrated{true, std::nullopt};
+        if (code < 0) throw refused(code);
+        return migrated{false, static_cast<mst::format>(code)};
+    }
+
+    // As try_migrate, waiting for the turn: the format before.
+    mst::format migrate(mst::format to) {
+        return *wait([&] { return try_migrate(to); }).was;
+    }
+
+    // Pins the current version.
+    pinned pin() { return pinned(at()); }
+};
+
+// Opens a store of the empty map, with 4 to 65,535 rows and 1 to 32 passes. A map takes a row for
+// each of its pairs and nodes.
+inline std::vector<pass> open(std::uint32_t rows, std::size_t passes, format in = format::one) {
+    if (passes > MST_PASSES_MOST) throw refused(MST_BAD_SHAPE);
+    std::vector<pass> all(passes);
+    std::vector<mst_pass> hands(passes, mst_pass MST_PASS_CLOSED);
+    for (auto &one : all) one.hand = new mst_pass MST_PASS_CLOSED;
+    int code = mst_open(static_cast<std::uint32_t>(in), rows, hands.data(), passes);
+    if (code != MST_OK) throw refused(code);
+    // what the hands hold moves, once: those of the array are not looked at again
+    for (std::size_t i = 0; i < passes; i++) *all[i].hand = hands[i];
+    return all;
+}
+
+} // namespace mst

@@ -1,0 +1,167 @@
+// The calls of mst_store.hpp, their refusals, moves, pins, migrations, and two threads.
+#include "mst_store.hpp"
+#include "mst_verifier.h"
+#include <iostream>
+#include <type_traits>
+
+static int wrong = 0;
+
+#define EXPECT(holds) expect((holds), #holds, __LINE__)
+
+static void expect(bool holds, const char *text, int line) {
+    if (holds) return;
+    wrong++;
+    std::cout << "line " << line << ": " << text << "\n";
+}
+
+template <typename Call> static int code_of(Call call) {
+    try {
+        call();
+    } catch (const mst::refused &fault) {
+        return fault.code();
+    }
+    return MST_OK;
+}
+
+static_assert(!std::is_copy_constructible_v<mst::pass> && !std::is_copy_assignable_v<mst::pass>);
+static_assert(std::is_nothrow_move_constructible_v<mst::pass>);
+static_assert(!std::is_copy_constructible_v<mst::pinned>);
+
+// What the verifier shows of a key by a reader's format, root digest and proof: the code of mst_verify.
+static int verified(mst::reader &reader, std::string_view key) {
+    auto root = reader.root();
+    auto proof = reader.prove(key);
+    std::uint8_t room[MST_VALUE_ROOM];
+    return mst_verify(static_cast<std::uint32_t>(reader.format()), root.data(), root.size(),
+                      reinterpret_cast<const std::uint8_t *>(key.data()), key.size(),
+                      proof.data(), proof.size(), room, sizeof room);
+}
+
+static void reads_and_writes(mst::pass &pass) {
+    EXPECT(!pass.put("b", "2") && !pass.put("a", "1") && !pass.put("c", ""));
+    EXPECT(pass.put("a", "one") == "1" && pass.get("a") == "one");
+    EXPECT(pass.get("c") == "" && !pass.get("d"));
+    EXPECT(pass.next() == mst::pair("a", "one") && pass.next("a") == mst::pair("b", "2"));
+    EXPECT(!pass.next("c"));
+    EXPECT(pass.range("", "", 9).size() == 3 && pass.range("", "", 2).size() == 2);
+    EXPECT(pass.range("b", "c", 9) == std::vector<mst::pair>{mst::pair("b", "2")});
+    EXPECT(pass.range("aa", "", 9).front().first == "b" && pass.range("", "", 0).empty());
+    EXPECT(pass.range().size() == 3 && pass.range("c").front() == mst::pair("c", ""));
+    EXPECT(pass.version() == 4 && pass.rows().rows.value() > 3);
+    auto tried = pass.try_remove("c");
+    EXPECT(tried && tried.old == "" && !pass.get("c") && !pass.remove("c"));
+    std::string zero("k\0z", 3);
+    EXPECT(!pass.put(zero, zero) && pass.get(zero) == zero && pass.remove(zero) == zero);
+}
+
+// More bytes than the first room has, and keys and values with zeros in them.
+static void long_range() {
+    auto pass = std::move(mst::open(2000, 1).front());
+    for (int i = 0; i < 300; i++) {
+        const char key[2] = {char(i / 256), char(i % 256)};
+        pass.put(std::string_view(key, 2), std::string(64, '\0'));
+    }
+    auto all = pass.range();
+    EXPECT(all.size() == 300 && all.front().first == std::string(2, '\0'));
+    EXPECT(all.back() == mst::pair(std::string("\1\53", 2), std::string(64, '\0')));
+    EXPECT(pass.range({}, {}, 299) == std::vector<mst::pair>(all.begin(), all.end() - 1));
+    EXPECT(pass.pin().range() == all);
+}
+
+static void refusals(mst::pass &pass) {
+    EXPECT(code_of([&] { pass.get(""); }) == MST_BAD_KEY);
+    EXPECT(code_of([&] { pass.put(std::string(33, 'k'), "v"); }) == MST_BAD_KEY);
+    EXPECT(code_of([&] { pass.put("k", std::string(65, 'v')); }) == MST_BAD_VALUE);
+    EXPECT(code_of([&] { pass.next(std::string(33, 'k')); }) == MST_BAD_KEY);
+    EXPECT(code_of([&] { pass.range("", std::string(33, 'k'), 1); }) == MST_BAD_KEY);
+    EXPECT(code_of([&] { pass.prove(""); }) == MST_BAD_KEY);
+    EXPECT(code_of([&] { mst::open(3, 1); }) == MST_BAD_SHAPE);
+    EXPECT(code_of([&] { mst::open(1000, 0); }) == MST_BAD_SHAPE);
+    EXPECT(code_of([&] { mst::open(1000, 33); }) == MST_BAD_SHAPE);
+    auto no_format = static_cast<mst::format>(99);
+    EXPECT(code_of([&] { mst::open(1000, 1, no_format); }) == MST_UNKNOWN_FORMAT);
+    EXPECT(code_of([&] { pass.try_migrate(no_format); }) == MST_UNKNOWN_FORMAT);
+    EXPECT(code_of([&] { pass.migrate(no_format); }) == MST_UNKNOWN_FORMAT);
+}
+
+static void pins(mst::pass &writer, mst::pass &reader) {
+    auto then = reader.pin();
+    auto root = then.root();
+    auto version = then.version();
+    EXPECT(code_of([&] { reader.put("x", "y"); }) == MST_WRONG_STATE);
+    EXPECT(code_of([&] { (void)reader.pin(); }) == MST_WRONG_STATE);
+    EXPECT(code_of([&] { reader.migrate(mst::format::two); }) == MST_WRONG_STATE);
+    EXPECT(writer.rows() && !writer.rows().rows);
+    writer.put("a", "newer");
+    EXPECT(then.get("a") == "one" && then.root() == root && then.version() == version);
+    EXPECT(then.range("", "", 9).front().second == "one");
+    EXPECT(verified(then, "a") == 3);
+    auto moved_pin = std::move(then);
+    mst::pass moved = std::move(reader); // the pin stays with the hand
+    EXPECT(moved_pin.get("a") == "one");
+    EXPECT(code_of([&] { reader.get("a"); }) == MST_CLOSED);
+    moved_pin.unpin();
+    EXPECT(code_of([&] { moved_pin.get("a"); }) == MST_CLOSED);
+    EXPECT(moved.get("a") == "newer");
+    reader = std::move(moved);
+}
+
+static void migrations() {
+    using mst::format;
+    auto passes = mst::open(1000, 2);
+    auto other = std::move(mst::open(1000, 1, format::two).front());
+    for (int i = 0; i < 100; i++) {
+        passes[0].put("k" + std::to_string(i), "value");
+        other.put("k" + std::to_string(99 - i), "value");
+    }
+    auto root = passes[0].root();
+    EXPECT(passes[0].format() == format::one && other.format() == format::two);
+    EXPECT(root != other.root());
+    {
+        auto then = passes[1].pin();
+        auto done = passes[0].try_migrate(format::two);
+        EXPECT(done && done.was == format::one && passes[0].format() == format::two);
+        EXPECT(passes[0].root() == other.root() && passes[0].version() == 101);
+        EXPECT(then.format() == format::one && then.root() == root && then.version() == 100);
+        EXPECT(verified(then, "k7") == 5 && verified(then, "none") == MST_ABSENT);
+    }
+    EXPECT(passes[1].format() == format::two && passes[1].range() == other.range());
+    EXPECT(verified(passes[1], "k7") == 5 && verified(passes[1], "none") == MST_ABSENT);
+    EXPECT(passes[1].migrate(format::two) == format::two && passes[0].version() == 102);
+    EXPECT(passes[1].migrate(format::one) == format::two && passes[0].root() == root);
+    auto full = std::move(mst::open(64, 1).front());
+    EXPECT(code_of([&] { for (int i = 0; i < 64; i++) full.put(std::string(1, char(i)), ""); })
+           == MST_ROWS_SPENT);
+    EXPECT(code_of([&] { full.migrate(format::two); }) == MST_ROWS_SPENT);
+    EXPECT(full.format() == format::one);
+}
+
+// Each pass puts, and migrates once for each 100 puts.
+static void threads(std::vector<mst::pass> &passes) {
+    std::vector<std::thread> running;
+    for (auto &pass : passes)
+        running.emplace_back([&pass] {
+            for (int i = 0; i < 2000; i++) {
+                pass.put("n" + std::to_string(i % 50), std::to_string(i));
+                if (i % 100 == 99) pass.migrate(i % 200 == 99 ? mst::format::two : mst::format::one);
+            }
+        });
+    for (auto &thread : running) thread.join();
+}
+
+int main() {
+    auto passes = mst::open(2000, 2);
+    reads_and_writes(passes[0]);
+    long_range();
+    refusals(passes[0]);
+    pins(passes[0], passes[1]);
+    migrations();
+    auto before = passes[0].version();
+    threads(passes);
+    EXPECT(passes[0].version() == before + 4040);
+    passes[0].close();
+    EXPECT(code_of([&] { passes[0].get("a"); }) == MST_CLOSED);
+    EXPECT(passes[1].get("a") == "newer");
+    std::cout << "tests in C++: " << wrong << " wrong\n";
+    return wrong != 0;
+}

@@ -1,0 +1,68 @@
+"""Makes the wheel by the standard library alone, as a build backend that pip calls.
+
+The wheel has the module and libmst_store.so, from the folder MST_STORE_DIR or from ../out. The Python code is
+of no version of Python, and the library of one platform, so the tag is py3-none-PLATFORM.
+"""
+import base64
+import hashlib
+import os
+import re
+import sys
+import sysconfig
+import zipfile
+
+HERE = os.path.dirname(os.path.abspath(__file__))
+
+
+def _field(name):
+    with open(os.path.join(HERE, "pyproject.toml"), encoding="utf-8") as text:
+        return re.search(rf'^{name} = "(.*)"$', text.read(), re.MULTILINE).group(1)
+
+
+def _read(path):
+    with open(path, "rb") as file:
+        return file.read()
+
+
+def _record(contents, name):
+    lines = []
+    for path, data in contents.items():
+        digest = base64.urlsafe_b64encode(hashlib.sha256(data).digest()).rstrip(b"=").decode()
+        lines.append(f"{path},sha256={digest},{len(data)}\n")
+    return "".join(lines + [f"{name},,\n"]).encode()
+
+
+def build_wheel(wheel_directory, config_settings=None, metadata_directory=None):
+    """The hook of PEP 517: writes the wheel into the folder, and answers its name."""
+    name, version = _field("name"), _field("version")
+    tag = "py3-none-" + re.sub(r"[-.]", "_", sysconfig.get_platform())
+    info = f"{name}-{version}.dist-info"
+    folder = os.environ.get("MST_STORE_DIR") or os.path.join(HERE, "..", "out")
+    metadata = (f"Metadata-Version: 2.1\nName: {name}\nVersion: {version}\n"
+                f"Summary: {_field('description')}\nRequires-Python: {_field('requires-python')}\n")
+    contents = {
+        "mst_store.py": _read(os.path.join(HERE, "mst_store.py")),
+        "libmst_store.so": _read(os.path.join(folder, "libmst_store.so")),
+        f"{info}/METADATA": metadata.encode(),
+        f"{info}/WHEEL": f"Wheel-Version: 1.0\nGenerator: make_wheel\nRoot-Is-Purelib: false\nTag: {tag}\n"
+        .encode(),
+    }
+    contents[f"{info}/RECORD"] = _record(contents, f"{info}/RECORD")
+    wheel = f"{name}-{version}-{tag}.whl"
+    with zipfile.ZipFile(os.path.join(wheel_directory, wheel), "w", zipfile.ZIP_DEFLATED) as out:
+        for path, data in contents.items():
+            # A fixed time, so that equal files make equal wheels.
+            entry = zipfile.ZipInfo(path, (1980, 1, 1, 0, 0, 0))
+            entry.external_attr = (0o755 if path.endswith(".so") else 0o644) << 16
+            out.writestr(entry, data, zipfile.ZIP_DEFLATED)
+    return wheel
+
+
+def build_sdist(sdist_directory, config_settings=None):
+    """The other hook of PEP 517: the library is built by the kit, so there is no source alone."""
+    raise NotImplementedError("the library is built by `make -C bindings`: make a wheel")
+
+
+if __name__ == "__main__":
+    os.makedirs(sys.argv[1], exist_ok=True)
+    print(os.path.join(sys.argv[1], build_wheel(sys.argv[1])))

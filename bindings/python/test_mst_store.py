@@ -1,0 +1,293 @@
+"""The store from Python: its answers beside those of a dict, its proofs beside the verifier."""
+import os
+import pickle
+import random
+import sys
+import threading
+import unittest
+
+import mst_store
+from mst_store import Busy, Format, Pass, Refused, open_store
+
+HERE = os.path.dirname(os.path.abspath(__file__))
+sys.path.append(os.path.join(HERE, "..", "..", "verifiers", "python"))
+import mst_verifier  # noqa: E402
+
+
+def one(rows=1000) -> Pass:
+    return open_store(rows, 1)[0]
+
+
+def key_by(chance) -> bytes:
+    """One of 300 keys, of all lengths."""
+    seed = chance.randrange(300)
+    return seed.to_bytes(2, "big") + bytes(seed % 31)
+
+
+class Answers(unittest.TestCase):
+    def test_answers_are_those_of_a_dict(self):
+        chance, store, known = random.Random(7), one(4000), {}
+        for step in range(4000):
+            key = key_by(chance)
+            if chance.randrange(3) == 0:
+                self.assertEqual(store.remove(key), known.pop(key, None))
+            else:
+                value = chance.randbytes(chance.randrange(65))
+                self.assertEqual(store.put(key, value), known.get(key))
+                known[key] = value
+            self.assertEqual(store.version(), step + 1)
+            asked = key_by(chance)
+            self.assertEqual(store.get(asked), known.get(asked))
+            above = min((key for key in known if key > asked), default=None)
+            self.assertEqual(store.next(asked), above and (above, known[above]))
+        self.assertEqual(list(store.items()), sorted(known.items()))
+        self.assertGreaterEqual(store.try_rows(), len(known))
+        self.ranges(chance, store, known)
+        with store.pinned() as then:
+            self.ranges(chance, then, known)
+
+    def ranges(self, chance, store, known):
+        everything = sorted(known.items())
+        self.assertEqual(store.range(), everything)
+        for limit in (-1, 0, 1, 7, 2**32 + 1):
+            start, stop = key_by(chance), key_by(chance)
+            wanted = [pair for pair in everything if start <= pair[0] < stop]
+            self.assertEqual(store.range(start, stop, limit), wanted[: max(limit, 0)])
+            wanted = [pair for pair in everything if pair[0] < stop]
+            self.assertEqual(store.range(stop=stop, limit=limit), wanted[: max(limit, 0)])
+            self.assertEqual(store.range(stop), [pair for pair in everything if stop <= pair[0]])
+
+    def test_each_proof_is_taken_by_the_verifier(self):
+        chance, store, known = random.Random(8), one(4000), {}
+        for _ in range(600):
+            key, value = key_by(chance), chance.randbytes(8)
+            store.put(key, value)
+            known[key] = value
+        for to in (Format.ONE, Format.TWO):
+            store.migrate(to)
+            for _ in range(600):
+                self.proof(store, known, key_by(chance))
+
+    def proof(self, store, known, key):
+        format, root, proof = store.format(), store.root(), store.prove(key)
+        self.assertEqual(mst_verifier.verify(format, root, key, proof), known.get(key))
+        other = proof[:-1] + bytes([proof[-1] ^ 1])
+        for number, text in (format, other), (3 - format, proof):
+            with self.assertRaises(mst_verifier.Refused):
+                mst_verifier.verify(number, root, key, text)
+
+    def test_a_migration_gives_the_root_of_a_store_in_that_format(self):
+        chance, store, known, format = random.Random(9), one(4000), {}, Format.ONE
+        for step in range(40):
+            for _ in range(20):
+                key, value = key_by(chance), chance.randbytes(9)
+                store.put(key, value)
+                known[key] = value
+            to = chance.choice(list(Format))
+            self.assertEqual(store.migrate(to), format)
+            format = to
+            self.assertEqual((store.format(), store.version()), (format, 21 * (step + 1)))
+            (twin,) = open_store(4000, 1, format)
+            for pair in sorted(known.items(), reverse=True):
+                twin.put(*pair)
+            self.assertEqual((twin.format(), twin.root()), (format, store.root()))
+            self.assertEqual(store.range(), sorted(known.items()))
+            asked = key_by(chance)
+            self.assertEqual(store.prove(asked), twin.prove(asked))
+
+    def test_a_pinned_version_keeps_its_format(self):
+        reader, writer = open_store(1000, 2)
+        writer.put(b"key", b"value")
+        with reader.pinned() as then:
+            seen = then.root(), then.prove(b"key"), then.version()
+            self.assertIs(writer.try_migrate(2), Format.ONE)
+            self.assertIs(then.format(), Format.ONE)
+            self.assertEqual((then.root(), then.prove(b"key"), then.version()), seen)
+            self.assertNotEqual(writer.root(), seen[0])
+        self.assertIs(reader.format(), Format.TWO)
+        self.assertEqual((reader.migrate(2), reader.migrate(1), reader.version()), (2, 2, 4))
+        self.assertEqual((writer.format(), writer.root()), (1, seen[0]))
+
+    def test_a_proof_longer_than_the_room(self):
+        store = one()
+        store.put(b"key", b"value")
+        short = store.prove(b"key")
+        store._long_room = mst_store.ctypes.create_string_buffer(1)
+        self.assertEqual(store.prove(b"key"), short)
+        store._long_room = mst_store.ctypes.create_string_buffer(1)
+        self.assertEqual(store.range(), [(b"key", b"value")])
+
+    def test_the_empty_map(self):
+        store = one()
+        self.assertEqual((store.next(), list(store.items()), store.version()), (None, [], 0))
+        for format in Format:
+            self.assertEqual((store.migrate(format), store.format()), (Format.ONE, format))
+            self.assertIsNone(mst_verifier.verify(format, store.root(), b"key", store.prove(b"key")))
+
+    def test_bytes_of_each_kind(self):
+        store = one()
+        store.put(bytearray(b"k\0y"), memoryview(b"\0v\0"))
+        self.assertEqual(store.get(memoryview(b"k\0y")), b"\0v\0")
+        for wrong in (5, "key", None):
+            with self.assertRaises(TypeError):
+                store.get(wrong)
+
+
+class Threads(unittest.TestCase):
+    def in_threads(self, *calls):
+        failed = []
+
+        def run(call):
+            try:
+                call()
+            except BaseException as error:
+                failed.append(error)
+
+        threads = [threading.Thread(target=run, args=(call,)) for call in calls]
+        for thread in threads:
+            thread.start()
+        for thread in threads:
+            thread.join()
+        self.assertEqual(failed, [])
+
+    def test_a_pinned_version_stays_while_another_thread_writes(self):
+        reader, writer = open_store(20000, 2)
+        for i in range(40):
+            writer.put(bytes([i]), b"0")
+
+        def write():
+            for i in range(3000):
+                writer.put(bytes([i % 40]), i.to_bytes(8, "big"))
+                if i % 10 == 9:
+                    writer.migrate(1 + i // 10 % 2)
+
+        def read():
+            for i in range(60):
+                with reader.pinned() as then:
+                    seen = then.version(), then.format(), then.root(), list(then.items())
+                    self.assertEqual(len(seen[3]), 40)
+                    key, value = seen[3][i % 40]
+                    proof = then.prove(key)
+                    self.assertEqual(mst_verifier.verify(seen[1], seen[2], key, proof), value)
+                    again = then.version(), then.format(), then.root(), list(then.items())
+                    self.assertEqual(again, seen)
+
+        self.in_threads(write, read)
+        self.assertEqual(reader.version(), 3340)
+
+    def test_two_writers_wait_for_each_other(self):
+        passes = open_store(4000, 2)
+
+        def write(at):
+            for i in range(1000):
+                before = passes[at].put(bytes([at, i % 50]), i.to_bytes(4, "big"))
+                self.assertEqual(before, (i - 50).to_bytes(4, "big") if i >= 50 else None)
+                if i % 20 == 19:
+                    passes[at].migrate(1 + i // 20 % 2)
+
+        self.in_threads(lambda: write(0), lambda: write(1))
+        self.assertEqual(passes[0].version(), 2100)
+
+    def test_one_pass_in_two_threads_has_one_call_at_a_time(self):
+        store = one(4000)
+
+        def write(at):
+            for i in range(500):
+                store.put(bytes([at]), i.to_bytes(4, "big"))
+                self.assertEqual(store.get(bytes([at])), i.to_bytes(4, "big"))
+
+        self.in_threads(lambda: write(0), lambda: write(1))
+
+
+class Refusals(unittest.TestCase):
+    def refused(self, code, call, *given):
+        with self.assertRaises(Refused) as caught:
+            call(*given)
+        self.assertEqual(caught.exception.code, code)
+
+    def test_keys_and_values(self):
+        store = one()
+        for key in (b"", bytes(33), bytes(5000)):
+            for call in (store.get, store.prove, store.remove, store.try_remove):
+                self.refused(mst_store.BAD_KEY, call, key)
+            self.refused(mst_store.BAD_KEY, store.put, key, b"")
+        self.refused(mst_store.BAD_KEY, store.next, bytes(33))
+        self.refused(mst_store.BAD_KEY, store.range, bytes(33))
+        self.refused(mst_store.BAD_KEY, store.range, b"", bytes(33))
+        self.refused(mst_store.BAD_VALUE, store.put, b"key", bytes(65))
+        self.assertIsNone(store.put(bytes(32), bytes(64)))
+        self.assertEqual(store.version(), 1)
+
+    def test_shapes(self):
+        for shape in ((3, 1), (65536, 1), (1000, 0), (1000, 33), (1000, -1), (-1, 1), (2**32 + 4, 1)):
+            self.refused(mst_store.BAD_SHAPE, open_store, *shape)
+        self.refused(mst_store.BAD_SHAPE, open_store, 3, 1, Format.TWO)
+
+    def test_formats(self):
+        store = one()
+        for number in (-1, 0, 3, 2**32 + 1):
+            self.refused(mst_store.UNKNOWN_FORMAT, open_store, 1000, 1, number)
+            self.refused(mst_store.UNKNOWN_FORMAT, store.try_migrate, number)
+            self.refused(mst_store.UNKNOWN_FORMAT, store.migrate, number)
+        self.assertEqual((store.format(), store.version()), (Format.ONE, 0))
+        self.assertIs(open_store(1000, 1, 2)[0].format(), Format.TWO)
+
+    def test_a_pinned_pass_neither_writes_nor_migrates_nor_pins(self):
+        store = one()
+        with store.pinned() as then:
+            for call in (lambda: then.put(b"key", b""), lambda: then.remove(b"key"), then.try_rows,
+                         lambda: then.migrate(2), lambda: then.try_migrate(1), then.pinned().__enter__):
+                self.refused(mst_store.WRONG_STATE, call)
+        self.assertIsNone(store.put(b"key", b""))
+
+    def test_rows(self):
+        reader, writer = open_store(8, 2)
+        with self.assertRaises(Refused) as caught:
+            for i in range(20):
+                writer.put(bytes([i]), b"")
+        self.assertEqual(caught.exception.code, mst_store.ROWS_SPENT)
+        self.refused(mst_store.ROWS_SPENT, writer.migrate, Format.TWO)
+        self.assertEqual(writer.migrate(Format.ONE), Format.ONE)
+        with reader.pinned():
+            self.refused(mst_store.ROWS_PINNED, writer.try_rows)
+        self.assertLessEqual(writer.try_rows(), 8)
+
+    def test_closed(self):
+        with one() as store:
+            store.put(b"key", b"")
+        for call in (lambda: store.get(b"key"), store.next, store.range, store.root, store.version, store.try_rows,
+                     lambda: store.prove(b"key"), lambda: store.put(b"key", b""),
+                     lambda: store.remove(b"key"), store.format, lambda: store.migrate(2),
+                     lambda: store.try_migrate(3), store.pinned().__enter__):
+            self.refused(mst_store.CLOSED, call)
+        store.close()
+
+    def test_closed_inside_a_pin(self):
+        store = one()
+        with store.pinned() as then:
+            then.close()
+        self.refused(mst_store.CLOSED, store.root)
+
+    def test_a_pin_ends_with_its_pass(self):
+        reader, writer = open_store(1000, 2)
+        with reader.pinned():
+            self.refused(mst_store.ROWS_PINNED, writer.try_rows)
+            reader.close()
+            self.assertEqual(writer.try_rows(), 0)
+
+    def test_the_store_goes_with_its_last_pass(self):
+        for _ in range(50):
+            last, *others = open_store(65535, 3)
+            last.put(b"key", b"value")
+            others[0].close()
+            del others
+            self.assertEqual(last.get(b"key"), b"value")
+
+    def test_exceptions(self):
+        self.assertTrue(issubclass(Busy, Refused))
+        self.assertEqual((Busy().code, str(Busy())), (-21, "another pass writes"))
+        self.assertEqual(pickle.loads(pickle.dumps(Refused(-5))).code, -5)
+
+
+if __name__ == "__main__":
+    unittest.main()

@@ -1,0 +1,22 @@
+//! A writer and a reader that pins, in a thread each.
+use mst_store::{Error, Reads};
+
+fn main() -> Result<(), Error> {
+    let mut passes = mst_store::open(1000, 2)?;
+    let mut reader = passes.pop().expect("two were asked for");
+    let mut writer = passes.pop().expect("two were asked for");
+    writer.put(b"apple", b"30")?;
+    let mut then = reader.pin();
+    let root = then.root();
+    std::thread::spawn(move || writer.put(b"apple", b"31").map(|_| writer.put(b"pear", b"7")))
+        .join()
+        .expect("the writer ends")??;
+    assert_eq!(then.get(b"apple")?, Some(b"30".to_vec()));
+    assert_eq!(then.root(), root);
+    println!("a proof of {} bytes", then.prove(b"apple")?.len());
+    drop(then);
+    for (key, value) in reader.items() {
+        println!("{} {}", String::from_utf8_lossy(&key), String::from_utf8_lossy(&value));
+    }
+    Ok(())
+}

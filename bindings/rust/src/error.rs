@@ -1,0 +1,109 @@
+//! What the store refuses.
+use std::fmt;
+
+/// A refusal. Nothing has changed where a call gives one.
+#[derive(Debug, Clone, Copy, PartialEq, Eq, Hash)]
+#[non_exhaustive]
+pub enum Error {
+    /// No format has this number. There are formats 1 and 2.
+    UnknownFormat,
+    /// A key has 1 to 32 bytes.
+    BadKey,
+    /// A value has 0 to 64 bytes.
+    BadValue,
+    /// The pass still pins, since a `Pinned` was leaked (`std::mem::forget`). The next pin ends that one.
+    WrongState,
+    /// A growth of memory was refused.
+    Memory,
+    /// A store has 4 to 65,535 rows and 1 to 32 passes.
+    BadShape,
+    /// The store has made all the versions that it can number.
+    VersionsSpent,
+    /// The write or the migration needs more rows than are free.
+    RowsSpent,
+    /// Some pass pins a version, so the rows are not counted.
+    RowsPinned,
+    /// A number that the header does not give for the call: the library and this crate do not fit.
+    Other(i32),
+}
+
+impl Error {
+    /// The number that include/mst_store.h has for it.
+    pub fn code(self) -> i32 {
+        match self {
+            Error::UnknownFormat => -3,
+            Error::BadKey => -5,
+            Error::BadValue => -6,
+            Error::WrongState => -8,
+            Error::Memory => -9,
+            Error::BadShape => -10,
+            Error::VersionsSpent => -22,
+            Error::RowsSpent => -23,
+            Error::RowsPinned => -24,
+            Error::Other(code) => code,
+        }
+    }
+
+    pub(crate) fn of(code: i32) -> Error {
+        match code {
+            -3 => Error::UnknownFormat,
+            -5 => Error::BadKey,
+            -6 => Error::BadValue,
+            -8 => Error::WrongState,
+            -9 => Error::Memory,
+            -10 => Error::BadShape,
+            -22 => Error::VersionsSpent,
+            -23 => Error::RowsSpent,
+            -24 => Error::RowsPinned,
+            other => Error::Other(other),
+        }
+    }
+}
+
+impl fmt::Display for Error {
+    fn fmt(&self, out: &mut fmt::Formatter<'_>) -> fmt::Result {
+        match self {
+            Error::UnknownFormat => out.write_str("no format has this number"),
+            Error::BadKey => out.write_str("a key has 1 to 32 bytes"),
+            Error::BadValue => out.write_str("a value has 0 to 64 bytes"),
+            Error::WrongState => out.write_str("a pinned pass neither writes, migrates nor counts rows"),
+            Error::Memory => out.write_str("a growth of memory was refused"),
+            Error::BadShape => out.write_str("a store has 4 to 65535 rows and 1 to 32 passes"),
+            Error::VersionsSpent => out.write_str("the store has made all the versions that it can number"),
+            Error::RowsSpent => out.write_str("the write or the migration needs more rows than are free"),
+            Error::RowsPinned => out.write_str("some pass pins a version, so the rows are not counted"),
+            Error::Other(code) => write!(out, "the library answered {code}"),
+        }
+    }
+}
+
+impl std::error::Error for Error {}
+
+/// The refusal of a call that does not wait for another pass's write.
+#[derive(Debug, Clone, Copy, PartialEq, Eq, Hash)]
+pub enum TryError {
+    /// Another pass writes, or works between two steps of a write. Nothing has changed: try again.
+    Busy,
+    /// Any other refusal. Trying again is no help by itself.
+    Refused(Error),
+}
+
+impl TryError {
+    pub(crate) fn of(code: i32) -> TryError {
+        match code {
+            -21 => TryError::Busy,
+            other => TryError::Refused(Error::of(other)),
+        }
+    }
+}
+
+impl fmt::Display for TryError {
+    fn fmt(&self, out: &mut fmt::Formatter<'_>) -> fmt::Result {
+        match self {
+            TryError::Busy => out.write_str("another pass writes"),
+            TryError::Refused(error) => error.fmt(out),
+        }
+    }
+}
+
+impl std::error::Error for TryError {}

@@ -1,0 +1,204 @@
+//! An in-memory ordered map of short keys and values, with a root digest, proofs, and versions that stay
+//! readable while they are pinned.
+//!
+//! A store is reached by its passes alone. [`open`] gives them; a thread works through a pass of its own.
+//! Reads wait for no one. One write at a time goes on. The store goes with its last pass.
+//!
+//! ```
+//! use mst_store::Reads;
+//!
+//! let mut passes = mst_store::open(1000, 2)?;
+//! let mut reader = passes.pop().unwrap();
+//! let mut writer = passes.pop().unwrap();
+//! assert_eq!(writer.put(b"apple", b"30")?, None);
+//! let mut then = reader.pin();
+//! writer.put(b"apple", b"31")?;
+//! assert_eq!(then.get(b"apple")?, Some(b"30".to_vec()));
+//! drop(then);
+//! assert_eq!(reader.get(b"apple")?, Some(b"31".to_vec()));
+//! # Ok::<(), mst_store::Error>(())
+//! ```
+//!
+//! A migration turns the tree of the map to another format; pinned versions keep theirs:
+//!
+//! ```
+//! use mst_store::{Format, Reads};
+//!
+//! let mut passes = mst_store::open(1000, 2)?;
+//! let mut reader = passes.pop().unwrap();
+//! let mut writer = passes.pop().unwrap();
+//! let mut then = reader.pin();
+//! assert_eq!(writer.migrate(Format::Two)?, Format::One);
+//! assert_eq!((then.format(), writer.format()), (Format::One, Format::Two));
+//! # Ok::<(), mst_store::Error>(())
+//! ```
+//!
+//! Two threads never share a pass:
+//!
+//! ```compile_fail
+//! fn shared<T: Sync>() {}
+//! shared::<mst_store::Pass>();
+//! ```
+//!
+//! and a pinned pass does not write:
+//!
+//! ```compile_fail
+//! let mut pass = mst_store::open(1000, 1).unwrap().pop().unwrap();
+//! pass.pin().put(b"apple", b"30");
+//! ```
+#![deny(missing_docs)]
+
+mod error;
+mod format;
+mod raw;
+mod reads;
+
+pub use error::{Error, TryError};
+pub use format::Format;
+pub use reads::{Items, Pair, Reads};
+
+use raw::Hand;
+use std::thread::yield_now;
+
+/// The most bytes of a key.
+pub const KEY_LONGEST: usize = 32;
+/// The most bytes of a value.
+pub const VALUE_LONGEST: usize = 64;
+/// The bytes of a root digest.
+pub const ROOT_LENGTH: usize = 32;
+
+/// Opens a store of the empty map in format 1: its passes, as many as are asked for.
+///
+/// A map takes a row for each of its pairs and nodes; a store has 4 to 65,535 rows and 1 to 32 passes.
+pub fn open(rows: u32, passes: usize) -> Result<Vec<Pass>, Error> {
+    open_format(Format::One, rows, passes)
+}
+
+/// As [`open`], in another format.
+pub fn open_format(format: Format, rows: u32, passes: usize) -> Result<Vec<Pass>, Error> {
+    // 33 hands are as refused as any greater number, and take no room.
+    let count = passes.min(33);
+    let mut hands: Vec<Hand> = (0..count).map(|_| Hand::EMPTY).collect();
+    // Safety: the hands are empty, and there are `count` of them.
+    match unsafe { raw::mst_open(format.number(), rows, hands.as_mut_ptr(), count) } {
+        0 => Ok(hands.into_iter().map(Pass).collect()),
+        code => Err(Error::of(code)),
+    }
+}
+
+/// A pass: one thread's at a time, with writes, pins, and the reads of [`Reads`] of the current version.
+///
+/// It may be sent to another thread, and closes when it is dropped.
+pub struct Pass(Hand);
+
+impl reads::Held for Pass {
+    fn hand(&mut self) -> &mut Hand {
+        &mut self.0
+    }
+}
+
+impl Reads for Pass {}
+
+impl Pass {
+    /// Gives the key the value, if no other pass writes: the value before, or None where the key is new.
+    pub fn try_put(&mut self, key: &[u8], value: &[u8]) -> Result<Option<Vec<u8>>, TryError> {
+        let mut room = [0; VALUE_LONGEST];
+        // Safety: each pointer is valid for the length that goes with it, and the room is no other's.
+        let code = unsafe {
+            raw::mst_try_put(
+                &mut self.0,
+                key.as_ptr(),
+                key.len(),
+                value.as_ptr(),
+                value.len(),
+                room.as_mut_ptr(),
+                room.len(),
+            )
+        };
+        reads::value(code, &room).map_err(TryError::of)
+    }
+
+    /// Takes the key out, if no other pass writes: the value that it had, or None where it was absent.
+    pub fn try_remove(&mut self, key: &[u8]) -> Result<Option<Vec<u8>>, TryError> {
+        let mut room = [0; VALUE_LONGEST];
+        // Safety: as in try_put.
+        let code = unsafe {
+            raw::mst_try_remove(&mut self.0, key.as_ptr(), key.len(), room.as_mut_ptr(), room.len())
+        };
+        reads::value(code, &room).map_err(TryError::of)
+    }
+
+    /// As [`Pass::try_put`], but tries until no other pass writes.
+    pub fn put(&mut self, key: &[u8], value: &[u8]) -> Result<Option<Vec<u8>>, Error> {
+        until_free(|| self.try_put(key, value))
+    }
+
+    /// As [`Pass::try_remove`], but tries until no other pass writes.
+    pub fn remove(&mut self, key: &[u8]) -> Result<Option<Vec<u8>>, Error> {
+        until_free(|| self.try_remove(key))
+    }
+
+    /// Turns the tree of the map to a format, if no other pass writes: the format before. The map stays, and
+    /// so do the pinned versions, each in its format.
+    pub fn try_migrate(&mut self, to: Format) -> Result<Format, TryError> {
+        // Safety: the hand is valid.
+        let code = unsafe { raw::mst_try_migrate(&mut self.0, to.number()) };
+        Format::told(code).map_err(TryError::of)
+    }
+
+    /// As [`Pass::try_migrate`], but tries until no other pass writes.
+    pub fn migrate(&mut self, to: Format) -> Result<Format, Error> {
+        until_free(|| self.try_migrate(to))
+    }
+
+    /// How many rows the current version takes, if no other pass writes and none pins.
+    pub fn try_rows(&mut self) -> Result<u32, TryError> {
+        let mut rows = 0;
+        // Safety: both pointers are valid.
+        match unsafe { raw::mst_rows(&mut self.0, &mut rows) } {
+            0 => Ok(rows),
+            code => Err(TryError::of(code)),
+        }
+    }
+
+    /// Pins the current version: until the answer is dropped, each read by it is of that version.
+    pub fn pin(&mut self) -> Pinned<'_> {
+        // Safety: the hand is valid. Where it pins already, a Pinned was leaked: that pin ends here.
+        unsafe {
+            if raw::mst_pin(&mut self.0) != 0 {
+                raw::mst_unpin(&mut self.0);
+                raw::mst_pin(&mut self.0);
+            }
+        }
+        Pinned(self)
+    }
+}
+
+/// Tries until the answer is another than busy.
+fn until_free<T>(mut call: impl FnMut() -> Result<T, TryError>) -> Result<T, Error> {
+    loop {
+        match call() {
+            Ok(done) => return Ok(done),
+            Err(TryError::Busy) => yield_now(),
+            Err(TryError::Refused(error)) => return Err(error),
+        }
+    }
+}
+
+/// A pass while it pins a version: it has the reads of [`Reads`] alone. The pin ends when it is dropped.
+pub struct Pinned<'a>(&'a mut Pass);
+
+impl reads::Held for Pinned<'_> {
+    fn hand(&mut self) -> &mut Hand {
+        &mut self.0 .0
+    }
+}
+
+impl Reads for Pinned<'_> {}
+
+impl Drop for Pinned<'_> {
+    fn drop(&mut self) {
+        // Safety: the hand is valid.
+        unsafe { raw::mst_unpin(&mut self.0 .0) };
+    }
+}

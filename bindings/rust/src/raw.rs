@@ -1,0 +1,91 @@
+//! The library's calls as include/mst_store.h declares them, and its numbers.
+
+/// A hand: what holds a pass, or nothing. It is one word, and moves as any value of Rust does: the place that
+/// it left is not used again, so there is never a second hand for the pass.
+#[repr(C)]
+pub struct Hand {
+    at: *mut u8,
+}
+
+impl Hand {
+    pub(crate) const EMPTY: Hand = Hand { at: std::ptr::null_mut() };
+}
+
+// A call takes the hand by `&mut`, so it is in one call at a time; the library's own check proves that a hand
+// may go to another thread. It stays without Sync.
+unsafe impl Send for Hand {}
+
+impl Drop for Hand {
+    fn drop(&mut self) {
+        // Safety: the hand was empty before its first call. An empty hand is refused with no effect.
+        unsafe { mst_close(self) };
+    }
+}
+
+pub(crate) const ABSENT: i32 = -1;
+pub(crate) const NO_ROOM: i32 = -2;
+
+extern "C" {
+    pub(crate) fn mst_open(format: u32, rows: u32, passes: *mut Hand, count: usize) -> i32;
+    pub(crate) fn mst_close(pass: *mut Hand) -> i32;
+    pub(crate) fn mst_get(
+        pass: *mut Hand,
+        key: *const u8,
+        key_length: usize,
+        room: *mut u8,
+        room_length: usize,
+    ) -> i32;
+    pub(crate) fn mst_next(
+        pass: *mut Hand,
+        key: *const u8,
+        key_length: usize,
+        key_room: *mut u8,
+        key_room_length: usize,
+        next_length: *mut usize,
+        room: *mut u8,
+        room_length: usize,
+    ) -> i32;
+    pub(crate) fn mst_range(
+        pass: *mut Hand,
+        from: *const u8,
+        from_length: usize,
+        to: *const u8,
+        to_length: usize,
+        limit: u32,
+        room: *mut u8,
+        room_length: usize,
+        count: *mut usize,
+        length: *mut usize,
+    ) -> i32;
+    pub(crate) fn mst_root(pass: *mut Hand, root: *mut u8, root_length: usize) -> i32;
+    pub(crate) fn mst_prove(
+        pass: *mut Hand,
+        key: *const u8,
+        key_length: usize,
+        room: *mut u8,
+        room_length: usize,
+        length: *mut usize,
+    ) -> i32;
+    pub(crate) fn mst_version(pass: *mut Hand, version: *mut u64) -> i32;
+    pub(crate) fn mst_format(pass: *mut Hand) -> i32;
+    pub(crate) fn mst_rows(pass: *mut Hand, rows: *mut u32) -> i32;
+    pub(crate) fn mst_try_put(
+        pass: *mut Hand,
+        key: *const u8,
+        key_length: usize,
+        value: *const u8,
+        value_length: usize,
+        room: *mut u8,
+        room_length: usize,
+    ) -> i32;
+    pub(crate) fn mst_try_remove(
+        pass: *mut Hand,
+        key: *const u8,
+        key_length: usize,
+        room: *mut u8,
+        room_length: usize,
+    ) -> i32;
+    pub(crate) fn mst_try_migrate(pass: *mut Hand, format: u32) -> i32;
+    pub(crate) fn mst_pin(pass: *mut Hand) -> i32;
+    pub(crate) fn mst_unpin(pass: *mut Hand) -> i32;
+}

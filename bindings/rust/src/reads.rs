@@ -1,0 +1,184 @@
+//! The reads, which a pass and a pinned pass have alike.
+use crate::raw::{self, Hand};
+use crate::{Error, Format, KEY_LONGEST, ROOT_LENGTH, VALUE_LONGEST};
+
+/// What holds a hand. It is this crate's alone, so that no other type has [`Reads`].
+pub trait Held {
+    /// The hand.
+    fn hand(&mut self) -> &mut Hand;
+}
+
+/// A key and its value.
+pub type Pair = (Vec<u8>, Vec<u8>);
+
+/// A value by the answer of a call, or the number of a refusal.
+pub(crate) fn value(code: i32, room: &[u8]) -> Result<Option<Vec<u8>>, i32> {
+    match code {
+        0.. => Ok(Some(room[..code as usize].to_vec())),
+        raw::ABSENT => Ok(None),
+        refused => Err(refused),
+    }
+}
+
+/// The most bytes that a pair takes in the room of mst_range.
+const PAIR_LONGEST: usize = 4 + KEY_LONGEST + VALUE_LONGEST;
+
+/// So many pairs, which stand first in the room of mst_range.
+fn pairs(room: &[u8], count: usize) -> Vec<Pair> {
+    let mut rest = room;
+    let mut taken = |length: usize| {
+        let (front, back) = rest.split_at(length);
+        rest = back;
+        front
+    };
+    (0..count)
+        .map(|_| {
+            let lengths = taken(4);
+            let key = usize::from(u16::from_be_bytes([lengths[0], lengths[1]]));
+            let value = usize::from(u16::from_be_bytes([lengths[2], lengths[3]]));
+            (taken(key).to_vec(), taken(value).to_vec())
+        })
+        .collect()
+}
+
+/// The reads: of the current version by a free pass, of the pinned one by a pinned pass. They wait for no
+/// one.
+pub trait Reads: Held {
+    /// The value of the key, or None where the key is absent.
+    fn get(&mut self, key: &[u8]) -> Result<Option<Vec<u8>>, Error> {
+        let mut room = [0; VALUE_LONGEST];
+        // Safety: each pointer is valid for the length that goes with it, and the room is no other's.
+        let code =
+            unsafe { raw::mst_get(self.hand(), key.as_ptr(), key.len(), room.as_mut_ptr(), room.len()) };
+        value(code, &room).map_err(Error::of)
+    }
+
+    /// The pair of the least key above `key`; with an empty key that of the least key of all.
+    fn next(&mut self, key: &[u8]) -> Result<Option<Pair>, Error> {
+        let (mut room, mut found, mut length) = ([0; VALUE_LONGEST], [0; KEY_LONGEST], 0);
+        // Safety: as in get.
+        let code = unsafe {
+            raw::mst_next(
+                self.hand(),
+                key.as_ptr(),
+                key.len(),
+                found.as_mut_ptr(),
+                found.len(),
+                &mut length,
+                room.as_mut_ptr(),
+                room.len(),
+            )
+        };
+        let value = value(code, &room).map_err(Error::of)?;
+        Ok(value.map(|value| (found[..length].to_vec(), value)))
+    }
+
+    /// The first pairs, at most `limit`, of the keys that are at least `from` and below `to`, by rising keys and
+    /// all of one version. An empty bound does not bind.
+    fn range(&mut self, from: &[u8], to: &[u8], limit: usize) -> Result<Vec<Pair>, Error> {
+        let most = u32::try_from(limit).unwrap_or(u32::MAX);
+        let mut room = vec![0; PAIR_LONGEST * limit.min(64)];
+        loop {
+            let (mut count, mut length) = (0, 0);
+            // Safety: as in get.
+            let code = unsafe {
+                raw::mst_range(
+                    self.hand(),
+                    from.as_ptr(),
+                    from.len(),
+                    to.as_ptr(),
+                    to.len(),
+                    most,
+                    room.as_mut_ptr(),
+                    room.len(),
+                    &mut count,
+                    &mut length,
+                )
+            };
+            match code {
+                0 => return Ok(pairs(&room, count)),
+                // By the next try a free pass may have more pairs, so this is a loop.
+                raw::NO_ROOM => room.resize(length, 0),
+                refused => return Err(Error::of(refused)),
+            }
+        }
+    }
+
+    /// The pairs by rising keys. Those of a pinned pass are of one version; a free pass asks anew for each.
+    fn items(&mut self) -> Items<'_, Self>
+    where
+        Self: Sized,
+    {
+        Items { of: self, last: Some(Vec::new()) }
+    }
+
+    /// The root digest, in the format of the version.
+    fn root(&mut self) -> [u8; ROOT_LENGTH] {
+        let mut root = [0; ROOT_LENGTH];
+        // Safety: as in get. The hand holds a pass and the room is long enough, so nothing is refused.
+        unsafe { raw::mst_root(self.hand(), root.as_mut_ptr(), root.len()) };
+        root
+    }
+
+    /// The proof of the key's answer, which a verifier judges by the format and the root digest of the same
+    /// version.
+    fn prove(&mut self, key: &[u8]) -> Result<Vec<u8>, Error> {
+        let mut proof = vec![0; 4096];
+        loop {
+            let mut length = 0;
+            // Safety: as in get.
+            let code = unsafe {
+                raw::mst_prove(
+                    self.hand(),
+                    key.as_ptr(),
+                    key.len(),
+                    proof.as_mut_ptr(),
+                    proof.len(),
+                    &mut length,
+                )
+            };
+            match code {
+                0 => {
+                    proof.truncate(length);
+                    return Ok(proof);
+                }
+                // The proof of a free pass may have grown again by the next try, so this is a loop.
+                raw::NO_ROOM => proof.resize(length, 0),
+                refused => return Err(Error::of(refused)),
+            }
+        }
+    }
+
+    /// The number of the version, which is the number of writes and migrations before it.
+    fn version(&mut self) -> u64 {
+        let mut version = 0;
+        // Safety: both pointers are valid. The hand holds a pass, so nothing is refused.
+        unsafe { raw::mst_version(self.hand(), &mut version) };
+        version
+    }
+
+    /// The format of the version, in which its root digest and its proofs are.
+    fn format(&mut self) -> Format {
+        // Safety: the hand is valid. It holds a pass, so nothing is refused.
+        let code = unsafe { raw::mst_format(self.hand()) };
+        Format::told(code).expect("the library and this crate have the same formats")
+    }
+}
+
+/// The pairs by rising keys.
+pub struct Items<'a, R: Reads> {
+    of: &'a mut R,
+    last: Option<Vec<u8>>,
+}
+
+impl<R: Reads> Iterator for Items<'_, R> {
+    type Item = Pair;
+
+    fn next(&mut self) -> Option<Pair> {
+        let last = self.last.take()?;
+        // The key is empty or one that the store gave, so it is not refused.
+        let pair = self.of.next(&last).ok()??;
+        self.last = Some(pair.0.clone());
+        Some(pair)
+    }
+}

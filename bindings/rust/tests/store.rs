@@ -1,0 +1,249 @@
+//! The store's answers beside those of a BTreeMap, over writes by a fixed generator.
+use mst_store::{open, open_format, Error, Format, Pass, Reads, TryError};
+use std::collections::BTreeMap;
+use std::thread;
+
+/// SplitMix64, so that each run is the same.
+struct Random(u64);
+
+impl Random {
+    fn below(&mut self, limit: u64) -> u64 {
+        self.0 = self.0.wrapping_add(0x9E37_79B9_7F4A_7C15);
+        let mut mixed = self.0;
+        mixed = (mixed ^ (mixed >> 30)).wrapping_mul(0xBF58_476D_1CE4_E5B9);
+        mixed = (mixed ^ (mixed >> 27)).wrapping_mul(0x94D0_49BB_1331_11EB);
+        (mixed ^ (mixed >> 31)) % limit
+    }
+
+    fn bytes(&mut self, length: usize) -> Vec<u8> {
+        (0..length).map(|_| self.below(256) as u8).collect()
+    }
+
+    /// One of 400 keys, of all lengths.
+    fn key(&mut self) -> Vec<u8> {
+        let seed = self.below(400);
+        let length = 2 + seed as usize % 31;
+        (0..length).map(|at| if at < 2 { (seed >> (8 * at)) as u8 } else { at as u8 }).collect()
+    }
+}
+
+fn one(rows: u32) -> Pass {
+    open(rows, 1).unwrap().pop().unwrap()
+}
+
+/// A store of one pass in this format, with these pairs.
+fn filled(format: Format, pairs: impl IntoIterator<Item = (Vec<u8>, Vec<u8>)>) -> Pass {
+    let mut pass = open_format(format, 4000, 1).unwrap().pop().unwrap();
+    for (key, value) in pairs {
+        pass.put(&key, &value).unwrap();
+    }
+    pass
+}
+
+#[test]
+fn answers_are_those_of_a_map() {
+    let (mut random, mut pass, mut map) = (Random(7), one(4000), BTreeMap::new());
+    for step in 0..6000u64 {
+        let key = random.key();
+        if random.below(3) == 0 {
+            assert_eq!(pass.remove(&key), Ok(map.remove(&key)));
+        } else {
+            let length = random.below(65) as usize;
+            let value = random.bytes(length);
+            assert_eq!(pass.put(&key, &value), Ok(map.insert(key, value)));
+        }
+        assert_eq!(pass.version(), step + 1);
+        let asked = random.key();
+        assert_eq!(pass.get(&asked), Ok(map.get(&asked).cloned()));
+        let above = map.range(asked.clone()..).find(|(key, _)| **key > asked);
+        assert_eq!(pass.next(&asked), Ok(above.map(|(key, value)| (key.clone(), value.clone()))));
+    }
+    assert!(pass.items().eq(map.clone()));
+    for limit in 0..120 {
+        let (from, to) = (random.key(), random.key());
+        let within = map.iter().filter(|(key, _)| **key >= from && **key < to);
+        let wanted: Vec<_> = within.take(limit).map(|(key, value)| (key.clone(), value.clone())).collect();
+        assert_eq!(pass.range(&from, &to, limit), Ok(wanted.clone()));
+        assert_eq!(pass.pin().range(&from, &to, limit), Ok(wanted));
+    }
+    assert!(pass.range(&[], &[], usize::MAX).unwrap().into_iter().eq(map.clone()));
+    assert!(pass.try_rows().unwrap() as usize >= map.len());
+}
+
+#[test]
+fn a_root_is_of_the_pairs_alone() {
+    let (mut one_way, mut other_way) = (one(1000), one(1000));
+    for i in 0..100u8 {
+        one_way.put(&[i], &[i]).unwrap();
+        other_way.put(&[99 - i], &[99 - i]).unwrap();
+    }
+    assert_eq!(one_way.root(), other_way.root());
+    other_way.put(b"more", b"").unwrap();
+    assert_ne!(one_way.root(), other_way.root());
+    assert_eq!(other_way.remove(b"more"), Ok(Some(Vec::new())));
+    assert_eq!(one_way.root(), other_way.root());
+    assert!(!one_way.prove(b"none").unwrap().is_empty());
+}
+
+#[test]
+fn a_migration_gives_the_root_of_a_store_in_that_format() {
+    let (mut random, mut pass, mut map) = (Random(9), one(4000), BTreeMap::new());
+    let (mut format, mut writes) = (Format::One, 0);
+    for step in 0..60u64 {
+        for _ in 0..20 {
+            let (key, value) = (random.key(), random.bytes(9));
+            assert_eq!(pass.put(&key, &value), Ok(map.insert(key, value)));
+        }
+        let to = if random.below(3) == 0 { Format::One } else { Format::Two };
+        assert_eq!(pass.migrate(to), Ok(format));
+        (format, writes) = (to, writes + 21);
+        assert_eq!((pass.format(), pass.version()), (format, writes));
+        let (mut twin, asked) = (filled(format, map.clone()), random.key());
+        assert_eq!((twin.format(), twin.root()), (format, pass.root()), "step {step}");
+        assert_eq!(pass.prove(&asked), twin.prove(&asked));
+    }
+    assert!(pass.items().eq(map));
+}
+
+#[test]
+fn a_pinned_version_keeps_its_format() {
+    let mut passes = open(1000, 2).unwrap();
+    let (mut reader, mut writer) = (passes.pop().unwrap(), passes.pop().unwrap());
+    writer.put(b"key", b"value").unwrap();
+    let (root, proof) = (writer.root(), writer.prove(b"key"));
+    let mut then = reader.pin();
+    assert_eq!(writer.try_migrate(Format::Two), Ok(Format::One));
+    assert_eq!((then.format(), then.version(), then.root()), (Format::One, 1, root));
+    assert_eq!(then.prove(b"key"), proof);
+    assert_ne!((writer.root(), writer.prove(b"key")), (root, proof));
+    drop(then);
+    assert_eq!((reader.format(), reader.version()), (Format::Two, 2));
+    assert_eq!(reader.migrate(Format::Two), Ok(Format::Two));
+    assert_eq!(writer.migrate(Format::One), Ok(Format::Two));
+    assert_eq!((reader.root(), reader.version()), (root, 4));
+    std::mem::forget(reader.pin());
+    assert_eq!(reader.migrate(Format::Two), Err(Error::WrongState));
+}
+
+#[test]
+fn a_pinned_version_stays_while_another_thread_writes() {
+    let mut passes = open(20_000, 2).unwrap();
+    let (mut reader, mut writer) = (passes.pop().unwrap(), passes.pop().unwrap());
+    for i in 0..50u8 {
+        writer.put(&[i], &[0]).unwrap();
+    }
+    thread::scope(|scope| {
+        scope.spawn(move || {
+            for i in 0..5000u64 {
+                writer.put(&[(i % 50) as u8], &i.to_le_bytes()).unwrap();
+            }
+        });
+        for _ in 0..200 {
+            let mut then = reader.pin();
+            let (version, root) = (then.version(), then.root());
+            let pairs: Vec<_> = then.items().collect();
+            assert_eq!(pairs.len(), 50);
+            thread::yield_now();
+            assert!(then.items().eq(pairs));
+            assert_eq!((then.version(), then.root()), (version, root));
+        }
+    });
+    assert_eq!(reader.version(), 5050);
+}
+
+#[test]
+fn two_writers_wait_for_each_other() {
+    let passes = open(4000, 2).unwrap();
+    thread::scope(|scope| {
+        for (who, mut pass) in passes.into_iter().enumerate() {
+            scope.spawn(move || {
+                for i in 0..1000u32 {
+                    let key = [who as u8, (i % 100) as u8];
+                    let before = pass.put(&key, &i.to_le_bytes()).unwrap();
+                    let expected = i.checked_sub(100).map(|old| old.to_le_bytes().to_vec());
+                    assert_eq!(before, expected);
+                    if i % 50 == 49 {
+                        pass.migrate(if i % 100 == 49 { Format::Two } else { Format::One }).unwrap();
+                    }
+                }
+            });
+        }
+    });
+}
+
+#[test]
+fn refusals_have_their_errors() {
+    let mut pass = one(1000);
+    for key in [vec![], vec![1; 33], vec![1; 5000]] {
+        assert_eq!(pass.get(&key), Err(Error::BadKey));
+        assert_eq!(pass.put(&key, b""), Err(Error::BadKey));
+        assert_eq!(pass.remove(&key), Err(Error::BadKey));
+        assert_eq!(pass.prove(&key), Err(Error::BadKey));
+    }
+    assert_eq!(pass.next(&[1; 33]), Err(Error::BadKey));
+    assert_eq!(pass.next(&[]), Ok(None));
+    assert_eq!(pass.range(&[], &[1; 33], 1), Err(Error::BadKey));
+    assert_eq!(pass.range(&[1; 33], &[], 1), Err(Error::BadKey));
+    assert_eq!(pass.range(b"b", b"a", 1), Ok(vec![]));
+    assert_eq!(pass.put(b"key", &[1; 65]), Err(Error::BadValue));
+    assert_eq!(pass.try_put(b"key", &[1; 65]), Err(TryError::Refused(Error::BadValue)));
+    assert_eq!(pass.put(&[255; 32], &[1; 64]), Ok(None));
+    assert_eq!(pass.version(), 1);
+    for (rows, passes) in [(3, 1), (65_536, 1), (1000, 0), (1000, 33), (1000, usize::MAX)] {
+        assert_eq!(open(rows, passes).err(), Some(Error::BadShape));
+    }
+    assert_eq!(open_format(Format::Two, 3, 1).err(), Some(Error::BadShape));
+    for number in [0, 3, u32::MAX] {
+        assert_eq!(Format::try_from(number), Err(Error::UnknownFormat));
+    }
+    assert_eq!(Format::try_from(Format::Two.number()), Ok(Format::Two));
+    assert_eq!(Error::UnknownFormat.code(), -3);
+    assert_eq!((Error::BadKey.code(), Error::RowsPinned.code()), (-5, -24));
+    assert_eq!(Error::BadKey.to_string(), "a key has 1 to 32 bytes");
+    assert_eq!(TryError::Busy.to_string(), "another pass writes");
+}
+
+#[test]
+fn rows_are_spent_and_counted() {
+    let mut passes = open(8, 2).unwrap();
+    let (mut reader, mut writer) = (passes.pop().unwrap(), passes.pop().unwrap());
+    let refused = (0..20u8).find_map(|i| writer.put(&[i], b"").err());
+    assert_eq!(refused, Some(Error::RowsSpent));
+    assert_eq!(writer.migrate(Format::Two), Err(Error::RowsSpent));
+    assert_eq!(writer.try_migrate(Format::Two), Err(TryError::Refused(Error::RowsSpent)));
+    assert_eq!(writer.migrate(Format::One), Ok(Format::One));
+    let then = reader.pin();
+    assert_eq!(writer.try_rows(), Err(TryError::Refused(Error::RowsPinned)));
+    drop(then);
+    assert!(writer.try_rows().unwrap() <= 8);
+}
+
+#[test]
+fn a_leaked_pin_ends_with_the_next() {
+    let mut pass = one(1000);
+    std::mem::forget(pass.pin());
+    assert_eq!(pass.put(b"key", b""), Err(Error::WrongState));
+    assert_eq!(pass.pin().version(), 0);
+    assert_eq!(pass.put(b"key", b""), Ok(None));
+}
+
+#[test]
+fn a_pin_ends_with_its_pass() {
+    let mut passes = open(1000, 2).unwrap();
+    let (mut reader, mut writer) = (passes.pop().unwrap(), passes.pop().unwrap());
+    std::mem::forget(reader.pin());
+    assert_eq!(writer.try_rows(), Err(TryError::Refused(Error::RowsPinned)));
+    drop(reader);
+    assert_eq!(writer.try_rows(), Ok(0));
+}
+
+#[test]
+fn the_store_goes_with_its_last_pass() {
+    for _ in 0..200 {
+        let mut passes = open(65_535, 3).unwrap();
+        let mut last = passes.remove(1);
+        last.put(b"key", b"value").unwrap();
+        drop(passes);
+        assert_eq!(last.get(b"key"), Ok(Some(b"value".to_vec())));
+    }
+}

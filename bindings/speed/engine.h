@@ -1,0 +1,39 @@
+/*
+ * What is timed: a map of keys of 16 bytes and values of 32, through seats, one for each thread.
+ * Each call ends the program where the map answers otherwise than it has to.
+ */
+#ifndef ENGINE_H
+#define ENGINE_H
+
+#include <stddef.h>
+#include <stdint.h>
+
+#define KEY_LENGTH 16
+#define VALUE_LENGTH 32
+#define RANGE_PAIRS 100
+#define SEATS 2
+
+struct engine {
+    const char *name;
+    void (*open)(void);
+    void (*close)(void);
+    void (*put)(int seat, const uint8_t *key, const uint8_t *value);
+    /* reads of the newest version, which each call finds anew */
+    void (*get)(int seat, const uint8_t *key);
+    void (*next)(int seat, const uint8_t *key);
+    void (*range)(int seat, const uint8_t *key);
+    /* reads of one version, between begin and end */
+    void (*begin)(int seat);
+    void (*end)(int seat);
+    void (*get_within)(int seat, const uint8_t *key);
+    /* the proof of the key's answer; null where the engine has none */
+    void (*prove)(int seat, const uint8_t *key);
+};
+
+extern const struct engine store_engine;
+extern const struct engine lmdb_engine;
+
+/* Ends the program. */
+void give_up(const char *what, int code);
+
+#endif

@@ -1,0 +1,186 @@
+/*
+ * The microseconds of one call, and those of it beside another thread.
+ *
+ *     speed ENGINE KEYS CALL [COUNT [ROUNDS]]
+ *
+ * ENGINE is store or lmdb; CALL one of the names below. Fills the map, then makes COUNT calls at
+ * keys by chance in each of ROUNDS rounds, and writes the microseconds a call of the fastest round:
+ * those of the processor that the calling thread had, so that what else runs there counts little.
+ */
+#include "engine.h"
+#include <pthread.h>
+#include <stdatomic.h>
+#include <stdio.h>
+#include <stdlib.h>
+#include <string.h>
+#include <time.h>
+
+/* Where valgrind's header is there, callgrind counts the rounds alone (--instr-atstart=no). */
+#if defined(__has_include)
+#if __has_include(<valgrind/callgrind.h>)
+#include <valgrind/callgrind.h>
+#endif
+#endif
+#ifndef CALLGRIND_START_INSTRUMENTATION
+#define CALLGRIND_START_INSTRUMENTATION
+#define CALLGRIND_STOP_INSTRUMENTATION
+#endif
+
+enum thing { GET, GET_WITHIN, NEXT, RANGE, PUT, PROVE };
+
+struct call {
+    const char *name;
+    enum thing thing;
+    int beside; /* what another thread does meanwhile: nothing, puts or gets */
+};
+
+enum { ALONE, BESIDE_PUTS, BESIDE_GETS };
+
+static const struct call calls[] = {
+    {"get", GET, ALONE},       {"get-within", GET_WITHIN, ALONE}, {"next", NEXT, ALONE},
+    {"range", RANGE, ALONE},   {"put", PUT, ALONE},               {"prove", PROVE, ALONE},
+    {"get-beside-puts", GET, BESIDE_PUTS}, {"put-beside-gets", PUT, BESIDE_GETS},
+};
+
+static const struct engine *engine;
+static size_t keys;
+static atomic_int going;
+
+struct chance {
+    uint64_t state;
+};
+
+void give_up(const char *what, int code) {
+    fprintf(stderr, "%s: %d\n", what, code);
+    exit(1);
+}
+
+/* SplitMix64. */
+static uint64_t mixed(uint64_t number) {
+    number += 0x9E3779B97F4A7C15u;
+    number = (number ^ (number >> 30)) * 0xBF58476D1CE4E5B9u;
+    number = (number ^ (number >> 27)) * 0x94D049BB133111EBu;
+    return number ^ (number >> 31);
+}
+
+static uint64_t drawn(struct chance *chance) {
+    return mixed(chance->state++);
+}
+
+static void key_bytes(uint8_t *key, uint64_t number) {
+    uint64_t parts[2] = {mixed(number), number};
+    memcpy(key, parts, KEY_LENGTH);
+}
+
+static void make(enum thing thing, int seat, struct chance *chance) {
+    uint8_t key[KEY_LENGTH], value[VALUE_LENGTH] = {0};
+    uint64_t number = drawn(chance);
+    key_bytes(key, number % keys);
+    switch (thing) {
+    case GET: engine->get(seat, key); break;
+    case GET_WITHIN: engine->get_within(seat, key); break;
+    case NEXT: engine->next(seat, key); break;
+    case RANGE: engine->range(seat, key); break;
+    case PROVE: engine->prove(seat, key); break;
+    case PUT:
+        memcpy(value, &number, sizeof number);
+        engine->put(seat, key, value);
+    }
+}
+
+static double processor_seconds(void) {
+    struct timespec now;
+    clock_gettime(CLOCK_THREAD_CPUTIME_ID, &now);
+    return (double)now.tv_sec + (double)now.tv_nsec * 1e-9;
+}
+
+/* A round: the seconds that its calls took. */
+static double round_of_calls(enum thing thing, long count, struct chance *chance) {
+    CALLGRIND_START_INSTRUMENTATION;
+    double before = processor_seconds();
+    for (long i = 0; i < count; i++)
+        make(thing, 0, chance);
+    double took = processor_seconds() - before;
+    CALLGRIND_STOP_INSTRUMENTATION;
+    return took;
+}
+
+static void *other(void *given) {
+    struct chance chance = {1u << 20};
+    enum thing thing = *(const int *)given == BESIDE_PUTS ? PUT : GET;
+    while (atomic_load(&going))
+        make(thing, 1, &chance);
+    return NULL;
+}
+
+static double fastest_round(const struct call *call, long count, long rounds) {
+    double least = 0;
+    struct chance chance = {1u << 30};
+    if (call->thing == GET_WITHIN)
+        engine->begin(0);
+    for (long i = 0; i < rounds; i++) {
+        double took = round_of_calls(call->thing, count, &chance);
+        if (i == 0 || took < least)
+            least = took;
+    }
+    if (call->thing == GET_WITHIN)
+        engine->end(0);
+    return least * 1e6 / (double)count;
+}
+
+static void fill(void) {
+    uint8_t key[KEY_LENGTH], value[VALUE_LENGTH] = {0};
+    for (uint64_t i = 0; i < keys; i++) {
+        key_bytes(key, i);
+        memcpy(value, &i, sizeof i);
+        engine->put(0, key, value);
+    }
+}
+
+static const struct call *call_named(const char *name) {
+    for (size_t i = 0; i < sizeof calls / sizeof calls[0]; i++)
+        if (strcmp(calls[i].name, name) == 0)
+            return &calls[i];
+    give_up("no such call", 0);
+    return NULL;
+}
+
+static const struct engine *engine_named(const char *name) {
+    if (strcmp(name, "store") == 0)
+        return &store_engine;
+#ifdef WITH_LMDB
+    if (strcmp(name, "lmdb") == 0)
+        return &lmdb_engine;
+#endif
+    give_up("no such engine", 0);
+    return NULL;
+}
+
+int main(int argc, char **argv) {
+    if (argc < 4)
+        give_up("speed ENGINE KEYS CALL [COUNT [ROUNDS]]", 0);
+    engine = engine_named(argv[1]);
+    keys = (size_t)atol(argv[2]);
+    const struct call *call = call_named(argv[3]);
+    long count = argc > 4 ? atol(argv[4]) : 1000;
+    long rounds = argc > 5 ? atol(argv[5]) : 1;
+    if (keys < 1 || count < 1 || rounds < 1)
+        give_up("KEYS, COUNT, ROUNDS", 0);
+    if (call->thing == PROVE && !engine->prove) {
+        printf("none\n");
+        return 0;
+    }
+    engine->open();
+    fill();
+    pthread_t thread;
+    atomic_store(&going, 1);
+    if (call->beside != ALONE && pthread_create(&thread, NULL, other, (void *)&call->beside) != 0)
+        give_up("pthread_create", 0);
+    double took = fastest_round(call, count, rounds);
+    atomic_store(&going, 0);
+    if (call->beside != ALONE)
+        pthread_join(thread, NULL);
+    engine->close();
+    printf("%.3f\n", took);
+    return 0;
+}

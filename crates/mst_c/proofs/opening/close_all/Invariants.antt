@@ -1,0 +1,6 @@
+use Rattle.std.specs.Prelude.{◌≡◌, ℕ, ◌<◌, None, get_or}
+use Rattle.mst_c.specs.declared.hand.Hand.{Hand}
+use Rattle.mst_c.proofs.opening.close_all.Given as goal
+
+abbrev pub invariant-loop-hand : goal.invariant-loop-hand
+invariant-loop-hand l = (k : ℕ) (h : Hand) → k < l.hand-index → (get_or l.hands k h).held ≡ None

@@ -1,0 +1,8 @@
+use Rattle.std.proofs.Common.{◌≡◌, ◌≤◌, ◌*◌, length, take}
+use Rattle.mst_c.specs.Ranges.{pairs_bytes}
+use Rattle.mst_c.proofs.ranging.pairs_size.Given as goal
+
+-- the pairs so far are this long, and each is at most 100 bytes
+abbrev pub invariant-loop-key : goal.invariant-loop-key
+invariant-loop-key l =
+    (l.size ≡ length (pairs_bytes (take l.key-index l.pairs))) × (l.size ≤ 100 * l.key-index)

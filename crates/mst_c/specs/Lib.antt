@@ -1,0 +1,7 @@
+pub mod States
+pub mod Holding
+pub mod Formats
+pub mod Owning
+pub mod Told
+pub mod Ranges
+pub mod Opened

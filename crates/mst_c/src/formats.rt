@@ -1,0 +1,71 @@
+//! The format of a version, and migrations, as C is told of them.
+ghost use Rattle.std.specs.Prelude.{◌≡◌};
+ghost use Rattle.mst_c.specs.Formats.{format_named as named, format_code, move_code as code_of_move, FormatTold, MigrateTold};
+
+use crate::hand::Hand;
+use crate::held::Unmoved;
+use crate::telling::{MEMORY, NO_HAND, UNKNOWN_FORMAT, WRONG_STATE, give, take};
+use mst_key::Format;
+use mst_store::MigrateFault;
+use std::alloc::Global;
+
+/// The format that has this number.
+pub(crate) fn format_named(number: u32) -> Option<Format>
+    ensures format { result ≡ named number }
+{
+    match number {
+        1 => Some(Format::One),
+        2 => Some(Format::Two),
+        _ => None,
+    }
+}
+
+/// The number of a format.
+fn number_of(format: Format) -> i32
+    ensures number { result ≡ format_code format }
+{
+    match format {
+        Format::One => 1,
+        Format::Two => 2,
+    }
+}
+
+/// The code of a migration.
+fn move_code(moved: Result<Format, Unmoved>) -> i32
+    ensures code { result ≡ code_of_move moved }
+{
+    match moved {
+        Ok(was) => number_of(was),
+        Err(Unmoved::Pins) => WRONG_STATE,
+        Err(Unmoved::Store(MigrateFault::Busy)) => -21,
+        Err(Unmoved::Store(MigrateFault::VersionsSpent)) => -22,
+        Err(Unmoved::Store(MigrateFault::Memory)) => MEMORY,
+        Err(Unmoved::Store(MigrateFault::NoRoom)) => -23,
+    }
+}
+
+pub(crate) fn format(alloc: Global, hand: &mut Hand) -> i32
+    ensures told { FormatTold hand.old.held result hand.new.held }
+{
+    let Some(mut held) = take(alloc, hand) else {
+        return NO_HAND;
+    };
+    let format = held.format();
+    give(hand, held);
+    number_of(format)
+}
+
+pub(crate) fn try_migrate(alloc: Global, hand: &mut Hand, number: u32) -> i32
+    ensures told { MigrateTold hand.old.held number result hand.new.held }
+{
+    let Some(mut held) = take(alloc, hand) else {
+        return NO_HAND;
+    };
+    let Some(to) = format_named(number) else {
+        give(hand, held);
+        return UNKNOWN_FORMAT;
+    };
+    let moved = held.try_migrate(alloc, to);
+    give(hand, held);
+    move_code(moved)
+}

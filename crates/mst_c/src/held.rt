@@ -1,0 +1,371 @@
+//! What a hand holds: a pass, free or pinned, that is laid down beside a share of its store.
+ghost use Rattle.std.specs.Prelude.{◌≡◌, ◌≤◌, length, IfOk, OnErr};
+ghost use Rattle.std.specs.Arc.{arc_value};
+ghost use Rattle.mst_key.specs.declared.history.Change.TheVariants.{Put, Remove};
+ghost use Rattle.mst_key.specs.Map.{map_get, map_next, map_range};
+ghost use Rattle.std.specs.Option.{option_copied};
+ghost use Rattle.mst_node.specs.Text.{root as root_digest};
+ghost use Rattle.mst_node.specs.Trail.{proof_text};
+ghost use Rattle.mst_c.specs.declared.held.State.TheVariants as state;
+ghost use Rattle.mst_c.specs.States.{PinsNone};
+ghost use Rattle.mst_c.specs.Formats.{Moves};
+ghost use Rattle.mst_c.specs.Holding.{Reads, Forgets, Writes, PinsNow, Unpins, Versions, Counts};
+
+use mst_key::{Format, Key, Memory, Value};
+use mst_store::{Busy, Laid, LaidPinned, MigrateFault, Store, WriteFault};
+use std::alloc::Global;
+use std::marker::Model;
+use std::mem::replace;
+use std::sync::Arc;
+
+/// A pass that is laid down, free or pinned, or none while it is in use.
+#[derive(Drop)]
+pub enum State {
+    Away,
+    Free(Laid<Global>),
+    Pinned(LaidPinned<Global>),
+}
+
+/// A pass beside a share of its store.
+#[derive(Drop)]
+pub struct Held {
+    store: Arc<Store<Global>, Global>,
+    state: State,
+}
+
+/// Contracts see the pass.
+impl Model for Held {
+    ghost use Rattle.std.specs.Prelude.{◌≡◌};
+    ghost use Rattle.std.specs.Arc.{arc_value};
+    ghost use Rattle.mst_c.specs.declared.held.State.{State};
+    ghost use Rattle.mst_c.specs.States.{IsOf};
+
+    ghost Value = { State };
+
+    ghost view = { λ h. h.state };
+
+    ghost invariant = { λ h. IsOf (arc_value h.store) h.state };
+}
+
+/// Why nothing was written.
+pub(crate) enum Unwritten {
+    /// The pass pins a version.
+    Pins,
+    /// The store refused it.
+    Store(WriteFault),
+}
+
+/// Why the tree was not turned to a format.
+pub(crate) enum Unmoved {
+    /// The pass pins a version.
+    Pins,
+    /// The store refused it.
+    Store(MigrateFault),
+}
+
+/// Why the rows were not counted.
+pub(crate) enum Uncounted {
+    /// The pass pins a version.
+    Pins,
+    /// Another pass has the turn.
+    Busy,
+}
+
+impl Held {
+    /// A free pass beside a share of its store.
+    pub(crate) fn new(store: Arc<Store<Global>, Global>, laid: Laid<Global>) -> Held
+        requires own { laid.store ≡ arc_value store }
+        ensures free { result ≡ state.Free laid }
+    {
+        Held {
+            store,
+            state: State::Free(laid),
+        }
+    }
+
+    /// The value of the key.
+    pub(crate) fn get(&mut self, key: &Key) -> Option<Value>
+        ensures reads { Reads (λ _ m. map_get m key.now) self.old result self.new }
+    {
+        match replace(&mut self.state, State::Away) {
+            State::Away => unreachable!(),
+            State::Free(laid) => {
+                let mut pass = self.store.lift(laid);
+                let value = pass.get(key);
+                self.state = State::Free(pass.lay());
+                value
+            }
+            State::Pinned(laid) => {
+                let mut pinned = self.store.lift_pinned(laid);
+                let value = pinned.get(key);
+                self.state = State::Pinned(pinned.lay());
+                value
+            }
+        }
+    }
+
+    /// The pair of the least key above the bound.
+    pub(crate) fn next(&mut self, after: Option<&Key>) -> Option<(Key, Value)>
+        ensures reads { Reads (λ _ m. map_next m (option_copied after.entry)) self.old result
+            self.new }
+    {
+        match replace(&mut self.state, State::Away) {
+            State::Away => unreachable!(),
+            State::Free(laid) => {
+                let mut pass = self.store.lift(laid);
+                let pair = pass.next(after);
+                self.state = State::Free(pass.lay());
+                pair
+            }
+            State::Pinned(laid) => {
+                let mut pinned = self.store.lift_pinned(laid);
+                let pair = pinned.next(after);
+                self.state = State::Pinned(pinned.lay());
+                pair
+            }
+        }
+    }
+
+    /// The first pairs, at most `limit`, of the keys that are at least `from` and below `to`.
+    pub(crate) fn range(
+        &mut self,
+        alloc: Global,
+        from: Option<&Key>,
+        to: Option<&Key>,
+        limit: usize,
+    ) -> Result<Vec<(Key, Value), Global>, Memory>
+        ensures reads { IfOk result
+            (λ found. Reads
+            (λ _ m. map_range m (option_copied from.entry) (option_copied to.entry) limit) self.old
+            found.items self.new) }
+        ensures few { IfOk result (λ found. length found.items ≤ limit) }
+        ensures memory { OnErr result (Forgets self.old self.new) }
+    {
+        match replace(&mut self.state, State::Away) {
+            State::Away => unreachable!(),
+            State::Free(laid) => {
+                let mut pass = self.store.lift(laid);
+                let found = pass.range(alloc, from, to, limit);
+                self.state = State::Free(pass.lay());
+                found
+            }
+            State::Pinned(laid) => {
+                let mut pinned = self.store.lift_pinned(laid);
+                let found = pinned.range(alloc, from, to, limit);
+                self.state = State::Pinned(pinned.lay());
+                found
+            }
+        }
+    }
+
+    /// The root digest.
+    pub(crate) fn root(&mut self) -> [u8; 32]
+        ensures reads { Reads root_digest self.old result self.new }
+    {
+        match replace(&mut self.state, State::Away) {
+            State::Away => unreachable!(),
+            State::Free(laid) => {
+                let mut pass = self.store.lift(laid);
+                let root = pass.root();
+                self.state = State::Free(pass.lay());
+                root
+            }
+            State::Pinned(laid) => {
+                let mut pinned = self.store.lift_pinned(laid);
+                let root = pinned.root();
+                self.state = State::Pinned(pinned.lay());
+                root
+            }
+        }
+    }
+
+    /// The proof of the key's answer.
+    pub(crate) fn prove(&mut self, alloc: Global, key: &Key) -> Result<Vec<u8, Global>, Memory>
+        ensures reads { IfOk result
+            (λ found. Reads (λ f m. proof_text f m key.now) self.old found.items self.new) }
+        ensures memory { OnErr result (Forgets self.old self.new) }
+    {
+        match replace(&mut self.state, State::Away) {
+            State::Away => unreachable!(),
+            State::Free(laid) => {
+                let mut pass = self.store.lift(laid);
+                let proof = pass.prove(alloc, key);
+                self.state = State::Free(pass.lay());
+                proof
+            }
+            State::Pinned(laid) => {
+                let mut pinned = self.store.lift_pinned(laid);
+                let proof = pinned.prove(alloc, key);
+                self.state = State::Pinned(pinned.lay());
+                proof
+            }
+        }
+    }
+
+    /// Gives the key the value, where the pass is free.
+    pub(crate) fn try_put(&mut self, key: &Key, value: &Value) -> Result<Option<Value>, Unwritten>
+        ensures writes { Writes (Put key.now value.now) self.old result self.new }
+    {
+        match replace(&mut self.state, State::Away) {
+            State::Away => unreachable!(),
+            State::Free(laid) => {
+                let mut pass = self.store.lift(laid);
+                let put = pass.try_put(key, value);
+                self.state = State::Free(pass.lay());
+                match put {
+                    Ok(old) => Ok(old),
+                    Err(fault) => Err(Unwritten::Store(fault)),
+                }
+            }
+            State::Pinned(laid) => {
+                self.state = State::Pinned(laid);
+                Err(Unwritten::Pins)
+            }
+        }
+    }
+
+    /// Pins the current version, where the pass is free.
+    pub(crate) fn pin(&mut self) -> bool
+        ensures pins { PinsNow self.old result self.new }
+    {
+        match replace(&mut self.state, State::Away) {
+            State::Away => unreachable!(),
+            State::Free(laid) => {
+                let pass = self.store.lift(laid);
+                self.state = State::Pinned(pass.pin().lay());
+                true
+            }
+            State::Pinned(laid) => {
+                self.state = State::Pinned(laid);
+                false
+            }
+        }
+    }
+
+    /// Ends the pin, where there is one.
+    pub(crate) fn unpin(&mut self) -> bool
+        ensures unpins { Unpins self.old result self.new }
+        ensures free { PinsNone self.new }
+    {
+        match replace(&mut self.state, State::Away) {
+            State::Away => unreachable!(),
+            State::Free(laid) => {
+                self.state = State::Free(laid);
+                false
+            }
+            State::Pinned(laid) => {
+                let pinned = self.store.lift_pinned(laid);
+                self.state = State::Free(pinned.unpin().lay());
+                true
+            }
+        }
+    }
+
+    /// Takes the key out of the map, where the pass is free.
+    pub(crate) fn try_remove(&mut self, key: &Key) -> Result<Option<Value>, Unwritten>
+        ensures writes { Writes (Remove key.now) self.old result self.new }
+    {
+        match replace(&mut self.state, State::Away) {
+            State::Away => unreachable!(),
+            State::Free(laid) => {
+                let mut pass = self.store.lift(laid);
+                let removed = pass.try_remove(key);
+                self.state = State::Free(pass.lay());
+                match removed {
+                    Ok(old) => Ok(old),
+                    Err(fault) => Err(Unwritten::Store(fault)),
+                }
+            }
+            State::Pinned(laid) => {
+                self.state = State::Pinned(laid);
+                Err(Unwritten::Pins)
+            }
+        }
+    }
+
+    /// The number of the version.
+    pub(crate) fn version(&mut self) -> u64
+        ensures versions { Versions self.old result self.new }
+    {
+        match replace(&mut self.state, State::Away) {
+            State::Away => unreachable!(),
+            State::Free(laid) => {
+                let mut pass = self.store.lift(laid);
+                let version = pass.version();
+                self.state = State::Free(pass.lay());
+                version
+            }
+            State::Pinned(laid) => {
+                let pinned = self.store.lift_pinned(laid);
+                let version = pinned.version();
+                self.state = State::Pinned(pinned.lay());
+                version
+            }
+        }
+    }
+
+    /// How many rows the map takes, where the pass is free; none where a pin was found.
+    pub(crate) fn rows(&mut self) -> Result<Option<u32>, Uncounted>
+        ensures counts { Counts self.old result self.new }
+    {
+        match replace(&mut self.state, State::Away) {
+            State::Away => unreachable!(),
+            State::Free(laid) => {
+                let mut pass = self.store.lift(laid);
+                let rows = pass.rows();
+                self.state = State::Free(pass.lay());
+                match rows {
+                    Ok(found) => Ok(found),
+                    Err(Busy) => Err(Uncounted::Busy),
+                }
+            }
+            State::Pinned(laid) => {
+                self.state = State::Pinned(laid);
+                Err(Uncounted::Pins)
+            }
+        }
+    }
+
+    /// The format of the version.
+    pub(crate) fn format(&mut self) -> Format
+        ensures reads { Reads (λ f _. f) self.old result self.new }
+    {
+        match replace(&mut self.state, State::Away) {
+            State::Away => unreachable!(),
+            State::Free(laid) => {
+                let mut pass = self.store.lift(laid);
+                let format = pass.format();
+                self.state = State::Free(pass.lay());
+                format
+            }
+            State::Pinned(laid) => {
+                let mut pinned = self.store.lift_pinned(laid);
+                let format = pinned.format();
+                self.state = State::Pinned(pinned.lay());
+                format
+            }
+        }
+    }
+
+    /// Turns the tree to a format, where the pass is free.
+    pub(crate) fn try_migrate(&mut self, alloc: Global, to: Format) -> Result<Format, Unmoved>
+        ensures moves { Moves to self.old result self.new }
+    {
+        match replace(&mut self.state, State::Away) {
+            State::Away => unreachable!(),
+            State::Free(laid) => {
+                let mut pass = self.store.lift(laid);
+                let moved = pass.try_migrate(alloc, to);
+                self.state = State::Free(pass.lay());
+                match moved {
+                    Ok(was) => Ok(was),
+                    Err(fault) => Err(Unmoved::Store(fault)),
+                }
+            }
+            State::Pinned(laid) => {
+                self.state = State::Pinned(laid);
+                Err(Unmoved::Pins)
+            }
+        }
+    }
+}

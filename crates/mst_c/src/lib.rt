@@ -1,0 +1,212 @@
+//! The store for C, and for every language that calls C.
+//!
+//! A static library over `mst_store`. `include/mst_store.h` declares its calls.
+//!
+//! Each call answers by a number, and tells in its clause, for all arguments, the number, each
+//! byte that it writes, and what the hand holds after it. A number of 0 and more is an answer; -1
+//! says that there is no such key; the others refuse:
+//!
+//! | Number | When |
+//! |---|---|
+//! | -2 | a room is too short |
+//! | -3 | no format has this number |
+//! | -5, -6 | a key has 1 to 32 bytes, a value 0 to 64 |
+//! | -7 | the hand holds no pass |
+//! | -8 | the pass is pinned, or is not |
+//! | -9 | a growth of memory was refused |
+//! | -10 | a store has 4 to 65,535 rows and 1 to 32 passes |
+//! | -21, -22, -23 | a write or a migration is refused as `Busy`, `VersionsSpent`, `NoRoom` |
+//! | -24 | rows are not counted, since some pass pins a version |
+//!
+//! The tests come in the order of the hand, the key, the value, the pass, and the rooms last.
+#![tactic(auto)]
+
+ghost use Rattle.std.specs.Prelude.{◌≡◌, ◌≢◌, ◌↔◌, pos, negsuc, length as count, None, IsSome};
+ghost use Rattle.mst_c.specs.Formats.{format_named, FormatTold, MigrateTold};
+ghost use Rattle.mst_c.specs.Opened.{Opened, IsSize, AllEmpty};
+ghost use Rattle.mst_c.specs.Ranges.{RangeTold};
+ghost use Rattle.mst_c.specs.Told.{GetTold, PutTold, RootTold, ProveTold, PinTold, UnpinTold, CloseTold, RemoveTold, VersionTold, RowsTold, NextTold};
+
+mod formats;
+mod hand;
+mod held;
+mod opening;
+mod parts;
+mod ranging;
+mod telling;
+
+use hand::Hand;
+use std::alloc::Global;
+
+/// Opens a store of the empty map in the format 1 or 2, with so many rows, and puts a pass into each
+/// of the hands. What a hand held before is closed. 0; -3 for another format; -10; -9. After another
+/// answer than 0 all hands are empty.
+#[unsafe(no_mangle)]
+pub extern "C" fn mst_open(alloc: Global, format: u32, rows: u32, hands: &mut [Hand]) -> i32
+    ensures opened { result ≡ pos 0 → Opened format rows hands.new }
+    ensures empty { result ≢ pos 0 → AllEmpty hands.new }
+    ensures size { result ≡ negsuc 9
+        ↔ IsSome (format_named format) × (¬ (IsSize rows (count hands.old))) }
+    ensures format { result ≡ negsuc 2 ↔ (format_named format ≡ None) }
+{
+    opening::open(alloc, format, rows, hands)
+}
+
+/// The value of the key: its length, 0 to 64, and its bytes stand first in the room; -1 where the
+/// key is absent. -7, -5, -2; then the room stays.
+#[unsafe(no_mangle)]
+pub extern "C" fn mst_get(alloc: Global, hand: &mut Hand, key: &[u8], room: &mut [u8]) -> i32
+    ensures told { GetTold hand.old.held key.now room.old result room.new hand.new.held }
+{
+    telling::get(alloc, hand, key, room)
+}
+
+/// Gives the key the value. The answer is that of `mst_get` before the write; with -2 the old value
+/// did not fit into the room, and the key has its new value all the same. -7, -5, -6, -8, -21, -22,
+/// -23: nothing is written.
+#[unsafe(no_mangle)]
+pub extern "C" fn mst_try_put(
+    alloc: Global,
+    hand: &mut Hand,
+    key: &[u8],
+    value: &[u8],
+    room: &mut [u8],
+) -> i32
+    ensures told { PutTold hand.old.held key.now value.now room.old result room.new hand.new.held }
+{
+    telling::try_put(alloc, hand, key, value, room)
+}
+
+/// The root digest: 32, and its bytes stand first in the room. -7, -2 for a room of less than 32
+/// bytes.
+#[unsafe(no_mangle)]
+pub extern "C" fn mst_root(alloc: Global, hand: &mut Hand, root: &mut [u8]) -> i32
+    ensures told { RootTold hand.old.held root.old result root.new hand.new.held }
+{
+    telling::root(alloc, hand, root)
+}
+
+/// The proof of the key's answer against the root digest of the same version: 0, its bytes stand
+/// first in the room, and their number in `length`. -2: `length` tells how many they are, and the
+/// room stays. -7, -5, -9: both stay.
+#[unsafe(no_mangle)]
+pub extern "C" fn mst_prove(
+    alloc: Global,
+    hand: &mut Hand,
+    key: &[u8],
+    room: &mut [u8],
+    length: &mut usize,
+) -> i32
+    ensures told { ProveTold hand.old.held key.now room.old length.old result room.new length.new hand.new.held }
+{
+    telling::prove(alloc, hand, key, room, length)
+}
+
+/// Pins the current version, of which each read is until `mst_unpin`: 0. -7, -8.
+#[unsafe(no_mangle)]
+pub extern "C" fn mst_pin(alloc: Global, hand: &mut Hand) -> i32
+    ensures told { PinTold hand.old.held result hand.new.held }
+{
+    telling::pin(alloc, hand)
+}
+
+/// Ends the pin: 0. -7, -8.
+#[unsafe(no_mangle)]
+pub extern "C" fn mst_unpin(alloc: Global, hand: &mut Hand) -> i32
+    ensures told { UnpinTold hand.old.held result hand.new.held }
+{
+    telling::unpin(alloc, hand)
+}
+
+/// Lets the pass go, and ends its pin before: 0, or -7. The store goes with its last pass.
+#[unsafe(no_mangle)]
+pub extern "C" fn mst_close(alloc: Global, hand: &mut Hand) -> i32
+    ensures told { CloseTold hand.old.held result hand.new.held }
+{
+    telling::close(alloc, hand)
+}
+
+/// Takes the key out of the map. The answers are those of `mst_try_put`, without -6.
+#[unsafe(no_mangle)]
+pub extern "C" fn mst_try_remove(alloc: Global, hand: &mut Hand, key: &[u8], room: &mut [u8]) -> i32
+    ensures told { RemoveTold hand.old.held key.now room.old result room.new hand.new.held }
+{
+    telling::try_remove(alloc, hand, key, room)
+}
+
+/// The number of the version, which is that of the writes and migrations before it: 0. -7; then the
+/// number stays.
+#[unsafe(no_mangle)]
+pub extern "C" fn mst_version(alloc: Global, hand: &mut Hand, number: &mut u64) -> i32
+    ensures told { VersionTold hand.old.held number.old result number.new hand.new.held }
+{
+    telling::version(alloc, hand, number)
+}
+
+/// The number of the version's format: 1 or 2. -7.
+#[unsafe(no_mangle)]
+pub extern "C" fn mst_format(alloc: Global, hand: &mut Hand) -> i32
+    ensures told { FormatTold hand.old.held result hand.new.held }
+{
+    formats::format(alloc, hand)
+}
+
+/// Turns the tree of the map to the format 1 or 2; the map stays. The number of the format that it
+/// had: 1 or 2. -7, -3 for another number, -8, -9, -21, -22, -23: nothing is changed. In the format
+/// that stands it takes no memory and no row.
+#[unsafe(no_mangle)]
+pub extern "C" fn mst_try_migrate(alloc: Global, hand: &mut Hand, format: u32) -> i32
+    ensures told { MigrateTold hand.old.held format result hand.new.held }
+{
+    formats::try_migrate(alloc, hand, format)
+}
+
+/// How many rows the map of the current version takes: 0. -7, -8 by a pinned pass, -21, -24; then
+/// the count stays.
+#[unsafe(no_mangle)]
+pub extern "C" fn mst_rows(alloc: Global, hand: &mut Hand, count: &mut u32) -> i32
+    ensures told { RowsTold hand.old.held count.old result count.new hand.new.held }
+{
+    telling::rows(alloc, hand, count)
+}
+
+/// The pair of the least key above the bound, or of the least key where the bound has no bytes:
+/// the value's length, its bytes stand first in the room, those of the key in `key_room`, and
+/// `length` is the key's. -7, -5 for a bound of more than 32 bytes, -1 where there is none, -2
+/// where one of the two rooms is short; then both rooms and `length` stay.
+#[unsafe(no_mangle)]
+pub extern "C" fn mst_next(
+    alloc: Global,
+    hand: &mut Hand,
+    key: &[u8],
+    key_room: &mut [u8],
+    length: &mut usize,
+    room: &mut [u8],
+) -> i32
+    ensures told { NextTold hand.old.held key.now key_room.old length.old room.old result
+        key_room.new length.new room.new hand.new.held }
+{
+    telling::next(alloc, hand, key, key_room, length, room)
+}
+
+/// The first pairs, at most `limit`, of the keys that are at least `from` and below `to`; a bound
+/// of no bytes does not bind. 0: `count` is their number and `length` that of their bytes, which
+/// stand first in the room: for each pair the length of its key in two bytes, the high one first,
+/// that of its value in two, the key, the value. -2: both numbers are told, and the room stays. -7,
+/// -5 for a bound of more than 32 bytes, -9: all stay.
+#[unsafe(no_mangle)]
+pub extern "C" fn mst_range(
+    alloc: Global,
+    hand: &mut Hand,
+    from: &[u8],
+    to: &[u8],
+    limit: u32,
+    room: &mut [u8],
+    count: &mut usize,
+    length: &mut usize,
+) -> i32
+    ensures told { RangeTold hand.old.held from.now to.now limit room.old count.old length.old
+        result room.new count.new length.new hand.new.held }
+{
+    ranging::range(alloc, hand, from, to, limit, room, count, length)
+}

@@ -1,0 +1,107 @@
+//! Opening a store for C.
+ghost use Rattle.std.specs.Prelude.{◌≡◌, ◌≢◌, ◌↔◌, ◌<◌, ◌≤◌, ℕ, true, pos, negsuc, length, get_or, vec_len, Some, None, IsSome};
+ghost use Rattle.std.specs.Arc.{arc_value};
+ghost use Rattle.mst_store.specs.Passes.{Known};
+ghost use Rattle.mst_c.specs.declared.held.State.TheVariants.{Free};
+ghost use Rattle.mst_c.specs.declared.hand.Hand.{Hand};
+ghost use Rattle.mst_c.specs.Formats.{format_named as named};
+ghost use Rattle.mst_c.specs.Opened.{Opened, IsSize, AllEmpty};
+
+use crate::formats::format_named;
+use crate::hand::Hand;
+use crate::held::Held;
+use crate::telling::{BAD_SHAPE, MEMORY, UNKNOWN_FORMAT, close, give};
+use mst_store::{OpenFault, Pass, Shape, Store};
+use std::alloc::Global;
+use std::sync::Arc;
+
+/// A pass of the store, beside a share of it, goes into the hand.
+fn hand_out(
+    alloc: Global,
+    store: &Arc<Store<Global>, Global>,
+    pass: Pass<'_, Global>,
+    hand: &mut Hand,
+) -> bool
+    requires own { pass.store ≡ arc_value store.now }
+    ensures held { result ≡ true → hand.new.held ≡ Some (Free pass.entry) }
+{
+    let Ok(part) = Arc::try_clone(store) else {
+        return false;
+    };
+    match Box::new(alloc, Held::new(part, pass.lay())) {
+        Ok(held) => {
+            give(hand, held);
+            true
+        }
+        Err(_) => false,
+    }
+}
+
+/// Each of the passes goes into the next hand.
+fn hand_all(
+    alloc: Global,
+    store: &Arc<Store<Global>, Global>,
+    passes: Vec<Pass<'_, Global>, Global>,
+    hands: &mut [Hand],
+) -> bool
+    requires count { vec_len passes ≤ length hands.old }
+    requires own { (k : ℕ) (d : Known) → k < vec_len passes
+        → (get_or passes.items k d).store ≡ arc_value store.now }
+    ensures all { result ≡ true → (k : ℕ) (d : Known) (h : Hand) → k < vec_len passes.entry
+        → (get_or hands.new k h).held ≡ Some (Free (get_or passes.entry.items k d)) }
+{
+    let mut all = true;
+    let mut at = 0;
+    for pass in passes {
+        all = all && hand_out(alloc, store, pass, &mut hands[at]);
+        at += 1;
+    }
+    all
+}
+
+/// No hand holds a pass then.
+fn close_all(alloc: Global, hands: &mut [Hand])
+    ensures empty { AllEmpty hands.new }
+{
+    for hand in hands.iter_mut() {
+        let _code = close(alloc, hand);
+    }
+}
+
+pub(crate) fn open(alloc: Global, format: u32, rows: u32, hands: &mut [Hand]) -> i32
+    ensures opened { result ≡ pos 0 → Opened format rows hands.new }
+    ensures empty { result ≢ pos 0 → AllEmpty hands.new }
+    ensures size { result ≡ negsuc 9
+        ↔ IsSome (named format) × (¬ (IsSize rows (length hands.old))) }
+    ensures format { result ≡ negsuc 2 ↔ (named format ≡ None) }
+{
+    close_all(alloc, hands);
+    let Some(format) = format_named(format) else {
+        return UNKNOWN_FORMAT;
+    };
+    if hands.len() > 32 {
+        return BAD_SHAPE;
+    }
+    let passes = hands.len() as u32;
+    let shape = Shape {
+        rows,
+        passes,
+        format,
+    };
+    let (store, seats) = match Store::open(alloc, shape) {
+        Ok(opened) => opened,
+        Err(OpenFault::Shape) => return BAD_SHAPE,
+        Err(OpenFault::Memory) => return MEMORY,
+    };
+    let Ok(store) = Arc::new(alloc, store) else {
+        return MEMORY;
+    };
+    let Ok(passes) = store.deal(alloc, seats) else {
+        return MEMORY;
+    };
+    if hand_all(alloc, &store, passes, hands) {
+        return 0;
+    }
+    close_all(alloc, hands);
+    MEMORY
+}

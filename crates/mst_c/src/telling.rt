@@ -1,0 +1,346 @@
+//! The calls as C is told of them.
+ghost use Rattle.std.specs.Prelude.{◌≡◌, ◌≤◌, ◌++◌, length, drop, Some, None, ◌↔◌, IsOk, IfOk};
+ghost use Rattle.std.specs.Option.{MatchOption};
+ghost use Rattle.mst_c.specs.States.{PinsNone};
+ghost use Rattle.mst_c.specs.Told.{value_code, room_after, unwritten_code as code_of_unwritten, done_code, bytes_code, GetTold, PutTold, RootTold, ProveTold, PinTold, UnpinTold, CloseTold, RemoveTold, VersionTold, RowsTold, count_code, count_after, NextTold, IsBound, bound_of, pair_code, key_room_after, value_room_after, key_size_after};
+
+use crate::hand::Hand;
+use crate::held::{Held, Uncounted, Unwritten};
+use mst_key::{Key, KeySize, Value};
+use mst_store::WriteFault;
+use std::alloc::Global;
+use std::mem::replace;
+
+pub(crate) const ABSENT: i32 = -1;
+
+pub(crate) const NO_ROOM: i32 = -2;
+
+pub(crate) const UNKNOWN_FORMAT: i32 = -3;
+
+pub(crate) const BAD_KEY: i32 = -5;
+
+pub(crate) const BAD_VALUE: i32 = -6;
+
+pub(crate) const NO_HAND: i32 = -7;
+
+pub(crate) const WRONG_STATE: i32 = -8;
+
+pub(crate) const MEMORY: i32 = -9;
+
+pub(crate) const BAD_SHAPE: i32 = -10;
+
+/// What the hand holds. The hand is then empty.
+pub(crate) fn take(alloc: Global, hand: &mut Hand) -> Option<Box<Held, Global>>
+    ensures empty { hand.new.held ≡ None }
+    ensures taken { MatchOption result (hand.old.held ≡ None) (λ b. hand.old.held ≡ Some b.value) }
+{
+    replace(hand, Hand::empty(alloc)).into_box()
+}
+
+/// Lets an empty hand hold this.
+pub(crate) fn give(hand: &mut Hand, held: Box<Held, Global>)
+    ensures held { hand.new.held ≡ Some held.value }
+{
+    let _empty = replace(hand, Hand::of_box(held));
+}
+
+/// Puts bytes first, and keeps those behind them.
+fn put(room: &mut [u8], bytes: &[u8])
+    requires fits { length bytes.now ≤ length room.old }
+    ensures room { room.new ≡ bytes.now ++ drop (length bytes.now) room.old }
+{
+    room[..bytes.len()].copy_from_slice(bytes);
+}
+
+/// The code of a value or of absence. The value stands first in the room then, if it fits.
+fn tell(value: Option<Value>, room: &mut [u8]) -> i32
+    ensures code { result ≡ value_code (length room.old) value }
+    ensures room { room.new ≡ room_after room.old value }
+{
+    match value {
+        Some(value) => {
+            let bytes = value.bytes();
+            if room.len() < bytes.len() {
+                return NO_ROOM;
+            }
+            put(room, bytes);
+            bytes.len() as i32
+        }
+        None => ABSENT,
+    }
+}
+
+/// The length of the proof is told. The proof stands first in the room then, if it fits.
+fn tell_proof(proof: &[u8], room: &mut [u8], size: &mut usize) -> i32
+    ensures code { result ≡ bytes_code (length room.old) (Some proof.now) }
+    ensures room { room.new ≡ room_after room.old (Some proof.now) }
+    ensures size { size.new ≡ length proof.now }
+{
+    *size = proof.len();
+    if room.len() < proof.len() {
+        return NO_ROOM;
+    }
+    put(room, proof);
+    0
+}
+
+fn unwritten_code(fault: Unwritten) -> i32
+    ensures code { result ≡ code_of_unwritten fault }
+{
+    match fault {
+        Unwritten::Pins => WRONG_STATE,
+        Unwritten::Store(WriteFault::Busy) => -21,
+        Unwritten::Store(WriteFault::VersionsSpent) => -22,
+        Unwritten::Store(WriteFault::NoRoom) => -23,
+    }
+}
+
+/// The code of a count. The count is written then, if there is one.
+fn tell_rows(rows: Result<Option<u32>, Uncounted>, count: &mut u32) -> i32
+    ensures code { result ≡ count_code rows }
+    ensures count { count.new ≡ count_after count.old rows }
+{
+    match rows {
+        Ok(Some(rows)) => {
+            *count = rows;
+            0
+        }
+        Ok(None) => -24,
+        Err(Uncounted::Pins) => WRONG_STATE,
+        Err(Uncounted::Busy) => -21,
+    }
+}
+
+fn done(done: bool) -> i32
+    ensures code { result ≡ done_code done }
+{
+    if done { 0 } else { WRONG_STATE }
+}
+
+pub(crate) fn get(alloc: Global, hand: &mut Hand, key: &[u8], room: &mut [u8]) -> i32
+    ensures told { GetTold hand.old.held key.now room.old result room.new hand.new.held }
+{
+    let Some(mut held) = take(alloc, hand) else {
+        return NO_HAND;
+    };
+    let Ok(key) = Key::new(key) else {
+        give(hand, held);
+        return BAD_KEY;
+    };
+    let value = held.get(&key);
+    give(hand, held);
+    tell(value, room)
+}
+
+pub(crate) fn try_put(
+    alloc: Global,
+    hand: &mut Hand,
+    key: &[u8],
+    value: &[u8],
+    room: &mut [u8],
+) -> i32
+    ensures told { PutTold hand.old.held key.now value.now room.old result room.new hand.new.held }
+{
+    let Some(mut held) = take(alloc, hand) else {
+        return NO_HAND;
+    };
+    let Ok(key) = Key::new(key) else {
+        give(hand, held);
+        return BAD_KEY;
+    };
+    let Ok(value) = Value::new(value) else {
+        give(hand, held);
+        return BAD_VALUE;
+    };
+    let wrote = held.try_put(&key, &value);
+    give(hand, held);
+    match wrote {
+        Ok(old) => tell(old, room),
+        Err(fault) => unwritten_code(fault),
+    }
+}
+
+pub(crate) fn root(alloc: Global, hand: &mut Hand, room: &mut [u8]) -> i32
+    ensures told { RootTold hand.old.held room.old result room.new hand.new.held }
+{
+    let Some(mut held) = take(alloc, hand) else {
+        return NO_HAND;
+    };
+    if room.len() < 32 {
+        give(hand, held);
+        return NO_ROOM;
+    }
+    let root = held.root();
+    give(hand, held);
+    put(room, &root);
+    32
+}
+
+pub(crate) fn prove(
+    alloc: Global,
+    hand: &mut Hand,
+    key: &[u8],
+    room: &mut [u8],
+    size: &mut usize,
+) -> i32
+    ensures told { ProveTold hand.old.held key.now room.old size.old result room.new size.new hand.new.held }
+{
+    let Some(mut held) = take(alloc, hand) else {
+        return NO_HAND;
+    };
+    let Ok(key) = Key::new(key) else {
+        give(hand, held);
+        return BAD_KEY;
+    };
+    let found = held.prove(alloc, &key);
+    give(hand, held);
+    match found {
+        Ok(proof) => tell_proof(proof.as_slice(), room, size),
+        Err(_) => MEMORY,
+    }
+}
+
+pub(crate) fn pin(alloc: Global, hand: &mut Hand) -> i32
+    ensures told { PinTold hand.old.held result hand.new.held }
+{
+    let Some(mut held) = take(alloc, hand) else {
+        return NO_HAND;
+    };
+    let pinned = held.pin();
+    give(hand, held);
+    done(pinned)
+}
+
+pub(crate) fn unpin(alloc: Global, hand: &mut Hand) -> i32
+    ensures told { UnpinTold hand.old.held result hand.new.held }
+{
+    let Some(mut held) = take(alloc, hand) else {
+        return NO_HAND;
+    };
+    let unpinned = held.unpin();
+    give(hand, held);
+    done(unpinned)
+}
+
+/// Lets a pass go, with its share of the store. A pin would last as long as the store, so it has to
+/// have ended.
+fn let_go(held: Box<Held, Global>)
+    requires free { PinsNone held.value }
+{
+    let _gone = held;
+}
+
+pub(crate) fn close(alloc: Global, hand: &mut Hand) -> i32
+    ensures told { CloseTold hand.old.held result hand.new.held }
+    ensures empty { hand.new.held ≡ None }
+{
+    let Some(mut held) = take(alloc, hand) else {
+        return NO_HAND;
+    };
+    let _pinned = held.unpin();
+    let_go(held);
+    0
+}
+
+pub(crate) fn try_remove(alloc: Global, hand: &mut Hand, key: &[u8], room: &mut [u8]) -> i32
+    ensures told { RemoveTold hand.old.held key.now room.old result room.new hand.new.held }
+{
+    let Some(mut held) = take(alloc, hand) else {
+        return NO_HAND;
+    };
+    let Ok(key) = Key::new(key) else {
+        give(hand, held);
+        return BAD_KEY;
+    };
+    let wrote = held.try_remove(&key);
+    give(hand, held);
+    match wrote {
+        Ok(old) => tell(old, room),
+        Err(fault) => unwritten_code(fault),
+    }
+}
+
+pub(crate) fn version(alloc: Global, hand: &mut Hand, number: &mut u64) -> i32
+    ensures told { VersionTold hand.old.held number.old result number.new hand.new.held }
+{
+    let Some(mut held) = take(alloc, hand) else {
+        return NO_HAND;
+    };
+    *number = held.version();
+    give(hand, held);
+    0
+}
+
+pub(crate) fn rows(alloc: Global, hand: &mut Hand, count: &mut u32) -> i32
+    ensures told { RowsTold hand.old.held count.old result count.new hand.new.held }
+{
+    let Some(mut held) = take(alloc, hand) else {
+        return NO_HAND;
+    };
+    let rows = held.rows();
+    give(hand, held);
+    tell_rows(rows, count)
+}
+
+/// The bound that these bytes are. No bytes bind nothing.
+pub(crate) fn bound(bytes: &[u8]) -> Result<Option<Key>, KeySize>
+    ensures ok { IfOk result (λ bound. bound ≡ bound_of bytes.now) }
+    ensures when { IsOk result ↔ IsBound bytes.now }
+{
+    if bytes.is_empty() {
+        return Ok(None);
+    }
+    match Key::new(bytes) {
+        Ok(key) => Ok(Some(key)),
+        Err(fault) => Err(fault),
+    }
+}
+
+/// The code of a pair or of absence. Key and value stand first in their rooms then, if both fit.
+fn tell_pair(
+    pair: Option<(Key, Value)>,
+    key_room: &mut [u8],
+    size: &mut usize,
+    room: &mut [u8],
+) -> i32
+    ensures code { result ≡ pair_code (length key_room.old) (length room.old) pair }
+    ensures key { key_room.new ≡ key_room_after key_room.old room.old pair }
+    ensures size { size.new ≡ key_size_after key_room.old room.old size.old pair }
+    ensures value { room.new ≡ value_room_after key_room.old room.old pair }
+{
+    let Some((key, value)) = pair else {
+        return ABSENT;
+    };
+    let key = key.bytes();
+    let value = value.bytes();
+    if key_room.len() < key.len() || room.len() < value.len() {
+        return NO_ROOM;
+    }
+    put(key_room, key);
+    put(room, value);
+    *size = key.len();
+    value.len() as i32
+}
+
+pub(crate) fn next(
+    alloc: Global,
+    hand: &mut Hand,
+    key: &[u8],
+    key_room: &mut [u8],
+    size: &mut usize,
+    room: &mut [u8],
+) -> i32
+    ensures told { NextTold hand.old.held key.now key_room.old size.old room.old result key_room.new
+        size.new room.new hand.new.held }
+{
+    let Some(mut held) = take(alloc, hand) else {
+        return NO_HAND;
+    };
+    let Ok(bound) = bound(key) else {
+        give(hand, held);
+        return BAD_KEY;
+    };
+    let pair = held.next(bound.as_ref());
+    give(hand, held);
+    tell_pair(pair, key_room, size, room)
+}
