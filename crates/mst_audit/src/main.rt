@@ -16,7 +16,7 @@ mod auditor;
 
 use anyhow::{Error, Result};
 use auditor::{audit, shortened};
-use mst_key::{Key, Value};
+use mst_key::{Format, Key, Value};
 use mst_store::{Pass, Pinned, Shape, Store, WriteFault};
 use std::alloc::Global;
 
@@ -25,6 +25,7 @@ use std::alloc::Global;
 const SHAPE: Shape = Shape {
     rows: 16,
     passes: 2,
+    format: Format::One,
 };
 
 // Writes a pair, of which no more is told than whether it went through.

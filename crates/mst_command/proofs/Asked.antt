@@ -1,17 +1,18 @@
 -- What words ask for and what a task did, as one fact of the words.
-use Rattle.std.proofs.Common.{◌≡◌, ◌⊎◌, inl, inr, ℕ, ◌<◌, arith, List, [], true, false, Some, None, Ok, Err, Result, IfOk, OnOk, IfErr, IsErrOf, ◌↔◌, refl, sym, ◌∙◌, subst}
+use Rattle.std.proofs.Common.{◌≡◌, ◌⊎◌, inl, inr, ℕ, ◌<◌, arith, List, [], true, false, Option, Some, None, Ok, Err, Result, IfOk, OnOk, IfErr, IsErrOf, ◌↔◌, refl, sym, ◌∙◌, subst}
 use Rattle.std.specs.Prelude.{string_bytes}
 use Rattle.std.specs.declared.string.String.{String}
 use Rattle.std.specs.declared.alloc.Global.{Global}
 use Rattle.std.proofs.lemmas.Bool.{false≢true}
 use Rattle.std.proofs.lemmas.Option.{none-some, same_Some}
 use denote.Ref.{Bor}
+use Rattle.mst_key.specs.declared.format.Format.{Format}
 use Rattle.mst_command.specs.Commanding.{AsksFor, Ends, EndsWords, IsDevice, IsPlain, NamesShape, Unread, Untouched, status_of, told, asks_replay, asks_verify, verified_words}
 use Rattle.mst_command.specs.Loading.{NamesLoad, RanLoad, asks_load}
 use Rattle.mst_devices.specs.Device.{Breaks}
 use Rattle.mst_command.specs.Programs.{RanScript, RanReplay, RanVerify, Did, Helped, HasBadShape, HasBadRoot, HasBadKey, IsBad, Comes}
 use Rattle.mst_command.specs.declared.task.Task.{Task}
-use Rattle.mst_command.specs.declared.task.Task.TheVariants.{Run, Verify, Replay, Load, Help}
+use Rattle.mst_command.specs.declared.task.Task.TheVariants.{Run, Verify, UnknownFormat, Replay, Load, Help}
 use Rattle.mst_command.specs.declared.task.Ending.{Ending}
 use Rattle.mst_command.specs.declared.task.Ending.TheVariants.{Done}
 use Rattle.mst_command.specs.declared.task.Refusal.{Refusal}
@@ -19,12 +20,13 @@ use Rattle.mst_command.specs.declared.task.Refusal.TheVariants.{Words, NotText, 
 
 module _ {S W : Type 0} (gives : S → List ℕ → S → Type 0) (left : S → ℕ) (takes : W → List ℕ → W → Type 0) (words : List (Bor (List ℕ))) where
   helped : (text : String Global) (s t : S) (w x : W) → AsksFor words (Help text) → takes w (string_bytes text) x → t ≡ s → Helped takes words s w t x
-  helped text s t w x asked taken same = record { asked = asked.0; other = asked.1; text = string_bytes text; taken = taken; unread = same }
+  helped text s t w x asked taken same = record { asked = asked.0; other = asked.1; text = string_bytes text; told = asked.2; taken = taken; unread = same }
 
   pub asked_script : (task : Task) (r : Result Ending Refusal) (s t : S) (w x : W) → AsksFor words task → IfOk r (λ ending. Did gives left takes task s w ending t x) → asks_replay words ≡ false → asks_verify words ≡ None → asks_load words ≡ false →
       OnOk r (((shape : _) × NamesShape words shape × RanScript gives takes shape s w t x × (left t ≡ 0)) ⊎ Helped takes words s w t x)
   asked_script (Run shape) (Ok ending) s t w x asked did is none other = inl (shape, asked.2, did.0, did.1)
-  asked_script (Verify root key) (Ok ending) s t w x asked did is none other = absurd (none-some (root.now, key.now) (sym none ∙ sym asked.1))
+  asked_script (Verify format root key) (Ok ending) s t w x asked did is none other = absurd (none-some (Some format, root.now, key.now) (sym none ∙ sym asked.1))
+  asked_script UnknownFormat (Ok ending) s t w x asked did is none other = absurd did
   asked_script Replay (Ok ending) s t w x asked did is none other = absurd (false≢true (sym (asked.0 ∙ is)))
   asked_script (Load size) (Ok ending) s t w x asked did is none other = absurd (false≢true (sym (asked.3 ∙ other)))
   asked_script (Help text) (Ok ending) s t w x asked did is none other = inr (helped text s t w x asked did.0 did.1)
@@ -33,7 +35,8 @@ module _ {S W : Type 0} (gives : S → List ℕ → S → Type 0) (left : S → 
   pub asked_load : (task : Task) (r : Result Ending Refusal) (s t : S) (w x : W) → AsksFor words task → IfOk r (λ ending. Did gives left takes task s w ending t x) → asks_load words ≡ true →
       OnOk r (((size : _) × NamesLoad words size × RanLoad takes size w x × (t ≡ s)) ⊎ Helped takes words s w t x)
   asked_load (Run shape) (Ok ending) s t w x asked did is = absurd (false≢true (asked.3 ∙ is))
-  asked_load (Verify root key) (Ok ending) s t w x asked did is = absurd (false≢true (asked.3 ∙ is))
+  asked_load (Verify format root key) (Ok ending) s t w x asked did is = absurd (false≢true (asked.3 ∙ is))
+  asked_load UnknownFormat (Ok ending) s t w x asked did is = absurd did
   asked_load Replay (Ok ending) s t w x asked did is = absurd (false≢true (asked.3 ∙ is))
   asked_load (Load size) (Ok ending) s t w x asked did is = inl (size, asked.2, did.0, did.1)
   asked_load (Help text) (Ok ending) s t w x asked did is = inr (helped text s t w x asked did.0 did.1)
@@ -42,7 +45,8 @@ module _ {S W : Type 0} (gives : S → List ℕ → S → Type 0) (left : S → 
   pub asked_replay : (task : Task) (r : Result Ending Refusal) (s t : S) (w x : W) → AsksFor words task → IfOk r (λ ending. Did gives left takes task s w ending t x) → asks_replay words ≡ true →
       OnOk r ((RanReplay gives takes s w t x × (left t ≡ 0)) ⊎ Helped takes words s w t x)
   asked_replay (Run shape) (Ok ending) s t w x asked did is = absurd (false≢true (asked.0 ∙ is))
-  asked_replay (Verify root key) (Ok ending) s t w x asked did is = absurd (false≢true (asked.0 ∙ is))
+  asked_replay (Verify format root key) (Ok ending) s t w x asked did is = absurd (false≢true (asked.0 ∙ is))
+  asked_replay UnknownFormat (Ok ending) s t w x asked did is = absurd did
   asked_replay Replay (Ok ending) s t w x asked did is = inl (did.0, did.1)
   asked_replay (Load size) (Ok ending) s t w x asked did is = absurd (false≢true (asked.0 ∙ is))
   asked_replay (Help text) (Ok ending) s t w x asked did is = inr (helped text s t w x asked did.0 did.1)
@@ -51,7 +55,8 @@ module _ {S W : Type 0} (gives : S → List ℕ → S → Type 0) (left : S → 
   pub asked_verify : (task : Task) (r : Result Ending Refusal) (s t : S) (w x : W) → AsksFor words task → IfOk r (λ ending. Did gives left takes task s w ending t x) →
       IfOk r (λ ending. (named : _) → asks_verify words ≡ Some named → RanVerify gives left takes named s w ending t x ⊎ (Helped takes words s w t x × (ending ≡ Done)))
   asked_verify (Run shape) (Ok ending) s t w x asked did = λ named is. absurd (none-some named (asked.1 ∙ is))
-  asked_verify (Verify root key) (Ok ending) s t w x asked did = λ named is. inl (subst (λ (words : List ℕ × List ℕ). RanVerify gives left takes words s w ending t x) (same_Some (root.now, key.now) named (asked.1 ∙ is)) did)
+  asked_verify (Verify format root key) (Ok ending) s t w x asked did = λ named is. inl (subst (λ (words : Option Format × List ℕ × List ℕ). RanVerify gives left takes words s w ending t x) (same_Some (Some format, root.now, key.now) named (asked.1 ∙ is)) did)
+  asked_verify UnknownFormat (Ok ending) s t w x asked did = absurd did
   asked_verify Replay (Ok ending) s t w x asked did = λ named is. absurd (none-some named (asked.1 ∙ is))
   asked_verify (Load size) (Ok ending) s t w x asked did = λ named is. absurd (none-some named (asked.1 ∙ is))
   asked_verify (Help text) (Ok ending) s t w x asked did = λ named is. inr (helped text s t w x asked did.0 did.1, did.2)
@@ -60,7 +65,8 @@ module _ {S W : Type 0} (gives : S → List ℕ → S → Type 0) (left : S → 
   pub asked_others : (task : Task) (r : Result Ending Refusal) (s t : S) (w x : W) → AsksFor words task → IfOk r (λ ending. Did gives left takes task s w ending t x) →
       IfOk r (λ ending. asks_verify words ≡ None → ending ≡ Done)
   asked_others (Run shape) (Ok ending) s t w x asked did = λ none. did.2
-  asked_others (Verify root key) (Ok ending) s t w x asked did = λ none. absurd (none-some (root.now, key.now) (sym none ∙ sym asked.1))
+  asked_others (Verify format root key) (Ok ending) s t w x asked did = λ none. absurd (none-some (Some format, root.now, key.now) (sym none ∙ sym asked.1))
+  asked_others UnknownFormat (Ok ending) s t w x asked did = absurd did
   asked_others Replay (Ok ending) s t w x asked did = λ none. did.2
   asked_others (Load size) (Ok ending) s t w x asked did = λ none. did.2
   asked_others (Help text) (Ok ending) s t w x asked did = λ none. did.2
@@ -69,7 +75,8 @@ module _ {S W : Type 0} (gives : S → List ℕ → S → Type 0) (left : S → 
 -- words that do not ask for the judging of a proof ask for another task
 pub not_verified : (words : List (Bor (List ℕ))) (task : Task) → AsksFor words task → asks_verify words ≡ None → verified_words task ≡ None
 not_verified words (Run shape) asked none = refl
-not_verified words (Verify root key) asked none = asked.1 ∙ none
+not_verified words (Verify format root key) asked none = asked.1 ∙ none
+not_verified words UnknownFormat asked none = refl
 not_verified words Replay asked none = refl
 not_verified words (Load size) asked none = refl
 not_verified words (Help text) asked none = refl
@@ -117,8 +124,10 @@ not_bad task r shape root key a b c = λ bad. elim bad [
 no_words : (task : Task) (why : Refusal) → Ends task why → EndsOfWords why → ⊥
 no_words (Run shape) (Words text) ends of = ends
 no_words (Run shape) NotText ends of = ends
-no_words (Verify root key) (Words text) ends of = ends
-no_words (Verify root key) NotText ends of = ends
+no_words (Verify format root key) (Words text) ends of = ends
+no_words (Verify format root key) NotText ends of = ends
+no_words UnknownFormat (Words text) ends of = ends
+no_words UnknownFormat NotText ends of = ends
 no_words Replay (Words text) ends of = ends
 no_words Replay NotText ends of = ends
 no_words (Load size) (Words text) ends of = ends
@@ -181,9 +190,9 @@ module _ {E : Type 0} (takes : E → List ℕ → E → Type 0) (failures : E �
     | inr rose ↦ λ is. absurd (omega (arith, is, rose.1))
   ]
 
-  pub stopped_early : {P : Type 0} → (why ≡ Device → P) → (failures e < failures f → Breaks takes e [] (told why) f) → n ≡ 3 →
-      ((failures e < failures f) × ((it : Refusal) × Breaks takes e [] (told it) f)) ⊎ (P × takes e (told Device) f)
-  stopped_early {P} task broke = elim failed as (λ x. n ≡ 3 → ((failures e < failures f) × ((it : Refusal) × Breaks takes e [] (told it) f)) ⊎ (P × takes e (told Device) f)) [
+  pub stopped_early : {P : Type 0} → (Q : Refusal → Type 0) → (why ≡ Device → P) → Q why → (failures e < failures f → Breaks takes e [] (told why) f) → n ≡ 3 →
+      ((failures e < failures f) × ((it : Refusal) × Breaks takes e [] (told it) f × Q it)) ⊎ (P × takes e (told Device) f)
+  stopped_early {P} Q task ended broke = elim failed as (λ x. n ≡ 3 → ((failures e < failures f) × ((it : Refusal) × Breaks takes e [] (told it) f × Q it)) ⊎ (P × takes e (told Device) f)) [
     | inl same ↦ λ is. let d : why ≡ Device = only_device why (sym (status same) ∙ is) in inr (task d, subst (λ (w : Refusal). takes e (told w) f) d (said same))
-    | inr rose ↦ λ is. inl (rose.0, (why, broke rose.0))
+    | inr rose ↦ λ is. inl (rose.0, (why, broke rose.0, ended))
   ]

@@ -1,7 +1,7 @@
 -- One read after those that are kept.
 use Rattle.std.proofs.Common.{◌≡◌, ℕ, ◌-◌, ◌<◌, ◌≤◌, List, ◌++◌, length, take, arith, ap, subst, ◌∙◌, append-nil, length-append, length-take}
 use Rattle.mst_devices.specs.Device.{Gave}
-use Rattle.mst_command.specs.Reading.{GaveAll, GaveMore}
+use Rattle.mst_command.specs.Reading.{GaveAll, GaveMore, piece}
 
 module _ {S : Type 0} (gives : S → List ℕ → S → Type 0) (more : (s t u : S) (xs ys : List ℕ) → gives s xs t → gives t ys u → gives s (xs ++ ys) u) (left : S → ℕ) where
   pub at_end : (most : ℕ) (s t u : S) (bytes buffer : List ℕ) (n : ℕ) → gives s bytes t → length bytes ≤ most → Gave gives left t buffer n u → n ≡ 0 → GaveAll gives left most s bytes u
@@ -11,9 +11,10 @@ module _ {S : Type 0} (gives : S → List ℕ → S → Type 0) (more : (s t u :
     within = within;
   }
 
-  pub beyond : (most : ℕ) (s t u : S) (bytes buffer : List ℕ) (n : ℕ) → gives s bytes t → Gave gives left t buffer n u → most - length bytes < n → GaveMore gives most s u
-  beyond most s t u bytes buffer n given last large = record {
+  pub beyond : (most : ℕ) (s t u : S) (bytes buffer : List ℕ) (n : ℕ) → gives s bytes t → length bytes ≤ most → Gave gives left t buffer n u → n ≤ piece → most - length bytes < n → GaveMore gives most s u
+  beyond most s t u bytes buffer n given within last few large = record {
     bytes = bytes ++ take n buffer;
     given = more s t u bytes (take n buffer) given last.given;
     beyond = omega (arith, large, last.within, length-append bytes (take n buffer), length-take n buffer);
+    within = omega (arith, within, few, last.within, length-append bytes (take n buffer), length-take n buffer);
   }

@@ -1,6 +1,6 @@
 -- Words of a plain form.
 use Rattle.std.proofs.Common.{◌≡◌, inl, inr, ℕ, ◌<◌, ◌^◌, Bool, true, false, List, [], ◌∷◌, Option, Some, None, Result, IfSome, IfNone, refl, sym, ap, subst, ◌∙◌, arith, codes, decimal}
-use Rattle.std.specs.Prelude.{if◌then◌else◌}
+use Rattle.std.specs.Prelude.{◌&&◌, if◌then◌else◌}
 use Rattle.std.specs.Str.{bytes_eq}
 use Rattle.std.specs.Result.{result_ok}
 use Rattle.std.specs.Str.Parse.{ParsesUnsigned}
@@ -9,15 +9,32 @@ use Rattle.std.proofs.lemmas.Fmt.{parse-decimal}
 use Rattle.std.proofs.lemmas.Option.{none-some, same_Some}
 use Rattle.std.proofs.lemmas.Slice.Eq.{bytes_eq-Decides}
 use denote.Ref.{Bor}
-use Rattle.mst_words.specs.declared.view.Shape.{Shape}
-use Rattle.mst_command.specs.Commanding.{AsksFor, IsPlain, IsRunOf, IsShapeIn, NamesShape, asks_replay, asks_run, asks_verify, is_plain_replay, is_plain_verify, options_of, root_and_key}
+use Rattle.mst_key.specs.declared.format.Format.{Format}
+use Rattle.mst_command.specs.Options.{format_named, operand_at}
+use Rattle.mst_command.specs.Commanding.{AsksFor, IsPlain, IsRunOf, IsSizeIn, NamesSize, are_plain_options, asks_replay, asks_run, asks_verify, format_in, is_plain_replay, is_plain_verify, value_or}
+use Rattle.mst_command.specs.declared.task.Size.{Size}
 use Rattle.mst_command.specs.declared.task.Load.{Load as LoadSize}
 use Rattle.mst_command.specs.Loading.{IsLoadIn, IsLoadOf, NamesLoad, asks_load, load_options_of, load_words}
 use Rattle.mst_command.specs.declared.task.Task.{Task}
-use Rattle.mst_command.specs.declared.task.Task.TheVariants.{Run, Verify, Replay, Load}
+use Rattle.mst_command.specs.declared.task.Task.TheVariants.{Run, Verify, UnknownFormat, Replay, Load}
 
 abbrev Word : Type 0
 Word = Bor (List ℕ)
+
+-- the format, and the words for the root digest and the key
+abbrev Proof : Type 0
+Proof = Option Format × List ℕ × List ℕ
+
+-- what the words behind `verify` name
+abbrev proof_of : List Word → Proof
+proof_of words = (format_named words, operand_at 0 words, operand_at 1 words)
+
+abbrev Sizes : Type 0
+Sizes = List ℕ × List ℕ
+
+-- the words for the size behind `run`
+abbrev sizes_of : List Word → Sizes
+sizes_of words = (value_or (codes "1024") (codes "--rows") words, value_or (codes "4") (codes "--passes") words)
 
 pub parsed : {E : Type 0} (n : ℕ) (word : List ℕ) (r : Result ℕ E) → ParsesUnsigned 32 10 word r → word ≡ decimal n → n < 2 ^ 32 → result_ok r ≡ Some n
 parsed n word r h is few = ap result_ok (parse-decimal 32 n word r few (omega (arith, few)) is h)
@@ -25,45 +42,68 @@ parsed n word r h is few = ap result_ok (parse-decimal 32 n word r few (omega (a
 pub ap_decimal : (m n : ℕ) → m ≡ n → decimal m ≡ decimal n
 ap_decimal m n e = ap decimal e
 
-pub found : (r p : Option ℕ) (rows passes : ℕ) (shape : Shape) → r ≡ Some rows → p ≡ Some passes → r ≡ Some shape.rows → p ≡ Some shape.passes → (let it : Shape = record { rows = rows; passes = passes } in Some it) ≡ Some shape
-found r p rows passes shape a b c d =
-    let e : rows ≡ shape.rows = same_Some rows shape.rows (sym a ∙ c) in
-    let f : passes ≡ shape.passes = same_Some passes shape.passes (sym b ∙ d) in
+pub found : (r p : Option ℕ) (rows passes : ℕ) (size : Size) → r ≡ Some rows → p ≡ Some passes → r ≡ Some size.rows → p ≡ Some size.passes → (let it : Size = record { rows = rows; passes = passes } in Some it) ≡ Some size
+found r p rows passes size a b c d =
+    let e : rows ≡ size.rows = same_Some rows size.rows (sym a ∙ c) in
+    let f : passes ≡ size.passes = same_Some passes size.passes (sym b ∙ d) in
     λ i. Some (record { rows = e i; passes = f i })
 
-pub run_some : (words : List Word) (named : List ℕ × List ℕ) (r : Option Shape) → asks_run words ≡ Some named → IfSome r (λ shape. IsShapeIn named shape) → IfSome r (λ shape. IsRunOf words shape)
+pub run_some : (words : List Word) (named : List ℕ × List ℕ) (r : Option Size) → asks_run words ≡ Some named → IfSome r (λ size. IsSizeIn named size) → IfSome r (λ size. IsRunOf words size)
 run_some words named None is h = tt
-run_some words named (Some shape) is h = (named, is, h)
+run_some words named (Some size) is h = (named, is, h)
 
-pub run_only : (words : List Word) (named : List ℕ × List ℕ) (shape : Shape) (r : Option Shape) → asks_run words ≡ Some named → ((it : Shape) → IsShapeIn named it → r ≡ Some it) → IsRunOf words shape → r ≡ Some shape
-run_only words named shape r is only of = only shape (subst (λ (n : List ℕ × List ℕ). IsShapeIn n shape) (same_Some of.0 named (sym of.1 ∙ is)) of.2)
+pub run_only : (words : List Word) (named : List ℕ × List ℕ) (size : Size) (r : Option Size) → asks_run words ≡ Some named → ((it : Size) → IsSizeIn named it → r ≡ Some it) → IsRunOf words size → r ≡ Some size
+run_only words named size r is only of = only size (subst (λ (n : List ℕ × List ℕ). IsSizeIn n size) (same_Some of.0 named (sym of.1 ∙ is)) of.2)
 
-pub run_none : (words : List Word) (shape : Shape) → asks_run words ≡ None → IsRunOf words shape → ⊥
-run_none words shape is of = none-some of.0 (sym is ∙ of.1)
+pub run_none : (words : List Word) (size : Size) → asks_run words ≡ None → IsRunOf words size → ⊥
+run_none words size is of = none-some of.0 (sym is ∙ of.1)
 
 by_name : {T : Type 0} (name word : List ℕ) (x : Option T) (y : T) (b : Bool) → bytes_eq name word ≡ b → (if b then x else None) ≡ Some y → name ≡ word
 by_name name word x y true is e = (bytes_eq-Decides name word).0 is
 by_name name word x y false is e = absurd (none-some y e)
 
-run_named : (words : List Word) (named : List ℕ × List ℕ) → asks_run words ≡ Some named → (false ≡ asks_replay words) × (None ≡ asks_verify words) × (false ≡ asks_load words)
+by_name_and : {T : Type 0} (name word : List ℕ) (x : Option T) (y : T) (a b : Bool) → bytes_eq name word ≡ a → (if a && b then x else None) ≡ Some y → name ≡ word
+by_name_and name word x y true b is e = (bytes_eq-Decides name word).0 is
+by_name_and name word x y false b is e = absurd (none-some y e)
+
+-- words of no replay, no proof and no load
+abbrev IsScript : List Word → Type 0
+IsScript words = (asks_replay words ≡ false) × (asks_verify words ≡ None) × (asks_load words ≡ false)
+
+run_named : (words : List Word) (named : List ℕ × List ℕ) → asks_run words ≡ Some named → IsScript words
 run_named [] named is = absurd (none-some named is)
 run_named (program ∷ []) named is = absurd (none-some named is)
 run_named (program ∷ name ∷ words) named is =
-    let e : name.now ≡ codes "run" = by_name name.now (codes "run") (options_of words) named (bytes_eq name.now (codes "run")) refl is in (
-      subst (λ (n : List ℕ). false ≡ bytes_eq n (codes "replay")) (sym e) refl,
-      subst (λ (n : List ℕ). None ≡ (if bytes_eq n (codes "verify") then Some (root_and_key (program ∷ name ∷ words)) else None)) (sym e) refl,
-      subst (λ (n : List ℕ). false ≡ bytes_eq n (codes "load")) (sym e) refl,
+    let e : name.now ≡ codes "run" = by_name_and name.now (codes "run") (Some (sizes_of words)) named (bytes_eq name.now (codes "run")) (are_plain_options words) refl is in (
+      subst (λ (n : List ℕ). bytes_eq n (codes "replay") ≡ false) (sym e) refl,
+      subst (λ (n : List ℕ). (if bytes_eq n (codes "verify") then Some (proof_of words) else None) ≡ None) (sym e) refl,
+      subst (λ (n : List ℕ). bytes_eq n (codes "load") ≡ false) (sym e) refl,
     )
 
-pub run_asked : (words : List Word) (shape : Shape) (r : Option Shape) → r ≡ Some shape → IsRunOf words shape → ((it : Shape) → IsRunOf words it → r ≡ Some it) → AsksFor words (Run shape)
-run_asked words shape r is of only = let n = run_named words of.0 of.1 in (n.0, n.1, (λ other named. same_Some other shape (sym (only other named) ∙ is)), n.2)
+-- what plain words of a script name
+
+module _ (words : List Word) (size : Size) (of : IsRunOf words size) where
+  pub run_replay : asks_replay words ≡ false
+  run_replay = (run_named words of.0 of.1).0
+
+  pub run_verify : asks_verify words ≡ None
+  run_verify = (run_named words of.0 of.1).1
+
+  pub run_load : asks_load words ≡ false
+  run_load = (run_named words of.0 of.1).2
+
+pub run_size : (words : List Word) (size : Size) (r : Option Size) → r ≡ Some size → ((it : Size) → IsRunOf words it → r ≡ Some it) → NamesSize words size
+run_size words size r is only = λ other named. same_Some other size (sym (only other named) ∙ is)
+
+pub script_asked : (words : List Word) (size : Size) (format : Format) → asks_replay words ≡ false → asks_verify words ≡ None → asks_load words ≡ false → NamesSize words size → format_in words ≡ Some format → AsksFor words (Run (record { rows = size.rows; passes = size.passes; format = format }))
+script_asked words size format replay verify load names is = (sym replay, sym verify, record { format = is; size = names }, sym load)
 
 pub replay_asked : (words : List Word) → true ≡ is_plain_replay words → AsksFor words Replay
 replay_asked [] is = absurd (false≢true (sym is))
 replay_asked (program ∷ []) is = absurd (false≢true (sym is))
 replay_asked (program ∷ name ∷ []) is =
     let e : name.now ≡ codes "replay" = (bytes_eq-Decides name.now (codes "replay")).0 (sym is) in
-    (is, subst (λ (n : List ℕ). None ≡ (if bytes_eq n (codes "verify") then Some (root_and_key (program ∷ name ∷ [])) else None)) (sym e) refl, tt, subst (λ (n : List ℕ). false ≡ bytes_eq n (codes "load")) (sym e) refl)
+    (is, subst (λ (n : List ℕ). None ≡ (if bytes_eq n (codes "verify") then Some (proof_of []) else None)) (sym e) refl, tt, subst (λ (n : List ℕ). false ≡ bytes_eq n (codes "load")) (sym e) refl)
 replay_asked (program ∷ name ∷ more ∷ words) is = absurd (false≢true (sym is))
 
 pub replay_named : (words : List Word) → true ≡ asks_replay words → AsksFor words Replay
@@ -71,14 +111,51 @@ replay_named [] is = absurd (false≢true (sym is))
 replay_named (program ∷ []) is = absurd (false≢true (sym is))
 replay_named (program ∷ name ∷ words) is =
     let e : name.now ≡ codes "replay" = (bytes_eq-Decides name.now (codes "replay")).0 (sym is) in
-    (is, subst (λ (n : List ℕ). None ≡ (if bytes_eq n (codes "verify") then Some (root_and_key (program ∷ name ∷ words)) else None)) (sym e) refl, tt, subst (λ (n : List ℕ). false ≡ bytes_eq n (codes "load")) (sym e) refl)
+    (is, subst (λ (n : List ℕ). None ≡ (if bytes_eq n (codes "verify") then Some (proof_of words) else None)) (sym e) refl, tt, subst (λ (n : List ℕ). false ≡ bytes_eq n (codes "load")) (sym e) refl)
 
-pub verify_asked : (words : List Word) (root key : Word) → asks_verify words ≡ Some (root.now, key.now) → AsksFor words (Verify root key)
-verify_asked [] root key is = absurd (none-some (root.now, key.now) is)
-verify_asked (program ∷ []) root key is = absurd (none-some (root.now, key.now) is)
-verify_asked (program ∷ name ∷ words) root key is =
-    let e : name.now ≡ codes "verify" = by_name name.now (codes "verify") (Some (root_and_key (program ∷ name ∷ words))) (root.now, key.now) (bytes_eq name.now (codes "verify")) refl is in
-    (subst (λ (n : List ℕ). false ≡ bytes_eq n (codes "replay")) (sym e) refl, sym is, tt, subst (λ (n : List ℕ). false ≡ bytes_eq n (codes "load")) (sym e) refl)
+by_value : {T : Type 0} (x y : T) (b : Bool) → (if b then Some x else None) ≡ Some y → x ≡ y
+by_value x y true e = same_Some x y e
+by_value x y false e = absurd (none-some y e)
+
+verify_named : (words : List Word) (named : Proof) → asks_verify words ≡ Some named → (asks_replay words ≡ false) × (asks_load words ≡ false) × (format_in words ≡ named.0)
+verify_named [] named is = absurd (none-some named is)
+verify_named (program ∷ []) named is = absurd (none-some named is)
+verify_named (program ∷ name ∷ words) named is =
+    let e : name.now ≡ codes "verify" = by_name name.now (codes "verify") (Some (proof_of words)) named (bytes_eq name.now (codes "verify")) refl is in (
+      subst (λ (n : List ℕ). bytes_eq n (codes "replay") ≡ false) (sym e) refl,
+      subst (λ (n : List ℕ). bytes_eq n (codes "load") ≡ false) (sym e) refl,
+      ap (λ (t : Proof). t.0) (by_value (proof_of words) named (bytes_eq name.now (codes "verify")) is),
+    )
+
+pub verify_asked : (words : List Word) (format : Format) (root key : Word) → asks_verify words ≡ Some (Some format, root.now, key.now) → AsksFor words (Verify format root key)
+verify_asked words format root key is = let n = verify_named words (Some format, root.now, key.now) is in (sym n.0, sym is, tt, sym n.1)
+
+pub unknown_asked : (words : List Word) (root key : List ℕ) → asks_verify words ≡ Some (None, root, key) → AsksFor words UnknownFormat
+unknown_asked words root key is = verify_named words (None, root, key) is
+
+left_true : (a b : Bool) → (a && b) ≡ true → a ≡ true
+left_true true b is = refl
+left_true false b is = is
+
+some_if : {T : Type 0} (x : T) (b : Bool) → b ≡ true → (if b then Some x else None) ≡ None → ⊥
+some_if x true is e = none-some x (sym e)
+some_if x false is e = false≢true is
+
+plain_verifies : (words : List Word) → is_plain_verify words ≡ true → asks_verify words ≡ None → ⊥
+plain_verifies (program ∷ name ∷ root ∷ key ∷ []) is none =
+    some_if (proof_of (root ∷ key ∷ [])) (bytes_eq name.now (codes "verify")) (left_true _ _ is) none
+plain_verifies (program ∷ name ∷ option ∷ format ∷ root ∷ key ∷ []) is none =
+    some_if (proof_of (option ∷ format ∷ root ∷ key ∷ [])) (bytes_eq name.now (codes "verify")) (left_true _ _ is) none
+plain_verifies [] is none = false≢true is
+plain_verifies (a ∷ []) is none = false≢true is
+plain_verifies (a ∷ b ∷ []) is none = false≢true is
+plain_verifies (a ∷ b ∷ c ∷ []) is none = false≢true is
+plain_verifies (a ∷ b ∷ c ∷ d ∷ e ∷ []) is none = false≢true is
+plain_verifies (a ∷ b ∷ c ∷ d ∷ e ∷ f ∷ g ∷ words) is none = false≢true is
+
+pub not_plain_verify : (words : List Word) (r : Option Task) → is_plain_verify words ≡ true → IfNone r (asks_verify words ≡ None) → IfNone r (is_plain_verify words ≡ false)
+not_plain_verify words None is none = absurd (plain_verifies words is none)
+not_plain_verify words (Some task) is none = tt
 
 -- a plain load
 
@@ -109,7 +186,7 @@ load_named (program ∷ []) named is = absurd (none-some named is)
 load_named (program ∷ name ∷ words) named is =
     let e : name.now ≡ codes "load" = by_name name.now (codes "load") (load_options_of words) named (bytes_eq name.now (codes "load")) refl is in (
       subst (λ (n : List ℕ). false ≡ bytes_eq n (codes "replay")) (sym e) refl,
-      subst (λ (n : List ℕ). None ≡ (if bytes_eq n (codes "verify") then Some (root_and_key (program ∷ name ∷ words)) else None)) (sym e) refl,
+      subst (λ (n : List ℕ). None ≡ (if bytes_eq n (codes "verify") then Some (proof_of words) else None)) (sym e) refl,
       subst (λ (n : List ℕ). true ≡ bytes_eq n (codes "load")) (sym e) refl,
     )
 
@@ -121,7 +198,7 @@ pub plain_none : (words : List Word) (r : Option Task) → ((size : LoadSize) �
 plain_none words None load h = (h.0, h.1, load)
 plain_none words (Some task) load h = tt
 
-pub not_plain : (words : List Word) → ((shape : Shape) → IsRunOf words shape → ⊥) → (is_plain_replay words ≡ false) → (is_plain_verify words ≡ false) → ((size : LoadSize) → ¬ (IsLoadOf words size)) → ¬ (IsPlain words)
+pub not_plain : (words : List Word) → ((size : Size) → IsRunOf words size → ⊥) → (is_plain_replay words ≡ false) → (is_plain_verify words ≡ false) → ((size : LoadSize) → ¬ (IsLoadOf words size)) → ¬ (IsPlain words)
 not_plain words run replay verify load = λ plain. elim plain [
   | inl of ↦ run of.0 of.1
   | inr (inl is) ↦ false≢true (sym replay ∙ is)
@@ -129,13 +206,13 @@ not_plain words run replay verify load = λ plain. elim plain [
   | inr (inr (inr of)) ↦ load of.0 of.1
 ]
 
-pub other_plain : (words : List Word) (r : Option Task) → ((shape : Shape) → IsRunOf words shape → ⊥) → IfNone r ((is_plain_replay words ≡ false) × (is_plain_verify words ≡ false) × ((size : LoadSize) → ¬ (IsLoadOf words size))) → IfNone r (¬ (IsPlain words))
+pub other_plain : (words : List Word) (r : Option Task) → ((size : Size) → IsRunOf words size → ⊥) → IfNone r ((is_plain_replay words ≡ false) × (is_plain_verify words ≡ false) × ((size : LoadSize) → ¬ (IsLoadOf words size))) → IfNone r (¬ (IsPlain words))
 other_plain words None run h = not_plain words run h.0 h.1 h.2
 other_plain words (Some task) run h = tt
 
 -- words of no plain form name no size
-pub no_shape : (words : List Word) (shape : Shape) → ¬ (IsPlain words) → NamesShape words shape
-no_shape words shape other = λ it of. absurd (other (inl (it, of)))
+pub no_size : (words : List Word) (size : Size) → ¬ (IsPlain words) → NamesSize words size
+no_size words size other = λ it of. absurd (other (inl (it, of)))
 
 -- and no numbers of a load
 pub no_load : (words : List Word) (size : LoadSize) → ¬ (IsPlain words) → NamesLoad words size

@@ -1,4 +1,5 @@
 pub mod Loading
+pub mod Options
 pub mod Commanding
 pub mod Recalling
 pub mod Reading

@@ -1,5 +1,5 @@
 -- What the programs read and wrote.
-use Rattle.std.specs.Prelude.{◌≡◌, ◌<◌, ◌⊎◌, ℕ, if◌then◌else◌, List, [], length, Some, None, IsSome, string_bytes}
+use Rattle.std.specs.Prelude.{◌≡◌, ◌<◌, ◌≤◌, ◌+◌, ◌⊎◌, ℕ, if◌then◌else◌, List, [], length, Option, Some, None, IsSome, string_bytes}
 use Rattle.mst_words.specs.declared.view.Shape.{Shape}
 use Rattle.mst_store.specs.Passes.{StoreId, HasShape, IsShape}
 use Rattle.mst_replay.specs.declared.Replay.{Replay}
@@ -7,18 +7,20 @@ use Rattle.mst_replay.specs.Replay.{core_state}
 use Rattle.mst_devices.specs.Device.{Breaks, Flow}
 use Rattle.mst_script.specs.Machine.{Machine, Line, with_no_pins}
 use Rattle.mst_lines.specs.Runs.{Ran, Stopped}
+use Rattle.mst_key.specs.declared.format.Format.{Format}
 use Rattle.mst_verify.specs.declared.report.Report.{Report}
 use Rattle.mst_verify.specs.Words.{root_of, key_of}
 use Rattle.mst_verify.specs.Report.{limit, report_of, line_of, is_refusal}
 use Rattle.mst_command.specs.declared.task.Task.{Task}
-use Rattle.mst_command.specs.declared.task.Task.TheVariants.{Run, Verify, Replay as TaskReplay, Load, Help}
+use Rattle.mst_command.specs.declared.task.Task.TheVariants.{Run, Verify, UnknownFormat, Replay as TaskReplay, Load, Help}
 use Rattle.mst_command.specs.declared.task.Ending.{Ending}
 use Rattle.mst_command.specs.declared.task.Ending.TheVariants.{Done, ProofRefused}
 use denote.Ref.{Bor}
 use Rattle.mst_command.specs.declared.task.Refusal.{Refusal}
 use Rattle.mst_command.specs.declared.task.Refusal.TheVariants.{Words, NotText, Shape as BadShape, BadRoot, BadKey, Device, Memory}
-use Rattle.mst_command.specs.Commanding.{AskText, AsksFor, IsPlain}
+use Rattle.mst_command.specs.Commanding.{AskText, AsksFor, IsPlain, IsTold, Unread, Untouched, asks_verify}
 use Rattle.mst_command.specs.Loading.{IsLoadSize, RanLoad, BrokeLoad}
+use Rattle.mst_command.specs.Reading.{piece}
 use Rattle.mst_command.specs.Recalling.{Recalls}
 
 -- how the program ends that said this
@@ -26,10 +28,11 @@ abbrev pub ending_of : Report → Ending
 ending_of report = if is_refusal report then ProofRefused else Done
 
 -- The source gave a script, and the sink took what the script machine answers its lines, from the
--- empty history on and with nothing pinned, over a store of this size.
+-- empty history on and with nothing pinned, over a store of this size, which is within the limits.
 pub record RanScript {S W : Type 0}
     (gives : Flow S) (takes : Flow W) (shape : Shape)
     (s : S) (w : W) (t : S) (x : W) : Type 0 where
+  pub fits : IsShape shape
   pub store : StoreId
   pub size : HasShape shape store
   pub last : Machine
@@ -39,6 +42,7 @@ pub record RanScript {S W : Type 0}
 pub record BrokeScript {S W : Type 0}
     (gives : Flow S) (takes : Flow W) (failures : W → ℕ) (shape : Shape)
     (s : S) (w : W) (t : S) (x : W) : Type 0 where
+  pub fits : IsShape shape
   pub store : StoreId
   pub size : HasShape shape store
   pub last : Machine
@@ -63,39 +67,47 @@ pub record BrokeReplay {S W : Type 0}
   pub fresh : core_state before ≡ None
   pub stopped : Stopped gives takes failures Recalls s w before t x after
 
--- This is said of the text that the source gave, up to its end or beyond the limit.
+-- This is said of the text that the source gave, up to its end or beyond the limit by a piece of
+-- what is read at a time.
 pub record IsSaid {S : Type 0}
-    (gives : Flow S) (left : S → ℕ) (root key : List ℕ)
+    (gives : Flow S) (left : S → ℕ) (format : Format) (root key : List ℕ)
     (s : S) (report : Report) (t : S) : Type 0 where
   pub text : List ℕ
   pub given : gives s text t
-  pub whole : (left t ≡ 0) ⊎ (limit < length text)
-  pub said : report ≡ report_of root key text
+  pub whole : ((left t ≡ 0) × (length text ≤ limit))
+      ⊎ ((limit < length text) × (length text ≤ limit + piece))
+  pub said : report ≡ report_of format root key text
 
--- The sink took what is said of the text that the source gave, for the root digest and the key that
--- two words spell.
+-- The sink took what is said of the text that the source gave, in the format that is named and for
+-- the root digest and the key that two words spell.
 pub record RanVerify {S W : Type 0}
-    (gives : Flow S) (left : S → ℕ) (takes : Flow W) (words : List ℕ × List ℕ)
+    (gives : Flow S) (left : S → ℕ) (takes : Flow W)
+    (words : Option Format × List ℕ × List ℕ)
     (s : S) (w : W) (ending : Ending) (t : S) (x : W) : Type 0 where
+  pub format : Format
   pub root : List ℕ
   pub key : List ℕ
-  pub root_is : root_of words.0 ≡ Some root
-  pub key_is : key_of words.1 ≡ Some key
+  pub format_is : words.0 ≡ Some format
+  pub root_is : root_of words.1 ≡ Some root
+  pub key_is : key_of words.2 ≡ Some key
   pub report : Report
-  pub said : IsSaid gives left root key s report t
+  pub said : IsSaid gives left format root key s report t
   pub ending_is : ending ≡ ending_of report
   pub taken : takes w (line_of report) x
 
 -- The same, where the sink failed: it took a beginning of what is said.
 pub record BrokeVerify {S W : Type 0}
-    (gives : Flow S) (left : S → ℕ) (takes : Flow W) (words : List ℕ × List ℕ)
+    (gives : Flow S) (left : S → ℕ) (takes : Flow W)
+    (words : Option Format × List ℕ × List ℕ)
     (s : S) (w : W) (t : S) (x : W) : Type 0 where
+  pub format : Format
   pub root : List ℕ
   pub key : List ℕ
-  pub root_is : root_of words.0 ≡ Some root
-  pub key_is : key_of words.1 ≡ Some key
+  pub format_is : words.0 ≡ Some format
+  pub root_is : root_of words.1 ≡ Some root
+  pub key_is : key_of words.2 ≡ Some key
   pub report : Report
-  pub said : IsSaid gives left root key s report t
+  pub said : IsSaid gives left format root key s report t
   pub breaks : Breaks takes w [] (line_of report) x
 
 -- From the one state of the source and the sink to the other the task was done, and ended so.
@@ -103,8 +115,9 @@ abbrev pub Did : {S W : Type 0} → Flow S → (S → ℕ) → Flow W
     → Task → S → W → Ending → S → W → Type 0
 Did gives left takes (Run shape) s w ending t x =
     RanScript gives takes shape s w t x × (left t ≡ 0) × (ending ≡ Done)
-Did gives left takes (Verify root key) s w ending t x =
-    RanVerify gives left takes (root.now, key.now) s w ending t x
+Did gives left takes (Verify format root key) s w ending t x =
+    RanVerify gives left takes (Some format, root.now, key.now) s w ending t x
+Did gives left takes UnknownFormat s w ending t x = ⊥
 Did gives left takes TaskReplay s w ending t x =
     RanReplay gives takes s w t x × (left t ≡ 0) × (ending ≡ Done)
 Did gives left takes (Load size) s w ending t x = RanLoad takes size w x × (t ≡ s) × (ending ≡ Done)
@@ -115,38 +128,42 @@ Did gives left takes (Help text) s w ending t x =
 abbrev pub Broke : {S W : Type 0} → Flow S → (S → ℕ) → Flow W → (W → ℕ)
     → Task → S → W → S → W → Type 0
 Broke gives left takes failures (Run shape) s w t x = BrokeScript gives takes failures shape s w t x
-Broke gives left takes failures (Verify root key) s w t x =
-    (x ≡ w) ⊎ BrokeVerify gives left takes (root.now, key.now) s w t x
+Broke gives left takes failures (Verify format root key) s w t x =
+    (x ≡ w) ⊎ BrokeVerify gives left takes (Some format, root.now, key.now) s w t x
+Broke gives left takes failures UnknownFormat s w t x = ⊥
 Broke gives left takes failures TaskReplay s w t x = BrokeReplay gives takes failures s w t x
 Broke gives left takes failures (Load size) s w t x = BrokeLoad takes size w x × (t ≡ s)
 Broke gives left takes failures (Help text) s w t x =
     Breaks takes w [] (string_bytes text) x × (t ≡ s)
 
--- A text of the words was written, for which some word of no plain form asked, and nothing was
--- read.
+-- A text was written that the words may be told, for which some word of no plain form asked, and
+-- nothing was read.
 pub record Helped {S W : Type 0}
     (takes : Flow W) (words : List (Bor (List ℕ)))
     (s : S) (w : W) (t : S) (x : W) : Type 0 where
   pub asked : AskText words
   pub other : ¬ (IsPlain words)
   pub text : List ℕ
+  pub told : IsTold words text
   pub taken : takes w text x
   pub unread : t ≡ s
 
--- a task over a store that cannot have its size, or a load that cannot have its numbers
+-- a task over a store that cannot have its size, in a format that there is not, or a load that
+-- cannot have its numbers
 abbrev pub HasBadShape : Task → Type 0
 HasBadShape (Run shape) = ¬ (IsShape shape)
+HasBadShape UnknownFormat = Unit {0}
 HasBadShape (Load size) = ¬ (IsLoadSize size)
 HasBadShape _ = ⊥
 
 -- a task whose word for the root digest spells none
 abbrev pub HasBadRoot : Task → Type 0
-HasBadRoot (Verify root key) = root_of root.now ≡ None
+HasBadRoot (Verify format root key) = root_of root.now ≡ None
 HasBadRoot _ = ⊥
 
 -- a task whose word for the root digest spells one, and whose word for the key spells none
 abbrev pub HasBadKey : Task → Type 0
-HasBadKey (Verify root key) = IsSome (root_of root.now) × (key_of key.now ≡ None)
+HasBadKey (Verify format root key) = IsSome (root_of root.now) × (key_of key.now ≡ None)
 HasBadKey _ = ⊥
 
 -- a task that is refused before anything is read
@@ -164,3 +181,16 @@ Comes words BadRoot = (task : Task) × AsksFor words task × HasBadRoot task
 Comes words BadKey = (task : Task) × AsksFor words task × HasBadKey task
 Comes words Device = Unit {0}
 Comes words Memory = IsPlain words → (task : Task) × AsksFor words task × ¬ (IsBad task)
+
+-- The program ended early for a reason that comes for the words: what was read and what the sink
+-- took then, and where a device failed, by which task.
+pub record EndedEarly {S W : Type 0}
+    (gives : Flow S) (left : S → ℕ) (takes : Flow W) (failures : W → ℕ)
+    (words : List (Bor (List ℕ))) (why : Refusal)
+    (s : S) (w : W) (t : S) (x : W) : Type 0 where
+  pub comes : Comes words why
+  pub unread : Unread why s t
+  pub untouched : asks_verify words ≡ None → Untouched why s t
+  pub unwritten : Untouched why w x
+  pub broke : why ≡ Device → (task : Task) × AsksFor words task
+      × Broke gives left takes failures task s w t x

@@ -23,7 +23,8 @@ fn append<A: Allocator>(bytes: &mut Vec<u8, A>, more: &[u8], most: usize) -> Res
 }
 
 /// All bytes that the source gives, or `None` where they are more than `most`; then it is not read
-/// to its end. The memory grows with what is read, up to `most` bytes.
+/// to its end, but by one piece of 4,096 bytes at most beyond that number. The memory grows with
+/// what is read, up to `most` bytes.
 ///
 /// `Device` comes where a read failed, and `Memory` where a growth was refused.
 pub fn read_up_to<S: Source, A: Allocator>(

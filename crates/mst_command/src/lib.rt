@@ -4,7 +4,7 @@
 //! ```
 //! let mut source = BytesSource::new(b"1 put 616263 78\n2 get 616263\n");
 //! let mut out = BytesSink::new(alloc, 100)?;
-//! let Some(task) = plain_task(&["mst", "run", "--passes", "2"]) else { .. };
+//! let Some(task) = plain_task(&["mst", "run", "--format", "2"]) else { .. };
 //! match execute(&rt, alloc, task, &Open, &mut source, &mut out) {
 //!     Ok(ending) => ..    // Done, and out has "none\nsome 78\n"
 //!     Err(why) => ..      // complain(&why, &mut err) says why, and answers the exit status
@@ -14,7 +14,7 @@
 //! [`plain_task`] reads words of a plain form, where each option stands once and in full, and
 //! [`execute`] does a task: it answers a script, judges a proof, replays the core of pins, runs a
 //! load, or writes a text. `specs/Programs.antt` says what each task reads and writes,
-//! `specs/Commanding.antt` what words ask for and how a program ends early.
+//! `specs/Commanding.antt` what words ask for and how a program ends early, `specs/Options.antt` what they say by options.
 //!
 //! Words of any other form are for `mst_program`, which reads them by `clap`. Nothing here takes
 //! the terminal or the program's own arguments.
@@ -25,6 +25,7 @@ mod events;
 mod input;
 mod loading;
 mod numbers;
+mod options;
 mod plain;
 mod programs;
 mod replay;
@@ -35,5 +36,5 @@ mod words;
 pub use ending::{DONE, PROOF_REFUSED, complain};
 pub use plain::plain_task;
 pub use programs::execute;
-pub use task::{Ending, Load, Refusal, Task};
-pub use words::{ask_text, named_task};
+pub use task::{Ending, Load, Refusal, Size, Task};
+pub use words::{ask_text, ask_version_alone, named_task};

@@ -1,60 +1,46 @@
 //! Words of a plain form, which name their task by themselves.
-ghost use Rattle.std.specs.Prelude.{◌≡◌, ◌↔◌, ◌<◌, ◌^◌, ℕ, Some, None, IfSome, IfNone, IsTrue, false, is_some, decimal};
+ghost use Rattle.std.specs.Prelude.{◌≡◌, ◌↔◌, ◌<◌, ◌^◌, ℕ, Some, IfSome, IfNone, IsTrue, false, decimal};
 ghost use Rattle.std.specs.Option.{option_map};
 ghost use Rattle.mst_command.specs.Loading.{IsLoadOf};
-ghost use Rattle.mst_command.specs.Commanding.{AsksFor, IsPlain, IsRunOf, IsShapeIn, asks_run, asks_verify, is_dashed as begins_dashed, is_plain_replay as asks_replay_alone, is_plain_verify, one_option as one_named, options_of, two_options as two_named};
+ghost use Rattle.mst_command.specs.Commanding.{AsksFor, IsPlain, IsRunOf, IsSizeIn, are_bare as are_both_bare, are_plain_options as are_named_plainly, asks_run, has_dash as some_dash, is_dashed as begins_dashed, is_plain_format as names_plain_format, is_plain_replay as asks_replay_alone, is_plain_verify as asks_verify_alone, value_or as named_or};
 
 use crate::numbers::plain_load;
-use crate::task::Task;
-use crate::words::verify_words;
+use crate::options::{are_options, value_of};
+use crate::task::{Size, Task};
+use crate::words::{script_task, verify_task};
 use itoa::Buffer;
-use mst_store::Shape;
 
-// The words for the rows and the passes, of one option.
-fn one_option<'a>(option: &str, number: &'a str) -> Option<(&'a str, &'a str)>
-    ensures { option_map (λ w. (w.0.now, w.1.now)) result ≡ one_named option.now number.entry.now }
+fn is_dashed(word: &str) -> bool
+    ensures { result ≡ begins_dashed word.now }
 {
-    if option == "--rows" {
-        return Some((number, "4"));
+    match word.as_bytes() {
+        [first, ..] => *first == b'-',
+        [] => false,
     }
-    if option == "--passes" {
-        return Some(("1024", number));
-    }
-    None
 }
 
-// The same, of two options in any order.
-fn two_options<'a>(first: &str, a: &'a str, second: &str, b: &'a str) -> Option<(&'a str, &'a str)>
-    ensures { option_map (λ w. (w.0.now, w.1.now)) result
-        ≡ two_named first.now a.entry.now second.now b.entry.now }
+// Whether there is a word that begins with a dash.
+fn has_dash(word: Option<&str>) -> bool
+    ensures { result ≡ some_dash (option_map (λ w. w.now) word.entry) }
 {
-    if first == "--rows" {
-        return if second == "--passes" {
-            Some((a, b))
-        } else {
-            None
-        };
+    match word {
+        Some(word) => is_dashed(word),
+        None => false,
     }
-    if first == "--passes" {
-        return if second == "--rows" {
-            Some((b, a))
-        } else {
-            None
-        };
-    }
-    None
 }
 
-// The same, of what stands behind `run`.
-fn options<'a>(words: &[&'a str]) -> Option<(&'a str, &'a str)>
-    ensures { option_map (λ w. (w.0.now, w.1.now)) result ≡ options_of words.now }
+// Whether the words are options with their values, where that of `--format` begins with no dash.
+fn are_plain_options(words: &[&str]) -> bool
+    ensures { result ≡ are_named_plainly words.now }
 {
-    match words {
-        [] => Some(("1024", "4")),
-        [option, number] => one_option(option, number),
-        [first, a, second, b] => two_options(first, a, second, b),
-        _ => None,
-    }
+    are_options(words) && !has_dash(value_of("--format", words))
+}
+
+// The word behind the option, or else the usual one.
+fn value_or<'a>(usual: &'a str, option: &str, words: &[&'a str]) -> &'a str
+    ensures { result.now ≡ named_or usual.entry.now option.now words.now }
+{
+    value_of(option, words).unwrap_or(usual)
 }
 
 // The words for the rows and the passes, where the words are those of a script.
@@ -62,7 +48,10 @@ fn run_words<'a>(words: &[&'a str]) -> Option<(&'a str, &'a str)>
     ensures { option_map (λ w. (w.0.now, w.1.now)) result ≡ asks_run words.now }
 {
     match words {
-        [_, name, others @ ..] if *name == "run" => options(others),
+        [_, name, others @ ..] if *name == "run" && are_plain_options(others) => Some((
+            value_or("1024", "--rows", others),
+            value_or("4", "--passes", others),
+        )),
         _ => None,
     }
 }
@@ -85,22 +74,22 @@ pub fn number(word: &str) -> Option<u32>
 }
 
 // The size that two words name.
-fn shape_in(rows: &str, passes: &str) -> Option<Shape>
-    ensures some { IfSome result (λ shape. IsShapeIn (rows.now, passes.now) shape) }
-    ensures only { (shape : _) → IsShapeIn (rows.now, passes.now) shape → result ≡ Some shape }
+fn size_in(rows: &str, passes: &str) -> Option<Size>
+    ensures some { IfSome result (λ size. IsSizeIn (rows.now, passes.now) size) }
+    ensures only { (size : _) → IsSizeIn (rows.now, passes.now) size → result ≡ Some size }
 {
     let rows = number(rows)?;
     let passes = number(passes)?;
-    Some(Shape { rows, passes })
+    Some(Size { rows, passes })
 }
 
 // The size that plain words name.
-fn plain_run(words: &[&str]) -> Option<Shape>
-    ensures some { IfSome result (λ shape. IsRunOf words.now shape) }
-    ensures only { (shape : _) → IsRunOf words.now shape → result ≡ Some shape }
+fn plain_run(words: &[&str]) -> Option<Size>
+    ensures some { IfSome result (λ size. IsRunOf words.now size) }
+    ensures only { (size : _) → IsRunOf words.now size → result ≡ Some size }
 {
     let (rows, passes) = run_words(words)?;
-    shape_in(rows, passes)
+    size_in(rows, passes)
 }
 
 // Whether the words are `replay` alone.
@@ -113,23 +102,43 @@ fn is_plain_replay(words: &[&str]) -> bool
     }
 }
 
-fn is_dashed(word: &str) -> bool
-    ensures { result ≡ begins_dashed word.now }
+// Whether two words begin with no dash.
+fn are_bare(root: &str, key: &str) -> bool
+    ensures { result ≡ are_both_bare root.now key.now }
 {
-    match word.as_bytes() {
-        [first, ..] => *first == b'-',
-        [] => false,
+    !is_dashed(root) && !is_dashed(key)
+}
+
+// Whether two words are `--format` and one that begins with no dash.
+fn is_plain_format(option: &str, format: &str) -> bool
+    ensures { result ≡ names_plain_format option.now format.now }
+{
+    option == "--format" && !is_dashed(format)
+}
+
+// Whether the words are `verify` with two words that begin with no dash, or with `--format` and
+// three.
+fn is_plain_verify(words: &[&str]) -> bool
+    ensures { result ≡ asks_verify_alone words.now }
+{
+    match words {
+        [_, name, root, key] => *name == "verify" && are_bare(root, key),
+        [_, name, option, format, root, key] => {
+            *name == "verify" && is_plain_format(option, format) && are_bare(root, key)
+        }
+        _ => false,
     }
 }
 
-// The words for the root digest and the key, where they are plain.
-fn plain_verify<'a>(words: &[&'a str]) -> Option<(&'a str, &'a str)>
-    ensures asked { IfSome result (λ w. asks_verify words.now ≡ Some (w.0.now, w.1.now)) }
-    ensures plain { is_some result ≡ is_plain_verify words.now }
+// The task of the words of a proof, where they are plain.
+fn plain_verify<'a>(words: &[&'a str]) -> Option<Task<'a>>
+    ensures asked { IfSome result (λ task. AsksFor words.now task) }
+    ensures plain { IfNone result (asks_verify_alone words.now ≡ false) }
 {
-    match words {
-        [_, _, root, key] if !is_dashed(root) && !is_dashed(key) => verify_words(words),
-        _ => None,
+    if is_plain_verify(words) {
+        verify_task(words)
+    } else {
+        None
     }
 }
 
@@ -137,20 +146,20 @@ fn plain_verify<'a>(words: &[&'a str]) -> Option<(&'a str, &'a str)>
 fn plain_reader<'a>(words: &[&'a str]) -> Option<Task<'a>>
     ensures asked { IfSome result (λ task. AsksFor words.now task) }
     ensures plain { IfNone result ((asks_replay_alone words.now ≡ false)
-        × (is_plain_verify words.now ≡ false)) }
+        × (asks_verify_alone words.now ≡ false)) }
 {
     if is_plain_replay(words) {
-        return Some(Task::Replay);
+        Some(Task::Replay)
+    } else {
+        plain_verify(words)
     }
-    let (root, key) = plain_verify(words)?;
-    Some(Task::Verify(root, key))
 }
 
 // The task of plain words that are no script.
 fn plain_other<'a>(words: &[&'a str]) -> Option<Task<'a>>
     ensures asked { IfSome result (λ task. AsksFor words.now task) }
     ensures plain { IfNone result ((asks_replay_alone words.now ≡ false)
-        × (is_plain_verify words.now ≡ false) × ((size : _) → ¬ (IsLoadOf words.now size))) }
+        × (asks_verify_alone words.now ≡ false) × ((size : _) → ¬ (IsLoadOf words.now size))) }
 {
     match plain_load(words) {
         Some(size) => Some(Task::Load(size)),
@@ -158,15 +167,16 @@ fn plain_other<'a>(words: &[&'a str]) -> Option<Task<'a>>
     }
 }
 
-/// The task that plain words ask for: `run` with `--rows N` and `--passes N` at most once each,
-/// `replay` alone, `verify` and two words that begin with no dash, or `load` with `--readers N`,
-/// `--writers N` and `--calls N` in this order.
+/// The task that plain words ask for: `run` with `--rows N`, `--passes N` and `--format F` at most
+/// once each, `replay` alone, `verify` and two words, with `--format F` in front of them or
+/// without, or `load` with `--readers N`, `--writers N` and `--calls N` in this order. F and the
+/// two words begin with no dash.
 pub fn plain_task<'a>(words: &[&'a str]) -> Option<Task<'a>>
     ensures asked { IfSome result (λ task. AsksFor words.now task) }
     ensures plain { IfNone result (¬ (IsPlain words.now)) }
 {
     match plain_run(words) {
-        Some(shape) => Some(Task::Run(shape)),
+        Some(size) => Some(script_task(words, size)),
         None => plain_other(words),
     }
 }

@@ -113,9 +113,9 @@ fn show<W: Sink>(out: &mut W, text: &str) -> Result<Ending, Refusal>
 /// Does the task, and says how the program ends, or why it ends early. The gate is asked before
 /// each call of a load and told after it.
 ///
-/// `Shape` comes for a size out of the store's limits and for numbers that a load may not have,
-/// `BadRoot` and then `BadKey` for words that spell no root digest and no key, all before anything
-/// is read or run. `Memory` comes where a growth was refused or a thread could not be started:
+/// `Shape` comes for a size out of the store's limits, for an unknown format and for numbers that a
+/// load may not have, `BadRoot` and then `BadKey` for words that spell no root digest and no key,
+/// all before anything is read or run. `Memory` comes where a growth was refused or a thread could not be started:
 /// nothing was written then, and nothing read but a proof. `Device` comes where a read or a write
 /// failed.
 pub fn execute<R, A: Allocator + Copy, G: Gate + Sync, S: Source, W: Sink>(
@@ -151,7 +151,8 @@ where
 {
     match task {
         Task::Run(shape) => run_script(alloc, shape, source, out),
-        Task::Verify(root, key) => run_verify(alloc, root, key, source, out),
+        Task::Verify(format, root, key) => run_verify(alloc, format, root, key, source, out),
+        Task::UnknownFormat => Err(Refusal::Shape),
         Task::Replay => run_replay(alloc, source, out),
         Task::Load(size) => run_load(rt, alloc, size, gate, out),
         Task::Help(text) => show(out, text.as_str()),

@@ -1,5 +1,15 @@
 //! What a program is to do, and how it ends.
+use mst_key::Format;
 use mst_store::Shape;
+
+/// How large the store of a script is.
+#[derive(Clone, Copy, Debug, PartialEq, Eq)]
+pub struct Size {
+    /// How many rows it has.
+    pub rows: u32,
+    /// How many passes it has.
+    pub passes: u32,
+}
 
 /// The numbers of a load.
 #[derive(Clone, Copy, Debug, PartialEq, Eq)]
@@ -15,10 +25,12 @@ pub struct Load {
 /// What the words of a command line ask for.
 #[derive(Drop)]
 pub enum Task<'a> {
-    /// To answer a script over a store of this size.
+    /// To answer a script over a store of this size, opened in this format.
     Run(Shape),
-    /// To say what a proof shows, for the words of a root digest and a key.
-    Verify(&'a str, &'a str),
+    /// To say what a proof in this format shows, for the words of a root digest and a key.
+    Verify(Format, &'a str, &'a str),
+    /// To refuse a format that is neither 1 nor 2, of a script or of a proof.
+    UnknownFormat,
     /// To answer the events of a core.
     Replay,
     /// To let readers and writers work at one store at once, and to report what they left.
@@ -43,7 +55,7 @@ pub enum Refusal {
     Words(String),
     /// A word is not UTF-8.
     NotText,
-    /// The store cannot have this size, or a load these numbers.
+    /// The store cannot have this size, a load these numbers, or there is no such format.
     Shape,
     /// The word for the root digest is not 64 hexadecimal digits.
     BadRoot,

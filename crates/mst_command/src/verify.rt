@@ -1,5 +1,5 @@
 //! A proof of standard input, verified.
-ghost use Rattle.std.specs.Prelude.{◌≡◌, ◌<◌, ◌-◌, ◌+◌, ◌^◌, ◌↔◌, ◌⊎◌, None, IfOk, OnOk, IfErr, IsErrOf, IsSome};
+ghost use Rattle.std.specs.Prelude.{◌≡◌, ◌<◌, ◌-◌, ◌+◌, ◌^◌, ◌↔◌, ◌⊎◌, Some, None, IfOk, OnOk, IfErr, IsErrOf, IsSome};
 ghost use Rattle.mst_verify.specs.Words.{root_of, key_of};
 ghost use Rattle.mst_command.specs.Commanding.{EndsVerify, IsDevice, Unread, Untouched};
 ghost use Rattle.mst_command.specs.Programs.{RanVerify, BrokeVerify, IsSaid, ending_of};
@@ -7,7 +7,7 @@ ghost use Rattle.mst_command.specs.Programs.{RanVerify, BrokeVerify, IsSaid, end
 use crate::input::read_up_to;
 use crate::task::{Ending, Refusal};
 use mst_devices::{Device, Sink, Source, write_all};
-use mst_key::{Key, Memory};
+use mst_key::{Format, Key, Memory};
 use mst_script::RunFault;
 use mst_verify::{LIMIT, Report, key_in, report_on, root_in};
 use std::alloc::Allocator;
@@ -23,16 +23,17 @@ fn ending(report: &Report) -> Ending
     }
 }
 
-// What the source gives, as the text of a proof.
+// What the source gives, as the text of a proof in this format.
 fn read_report<A: Allocator + Copy, S: Source>(
     alloc: A,
+    format: Format,
     root: &[u8; 32],
     key: &Key,
     source: &mut S,
 ) -> Result<Report, RunFault>
     requires source { S.failures source.old < 2 ^ 64 - 1 }
     ensures report { IfOk result
-        (λ report. IsSaid S.gives S.left root.now key.now source.old report source.new) }
+        (λ report. IsSaid S.gives S.left format root.now key.now source.old report source.new) }
     ensures steady { OnOk result (S.failures source.new ≡ S.failures source.old) }
     ensures device { result ≡ Err RunFault.Device → S.failures source.old < S.failures source.new }
     ensures memory { result ≡ Err RunFault.Memory → S.failures source.new ≡ S.failures source.old }
@@ -40,18 +41,19 @@ fn read_report<A: Allocator + Copy, S: Source>(
     let Some(text) = read_up_to(alloc, source, LIMIT)? else {
         return Ok(Report::Long);
     };
-    match report_on(alloc, root, key, text.as_slice()) {
+    match report_on(alloc, format, root, key, text.as_slice()) {
         Ok(report) => Ok(report),
         Err(Memory) => Err(RunFault::Memory),
     }
 }
 
-/// Says what the proof that the source gives shows of a key, for the words of a root digest and of
-/// the key.
+/// Says what the proof in this format that the source gives shows of a key, for the words of a root
+/// digest and of the key.
 ///
 /// `BadRoot` and then `BadKey` come before anything is read.
 pub fn run_verify<A: Allocator + Copy, S: Source, W: Sink>(
     alloc: A,
+    format: Format,
     root: &str,
     key: &str,
     source: &mut S,
@@ -61,7 +63,7 @@ pub fn run_verify<A: Allocator + Copy, S: Source, W: Sink>(
     requires out { W.failures out.old < 2 ^ 64 - 1 }
     ensures ran { IfOk result
         (λ ending. RanVerify S.gives S.left W.takes
-        (root.now, key.now) source.old out.old ending source.new out.new) }
+        (Some format, root.now, key.now) source.old out.old ending source.new out.new) }
     ensures steady { OnOk result
         (S.failures source.new + W.failures out.new ≡ S.failures source.old + W.failures out.old) }
     ensures device { IfErr result
@@ -69,7 +71,7 @@ pub fn run_verify<A: Allocator + Copy, S: Source, W: Sink>(
         (S.failures source.new + W.failures out.new)) }
     ensures stopped { IsErrOf result Refusal.Device → (out.new ≡ out.old)
         ⊎ BrokeVerify S.gives S.left W.takes
-        (root.now, key.now) source.old out.old source.new out.new }
+        (Some format, root.now, key.now) source.old out.old source.new out.new }
     ensures unread { IfErr result (λ why. Unread why source.old source.new) }
     ensures unwritten { IfErr result (λ why. Untouched why out.old out.new) }
     ensures ends { IfErr result (λ why. EndsVerify why) }
@@ -83,7 +85,7 @@ pub fn run_verify<A: Allocator + Copy, S: Source, W: Sink>(
     let Some(key) = key_in(key) else {
         return Err(Refusal::BadKey);
     };
-    let report = match read_report(alloc, &root, &key, source) {
+    let report = match read_report(alloc, format, &root, &key, source) {
         Ok(report) => report,
         Err(RunFault::Device) => return Err(Refusal::Device),
         Err(RunFault::Memory) => return Err(Refusal::Memory),

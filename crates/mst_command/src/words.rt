@@ -1,10 +1,12 @@
 //! What words ask for, by the words alone.
-ghost use Rattle.std.specs.Prelude.{◌≡◌, ◌↔◌, true, false, None};
+ghost use Rattle.std.specs.Prelude.{◌≡◌, ◌↔◌, IfSome, IfNone, true, false, None};
 ghost use Rattle.std.specs.Option.{option_map};
 ghost use Rattle.mst_command.specs.Loading.{asks_load};
-ghost use Rattle.mst_command.specs.Commanding.{AskHelp, AskText, AskVersion, AsksFor, IsHelp, IsPlain, IsVersion, asks_replay, asks_verify, root_and_key as named_root_and_key};
+ghost use Rattle.mst_command.specs.Commanding.{AskHelp, AskText, AskVersion, AsksFor, IsHelp, IsPlain, IsVersion, NamesSize, asks_replay, asks_verify, asks_version_alone, format_in as named_format};
 
-use crate::task::{Load, Task};
+use crate::options::{format_named, operand};
+use crate::task::{Load, Size, Task};
+use mst_key::Format;
 use mst_store::Shape;
 
 // Whether a word asks for help.
@@ -49,6 +51,17 @@ fn ask_version(words: &[&str]) -> bool
     }
 }
 
+/// Whether the words are the program's name and `--version` or `-V` alone.
+pub fn ask_version_alone(words: &[&str]) -> bool
+    ensures alone { result ≡ asks_version_alone words.now }
+    ensures text { result ≡ true → AskText words.now }
+{
+    match words {
+        [_, name] => *name == "--version" || *name == "-V",
+        _ => false,
+    }
+}
+
 /// Whether some word asks for help, or the first behind the program's name for the version.
 pub fn ask_text(words: &[&str]) -> bool
     ensures { (result ≡ true) ↔ AskText words.now }
@@ -76,54 +89,86 @@ fn names_load(words: &[&str]) -> bool
     }
 }
 
-// The two words behind `verify`. A `--` beside them says that no option follows.
-fn root_and_key<'a>(words: &[&'a str]) -> (&'a str, &'a str)
-    ensures { (result.0.now, result.1.now) ≡ named_root_and_key words.now }
+// The format that the words behind the command name.
+fn format_in(words: &[&str]) -> Option<Format>
+    ensures { result ≡ named_format words.now }
 {
     match words {
-        [_, _, dashes, root, key] if *dashes == "--" => (root, key),
-        [_, _, root, dashes, key] if *dashes == "--" => (root, key),
-        [_, _, root, key, ..] => (root, key),
-        _ => ("", ""),
+        [_, _, others @ ..] => format_named(others),
+        _ => Some(Format::One),
     }
 }
 
-/// The words for the root digest and the key, where the first word behind the program's name is
-/// `verify`.
-pub fn verify_words<'a>(words: &[&'a str]) -> Option<(&'a str, &'a str)>
-    ensures { option_map (λ w. (w.0.now, w.1.now)) result ≡ asks_verify words.now }
+// The format, and the words for the root digest and the key, where the first word behind the
+// program's name is `verify`.
+fn verify_words<'a>(words: &[&'a str]) -> Option<(Option<Format>, &'a str, &'a str)>
+    ensures { option_map (λ w. (w.0, w.1.now, w.2.now)) result ≡ asks_verify words.now }
 {
     match words {
-        [_, name, ..] if *name == "verify" => Some(root_and_key(words)),
+        [_, name, others @ ..] if *name == "verify" => Some((
+            format_named(others),
+            operand(others, false, 0),
+            operand(others, false, 1),
+        )),
         _ => None,
     }
 }
 
+/// The task of words whose first behind the program's name is `verify`.
+pub fn verify_task<'a>(words: &[&'a str]) -> Option<Task<'a>>
+    ensures asked { IfSome result (λ task. AsksFor words.now task) }
+    ensures other { IfNone result (asks_verify words.now ≡ None) }
+{
+    let (format, root, key) = verify_words(words)?;
+    match format {
+        Some(format) => Some(Task::Verify(format, root, key)),
+        None => Some(Task::UnknownFormat),
+    }
+}
+
+/// The task of the words of a script over a store of this size, in the format that they name.
+pub fn script_task(words: &[&str], size: Size) -> Task<'static>
+    requires replay { asks_replay words.now ≡ false }
+    requires verify { asks_verify words.now ≡ None }
+    requires load { asks_load words.now ≡ false }
+    requires size { NamesSize words.now size }
+    ensures { AsksFor words.now result }
+{
+    match format_in(words) {
+        Some(format) => Task::Run(Shape {
+            rows: size.rows,
+            passes: size.passes,
+            format,
+        }),
+        None => Task::UnknownFormat,
+    }
+}
+
 // The task of words of no plain form that ask for no replay and no proof.
-fn named_store(words: &[&str], shape: Shape, size: Load) -> Task<'static>
+fn named_store(words: &[&str], size: Size, load: Load) -> Task<'static>
     requires plain { ¬ (IsPlain words.now) }
     requires replay { asks_replay words.now ≡ false }
     requires verify { asks_verify words.now ≡ None }
     ensures { AsksFor words.now result }
 {
     if names_load(words) {
-        Task::Load(size)
+        Task::Load(load)
     } else {
-        Task::Run(shape)
+        script_task(words, size)
     }
 }
 
 /// The task of words of no plain form, which were found to name one, by the first word behind the
 /// program's name. A script has this size, and a load these numbers.
-pub fn named_task<'a>(words: &[&'a str], shape: Shape, size: Load) -> Task<'a>
+pub fn named_task<'a>(words: &[&'a str], size: Size, load: Load) -> Task<'a>
     requires { ¬ (IsPlain words.now) }
     ensures { AsksFor words.now result }
 {
     if names_replay(words) {
         return Task::Replay;
     }
-    match verify_words(words) {
-        Some((root, key)) => Task::Verify(root, key),
-        None => named_store(words, shape, size),
+    match verify_task(words) {
+        Some(task) => task,
+        None => named_store(words, size, load),
     }
 }

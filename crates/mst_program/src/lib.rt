@@ -14,7 +14,8 @@
 //! answered.
 //!
 //! What clap writes of wrong words, and in a help text, no contract says. Words of a plain form are
-//! read without clap, and of those everything is said.
+//! read without clap, and of those everything is said; `--version` or `-V` alone is told without
+//! it.
 #![tactic(auto)]
 
 mod program;

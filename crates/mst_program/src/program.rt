@@ -1,7 +1,7 @@
 //! The program, over a source and two sinks.
 ghost use Rattle.std.specs.Prelude.{◌≡◌, ◌<◌, ◌-◌, ◌+◌, ◌^◌, ◌↔◌, ◌⊎◌, OnOk, IfOk, IfErr, IsErrOf, [], Some, None, true, false};
 ghost use Rattle.mst_devices.specs.Device.{Breaks};
-ghost use Rattle.mst_command.specs.Programs.{RanScript, RanReplay, RanVerify, Helped, Broke, Comes};
+ghost use Rattle.mst_command.specs.Programs.{RanScript, RanReplay, RanVerify, Helped, Broke, Comes, EndedEarly};
 ghost use Rattle.mst_command.specs.Loading.{NamesLoad, RanLoad, asks_load};
 ghost use Rattle.mst_command.specs.Commanding.{AsksFor, IsDevice, NamesShape, Untouched, Unread, asks_replay, asks_verify, status_of, told};
 ghost use Rattle.mst_command.specs.declared.task.Refusal.TheVariants.{Device};
@@ -113,7 +113,9 @@ where
         × Comes words.now why × E.takes err.old (told why) err.new }
     ensures stopped { result ≡ 3
         → ((E.failures err.old < E.failures err.new)
-        × ((why : _) × Breaks E.takes err.old [] (told why) err.new))
+        × ((why : _) × Breaks E.takes err.old [] (told why) err.new
+        × EndedEarly S.gives S.left O.takes O.failures words.now why source.old out.old
+        source.new out.new))
         ⊎ (((task : _) × AsksFor words.now task
         × Broke S.gives S.left O.takes O.failures task source.old out.old source.new out.new)
         × E.takes err.old (told Device) err.new) }

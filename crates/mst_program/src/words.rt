@@ -1,17 +1,18 @@
 //! The words of the command line.
-ghost use Rattle.std.specs.Prelude.{IfOk, IfErr, OnErr};
-ghost use Rattle.mst_command.specs.Commanding.{AsksFor, EndsWords, IsPlain};
+ghost use Rattle.std.specs.Prelude.{◌≡◌, IfOk, IfErr, OnErr, false, string_bytes};
+ghost use Rattle.mst_command.specs.Commanding.{AsksFor, EndsWords, IsPlain, asks_version_alone, version_text};
 
 use clap::error::ErrorKind;
 use clap::{Arg, ArgAction, ArgMatches, Command, Error, value_parser};
-use mst_command::{Load, Refusal, Task, ask_text, named_task, plain_task};
-use mst_store::Shape;
+use mst_command::{Load, Refusal, Size, Task, ask_text, ask_version_alone, named_task, plain_task};
 use std::alloc::{AllocError, Global};
 
 /// What the help says behind the commands and the options.
 const AFTER_HELP: &str = "Examples:
   mst run --rows 64 --passes 2 < script
+  mst run --format 2 < script
   mst verify ROOT KEY < proof
+  mst verify --format 2 ROOT KEY < proof
   mst load --readers 4 --writers 2 --calls 1000
 
 Exit statuses:
@@ -20,6 +21,12 @@ Exit statuses:
   2  the words are refused
   3  a read or a write failed
   4  memory was refused, or a thread could not be started";
+
+/// The number of the program's version.
+const VERSION: &str = "0.1.0";
+
+/// What tells the version where nothing else is asked.
+const VERSION_TEXT: &str = "mst 0.1.0\n";
 
 // An option that is a number and has to be given.
 fn required_number<'a>(alloc: Global, name: &'a str, help: &'a str) -> Arg<'a> {
@@ -43,6 +50,17 @@ fn usual_number<'a>(alloc: Global, name: &'a str, help: &'a str, usual: &'a str)
         .default_value(usual)
 }
 
+// The option that names a format. What else it is given than 1 and 2 is refused by the task that
+// its words ask for, and not by clap.
+fn format_option<'a>(alloc: Global, help: &'a str) -> Arg<'a> {
+    Arg::new(alloc, "format")
+        .long("format")
+        .value_name("F")
+        .help(help)
+        .action(ArgAction::Set)
+        .default_value("1")
+}
+
 // A word that has to be given.
 fn required_word<'a>(alloc: Global, name: &'a str, help: &'a str) -> Arg<'a> {
     Arg::new(alloc, name)
@@ -64,10 +82,12 @@ fn load_command<'a>(alloc: Global) -> Result<Command<'a>, AllocError> {
 fn run_command<'a>(alloc: Global) -> Result<Command<'a>, AllocError> {
     let rows = "How many rows the store has, 4 to 65535";
     let passes = "How many passes the store has, 1 to 32";
+    let format = "The format in which the store opens, 1 or 2";
     Command::new(alloc, "run")
         .about("Answers the lines of standard input, each of them a command of a pass")
         .arg(usual_number(alloc, "rows", rows, "1024"))?
-        .arg(usual_number(alloc, "passes", passes, "4"))
+        .arg(usual_number(alloc, "passes", passes, "4"))?
+        .arg(format_option(alloc, format))
 }
 
 // The command that verifies a proof.
@@ -77,7 +97,8 @@ fn verify_command<'a>(alloc: Global) -> Result<Command<'a>, AllocError> {
     Command::new(alloc, "verify")
         .about("Says what the proof on standard input, in hexadecimal, shows of a key")
         .arg(required_word(alloc, "ROOT", root))?
-        .arg(required_word(alloc, "KEY", key))
+        .arg(required_word(alloc, "KEY", key))?
+        .arg(format_option(alloc, "The format of the root digest and the proof, 1 or 2"))
 }
 
 // The command that replays events.
@@ -93,7 +114,7 @@ fn bare_program<'a>(alloc: Global) -> Command<'a> {
         .about("A map of short keys to short values, shared by several passes")
         .subcommand_required(true)
         .arg_required_else_help(true)
-        .version("0.1.0")
+        .version(VERSION)
         .after_help(AFTER_HELP)
 }
 
@@ -116,10 +137,10 @@ fn number(matches: &ArgMatches<'_>, option: &str) -> u32 {
     matches.get_one::<u32>(option).unwrap_or_default()
 }
 
-// The shape of the store that the options of a script give.
-fn shape_in(matches: &ArgMatches<'_>) -> Shape {
+// The size of the store that the options of a script give.
+fn size_in(matches: &ArgMatches<'_>) -> Size {
     let run = matches.subcommand_matches("run").unwrap_or(matches);
-    Shape {
+    Size {
         rows: number(run, "rows"),
         passes: number(run, "passes"),
     }
@@ -143,13 +164,14 @@ fn task_in<'a>(alloc: Global, words: &[&'a str]) -> Result<Task<'a>, Error>
     ensures { IfOk result (λ task. AsksFor words.now task) }
 {
     let matches = program(alloc)?.try_get_matches_from(words)?;
-    Ok(named_task(words, shape_in(&matches), load_in(&matches)))
+    Ok(named_task(words, size_in(&matches), load_in(&matches)))
 }
 
 // What clap answers words that name no task: help and the version that were asked for are one, and
 // all else is a refusal.
 fn answer_words<'a>(alloc: Global, words: &[&'a str], error: &Error) -> Result<Task<'a>, Refusal>
-    requires { ¬ (IsPlain words.now) }
+    requires plain { ¬ (IsPlain words.now) }
+    requires version { asks_version_alone words.now ≡ false }
     ensures help { IfOk result (λ task. AsksFor words.now task) }
     ensures refused { IfErr result (λ why. EndsWords why) }
 {
@@ -165,15 +187,38 @@ fn answer_words<'a>(alloc: Global, words: &[&'a str], error: &Error) -> Result<T
     Ok(Task::Help(text))
 }
 
-// What words of no plain form ask for.
-fn other_task<'a>(alloc: Global, words: &[&'a str]) -> Result<Task<'a>, Refusal>
-    requires { ¬ (IsPlain words.now) }
+// The text that tells the version, which takes no clap.
+fn version_told(alloc: Global) -> Result<String, AllocError>
+    ensures { IfOk result (λ text. string_bytes text ≡ version_text) }
+{
+    VERSION_TEXT.to_string(alloc)
+}
+
+// What words ask for that are of no plain form and do not ask for the version alone.
+fn clap_task<'a>(alloc: Global, words: &[&'a str]) -> Result<Task<'a>, Refusal>
+    requires plain { ¬ (IsPlain words.now) }
+    requires version { asks_version_alone words.now ≡ false }
     ensures asked { IfOk result (λ task. AsksFor words.now task) }
     ensures refused { IfErr result (λ why. EndsWords why) }
 {
     match task_in(alloc, words) {
         Ok(task) => Ok(task),
         Err(error) => answer_words(alloc, words, &error),
+    }
+}
+
+// What words of no plain form ask for.
+fn other_task<'a>(alloc: Global, words: &[&'a str]) -> Result<Task<'a>, Refusal>
+    requires { ¬ (IsPlain words.now) }
+    ensures asked { IfOk result (λ task. AsksFor words.now task) }
+    ensures refused { IfErr result (λ why. EndsWords why) }
+{
+    if !ask_version_alone(words) {
+        return clap_task(alloc, words);
+    }
+    match version_told(alloc) {
+        Ok(text) => Ok(Task::Help(text)),
+        Err(_) => Err(Refusal::Memory),
     }
 }
 

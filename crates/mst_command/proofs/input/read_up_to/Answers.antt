@@ -10,7 +10,7 @@ returns-then-count-eq0-clause-all g c = let i = c.loop-count.invariant in
 
 pub returns-then-count-most-clause-all : goal.returns-then-count-most-clause-all
 returns-then-count-most-clause-all g c = let i = c.loop-count.invariant in
-    beyond g.S.Source.gives g.met.S.Source.gives_more g.S.Source.left c.args.most c.args.source.now c.loop-count.source c.read.new.self c.loop-count.bytes.items c.read.new.buffer c.in-Ok.count i.given c.in-Ok.ensures.ok (search rules)
+    beyond g.S.Source.gives g.met.S.Source.gives_more g.S.Source.left c.args.most c.args.source.now c.loop-count.source c.read.new.self c.loop-count.bytes.items c.read.new.buffer c.in-Ok.count i.given i.within c.in-Ok.ensures.ok (search rules) (search rules)
 
 pub loop-count-init : goal.loop-count-init
 loop-count-init g c = search rules

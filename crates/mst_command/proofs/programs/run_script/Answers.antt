@@ -9,7 +9,7 @@ run-requires-clause-whole g c = all_of c.in-Ok.opened.0 c.in-Ok-deal.passes.item
 pub returns-in-Ok-run-clause-ran : goal.returns-in-Ok-run-clause-ran
 returns-in-Ok-run-clause-ran g c =
     fresh_run g.S.Source.gives g.W.Sink.takes c.args.shape c.in-Ok.opened.0 c.args.source.now c.run.new.source c.args.out.now c.run.new.sink c.in-Ok-deal.passes.items c.run.new.passes.items
-    c.in-Ok.ensures.store c.in-Ok-deal.ensures.ok c.in-Ok-run.ensures.ok
+    c.in-Ok.ensures.limits c.in-Ok.ensures.store c.in-Ok-deal.ensures.ok c.in-Ok-run.ensures.ok
 
 pub returns-in-Err-Shape-clause-ran : goal.returns-in-Err-Shape-clause-ran
 returns-in-Err-Shape-clause-ran g c = search rules
@@ -182,7 +182,7 @@ returns-clause-shape g c = search rules
 pub returns-in-Err-Device-clause-stopped : goal.returns-in-Err-Device-clause-stopped
 returns-in-Err-Device-clause-stopped g c = λ is.
     fresh_stop g.S.Source.gives g.W.Sink.takes g.W.Sink.failures c.args.shape c.in-Ok.opened.0 c.args.source.now c.run.new.source c.args.out.now c.run.new.sink c.in-Ok-deal.passes.items c.run.new.passes.items
-    c.in-Ok.ensures.store c.in-Ok-deal.ensures.ok (c.run.ensures.stopped (search rules))
+    c.in-Ok.ensures.limits c.in-Ok.ensures.store c.in-Ok-deal.ensures.ok (c.run.ensures.stopped (search rules))
 
 pub returns-in-Err-Shape-clause-stopped : goal.returns-in-Err-Shape-clause-stopped
 returns-in-Err-Shape-clause-stopped g c = search rules

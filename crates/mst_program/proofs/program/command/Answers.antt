@@ -1,5 +1,9 @@
 use Rattle.std.proofs.Common.{rules}
-use Rattle.std.proofs.Common.{Err, ap, ◌∙◌}
+use Rattle.std.proofs.Common.{Err, ap, ◌∙◌, ◌≡◌}
+use Rattle.std.proofs.lemmas.Result.{IfErr-at_err}
+use Rattle.mst_command.specs.Commanding.{Untouched}
+use Rattle.mst_command.specs.Programs.{EndedEarly}
+use Rattle.mst_command.specs.declared.task.Refusal.TheVariants.{Device}
 use Rattle.mst_command.proofs.Asked.{told_early, stopped_early}
 use Rattle.mst_program.proofs.program.command.Goals as goal
 
@@ -7,8 +11,19 @@ pub returns-in-Err-clause-told : goal.returns-in-Err-clause-told
 returns-in-Err-clause-told g c = told_early g.E.Sink.takes g.E.Sink.failures c.args.err.now c.complain.new.err c.in-Err.why c.complain.result c.complain.ensures.failed c.complain.ensures.status c.complain.ensures.told c.args.words.now c.in-Err.ensures.comes
 
 pub returns-in-Err-clause-stopped : goal.returns-in-Err-clause-stopped
-returns-in-Err-clause-stopped g c = stopped_early g.E.Sink.takes g.E.Sink.failures c.args.err.now c.complain.new.err c.in-Err.why c.complain.result c.complain.ensures.failed c.complain.ensures.status c.complain.ensures.told
-    (λ d. c.perform.ensures.stopped (c.in-Err.is ∙ ap Err d)) c.complain.ensures.broke
+returns-in-Err-clause-stopped g c =
+    let broke = λ (d : c.in-Err.why ≡ Device). c.perform.ensures.stopped (c.in-Err.is ∙ ap Err d) in
+    stopped_early g.E.Sink.takes g.E.Sink.failures c.args.err.now c.complain.new.err c.in-Err.why c.complain.result c.complain.ensures.failed c.complain.ensures.status c.complain.ensures.told
+    (λ why. EndedEarly g.S.Source.gives g.S.Source.left g.O.Sink.takes g.O.Sink.failures c.args.words.now why c.args.source.now c.args.out.now c.perform.new.source c.perform.new.out)
+    broke
+    (record {
+      comes = c.in-Err.ensures.comes;
+      unread = c.in-Err.ensures.unread;
+      untouched = λ none. IfErr-at_err (λ why. Untouched why c.args.source.now c.perform.new.source) c.in-Err.is (c.perform.ensures.untouched none);
+      unwritten = c.in-Err.ensures.unwritten;
+      broke = broke;
+    })
+    c.complain.ensures.broke
 
 pub perform-requires-clause-source : goal.perform-requires-clause-source
 perform-requires-clause-source g c = search rules
