@@ -3,7 +3,7 @@ use crate::outcomes::{Outcome, outcome_of};
 use crate::texts::{ANSWERS, EVENTS, REPLIES, ROOT_OF_TWO, SCRIPT};
 use linked_list_allocator::LocalHeap;
 use mst_command::{DONE, Load, PROOF_REFUSED, Task};
-use mst_store::Shape;
+use mst_store::{Format, Shape};
 use std::alloc::{AllocError, AllocGlobal};
 use std::process::Abort;
 use std::sync::Wait;
@@ -24,9 +24,13 @@ impl Asked {
     // passes and threads.
     fn task(self) -> Task<'static> {
         match self {
-            Asked::Script => Task::Run(Shape { rows: 4, passes: 4 }),
+            Asked::Script => Task::Run(Shape {
+                rows: 4,
+                passes: 4,
+                format: Format::One,
+            }),
             Asked::Replay => Task::Replay,
-            Asked::Proof => Task::Verify(ROOT_OF_TWO, "62"),
+            Asked::Proof => Task::Verify(Format::One, ROOT_OF_TWO, "62"),
             Asked::Load => Task::Load(Load {
                 readers: 2,
                 writers: 1,

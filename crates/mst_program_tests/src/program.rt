@@ -1,10 +1,13 @@
 //! The program by its words: whole scripts, the texts for the user, and devices that fail.
 mod failures;
+mod formats;
+mod forms;
 mod loads;
 mod progress;
 mod proofs;
 mod replays;
 mod scripts;
+mod spoilt;
 mod words;
 
 use crate::outcomes::Outcome;

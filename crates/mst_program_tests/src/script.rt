@@ -1,6 +1,7 @@
 //! Scripts over the passes of a store: whole scripts, and devices and memory that fail.
 mod devices;
 mod ends;
+mod formats;
 mod lines;
 mod memory;
 mod nodes;
@@ -12,7 +13,7 @@ ghost use Rattle.mst_store.specs.Passes.{new_passes};
 
 use mst_devices::{BytesSink, BytesSource, Sink, Source};
 use mst_script::{RunFault, run};
-use mst_store::{Pass, Seats, Shape, Store};
+use mst_store::{Format, Pass, Seats, Shape, Store};
 use std::alloc::{AllocError, Allocator, Global};
 use std::process::Abort;
 
@@ -68,6 +69,7 @@ fn run_over<S: Source, W: Sink, A: Allocator + Copy>(
 const FOUR: Shape = Shape {
     rows: 1024,
     passes: 4,
+    format: Format::One,
 };
 
 /// Whether a script over the passes of a new store is answered so.
@@ -112,6 +114,7 @@ fn each_is_answered(rt: &impl Abort, alloc: Global, scripts: &[(u32, u32, &str, 
         let shape = Shape {
             rows: *rows,
             passes: *passes,
+            format: Format::One,
         };
         let answered = is_answered(rt, alloc, shape, script.as_bytes(), expected.as_bytes());
         assert!(rt;

@@ -3,13 +3,13 @@
 //! A table that is a constant costs its test's proof next to nothing; the same calls written out
 //! cost it more than in proportion.
 use crate::fixtures::{
-    count_pairs, counts, finds_no_room, gets, has_root, has_version, next_is, proves, put_fails,
-    puts, puts_in_turn, puts_many, removes, removes_in_turn, still_counts, still_gets, still_next,
-    still_proves,
+    count_pairs, counts, finds_no_room, gets, has_root, has_version, migrates, migration_fails,
+    moves_many, next_is, proves, put_fails, puts, puts_in_turn, puts_many, removes,
+    removes_in_turn, still_counts, still_gets, still_next, still_proves,
 };
 use crate::starving::{is_right_or_refused, is_starved, still_starved};
 use crate::stores::{Seat, both_passes, opened};
-use mst_store::{Pass, Pinned, Shape, WriteFault};
+use mst_store::{Format, MigrateFault, Pass, Pinned, Shape, WriteFault};
 use std::alloc::{Allocator, Global};
 use std::process::Abort;
 use std::sync::Wait;
@@ -33,6 +33,14 @@ pub(crate) enum Call {
     RemoveInTurn(Bytes, Option<Bytes>),
     /// A put at the key and a remove of it that wait for the turn, and find no room.
     InTurnInVain(Bytes),
+    /// A migration to the first format, from the second.
+    Migrate(Format, Format),
+    /// A migration to the format, that finds no room.
+    MigrateInVain(Format),
+    /// A thousand migrations to and fro, from format 1.
+    MigrateMany,
+    /// The format of the version.
+    InFormat(Format),
     /// The value of the key.
     Get(Bytes, Option<Bytes>),
     /// The key of the next pair above the bound.
@@ -75,6 +83,20 @@ fn writes<A: Allocator + Copy>(rt: &impl Wait, pass: &mut Pass<A>, call: Call) -
     }
 }
 
+// Whether a migration of a free pass answers so, or else a write.
+fn moves<A: Allocator + Copy>(
+    rt: &(impl AllocGlobal + Wait),
+    pass: &mut Pass<A>,
+    call: Call,
+) -> bool {
+    match call {
+        Call::Migrate(to, was) => migrates(pass, rt.alloc(), to, was),
+        Call::MigrateInVain(to) => migration_fails(pass, rt.alloc(), to, MigrateFault::NoRoom),
+        Call::MigrateMany => moves_many(pass, rt.alloc()),
+        other => writes(rt, pass, other),
+    }
+}
+
 // Whether a read of a free pass answers so, or else a write.
 fn answers<A: Allocator + Copy>(
     rt: &(impl AllocGlobal + Wait),
@@ -95,7 +117,8 @@ fn answers<A: Allocator + Copy>(
         Call::Version(version) => has_version(pass, version),
         Call::Rows(rows) => counts(pass, rows),
         Call::Number(number) => pass.number() == number,
-        other => writes(rt, pass, other),
+        Call::InFormat(format) => pass.format() == format,
+        other => moves(rt, pass, other),
     }
 }
 
@@ -112,6 +135,7 @@ fn still_answers(alloc: Global, pinned: &mut Pinned<Global>, call: Call) -> bool
         Call::Root(root) => pinned.root() == root,
         Call::Version(version) => pinned.version() == version,
         Call::Number(number) => pinned.number() == number,
+        Call::InFormat(format) => pinned.format() == format,
         _ => false,
     }
 }
@@ -198,7 +222,15 @@ fn run_part(
 /// The calls of both passes of a new store of so many rows answer so, pins among them. The steps
 /// come in parts, one behind the other.
 pub(crate) fn script(rt: &(impl Abort + AllocGlobal + Wait), rows: u32, parts: &[&[Step]]) {
-    let (store, seats) = opened(rt, rt.alloc(), Shape { rows, passes: 2 });
+    let (store, seats) = opened(
+        rt,
+        rt.alloc(),
+        Shape {
+            rows,
+            passes: 2,
+            format: Format::One,
+        },
+    );
     let (first, second) = both_passes(rt, rt.alloc(), &store, seats);
     let mut first = Some(Seat::Free(first));
     let mut second = Some(Seat::Free(second));

@@ -3,7 +3,7 @@
 //! None of these functions says anything in a contract, so that what calls them is proved from few
 //! facts.
 use mst_key::{Key, Value};
-use mst_store::{ChangeFault, Pass, Pinned, WriteFault};
+use mst_store::{ChangeFault, Format, MigrateFault, Pass, Pinned, WriteFault};
 use std::alloc::Allocator;
 use std::process::Abort;
 use std::sync::Wait;
@@ -104,6 +104,50 @@ pub(crate) fn removes<A: Allocator + Copy>(
         Ok(found) => is_value(&found, old),
         Err(_) => false,
     }
+}
+
+/// Whether a migration goes through, and answers that the format was this one.
+pub(crate) fn migrates<A: Allocator + Copy, B: Allocator + Copy>(
+    pass: &mut Pass<A>,
+    alloc: B,
+    to: Format,
+    was: Format,
+) -> bool {
+    pass.try_migrate(alloc, to) == Ok(was)
+}
+
+/// The format that is not this one.
+pub(crate) fn other(format: Format) -> Format {
+    match format {
+        Format::One => Format::Two,
+        Format::Two => Format::One,
+    }
+}
+
+/// Whether a thousand migrations to and fro go through, from format 1.
+pub(crate) fn moves_many<A: Allocator + Copy, B: Allocator + Copy>(
+    pass: &mut Pass<A>,
+    alloc: B,
+) -> bool {
+    let mut was = Format::One;
+    for _ in 0..1_000u32 {
+        let to = other(was);
+        if !migrates(pass, alloc, to, was) {
+            return false;
+        }
+        was = to;
+    }
+    true
+}
+
+/// Whether a migration is refused so.
+pub(crate) fn migration_fails<A: Allocator + Copy, B: Allocator + Copy>(
+    pass: &mut Pass<A>,
+    alloc: B,
+    to: Format,
+    fault: MigrateFault,
+) -> bool {
+    pass.try_migrate(alloc, to) == Err(fault)
 }
 
 /// Whether a thousand puts at the key a go through, which had 1.

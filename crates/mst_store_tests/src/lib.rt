@@ -4,13 +4,21 @@
 #![tactic(auto)]
 
 #[cfg(test)]
+mod ample;
+#[cfg(test)]
+mod auditing;
+#[cfg(test)]
 mod calls;
+#[cfg(test)]
+mod deep;
 #[cfg(test)]
 mod exhaustive;
 #[cfg(test)]
 mod fixtures;
 #[cfg(test)]
 mod memory;
+#[cfg(test)]
+mod migrations;
 #[cfg(test)]
 mod opening;
 #[cfg(test)]

@@ -4,7 +4,7 @@ ghost use Rattle.std.specs.Prelude.{◌≡◌};
 use crate::calls::Call::{Get, Put};
 use crate::calls::{Step, run};
 use crate::stores::{SMALL, both_passes, heap_of, opened};
-use mst_store::{Memory, OpenFault, Seats, Shape, Store};
+use mst_store::{Format, Memory, OpenFault, Seats, Shape, Store};
 use std::alloc::Global;
 use std::process::Abort;
 
@@ -39,6 +39,7 @@ fn shapes_are_tested_before_memory(rt: HostRuntime) {
         let shape = Shape {
             rows: *rows,
             passes: *passes,
+            format: Format::One,
         };
         assert!(rt;
             is_tested(&rt, shape, *fault),

@@ -8,7 +8,7 @@ use crate::fixtures::{
     PROOF_OF_BOTH, ROOT_OF_BOTH, ROOT_OF_NONE, counts, puts, puts_many, still_gets,
 };
 use crate::stores::{SMALL, both_passes, opened};
-use mst_store::{Pass, Pinned, Shape};
+use mst_store::{Format, Pass, Pinned, Shape};
 use std::alloc::Global;
 use std::process::Abort;
 use std::thread::join;
@@ -119,7 +119,15 @@ fn stays<'a>(pass: Pass<'a, Global>, other: &mut Pass<Global>) -> (Pass<'a, Glob
 fn a_long_pin_keeps_its_version_and_no_more(rt: HostRuntime) {
     const PUT: &[Step] = &[(1, Put(b"a", b"1", None))];
     const AFTER: &[Step] = &[(1, Version(1_001)), (1, Rows(Some(2)))];
-    let (store, seats) = opened(&rt, rt.alloc(), Shape { rows: 6, passes: 2 });
+    let (store, seats) = opened(
+        &rt,
+        rt.alloc(),
+        Shape {
+            rows: 6,
+            passes: 2,
+            format: Format::One,
+        },
+    );
     let (mut first, mut second) = both_passes(&rt, rt.alloc(), &store, seats);
     run(&rt, &mut first, &mut second, PUT);
     let (mut first, right) = stays(first, &mut second);

@@ -1,10 +1,10 @@
 //! The map as a plain sorted list, with which the store is compared.
-use mst_key::{Key, Value};
-use mst_node::root_of;
+use mst_key::{Format, Key, Value};
+use mst_node::root_of_in;
 use std::alloc::Global;
 use std::process::Abort;
 
-/// A key with its layer and its value.
+/// A key with its layer in the format of its list, and its value.
 #[derive(PartialEq, Eq, Drop)]
 struct Entry {
     layer: u8,
@@ -41,10 +41,11 @@ impl Cost {
     }
 }
 
-/// The entries of a map in the order of their keys.
+/// The entries of a map in the order of their keys, and the format of its tree.
 #[derive(Drop)]
 pub(crate) struct PlainList {
     entries: Vec<Entry>,
+    format: Format,
 }
 
 /// How many of these entries are of at most the layer, from the first up to one of a higher layer.
@@ -91,10 +92,16 @@ fn count_at(entries: &[Entry], layer: u8) -> usize {
 }
 
 impl PlainList {
-    pub(crate) fn new(alloc: Global) -> PlainList {
+    pub(crate) fn new(alloc: Global, format: Format) -> PlainList {
         PlainList {
             entries: Vec::new(alloc),
+            format,
         }
+    }
+
+    /// The format of the tree.
+    pub(crate) fn format(&self) -> Format {
+        self.format
     }
 
     pub(crate) fn get(&self, key: &Key) -> Option<Value> {
@@ -122,7 +129,7 @@ impl PlainList {
         }
         if let Some(value) = value {
             let entry = Entry {
-                layer: key.layer(),
+                layer: key.layer_in(self.format),
                 key: key.copy(),
                 value: value.copy(),
             };
@@ -133,7 +140,24 @@ impl PlainList {
                 entries.push(entry.copy()).expect(rt, "memory");
             }
         }
-        PlainList { entries }
+        PlainList {
+            entries,
+            format: self.format,
+        }
+    }
+
+    /// The same map with its tree in another format.
+    pub(crate) fn moved(&self, rt: &impl Abort, alloc: Global, format: Format) -> PlainList {
+        let mut entries = Vec::new(alloc);
+        for entry in self.entries.as_slice() {
+            let entry = Entry {
+                layer: entry.key.layer_in(format),
+                key: entry.key.copy(),
+                value: entry.value.copy(),
+            };
+            entries.push(entry).expect(rt, "memory");
+        }
+        PlainList { entries, format }
     }
 
     pub(crate) fn root(&self, rt: &impl Abort, alloc: Global) -> [u8; 32] {
@@ -143,7 +167,7 @@ impl PlainList {
             pairs.push(pair).expect(rt, "memory");
         }
         assert!(rt; pairs.len() <= 65_535);
-        root_of(pairs.as_slice())
+        root_of_in(self.format, pairs.as_slice())
     }
 
     /// The entries of the tree whose top node has the entry at this place as its first, if it is
@@ -186,13 +210,16 @@ impl PlainList {
         false
     }
 
-    /// What the tree of this map costs: one row for each entry and one for each node.
+    /// What the tree of this map costs: one row for each entry and one for each node. A tree of
+    /// another format shares no node with the older one.
     pub(crate) fn cost(&self, older: &PlainList) -> Cost {
         let mut cost = Cost { all: 0, new: 0 };
+        let is_same = self.format == older.format;
         for (place, entry) in self.entries.iter().enumerate() {
             let layer = entry.layer;
             if let Some(part) = self.tree_at(place, layer) {
-                cost.add(count_at(part, layer), older.has_tree(part, layer));
+                let is_old = is_same && older.has_tree(part, layer);
+                cost.add(count_at(part, layer), is_old);
             }
         }
         cost

@@ -1,5 +1,5 @@
 //! The text of each refusal.
-use mst_store::{Busy, OpenFault, WriteFault};
+use mst_store::{Busy, ChangeFault, MigrateFault, OpenFault, WriteFault};
 use std::alloc::Global;
 use std::fmt::Display;
 use std::process::Abort;
@@ -24,10 +24,26 @@ fn each_refusal_has_its_text(rt: HostRuntime) {
         (WriteFault::VersionsSpent, "version numbers are spent"),
         (WriteFault::NoRoom, "no room"),
     ];
+    const CHANGES: &[(ChangeFault, &str)] = &[
+        (ChangeFault::VersionsSpent, "version numbers are spent"),
+        (ChangeFault::NoRoom, "no room"),
+    ];
+    const MIGRATIONS: &[(MigrateFault, &str)] = &[
+        (MigrateFault::Busy, "another pass has the turn"),
+        (MigrateFault::VersionsSpent, "version numbers are spent"),
+        (MigrateFault::Memory, "no memory"),
+        (MigrateFault::NoRoom, "no room"),
+    ];
     for (fault, text) in OPENS {
         assert!(rt; says(&rt, rt.alloc(), fault, text), "{text}");
     }
     for (fault, text) in WRITES {
+        assert!(rt; says(&rt, rt.alloc(), fault, text), "{text}");
+    }
+    for (fault, text) in CHANGES {
+        assert!(rt; says(&rt, rt.alloc(), fault, text), "{text}");
+    }
+    for (fault, text) in MIGRATIONS {
         assert!(rt; says(&rt, rt.alloc(), fault, text), "{text}");
     }
     assert!(rt; says(&rt, rt.alloc(), &Busy, "another pass has the turn"));

@@ -1,14 +1,14 @@
-//! Scripts of puts and removes, over the store and over a plain list.
+//! Scripts of puts, removes and migrations, over the store and over a plain list.
 use crate::fixtures::{has_root, is_value, key, value, write};
 use crate::plain_list::PlainList;
 use crate::stores::{dealt, opened};
-use mst_key::{Key, Value};
-use mst_store::{Pass, Shape, WriteFault};
+use mst_key::{Format, Key, Value};
+use mst_store::{MigrateFault, Pass, Shape, WriteFault};
 use std::alloc::Global;
 use std::process::Abort;
 
-/// How many random changes a test makes.
-const CHANGES: u32 = 3_000;
+/// How many random calls a test makes.
+const CALLS: u32 = 3_000;
 
 /// Whether the pass finds at the key what the list has there.
 fn gets_as(pass: &mut Pass<Global>, key: &Key, list: &PlainList) -> bool {
@@ -32,11 +32,14 @@ struct Listed {
 /// What a write answers.
 type Answer = Result<Option<Value>, WriteFault>;
 
+/// What a migration answers.
+type Move = Result<Format, MigrateFault>;
+
 impl Listed {
-    /// The empty list beside a store of so many rows.
-    fn new(alloc: Global, rows: u32) -> Listed {
+    /// The empty list beside a store of so many rows, in its format.
+    fn new(alloc: Global, rows: u32, format: Format) -> Listed {
         Listed {
-            list: PlainList::new(alloc),
+            list: PlainList::new(alloc, format),
             taken: 0,
             rows: rows as usize,
         }
@@ -59,6 +62,23 @@ impl Listed {
             self.taken = cost.all;
         }
     }
+
+    /// Moves the list to the format, and compares whether there was room, and the format before.
+    fn follow_move(&mut self, rt: &(impl Abort + AllocGlobal), to: Format, answer: &Move) {
+        let list = self.list.moved(rt, rt.alloc(), to);
+        let cost = list.cost(&self.list);
+        let fits = self.taken.saturating_add(cost.new) <= self.rows;
+        let wanted = if fits {
+            Ok(self.list.format())
+        } else {
+            Err(MigrateFault::NoRoom)
+        };
+        assert!(rt; *answer == wanted);
+        if fits {
+            self.list = list;
+            self.taken = cost.all;
+        }
+    }
 }
 
 /// Puts, or removes where no value is given, and compares whether there was room and all that the
@@ -74,6 +94,21 @@ fn change(
     listed.follow(rt, key, new, &answer);
     assert!(rt; has_root(pass, &listed.list.root(rt, rt.alloc())));
     assert!(rt; gets_as(pass, key, &listed.list));
+    answer
+}
+
+/// Migrates to the format, and compares whether there was room, the format before, and the root
+/// digest.
+fn migrate(
+    rt: &(impl Abort + AllocGlobal),
+    pass: &mut Pass<Global>,
+    listed: &mut Listed,
+    to: Format,
+) -> Move {
+    let answer = pass.try_migrate(rt.alloc(), to);
+    listed.follow_move(rt, to, &answer);
+    assert!(rt; has_root(pass, &listed.list.root(rt, rt.alloc())));
+    assert!(rt; pass.format() == listed.list.format());
     answer
 }
 
@@ -110,7 +145,7 @@ type Step = (&'static [u8], Option<&'static [u8]>, Wanted, usize);
 
 /// Makes these changes in a new store of so many rows, of which this is the pass.
 fn run_all(rt: &(impl Abort + AllocGlobal), pass: &mut Pass<Global>, rows: u32, steps: &[Step]) {
-    let mut listed = Listed::new(rt.alloc(), rows);
+    let mut listed = Listed::new(rt.alloc(), rows, Format::One);
     for (bytes, new, wanted, taken) in steps {
         let new = match new {
             Some(bytes) => Some(value(rt, bytes)),
@@ -128,6 +163,7 @@ fn runs(rt: &(impl Abort + AllocGlobal), cases: &[(u32, &[Step])]) {
         let shape = Shape {
             rows: *rows,
             passes: 1,
+            format: Format::One,
         };
         let (store, seats) = opened(rt, rt.alloc(), shape);
         let mut passes = dealt(rt, rt.alloc(), &store, seats);
@@ -196,14 +232,41 @@ fn keys(rt: &(impl Abort + AllocGlobal)) -> Vec<Key> {
     keys
 }
 
-/// One random change, by the state of the generator: whether it found no room.
-fn random_change(
+/// What a random call came to.
+#[derive(Clone, Copy)]
+enum Outcome {
+    Changed,
+    Moved,
+    NoRoom,
+}
+
+/// A random migration by this pass.
+fn random_move(
+    rt: &(impl Abort + AllocGlobal),
+    pass: &mut Pass<Global>,
+    listed: &mut Listed,
+    choice: u8,
+) -> Outcome {
+    let to = if choice % 2 == 0 {
+        Format::One
+    } else {
+        Format::Two
+    };
+    match migrate(rt, pass, listed, to) {
+        Ok(_) => Outcome::Moved,
+        Err(_) => Outcome::NoRoom,
+    }
+}
+
+/// One random call, by the state of the generator: a migration, one time of sixteen, or else two
+/// puts for each remove.
+fn random_call(
     rt: &(impl Abort + AllocGlobal),
     passes: &mut [Pass<'_, Global>],
     listed: &mut Listed,
     keys: &[Key],
     state: u64,
-) -> bool {
+) -> Outcome {
     let bytes = state.to_be_bytes();
     let Some(key) = keys.get((state >> 33) as usize % 305) else {
         panic!(rt; "305 keys")
@@ -211,74 +274,96 @@ fn random_change(
     let Some(pass) = passes.get_mut(usize::from(bytes[1] % 2)) else {
         panic!(rt; "two passes")
     };
+    if bytes[2] % 16 == 0 {
+        return random_move(rt, pass, listed, bytes[4]);
+    }
     let new = value(rt, &[bytes[3] % 4]);
-    // two puts for each remove
     let new = if bytes[0] % 3 < 2 { Some(&new) } else { None };
-    change(rt, pass, listed, key, new).is_err()
+    match change(rt, pass, listed, key, new) {
+        Ok(_) => Outcome::Changed,
+        Err(_) => Outcome::NoRoom,
+    }
 }
 
-/// Three thousand random changes by two passes, from a generator that begins at the seed. It
-/// answers how many of them found no room.
-fn random_changes(
+/// How many random calls found no room, and how many migrations went through.
+#[derive(Clone, Copy)]
+struct Counts {
+    refused: u32,
+    moved: u32,
+}
+
+/// Three thousand random calls by two passes, from a generator that begins at the seed.
+fn random_calls(
     rt: &(impl Abort + AllocGlobal),
     passes: &mut [Pass<'_, Global>],
     listed: &mut Listed,
     seed: u64,
-) -> u32 {
+) -> Counts {
     let keys = keys(rt);
-    let (mut state, mut refused) = (seed, 0u32);
-    for _ in 0..CHANGES {
+    let mut counts = Counts {
+        refused: 0,
+        moved: 0,
+    };
+    let mut state = seed;
+    for _ in 0..CALLS {
         state = state
             .wrapping_mul(6_364_136_223_846_793_005)
             .wrapping_add(1_442_695_040_888_963_407);
-        if random_change(rt, passes, listed, &keys, state) {
-            refused = refused.saturating_add(1);
+        match random_call(rt, passes, listed, &keys, state) {
+            Outcome::Changed => {}
+            Outcome::Moved => counts.moved = counts.moved.saturating_add(1),
+            Outcome::NoRoom => counts.refused = counts.refused.saturating_add(1),
         }
     }
-    refused
+    counts
 }
 
-/// Some random changes find no room, and the map is not empty behind them.
-fn change_at_random(
+/// Some random calls find no room, some migrations go through, and the map is not empty behind
+/// them.
+fn call_at_random(
     rt: &(impl Abort + AllocGlobal),
     passes: &mut [Pass<'_, Global>],
-    rows: u32,
+    shape: Shape,
     seed: u64,
 ) {
-    let mut listed = Listed::new(rt.alloc(), rows);
-    let refused = random_changes(rt, passes, &mut listed, seed);
+    let mut listed = Listed::new(rt.alloc(), shape.rows, shape.format);
+    let Counts { refused, moved } = random_calls(rt, passes, &mut listed, seed);
     assert!(rt;
-        0 < refused && refused < CHANGES,
-        "{refused} changes were refused"
+        0 < refused && refused < CALLS,
+        "{refused} calls were refused"
     );
+    assert!(rt; 0 < moved, "no migration went through");
     let Some(pass) = passes.first_mut() else {
         panic!(rt; "two passes")
     };
     assert!(rt; count_rows(rt, pass, &listed) > 0);
 }
 
-/// Three thousand random changes answer as the list does, and some of them find no room.
-fn answers_as_the_list(rt: &(impl Abort + AllocGlobal), seed: u64) {
+/// Three thousand random calls of two passes of a store of so many rows, which opens in the format,
+/// answer as the list does.
+fn answers_as_the_list(rt: &(impl Abort + AllocGlobal), rows: u32, format: Format, seed: u64) {
     let shape = Shape {
-        rows: 240,
+        rows,
         passes: 2,
+        format,
     };
     let (store, seats) = opened(rt, rt.alloc(), shape);
     let mut passes = dealt(rt, rt.alloc(), &store, seats);
-    change_at_random(rt, &mut passes, 240, seed);
+    call_at_random(rt, &mut passes, shape, seed);
 }
 
 #[test]
 fn a_long_script_answers_as_the_list_does(rt: HostRuntime) {
-    answers_as_the_list(&rt, 1);
+    answers_as_the_list(&rt, 240, Format::One, 1);
 }
 
 #[test]
-fn a_second_long_script_answers_as_the_list_does(rt: HostRuntime) {
-    answers_as_the_list(&rt, 2);
+fn a_long_script_from_format_2_answers_as_the_list_does(rt: HostRuntime) {
+    answers_as_the_list(&rt, 240, Format::Two, 2);
 }
 
+// Both trees of the whole map nearly find room beside each other.
 #[test]
-fn a_third_long_script_answers_as_the_list_does(rt: HostRuntime) {
-    answers_as_the_list(&rt, 3);
+fn a_long_script_in_many_rows_answers_as_the_list_does(rt: HostRuntime) {
+    answers_as_the_list(&rt, 480, Format::One, 3);
 }

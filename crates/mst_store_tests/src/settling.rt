@@ -5,12 +5,16 @@ ghost use Rattle.mst_store.specs.Settling.{AreAllPasses};
 
 use crate::fixtures::{ROOT_OF_BOTH, gets, has_root, has_version};
 use crate::stores::{dealt, opened};
-use mst_key::{Key, Value};
+use mst_key::{Format, Key, Value};
 use mst_store::{Pass, Shape, meet, settle};
 use std::alloc::{Allocator, Global};
 use std::process::Abort;
 
-const LARGER: Shape = Shape { rows: 9, passes: 3 };
+const LARGER: Shape = Shape {
+    rows: 9,
+    passes: 3,
+    format: Format::One,
+};
 
 // Whether a put of a new key goes through.
 fn adds<A: Allocator + Copy>(pass: &mut Pass<A>, key: &[u8], value: &[u8]) -> bool
@@ -74,7 +78,15 @@ pub(crate) fn each_gets_what_all_put<A: Allocator + Copy>(
 
 #[test]
 fn settled_passes_get_what_each_put(rt: HostRuntime) {
-    let (store, seats) = opened(&rt, rt.alloc(), Shape { rows: 9, passes: 2 });
+    let (store, seats) = opened(
+        &rt,
+        rt.alloc(),
+        Shape {
+            rows: 9,
+            passes: 2,
+            format: Format::One,
+        },
+    );
     let mut passes = dealt(&rt, rt.alloc(), &store, seats);
     each_gets_what_all_put(&rt, &mut passes, &[1, 2]);
 }
@@ -146,7 +158,15 @@ fn all_have_the_root_of_both(rt: &impl Abort, passes: &mut [Pass<Global>])
 
 #[test]
 fn settled_passes_have_one_version_and_root(rt: HostRuntime) {
-    let (store, seats) = opened(&rt, rt.alloc(), Shape { rows: 9, passes: 2 });
+    let (store, seats) = opened(
+        &rt,
+        rt.alloc(),
+        Shape {
+            rows: 9,
+            passes: 2,
+            format: Format::One,
+        },
+    );
     let mut passes = dealt(&rt, rt.alloc(), &store, seats);
     all_have_the_root_of_both(&rt, &mut passes);
 }

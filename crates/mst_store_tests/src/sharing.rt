@@ -1,12 +1,14 @@
 //! What one pass writes the others read, one after another and in two threads.
-use crate::calls::Call::{Get, Next, Number, Put, Remove, Rows, Version};
+use crate::calls::Call::{Get, InFormat, Next, Number, Put, Remove, Rows, Version};
 use crate::calls::{Step, run};
-use crate::fixtures::{key, puts};
+use crate::fixtures::{key, migrates, other, puts};
 use crate::stores::{SMALL, both_passes, opened};
 use mst_key::{Key, Value};
-use mst_store::{Pass, WriteFault};
+use mst_store::Format::{One, Two};
+use mst_store::{Format, MigrateFault, Pass, Shape, WriteFault};
 use std::alloc::{Allocator, Global};
 use std::process::Abort;
+use std::sync::Wait;
 use std::thread::join;
 
 #[test]
@@ -32,40 +34,87 @@ fn passes_share_a_map(rt: HostRuntime) {
     run(&rt, &mut first, &mut second, STEPS);
 }
 
-// Whether each of a hundred writes of one pass and of the other, in turns, goes through.
-fn write_in_turns<A: Allocator + Copy>(first: &mut Pass<A>, second: &mut Pass<A>) -> bool {
+// Whether each of a hundred puts of one pass and of the other, in turns, goes through, and after
+// every fourth of them a migration to the other format.
+fn write_in_turns<A: Allocator + Copy>(
+    alloc: Global,
+    first: &mut Pass<A>,
+    second: &mut Pass<A>,
+    format: Format,
+) -> bool {
+    let mut was = format;
     for number in 0..100u8 {
         let old = [number.wrapping_sub(1)];
         let old: Option<&[u8]> = if number == 0 { None } else { Some(&old) };
         if !puts(first, b"a", &[number], old) || !puts(second, b"b", &[number], old) {
             return false;
         }
+        if number % 4 == 3 {
+            if !migrates(second, alloc, other(was), was) {
+                return false;
+            }
+            was = other(was);
+        }
     }
     true
 }
 
-#[test]
-fn passes_that_write_in_turns_are_never_refused(rt: HostRuntime) {
-    const AFTER: &[Step] = &[(1, Version(200)), (2, Rows(Some(3)))];
-    let (store, seats) = opened(&rt, rt.alloc(), SMALL);
-    let (mut first, mut second) = both_passes(&rt, rt.alloc(), &store, seats);
-    assert!(rt; write_in_turns(&mut first, &mut second));
-    run(&rt, &mut first, &mut second, AFTER);
+// Two passes of a store that opens in the format write in turns; then they answer so.
+fn in_turns(rt: &(impl Abort + AllocGlobal + Wait), format: Format, after: &[Step]) {
+    let shape = Shape {
+        rows: 8,
+        passes: 2,
+        format,
+    };
+    let (store, seats) = opened(rt, rt.alloc(), shape);
+    let (mut first, mut second) = both_passes(rt, rt.alloc(), &store, seats);
+    assert!(rt; write_in_turns(rt.alloc(), &mut first, &mut second, format));
+    run(rt, &mut first, &mut second, after);
 }
 
-// Puts the values 0 to 99 at the key, each until it goes through, and answers whether all went
-// through.
-fn put_all(pass: &mut Pass<Global>, key: &Key) -> bool {
+// In format 2 the key b has layer 1 and stands above a. The format changes an odd number of times.
+#[test]
+fn passes_that_write_in_turns_are_never_refused(rt: HostRuntime) {
+    const FROM_ONE: &[Step] = &[(1, Version(225)), (1, InFormat(Two)), (2, Rows(Some(4)))];
+    const FROM_TWO: &[Step] = &[(1, Version(225)), (1, InFormat(One)), (2, Rows(Some(3)))];
+    in_turns(&rt, One, FROM_ONE);
+    in_turns(&rt, Two, FROM_TWO);
+}
+
+// Migrates to the format until it goes through, and answers whether it did.
+fn moves_to(alloc: Global, pass: &mut Pass<Global>, to: Format) -> bool {
+    for _ in 0..1_000_000u32 {
+        match pass.try_migrate(alloc, to) {
+            Ok(_) => return true,
+            Err(MigrateFault::Busy | MigrateFault::NoRoom) => {}
+            Err(_) => return false,
+        }
+    }
+    false
+}
+
+// Puts the value at the key until it goes through, and answers whether it did.
+fn puts_at(pass: &mut Pass<Global>, key: &Key, value: &Value) -> bool {
+    for _ in 0..1_000_000u32 {
+        match pass.try_put(key, value) {
+            Ok(_) => return true,
+            Err(WriteFault::Busy | WriteFault::NoRoom) => {}
+            Err(WriteFault::VersionsSpent) => return false,
+        }
+    }
+    false
+}
+
+// Puts the values 0 to 99 at the key, each until it goes through, and migrates to and fro after
+// every tenth, at last to format 1. Answers whether all went through.
+fn put_all(alloc: Global, pass: &mut Pass<Global>, key: &Key) -> bool {
     for number in 0..100u8 {
         let Ok(value) = Value::new(&[number]) else {
             return false;
         };
-        for _ in 0..1_000_000u32 {
-            match pass.try_put(key, &value) {
-                Ok(_) => break,
-                Err(WriteFault::Busy | WriteFault::NoRoom) => {}
-                Err(WriteFault::VersionsSpent) => return false,
-            }
+        let to = if number % 20 == 9 { Two } else { One };
+        if !puts_at(pass, key, &value) || number % 10 == 9 && !moves_to(alloc, pass, to) {
+            return false;
         }
     }
     true
@@ -78,14 +127,18 @@ fn passes_in_two_threads_share_a_map(rt: HostRuntime) {
         (1, Get(b"b", Some(&[99]))),
         (2, Get(b"a", Some(&[99]))),
         (2, Get(b"b", Some(&[99]))),
+        // a hundred puts and ten migrations of each
+        (1, Version(220)),
+        (2, InFormat(One)),
+        (2, Rows(Some(3))),
     ];
     let (store, seats) = opened(&rt, rt.alloc(), SMALL);
     let (mut first, mut second) = both_passes(&rt, rt.alloc(), &store, seats);
-    let (a, b) = (key(&rt, b"a"), key(&rt, b"b"));
+    let (a, b, alloc) = (key(&rt, b"a"), key(&rt, b"b"), rt.alloc());
     let (one, other) = join(
         &rt,
-        || -> bool { put_all(&mut first, &a) },
-        || -> bool { put_all(&mut second, &b) },
+        || -> bool { put_all(alloc, &mut first, &a) },
+        || -> bool { put_all(alloc, &mut second, &b) },
     );
     assert!(rt; one && other);
     run(&rt, &mut first, &mut second, LAST);

@@ -94,7 +94,7 @@ pub(crate) fn is_right_or_refused<A: Allocator + Copy>(
     key: Option<&[u8]>,
 ) -> bool {
     let key = bound(key);
-    for units in 1..64usize {
+    for units in 1..192usize {
         match read_in(alloc, pass, key.as_ref(), units * 16) {
             Answered::NoMemory => {}
             Answered::Right => return units > 1,

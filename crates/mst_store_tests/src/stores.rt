@@ -3,11 +3,15 @@ ghost use Rattle.std.specs.Prelude.{◌≡◌, length};
 ghost use Rattle.mst_store.specs.Passes.{new_passes};
 
 use linked_list_allocator::LocalHeap;
-use mst_store::{Pass, Pinned, Seats, Shape, Store};
+use mst_store::{Format, Pass, Pinned, Seats, Shape, Store};
 use std::alloc::{Allocator, Global};
 use std::process::Abort;
 
-pub(crate) const SMALL: Shape = Shape { rows: 8, passes: 2 };
+pub(crate) const SMALL: Shape = Shape {
+    rows: 8,
+    passes: 2,
+    format: Format::One,
+};
 
 /// The bytes of a heap that holds a small store, and more.
 pub(crate) const AMPLE: usize = 16_384;

@@ -1,21 +1,26 @@
 ghost use Rattle.std.specs.Prelude.{◌≡◌, [], IfOk};
 ghost use Rattle.mst_words.specs.Layout.{table_words};
 ghost use Rattle.mst_words.specs.World.{dealer};
+ghost use Rattle.mst_key.specs.declared.format.Format.TheVariants.{One};
 
 use linked_list_allocator::LocalHeap;
 use mst_arena::{Desk, Row, Rows};
-use mst_key::Memory;
+use mst_key::{Format, Memory};
 use mst_words::{Board, Shape, Token};
 use std::alloc::Allocator;
 use std::marker::Brand;
 use std::process::Abort;
 
-const SMALL: Shape = Shape { rows: 4, passes: 2 };
+const SMALL: Shape = Shape {
+    rows: 4,
+    passes: 2,
+    format: Format::One,
+};
 
 // A table for 4 rows and 2 passes, and the dealer's token.
 fn opened<A: Allocator + Copy>(alloc: A) -> Result<(Board<A>, Token<A>), Memory>
     ensures ok { IfOk result (λ r. (r.1.table_id ≡ r.0) × (r.0.words ≡ table_words 4)
-        × (r.1.me ≡ (dealer 4 2 1, []))) }
+        × (r.1.me ≡ (dealer 4 2 One 1, []))) }
 {
     let desk = Desk::new(alloc, SMALL.rows, SMALL.passes + 2, 0)?;
     Board::open(alloc, SMALL, desk)
@@ -142,17 +147,17 @@ fn the_words_say_who_pins_a_record(rt: HostRuntime) {
     };
     let mut first = board.deal(&mut dealer);
     let mut second = board.deal(&mut dealer);
-    assert!(rt; board.pins(0) == 0 && board.pins(1) == 0);
+    assert!(rt; second.pins(0) == 0 && second.pins(1) == 0);
     let record = first.pin(1);
-    assert!(rt; board.pins(0) == 1 && board.pins(1) == 0);
+    assert!(rt; second.pins(0) == 1 && second.pins(1) == 0);
     let other = second.pin(2);
-    assert!(rt; board.pins(0) == 3);
+    assert!(rt; second.pins(0) == 3);
     first.unpin(1, record);
-    assert!(rt; board.pins(0) == 2);
+    assert!(rt; second.pins(0) == 2);
     let again = first.pin(1);
-    assert!(rt; board.pins(0) == 3);
+    assert!(rt; second.pins(0) == 3);
     second.forget(2, other);
-    assert!(rt; board.pins(0) == 1);
+    assert!(rt; second.pins(0) == 1);
     first.unpin(1, again);
-    assert!(rt; board.pins(0) == 0 && board.pins(33) == 0);
+    assert!(rt; second.pins(0) == 0 && second.pins(33) == 0);
 }

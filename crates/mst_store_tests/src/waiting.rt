@@ -5,7 +5,7 @@ use crate::calls::Call::{
 use crate::calls::{Step, run, script};
 use crate::fixtures::{ROOT_OF_NONE, key};
 use crate::stores::{AMPLE, SMALL, both_passes, dealt, fill, heap_of, opened};
-use mst_key::{Key, Value};
+use mst_key::{Format, Key, Value};
 use mst_store::{Pass, Shape};
 use std::alloc::Global;
 use std::sync::Wait;
@@ -74,6 +74,7 @@ fn writes_in_turn_of_two_threads_all_go_through(rt: HostRuntime) {
     let shape = Shape {
         rows: 16,
         passes: 2,
+        format: Format::One,
     };
     let (store, seats) = opened(&rt, rt.alloc(), shape);
     let (mut first, mut second) = both_passes(&rt, rt.alloc(), &store, seats);

@@ -1,5 +1,6 @@
 -- Rows that stand for a map and may be changed: each change is published at once.
 use Rattle.std.specs.Prelude.{◌≡◌, ◌<◌, nat_lt, ℕ, IsTrue, List, length, map, Option, Some, slice_get}
+use Rattle.mst_key.specs.declared.format.Format.TheVariants.{One}
 use Rattle.mst_arena.specs.Content.{listed}
 use Rattle.mst_arena.specs.Lives.{State, version, next, swept_life}
 use Rattle.mst_arena.specs.declared.life.Life.{Life}
@@ -14,7 +15,7 @@ AreWithin s rows = (r : ℕ) (life : Life) → slice_get s.lives r ≡ Some life
 -- The rows stand for a map at the root, all of them may be written, and one of two records is the
 -- current one.
 pub record IsReady (places : List (Option Row)) (s : State) (at : Root) : Type 0 where
-  pub stands : MapStands (listed places) s at
+  pub stands : MapStands One (listed places) s at
   pub within : AreWithin s (length places)
   pub records : length s.versions ≡ 2
   pub current : s.current < 2

@@ -6,7 +6,7 @@ ghost use Rattle.mst_key.specs.Map.{key_cmp};
 
 use crate::cases::{Case, ask};
 use crate::pairs::{key_of, value_of};
-use mst_key::{Change, Event, Key, Value};
+use mst_key::{Change, Event, Format, Key, Value};
 use std::alloc::{AllocError, Allocator, Global};
 use std::cmp::Ordering;
 use std::process::Abort;
@@ -145,14 +145,17 @@ pub fn value_is_cloned(rt: &impl Abort, bytes: &[u8]) -> bool {
     clone.bytes() == bytes && same_value(&value, &value.copy())
 }
 
-/// Whether a put is the same event as itself, and another than the removal of its key.
+/// Whether a put is the same event as itself, and another than the removal of its key and than a
+/// migration.
 pub fn events_are_compared(rt: &impl Abort, key: &[u8], value: &[u8]) -> bool {
     let key = key_of(rt, key);
     let change = Change::Put(key.copy(), value_of(rt, value));
     let put = Event { pass: 1, change };
     let change = Change::Remove(key);
     let remove = Event { pass: 1, change };
-    same_event(&put, &put) && !same_event(&put, &remove)
+    let change = Change::Migrate(Format::Two);
+    let moved = Event { pass: 1, change };
+    same_event(&put, &put) && !same_event(&put, &remove) && !same_event(&put, &moved)
 }
 
 const CLONES: &[Case] = &[

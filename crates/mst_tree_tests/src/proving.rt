@@ -5,17 +5,18 @@ ghost use Rattle.mst_key.specs.Map.{IsMap};
 
 mod collisions;
 pub mod forged;
+mod growths;
 mod maps;
 pub mod sizes;
 pub mod verdicts;
 
 use crate::heaps::{fill, heap_of};
-use crate::pairs::{are_digits, bytes_of, key_of, prints, root, top_of};
+use crate::pairs::{are_digits, bytes_of, key_of, prints};
 use linked_list_allocator::LocalHeap;
-use mst_key::{Key, Memory, Value};
-use mst_node::{build, is_map};
-use mst_proof::{ProofFault, collide, verify};
-use std::alloc::Global;
+use mst_key::{Format, Key, Memory, Value};
+use mst_node::{build_in, format_byte, is_map, root_of_in, text_in};
+use mst_proof::{ProofFault, collide_in, verify, verify_in};
+use std::alloc::{Allocator, Global};
 use std::cmp::Ordering;
 use std::process::Abort;
 
@@ -73,22 +74,36 @@ fn is_verdict(
     tell(rt, alloc, words, &verdict)
 }
 
+/// The text of the top node of the list's tree in a format.
+fn top_in<A: Allocator + Copy>(
+    alloc: A,
+    format: Format,
+    pairs: &[(Key, Value)],
+) -> Result<Option<Vec<u8, A>>, Memory>
+    requires few { length pairs.now ≤ 65535 }
+{
+    match build_in(alloc, format, pairs)? {
+        None => Ok(None),
+        Some(node) => Ok(Some(text_in(alloc, format, &node)?)),
+    }
+}
+
 /// The greatest layer of the keys.
-fn greatest_layer(pairs: &[(Key, Value)]) -> u8 {
+fn greatest_layer(format: Format, pairs: &[(Key, Value)]) -> u8 {
     let mut greatest = 0;
     for (key, _) in pairs {
-        greatest = greatest.max(key.layer());
+        greatest = greatest.max(key.layer_in(format));
     }
     greatest
 }
 
 /// The pairs in the key's gap among those of the greatest layer, or none where one of these has the
 /// key.
-fn gap_of<'a>(pairs: &'a [(Key, Value)], key: &Key) -> Option<&'a [(Key, Value)]> {
-    let greatest = greatest_layer(pairs);
+fn gap_of<'a>(format: Format, pairs: &'a [(Key, Value)], key: &Key) -> Option<&'a [(Key, Value)]> {
+    let greatest = greatest_layer(format, pairs);
     let mut start = 0;
     for (i, (at, _)) in pairs.iter().enumerate() {
-        if at.layer() != greatest {
+        if at.layer_in(format) != greatest {
             continue;
         }
         match key.cmp(at) {
@@ -110,8 +125,15 @@ fn push_text(rt: &impl Abort, proof: &mut Vec<u8>, text: &[u8]) {
 }
 
 /// Adds the text of the top node of the list's tree, and says whether there is one.
-fn push_top(rt: &impl Abort, alloc: Global, proof: &mut Vec<u8>, pairs: &[(Key, Value)]) -> bool {
-    match top_of(rt, alloc, pairs) {
+fn push_top(
+    rt: &impl Abort,
+    alloc: Global,
+    format: Format,
+    proof: &mut Vec<u8>,
+    pairs: &[(Key, Value)],
+) -> bool {
+    assert!(rt; pairs.len() <= 65_535);
+    match top_in(alloc, format, pairs).expect(rt, "memory") {
         Some(text) => {
             push_text(rt, proof, text.as_slice());
             true
@@ -125,40 +147,80 @@ fn push_top(rt: &impl Abort, alloc: Global, proof: &mut Vec<u8>, pairs: &[(Key, 
 fn push_texts(
     rt: &impl Abort,
     alloc: Global,
+    format: Format,
     proof: &mut Vec<u8>,
     pairs: &[(Key, Value)],
     key: &Key,
 ) -> u8 {
     let mut gap = pairs;
-    for count in 0..65u8 {
-        if !push_top(rt, alloc, proof, gap) {
+    for count in 0..129u8 {
+        if !push_top(rt, alloc, format, proof, gap) {
             return count;
         }
-        match gap_of(gap, key) {
+        match gap_of(format, gap, key) {
             None => return count + 1,
             Some(below) => gap = below,
         }
     }
-    65
+    129
+}
+
+/// The value of the key in the list.
+fn value_in<'a>(pairs: &'a [(Key, Value)], key: &Key) -> Option<&'a [u8]> {
+    for (at, value) in pairs {
+        if *at == *key {
+            return Some(value.bytes());
+        }
+    }
+    None
+}
+
+/// Adds what claims this answer: in format 1 nothing.
+fn push_claim(rt: &impl Abort, format: Format, proof: &mut Vec<u8>, answer: Option<&[u8]>) {
+    match (format, answer) {
+        (Format::One, _) => {}
+        (Format::Two, None) => proof.push(0).expect(rt, "memory"),
+        (Format::Two, Some(value)) => {
+            proof.push(1).expect(rt, "memory");
+            proof.push(value.len().min(64) as u8).expect(rt, "memory");
+            proof.extend_from_slice(value).expect(rt, "memory");
+        }
+    }
 }
 
 /// The proof of these texts, which are so many.
-fn framed(rt: &impl Abort, alloc: Global, count: u8, texts: &[u8]) -> Vec<u8> {
-    let mut proof = [1, count].to_vec(alloc).expect(rt, "memory");
+fn framed(rt: &impl Abort, alloc: Global, format: Format, count: u8, texts: &[u8]) -> Vec<u8> {
+    let heading = [format_byte(format), count];
+    let mut proof = heading.to_vec(alloc).expect(rt, "memory");
     proof.extend_from_slice(texts).expect(rt, "memory");
     proof
 }
 
 /// The proof for the key in the map of the list.
-fn proof_for(rt: &impl Abort, alloc: Global, pairs: &[(Key, Value)], key: &[u8]) -> Vec<u8> {
+fn proof_for(
+    rt: &impl Abort,
+    alloc: Global,
+    format: Format,
+    pairs: &[(Key, Value)],
+    key: &[u8],
+) -> Vec<u8> {
+    let key = key_of(rt, key);
     let mut texts = Vec::new(alloc);
-    let count = push_texts(rt, alloc, &mut texts, pairs, &key_of(rt, key));
-    framed(rt, alloc, count, texts.as_slice())
+    let count = push_texts(rt, alloc, format, &mut texts, pairs, &key);
+    let mut proof = framed(rt, alloc, format, count, texts.as_slice());
+    push_claim(rt, format, &mut proof, value_in(pairs, &key));
+    proof
 }
 
 /// Whether the proof is accepted for the key, with this value or with none.
-fn is_accepted(root: &[u8; 32], key: &Key, proof: &[u8], value: Option<&[u8]>) -> bool {
-    match (verify(root, key, proof), value) {
+fn is_accepted(
+    format: Format,
+    root: &[u8; 32],
+    key: &Key,
+    proof: &[u8],
+    value: Option<&[u8]>,
+) -> bool {
+    match (verify_in(format, root, key, proof), value) {
         (Ok(Some(shown)), Some(wanted)) => shown.bytes() == wanted,
         (Ok(None), None) => true,
         _ => false,
@@ -169,18 +231,25 @@ fn is_accepted(root: &[u8; 32], key: &Key, proof: &[u8], value: Option<&[u8]>) -
 fn proves(
     rt: &impl Abort,
     alloc: Global,
+    format: Format,
     pairs: &[(Key, Value)],
     key: &[u8],
     value: Option<&[u8]>,
 ) -> bool {
-    let root = root(rt, pairs);
-    let proof = proof_for(rt, alloc, pairs, key);
-    is_accepted(&root, &key_of(rt, key), proof.as_slice(), value)
+    assert!(rt; pairs.len() <= 65_535);
+    let root = root_of_in(format, pairs);
+    let proof = proof_for(rt, alloc, format, pairs, key);
+    is_accepted(format, &root, &key_of(rt, key), proof.as_slice(), value)
 }
 
-/// Whether `collide` finds a pair of texts beside no tree.
-fn collided_with_none(alloc: Global, key: &Key, proof: &[u8]) -> Result<bool, Memory> {
-    let pair = collide(alloc, key, proof, None)?;
+/// Whether `collide_in` finds a pair of texts beside no tree.
+fn collided_with_none(
+    alloc: Global,
+    format: Format,
+    key: &Key,
+    proof: &[u8],
+) -> Result<bool, Memory> {
+    let pair = collide_in(alloc, format, key, proof, None)?;
     Ok(pair.is_some())
 }
 
@@ -196,12 +265,13 @@ fn fill_but<'h>(
     filling
 }
 
-/// Whether `collide` finds a pair of texts beside the tree of the list, in a heap of which only so
-/// many blocks of 16 bytes are free once the tree stands. None where the list is empty, or the heap
-/// too small for the tree.
+/// Whether `collide_in` finds a pair of texts beside the tree of the list, in a heap of which only
+/// so many blocks of 16 bytes are free once the tree stands. None where the list is empty, or the
+/// heap too small for the tree.
 fn collided_in(
     rt: &impl Abort,
     alloc: Global,
+    format: Format,
     heap: &LocalHeap,
     pairs: &[(Key, Value)],
     asked: (&Key, &[u8]),
@@ -210,7 +280,7 @@ fn collided_in(
     requires few { length pairs.now ≤ 65535 }
     requires map { IsMap pairs.now }
 {
-    let Ok(tree) = build(heap, pairs) else {
+    let Ok(tree) = build_in(heap, format, pairs) else {
         return None;
     };
     let Some(node) = tree else {
@@ -218,17 +288,18 @@ fn collided_in(
     };
     let filling = fill_but(rt, alloc, heap, blocks);
     let (key, proof) = asked;
-    Some(match collide(heap, key, proof, Some(&*node)) {
+    Some(match collide_in(heap, format, key, proof, Some(&*node)) {
         Ok(pair) => Ok(pair.is_some()),
         Err(Memory) => Err(Memory),
     })
 }
 
-/// Whether `collide` finds a pair of texts beside the tree of the map, in a heap of so many bytes
-/// as above. The heap keeps nothing of what was asked.
+/// Whether `collide_in` finds a pair of texts beside the tree of the map, in a heap of so many
+/// bytes as above. The heap keeps nothing of what was asked.
 fn collided(
     rt: &impl Abort,
     alloc: Global,
+    format: Format,
     bytes: usize,
     pairs: &[(Key, Value)],
     (key, proof): (&[u8], &[u8]),
@@ -238,7 +309,7 @@ fn collided(
     assert!(rt; is_map(pairs));
     let heap = heap_of(rt, alloc, bytes);
     let key = key_of(rt, key);
-    let found = collided_in(rt, alloc, &heap, pairs, (&key, proof), blocks);
+    let found = collided_in(rt, alloc, format, &heap, pairs, (&key, proof), blocks);
     assert!(rt; heap.used() == 0, "nothing is kept");
     found
 }

@@ -2,23 +2,26 @@
 ghost use Rattle.std.specs.Prelude.{vec_len};
 ghost use Rattle.std.specs.List.Sorted.{IsSearchInRange};
 
-use mst_key::{Key, Value};
-use mst_node::root_of;
+use mst_key::{Format, Key, Value};
+use mst_node::root_of_in;
 use std::alloc::{AllocError, Global};
 use std::io;
 
-/// The pairs of a map in the order of their keys, and how many changes led to it.
+/// The pairs of a map in the order of their keys, the format of its tree, and how many changes led
+/// to them.
 #[derive(Drop)]
 pub struct List {
     pairs: Vec<(Key, Value)>,
+    format: Format,
     changes: u64,
 }
 
 impl List {
-    /// The empty list.
+    /// The empty list, in format 1.
     pub fn new(alloc: Global) -> List {
         List {
             pairs: Vec::new(alloc),
+            format: Format::One,
             changes: 0,
         }
     }
@@ -31,6 +34,7 @@ impl List {
         }
         Ok(List {
             pairs,
+            format: self.format,
             changes: self.changes,
         })
     }
@@ -38,6 +42,17 @@ impl List {
     /// How many pairs there are.
     pub fn len(&self) -> usize {
         self.pairs.len()
+    }
+
+    /// The format of the tree.
+    pub fn format(&self) -> Format {
+        self.format
+    }
+
+    /// Turns the tree to a format, which is one change.
+    pub fn migrate(&mut self, to: Format) {
+        self.format = to;
+        self.changes = self.changes.saturating_add(1);
     }
 
     /// How many changes there were.
@@ -118,11 +133,11 @@ impl List {
         self.pairs.get(start..end) == Some(found)
     }
 
-    /// The root digest of the map.
+    /// The root digest of the map in the list's format.
     pub fn root(&self) -> io::Result<[u8; 32]> {
         if self.pairs.len() > 65_535 {
             return Err(io::ErrorKind::Other.into());
         }
-        Ok(root_of(self.pairs.as_slice()))
+        Ok(root_of_in(self.format, self.pairs.as_slice()))
     }
 }

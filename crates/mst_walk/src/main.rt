@@ -1,8 +1,8 @@
 //! Walks at random over one store, and compares each answer with the map as a plain sorted list.
 //!
 //! `mst_walk [OPERATIONS]` makes so many calls, 20,000 where no number is given, by the eight
-//! passes of one store in one thread: puts, removes, gets, nexts, ranges, proofs, which it
-//! verifies, pins and unpins, and the numbers of versions and rows. After each 1,000 calls, and at
+//! passes of one store in one thread: puts, removes, migrations, gets, nexts, ranges, proofs, which
+//! it verifies, pins and unpins, and the numbers of versions, formats and rows. After each 1,000 calls, and at
 //! the end, it compares the root digest of each pass with that of the list that the pass is to
 //! read. Then it prints how many calls of each kind there were, how many writes found no room, how
 //! many answers were not the list's, and the root digest of the list. The status is 1 where an
@@ -22,7 +22,7 @@ mod tally;
 mod walk;
 
 use list::List;
-use mst_store::{Pass, Shape, Store};
+use mst_store::{Format, Pass, Shape, Store};
 use std::alloc::Global;
 use std::{env, io};
 use walk::{PASSES, Walk};
@@ -32,6 +32,7 @@ use walk::{PASSES, Walk};
 const SHAPE: Shape = Shape {
     rows: 3_000,
     passes: PASSES as u32,
+    format: Format::One,
 };
 
 /// How many calls there are where the command line has no number.

@@ -3,8 +3,8 @@ use crate::chance::Chance;
 use crate::list::List;
 use crate::pairs::{some_bound, some_key};
 use crate::tally::{Call, Tally};
-use mst_key::{Key, Memory, Value};
-use mst_proof::verify;
+use mst_key::{Format, Key, Memory, Value};
+use mst_proof::verify_in;
 use mst_store::{Pass, Pinned};
 use std::alloc::Global;
 use std::io;
@@ -31,6 +31,8 @@ pub trait Reads {
     fn root_digest(&mut self) -> [u8; 32];
 
     fn version_number(&mut self) -> u64;
+
+    fn tree_format(&mut self) -> Format;
 }
 
 impl<'a> Reads for Pass<'a, Global> {
@@ -63,6 +65,10 @@ impl<'a> Reads for Pass<'a, Global> {
     fn version_number(&mut self) -> u64 {
         self.version()
     }
+
+    fn tree_format(&mut self) -> Format {
+        self.format()
+    }
 }
 
 impl<'a> Reads for Pinned<'a, Global> {
@@ -94,6 +100,10 @@ impl<'a> Reads for Pinned<'a, Global> {
 
     fn version_number(&mut self) -> u64 {
         self.version()
+    }
+
+    fn tree_format(&mut self) -> Format {
+        self.format()
     }
 }
 
@@ -136,7 +146,7 @@ fn prove<R: Reads>(
     let Ok(proof) = reader.proof_of(alloc, &key) else {
         return Err(io::ErrorKind::OutOfMemory.into());
     };
-    match verify(&reader.root_digest(), &key, proof.as_slice()) {
+    match verify_in(list.format(), &reader.root_digest(), &key, proof.as_slice()) {
         Ok(answer) => Ok(answer == list.get(&key)),
         Err(_) => Ok(false),
     }
@@ -154,6 +164,7 @@ pub fn read<R: Reads>(
         0 => tally.add(Call::Range, range(alloc, reader, list, chance)?),
         1 => tally.add(Call::Prove, prove(alloc, reader, list, chance)?),
         2 => tally.add(Call::Version, reader.version_number() == list.changes()),
+        3 => tally.add(Call::Format, reader.tree_format() == list.format()),
         choice if choice < 24 => tally.add(Call::Next, next(reader, list, chance)),
         _ => tally.add(Call::Get, get(reader, list, chance)),
     }

@@ -8,13 +8,15 @@ use std::io;
 pub enum Call {
     Put,
     Remove,
-    /// A put or a remove that found no room.
+    Migrate,
+    /// A put, a remove or a migration that found no room.
     Refused,
     Get,
     Next,
     Range,
     Prove,
     Version,
+    Format,
     Rows,
     Pin,
     Unpin,
@@ -22,18 +24,20 @@ pub enum Call {
 }
 
 /// How many kinds of calls there are.
-const KINDS: usize = 12;
+const KINDS: usize = 14;
 
 /// What the lines call them.
 const NAMES: &[&str] = &[
     "puts",
     "removes",
+    "migrations",
     "writes without room",
     "gets",
     "nexts",
     "ranges",
     "proofs",
     "versions",
+    "formats",
     "rows",
     "pins",
     "unpins",
@@ -43,21 +47,23 @@ const NAMES: &[&str] = &[
 impl Call {
     // The place of the kind among the counts and the names.
     fn place(self) -> usize
-        ensures within { result < 12 }
+        ensures within { result < 14 }
     {
         match self {
             Call::Put => 0,
             Call::Remove => 1,
-            Call::Refused => 2,
-            Call::Get => 3,
-            Call::Next => 4,
-            Call::Range => 5,
-            Call::Prove => 6,
-            Call::Version => 7,
-            Call::Rows => 8,
-            Call::Pin => 9,
-            Call::Unpin => 10,
-            Call::Root => 11,
+            Call::Migrate => 2,
+            Call::Refused => 3,
+            Call::Get => 4,
+            Call::Next => 5,
+            Call::Range => 6,
+            Call::Prove => 7,
+            Call::Version => 8,
+            Call::Format => 9,
+            Call::Rows => 10,
+            Call::Pin => 11,
+            Call::Unpin => 12,
+            Call::Root => 13,
         }
     }
 }

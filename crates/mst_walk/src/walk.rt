@@ -6,13 +6,16 @@ use crate::list::List;
 use crate::pairs::{some_key, some_value};
 use crate::reads::{compare_root, read};
 use crate::tally::{Call, Tally};
-use mst_key::{Key, Value};
-use mst_store::{Pass, Pinned, WriteFault};
+use mst_key::{Format, Key, Value};
+use mst_store::{MigrateFault, Pass, Pinned, WriteFault};
 use std::alloc::Global;
 use std::io;
 
 /// How many passes the store has.
 pub const PASSES: usize = 8;
+
+/// Of how many chances of a migration one is taken, since it makes the whole tree anew.
+const BETWEEN_MOVES: usize = 16;
 
 /// The number that all choices follow from.
 const SEED: u64 = 2_019;
@@ -70,6 +73,33 @@ fn write(
         }
         Err(WriteFault::NoRoom) => tally.add(Call::Refused, is_pinned),
         Err(_) => tally.add(call, false),
+    }
+    Ok(())
+}
+
+// Turns the tree to one of the formats by a free pass, and compares the format before with the
+// list's.
+fn migrate(
+    alloc: Global,
+    pass: &mut Pass<'_, Global>,
+    list: &mut List,
+    chance: &mut Chance,
+    tally: &mut Tally,
+    is_pinned: bool,
+) -> io::Result<()> {
+    let to = if chance.below(2) == 0 {
+        Format::One
+    } else {
+        Format::Two
+    };
+    match pass.try_migrate(alloc, to) {
+        Ok(was) => {
+            tally.add(Call::Migrate, was == list.format());
+            list.migrate(to);
+        }
+        Err(MigrateFault::NoRoom) => tally.add(Call::Refused, is_pinned),
+        Err(MigrateFault::Memory) => return Err(io::ErrorKind::OutOfMemory.into()),
+        Err(_) => tally.add(Call::Migrate, false),
     }
     Ok(())
 }
@@ -134,6 +164,9 @@ impl<'a> Walk<'a> {
             1 => tally.add(Call::Rows, counts_rows(pass, list, is_pinned)),
             2..=26 => write(pass, list, chance, tally, Call::Put, is_pinned)?,
             27..=39 => write(pass, list, chance, tally, Call::Remove, is_pinned)?,
+            40 if chance.below(BETWEEN_MOVES) == 0 => {
+                migrate(self.alloc, pass, list, chance, tally, is_pinned)?
+            }
             _ => read(self.alloc, pass, list, chance, tally)?,
         }
         Ok(())

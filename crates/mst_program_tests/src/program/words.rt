@@ -23,7 +23,9 @@ Options:
 
 Examples:
   mst run --rows 64 --passes 2 < script
+  mst run --format 2 < script
   mst verify ROOT KEY < proof
+  mst verify --format 2 ROOT KEY < proof
   mst load --readers 4 --writers 2 --calls 1000
 
 Exit statuses:
@@ -50,6 +52,7 @@ Usage: mst run [OPTIONS]
 Options:
       --rows <N>    How many rows the store has, 4 to 65535 [default: 1024]
       --passes <N>  How many passes the store has, 1 to 32 [default: 4]
+      --format <F>  The format in which the store opens, 1 or 2 [default: 1]
   -h, --help        Print help
 ";
 
@@ -94,14 +97,15 @@ For more information, try '--help'.
 
 const VERIFY_HELP: &str = "Says what the proof on standard input, in hexadecimal, shows of a key
 
-Usage: mst verify <ROOT> <KEY>
+Usage: mst verify [OPTIONS] <ROOT> <KEY>
 
 Arguments:
   <ROOT>  The root digest of the map, 64 hexadecimal digits
   <KEY>   The key, 1 to 32 bytes of two hexadecimal digits each
 
 Options:
-  -h, --help  Print help
+      --format <F>  The format of the root digest and the proof, 1 or 2 [default: 1]
+  -h, --help        Print help
 ";
 
 const NO_KEY: &str = "error: the following required arguments were not provided:
@@ -114,7 +118,7 @@ For more information, try '--help'.
 
 const THIRD_WORD: &str = "error: unexpected argument 'c' found
 
-Usage: mst verify <ROOT> <KEY>
+Usage: mst verify [OPTIONS] <ROOT> <KEY>
 
 For more information, try '--help'.
 ";
@@ -126,6 +130,18 @@ Usage: mst <COMMAND>
 For more information, try '--help'.
 ";
 
+const NO_FORMAT: &str = "error: a value is required for '--format <F>' but none was supplied
+
+For more information, try '--help'.
+";
+
+const FORMAT_TWICE: &str = "error: the argument '--format <F>' cannot be used multiple times
+
+Usage: mst run [OPTIONS]
+
+For more information, try '--help'.
+";
+
 const READ: &[(&str, u8, &str, &str)] = &[
     ("mst run", 0, "none\n", ""),
     ("mst run --rows 4", 0, "none\n", ""),
@@ -133,6 +149,7 @@ const READ: &[(&str, u8, &str, &str)] = &[
     ("mst run --passes 1", 0, "none\n", ""),
     ("mst run --passes +1", 0, "none\n", ""),
     ("mst run --rows 0004", 0, "none\n", ""),
+    ("mst run --format 2", 0, "none\n", ""),
     ("mst replay", 0, "fault line\n", ""),
 ];
 
@@ -151,6 +168,8 @@ const OUT_OF_RANGE: &[(&str, u8, &str, &str)] = &[
     ("mst run --rows 4294967295", 2, "", "shape\n"),
     ("mst run --passes 0", 2, "", "shape\n"),
     ("mst run --passes 33", 2, "", "shape\n"),
+    ("mst run --format 3", 2, "", "shape\n"),
+    ("mst run --format x --rows 9 --passes 2", 2, "", "shape\n"),
 ];
 
 // Each number one below and one above its range, and far above.
@@ -164,6 +183,9 @@ const REFUSED: &[(&str, u8, &str, &str)] = &[
     ("mst run --passes 4294967296", 2, "", TOO_LARGE),
     ("mst run --rows 4 --rows 5", 2, "", TWICE),
     ("mst run --rows", 2, "", NO_VALUE),
+    ("mst run --format", 2, "", NO_FORMAT),
+    ("mst run --format 2 --format 2", 2, "", FORMAT_TWICE),
+    ("mst run --format 3 --rows x", 2, "", NO_NUMBER),
     ("mst replay extra", 2, "", EXTRA_WORD),
     ("mst frob", 2, "", NO_COMMAND),
     ("mst", 2, "", HELP),
@@ -188,6 +210,39 @@ const TOLD: &[(&str, u8, &str, &str)] = &[
 #[test]
 fn help_and_version_are_told(rt: HostRuntime) {
     each_comes_to(&rt, ONE_GET, TOLD);
+}
+
+const NO_SUCH_COMMAND_OF_RUN: &str = "error: unrecognized subcommand 'frob'
+
+Usage: mst run [OPTIONS]
+
+For more information, try '--help'.
+";
+
+const BESIDE_HELP: &[(&str, u8, &str, &str)] = &[
+    ("mst run --rows x --help", 2, "", NO_NUMBER),
+    ("mst run --version --help", 2, "", NO_SUCH_OPTION),
+    ("mst frob --help", 2, "", NO_COMMAND),
+    ("mst help frob", 2, "", NO_COMMAND),
+    ("mst help run frob", 2, "", NO_SUCH_COMMAND_OF_RUN),
+    ("mst replay extra -h", 2, "", EXTRA_WORD),
+    ("mst verify a b c --help", 2, "", THIRD_WORD),
+    ("mst verify help 61", 2, "", "bad root\n"),
+    ("mst run --help --rows x", 0, RUN_HELP, ""),
+    ("mst run --format 3 --help", 0, RUN_HELP, ""),
+    ("mst --help frob", 0, HELP, ""),
+    ("mst --help --version", 0, HELP, ""),
+    ("mst -hx", 0, HELP, ""),
+    ("mst -V", 0, VERSION, ""),
+    ("mst -Vx", 0, VERSION, ""),
+    ("mst --version frob", 0, VERSION, ""),
+    ("mst --version --help", 0, VERSION, ""),
+];
+
+// The first word that is wrong or asks for a text decides.
+#[test]
+fn wrong_words_beside_help(rt: HostRuntime) {
+    each_comes_to(&rt, ONE_GET, BESIDE_HELP);
 }
 
 /// Verifies the proof of the empty map by words round its root digest, and judges what that came

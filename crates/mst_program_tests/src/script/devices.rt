@@ -3,7 +3,7 @@ use super::{FIVE_ANSWERS, FIVE_LINES, run_over};
 use crate::failing::{Reader, Writer};
 use mst_devices::{BytesSink, BytesSource, Device, StdSink, StdSource};
 use mst_script::RunFault;
-use mst_store::Shape;
+use mst_store::{Format, Shape};
 use std::alloc::{AllocError, Global};
 use std::process::Abort;
 use std::test::Fail;
@@ -21,7 +21,11 @@ const PINS: [(&[u8], &[u8]); 9] = [
     (b"2 rows\n", b"rows 2\n"),
 ];
 
-const SHAPE: Shape = Shape { rows: 5, passes: 4 };
+const SHAPE: Shape = Shape {
+    rows: 5,
+    passes: 4,
+    format: Format::One,
+};
 
 /// All lines of the script of a pin, and all answers.
 fn pins(alloc: Global) -> Result<(Vec<u8>, Vec<u8>), AllocError> {

@@ -6,7 +6,7 @@ use super::{dealt, opened};
 use crate::failing::{Reader, Writer};
 use mst_devices::{BytesSink, BytesSource, Sink, Source, StdSink, StdSource};
 use mst_script::{RunFault, run};
-use mst_store::{Pass, Shape, Store};
+use mst_store::{Format, Pass, Shape, Store};
 use std::alloc::{AllocError, Global};
 use std::process::Abort;
 
@@ -72,7 +72,15 @@ fn ending_of<S: Source, W: Sink>(
     requires source { S.failures source.old < 2 ^ 64 - 1 }
     requires sink { W.failures sink.old < 2 ^ 64 - 1 }
 {
-    let (store, seats) = opened(rt, global, Shape { rows: 5, passes: 4 });
+    let (store, seats) = opened(
+        rt,
+        global,
+        Shape {
+            rows: 5,
+            passes: 4,
+            format: Format::One,
+        },
+    );
     let mut passes = dealt(rt, global, &store, seats);
     let ended = run(global, source, sink, &store, &mut passes);
     let all_serve = serve_again(global, &store, &mut passes);

@@ -6,7 +6,7 @@ use crate::texts::{PROOF_OF_THREE, TOP_OF_THREE};
 use linked_list_allocator::LocalHeap;
 use mst_devices::{BytesSink, BytesSource};
 use mst_script::{RunFault, run};
-use mst_store::{Pass, Shape, Store};
+use mst_store::{Format, Pass, Shape, Store};
 use std::alloc::Global;
 use std::process::Abort;
 use std::test::Fail;
@@ -14,6 +14,7 @@ use std::test::Fail;
 const SHAPE: Shape = Shape {
     rows: 16,
     passes: 4,
+    format: Format::One,
 };
 
 const NO_MEMORY: &[&[u8]] = &[b"none\nnone\nmemory\nfault L3\nsome 31\n"];
@@ -117,8 +118,9 @@ const PROOFS: &[u8] = b"1 put 61 31\n1 prove 61\n1 node\n1 get 61";
 
 const PROVED: &[u8] = b"none\n01010000000a01000001000161013100\n01000001000161013100\nsome 31\n";
 
-// The text of the node takes a little more memory than the proof in which it stands.
+// The proof asks for its first memory at once, more than the node's text takes.
 const NO_NODE_OR_PROOF: &[&[u8]] = &[
+    b"none\nmemory\n01000001000161013100\nsome 31\n",
     b"none\n01010000000a01000001000161013100\nmemory\nsome 31\n",
     b"none\nmemory\nmemory\nsome 31\n",
 ];
@@ -132,7 +134,28 @@ fn proofs_are_refused(rt: HostRuntime) -> Result<(), Fail> {
         whole: PROVED,
         less: NO_NODE_OR_PROOF,
     };
-    let seen = seen_in(&rt, rt.alloc(), &case, (130_900, 132_500, 8))?;
+    let seen = seen_in(&rt, rt.alloc(), &case, (130_900, 136_100, 16))?;
+    assert!(rt; seen.less && seen.whole);
+    Ok(())
+}
+
+const MIGRATION: &[u8] =
+    b"1 put 31 61\n1 put 39 31\n1 migrate 1\n1 migrate 2\n1 format\n1 get 31\n2 put 39 32";
+
+const MIGRATED: &[u8] = b"none\nnone\nwas 1\nwas 1\nformat 2\nsome 61\nsome 31\n";
+
+const STAYED: &[&[u8]] = &[b"none\nnone\nwas 1\nmemory\nformat 1\nsome 61\nsome 31\n"];
+
+// A heap that is large enough for the start, too small for the pairs or their tree at first, and
+// then large enough for both. To the format that stands no memory is taken in any of them.
+#[test]
+fn migrations_are_refused(rt: HostRuntime) -> Result<(), Fail> {
+    let case = Case {
+        script: MIGRATION,
+        whole: MIGRATED,
+        less: STAYED,
+    };
+    let seen = seen_in(&rt, rt.alloc(), &case, (130_900, 134_100, 8))?;
     assert!(rt; seen.less && seen.whole);
     Ok(())
 }
@@ -215,7 +238,15 @@ fn starts_over(
 // Whether a run of so many passes starts where a heap of so many bytes gives its memory.
 fn starts_in(rt: &impl Abort, alloc: Global, bytes: usize, passes: u32) -> Result<bool, Fail> {
     let heap = LocalHeap::new(alloc, bytes)?;
-    let (store, seats) = opened(rt, alloc, Shape { rows: 4, passes });
+    let (store, seats) = opened(
+        rt,
+        alloc,
+        Shape {
+            rows: 4,
+            passes,
+            format: Format::One,
+        },
+    );
     let mut passes = dealt(rt, alloc, &store, seats);
     starts_over(rt, alloc, &heap, &store, &mut passes)
 }

@@ -1,6 +1,6 @@
 //! Passes that pin a version.
 use super::{each_follows, each_is_answered, is_answered};
-use mst_store::Shape;
+use mst_store::{Format, Shape};
 use std::alloc::{AllocError, Global};
 use std::test::Fail;
 
@@ -88,6 +88,7 @@ fn all_passes_pin_versions(rt: HostRuntime) -> Result<(), Fail> {
     let shape = Shape {
         rows: 1024,
         passes: 32,
+        format: Format::One,
     };
     assert!(rt;
         is_answered(

@@ -1,21 +1,23 @@
-//! All scripts of five calls of three passes, over stores of 4, 5 and 6 rows, each compared with
-//! plain sets of versions.
+//! All scripts of five calls of three passes, over stores of 4, 5 and 6 rows, and all of four calls
+//! with migrations, over stores of 4 to 8 rows, each compared with plain sets of versions.
 //!
 //! A call is one of four of a pass: it pins, or ends its pin; it puts a first or a second value at
-//! the key a; it counts the rows. A pinned pass leaves out the last three.
-use crate::fixtures::{is_value, still_gets};
+//! the key a; it counts the rows. A fifth one migrates to the other format. A pinned pass leaves out
+//! all but the first.
+use crate::fixtures::{is_value, other, still_gets};
 use crate::stores::{Seat, dealt, opened};
-use mst_key::{Key, Value};
-use mst_store::{Pass, Pinned, Shape, WriteFault};
+use mst_key::{Format, Key, Value};
+use mst_store::{MigrateFault, Pass, Pinned, Shape, WriteFault};
 use std::alloc::{AllocError, Global};
 use std::process::Abort;
 
 /// A version: the change that made its two rows, from 1, or 0 for the empty map, which takes none;
-/// and the value of the key.
+/// the value of the key; and the format.
 #[derive(Clone, Copy)]
 struct Version {
     made: u32,
     value: Option<u8>,
+    format: Format,
 }
 
 /// A pass, and the version that it pins.
@@ -28,6 +30,7 @@ struct Place<'a> {
 /// A store of so many rows, and what is to be known of it.
 #[derive(Drop)]
 struct World<'a> {
+    alloc: Global,
     rows: u32,
     changes: u32,
     current: Version,
@@ -80,9 +83,29 @@ impl<'a> World<'a> {
             self.current = Version {
                 made: self.changes,
                 value: Some(byte),
+                format: self.current.format,
             };
         }
         answered == Some(fits)
+    }
+
+    // Migrates to the other format, and compares the answer: no room comes exactly where too few
+    // rows are free. The rows of the tree are made anew.
+    fn moves(&mut self, pass: &mut Pass<'a, Global>) -> bool {
+        let Version { made, format, .. } = self.current;
+        let cost = if made == 0 { 0 } else { 2 };
+        let fits = cost <= self.rows.saturating_sub(self.held());
+        let to = other(format);
+        let answered = pass.try_migrate(self.alloc, to);
+        if !fits {
+            return answered == Err(MigrateFault::NoRoom);
+        }
+        self.current.format = to;
+        if cost > 0 {
+            self.changes = self.changes.saturating_add(1);
+            self.current.made = self.changes;
+        }
+        answered == Ok(format)
     }
 
     // Counts the rows, and compares the answer: none exactly where a version is pinned.
@@ -99,7 +122,8 @@ impl<'a> World<'a> {
             0 => return (true, Seat::Held(pass.pin()), Some(self.current)),
             1 => self.puts(&mut pass, b'1'),
             2 => self.puts(&mut pass, b'2'),
-            _ => self.counts(&mut pass),
+            3 => self.counts(&mut pass),
+            _ => self.moves(&mut pass),
         };
         (right, Seat::Free(pass), None)
     }
@@ -123,18 +147,42 @@ impl<'a> World<'a> {
         right
     }
 
-    // Whether a script is answered right: five calls, each a digit of base 12.
-    fn answers(&mut self, script: u32) -> bool {
+    // Whether a script is answered right: each call is a digit of base 12 or, with migrations, of
+    // base 15.
+    fn answers(&mut self, scripts: Scripts, script: u32) -> bool {
         let mut rest = script;
-        for _ in 0..5u32 {
-            if !self.calls((rest % 3) as usize, rest / 3 % 4) {
+        for _ in 0..scripts.calls {
+            let kinds = scripts.kinds.max(1);
+            if !self.calls((rest % 3) as usize, rest / 3 % kinds) {
                 return false;
             }
-            rest /= 12;
+            rest = rest / 3 / kinds;
         }
         true
     }
 }
+
+/// All scripts of so many calls, each of one of so many kinds.
+#[derive(Clone, Copy)]
+struct Scripts {
+    calls: u32,
+    kinds: u32,
+    count: u32,
+}
+
+/// Five calls without migrations: 12 to the power of 5.
+const AT_REST: Scripts = Scripts {
+    calls: 5,
+    kinds: 4,
+    count: 248_832,
+};
+
+/// Four calls with migrations: 15 to the power of 4.
+const MOVING: Scripts = Scripts {
+    calls: 4,
+    kinds: 5,
+    count: 50_625,
+};
 
 // Whether a put answered this old value; or false where there was no room, and nothing where it
 // answered anything else.
@@ -158,6 +206,15 @@ fn put_over(pass: &mut Pass<Global>, byte: u8, old: Option<u8>) -> Option<bool> 
     }
 }
 
+// Whether the pinned pass reads the format and the value of the version.
+fn still_reads(pinned: &mut Pinned<Global>, version: Version) -> bool {
+    let same = pinned.format() == version.format;
+    match version.value {
+        Some(byte) => same && still_gets(pinned, b"a", Some(&[byte])),
+        None => same && still_gets(pinned, b"a", None),
+    }
+}
+
 // A call of a pinned pass: it ends its pin, if it still reads its version, or leaves the call out.
 fn ends<'a>(
     pinned: Pinned<'a, Global>,
@@ -169,13 +226,7 @@ fn ends<'a>(
         return (true, Seat::Held(pinned), version);
     }
     let right = match version {
-        Some(
-            Version {
-                value: Some(byte),
-                ..
-            },
-        ) => still_gets(&mut pinned, b"a", Some(&[byte])),
-        Some(Version { value: None, .. }) => still_gets(&mut pinned, b"a", None),
+        Some(version) => still_reads(&mut pinned, version),
         None => false,
     };
     (right, Seat::Free(pinned.unpin()), None)
@@ -205,8 +256,16 @@ fn free_places<'a>(
 }
 
 // Whether a script is answered right over a new store.
-fn is_right(rt: &(impl Abort + AllocGlobal), rows: u32, script: u32) -> bool {
-    let (store, seats) = opened(rt, rt.alloc(), Shape { rows, passes: 3 });
+fn is_right(rt: &(impl Abort + AllocGlobal), rows: u32, scripts: Scripts, script: u32) -> bool {
+    let (store, seats) = opened(
+        rt,
+        rt.alloc(),
+        Shape {
+            rows,
+            passes: 3,
+            format: Format::One,
+        },
+    );
     let passes = dealt(rt, rt.alloc(), &store, seats);
     let Ok(places) = free_places(rt.alloc(), passes) else {
         return false;
@@ -214,34 +273,43 @@ fn is_right(rt: &(impl Abort + AllocGlobal), rows: u32, script: u32) -> bool {
     let current = Version {
         made: 0,
         value: None,
+        format: Format::One,
     };
     let mut world = World {
+        alloc: rt.alloc(),
         rows,
         changes: 0,
         current,
         places,
     };
-    world.answers(script)
+    world.answers(scripts, script)
 }
 
 // All scripts over a store of so many rows.
-fn all_are_right(rt: &(impl Abort + AllocGlobal), rows: u32) {
-    for script in 0..248_832u32 {
-        assert!(rt; is_right(rt, rows, script), "script {script}");
+fn all_are_right(rt: &(impl Abort + AllocGlobal), rows: u32, scripts: Scripts) {
+    for script in 0..scripts.count {
+        assert!(rt; is_right(rt, rows, scripts, script), "script {script}");
     }
 }
 
 #[test]
 fn at_rest_in_four_rows(rt: HostRuntime) {
-    all_are_right(&rt, 4);
+    all_are_right(&rt, 4, AT_REST);
 }
 
 #[test]
 fn at_rest_in_five_rows(rt: HostRuntime) {
-    all_are_right(&rt, 5);
+    all_are_right(&rt, 5, AT_REST);
 }
 
 #[test]
 fn at_rest_in_six_rows(rt: HostRuntime) {
-    all_are_right(&rt, 6);
+    all_are_right(&rt, 6, AT_REST);
+}
+
+#[test]
+fn moving_in_four_to_eight_rows(rt: HostRuntime) {
+    for rows in 4..=8u32 {
+        all_are_right(&rt, rows, MOVING);
+    }
 }

@@ -4,7 +4,7 @@ ghost use Rattle.std.specs.Prelude.{◌≡◌};
 use crate::fixtures::{PROOF_OF_BOTH, counts, gets, puts, still_gets};
 use crate::stores::{AMPLE, SMALL, both_passes, fill, heap_of, is_full, opened};
 use linked_list_allocator::LocalHeap;
-use mst_key::Key;
+use mst_key::{Format, Key};
 use mst_store::{Memory, Pass, Pinned, Seats, Shape, Store};
 use std::alloc::Global;
 use std::process::Abort;
@@ -53,6 +53,7 @@ fn each_growth_of_deal_is_refused(rt: HostRuntime) {
         Shape {
             rows: 4,
             passes: 32,
+            format: Format::One,
         },
     );
     let refused = refused_heaps(&rt, &store, seats);
@@ -96,7 +97,7 @@ fn read_in(
 // Whether the read of the pinned pass answers in each heap of this many 16 bytes that there is no
 // memory, up to one in which it answers right.
 fn is_right_or_refused(alloc: Global, pinned: &mut Pinned<Global>, key: Option<&Key>) -> bool {
-    for units in 1..64usize {
+    for units in 1..192usize {
         match read_in(alloc, pinned, key, units * 16) {
             Some(right) => return right && units > 1,
             None => {

@@ -1,7 +1,7 @@
 //! Stores with each number of passes.
 use crate::fixtures::{counts, gets, puts};
 use crate::stores::{dealt, opened};
-use mst_store::{Pass, Shape};
+use mst_store::{Format, Pass, Shape};
 use std::alloc::Global;
 use std::process::Abort;
 
@@ -40,6 +40,7 @@ fn serves_all(rt: &(impl Abort + AllocGlobal), number: u8) -> bool {
     let shape = Shape {
         rows: 4,
         passes: u32::from(number),
+        format: Format::One,
     };
     let (store, seats) = opened(rt, rt.alloc(), shape);
     let mut passes = dealt(rt, rt.alloc(), &store, seats);

@@ -1,51 +1,85 @@
-//! Collisions that are not there, and growths that are refused to the search for one.
-use super::{THREE_PROOF, TWO_PROOF, collided, collided_with_none, proof_for};
-use crate::pairs::{TWO_PAIRS, bytes_of, key_of, numbered, spelt};
-use mst_key::{Key, Memory, Value};
+//! Collisions that are not there.
+use super::{THREE_PROOF, TWO_PROOF, collided, collided_with_none};
+use crate::pairs::{TWO_PAIRS, bytes_of, key_of, spelt};
+use mst_key::{Format, Key, Value};
 use std::alloc::Global;
 use std::process::Abort;
 
-const PROOFS: &[&str] = &[TWO_PROOF, THREE_PROOF, "0100", "010100000000", ""];
+/// The key `abc` with the value `a`.
+const ONE_PAIR: &[(&str, &str)] = &[("abc", "a")];
 
-/// Whether no texts of the proof collide, alone and beside the tree of the pairs.
-fn is_free(rt: &impl Abort, alloc: Global, pairs: &[(Key, Value)], proof: &str) -> bool {
-    let proof = bytes_of(rt, alloc, proof);
-    let proof = proof.as_slice();
-    collided_with_none(alloc, &key_of(rt, b"b"), proof) == Ok(false)
-        && collided(rt, alloc, 32768, pairs, (b"b", proof), 4096) == Some(Ok(false))
+type Pairs = &'static [(&'static str, &'static str)];
+
+/// The format, the pairs of a map, a key, and a proof.
+const ASKED: &[(Format, Pairs, &str, &str)] = &[
+    (Format::One, TWO_PAIRS, "b", TWO_PROOF),
+    (Format::One, TWO_PAIRS, "b", THREE_PROOF),
+    (Format::One, TWO_PAIRS, "b", "0100"),
+    (Format::One, TWO_PAIRS, "b", "010100000000"),
+    (Format::One, TWO_PAIRS, "b", ""),
+    // the map's value is claimed, another one, absence, and neither
+    (
+        Format::Two,
+        ONE_PAIR,
+        "abc",
+        "02010000002a020000010003616263ca978112ca1bbdcafac231b39a23dc4da786eff8147c4e72b9807785afee48bb00010161",
+    ),
+    (
+        Format::Two,
+        ONE_PAIR,
+        "abc",
+        "02010000002a020000010003616263ca978112ca1bbdcafac231b39a23dc4da786eff8147c4e72b9807785afee48bb00010162",
+    ),
+    (
+        Format::Two,
+        ONE_PAIR,
+        "abc",
+        "02010000002a020000010003616263ca978112ca1bbdcafac231b39a23dc4da786eff8147c4e72b9807785afee48bb0000",
+    ),
+    (
+        Format::Two,
+        ONE_PAIR,
+        "abc",
+        "02010000002a020000010003616263ca978112ca1bbdcafac231b39a23dc4da786eff8147c4e72b9807785afee48bb0002",
+    ),
+    (Format::Two, TWO_PAIRS, "b", "020000"),
+    (Format::Two, TWO_PAIRS, "b", "02000101ff"),
+    (Format::Two, TWO_PAIRS, "b", "02010000000000"),
+    (Format::Two, TWO_PAIRS, "b", TWO_PROOF),
+    (Format::Two, TWO_PAIRS, "b", ""),
+];
+
+/// Whether nothing in the proof collides, alone and beside the tree of the pairs.
+fn is_free(
+    rt: &impl Abort,
+    alloc: Global,
+    format: Format,
+    pairs: &[(Key, Value)],
+    key: &[u8],
+    proof: &[u8],
+) -> bool {
+    collided_with_none(alloc, format, &key_of(rt, key), proof) == Ok(false)
+        && collided(rt, alloc, format, 32768, pairs, (key, proof), 4096) == Some(Ok(false))
 }
 
-/// Asks each proof beside these pairs.
-fn ask_each(rt: &impl Abort, alloc: Global, pairs: &[(Key, Value)]) {
-    for proof in PROOFS {
-        assert!(rt; is_free(rt, alloc, pairs, proof), "{proof}");
-    }
+/// Asks a proof beside these pairs.
+fn ask(rt: &impl Abort, alloc: Global, (format, rows, key, digits): (Format, Pairs, &str, &str)) {
+    let pairs = spelt(rt, alloc, rows);
+    let proof = bytes_of(rt, alloc, digits);
+    let free = is_free(
+        rt,
+        alloc,
+        format,
+        pairs.as_slice(),
+        key.as_bytes(),
+        proof.as_slice(),
+    );
+    assert!(rt; free, "{digits}");
 }
 
 #[test]
 fn no_collision(rt: HostRuntime) {
-    let pairs = spelt(&rt, rt.alloc(), TWO_PAIRS);
-    ask_each(&rt, rt.alloc(), pairs.as_slice());
-}
-
-/// The least number of free blocks in which the search ends with no collision: 1,024 where each
-/// heap refused it.
-fn least_blocks(rt: &impl Abort, alloc: Global, pairs: &[(Key, Value)], key: &[u8]) -> usize {
-    let proof = proof_for(rt, alloc, pairs, key);
-    for blocks in 0..1024usize {
-        match collided(rt, alloc, 32768, pairs, (key, proof.as_slice()), blocks) {
-            Some(Ok(false)) => return blocks,
-            Some(Err(Memory)) => {}
-            _ => panic!(rt; "a collision, or no tree"),
-        }
+    for asked in ASKED {
+        ask(&rt, rt.alloc(), *asked);
     }
-    1024
-}
-
-#[test]
-fn each_growth_is_refused(rt: HostRuntime) {
-    let pairs = numbered(&rt, rt.alloc(), 40);
-    let least = least_blocks(&rt, rt.alloc(), pairs.as_slice(), &[0, 0, 40]);
-    assert!(rt; least > 16, "refused before");
-    assert!(rt; least < 1024, "refused with ample memory");
 }

@@ -3,7 +3,7 @@ use super::{THREE, THREE_PROOF, framed, is_verdict, push_text, root_in};
 use crate::cases::{Case, ask};
 use crate::nodes::digest_of;
 use crate::pairs::bytes_of;
-use mst_key::Key;
+use mst_key::{Format, Key};
 use mst_proof::{ProofFault, verify};
 use std::alloc::Global;
 use std::process::Abort;
@@ -75,7 +75,8 @@ fn push_digits(rt: &impl Abort, alloc: Global, proof: &mut Vec<u8>, texts: &[&st
 fn proof_of(rt: &impl Abort, alloc: Global, digits: &[&str]) -> Vec<u8> {
     let mut texts = Vec::new(alloc);
     push_digits(rt, alloc, &mut texts, digits);
-    framed(rt, alloc, digits.len().min(255) as u8, texts.as_slice())
+    let count = digits.len().min(255) as u8;
+    framed(rt, alloc, Format::One, count, texts.as_slice())
 }
 
 /// Whether this is the verdict on a proof of these texts, with the digest of the first one as its

@@ -1,48 +1,85 @@
 //! The proofs of larger maps.
 use super::{collided, proof_for, proves};
 use crate::pairs::numbered;
-use mst_key::{Key, Value};
+use mst_key::{Format, Key, Value};
 use std::alloc::Global;
 use std::process::Abort;
 
-/// Whether no texts of the proof for the key collide beside the tree of the map. Of no pairs there
+/// Whether nothing in the proof for the key collides beside the tree of the map. Of no pairs there
 /// is none.
-fn is_free(rt: &impl Abort, alloc: Global, pairs: &[(Key, Value)], key: &[u8]) -> bool {
-    let proof = proof_for(rt, alloc, pairs, key);
-    match collided(rt, alloc, 524288, pairs, (key, proof.as_slice()), 4096) {
+fn is_free(
+    rt: &impl Abort,
+    alloc: Global,
+    format: Format,
+    pairs: &[(Key, Value)],
+    key: &[u8],
+) -> bool {
+    let proof = proof_for(rt, alloc, format, pairs, key);
+    match collided(
+        rt,
+        alloc,
+        format,
+        524288,
+        pairs,
+        (key, proof.as_slice()),
+        4096,
+    ) {
         Some(found) => found == Ok(false),
         None => pairs.is_empty(),
     }
 }
 
 /// Whether the map of some numbers proves its value of a number, and that it has no key behind it,
-/// where no texts collide.
-fn is_proved(rt: &impl Abort, alloc: Global, pairs: &[(Key, Value)], i: u32) -> bool {
+/// where nothing collides.
+fn is_proved(
+    rt: &impl Abort,
+    alloc: Global,
+    format: Format,
+    pairs: &[(Key, Value)],
+    i: u32,
+) -> bool {
     let bytes = i.to_be_bytes();
     let value = if (i as usize) < pairs.len() {
         Some(&bytes[2..])
     } else {
         None
     };
-    proves(rt, alloc, pairs, &bytes[1..], value)
-        && proves(rt, alloc, pairs, &bytes, None)
-        && is_free(rt, alloc, pairs, &bytes)
+    proves(rt, alloc, format, pairs, &bytes[1..], value)
+        && proves(rt, alloc, format, pairs, &bytes, None)
+        && is_free(rt, alloc, format, pairs, &bytes[1..])
+        && is_free(rt, alloc, format, pairs, &bytes)
 }
 
 /// Asks the map of so many numbers for each one of such steps, up to two that it does not have.
-fn ask(rt: &impl Abort, alloc: Global, pairs: &[(Key, Value)], count: u32, step: usize) {
+fn ask(
+    rt: &impl Abort,
+    alloc: Global,
+    format: Format,
+    pairs: &[(Key, Value)],
+    count: u32,
+    step: usize,
+) {
     for i in (0..count.saturating_add(2)).step_by(step.max(1)) {
-        assert!(rt; is_proved(rt, alloc, pairs, i), "{i} of {count}");
+        assert!(rt; is_proved(rt, alloc, format, pairs, i), "{i} of {count}");
     }
 }
 
-/// How many numbers a map has, and in which steps they are asked.
-const MAPS: &[(u32, usize)] = &[(0, 1), (1, 1), (17, 1), (1000, 251)];
+/// The format of a map, how many numbers it has, and in which steps they are asked.
+const MAPS: &[(Format, u32, usize)] = &[
+    (Format::One, 0, 1),
+    (Format::One, 1, 1),
+    (Format::One, 17, 1),
+    (Format::One, 1000, 251),
+    (Format::Two, 0, 1),
+    (Format::Two, 1, 1),
+    (Format::Two, 17, 1),
+    (Format::Two, 1000, 251),
+];
 
 #[test]
 fn proofs_of_maps(rt: HostRuntime) {
-    for (count, step) in MAPS {
+    for (format, count, step) in MAPS {
         let pairs = numbered(&rt, rt.alloc(), *count);
-        ask(&rt, rt.alloc(), pairs.as_slice(), *count, *step);
+        ask(&rt, rt.alloc(), *format, pairs.as_slice(), *count, *step);
     }
 }

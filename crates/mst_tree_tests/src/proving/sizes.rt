@@ -1,12 +1,13 @@
 //! Maps of many sizes, and nodes of many entries with long values, in ample memory: no call may
 //! answer that memory was refused.
-ghost use Rattle.std.specs.Prelude.{◌≤◌, length};
+ghost use Rattle.std.specs.Prelude.{◌≡◌, ◌≤◌, length};
 ghost use Rattle.mst_key.specs.Map.{IsMap};
+ghost use Rattle.mst_key.specs.declared.format.Format.TheVariants.{One};
 
 use super::{proof_for, proves};
 use crate::nodes::has_root;
 use crate::pairs::{key_of, numbered, pair, roots_agree, text_of};
-use mst_key::{Key, Memory, Value};
+use mst_key::{Format, Key, Memory, Value};
 use mst_node::{Flat, build, is_map, read_text};
 use mst_proof::collide;
 use std::alloc::Global;
@@ -62,7 +63,9 @@ pub fn pairs_of_one_node(rt: &impl Abort, alloc: Global, end: u32) -> Vec<(Key, 
 
 /// Whether a node of layer 0 without children has as many entries as there are pairs, and each so
 /// many of its entries is the pair at its place.
-fn has_pairs(flat: &Flat<'_>, pairs: &[(Key, Value)], step: usize) -> bool {
+fn has_pairs(flat: &Flat<'_>, pairs: &[(Key, Value)], step: usize) -> bool
+    requires whole { flat.now.format ≡ One }
+{
     if flat.layer() != 0 || flat.len() != pairs.len() {
         return false;
     }
@@ -106,8 +109,14 @@ pub const ABSENT: &[u8] = &[0xff];
 /// Whether the pair in the middle is proved, and the absence of a key behind all.
 fn middle_is_proved(rt: &impl Abort, alloc: Global, pairs: &[(Key, Value)]) -> bool {
     let (held, value) = pairs.get(pairs.len() / 2).expect(rt, "a pair");
-    proves(rt, alloc, pairs, held.bytes(), Some(value.bytes()))
-        && proves(rt, alloc, pairs, ABSENT, None)
+    proves(
+        rt,
+        alloc,
+        Format::One,
+        pairs,
+        held.bytes(),
+        Some(value.bytes()),
+    ) && proves(rt, alloc, Format::One, pairs, ABSENT, None)
 }
 
 /// Whether no texts of this proof for the key behind all and of the map's tree collide.
@@ -119,7 +128,7 @@ pub fn is_free(rt: &impl Abort, alloc: Global, pairs: &[(Key, Value)], proof: &[
 
 /// Whether neither its own proof nor another collides with the map's tree.
 fn proofs_are_free(rt: &impl Abort, alloc: Global, pairs: &[(Key, Value)]) -> bool {
-    let mut proof = proof_for(rt, alloc, pairs, ABSENT);
+    let mut proof = proof_for(rt, alloc, Format::One, pairs, ABSENT);
     let own = is_free(rt, alloc, pairs, proof.as_slice());
     // the last byte says that no child stands behind the last entry
     let none = proof.pop() == Some(0);

@@ -3,7 +3,7 @@ ghost use Rattle.std.specs.Prelude.{◌≡◌, IfOk, length};
 
 use crate::pairs::{THREE_PAIRS, numbered, prints, spelt};
 use mst_arena::{Desk, EntryLinks, HeadLinks, Root, Row, Rows};
-use mst_key::{Key, Memory, Value};
+use mst_key::{Format, Key, Memory, Value};
 use mst_node::{build, root_of};
 use mst_path::{NoRoom, plant};
 use std::alloc::Global;
@@ -159,7 +159,7 @@ fn planted(
     let tree = build(alloc, pairs)?;
     let mut desk = Desk::new(alloc, size, 2, 0)?;
     let mut rows = OpenRows::new(alloc, size)?;
-    let root = plant(&mut rows, &mut desk, tree.as_deref());
+    let root = plant(&mut rows, &mut desk, tree.as_deref(), Format::One);
     Ok(Outcome {
         root,
         free: desk.free(),

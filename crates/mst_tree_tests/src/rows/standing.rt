@@ -2,12 +2,13 @@
 ghost use Rattle.std.specs.Prelude.{◌≡◌, ◌≤◌, ◌<◌, List, length, option_copied};
 ghost use Rattle.mst_key.specs.Map.{Pair, IsMap};
 ghost use Rattle.mst_arena.specs.Lives.{next, last_version};
+ghost use Rattle.mst_key.specs.declared.format.Format.TheVariants.{One};
 ghost use Rattle.mst_path.specs.Planting.{tree_at, IsTreeOf};
 ghost use Rattle.mst_tree_tests.specs.Ready.{IsPublished};
 
 use super::counted::{CountedRows, Reads};
 use mst_arena::{Desk, Root, VersionsSpent};
-use mst_key::{Key, Memory, Value};
+use mst_key::{Format, Key, Memory, Value};
 use mst_node::{Node, build, is_map};
 use mst_path::{NoRoom, plant, put, remove};
 use std::alloc::{Allocator, Global};
@@ -59,13 +60,13 @@ impl<A: Allocator + Copy> StandingMap<A> {
         tree: Option<&Node<B>>,
         size: u32,
     ) -> Result<StandingMap<A>, Memory>
-        requires tree { (m : List Pair) × IsMap m × IsTreeOf (tree_at (option_copied tree)) m }
+        requires tree { (m : List Pair) × IsMap m × IsTreeOf One (tree_at One (option_copied tree)) m }
         requires some { 0 < size }
         requires few { size ≤ 65535 }
     {
         let mut desk = Desk::new(alloc, size, 2, 0)?;
         let mut rows = CountedRows::new(alloc, size)?;
-        let Ok(root) = plant(&mut rows, &mut desk, tree) else {
+        let Ok(root) = plant(&mut rows, &mut desk, tree, Format::One) else {
             panic!(rt; "no room")
         };
         publish(&mut desk);
@@ -119,7 +120,14 @@ impl<A: Allocator + Copy> StandingMap<A> {
         value: &Value,
     ) -> Result<Result<Option<Value>, NoRoom>, VersionsSpent> {
         self.desk.next_version()?;
-        let (root, old) = match put(&mut self.rows, &mut self.desk, &self.root, key, value) {
+        let (root, old) = match put(
+            &mut self.rows,
+            &mut self.desk,
+            &self.root,
+            key,
+            value,
+            Format::One,
+        ) {
             Ok(done) => done,
             Err(refused) => return Ok(Err(refused)),
         };
@@ -131,7 +139,13 @@ impl<A: Allocator + Copy> StandingMap<A> {
     /// Removes a key, and answers the value that it had.
     fn remove(&mut self, key: &Key) -> Result<Result<Option<Value>, NoRoom>, VersionsSpent> {
         self.desk.next_version()?;
-        let (root, old) = match remove(&mut self.rows, &mut self.desk, &self.root, key) {
+        let (root, old) = match remove(
+            &mut self.rows,
+            &mut self.desk,
+            &self.root,
+            key,
+            Format::One,
+        ) {
             Ok(done) => done,
             Err(refused) => return Ok(Err(refused)),
         };
@@ -198,7 +212,7 @@ impl<A: Allocator + Copy> StandingMap<A> {
         alloc: B,
         key: &Key,
     ) -> Result<Vec<u8, B>, Memory> {
-        mst_read::prove(alloc, &mut self.rows, &self.root, key)
+        mst_read::prove(alloc, &mut self.rows, &self.root, key, Format::One)
     }
 
     /// The root digest.

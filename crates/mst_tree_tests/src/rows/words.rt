@@ -81,7 +81,7 @@ const FAULTS: &[([u64; 16], usize, u64)] = &[
     (ENTRY_WORDS, 4, 0x6162_0000_0000_0001),
     (ENTRY_WORDS, 7, 1),
     (ENTRY_WORDS, 15, 1),
-    (HEAD_WORDS, 1, 65),
+    (HEAD_WORDS, 1, 129),
     (HEAD_WORDS, 2, 0),
     (HEAD_WORDS, 2, 65_535),
     (HEAD_WORDS, 3, 0),

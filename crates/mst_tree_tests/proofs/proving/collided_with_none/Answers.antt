@@ -1,8 +1,7 @@
 use Rattle.std.proofs.Common.{[], sym, refl, arith}
-use Rattle.mst_key.specs.declared.format.Format.TheVariants.{One}
 use Rattle.mst_key.proofs.MapLaws.{IsMap-nil}
 use Rattle.mst_node.proofs.Trees.{tree-no_pairs}
 use Rattle.mst_tree_tests.proofs.proving.collided_with_none.Goals as goal
 
-pub collide-requires : goal.collide-requires
-collide-requires c = record { map = ([], IsMap-nil, omega arith, sym (tree-no_pairs One [] refl)) }
+pub collide_in-requires : goal.collide_in-requires
+collide_in-requires c = record { map = ([], IsMap-nil, omega arith, sym (tree-no_pairs c.args.format [] refl)) }

@@ -4,7 +4,9 @@
 //! The rows are of 300 pairs in three layers, with the numbers in three bytes as keys. The counts
 //! were worked out apart, from the layers of these keys (Python's hashlib): the head of each node
 //! that is met, its entries up to the one that ends the search in it, and the value of each pair of
-//! the answer.
+//! the answer. An entry whose way was asked is read once more where its key or its links are needed:
+//! the entry of a next pair and that of the bound, and of a range that has a lower bound the first
+//! entry that is not below it in each node on the way whose pairs are added.
 use crate::pairs::{key_of, numbered, numbered_key};
 use crate::rows::counted::Reads;
 use crate::rows::standing::StandingMap;
@@ -100,13 +102,13 @@ const RANGES: &[Case] = &[
     (Ask::Range(None, None, 10), 3, 12, 10),
     (Ask::Range(None, None, 300), 22, 300, 300),
     (Ask::Range(Some(100), None, 0), 0, 0, 0),
-    (Ask::Range(Some(100), None, 1), 3, 26, 1),
-    (Ask::Range(Some(100), None, 2), 3, 26, 2),
-    (Ask::Range(Some(100), None, 10), 4, 35, 10),
-    (Ask::Range(Some(17), Some(19), 1), 3, 20, 1),
-    (Ask::Range(Some(17), Some(19), 10), 3, 22, 2),
-    (Ask::Range(Some(150), Some(160), 2), 3, 13, 2),
-    (Ask::Range(Some(150), Some(160), 300), 3, 22, 10),
+    (Ask::Range(Some(100), None, 1), 3, 27, 1),
+    (Ask::Range(Some(100), None, 2), 3, 28, 2),
+    (Ask::Range(Some(100), None, 10), 4, 37, 10),
+    (Ask::Range(Some(17), Some(19), 1), 3, 21, 1),
+    (Ask::Range(Some(17), Some(19), 10), 3, 25, 2),
+    (Ask::Range(Some(150), Some(160), 2), 3, 14, 2),
+    (Ask::Range(Some(150), Some(160), 300), 3, 25, 10),
 ];
 
 #[test]
@@ -131,12 +133,12 @@ fn a_look_up_reads_one_path(rt: HostRuntime) {
 }
 
 const NEXTS: &[Case] = &[
-    (Ask::Next(None), 3, 3, 1),
-    (Ask::Next(Some(39)), 3, 6, 1),
-    (Ask::Next(Some(100)), 3, 26, 1),
-    (Ask::Next(Some(150)), 3, 13, 1),
-    (Ask::Next(Some(246)), 3, 21, 1),
-    (Ask::Next(Some(299)), 3, 7, 0),
+    (Ask::Next(None), 3, 4, 1),
+    (Ask::Next(Some(39)), 3, 8, 1),
+    (Ask::Next(Some(100)), 3, 28, 1),
+    (Ask::Next(Some(150)), 3, 15, 1),
+    (Ask::Next(Some(246)), 3, 23, 1),
+    (Ask::Next(Some(299)), 3, 8, 0),
 ];
 
 #[test]

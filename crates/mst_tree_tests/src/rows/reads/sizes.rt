@@ -1,5 +1,5 @@
 //! Maps of many sizes, in ample memory: no call may answer that memory was refused.
-use super::{generated, proves};
+use super::{generated, proves, ranges_at};
 use crate::pairs::key_of;
 use crate::proving::sizes::{ABSENT, is_free, pairs_of_one_node};
 use crate::rows::standing::StandingMap;
@@ -78,4 +78,33 @@ fn large_maps_and_nodes(rt: HostRuntime) {
     }
     asks_one_node(&rt, rt.alloc(), 8_750);
     asks_one_node(&rt, rt.alloc(), 69_815);
+}
+
+/// Asks for ranges whose first keys stand far inside a map: a key in the middle, one just above a
+/// key there, and one above all keys; three pairs of them, and up to some keys behind.
+fn ranges_inside(rt: &impl Abort, alloc: Global, map: &mut StandingMap, pairs: &[(Key, Value)]) {
+    let middle = pairs.len();
+    for place in [
+        middle,
+        middle.wrapping_add(1),
+        middle.wrapping_mul(2).wrapping_sub(1),
+    ] {
+        ranges_at(rt, alloc, map, pairs, (Some(place), None), 3);
+    }
+    ranges_at(
+        rt,
+        alloc,
+        map,
+        pairs,
+        (Some(middle), Some(middle.wrapping_add(9))),
+        usize::MAX,
+    );
+}
+
+#[test]
+fn ranges_inside_one_node(rt: HostRuntime) {
+    let alloc = rt.alloc();
+    let pairs = pairs_of_one_node(&rt, alloc, 8_750);
+    let mut map = StandingMap::new(&rt, alloc, pairs.as_slice(), 65_535);
+    ranges_inside(&rt, alloc, &mut map, pairs.as_slice());
 }

@@ -1,0 +1,179 @@
+//! Where there is memory, no call is refused any, at sizes from a few rows to the most; and writes
+//! take none of the memory that a heap has left.
+use crate::fixtures::{key, value};
+use crate::stores::{both_passes, dealt, heap_of, opened};
+use mst_key::{Key, Value};
+use mst_store::{Format, Memory, Pass, Pinned, Shape};
+use std::alloc::{Allocator, Global};
+use std::process::Abort;
+
+/// The bytes of a heap for a store of `FEW_ROWS`, and as much again.
+const HEAP: usize = 131_072;
+
+const FEW_ROWS: u32 = 64;
+
+const MOST_ROWS: u32 = 65_535;
+
+// The key of a number, and its value.
+fn numbered(rt: &impl Abort, number: u32) -> (Key, Value) {
+    let bytes = number.to_be_bytes();
+    (key(rt, &bytes), value(rt, &bytes))
+}
+
+// Puts the keys of the numbers below `count` with their values. True where each went through.
+fn put_all<A: Allocator + Copy>(rt: &impl Abort, pass: &mut Pass<A>, count: u32) -> bool {
+    for number in 0..count {
+        let (key, value) = numbered(rt, number);
+        if pass.try_put(&key, &value) != Ok(None) {
+            return false;
+        }
+    }
+    true
+}
+
+// Puts a value at one of twenty keys, or removes each seventh time. True where it went through.
+fn change<A: Allocator + Copy>(rt: &impl Abort, pass: &mut Pass<A>, number: u32) -> bool {
+    let (key, _) = numbered(rt, number % 20);
+    let (_, new) = numbered(rt, number);
+    if number % 7 == 0 {
+        pass.try_remove(&key).is_ok()
+    } else {
+        pass.try_put(&key, &new).is_ok()
+    }
+}
+
+#[test]
+fn a_thousand_writes_take_nothing_of_a_heap_with_room(rt: HostRuntime) {
+    let heap = heap_of(&rt, HEAP);
+    let shape = Shape {
+        rows: FEW_ROWS,
+        passes: 2,
+        format: Format::One,
+    };
+    let (store, seats) = opened(&rt, &heap, shape);
+    let (mut first, mut second) = both_passes(&rt, &heap, &store, seats);
+    let used = heap.used();
+    assert!(rt; used < HEAP / 2, "as much again is left");
+    for number in 0..1_000u32 {
+        let done = if number % 2 == 0 {
+            change(&rt, &mut first, number)
+        } else {
+            change(&rt, &mut second, number)
+        };
+        assert!(rt; done && heap.used() == used, "write {number}");
+    }
+}
+
+#[test]
+fn stores_of_many_sizes_open_and_deal(rt: HostRuntime) {
+    const ROWS: &[u32] = &[
+        4, 5, 63, 64, 65, 1_000, 4_095, 4_096, 16_383, 32_768, 65_534, MOST_ROWS,
+    ];
+    for rows in ROWS {
+        for passes in 1..=32u32 {
+            let shape = Shape {
+                rows: *rows,
+                passes,
+                format: Format::Two,
+            };
+            let (store, seats) = opened(&rt, rt.alloc(), shape);
+            let dealt = dealt(&rt, rt.alloc(), &store, seats);
+            assert!(rt;
+                dealt.len() == passes as usize,
+                "{rows} rows, {passes} passes"
+            );
+        }
+    }
+}
+
+// Whether so many pairs, or none, were given.
+fn are_given<A: Allocator>(found: Result<Vec<(Key, Value), A>, Memory>, count: u32) -> bool {
+    match found {
+        Ok(pairs) => pairs.len() == count as usize,
+        Err(Memory) => false,
+    }
+}
+
+/// How many keys are passed over from one proof to the next.
+const STRIDE: usize = 97;
+
+// Whether a free pass gives all of so many pairs, none where it may give none, and proofs for some
+// of twice as many keys, half of which the map lacks.
+fn answers(rt: &(impl Abort + AllocGlobal), pass: &mut Pass<Global>, count: u32) -> bool {
+    for number in (0..count.saturating_mul(2)).step_by(STRIDE) {
+        let (key, _) = numbered(rt, number);
+        if pass.prove(rt.alloc(), &key).is_err() {
+            return false;
+        }
+    }
+    are_given(pass.range(rt.alloc(), None, None, usize::MAX), count)
+        && are_given(pass.range(rt.alloc(), None, None, 0), 0)
+}
+
+// The same of a pinned pass.
+fn answers_pinned(rt: &(impl Abort + AllocGlobal), pass: &mut Pinned<Global>, count: u32) -> bool {
+    for number in (0..count.saturating_mul(2)).step_by(STRIDE) {
+        let (key, _) = numbered(rt, number);
+        if pass.prove(rt.alloc(), &key).is_err() {
+            return false;
+        }
+    }
+    are_given(pass.range(rt.alloc(), None, None, usize::MAX), count)
+        && are_given(pass.range(rt.alloc(), None, None, 0), 0)
+}
+
+const LARGE: Shape = Shape {
+    rows: MOST_ROWS,
+    passes: 2,
+    format: Format::One,
+};
+
+#[test]
+fn ranges_and_proofs_of_both_formats_lack_no_memory(rt: HostRuntime) {
+    for count in [1_000u32, 10_000] {
+        let (store, seats) = opened(&rt, rt.alloc(), LARGE);
+        let (mut first, mut second) = both_passes(&rt, rt.alloc(), &store, seats);
+        assert!(rt; put_all(&rt, &mut first, count));
+        assert!(rt; answers(&rt, &mut second, count), "{count} pairs, format 1");
+        assert!(rt; first.try_migrate(rt.alloc(), Format::Two) == Ok(Format::One));
+        let mut pinned = second.pin();
+        assert!(rt;
+            answers_pinned(&rt, &mut pinned, count),
+            "{count} pairs, format 2"
+        );
+    }
+}
+
+#[test]
+fn ranges_and_proofs_of_sixty_thousand_pairs_lack_no_memory(rt: HostRuntime) {
+    let (store, seats) = opened(&rt, rt.alloc(), LARGE);
+    let (mut first, second) = both_passes(&rt, rt.alloc(), &store, seats);
+    assert!(rt; put_all(&rt, &mut first, 60_000));
+    assert!(rt; answers(&rt, &mut first, 60_000));
+    assert!(rt; answers_pinned(&rt, &mut second.pin(), 60_000));
+}
+
+// How many rows the map takes after the keys of these numbers were put by three passes in turns.
+fn rows_after(rt: &(impl Abort + AllocGlobal), falling: bool) -> Option<u32> {
+    const COUNT: u32 = 2_000;
+    let shape = Shape { passes: 3, ..LARGE };
+    let (store, seats) = opened(rt, rt.alloc(), shape);
+    let mut passes = dealt(rt, rt.alloc(), &store, seats);
+    for step in 0..COUNT {
+        let number = if falling { COUNT - 1 - step } else { step };
+        let (key, value) = numbered(rt, number);
+        let pass = passes.get_mut((step % 3) as usize)?;
+        let Ok(None) = pass.try_put(&key, &value) else {
+            return None;
+        };
+    }
+    passes.first_mut()?.rows().ok()?
+}
+
+#[test]
+fn rows_of_a_large_map_do_not_depend_on_the_order_of_its_puts(rt: HostRuntime) {
+    let (rising, falling) = (rows_after(&rt, false), rows_after(&rt, true));
+    assert!(rt; rising == falling);
+    // one row for each key, and one for each of its nodes
+    assert!(rt; matches!(rising, Some(rows) if 2_000 < rows && rows < 2_500));
+}
