@@ -2,9 +2,10 @@
 ghost use Rattle.std.specs.Prelude.{◌<◌, ◌≤◌, ◌^◌, length};
 
 use crate::calls::{self, FIRST_NEW_VALUE};
+use crate::reads;
 use crate::stores::{dealt, opened};
 use crate::timing::tell;
-use mst_key::Key;
+use mst_key::{Format, Key};
 use mst_store::{Pass, Pinned, Shape};
 use std::alloc::Global;
 use std::io;
@@ -57,7 +58,7 @@ fn time_gets(
     requires few { length keys.now ≤ 65535 }
 {
     let start = Instant::now(rt)?;
-    let done = calls::get_pinned(pinned, keys, calls);
+    let done = reads::get_pinned(pinned, keys, calls);
     tell(
         rt,
         "get of a pinned version",
@@ -123,7 +124,14 @@ pub fn run(rt: &HostRuntime, keys: &[Key], calls: u32, map_rows: u32) -> io::Res
         .saturating_mul(2)
         .saturating_add(PATH_ROWS)
         .min(65_535);
-    let (store, seats) = opened(rt.alloc(), Shape { rows, passes: 2 })?;
+    let (store, seats) = opened(
+        rt.alloc(),
+        Shape {
+            rows,
+            passes: 2,
+            format: Format::One,
+        },
+    )?;
     let mut passes = dealt(rt.alloc(), &store, seats)?;
     let (Some(reader), Some(mut writer)) = (passes.pop(), passes.pop()) else {
         return Err(io::ErrorKind::Other.into());

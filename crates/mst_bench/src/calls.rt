@@ -1,9 +1,9 @@
-//! Calls of a store, each made many times.
+//! Calls that change the map, each made many times.
 ghost use Rattle.std.specs.Prelude.{◌<◌, ◌≤◌, ◌^◌, length};
 
 use crate::keys::value;
 use mst_key::Key;
-use mst_store::{Pass, Pinned};
+use mst_store::Pass;
 use std::alloc::Global;
 
 /// From one call's key to the next one's in the list, so that the calls are spread over the map. It
@@ -24,8 +24,8 @@ pub fn fill(pass: &mut Pass<'_, Global>, keys: &[Key]) -> bool {
     true
 }
 
-// The key of a call.
-fn picked(keys: &[Key], call: u32) -> &Key
+/// The key of a call.
+pub fn picked(keys: &[Key], call: u32) -> &Key
     requires some { 0 < length keys.now }
 {
     &keys[call as usize * STRIDE % keys.len()]
@@ -42,42 +42,6 @@ pub fn put(pass: &mut Pass<'_, Global>, keys: &[Key], calls: u32, first: u64) ->
         let Ok(Some(_)) = pass.try_put(picked(keys, call), &new) else {
             return false;
         };
-    }
-    true
-}
-
-/// Gets so many keys, each with a pin of its own. True where each has a value.
-pub fn get(pass: &mut Pass<'_, Global>, keys: &[Key], calls: u32) -> bool
-    requires some { 0 < length keys.now }
-{
-    for call in 0..calls {
-        if pass.get(picked(keys, call)).is_none() {
-            return false;
-        }
-    }
-    true
-}
-
-/// Gets so many keys of a version that stays pinned. True where each has a value.
-pub fn get_pinned(pinned: &mut Pinned<'_, Global>, keys: &[Key], calls: u32) -> bool
-    requires some { 0 < length keys.now }
-{
-    for call in 0..calls {
-        if pinned.get(picked(keys, call)).is_none() {
-            return false;
-        }
-    }
-    true
-}
-
-/// Proves the answers for so many keys, each with a pin of its own. True where memory sufficed.
-pub fn prove(alloc: Global, pass: &mut Pass<'_, Global>, keys: &[Key], calls: u32) -> bool
-    requires some { 0 < length keys.now }
-{
-    for call in 0..calls {
-        if pass.prove(alloc, picked(keys, call)).is_err() {
-            return false;
-        }
     }
     true
 }

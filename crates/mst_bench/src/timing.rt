@@ -1,6 +1,13 @@
 //! The lines that are printed.
 use std::io;
-use std::time::Instant;
+use std::time::{Duration, Instant};
+
+/// A time in nanoseconds.
+pub fn nanos(time: Duration) -> u64 {
+    time.as_secs()
+        .saturating_mul(1_000_000_000)
+        .saturating_add(u64::from(time.subsec_nanos()))
+}
 
 /// Prints the line of calls that began at `start` and have ended; an error where one of them was
 /// refused.
@@ -16,10 +23,6 @@ pub fn tell(
     if !went_through {
         return Err(io::ErrorKind::Other.into());
     }
-    let nanos = elapsed
-        .as_secs()
-        .saturating_mul(1_000_000_000)
-        .saturating_add(u64::from(elapsed.subsec_nanos()));
-    let each = nanos / u64::from(calls.max(1));
+    let each = nanos(elapsed) / u64::from(calls.max(1));
     println!(rt; "{call}: {keys} keys, {calls} calls, {each} ns each")
 }

@@ -1,0 +1,81 @@
+//! The kinds of calls that are timed and counted.
+ghost use Rattle.std.specs.Prelude.{◌<◌, length};
+
+use crate::{calls, reads};
+use mst_key::Key;
+use mst_store::Pass;
+use std::alloc::Global;
+
+/// A kind of call of a pass.
+#[derive(Clone, Copy)]
+pub enum Kind {
+    FirstPut,
+    Put,
+    RemoveAndPutBack,
+    Version,
+    Get,
+    GetPinned,
+    Next,
+    Range,
+    Prove,
+    Verify,
+}
+
+/// The kinds that are timed, one after the other, with what their lines call them.
+pub const KINDS: &[(Kind, &str)] = &[
+    (Kind::FirstPut, "first put"),
+    (Kind::Put, "put"),
+    (Kind::RemoveAndPutBack, "remove and put back"),
+    (Kind::Version, "version"),
+    (Kind::Get, "get"),
+    (Kind::GetPinned, "get of a pinned version"),
+    (Kind::Next, "next"),
+    (Kind::Range, "range of 100"),
+    (Kind::Prove, "prove"),
+    (Kind::Verify, "verify"),
+];
+
+/// The kind with this name, and what lines call it.
+pub fn named(name: &str) -> Option<(Kind, &'static str)> {
+    for (kind, its_name) in KINDS {
+        if *its_name == name {
+            return Some((*kind, *its_name));
+        }
+    }
+    None
+}
+
+// Makes gets of the version that the pass pins now, and ends the pin.
+fn get_pinned<'a>(pass: Pass<'a, Global>, keys: &[Key], calls: u32) -> (Pass<'a, Global>, bool)
+    requires some { 0 < length keys.now }
+{
+    let mut pinned = pass.pin();
+    let done = reads::get_pinned(&mut pinned, keys, calls);
+    (pinned.unpin(), done)
+}
+
+/// Makes so many calls of a kind; of first puts one for each key. Returns the pass, and whether
+/// each call went through.
+pub fn make<'a>(
+    alloc: Global,
+    mut pass: Pass<'a, Global>,
+    keys: &[Key],
+    calls: u32,
+    kind: Kind,
+) -> (Pass<'a, Global>, bool)
+    requires some { 0 < length keys.now }
+{
+    let done = match kind {
+        Kind::FirstPut => calls::fill(&mut pass, keys),
+        Kind::Put => calls::put(&mut pass, keys, calls, calls::FIRST_NEW_VALUE),
+        Kind::RemoveAndPutBack => calls::remove_and_put_back(&mut pass, keys, calls),
+        Kind::Version => reads::version(&mut pass, calls),
+        Kind::Get => reads::get(&mut pass, keys, calls),
+        Kind::GetPinned => return get_pinned(pass, keys, calls),
+        Kind::Next => reads::next(&mut pass, keys, calls),
+        Kind::Range => reads::range(alloc, &mut pass, keys, calls),
+        Kind::Prove => reads::prove(alloc, &mut pass, keys, calls),
+        Kind::Verify => reads::verify(alloc, &mut pass, keys, calls),
+    };
+    (pass, done)
+}

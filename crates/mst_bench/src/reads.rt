@@ -1,0 +1,127 @@
+//! Calls that change nothing, each made many times.
+ghost use Rattle.std.specs.Prelude.{◌<◌, length};
+
+use crate::calls::picked;
+use mst_key::Key;
+use mst_proof::verify_in;
+use mst_store::{Pass, Pinned};
+use std::alloc::{AllocError, Global};
+
+/// How many pairs a range returns at most.
+const RANGE: usize = 100;
+
+/// How many proofs there are for the calls that verify.
+const PROOFS: u32 = 64;
+
+/// Gets so many keys, each with a pin of its own. True where each has a value.
+pub fn get(pass: &mut Pass<'_, Global>, keys: &[Key], calls: u32) -> bool
+    requires some { 0 < length keys.now }
+{
+    for call in 0..calls {
+        if pass.get(picked(keys, call)).is_none() {
+            return false;
+        }
+    }
+    true
+}
+
+/// Gets so many keys of a version that stays pinned. True where each has a value.
+pub fn get_pinned(pinned: &mut Pinned<'_, Global>, keys: &[Key], calls: u32) -> bool
+    requires some { 0 < length keys.now }
+{
+    for call in 0..calls {
+        if pinned.get(picked(keys, call)).is_none() {
+            return false;
+        }
+    }
+    true
+}
+
+/// Proves the answers for so many keys, each with a pin of its own. True where memory sufficed.
+pub fn prove(alloc: Global, pass: &mut Pass<'_, Global>, keys: &[Key], calls: u32) -> bool
+    requires some { 0 < length keys.now }
+{
+    for call in 0..calls {
+        if pass.prove(alloc, picked(keys, call)).is_err() {
+            return false;
+        }
+    }
+    true
+}
+
+/// Asks so many times for the number of the current version: a pin and its end. True where each
+/// call went through, which each does.
+pub fn version(pass: &mut Pass<'_, Global>, calls: u32) -> bool {
+    let first = pass.version();
+    for _ in 0..calls {
+        if pass.version() != first {
+            return false;
+        }
+    }
+    true
+}
+
+/// Asks so many times for the pair after a key. True where some key has one.
+pub fn next(pass: &mut Pass<'_, Global>, keys: &[Key], calls: u32) -> bool
+    requires some { 0 < length keys.now }
+{
+    let mut found = false;
+    for call in 0..calls {
+        found = pass.next(Some(picked(keys, call))).is_some() || found;
+    }
+    found
+}
+
+/// Asks so many times for the pairs from a key on, at most a hundred. True where memory sufficed.
+pub fn range(alloc: Global, pass: &mut Pass<'_, Global>, keys: &[Key], calls: u32) -> bool
+    requires some { 0 < length keys.now }
+{
+    for call in 0..calls {
+        if pass
+            .range(alloc, Some(picked(keys, call)), None, RANGE)
+            .is_err()
+        {
+            return false;
+        }
+    }
+    true
+}
+
+// Proofs of the answers for the keys of the first calls.
+fn proofs(
+    alloc: Global,
+    pass: &mut Pass<'_, Global>,
+    keys: &[Key],
+) -> Result<Vec<(Key, Vec<u8>)>, AllocError>
+    requires some { 0 < length keys.now }
+{
+    let mut proofs = Vec::new(alloc);
+    for call in 0..PROOFS {
+        let key = picked(keys, call);
+        let Ok(proof) = pass.prove(alloc, key) else {
+            return Err(AllocError);
+        };
+        proofs.push((key.copy(), proof))?;
+    }
+    Ok(proofs)
+}
+
+/// Verifies so many proofs, which are made before. True where each shows a value.
+pub fn verify(alloc: Global, pass: &mut Pass<'_, Global>, keys: &[Key], calls: u32) -> bool
+    requires some { 0 < length keys.now }
+{
+    let format = pass.format();
+    let root = pass.root();
+    let Ok(proofs) = proofs(alloc, pass, keys) else {
+        return false;
+    };
+    for call in 0..calls {
+        let Some((key, proof)) = proofs.get((call % PROOFS) as usize) else {
+            return false;
+        };
+        let Ok(Some(_)) = verify_in(format, &root, key, proof) else {
+            return false;
+        };
+    }
+    true
+}

@@ -1,0 +1,81 @@
+//! The words of the command line.
+use crate::kinds::{self, Kind};
+use mst_key::Format;
+use std::{env, io};
+
+/// What the words ask for.
+#[derive(Clone, Copy)]
+pub enum Task {
+    /// Times all kinds of calls, so many of each.
+    TimeAll(u32),
+    /// Makes calls of one kind.
+    Make(Calls),
+    /// Says how it is called.
+    Help,
+}
+
+/// Calls of one kind at a map of so many keys, in a store of a format.
+#[derive(Clone, Copy)]
+pub struct Calls {
+    pub kind: Kind,
+    pub name: &'static str,
+    pub keys: u32,
+    pub calls: u32,
+    pub format: Format,
+}
+
+/// How the program is called.
+pub const HELP: &str = "\
+mst_bench CALLS
+  times so many calls of each kind at 1,000, 10,000 and 30,000 keys
+mst_bench KIND KEYS CALLS [1|2]
+  puts so many keys, makes so many calls of one kind in a store of the format, and times them;
+  tools/counts counts their instructions
+KIND is one of: first put, put, remove and put back, version, get, get of a pinned version, next,
+  range of 100, prove, verify";
+
+// The number that a word spells, if it is above 0.
+fn number(word: &str) -> Option<u32> {
+    match word.parse::<u32>() {
+        Ok(number) if number > 0 => Some(number),
+        _ => None,
+    }
+}
+
+// The format that a word names, format 1 where there is none.
+fn format(word: Option<&str>) -> Option<Format> {
+    match word {
+        None | Some("1") => Some(Format::One),
+        Some("2") => Some(Format::Two),
+        _ => None,
+    }
+}
+
+// Calls of the kind that the words name.
+fn calls_of(kind: &str, keys: &str, calls: &str, last: Option<&str>) -> Option<Task> {
+    let (kind, name) = kinds::named(kind)?;
+    Some(Task::Make(Calls {
+        kind,
+        name,
+        keys: number(keys)?,
+        calls: number(calls)?,
+        format: format(last)?,
+    }))
+}
+
+/// What the command line asks for; help where no words do.
+pub fn asked(rt: &HostRuntime) -> io::Result<Task> {
+    let mut words = env::args(rt)?;
+    let _ = words.next();
+    let (first, second, third) = (words.next(), words.next(), words.next());
+    let (last, more) = (words.next(), words.next());
+    let task = match (&first, &second, &third, &more) {
+        (Some(count), None, None, None) => number(count.as_str()).map(Task::TimeAll),
+        (Some(kind), Some(keys), Some(count), None) => {
+            let last = last.as_ref().map(|word| word.as_str());
+            calls_of(kind.as_str(), keys.as_str(), count.as_str(), last)
+        }
+        _ => None,
+    };
+    Ok(task.unwrap_or(Task::Help))
+}

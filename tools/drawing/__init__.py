@@ -1,0 +1,11 @@
+"""The pictures of docs/pictures, each by the function that draws it."""
+from . import crates, put, row, speed, tree, versions
+
+PICTURES = {
+    "tree": tree.picture,
+    "versions": versions.picture,
+    "put": put.picture,
+    "row": row.picture,
+    "crates": crates.picture,
+    "speed": speed.picture,
+}

@@ -1,0 +1,101 @@
+"""A canvas of 1,200 pixels that gives an SVG picture, and refuses a text that is cut or crowded."""
+from html import escape
+
+WIDTH = 1200
+SMALLEST = 15  # pixels: a little over 11 points at the full width
+PROSE = "Verdana, 'DejaVu Sans', sans-serif"
+CODE = "'DejaVu Sans Mono', Menlo, Consolas, monospace"
+LINES = {
+    "thin": 'stroke-width="1.5"',
+    "thick": 'stroke-width="4"',
+    "dashed": 'stroke-width="1.5" stroke-dasharray="7 5"',
+    "dotted": 'stroke-width="2.5" stroke-dasharray="2 6" stroke-linecap="round"',
+    "faint": 'stroke-width="1" stroke-opacity="0.35"',
+}
+# How wide the letters of the widest likely font are, in parts of the size.
+NARROW = {**dict.fromkeys("ijl|'", 0.32), **dict.fromkeys("ft,.:;()[]! Ir", 0.43)}
+WIDE = {**dict.fromkeys("mwMW%@", 0.99), **dict.fromkeys("ABCDEFGHJKLNOPQRSTUVXYZ×=+→", 0.82)}
+
+
+def number(value):
+    """A coordinate with at most one decimal."""
+    return f"{value:.1f}".rstrip("0").rstrip(".")
+
+
+def width_of(text, size, code=False, bold=False):
+    """How wide a text is at most, in pixels."""
+    if code:
+        return len(text) * size * 0.61
+    parts = sum(NARROW.get(it) or WIDE.get(it) or 0.64 for it in text)
+    return parts * size * (1.12 if bold else 1)
+
+
+class Canvas:
+    """A picture that grows by shapes and texts. `text` is where all texts go through."""
+
+    def __init__(self, name, title, height):
+        self.name, self.title, self.height = name, title, height
+        self.shapes, self.texts = [], []
+
+    def line(self, points, style="thin", arrow=False):
+        path = "M" + " L".join(f"{number(x)} {number(y)}" for x, y in points)
+        head = ' marker-end="url(#head)"' if arrow else ""
+        self.shapes.append(f'<path d="{path}" fill="none" stroke="black" {LINES[style]}{head}/>')
+
+    def box(self, x, y, width, height, style="thin", fill="white", round=0):
+        place = f'x="{number(x)}" y="{number(y)}" width="{number(width)}" height="{number(height)}"'
+        edge = f'stroke="black" {LINES[style]}' if style else 'stroke="none"'
+        self.shapes.append(f'<rect {place} rx="{round}" fill="{fill}" {edge}/>')
+
+    def mark(self, x, y, form, size=7):
+        """A mark on a curve: a disc, a ring, a square or a diamond."""
+        if form in ("disc", "ring"):
+            fill = "black" if form == "disc" else "white"
+            place = f'cx="{number(x)}" cy="{number(y)}" r="{size}"'
+            self.shapes.append(f'<circle {place} fill="{fill}" stroke="black" stroke-width="2"/>')
+            return
+        turned = f' transform="rotate(45 {number(x)} {number(y)})"' if form == "diamond" else ""
+        place = f'x="{number(x - size)}" y="{number(y - size)}"'
+        place += f' width="{2 * size}" height="{2 * size}"'
+        self.shapes.append(f'<rect {place} fill="black"{turned}/>')
+
+    def text(self, x, y, text, size=17, at="start", code=False, bold=False, within=None):
+        """Writes a text whose base line is at y. It has to fit into `within` pixels, if given."""
+        width = width_of(text, size, code, bold)
+        left = x - {"start": 0, "middle": width / 2, "end": width}[at]
+        self.fits(text, size, width, left, y, within)
+        look = f'font-size="{size}" text-anchor="{at}"' + (' font-weight="bold"' if bold else "")
+        if code:
+            look += f' font-family="{CODE}"'
+        place = f'x="{number(x)}" y="{number(y)}"'
+        shape = f"<text {place} {look}>{escape(text)}</text>"
+        self.texts.append(((left, y - size, left + width, y), text, shape))
+
+    def fits(self, text, size, width, left, y, within):
+        """Refuses a text that is too small, leaves its place or runs into another one."""
+        place = f"{self.name}: '{text}'"
+        if size < SMALLEST:
+            raise ValueError(f"{place} has {size} pixels, fewer than {SMALLEST}")
+        if within is not None and width > within:
+            raise ValueError(f"{place} is {width:.0f} pixels wide and has {within:.0f}")
+        if left < 4 or left + width > WIDTH - 4 or y - size < 4 or y + size / 3 > self.height - 2:
+            raise ValueError(f"{place} leaves the picture")
+        for (low, top, high, bottom), other, _ in self.texts:
+            if left < high and low < left + width and y - size < bottom and top < y:
+                raise ValueError(f"{place} runs into '{other}'")
+
+    def svg(self):
+        """The picture as the text of an SVG file."""
+        head = f'<svg xmlns="http://www.w3.org/2000/svg" viewBox="0 0 {WIDTH} {self.height}"'
+        arrow = '<path d="M0 0 L10 4 L0 8 z"/>'
+        size = 'viewBox="0 0 10 8" refX="9" refY="4" markerWidth="13" markerHeight="11"'
+        turned = 'markerUnits="userSpaceOnUse" orient="auto"'
+        return "\n".join([
+            f'{head} font-family="{PROSE}">',
+            f"<title>{escape(self.title)}</title>",
+            f'<defs><marker id="head" {size} {turned}>{arrow}</marker></defs>',
+            f'<rect width="{WIDTH}" height="{self.height}" fill="white"/>',
+            *self.shapes,
+            *(shape for _, _, shape in self.texts),
+            "</svg>\n",
+        ])
