@@ -78,13 +78,16 @@ static int compared(const uint8_t *a, size_t m, const uint8_t *b, size_t n)
     return order ? order : (m > n) - (m < n);
 }
 
-static int layer_of(const uint8_t *key, size_t length)
+static int layer_of(uint32_t format, const uint8_t *key, size_t length)
 {
     uint8_t digest[32];
     int zeros = 0;
     sha256(key, length, digest);
     while (zeros < 64 && (digest[zeros / 2] >> (zeros % 2 ? 0 : 4) & 15) == 0)
         zeros++;
+    /* Each hexadecimal digit is two of base four. */
+    if (format == 2)
+        zeros = 2 * zeros + (zeros < 64 && (digest[zeros / 2] >> (zeros % 2 ? 0 : 4) & 15) < 4);
     return zeros;
 }
 
@@ -101,20 +104,59 @@ static int read_child(struct text *text, const uint8_t **child)
     return flag != NULL && *flag <= 1 && (*flag == 0 || (*child = take(text, 32)) != NULL);
 }
 
+/* What a node holds of a value: the value in format 1, its SHA-256 in format 2. NULL where it is outside the grammar. */
+static const uint8_t *read_held(uint32_t format, struct text *text, size_t *length)
+{
+    const uint8_t *n = format == 1 ? take(text, 1) : NULL;
+    if (format == 1 && (n == NULL || *n > 64))
+        return NULL;
+    *length = format == 1 ? *n : 32;
+    return take(text, *length);
+}
+
+/* The answer that a proof of format 2 claims: how long its value is, -1 for an absence, -2 for what can be no answer. */
+struct claim { const uint8_t *value; int length; };
+
+/* Reads the tail of a proof; 0 where it is cut short. */
+static int read_tail(struct text *text, struct claim *to)
+{
+    const uint8_t *first = take(text, 1), *n;
+    *to = (struct claim){NULL, -2};
+    if (first == NULL)
+        return 0;
+    if (*first != 1)
+        return to->length = *first == 0 ? -1 : -2, 1;
+    if ((n = take(text, 1)) == NULL || (to->value = take(text, *n)) == NULL)
+        return 0;
+    to->length = *n > 64 ? -2 : *n;
+    return 1;
+}
+
+/* Whether the claim is that of an answer of which this is held, or of absence where it is NULL. */
+static int is_opened(const struct claim *claim, const uint8_t *held)
+{
+    uint8_t digest[32];
+    if (held == NULL || claim->length < 0)
+        return held == NULL && claim->length == -1;
+    sha256(claim->value, (size_t)claim->length, digest);
+    return memcmp(digest, held, 32) == 0;
+}
+
 /* Reads a node text whole; 0 where it is outside the grammar. */
-static int read_node(struct text text, struct bound key, struct found *to)
+static int read_node(uint32_t format, struct text text, struct bound key, struct found *to)
 {
     const uint8_t *head = take(&text, 4), *child;
     struct bound before = {NULL, 0};
     memset(to, 0, sizeof *to);
-    if (head == NULL || head[0] != 1 || (head[2] | head[3]) == 0 || !read_child(&text, &child))
+    if (head == NULL || head[0] != format || (head[2] | head[3]) == 0 || !read_child(&text, &child))
         return 0;
     to->layer = head[1];
     to->child = child;
     for (int left = head[2] << 8 | head[3]; left > 0; left--) {
-        const uint8_t *size = take(&text, 1), *k, *n, *v;
-        if (size == NULL || *size < 1 || *size > 32 || (k = take(&text, *size)) == NULL || (n = take(&text, 1)) == NULL || *n > 64
-            || (v = take(&text, *n)) == NULL || !read_child(&text, &child) || layer_of(k, *size) != to->layer)
+        const uint8_t *size = take(&text, 1), *k, *v;
+        size_t length = 0;
+        if (size == NULL || *size < 1 || *size > 32 || (k = take(&text, *size)) == NULL
+            || (v = read_held(format, &text, &length)) == NULL || !read_child(&text, &child) || layer_of(format, k, *size) != to->layer)
             return 0;
         if (before.key != NULL && compared(before.key, before.length, k, *size) >= 0)
             return 0;
@@ -129,7 +171,7 @@ static int read_node(struct text text, struct bound key, struct found *to)
         if (order > 0 && to->high.key == NULL)
             to->high = before;
         if (order == 0)
-            to->is_held = 1, to->value = v, to->value_length = *n;
+            to->is_held = 1, to->value = v, to->value_length = length;
     }
     to->last = before;
     return text.left == 0;
@@ -141,9 +183,10 @@ int32_t mst_verify(uint32_t format, const uint8_t *root, size_t root_length, con
     struct text rest = {proof, proof_length}, frame;
     struct bound low = {NULL, 0}, high = {NULL, 0};
     const uint8_t *head = take(&rest, 1), *count, *expected = root;
+    struct claim claim = {NULL, -1};
     int upper = 256;
     uint8_t digest[32];
-    if (format != 1)
+    if (format != 1 && format != 2)
         return -3;
     if (root_length != 32)
         return -4;
@@ -151,7 +194,7 @@ int32_t mst_verify(uint32_t format, const uint8_t *root, size_t root_length, con
         return -5;
     if (head == NULL)
         return -12;
-    if (*head != 1)
+    if (*head != format)
         return -11;
     if ((count = take(&rest, 1)) == NULL)
         return -12;
@@ -161,16 +204,18 @@ int32_t mst_verify(uint32_t format, const uint8_t *root, size_t root_length, con
         if (n == NULL || take(&rest, (size_t)n[0] << 24 | (size_t)n[1] << 16 | (size_t)n[2] << 8 | n[3]) == NULL)
             return -12;
     }
+    if (format == 2 && !read_tail(&rest, &claim))
+        return -12;
     if (rest.left > 0)
         return -13;
     if (*count == 0)
-        return sha256(NULL, 0, digest), memcmp(digest, root, 32) ? -15 : -1;
+        return sha256(NULL, 0, digest), memcmp(digest, root, 32) ? -15 : claim.length == -1 ? -1 : -20;
     for (int i = 0; i < *count; i++) {
         const uint8_t *n = take(&frame, 4);
         struct text text = {NULL, (size_t)n[0] << 24 | (size_t)n[1] << 16 | (size_t)n[2] << 8 | n[3]};
         struct found node;
         text.at = take(&frame, text.left);
-        if (!read_node(text, (struct bound){key, key_length}, &node))
+        if (!read_node(format, text, (struct bound){key, key_length}, &node))
             return -14;
         sha256(text.at, text.left, digest);
         if (memcmp(digest, expected, 32))
@@ -183,8 +228,12 @@ int32_t mst_verify(uint32_t format, const uint8_t *root, size_t root_length, con
         if (node.is_held || node.child == NULL) {
             if (i + 1 < *count)
                 return -19;
+            if (format == 2 && !is_opened(&claim, node.is_held ? node.value : NULL))
+                return -20;
             if (!node.is_held)
                 return -1;
+            if (format == 2)
+                node.value = claim.value, node.value_length = (size_t)claim.length;
             if (node.value_length > room_length)
                 return -2;
             memcpy(room, node.value, node.value_length);

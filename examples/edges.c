@@ -40,7 +40,9 @@ int main(void)
     is("a null root", mst_verify(1, NULL, 0, key, 1, proof, size, room, 64), MST_BAD_ROOT);
     is("all null", mst_verify(1, NULL, 0, NULL, 0, NULL, 0, NULL, 0), MST_BAD_ROOT);
     is("all null, no format", mst_verify(0, NULL, 0, NULL, 0, NULL, 0, NULL, 0), MST_UNKNOWN_FORMAT);
-    for (uint32_t format = 2; format; format *= 2)
+    is("a proof of format 1 in format 2", mst_verify(2, root, 32, key, 1, proof, size, room, 64), MST_P1_VERSION);
+    is("format 3", mst_verify(3, root, 32, key, 1, proof, size, room, 64), MST_UNKNOWN_FORMAT);
+    for (uint32_t format = 4; format; format *= 2)
         is("a format", mst_verify(format, root, 32, key, 1, proof, size, room, 64), MST_UNKNOWN_FORMAT);
     for (size_t length = 0; length < sizeof key; length++) {
         int32_t told = length == 0 || length > 32 ? MST_BAD_KEY : length == 1 ? 1 : MST_ABSENT;

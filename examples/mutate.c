@@ -63,13 +63,14 @@ static size_t change(uint8_t *bytes, size_t length)
     }
 }
 
-/* Some of the texts of two good proofs, framed anew. */
+/* Some of the texts of two good proofs, framed anew, with the tail of the first. */
 static size_t frame(uint8_t *bytes, const struct vector *one, const struct vector *other)
 {
-    size_t length = 2, texts = 0;
+    size_t length = 2, texts = 0, tail = 0;
     for (int turn = 0; turn < 2; turn++) {
         const struct vector *it = turn ? other : one;
-        for (size_t at = 2, n; at < it->proof_length; at += 4 + n) {
+        size_t at = 2, n;
+        for (int left = it->proof[1]; left > 0; left--, at += 4 + n) {
             const uint8_t *text = it->proof + at;
             n = (size_t)text[0] << 24 | (size_t)text[1] << 16 | (size_t)text[2] << 8 | text[3];
             if (below(4) < (turn ? 1 : 3)) {
@@ -78,9 +79,12 @@ static size_t frame(uint8_t *bytes, const struct vector *one, const struct vecto
                 texts++;
             }
         }
+        tail = turn ? tail : at;
     }
-    bytes[0] = 1;
+    bytes[0] = (uint8_t)one->format;
     bytes[1] = (uint8_t)texts;
+    memcpy(bytes + length, one->proof + tail, one->proof_length - tail);
+    length += one->proof_length - tail;
     return length;
 }
 
@@ -105,7 +109,7 @@ int main(int words, char **word)
         while (changes-- && length < ROOM / 4)
             length = change(bytes, length);
         uint8_t room[MST_VALUE_ROOM];
-        int32_t told = mst_verify(1, it->root, it->root_length, it->key, it->key_length, bytes, length, room, sizeof room);
+        int32_t told = mst_verify(it->format, it->root, it->root_length, it->key, it->key_length, bytes, length, room, sizeof room);
         if (told < MST_ABSENT)
             told_of[-told]++;
         else if (told == it->told && (told < 0 || memcmp(room, it->value, (size_t)told) == 0))
@@ -114,7 +118,7 @@ int main(int words, char **word)
             wrong++;
     }
     printf("%ld mutated proofs:", rounds);
-    for (int n = 11; n < 20; n++)
+    for (int n = 11; n <= 20; n++)
         printf(" P%d %zu", n - 10, told_of[n]);
     printf(", the right answer %ld, a wrong one %ld\n", same, wrong);
     return wrong > 0 || count == 0;

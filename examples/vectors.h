@@ -1,4 +1,4 @@
-/* Lines of vectors for the C programs here: a root digest, a key, a proof and an answer, parted by tabs. */
+/* Lines of vectors for the C programs here: a format, a root digest, a key, a proof and an answer, parted by tabs. */
 #ifndef VECTORS_H
 #define VECTORS_H
 
@@ -9,6 +9,7 @@
 #include <string.h>
 
 struct vector {
+    uint32_t format;
     uint8_t *root, *key, *proof, value[MST_VALUE_ROOM];
     size_t root_length, key_length, proof_length;
     int32_t told;
@@ -50,6 +51,8 @@ static inline int32_t told_by(const char *answer, uint8_t *value)
         free(bytes);
         return (int32_t)length;
     }
+    if (strcmp(answer, "P10") == 0)
+        return MST_P10_OTHER_VALUE;
     if (answer[0] == 'P' && answer[1] >= '1' && answer[1] <= '9' && answer[2] == 0)
         return -10 - (answer[1] - '0');
     exit(2);
@@ -61,9 +64,10 @@ static inline int read_vector(FILE *from, struct vector *to)
     if (fgets(line, sizeof line, from) == NULL)
         return 0;
     line[strcspn(line, "\n")] = 0;
-    char *root = strtok(line, "\t"), *key = strtok(NULL, "\t"), *proof = strtok(NULL, "\t"), *answer = strtok(NULL, "\t");
+    char *format = strtok(line, "\t"), *root = strtok(NULL, "\t"), *key = strtok(NULL, "\t"), *proof = strtok(NULL, "\t"), *answer = strtok(NULL, "\t");
     if (answer == NULL)
         exit(2);
+    to->format = (uint32_t)strtoul(format, NULL, 10);
     to->root = bytes_of(root, &to->root_length);
     to->key = bytes_of(key, &to->key_length);
     to->proof = bytes_of(proof, &to->proof_length);
@@ -89,7 +93,7 @@ static inline int tells(const struct vector *it, size_t room_length)
         want = MST_NO_ROOM;
     if (want > 0)
         memcpy(wanted, it->value, (size_t)want);
-    int32_t told = mst_verify(1, it->root, it->root_length, it->key, it->key_length, it->proof, it->proof_length, room, room_length);
+    int32_t told = mst_verify(it->format, it->root, it->root_length, it->key, it->key_length, it->proof, it->proof_length, room, room_length);
     return told == want && memcmp(room, wanted, sizeof room) == 0;
 }
 

@@ -4,9 +4,10 @@ from hashlib import sha256
 EMPTY = sha256(b"").digest()
 
 
-def layer_of(key):
-    digits = sha256(key).hexdigest()
-    return len(digits) - len(digits.lstrip("0"))
+def layer_of(key, format=1):
+    """How many digits are 0 at the front of the key's SHA-256: of base 16 in format 1, of base 4 in format 2."""
+    zeros = 256 - int.from_bytes(sha256(key).digest(), "big").bit_length()
+    return zeros // (4 if format == 1 else 2)
 
 
 class Node:
@@ -22,8 +23,11 @@ class Node:
     def text(self):
         text = bytes([self.format, self.layer]) + len(self.keys).to_bytes(2, "big") + child_text(self.children[0])
         for key, value, child in zip(self.keys, self.values, self.children[1:]):
-            text += bytes([len(key)]) + key + bytes([len(value)]) + value + child_text(child)
+            text += bytes([len(key)]) + key + self.held_text(value) + child_text(child)
         return text
+
+    def held_text(self, value):
+        return bytes([len(value)]) + value if self.format == 1 else sha256(value).digest()
 
     def digest(self):
         return sha256(self.text()).digest()
@@ -59,8 +63,8 @@ def read_node(text):
     return Node(text[1], keys, values, children, text[0])
 
 
-def framed(texts, count=None):
-    proof = bytes([1, len(texts) if count is None else count])
+def framed(texts, count=None, format=1):
+    proof = bytes([format, len(texts) if count is None else count])
     for text in texts:
         proof += len(text).to_bytes(4, "big") + text
     return proof
@@ -76,17 +80,22 @@ def texts_in(proof):
     return texts
 
 
+def tail(value):
+    """What follows the texts of a proof of format 2: the answer that is claimed."""
+    return b"\0" if value is None else b"\1" + bytes([len(value)]) + value
+
+
 def linked(nodes, key):
     """The root digest and the proof of nodes, each made the child of the one before in the key's gap there."""
     nodes = [node.copy() for node in nodes]
     for upper, lower in zip(nodes[-2::-1], nodes[:0:-1]):
         upper.children[upper.gap(key)] = lower.digest()
-    return nodes[0].digest(), framed([node.text() for node in nodes])
+    return nodes[0].digest(), framed([node.text() for node in nodes], format=nodes[0].format)
 
 
-def build(pairs):
+def build(pairs, format=1):
     """The nodes of a sorted list of pairs, by their digests, and the root digest."""
-    nodes, layers = {}, [layer_of(key) for key, _ in pairs]
+    nodes, layers = {}, [layer_of(key, format) for key, _ in pairs]
 
     def tree(start, end):
         if start == end:
@@ -95,7 +104,7 @@ def build(pairs):
         tops = [i for i in range(start, end) if layers[i] == layer]
         bounds = [start - 1, *tops, end]
         children = [tree(low + 1, high) for low, high in zip(bounds, bounds[1:])]
-        node = Node(layer, [pairs[i][0] for i in tops], [pairs[i][1] for i in tops], children)
+        node = Node(layer, [pairs[i][0] for i in tops], [pairs[i][1] for i in tops], children, format)
         digest = node.digest()
         nodes[digest] = node
         return digest

@@ -1,6 +1,6 @@
 """The verifier of proofs in Python, written from docs/FORMAT.md alone, with the standard library alone.
 
-    python3 mst_verifier.py ROOT KEY < PROOF      all three in hexadecimal digits
+    python3 mst_verifier.py FORMAT ROOT KEY < PROOF      1 or 2, and the other three in hexadecimal digits
 """
 import sys
 from hashlib import sha256
@@ -34,9 +34,10 @@ class Bytes:
         return self.at == len(self.whole)
 
 
-def layer_of(key):
-    digits = sha256(key).hexdigest()
-    return len(digits) - len(digits.lstrip("0"))
+def layer_of(format, key):
+    """How many digits of the key's SHA-256 are 0 at its front: of base 16 in format 1, of base 4 in format 2."""
+    zeros = 256 - int.from_bytes(sha256(key).digest(), "big").bit_length()
+    return zeros // (4 if format == 1 else 2)
 
 
 def read_child(text):
@@ -53,45 +54,80 @@ def read_counted(text, least, most):
     return text.take(length)
 
 
-def read_node(whole):
-    """The layer, the keys, the values and the children of a node: one child more than keys."""
+def read_held(format, text):
+    """What a node holds of a value: the value in format 1, its SHA-256 in format 2."""
+    return read_counted(text, 0, 64) if format == 1 else text.take(32)
+
+
+def read_node(format, whole):
+    """The layer, the keys, what is held of the values, and the children of a node: one child more than keys."""
     text = Bytes(whole)
     try:
-        if text.number(1) != 1:
+        if text.number(1) != format:
             raise Refused("P4")
         layer, count = text.number(1), text.number(2)
         keys, values, children = [], [], [read_child(text)]
         for _ in range(count):
             keys.append(read_counted(text, 1, 32))
-            values.append(read_counted(text, 0, 64))
+            values.append(read_held(format, text))
             children.append(read_child(text))
     except Short:
         raise Refused("P4")
     rising = all(one < next for one, next in zip(keys, keys[1:]))
-    if not keys or not text.is_at_end() or not rising or any(layer_of(key) != layer for key in keys):
+    if not keys or not text.is_at_end() or not rising or any(layer_of(format, key) != layer for key in keys):
         raise Refused("P4")
     return layer, keys, values, children
 
 
-def read_frame(whole):
-    """The texts of a proof."""
+UNFIT = object()
+
+
+def read_tail(proof):
+    """The answer that a proof of format 2 claims: None, a value, or UNFIT where it can be no answer."""
+    first = proof.number(1)
+    if first == 1:
+        value = proof.take(proof.number(1))
+        return value if len(value) <= 64 else UNFIT
+    return None if first == 0 else UNFIT
+
+
+def read_frame(format, whole):
+    """The texts of a proof, and the answer that it claims."""
     proof = Bytes(whole)
     try:
-        if proof.number(1) != 1:
+        if proof.number(1) != format:
             raise Refused("P1")
         texts = [proof.take(proof.number(4)) for _ in range(proof.number(1))]
+        claim = read_tail(proof) if format == 2 else None
     except Short:
         raise Refused("P2")
     if not proof.is_at_end():
         raise Refused("P3")
-    return texts
+    return texts, claim
 
 
-def verify(root, key, proof):
+def verify(format, root, key, proof):
     """The key's value in the map with this root digest, or None where the key is absent; else Refused."""
+    if format not in (1, 2):
+        raise ValueError("there are formats 1 and 2")
     if len(root) != 32 or not 1 <= len(key) <= 32:
         raise ValueError("a root digest has 32 bytes, a key 1 to 32")
-    texts = read_frame(proof)
+    texts, claim = read_frame(format, proof)
+    held = follow(format, root, key, texts)
+    return held if format == 1 else opened(claim, held)
+
+
+def opened(claim, held):
+    """The claimed answer, where its SHA-256 is what is held."""
+    if claim is UNFIT or (claim is None) != (held is None):
+        raise Refused("P10")
+    if claim is not None and sha256(claim).digest() != held:
+        raise Refused("P10")
+    return claim
+
+
+def follow(format, root, key, texts):
+    """What the texts show that a node holds of the key, or None where it is absent."""
     if not texts:
         if root != sha256(b"").digest():
             raise Refused("P5")
@@ -99,7 +135,7 @@ def verify(root, key, proof):
     expected, upper, low, high = root, None, None, None
     for place, text in enumerate(texts):
         is_last = place == len(texts) - 1
-        layer, keys, values, children = read_node(text)
+        layer, keys, values, children = read_node(format, text)
         if sha256(text).digest() != expected:
             raise Refused("P5")
         if upper is not None and layer >= upper:
@@ -119,18 +155,18 @@ def verify(root, key, proof):
         high = keys[gap] if gap < len(keys) else high
 
 
-def line_for(root, key, proof):
+def line_for(format, root, key, proof):
     """The answer as a line has it."""
     try:
-        value = verify(root, key, proof)
+        value = verify(format, root, key, proof)
     except Refused as refused:
         return str(refused)
     return "absent" if value is None else f"present {value.hex() or '-'}"
 
 
 if __name__ == "__main__":
-    if len(sys.argv) != 3:
+    if len(sys.argv) != 4:
         sys.exit(__doc__)
-    line = line_for(bytes.fromhex(sys.argv[1]), bytes.fromhex(sys.argv[2]), bytes.fromhex(sys.stdin.read()))
+    line = line_for(int(sys.argv[1]), bytes.fromhex(sys.argv[2]), bytes.fromhex(sys.argv[3]), bytes.fromhex(sys.stdin.read()))
     print(line)
     sys.exit(line[0] == "P")

@@ -1,4 +1,4 @@
-"""vectors.py FILE: checks each line of vectors (a root digest, a key, a proof, the answer) by mst_verifier.py."""
+"""vectors.py FILE: checks each line of vectors (a format, a root digest, a key, a proof, the answer) by mst_verifier.py."""
 import sys
 
 from mst_verifier import line_for
@@ -10,8 +10,8 @@ def bytes_in(word):
 
 passed = failed = 0
 for number, line in enumerate(open(sys.argv[1]), 1):
-    root, key, proof, answer = line.rstrip("\n").split("\t")[:4]
-    told = line_for(bytes_in(root), bytes_in(key), bytes_in(proof))
+    format, root, key, proof, answer = line.rstrip("\n").split("\t")[:5]
+    told = line_for(int(format), bytes_in(root), bytes_in(key), bytes_in(proof))
     if told == answer:
         passed += 1
     else:
