@@ -1,9 +1,12 @@
 /*
- * The stack that calls take, over trees in format 2 of 3, of 9 and of 15 nodes one below the other.
- * Each call runs in a thread whose stack is filled with a pattern first, so the bytes that it has
- * written are counted. What six nodes more cost tells what 129 would, the most that a tree can have
- * on one path. Such a tree cannot be had: a key of layer 128 is one of 2 to the power of 256.
+ * How deep calls nest, and the stack that they take, over trees in format 2 of 3, of 9 and of 15
+ * nodes one below the other. Each call runs step by step in a process of its own, where its calls and
+ * returns are counted, and then in a thread whose stack is filled with a pattern first, so the bytes
+ * that it has written are counted. What six nodes more cost tells what 129 would, the most that a
+ * tree can have on one path. Such a tree cannot be had: a key of layer 128 is one of 2 to the power
+ * of 256.
  */
+#include "depth.h"
 #include "tests.h"
 #include <pthread.h>
 #include <stdlib.h>
@@ -15,6 +18,7 @@
 #define PATTERN 0xA5
 #define NODE 1024          /* a node more costs no more of the stack */
 #define LIMIT (128 * 1024) /* and a call over 129 nodes takes less */
+#define MOST_DEPTH 139     /* functions one below the other, with 129 nodes */
 
 /* A key of each layer in format 2, from 14 down; each lies between the two before it. */
 static const char *const keys[NODES] = {
@@ -132,32 +136,60 @@ static void opens(int nodes) {
            && room[1] == nodes);
 }
 
-/* The stack of each call over a tree of so many nodes. */
-static void measure(int nodes, size_t *taken) {
+/* What a call takes: bytes of the stack, and functions one below the other. */
+struct cost {
+    size_t bytes;
+    int depth;
+};
+
+/* What each call takes over a tree of so many nodes. */
+static void measure(int nodes, struct cost *costs) {
     size_t alone = stack_of(nothing);
     opens(nodes);
     for (int i = 0; i < CALLS; i++) {
+        costs[i].depth = depth_of(calls[i].run);
         size_t all = stack_of(calls[i].run);
-        taken[i] = all > alone ? all - alone : 0;
+        costs[i].bytes = all > alone ? all - alone : 0;
         EXPECT(told == calls[i].answer);
     }
     EXPECT(mst_close(&pass) == MST_OK);
 }
 
+/* Tells the bytes of a call, and returns those that 129 nodes take at most. */
+static size_t tells_bytes(const char *name, size_t few, size_t some, size_t most) {
+    size_t more = most > some ? most - some : 0;
+    size_t whole = most + (more + 5) / 6 * (MOST_NODES - NODES);
+    EXPECT(more <= 6 * NODE);
+    EXPECT(whole < LIMIT);
+    printf("%s: %zu, %zu and %zu bytes, so at most %zu\n", name, few, some, most, whole);
+    return whole;
+}
+
+/* Tells the depth of a call, and returns that over 129 nodes: at most one more for each node. */
+static int tells_depth(const char *name, int few, int some, int most) {
+    int whole = most > some ? most + (MOST_NODES - NODES) : most;
+    EXPECT(few > 0 && some > 0 && most > 0);
+    EXPECT(most - some <= 6);
+    EXPECT(whole <= MOST_DEPTH);
+    printf("%s: %d, %d and %d functions, so at most %d\n", name, few, some, most, whole);
+    return whole;
+}
+
 int main(void) {
-    size_t few[CALLS], some[CALLS], most[CALLS], greatest = 0;
+    struct cost few[CALLS], some[CALLS], most[CALLS];
+    size_t greatest = 0;
+    int deepest = 0;
     measure(3, few);
     measure(9, some);
     measure(15, most);
     for (int i = 0; i < CALLS; i++) {
-        size_t more = most[i] > some[i] ? most[i] - some[i] : 0;
-        size_t whole = most[i] + (more + 5) / 6 * (MOST_NODES - NODES);
-        EXPECT(more <= 6 * NODE);
-        EXPECT(whole < LIMIT);
-        printf("%s: %zu, %zu and %zu bytes, so at most %zu\n", calls[i].name, few[i], some[i],
-               most[i], whole);
-        greatest = whole > greatest ? whole : greatest;
+        const char *name = calls[i].name;
+        size_t bytes = tells_bytes(name, few[i].bytes, some[i].bytes, most[i].bytes);
+        int depth = tells_depth(name, few[i].depth, some[i].depth, most[i].depth);
+        greatest = bytes > greatest ? bytes : greatest;
+        deepest = depth > deepest ? depth : deepest;
     }
-    printf("a call over 129 nodes takes less than %zu bytes of the stack\n", greatest + 1);
+    printf("a call over 129 nodes takes less than %zu bytes of the stack, and nests %d functions\n",
+           greatest + 1, deepest);
     return ended("deep");
 }

@@ -1,7 +1,7 @@
 //! The kinds of calls that are timed and counted.
 ghost use Rattle.std.specs.Prelude.{◌<◌, length};
 
-use crate::{calls, reads};
+use crate::{calls, moving, reads};
 use mst_key::Key;
 use mst_store::Pass;
 use std::alloc::Global;
@@ -19,6 +19,7 @@ pub enum Kind {
     Range,
     Prove,
     Verify,
+    Migrate,
 }
 
 /// The kinds that are timed, one after the other, with what their lines call them.
@@ -35,12 +36,19 @@ pub const KINDS: &[(Kind, &str)] = &[
     (Kind::Verify, "verify"),
 ];
 
+/// What lines call a migration of a full store. Those of `KINDS` are timed over all sizes, and at the
+/// greatest the rows do not suffice for two trees.
+const MIGRATION: &str = "migrate";
+
 /// The kind with this name, and what lines call it.
 pub fn named(name: &str) -> Option<(Kind, &'static str)> {
     for (kind, its_name) in KINDS {
         if *its_name == name {
             return Some((*kind, *its_name));
         }
+    }
+    if name == MIGRATION {
+        return Some((Kind::Migrate, MIGRATION));
     }
     None
 }
@@ -76,6 +84,7 @@ pub fn make<'a>(
         Kind::Range => reads::range(alloc, &mut pass, keys, calls),
         Kind::Prove => reads::prove(alloc, &mut pass, keys, calls),
         Kind::Verify => reads::verify(alloc, &mut pass, keys, calls),
+        Kind::Migrate => moving::to_and_fro(alloc, &mut pass, calls),
     };
     (pass, done)
 }

@@ -25,6 +25,21 @@ fn time_move(
     Ok(true)
 }
 
+/// Makes so many migrations, each to the format that does not stand. True where each call went
+/// through.
+pub fn to_and_fro(alloc: Global, pass: &mut Pass<'_, Global>, calls: u32) -> bool {
+    for _ in 0..calls {
+        let to = match pass.format() {
+            Format::One => Format::Two,
+            Format::Two => Format::One,
+        };
+        if pass.try_migrate(alloc, to).is_err() {
+            return false;
+        }
+    }
+    true
+}
+
 /// Times a migration to format 2 and one back, and prints how many rows the map takes in format 2.
 pub fn run(rt: &HostRuntime, pass: &mut Pass<'_, Global>, keys: u32) -> io::Result<()> {
     if !time_move(rt, pass, keys, Format::Two, "migrate to format 2")? {

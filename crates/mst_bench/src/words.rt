@@ -32,7 +32,7 @@ mst_bench KIND KEYS CALLS [1|2]
   puts so many keys, makes so many calls of one kind in a store of the format, and times them;
   tools/counts counts their instructions
 KIND is one of: first put, put, remove and put back, version, get, get of a pinned version, next,
-  range of 100, prove, verify";
+  range of 100, prove, verify, migrate (to the other format, and back)";
 
 // The number that a word spells, if it is above 0.
 fn number(word: &str) -> Option<u32> {

@@ -24,7 +24,8 @@
 //! `specs/`: `Tree`, `Gaps`, `Text`, `Grammar`, `Frame`; `Cost` says what a change of the map makes
 //! anew, and `Stays` what kept versions of a history hold.
 //!
-//! Nothing here changes a tree: `mst_path` does, in rows. The pairs of a map come in rising order
+//! Nothing here changes a tree: `mst_path` does, in rows. `release` gives a tree's memory back with
+//! no more calls below each other than `build` makes. The pairs of a map come in rising order
 //! of their keys, which `is_map` tests and the calls do not.
 #![tactic(auto)]
 
@@ -39,6 +40,7 @@ mod node;
 mod order;
 mod place;
 mod reading;
+mod releasing;
 mod root;
 mod sinks;
 mod texts;
@@ -55,6 +57,7 @@ pub use making::{build, build_in};
 pub use node::{Entry, Node};
 pub use order::{ascending, is_map};
 pub use place::{Place, Span};
+pub use releasing::release;
 pub use root::{root_of, root_of_in};
 pub use sinks::{TextBuffer, TextSink, format_byte};
 pub use texts::{text, text_in};

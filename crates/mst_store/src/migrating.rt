@@ -19,7 +19,7 @@ use crate::publishing::publish;
 use crate::turn::{NotBegun, Turn, begin_write, give_back};
 use mst_arena::Root;
 use mst_key::{Change, Event, Format, Memory};
-use mst_node::{Node, build_in};
+use mst_node::{Node, build_in, release};
 use mst_path::NoRoom;
 use mst_words::PassSeat;
 use std::alloc::Allocator;
@@ -101,7 +101,9 @@ fn make_move<A: Allocator + Copy, B: Allocator + Copy>(
     let Ok(tree) = tree_in(seat, alloc, turn, to) else {
         return Err(NotMoved::Memory);
     };
-    match move_tree(seat, turn, tree.as_deref(), to) {
+    let moved = move_tree(seat, turn, tree.as_deref(), to);
+    release(tree);
+    match moved {
         Ok(root) => Ok(root),
         Err(NoRoom) => Err(NotMoved::NoRoom),
     }
