@@ -42,6 +42,12 @@ write_room room (Err fault) = room
 abbrev pub Nothing : ℤ → Option State → List ℕ → ℤ → List ℕ → Option State → Type 0
 Nothing wanted hand room code room' hand' = (code ≡ wanted) × (room' ≡ room) × (hand' ≡ hand)
 
+-- a pass answers what the key's value is, and C is told of it
+abbrev pub ValueTold : List ℕ → State → List ℕ → ℤ → List ℕ → State → Type 0
+ValueTold key s room code room' t =
+    (a : Option (List ℕ)) × Reads (λ _ m. map_get m key) s a t
+    × (code ≡ value_code (length room) a) × (room' ≡ room_after room a)
+
 -- -7 for an empty hand, -5 for what is no key, else the answer of the pass
 abbrev pub GetTold : Option State → List ℕ → List ℕ → ℤ → List ℕ → Option State → Type 0
 GetTold None key room code room' hand = Nothing (negsuc 6) None room code room' hand

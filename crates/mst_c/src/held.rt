@@ -2,15 +2,17 @@
 ghost use Rattle.std.specs.Prelude.{◌≡◌, ◌≤◌, length, IfOk, OnErr};
 ghost use Rattle.std.specs.Arc.{arc_value};
 ghost use Rattle.mst_key.specs.declared.history.Change.TheVariants.{Put, Remove};
-ghost use Rattle.mst_key.specs.Map.{map_get, map_next, map_range};
+ghost use Rattle.mst_key.specs.Map.{map_next, map_range};
 ghost use Rattle.std.specs.Option.{option_copied};
 ghost use Rattle.mst_node.specs.Text.{root as root_digest};
 ghost use Rattle.mst_node.specs.Trail.{proof_text};
 ghost use Rattle.mst_c.specs.declared.held.State.TheVariants as state;
 ghost use Rattle.mst_c.specs.States.{PinsNone};
+ghost use Rattle.mst_c.specs.Told.{ValueTold};
 ghost use Rattle.mst_c.specs.Formats.{Moves};
 ghost use Rattle.mst_c.specs.Holding.{Reads, Forgets, Writes, PinsNow, Unpins, Versions, Counts};
 
+use crate::telling::tell;
 use mst_key::{Format, Key, Memory, Value};
 use mst_store::{Busy, Laid, LaidPinned, MigrateFault, Store, WriteFault};
 use std::alloc::Global;
@@ -71,6 +73,40 @@ pub(crate) enum Uncounted {
     Busy,
 }
 
+// Tells the value of the key that a free pass finds now.
+fn tell_now(
+    store: &Store<Global>,
+    laid: Laid<Global>,
+    key: &Key,
+    room: &mut [u8],
+) -> (Laid<Global>, i32)
+    requires own { laid.store ≡ store.now }
+    ensures told { ValueTold key.now (state.Free laid) room.old result.1 room.new
+        (state.Free result.0) }
+    ensures own { result.0.store ≡ store.now }
+{
+    let mut pass = store.lift(laid);
+    let code = tell(&pass.get(key), room);
+    (pass.lay(), code)
+}
+
+// Tells the value of the key in the version that a pass pins.
+fn tell_pinned(
+    store: &Store<Global>,
+    laid: LaidPinned<Global>,
+    key: &Key,
+    room: &mut [u8],
+) -> (LaidPinned<Global>, i32)
+    requires own { laid.store ≡ store.now }
+    ensures told { ValueTold key.now (state.Pinned laid) room.old result.1 room.new
+        (state.Pinned result.0) }
+    ensures own { result.0.store ≡ store.now }
+{
+    let mut pinned = store.lift_pinned(laid);
+    let code = tell(&pinned.get(key), room);
+    (pinned.lay(), code)
+}
+
 impl Held {
     /// A free pass beside a share of its store.
     pub(crate) fn new(store: Arc<Store<Global>, Global>, laid: Laid<Global>) -> Held
@@ -83,23 +119,21 @@ impl Held {
         }
     }
 
-    /// The value of the key.
-    pub(crate) fn get(&mut self, key: &Key) -> Option<Value>
-        ensures reads { Reads (λ _ m. map_get m key.now) self.old result self.new }
+    /// The code of the key's value, which is told where it was read, so that it is not moved.
+    pub(crate) fn get(&mut self, key: &Key, room: &mut [u8]) -> i32
+        ensures told { ValueTold key.now self.old room.old result room.new self.new }
     {
         match replace(&mut self.state, State::Away) {
             State::Away => unreachable!(),
             State::Free(laid) => {
-                let mut pass = self.store.lift(laid);
-                let value = pass.get(key);
-                self.state = State::Free(pass.lay());
-                value
+                let (laid, code) = tell_now(&self.store, laid, key, room);
+                self.state = State::Free(laid);
+                code
             }
             State::Pinned(laid) => {
-                let mut pinned = self.store.lift_pinned(laid);
-                let value = pinned.get(key);
-                self.state = State::Pinned(pinned.lay());
-                value
+                let (laid, code) = tell_pinned(&self.store, laid, key, room);
+                self.state = State::Pinned(laid);
+                code
             }
         }
     }

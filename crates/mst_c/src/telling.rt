@@ -53,9 +53,9 @@ fn put(room: &mut [u8], bytes: &[u8])
 }
 
 /// The code of a value or of absence. The value stands first in the room then, if it fits.
-fn tell(value: Option<Value>, room: &mut [u8]) -> i32
-    ensures code { result ≡ value_code (length room.old) value }
-    ensures room { room.new ≡ room_after room.old value }
+pub(crate) fn tell(value: &Option<Value>, room: &mut [u8]) -> i32
+    ensures code { result ≡ value_code (length room.old) value.now }
+    ensures room { room.new ≡ room_after room.old value.now }
 {
     match value {
         Some(value) => {
@@ -123,13 +123,12 @@ pub(crate) fn get(alloc: Global, hand: &mut Hand, key: &[u8], room: &mut [u8]) -
     let Some(mut held) = take(alloc, hand) else {
         return NO_HAND;
     };
-    let Ok(key) = Key::new(key) else {
-        give(hand, held);
-        return BAD_KEY;
+    let code = match Key::new(key) {
+        Ok(key) => held.get(&key, room),
+        Err(_) => BAD_KEY,
     };
-    let value = held.get(&key);
     give(hand, held);
-    tell(value, room)
+    code
 }
 
 pub(crate) fn try_put(
@@ -155,7 +154,7 @@ pub(crate) fn try_put(
     let wrote = held.try_put(&key, &value);
     give(hand, held);
     match wrote {
-        Ok(old) => tell(old, room),
+        Ok(old) => tell(&old, room),
         Err(fault) => unwritten_code(fault),
     }
 }
@@ -255,7 +254,7 @@ pub(crate) fn try_remove(alloc: Global, hand: &mut Hand, key: &[u8], room: &mut 
     let wrote = held.try_remove(&key);
     give(hand, held);
     match wrote {
-        Ok(old) => tell(old, room),
+        Ok(old) => tell(&old, room),
         Err(fault) => unwritten_code(fault),
     }
 }
