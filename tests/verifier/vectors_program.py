@@ -1,5 +1,5 @@
 #!/usr/bin/env python3
-"""verify PROGRAM FILE: checks each line of vectors by `mst verify`, where PROGRAM is crates/mst/out/mst.
+"""vectors_program.py PROGRAM FILE: checks each line of vectors by `mst verify`, where PROGRAM is crates/mst/out/mst.
 
 Each proof is judged in the format of its line; a line of format 1 without the option and with it in turn.
 """

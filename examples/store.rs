@@ -1,4 +1,6 @@
 //! A writer and a reader that pins, in a thread each.
+//!
+//!     make -C bindings && cd bindings/rust && cargo run --example store
 use mst_store::{Error, Reads};
 
 fn main() -> Result<(), Error> {

@@ -1,4 +1,9 @@
-"""A writer and a reader that pins, in a thread each."""
+"""A writer and a reader that pins, in a thread each.
+
+    make -C bindings && PYTHONPATH=bindings/python python3 examples/store.py
+
+With the wheel installed it needs no PYTHONPATH.
+"""
 import threading
 
 from mst_store import open_store

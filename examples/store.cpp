@@ -1,4 +1,6 @@
-// Two passes of one store: an old version stays readable, with its root digest and a proof.
+// Two passes of one store: an old version stays readable, and so does its proof.
+//
+//     c++ -std=c++17 -I../include -I../bindings/cpp store.cpp ../bindings/out/libmst_store.a -o store
 #include "mst_store.hpp"
 #include <iostream>
 

@@ -1,4 +1,8 @@
-/* The shortest use: two passes of one store, an old version that stays, and a proof of it. */
+/*
+ * The shortest use: two passes of one store, an old version that stays, and a proof of it.
+ *
+ *     make -C ../bindings && cc -I../include store.c ../bindings/out/libmst_store.a -o store
+ */
 #include "mst_store.h"
 #include <stdio.h>
 

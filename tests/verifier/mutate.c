@@ -3,7 +3,7 @@
  * a million unless told otherwise.
  * Of each, mst_verify may tell nothing but a refusal or what the line's map has.
  *
- *     cc -O2 -I../include mutate.c ../crates/mst_verifier/out/libmst_verifier.a -o mutate; ./mutate FILE [COUNT]
+ *     cc -O2 -I../../include mutate.c ../../crates/mst_verifier/out/libmst_verifier.a -o mutate; ./mutate FILE [COUNT]
  */
 #include "vectors.h"
 

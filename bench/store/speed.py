@@ -14,7 +14,7 @@ import time
 from contextlib import nullcontext
 
 HERE = os.path.dirname(os.path.abspath(__file__))
-sys.path.append(os.path.join(HERE, "..", "python"))
+sys.path.append(os.path.join(HERE, "..", "..", "bindings", "python"))
 RANGE_PAIRS = 100
 
 

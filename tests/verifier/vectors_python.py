@@ -1,6 +1,9 @@
-"""vectors.py FILE: checks each line of vectors (a format, a root digest, a key, a proof, the answer) by mst_verifier.py."""
+"""vectors_python.py FILE: checks each line of vectors (a format, a root digest, a key, a proof, the answer) by mst_verifier.py."""
+import os
 import sys
 
+here = os.path.dirname(os.path.abspath(__file__))
+sys.path.append(os.path.join(here, "..", "..", "verifiers", "python"))
 from mst_verifier import line_for
 
 

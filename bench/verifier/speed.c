@@ -1,9 +1,10 @@
 /*
  * How long mst_verify takes: for each line of vectors, the mean time of a call.
  *
- *     cc -O2 -I../include speed.c ../crates/mst_verifier/out/libmst_verifier.a -o speed; ./speed FILE
+ *     cc -O2 -I../../include -I../../tests/verifier speed.c \
+ *         ../../crates/mst_verifier/out/libmst_verifier.a -o speed; ./speed FILE
  *
- * `examples/speed` makes proofs of maps of 1,000, 10,000 and 30,000 keys and calls it.
+ * `bench/verifier/run` makes proofs of maps of 1,000, 10,000 and 30,000 keys and calls it.
  */
 #define _POSIX_C_SOURCE 199309L
 #include "vectors.h"

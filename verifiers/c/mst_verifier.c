@@ -1,8 +1,8 @@
 /*
- * The verifier by hand in portable C, with nothing proved: what the speed of the library is measured against.
- * It stands in the library's place:
+ * A verifier by hand in portable C, by docs/FORMAT.md, with nothing proved: what the speed of the library is measured
+ * against. Of the header it has `mst_verify` alone. It stands in the library's place:
  *
- *     cc -O2 -I../include speed.c by_hand.c -o speed_by_hand
+ *     cc -O2 -Iinclude examples/verify.c verifiers/c/mst_verifier.c -o verify
  */
 #include "mst_verifier.h"
 
