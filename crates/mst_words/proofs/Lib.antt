@@ -26,3 +26,5 @@ pub mod Opens
 pub mod Accesses
 pub mod Limits
 pub mod WordWays
+pub mod Ruling
+pub mod Deeds

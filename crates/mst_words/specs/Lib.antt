@@ -8,3 +8,4 @@ pub mod Steps
 pub mod Notes
 pub mod Stored
 pub mod Access
+pub mod Laws

@@ -25,6 +25,7 @@
 #![tactic(auto)]
 
 mod board;
+mod laws;
 pub mod layout;
 mod notes;
 mod pins;
@@ -37,6 +38,7 @@ mod view;
 mod words;
 
 pub use board::{Board, Token};
+pub use laws::rule_laws;
 pub use notes::Telling;
 pub use plays::Naming;
 pub use seat::PassSeat;
