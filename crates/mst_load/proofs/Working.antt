@@ -1,10 +1,11 @@
 -- Calls of a worker, one after another.
-use Rattle.std.proofs.Common.{◌≡◌, ◌⊎◌, inl, inr, ℕ, zero, suc, ◌+◌, ◌-◌, ◌<◌, ◌≤◌, List, [], ◌∷◌, ◌++◌, length, length-append, Result, Ok, Err, IfOk, IfErr, refl, sym, ap, ◌∙◌, subst, arith}
+use Rattle.std.proofs.Common.{◌≡◌, ◌⊎◌, inl, inr, ℕ, zero, suc, ◌+◌, ◌-◌, ◌<◌, ◌≤◌, List, [], ◌∷◌, length, length-append, Result, Ok, Err, IfOk, IfErr, refl, sym, ap, ◌∙◌, subst, arith}
 use Rattle.std.specs.Prelude.{Option}
 use mathlib.Core.Logic.{dite}
 use native.Mathlib.Decide.{ℕ_discrete}
 use Rattle.mst_key.proofs.Alls.{alls-append}
 use Rattle.mst_key.specs.History.{History, KeepsFormat, IsMigration, had}
+use Rattle.mst_key.specs.declared.history.Change.{Change}
 use Rattle.mst_key.specs.declared.history.Change.TheVariants.{Put}
 use Rattle.mst_key.specs.declared.history.Event.{Event}
 use Rattle.mst_store.specs.declared.faults.ChangeFault.{ChangeFault}
@@ -12,73 +13,79 @@ use Rattle.mst_store.specs.declared.faults.ChangeFault.TheVariants.{VersionsSpen
 use Rattle.mst_store.specs.Passes.{StoreId, Known, IsSamePass, Looks, made_by}
 use Rattle.mst_store.specs.Waiting.{WroteAfter, RefusesAfter}
 use Rattle.mst_load.proofs.Kept.{each_keeps, all_keep}
-use Rattle.mst_load.specs.Calls.{key_of, value_of, event_of}
+use Rattle.mst_load.specs.Calls.{key_of, value_of, change_of, event_of}
 use Rattle.mst_load.specs.declared.worker.Plan.{Plan}
-use Rattle.mst_load.specs.Workers.{AreOfCalls, HasWritten, HasRead, HasWorked, IsWorkerOf}
+use Rattle.mst_load.specs.Workers.{HasPut, MadePuts, HasWritten, HasRead, HasWorked, IsWorkerOf}
 
 same_then : (p q r : Known) → IsSamePass p q → IsSamePass q r → IsSamePass p r
 same_then p q r a b = (b.0 ∙ a.0, b.1 ∙ a.1)
 
 -- a refused put leaves the pass's events as they were
-refused_same : (fault : ChangeFault) (key value : List ℕ) (p q : Known) → RefusesAfter fault (Put key value) p q → IsSamePass p q × (q.mine ≡ p.mine)
-refused_same VersionsSpent key value p q r = (r.refused.0.same, r.refused.0.mine)
-refused_same NoRoom key value p q r = (r.refused.0.same, r.refused.0.mine)
+refused_same : (fault : ChangeFault) (change : Change) (p q : Known) → RefusesAfter fault change p q → IsSamePass p q × (q.mine ≡ p.mine)
+refused_same VersionsSpent change p q r = (r.refused.0.same, r.refused.0.mine)
+refused_same NoRoom change p q r = (r.refused.0.same, r.refused.0.mine)
+
+put_same : (call : ℕ) (p q : Known) → HasPut call p q → IsSamePass p q
+put_same call p q (inl made) = made.1.wrote.same
+put_same call p q (inr (fault, refused)) = (refused_same fault (change_of p.number call) p q refused).0
 
 -- no call was made yet
 pub not_written : (p : Known) → HasWritten 0 p p
-not_written p = record { same = (refl, refl); mine = refl }
+not_written p = record { same = (refl, refl); puts = refl }
 
 -- one call more
 pub written_more : (n m number : ℕ) (key value : List ℕ) (first p q : Known) (r : Result (Option (List ℕ)) ChangeFault) →
     IfOk r (λ old. WroteAfter (made_by p (Put key value)) p (had old) q) → IfErr r (λ fault. RefusesAfter fault (Put key value) p q) →
     m ≡ n + 1 → number ≡ first.number → key ≡ key_of number m → value ≡ value_of m → HasWritten n first p → HasWritten m first q
-written_more n m number key value first p q (Ok old) ok err next number_is key_at value_is so_far =
-    let same_number : p.number ≡ first.number = so_far.same.1 in
-    let key_is : key ≡ key_of first.number m = key_at ∙ ap (λ (w : ℕ). key_of w m) number_is in
-    let event : made_by p (Put key value) ≡ event_of first.number m = (λ i. record { pass = same_number i; change = Put (key_is i) (value_is i) }) in
-    let step : AreOfCalls first.number (suc n) first.mine q.mine = inr (p.mine, so_far.mine, ok.wrote.mine ∙ ap (λ (e : Event). p.mine ++ e ∷ []) (event ∙ (let e : m ≡ suc n = omega (arith, next) in ap (event_of first.number) e))) in
-    let count : suc n ≡ m = omega (arith, next) in record {
-      same = same_then first p q so_far.same ok.wrote.same;
-      mine = subst (λ (k : ℕ). AreOfCalls first.number k first.mine q.mine) count step;
+written_more n m number key value first p q r ok err next number_is key_at value_is so_far =
+    let same_number : number ≡ p.number = number_is ∙ sym so_far.same.1 in
+    let key_is : key ≡ key_of p.number m = key_at ∙ ap (λ (w : ℕ). key_of w m) same_number in
+    let change : Put key value ≡ change_of p.number m = (λ i. Put (key_is i) (value_is i)) in
+    let count : m ≡ suc n = omega (arith, next) in
+    let last : HasPut m p q = put_is change r ok err in record {
+      same = same_then first p q so_far.same (put_same m p q last);
+      puts = subst (λ (k : ℕ). MadePuts k first q) (sym count) (p, so_far.puts, subst (λ (k : ℕ). HasPut k p q) count last);
     }
-written_more n m number key value first p q (Err fault) ok err next number_is key_at value_is so_far =
-    let rest = refused_same fault key value p q err in
-    let step : AreOfCalls first.number (suc n) first.mine q.mine = inl (subst (λ (h : History). AreOfCalls first.number n first.mine h) (sym rest.1) so_far.mine) in
-    let count : suc n ≡ m = omega (arith, next) in record {
-      same = same_then first p q so_far.same rest.0;
-      mine = subst (λ (k : ℕ). AreOfCalls first.number k first.mine q.mine) count step;
-    }
+  where
+    put_is : Put key value ≡ change_of p.number m → (r : Result (Option (List ℕ)) ChangeFault) →
+        IfOk r (λ old. WroteAfter (made_by p (Put key value)) p (had old) q) → IfErr r (λ fault. RefusesAfter fault (Put key value) p q) → HasPut m p q
+    put_is change (Ok old) ok err = inl (had old, subst (λ (c : Change). WroteAfter (made_by p c) p (had old) q) change ok)
+    put_is change (Err fault) ok err = inr (fault, subst (λ (c : Change). RefusesAfter fault c p q) change err)
 
 -- nothing was read yet
-pub not_read : (p : Known) → HasRead p p
-not_read p = record { same = (refl, refl); mine = refl; later = omega arith }
+pub not_read : (p : Known) → HasRead 0 p p
+not_read p = record { same = (refl, refl); mine = refl; later = omega arith; asked = omega arith; missed = refl }
 
--- a look is a read
-pub looked : (p q : Known) → Looks p q → HasRead p q
-looked p q looks =
+-- a look by one step is a read
+pub looked : (p q : Known) → Looks p q → q.asked ≡ p.asked + 1 → HasRead 1 p q
+looked p q looks once =
     let longer : length q.seen ≡ length p.seen + length looks.later.0 = ap (λ (h : History). length h) looks.later.1 ∙ length-append p.seen looks.later.0 in
-    record { same = looks.same; mine = looks.mine; later = omega (arith, longer) }
+    record { same = looks.same; mine = looks.mine; later = omega (arith, longer); asked = once; missed = looks.missed }
 
 -- one read more
-pub read_more : (p q r : Known) → HasRead p q → HasRead q r → HasRead p r
-read_more p q r a b =
+pub read_more : (n m : ℕ) (p q r : Known) → m ≡ n + 1 → HasRead n p q → HasRead 1 q r → HasRead m p r
+read_more n m p q r next a b =
     let first : length p.seen ≤ length q.seen = a.later in let second : length q.seen ≤ length r.seen = b.later in
-    record { same = same_then p q r a.same b.same; mine = b.mine ∙ a.mine; later = omega (arith, first, second) }
+    let before : q.asked ≡ p.asked + n = a.asked in let once : r.asked ≡ q.asked + 1 = b.asked in
+    record { same = same_then p q r a.same b.same; mine = b.mine ∙ a.mine; later = omega (arith, first, second); asked = omega (arith, before, once, next); missed = b.missed ∙ a.missed }
 
 -- none of the calls of a writer is a migration
-calls_keep : (writer n : ℕ) (before log : History) → AreOfCalls writer n before log → KeepsFormat before → KeepsFormat log
-calls_keep writer zero before log is keeps = subst KeepsFormat (sym is) keeps
-calls_keep writer (suc n) before log (inl less) keeps = calls_keep writer n before log less keeps
-calls_keep writer (suc n) before log (inr (rest, of, is)) keeps =
-    subst KeepsFormat (sym is) (alls-append (λ (e : Event). IsMigration e.change → ⊥) rest (event_of writer (suc n) ∷ []) (calls_keep writer n before rest of keeps) ((λ none. none), tt))
+put_keeps : (call : ℕ) (p q : Known) → HasPut call p q → KeepsFormat p.mine → KeepsFormat q.mine
+put_keeps call p q (inl made) keeps =
+    subst KeepsFormat (sym made.1.wrote.mine) (alls-append (λ (e : Event). IsMigration e.change → ⊥) p.mine (event_of p.number call ∷ []) keeps ((λ none. none), tt))
+put_keeps call p q (inr (fault, refused)) keeps = subst KeepsFormat (sym (refused_same fault (change_of p.number call) p q refused).1) keeps
+
+puts_keep : (n : ℕ) (p q : Known) → MadePuts n p q → KeepsFormat p.mine → KeepsFormat q.mine
+puts_keep zero p q is keeps = subst KeepsFormat (sym (ap (λ (r : Known). r.mine) is)) keeps
+puts_keep (suc n) p q (r, before, last) keeps = put_keeps (suc n) r q last (puts_keep n p r before keeps)
 
 -- a worker is still one of its store when it has worked
 pub still_worker : (store : StoreId) (plan : Plan) (p q : Known) (falls : ℕ) → HasWorked plan p q falls → IsWorkerOf store p → IsWorkerOf store q
 still_worker store plan p q falls worked was = record {
   of_store = worked.same.0 ∙ was.of_store;
   keeps = all_keep q.mine (elim (below_or_above p.number plan.writers) [
-    | inl low ↦ calls_keep p.number plan.calls p.mine q.mine (worked.writes low) (each_keeps p.mine was.keeps)
-    | inr high ↦ subst KeepsFormat (sym (worked.reads high)) (each_keeps p.mine was.keeps)
+    | inl low ↦ puts_keep plan.calls p q (worked.writes low).puts (each_keeps p.mine was.keeps)
+    | inr high ↦ subst KeepsFormat (sym (worked.reads high).mine) (each_keeps p.mine was.keeps)
   ]);
 }
   where

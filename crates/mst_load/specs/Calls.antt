@@ -1,6 +1,7 @@
 -- The calls of the writers.
 use Rattle.std.specs.Prelude.{ℕ, ◌%◌, List, [], ◌∷◌}
 use Rattle.std.specs.Int.{w32, to_be_bytes}
+use Rattle.mst_key.specs.declared.history.Change.{Change}
 use Rattle.mst_key.specs.declared.history.Change.TheVariants.{Put}
 use Rattle.mst_key.specs.declared.history.Event.{Event}
 
@@ -12,6 +13,10 @@ key_of writer call = writer ∷ call % 32 ∷ []
 abbrev pub value_of : ℕ → List ℕ
 value_of call = to_be_bytes w32 call
 
--- a call of a writer, where it was not refused
+-- what a call of a writer asks for
+abbrev pub change_of : ℕ → ℕ → Change
+change_of writer call = Put (key_of writer call) (value_of call)
+
+-- the event of a call of a writer, where it was not refused
 abbrev pub event_of : ℕ → ℕ → Event
-event_of writer call = record { pass = writer; change = Put (key_of writer call) (value_of call) }
+event_of writer call = record { pass = writer; change = change_of writer call }

@@ -35,7 +35,7 @@ fn write<R: Wait, G: Gate>(rt: &R, gate: &G, pass: &mut Pass<'_, Global>, calls:
 // Reads the version.
 #[tactic(auto, using(crate::proofs::Working::looked))]
 fn look(pass: &mut Pass<'_, Global>) -> u64
-    ensures read { HasRead pass.old pass.new }
+    ensures read { HasRead 1 pass.old pass.new }
     ensures version { result ≡ length pass.new.seen }
 {
     pass.version()
@@ -44,7 +44,7 @@ fn look(pass: &mut Pass<'_, Global>) -> u64
 // Reads the first key of the first writer.
 #[tactic(auto, using(crate::proofs::Working::looked))]
 fn fetch(pass: &mut Pass<'_, Global>)
-    ensures read { HasRead pass.old pass.new }
+    ensures read { HasRead 1 pass.old pass.new }
 {
     let _ = pass.get(&key(1, 1));
 }
@@ -53,7 +53,7 @@ fn fetch(pass: &mut Pass<'_, Global>)
 // read.
 fn ask(pass: &mut Pass<'_, Global>, call: u32, newest: u64) -> u64
     requires newest { newest ≤ length pass.old.seen }
-    ensures read { HasRead pass.old pass.new }
+    ensures read { HasRead 1 pass.old pass.new }
     ensures never { newest ≤ result }
     ensures seen { result ≤ length pass.new.seen }
 {
@@ -68,7 +68,7 @@ fn ask(pass: &mut Pass<'_, Global>, call: u32, newest: u64) -> u64
 // Makes the calls of a reader. It answers how often a version was below an earlier one.
 #[tactic(auto, using(crate::proofs::Working::not_read, crate::proofs::Working::read_more))]
 fn read<G: Gate>(gate: &G, pass: &mut Pass<'_, Global>, calls: u32) -> u64
-    ensures read { HasRead pass.old pass.new }
+    ensures read { HasRead calls pass.old pass.new }
     ensures never { result ≡ 0 }
 {
     let number = pass.number();
