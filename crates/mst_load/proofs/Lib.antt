@@ -1,3 +1,4 @@
 mod Returning
 mod Working
 mod Kept
+mod Left

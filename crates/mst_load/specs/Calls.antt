@@ -1,9 +1,11 @@
 -- The calls of the writers.
-use Rattle.std.specs.Prelude.{ℕ, ◌%◌, List, [], ◌∷◌}
+use Rattle.std.specs.Prelude.{ℕ, zero, suc, ◌%◌, ◌==◌, if◌then◌else◌, List, [], ◌∷◌, ◌++◌, Option, Some, None}
 use Rattle.std.specs.Int.{w32, to_be_bytes}
 use Rattle.mst_key.specs.declared.history.Change.{Change}
 use Rattle.mst_key.specs.declared.history.Change.TheVariants.{Put}
 use Rattle.mst_key.specs.declared.history.Event.{Event}
+use Rattle.mst_key.specs.History.{History, after}
+use Rattle.mst_key.specs.Map.{Pair}
 
 -- the key of a call of a writer: its number, and the call's by 32
 abbrev pub key_of : ℕ → ℕ → List ℕ
@@ -20,3 +22,34 @@ change_of writer call = Put (key_of writer call) (value_of call)
 -- the event of a call of a writer, where it was not refused
 abbrev pub event_of : ℕ → ℕ → Event
 event_of writer call = record { pass = writer; change = change_of writer call }
+
+-- the first so many calls of a writer, in their order
+abbrev pub calls_of : ℕ → ℕ → History
+calls_of writer zero = []
+calls_of writer (suc n) = calls_of writer n ++ event_of writer (suc n) ∷ []
+
+-- so many calls of each of the first so many writers, one writer after another: each has keys of
+-- its own, so that any order of the writers' calls leaves the same map
+abbrev pub all_calls : ℕ → ℕ → History
+all_calls zero calls = []
+all_calls (suc w) calls = all_calls w calls ++ calls_of (suc w) calls
+
+-- the map that these calls leave where none of them is refused
+unfoldable pub map_left : ℕ → ℕ → List Pair
+map_left writers calls = after (all_calls writers calls)
+
+-- the last of so many calls at this place in the round, where there is one
+abbrev pub last : ℕ → ℕ → Option ℕ
+last place zero = None
+last place (suc n) = if suc n % 32 == place then Some (suc n) else last place n
+
+-- the pair that a call of a writer leaves
+abbrev pub pair_left : ℕ → Option ℕ → List Pair
+pair_left writer None = []
+pair_left writer (Some call) = (key_of writer call, value_of call) ∷ []
+
+-- the pairs that so many calls of a writer leave at its first so many places
+abbrev pub round_left : ℕ → ℕ → ℕ → List Pair
+round_left writer calls zero = []
+round_left writer calls (suc place) =
+    round_left writer calls place ++ pair_left writer (last place calls)

@@ -1,6 +1,6 @@
 //! The calls of the writers, and the map that they leave.
-ghost use Rattle.std.specs.Prelude.{◌≡◌, ◌<◌, ◌≤◌, ◌+◌, vec_len, IfSome, IfOk, OnOk};
-ghost use Rattle.mst_load.specs.Calls.{key_of, value_of};
+ghost use Rattle.std.specs.Prelude.{◌≡◌, ◌<◌, ◌≤◌, ◌+◌, ◌++◌, vec_len, IfOk, OnOk};
+ghost use Rattle.mst_load.specs.Calls.{key_of, value_of, last, pair_left, round_left, map_left};
 
 use mst_key::{Key, Memory, Value};
 use std::alloc::Allocator;
@@ -30,9 +30,10 @@ pub(crate) fn value(call: u32) -> Value
 }
 
 // The last of so many calls that has this place in the round, where there is one.
+#[tactic(auto, using(crate::proofs::Left::last_some, crate::proofs::Left::last_none))]
 fn last_call(place: u32, calls: u32) -> Option<u32>
     requires { place < 32 }
-    ensures { IfSome result (λ call. call ≤ calls) }
+    ensures { result ≡ last place calls }
 {
     // how many calls of other places came after it
     let after = (calls % KEYS + KEYS - place) % KEYS;
@@ -43,33 +44,52 @@ fn last_call(place: u32, calls: u32) -> Option<u32>
     }
 }
 
+// Appends the pair that a call of the writer leaves, where there is one.
+fn append_pair<A: Allocator>(
+    pairs: &mut Vec<(Key, Value), A>,
+    writer: u32,
+    call: Option<u32>,
+) -> Result<(), Memory>
+    requires { writer < 256 }
+    ensures pair { OnOk result (pairs.new.items ≡ pairs.old.items ++ pair_left writer call) }
+    ensures few { OnOk result (vec_len pairs.new ≤ vec_len pairs.old + 1) }
+{
+    let Some(call) = call else {
+        return Ok(());
+    };
+    match pairs.push((key(writer, call), value(call))) {
+        Ok(()) => Ok(()),
+        Err(_) => Err(Memory),
+    }
+}
+
 // Appends the pairs that so many calls of the writer leave.
+#[tactic(auto, using(crate::proofs::Left::none_yet, crate::proofs::Left::one_more))]
 fn append<A: Allocator>(
     pairs: &mut Vec<(Key, Value), A>,
     writer: u32,
     calls: u32,
 ) -> Result<(), Memory>
     requires { writer < 256 }
-    ensures { OnOk result (vec_len pairs.new ≤ vec_len pairs.old + 32) }
+    ensures pairs { OnOk result (pairs.new.items ≡ pairs.old.items ++ round_left writer calls 32) }
+    ensures few { OnOk result (vec_len pairs.new ≤ vec_len pairs.old + 32) }
 {
     for place in 0..KEYS {
-        if let Some(call) = last_call(place, calls) {
-            if pairs.push((key(writer, call), value(call))).is_err() {
-                return Err(Memory);
-            }
-        }
+        append_pair(pairs, writer, last_call(place, calls))?;
     }
     Ok(())
 }
 
 /// The map that so many calls of so many writers leave, in the order of its keys.
+#[tactic(auto, using(crate::proofs::Left::all_writers))]
 pub(crate) fn left_by<A: Allocator>(
     alloc: A,
     writers: u32,
     calls: u32,
 ) -> Result<Vec<(Key, Value), A>, Memory>
     requires { writers ≤ 8 }
-    ensures { IfOk result (λ pairs. vec_len pairs ≤ 256) }
+    ensures map { IfOk result (λ pairs. pairs.items ≡ map_left writers calls) }
+    ensures few { IfOk result (λ pairs. vec_len pairs ≤ 256) }
 {
     let mut pairs = Vec::new(alloc);
     for index in 0..writers {

@@ -3,6 +3,8 @@ ghost use Rattle.std.specs.Prelude.{◌≡◌, ◌<◌, ◌≤◌, ◌∷◌, �
 ghost use Rattle.mst_key.specs.declared.format.Format.TheVariants.{One};
 ghost use Rattle.mst_key.specs.History.{KeepsFormat};
 ghost use Rattle.mst_store.specs.Settling.{AreAllPasses};
+ghost use Rattle.mst_node.specs.Text as text;
+ghost use Rattle.mst_load.specs.Calls.{map_left};
 ghost use Rattle.mst_load.specs.Reports.{IsOneVersion};
 
 use crate::calls::left_by;
@@ -72,6 +74,7 @@ fn report_of<A: Allocator>(passes: Vec<Pass<'_, Global>, A>, falls: u64, built: 
     requires format { All (λ p. p.store.format ≡ One) passes.items }
     requires keeps { All (λ p. KeepsFormat p.mine) passes.items }
     ensures falls { result.falls ≡ falls }
+    ensures built { result.built ≡ built }
     ensures version { IsOneVersion result.events result.root }
 {
     let mut passes = passes;
@@ -112,6 +115,7 @@ pub fn load<R: Threads + Wait + AllocGlobal + Sync, A: Allocator + Copy, G: Gate
     requires calls { (1 ≤ calls) × (calls ≤ 100000) }
     ensures never { IfOk result (λ report. report.falls ≡ 0) }
     ensures version { IfOk result (λ report. IsOneVersion report.events report.root) }
+    ensures built { IfOk result (λ report. report.built ≡ text.root One (map_left writers calls)) }
 {
     let Ok(pairs) = left_by(alloc, writers, calls) else {
         return Err(LoadFault::Memory);

@@ -1,5 +1,8 @@
-use Rattle.std.specs.Prelude.{◌+◌, ◌≤◌, vec_len}
+use Rattle.std.specs.Prelude.{◌≡◌, ◌+◌, ◌++◌, ◌≤◌, vec_len, vec_items}
+use Rattle.mst_load.specs.Calls.{round_left}
 use Rattle.mst_load.proofs.calls.append.Given as goal
 
 abbrev pub invariant-loop-place : goal.invariant-loop-place
-invariant-loop-place g l = vec_len l.pairs ≤ vec_len l.fn.pairs + l.place
+invariant-loop-place g l =
+    (vec_items l.pairs ≡ vec_items l.fn.pairs ++ round_left l.fn.writer l.fn.calls l.place)
+    × (vec_len l.pairs ≤ vec_len l.fn.pairs + l.place)

@@ -1,5 +1,7 @@
-use Rattle.std.specs.Prelude.{◌*◌, ◌≤◌, vec_len}
+use Rattle.std.specs.Prelude.{◌≡◌, ◌*◌, ◌≤◌, vec_len, vec_items}
+use Rattle.mst_load.proofs.Left.{built_by}
 use Rattle.mst_load.proofs.calls.left_by.Given as goal
 
 abbrev pub invariant-loop-index : goal.invariant-loop-index
-invariant-loop-index g l = vec_len l.pairs ≤ 32 * l.index
+invariant-loop-index g l =
+    (vec_items l.pairs ≡ built_by l.index l.fn.calls) × (vec_len l.pairs ≤ 32 * l.index)
