@@ -1,5 +1,5 @@
 //! Bytes that wait before a sink.
-ghost use Rattle.std.specs.Prelude.{◌≡◌, ◌≢◌, ◌++◌, [], ◌<◌, ◌^◌, ◌-◌, if◌then◌else◌, IfOk, OnOk, OnErr};
+ghost use Rattle.std.specs.Prelude.{◌≡◌, ◌≢◌, ◌++◌, [], ◌<◌, ◌≤◌, ◌^◌, ◌-◌, length, if◌then◌else◌, IfOk, OnOk, OnErr};
 ghost use Rattle.mst_devices.specs.Device.{Puts, Breaks};
 
 use crate::{Device, Sink};
@@ -17,11 +17,13 @@ pub struct Pending<A: Allocator> {
 
 /// Contracts see the list of the bytes that wait.
 impl<A: Allocator> Model for Pending<A> {
-    ghost use Rattle.std.specs.Prelude.{List, ℕ};
+    ghost use Rattle.std.specs.Prelude.{List, ℕ, ◌≤◌, length};
 
     ghost Value = { List ℕ };
 
     ghost view = { λ p. p.bytes.items };
+
+    ghost invariant = { λ p. length p.bytes.items ≤ 65536 };
 }
 
 /// Writes all the bytes, in as many writes as the sink needs.
@@ -59,6 +61,7 @@ impl<A: Allocator> Pending<A> {
         ensures err { OnErr result (Breaks W.takes sink.old self.old [] sink.new) }
         ensures failed { OnErr result (W.failures sink.old < W.failures sink.new) }
         ensures some { OnErr result (self.old ≢ []) }
+        ensures few { length self.new ≤ 65536 }
     {
         write_all(sink, self.bytes.as_slice())?;
         self.bytes.clear();
@@ -67,21 +70,24 @@ impl<A: Allocator> Pending<A> {
 
     // Whether there was room for the text, which then waits behind the rest.
     fn append(&mut self, text: &[u8]) -> bool
-        ensures { self.new ≡ (if result then self.old ++ text.now else self.old) }
+        ensures waits { self.new ≡ (if result then self.old ++ text.now else self.old) }
+        ensures few { length self.new ≤ 65536 }
     {
-        if self.bytes.capacity() - self.bytes.len() < text.len() {
+        if ROOM - self.bytes.len() < text.len() {
             return false;
         }
         self.bytes.extend_from_slice(text).is_ok()
     }
 
-    /// Puts a text behind what waits. Where there is no room for it, what waits is written first.
+    /// Puts a text behind what waits, at most 65,536 bytes. Where there is no room for it, what waits
+    /// is written first.
     pub fn put<W: Sink>(&mut self, sink: &mut W, text: &[u8]) -> Result<(), Device>
         requires { W.failures sink.old < 2 ^ 64 - 1 }
         ensures ok { OnOk result (Puts W.takes sink.old self.old text.now sink.new self.new) }
         ensures steady { OnOk result (W.failures sink.new ≡ W.failures sink.old) }
         ensures err { OnErr result (Breaks W.takes sink.old self.old text.now sink.new) }
         ensures failed { OnErr result (W.failures sink.old < W.failures sink.new) }
+        ensures few { length self.new ≤ 65536 }
     {
         if self.append(text) {
             return Ok(());
