@@ -149,7 +149,7 @@ int32_t mst_next(mst_pass *pass, const uint8_t *key, size_t key_length,
 /*
  * The first pairs, at most `limit`, of the keys that are at least `from` and below `to`, by rising
  * keys. A bound of length 0 does not bind. MST_OK: *count is the number of the pairs and *length
- * that of their bytes, which stand first in the room, one pair behind the other: the length of the
+ * that of their bytes, which stand first in the room, one pair after the other: the length of the
  * key in two bytes, the high one first, that of the value in two bytes, the key, the value.
  * mst_pair_at below reads them. MST_CLOSED; MST_BAD_KEY where a bound is longer than 32 bytes;
  * MST_MEMORY: the room, *count and *length are as they were. MST_NO_ROOM: *count and *length tell
@@ -237,7 +237,7 @@ typedef struct mst_pair {
 } mst_pair;
 
 /*
- * Reads the pair that begins `at` bytes into the room, and answers where the next one begins: behind
+ * Reads the pair that begins `at` bytes into the room, and returns where the next one begins: after
  * the last pair that is the *length of mst_range.
  *
  *     for (size_t at = 0; at < length;) {

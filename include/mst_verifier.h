@@ -59,7 +59,7 @@ extern "C" {
 /* The proof fails this test first: P1 to P10 of docs/FORMAT.md are -11 to -20. */
 #define MST_P1_VERSION (-11)         /* the first byte is not the format's */
 #define MST_P2_CUT_SHORT (-12)       /* the version, the count, a length, a text or the tail is cut short */
-#define MST_P3_LEFT_OVER (-13)       /* bytes are left over behind the last text, or the tail */
+#define MST_P3_LEFT_OVER (-13)       /* bytes are left over after the last text, or the tail */
 #define MST_P4_NO_NODE (-14)         /* a text is not that of a node */
 #define MST_P5_OTHER_DIGEST (-15)    /* a digest is not the root's, or not the one the node above has */
 #define MST_P6_LAYER_NOT_BELOW (-16) /* a layer is not below that of the node above */
@@ -73,7 +73,7 @@ extern "C" {
  *
  * 0 to 64: the key has a value of so many bytes, which now stands first in the room. All other answers
  * are the numbers above. The format is tested first, then the root digest, the key, the proof, and the
- * room last. The room's bytes behind the value stay, and all of them do where no value is told.
+ * room last. The room's bytes after the value stay, and all of them do where no value is told.
  */
 int32_t mst_verify(uint32_t format,
                    const uint8_t *root, size_t root_length,
@@ -81,7 +81,7 @@ int32_t mst_verify(uint32_t format,
                    const uint8_t *proof, size_t proof_length,
                    uint8_t *room, size_t room_length);
 
-/* The first text that a proof frames begins behind so many bytes. */
+/* The first text that a proof frames begins after so many bytes. */
 #define MST_TOP_TEXT_AT 6
 
 /*

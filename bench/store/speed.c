@@ -4,7 +4,7 @@
  *     speed ENGINE KEYS CALL [COUNT [ROUNDS]]
  *
  * ENGINE is store or lmdb; CALL one of the names below. Fills the map, then makes COUNT calls at
- * keys by chance in each of ROUNDS rounds, and writes the microseconds a call of the fastest round:
+ * random keys in each of ROUNDS rounds, and writes the microseconds a call of the fastest round:
  * those of the processor that the calling thread had, so that what else runs there counts little.
  */
 #include "engine.h"
