@@ -69,7 +69,7 @@ at_free P none_there free n x = by (dec_le n x)
     by (yes past) = subst P (sym (slice_get_past (replicate n Free) x (let l = length-replicate n Free in omega arith))) none_there
     by (no within) = subst P (sym (slice_get-get_or (replicate n Free) x Free (let l = length-replicate n Free in omega arith) ∙ ap (λ (l : Life). Some l) (get_or-replicate n x Free Free (omega arith)))) free
 
-unreached : (n v x : ℕ) → reaches (replicate n Free) v x ≡ true → ⊥
+pub unreached : (n v x : ℕ) → reaches (replicate n Free) v x ≡ true → ⊥
 unreached n v x = at_free (λ l. reached_at l v ≡ true → ⊥) (λ e. let c : false ≡ true = e in cc) (λ e. let c : false ≡ true = e in cc) n x
 
 -- words that spell the empty root stand for the empty map, on no row

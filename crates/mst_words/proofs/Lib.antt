@@ -28,3 +28,5 @@ pub mod Limits
 pub mod WordWays
 pub mod Ruling
 pub mod Deeds
+pub mod Worked
+pub mod Breaches

@@ -46,7 +46,7 @@ module _ {S : Type 0} (T : Meaning S) (framed : IsFramed T) (R N : ℕ) where
   }
 
   -- the bit k is that of the pass
-  pinned_now : (s : St T framed R N) (q : Parts T R N s) (id n k : ℕ) (cs : List (ℕ × S)) (v : View) → SeatAt s.views id v → v.turn ≡ false → v.pin ≡ None → v.number ≡ k + 1 → n ≡ bit_xor (get_or s.words 1 0) (2 ^ k)
+  pub pinned_now : (s : St T framed R N) (q : Parts T R N s) (id n k : ℕ) (cs : List (ℕ × S)) (v : View) → SeatAt s.views id v → v.turn ≡ false → v.pin ≡ None → v.number ≡ k + 1 → n ≡ bit_xor (get_or s.words 1 0) (2 ^ k)
       → Parts T R N (stepped s 1 n id cs (record v { pin = Some q.cur; pinned_history = q.log; pinned_rows = q.used q.cur; known_words = s.words; asked = v.asked + 1 }) keeps)
   pinned_now s q id n k cs v at off free number word = let ws : List ℕ = set s.words 1 n in let w : View = record v { pin = Some q.cur; pinned_history = q.log; pinned_rows = q.used q.cur; known_words = s.words; asked = v.asked + 1 } in
       let small : k < 32 = (let l = (q.pins.seats id v at).small in omega arith) in let pos : 0 < v.number = omega arith in let apart = apart_from s q id v at pos in

@@ -31,7 +31,7 @@ two_passes a b next passes p q apart l m few = omega (arith, apart)
 
 module _ {S : Type 0} (T : Meaning S) (framed : IsFramed T) (R N : ℕ) where
   -- ---- the turn is taken
-  taken : (s : St T framed R N) (q : Parts T R N s) (id p : ℕ) (v : View) → get_elem? s.views id ≡ some v → v.number ≡ p → 0 < p → v.pin ≡ None → (x : S) → s.homes ≡ some x ∷ [] → q.due ≡ None → get_or s.words 0 0 ≡ 0
+  pub taken : (s : St T framed R N) (q : Parts T R N s) (id p : ℕ) (v : View) → get_elem? s.views id ≡ some v → v.number ≡ p → 0 < p → v.pin ≡ None → (x : S) → s.homes ≡ some x ∷ [] → q.due ≡ None → get_or s.words 0 0 ≡ 0
       → Parts T R N (stepped s 0 p id [] (record v { seen = q.log; known_words = s.words; turn = true; desk = q.desk; due = None; mask = 0; drained = []; blocked = []; noted = None; asked = v.asked + 1 }) (takes 0 x))
   taken s q id p v at number some_pass unpinned x homes settled free = let w : View = record v { seen = q.log; known_words = s.words; turn = true; desk = q.desk; due = None; mask = 0; drained = []; blocked = []; noted = None; asked = v.asked + 1 } in let ws : List ℕ = set s.words 0 p in
       let upper : (k : ℕ) → 36 ≤ k → get_or ws k 0 ≡ get_or s.words k 0 = λ k l. stays s.words 0 p k (λ f. omega arith) in record {
