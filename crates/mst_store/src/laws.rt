@@ -1,13 +1,14 @@
 //! Laws of the definitions that contracts cite, each proved as the contract of a function that does
 //! nothing.
-ghost use Rattle.std.specs.Prelude.{◌≡◌, ℕ, List, [], ◌∷◌};
+ghost use Rattle.std.specs.Prelude.{◌≡◌, ◌⊎◌, ◌+◌, ℕ, List, [], ◌∷◌, length};
 ghost use Rattle.mst_key.specs.declared.format.Format.{Format};
 ghost use Rattle.mst_key.specs.declared.history.Change.{Change};
 ghost use Rattle.mst_key.specs.declared.history.Change.TheVariants.{Put, Remove};
-ghost use Rattle.mst_key.specs.History.{History, events_of};
+ghost use Rattle.mst_key.specs.History.{History, events_of, IsPrefix};
 ghost use Rattle.mst_key.specs.Map.{Pair};
 ghost use Rattle.mst_words.specs.Notes.{IsOfPasses};
-ghost use Rattle.mst_store.specs.Passes.{HasRoom, LacksRoom};
+ghost use Rattle.mst_store.specs.Passes.{Known, HasRoom, LacksRoom};
+ghost use Rattle.mst_store.specs.Settling.{Met};
 
 /// Each event that a pass sees is of a pass of its store. In a store of one pass all of them are
 /// its own, so its version grows by its own writes alone.
@@ -19,6 +20,18 @@ pub fn event_laws()
         → IsOfPasses 2 (record { pass = 3; change = change } ∷ []) → ⊥ }
     ensures no_pass { (passes : ℕ) (change : Change)
         → IsOfPasses passes (record { pass = 0; change = change } ∷ []) → ⊥ }
+{}
+
+/// Passes that have met have seen one history. It begins with what each had seen, so one of the two
+/// had seen the beginning of what the other had.
+pub fn meeting_laws()
+    ensures one { (p q m n : Known) → Met p q m n
+        → (m.seen ≡ n.seen) × IsPrefix p.seen m.seen × IsPrefix q.seen m.seen }
+    ensures either { (p q m n : Known) → Met p q m n
+        → IsPrefix p.seen q.seen ⊎ IsPrefix q.seen p.seen }
+    // in a store of two passes it has the events of these two and no others
+    ensures two { (p q m n : Known) → Met p q m n → p.store.passes ≡ 2 → p.number ≡ 1
+        → q.number ≡ 2 → length m.seen ≡ length p.mine + length q.mine }
 {}
 
 /// A change finds room or lacks it, and never both.

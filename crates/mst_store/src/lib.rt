@@ -41,7 +41,7 @@ mod writing;
 
 pub use faults::{Busy, ChangeFault, MigrateFault, OpenFault, WriteFault};
 pub use laid::{Laid, LaidPinned};
-pub use laws::{event_laws, room_laws};
+pub use laws::{event_laws, meeting_laws, room_laws};
 pub use mst_key::{Format, Memory};
 pub use mst_words::Shape;
 pub use pass::Pass;
