@@ -1,8 +1,9 @@
--- Tables that are not as the rule says: for each part of it but the core's path one, in which the
--- worked new table, or a table of one pass, breaks that part.
+-- Tables that are not as the rule says: for each of its parts one, in which the worked new table, or
+-- a table of one pass, breaks that part.
 use Rattle.std.proofs.Common.{◌≡◌, ◌⊎◌, ℕ, zero, suc, ◌+◌, ◌*◌, ◌%◌, ◌<◌, inl, true, Option, Some, List, [], ◌∷◌, length, set, get_or, sym, refl, ap, ◌∙◌, subst, ⊎_elim, arith}
 use Rattle.std.specs.Int.{bit_at}
 use Rattle.std.proofs.lemmas.Nat.Bits.{bit_at-zero}
+use Rattle.std.proofs.lemmas.Option.{none-some, same_Some}
 use mathlib.Core.Option.{none, some, some-injective, some-ne-none}
 use lib.ListN.{get_elem?}
 use Rattle.mst_key.specs.declared.format.Format.TheVariants.{One}
@@ -11,6 +12,10 @@ use Rattle.mst_arena.specs.Lives as lives
 use Rattle.mst_words.specs.declared.view.View.{View}
 use Rattle.mst_words.specs.declared.view.Shape.{Shape}
 use Rattle.mst_words.specs.World.{SeatAt, dealer, idle}
+use Rattle.mst_pin.specs.declared.event.Event as core
+use Rattle.mst_pin.specs.declared.event.Event.TheVariants.{Pin, Unpin, Write, Publish, Transfer, Ask}
+use Rattle.mst_pin.specs.State as pin
+use Rattle.mst_words.specs.Path.{ComesTo}
 use Rattle.mst_words.specs.Pins.{Blamed, pin_bit}
 use Rattle.mst_words.specs.Laws.{Table, IsRuled}
 use Rattle.mst_words.proofs.Worked.{shape, words, begun, event}
@@ -65,6 +70,25 @@ no_pin a = let q = a.parts in
     let beside : q.beside 0 ≡ 0 = ap q.beside (sym cur) ∙ q.pins.beside_cur ∙ mask in
     let bit : pin_bit q.beside (set words 2 1) 0 0 ≡ 1 = ap (λ (z : ℕ). (bit_at z 0 + bit_at 1 0) % 2) beside in
     let t = q.clear.seat_of 0 0 (omega arith) bit in let number : 0 ≡ 1 = ap (λ (z : View). z.number) (one (dealer 4 2 One 1) t.0 t.1 t.2) ∙ t.3 in omega (arith, number)
+
+-- the core of pins never comes to a state in which the transfer of the current record waits
+never_due : (n : ℕ) (moves : List core.Event) (s : pin.State) → ComesTo n moves s → s.due ≡ Some s.current → ⊥
+never_due n [] s is due = none-some s.current (sym (ap (λ (t : pin.State). t.due) is) ∙ due)
+never_due n (Pin p ∷ es) s (before, comes, move, took, is) due = never_due n es before comes (sym (ap (λ (t : pin.State). t.due) is) ∙ due ∙ ap (λ (t : pin.State). Some t.current) is)
+never_due n (Unpin p ∷ es) s (before, comes, move, took, is) due = never_due n es before comes (sym (ap (λ (t : pin.State). t.due) is) ∙ due ∙ ap (λ (t : pin.State). Some t.current) is)
+never_due n (Write x ∷ es) s (before, comes, move, took, is) due = absurd move
+never_due n (Publish r rows ∷ es) s (before, comes, move, took, is) due = took.2 (sym (same_Some before.current r (sym (ap (λ (t : pin.State). t.due) is) ∙ due ∙ ap (λ (t : pin.State). Some t.current) is)))
+never_due n (Transfer ∷ es) s (before, comes, move, took, is) due = none-some s.current (sym (ap (λ (t : pin.State). t.due) is) ∙ due)
+never_due n (Ask r ∷ es) s (before, comes, move, took, is) due = absurd move
+
+-- the path of the core: the holder of the turn waits with the transfer of record 0, which is current
+abbrev owing : View
+owing = record (idle 4 2 One 1 0) { turn = true; due = Some 0 }
+
+no_publication : (s : Table) → s.views ≡ dealer 4 2 One 2 ∷ owing ∷ [] → get_or s.words 1 0 ≡ 0 → IsRuled shape s → ⊥
+no_publication s is word a = let q = a.parts in let cur : q.cur ≡ 0 = (let c = q.pins.current in omega (arith, c, word)) in
+    let due : Some 0 ≡ q.due = (q.pins.holder 1 owing (subst (λ (l : List View). SeatAt l 1 owing) (sym is) refl) refl).due_is in
+    never_due 2 q.path.moves q.path.state q.path.comes (q.path.due_is ∙ sym due ∙ ap Some (sym cur ∙ sym q.path.cur_is))
 
 -- ---- a store of one pass, which has the turn
 

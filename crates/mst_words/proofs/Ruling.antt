@@ -1,7 +1,8 @@
 -- Of two ruled states: when their histories are one, and how a step changes the history. What is
 -- writable is apart from what is live.
-use Rattle.std.proofs.Common.{◌≡◌, ◌⊎◌, ℕ, ◌+◌, ◌*◌, ◌<◌, ◌≢◌, inl, inr, true, Option, Some, List, [], ◌∷◌, ◌++◌, length, set, sym, refl, ap, ◌∙◌, subst, ⊎_elim, arith, append-nil, append_assoc, length-append}
+use Rattle.std.proofs.Common.{◌≡◌, ◌⊎◌, ℕ, ◌+◌, ◌*◌, zero, suc, ◌<◌, ◌≤◌, ◌≢◌, inl, inr, Bool, cond, eq-eqb, ne_eqb, List, [], ◌∷◌, ◌++◌, length, set, sym, refl, ap, ◌∙◌, subst, ⊎_elim, arith, append-nil, append_assoc, length-append}
 use Rattle.std.specs.List.{All}
+use Rattle.std.proofs.lemmas.List.Elements.{All-head, All-tail}
 use mathlib.Core.Logic.{dite}
 use native.Mathlib.Decide.{dec_le, ℕ_discrete}
 use Rattle.atomic_table.specs.Table.{State, Me, Step}
@@ -32,6 +33,44 @@ Whole log vs = (log ≡ []) ⊎ ((i : ℕ) × (v : View) × SeatAt vs i v × (v.
 none_of : (next : ℕ) (log : History) (p : ℕ) → All (λ e. (0 < e.pass) × (e.pass < next)) log → (0 < p → p < next → ⊥) → events_of p log ≡ []
 none_of next log p named out = events_none p log (λ k d l same. let b = named k d l in out (subst (λ (z : ℕ). 0 < z) same b.0) (subst (λ (z : ℕ). z < next) same b.1))
 
+-- ---- how many events there are
+
+-- how many events the passes below n have made
+abbrev total : ℕ → History → ℕ
+total zero log = 0
+total (suc n) log = length (events_of n log) + total n log
+
+total_none : (n : ℕ) → total n [] ≡ 0
+total_none zero = refl
+total_none (suc n) = let h = total_none n in let g : 0 + total n [] ≡ 0 = omega (arith, h) in g
+
+total_past : (n : ℕ) (e : Event) (es : History) → n ≤ e.pass → total n (e ∷ es) ≡ total n es
+total_past zero e es l = refl
+total_past (suc n) e es l = let more = total_past n e es (omega (arith, l)) in
+    let mine : length (events_of n (e ∷ es)) ≡ length (events_of n es) = ap (λ (t : Bool). length (cond t (e ∷ events_of n es) (events_of n es))) (ne_eqb e.pass n (λ f. omega (arith, f, l))) in
+    let g : length (events_of n (e ∷ es)) + total n (e ∷ es) ≡ length (events_of n es) + total n es = omega (arith, more, mine) in g
+
+total_more : (n : ℕ) (e : Event) (es : History) → e.pass < n → total n (e ∷ es) ≡ suc (total n es)
+total_more zero e es l = absurd (omega (arith, l))
+total_more (suc n) e es l = dite (ℕ_discrete e.pass n)
+    (λ is. let more = total_past n e es (omega (arith, is)) in
+    let mine : length (events_of n (e ∷ es)) ≡ suc (length (events_of n es)) = ap (λ (t : Bool). length (cond t (e ∷ events_of n es) (events_of n es))) (eq-eqb e.pass n is) in
+    let g : length (events_of n (e ∷ es)) + total n (e ∷ es) ≡ suc (length (events_of n es) + total n es) = omega (arith, more, mine) in g)
+    (λ other. let more = total_more n e es (omega (arith, l, other)) in
+    let mine : length (events_of n (e ∷ es)) ≡ length (events_of n es) = ap (λ (t : Bool). length (cond t (e ∷ events_of n es) (events_of n es))) (ne_eqb e.pass n other) in
+    let g : length (events_of n (e ∷ es)) + total n (e ∷ es) ≡ suc (length (events_of n es) + total n es) = omega (arith, more, mine) in g)
+
+total_all : (n : ℕ) (log : History) → All (λ e. e.pass < n) log → total n log ≡ length log
+total_all n [] all = total_none n
+total_all n (e ∷ es) all = total_more n e es (All-head (λ x. x.pass < n) e es all) ∙ ap suc (total_all n es (All-tail (λ x. x.pass < n) e es all))
+
+total_same : (n : ℕ) (log other : History) → ((p : ℕ) → events_of p other ≡ events_of p log) → total n other ≡ total n log
+total_same zero log other same = refl
+total_same (suc n) log other same = let mine : length (events_of n other) ≡ length (events_of n log) = ap (λ (l : History). length l) (same n) in let more = total_same n log other same in
+    let g : length (events_of n other) + total n other ≡ length (events_of n log) + total n log = omega (arith, mine, more) in g
+
+-- ---- two histories
+
 begins : (log other : History) (vs us : List View) → Whole log vs → Seen vs us → ((j : ℕ) (w : View) → SeatAt us j w → IsPrefix w.seen other) → IsPrefix log other
 begins log other vs us whole seen fits = ⊎_elim (λ (none : log ≡ []). subst (λ (l : History). IsPrefix l other) (sym none) (IsPrefix-nil other))
     (λ (t : (i : ℕ) × (v : View) × SeatAt vs i v × (v.seen ≡ log)). let w = seen t.0 t.1 t.2 in subst (λ (l : History). IsPrefix l other) (w.3 ∙ t.3) (fits w.0 w.1 w.2)) whole
@@ -51,6 +90,11 @@ module _ (rows passes : ℕ) (first : Format) where
       let inside = (h.placed v.0 v.1 v.2).number in let is = v.3 in let same = t.3 in omega (arith, inside, is, same, past)) ∙ sym (none_of m log p h.named (λ _ below. omega (arith, past, below))))
       (λ inside. let t = h.seated p (omega (arith, pos)) (omega (arith, inside)) in let w = forth t.0 t.1 t.2 (subst (λ (z : ℕ). 0 < z) (sym t.3) (omega (arith, pos))) in
       ap (λ (z : ℕ). events_of z other) (sym (w.3 ∙ t.3)) ∙ (k.fits w.0 w.1 w.2).own ∙ w.4 ∙ sym (h.fits t.0 t.1 t.2).own ∙ ap (λ (z : ℕ). events_of z log) t.3))
+
+  -- and so they are of one length
+  pub same_length : (m n : ℕ) (log other : History) (vs us : List View) → World rows passes first m log vs → World rows passes first n other us → Made vs us → Made us vs → length other ≡ length log
+  same_length m n log other vs us h k forth back = sym (total_all (m + n) other (λ i d l. let b = (k.named i d l).1 in omega (arith, b)))
+      ∙ total_same (m + n) log other (same_events m n log other vs us h k forth back) ∙ total_all (m + n) log (λ i d l. let b = (h.named i d l).1 in omega (arith, b))
 
   -- a history that another begins, whose passes have made no other events than there, is that one
   pub no_more : (next : ℕ) (log less : History) (vs us : List View) → World rows passes first next log vs → Made vs us → ((j : ℕ) (w : View) → SeatAt us j w → events_of w.number less ≡ w.mine) → IsPrefix less log → log ≡ less

@@ -1,5 +1,5 @@
 //! Laws of the rule, each proved as the contract of a function that does nothing.
-ghost use Rattle.std.specs.Prelude.{◌≡◌, ◌<◌, ◌++◌, ℕ, List, [], ◌∷◌};
+ghost use Rattle.std.specs.Prelude.{◌≡◌, ◌<◌, ◌++◌, ℕ, List, [], ◌∷◌, length};
 ghost use Rattle.mst_key.specs.declared.history.Event.{Event};
 ghost use Rattle.mst_key.specs.History.{events_of};
 ghost use Rattle.mst_words.specs.declared.view.View.{View};
@@ -19,6 +19,9 @@ pub fn rule_laws()
     ensures made { (z : Shape) (s t : Table) (a : IsRuled z s) (b : IsRuled z t)
         → HaveMade s t → HaveMade t s
         → (p : ℕ) → events_of p b.parts.log ≡ events_of p a.parts.log }
+    // so both have as many versions
+    ensures versions { (z : Shape) (s t : Table) (a : IsRuled z s) (b : IsRuled z t)
+        → HaveMade s t → HaveMade t s → length b.parts.log ≡ length a.parts.log }
     // no word of a live record is writable, nor one of a row that stands for its version
     ensures stays { (z : Shape) (s : Table) (a : IsRuled z s) (v : View) (r i : ℕ) → HasTurn s v
         → IsLive a.parts.cur s.views r → IsWordOf r (a.parts.used r) i

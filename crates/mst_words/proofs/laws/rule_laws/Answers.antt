@@ -1,4 +1,4 @@
-use Rattle.mst_words.proofs.Ruling.{one_history, same_events}
+use Rattle.mst_words.proofs.Ruling.{one_history, same_events, same_length}
 use Rattle.mst_words.proofs.Deeds.{live_stays, row_unreached, publication_grows, other_keeps, words_tell}
 use Rattle.mst_words.specs.Stored.{stored}
 use Rattle.mst_words.proofs.laws.rule_laws.Goals as goal
@@ -8,6 +8,9 @@ returns-clause-one c z s t a b forth back = one_history z.rows z.passes z.format
 
 pub returns-clause-made : goal.returns-clause-made
 returns-clause-made c z s t a b forth back = same_events z.rows z.passes z.format a.parts.next b.parts.next a.parts.log b.parts.log s.views t.views a.parts.world b.parts.world forth back
+
+pub returns-clause-versions : goal.returns-clause-versions
+returns-clause-versions c z s t a b forth back = same_length z.rows z.passes z.format a.parts.next b.parts.next a.parts.log b.parts.log s.views t.views a.parts.world b.parts.world forth back
 
 pub returns-clause-stays : goal.returns-clause-stays
 returns-clause-stays c z s a v r i turn = live_stays (stored z.format) z.rows z.passes s a turn.0 v r i turn.1 turn.2
