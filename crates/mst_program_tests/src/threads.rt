@@ -2,6 +2,7 @@
 //! leave, and what a refused growth leaves.
 mod memory;
 mod overlap;
+mod reading;
 
 use crate::texts::ONE_CALL;
 use mst_load::{Open, Report, load};
