@@ -1,6 +1,6 @@
 -- The steps of the laws, each of which keeps the history but a publication; what is writable; and
 -- what the words tell.
-use Rattle.std.proofs.Common.{◌≡◌, ◌⊎◌, ℕ, ◌+◌, ◌*◌, ◌<◌, ◌≢◌, inl, inr, true, Option, Some, List, [], ◌∷◌, ◌++◌, length, set, sym, refl, ap, ◌∙◌, subst, ⊎_elim, arith}
+use Rattle.std.proofs.Common.{◌≡◌, ◌⊎◌, ℕ, ◌+◌, ◌*◌, ◌<◌, inl, inr, true, Option, List, [], ◌∷◌, ◌++◌, length, set, sym, refl, ap, ◌∙◌, subst, ⊎_elim, arith}
 use mathlib.Core.Logic.{dite}
 use native.Mathlib.Decide.{ℕ_discrete}
 use Rattle.atomic_table.specs.Table.{State, Me, Step}
@@ -16,11 +16,11 @@ use Rattle.mst_words.specs.declared.view.DeskState.{DeskState}
 use Rattle.mst_words.specs.World.{SeatAt, World, Fits, having_dealt, newcomer}
 use Rattle.mst_words.specs.Pins.{Drains}
 use Rattle.mst_words.specs.Records.{Meaning, IsLive, IsBlank, field, row}
-use Rattle.mst_words.specs.Rule.{Parts, Ruled}
+use Rattle.mst_words.specs.Rule.{Ruled}
 use Rattle.mst_words.specs.Notes.{note_of, having_heard}
 use Rattle.mst_words.specs.Steps.{IsWritable}
 use Rattle.mst_words.specs.Stored.{stored, StandsOn, contents_after}
-use Rattle.mst_words.specs.Laws.{Table, IsRuled, HasTurn, IsWordOf, Tells, Makes, IsPublication, Deed, told_by, trying, giving, pinning, unpinning, forgetting, reading, writing, transferring, asking, noting, asking_current, seeing_all, seeing_told, glancing, Adds, Hears, IsOther}
+use Rattle.mst_words.specs.Laws.{Table, IsRuled, IsWordOf, Tells, Makes, IsPublication, Deed, told_by, trying, giving, pinning, unpinning, forgetting, reading, writing, transferring, asking, noting, asking_current, seeing_all, seeing_told, glancing, Adds, Hears, IsOther}
 use Rattle.mst_words.proofs.Follows.{live_not_drained}
 use Rattle.mst_words.proofs.Worlds.{within}
 use Rattle.mst_words.proofs.Ruling.{Whole, IsQuiet, set_stays, add_stays}
