@@ -1,6 +1,7 @@
 pub mod Asks
 pub mod Bits
 pub mod Cores
+pub mod EndedPins
 pub mod Masks
 pub mod Options
 pub mod Pinned
@@ -9,3 +10,4 @@ pub mod Runs
 pub mod Sound
 pub mod States
 pub mod WordSteps
+pub mod Worked

@@ -1,5 +1,5 @@
 -- What holds after every list of events, whatever the answers were.
-use Rattle.std.specs.Prelude.{◌≡◌, ◌≢◌, ℕ, List, Some, None}
+use Rattle.std.specs.Prelude.{◌≡◌, ◌≢◌, ◌⊎◌, ℕ, List, [], ◌∷◌, Some, None}
 use Rattle.std.specs.List.{AllByRecursion}
 use Rattle.mst_pin.specs.declared.event.Event.{Event}
 use Rattle.mst_pin.specs.declared.event.Event.TheVariants.{Pin, Unpin, Write, Publish}
@@ -34,3 +34,11 @@ FromPinOn Holds = (p r : ℕ) (events : List Event) (answers : List Answer) (s t
 abbrev pub WhilePinned : (ℕ → State → State → Type 0) → Type 0
 WhilePinned Holds = (p r : ℕ) (events : List Event) (answers : List Answer) (s t : State)
     → s.pins p ≡ Some r → KeepsPin p events → Runs s events answers t → Holds r s t
+
+-- among the events is a pin of the pass that was answered with the record, and behind it no unpin of
+-- the pass
+abbrev pub HasPinOf : ℕ → ℕ → List Event → List Answer → Type 0
+HasPinOf p r [] answers = ⊥
+HasPinOf p r (e ∷ events) [] = ⊥
+HasPinOf p r (e ∷ events) (a ∷ answers) =
+    ((e ≡ Pin p) × (a ≡ Record r) × KeepsPin p events) ⊎ HasPinOf p r events answers

@@ -1,9 +1,10 @@
 //! Laws of the core, over every list of events. Each function does nothing: its contract is the
 //! law.
 
-ghost use Rattle.std.specs.Prelude.{◌≡◌, ◌≢◌, ◌⊎◌, ℕ, true, false, None, Some};
-ghost use Rattle.mst_pin.specs.Laws.{WritesAreBlank, SomeRecordIsFree, FromPinOn, WhilePinned};
-ghost use Rattle.mst_pin.specs.State.{State, IsRow, IsTaken, AreUsable, Steps, row_set};
+ghost use Rattle.std.specs.Prelude.{◌≡◌, ◌≢◌, ◌⊎◌, ◌↔◌, ℕ, List, true, false, None, Some};
+ghost use Rattle.mst_pin.specs.Laws.{WritesAreBlank, SomeRecordIsFree, FromPinOn, WhilePinned, HasPinOf};
+ghost use Rattle.mst_pin.specs.State.{State, opening, IsRow, IsTaken, AreUsable, Steps, Runs, row_set};
+ghost use Rattle.mst_pin.specs.declared.event.Event.{Event};
 ghost use Rattle.mst_pin.specs.declared.event.Event.TheVariants.{Write, Publish, Ask};
 ghost use Rattle.mst_pin.specs.declared.event.Answer.{Answer};
 ghost use Rattle.mst_pin.specs.declared.event.Answer.TheVariants.{Done, Yes, No};
@@ -56,4 +57,9 @@ pub fn asks_tell_pins()
         → AreUsable s (row_set rows) → IsTaken s (Publish r rows) }
     ensures pinned { (s t : State) (r rows : ℕ) → Steps s (Ask r) No t
         → ¬ (IsTaken s (Publish r rows)) }
+    // whatever events came before: `Yes` exactly if each pass that was told the record at a pin has
+    // ended that pin
+    ensures ended { (passes : ℕ) (events : List Event) (answers : List Answer) (s t : State)
+        (r : ℕ) (a : Answer) → Runs (opening passes) events answers s → IsTaken s (Ask r)
+        → Steps s (Ask r) a t → (a ≡ Yes) ↔ ((p : ℕ) → ¬ (HasPinOf p r events answers)) }
 {}
