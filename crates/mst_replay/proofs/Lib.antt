@@ -3,3 +3,4 @@ pub mod FaultLines
 pub mod Numbers
 pub mod RowLists
 pub mod Worked
+pub mod WorkedLines

@@ -169,7 +169,7 @@ empty_zero s small e = same_from_bits_below 64 s 0 small (omega arith) (λ x l. 
 text_of_some : (s : ℕ) → s ≢ 0 → rows_text s ≡ drop 1 (part 0 64 s)
 text_of_some s some = ap (λ (t : Bool). cond t (45 ∷ []) (drop 1 (part 0 64 s))) (ne_eqb s 0 some)
 
-text_of_zero : (s : ℕ) → s ≡ 0 → rows_text s ≡ 45 ∷ []
+pub text_of_zero : (s : ℕ) → s ≡ 0 → rows_text s ≡ 45 ∷ []
 text_of_zero s none = ap (λ (t : Bool). cond t (45 ∷ []) (drop 1 (part 0 64 s))) (eq-eqb s 0 none)
 
 pub whole_some : (field : List ℕ) (rows : ℕ) → Walked field 64 rows [] → field ≡ rows_text rows
@@ -178,7 +178,7 @@ whole_some field rows walked = let e : 44 ∷ field ≡ part 0 64 rows = walked.
     (λ some. ap (drop 1) e ∙ sym (text_of_some rows some))
 
 -- the text of a set that is not empty, with a comma before it
-comma_before : (field : List ℕ) (s : ℕ) → s < 2 ^ 64 → s ≢ 0 → field ≡ rows_text s → 44 ∷ field ≡ part 0 64 s
+pub comma_before : (field : List ℕ) (s : ℕ) → s < 2 ^ 64 → s ≢ 0 → field ≡ rows_text s → 44 ∷ field ≡ part 0 64 s
 comma_before field s small some e = ⊎_elim (λ (none : part 0 64 s ≡ []). absurd (some (empty_zero s small none)))
     (λ (h : (j : ℕ) × (0 ≤ j) × (j < 0 + 64) × ((t : List ℕ) × IsRest t × (part 0 64 s ≡ 44 ∷ (decimal j ++ t)))).
     ap (λ (z : List ℕ). 44 ∷ z) (e ∙ text_of_some s some ∙ ap (drop 1) h.3.2) ∙ sym h.3.2) (begins 0 64 s)

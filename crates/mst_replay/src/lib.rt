@@ -27,7 +27,7 @@ mod reply;
 mod rows;
 
 pub use command::{Command, read_command};
-pub use laws::fault_lines;
+pub use laws::{fault_lines, worked_lines};
 use mst_pin::Core;
 pub use reply::Reply;
 
