@@ -1,6 +1,6 @@
 -- What one read gave, what one write took, and what a buffer before a sink did.
 use Rattle.std.specs.Prelude.{◌≡◌, ℕ, ◌+◌, ◌<◌, ◌≤◌, Bool, true, false, if◌then◌else◌, List, [], ◌++◌, length, take, Option}
-use Rattle.std.specs.Io.KnownBytes.{Consumes, IsAtEnd}
+use Rattle.std.specs.Io.KnownBytes.{Appends, Consumes, IsAtEnd}
 
 -- which bytes a source gave, or a sink took, from the one state to the other
 abbrev pub Flow : Type 0 → Type 1
@@ -69,3 +69,7 @@ pub record GaveKnown (s : Counted) (xs : List ℕ) (t : Counted) : Type 0 where
 pub record Written : Type 0 where
   pub failures : ℕ
   pub known : Option (List ℕ)
+
+-- these bytes were taken: they stand behind those that the writer held
+abbrev pub TookKnown : Written → List ℕ → Written → Type 0
+TookKnown s xs t = Appends s.known t.known xs

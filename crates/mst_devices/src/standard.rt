@@ -1,7 +1,6 @@
 //! Standard input and output.
 ghost use Rattle.std.specs.Prelude.{◌≡◌, ◌<◌, ◌++◌, false, Some, length, min};
-ghost use Rattle.std.specs.Io.KnownBytes.{Appends};
-ghost use Rattle.mst_devices.specs.Device.{GaveKnown, Written, left_of};
+ghost use Rattle.mst_devices.specs.Device.{GaveKnown, TookKnown, Written, left_of};
 ghost use Rattle.mst_devices.specs.Laws.{gave_none, gave_more, gave_within, appended_none, appended_more};
 
 use crate::{Device, Sink, Source};
@@ -113,7 +112,7 @@ impl<W: Write> StdSink<W> {
     pub fn new(output: W) -> StdSink<W>
         ensures fresh { result ≡ record { failures = 0; known = W.contents output } }
         ensures whole { (held taken : _) (last : Written) → W.contents output ≡ Some held
-            → Appends result.known last.known taken → last.known ≡ Some (held ++ taken) }
+            → TookKnown result taken last → last.known ≡ Some (held ++ taken) }
     {
         StdSink {
             output,
@@ -134,7 +133,7 @@ impl<W: Write> Model for StdSink<W> {
 
 // What a writer took is known as far as std knows it: of a terminal or a pipe nothing.
 impl<W: Write> Sink for StdSink<W> {
-    ghost takes = { λ s xs t. Appends s.known t.known xs };
+    ghost takes = { λ s xs t. TookKnown s xs t };
 
     ghost failures = { λ s. s.failures };
 
