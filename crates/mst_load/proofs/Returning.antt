@@ -50,3 +50,6 @@ all_back s qs l own numbered =
     (own k d here ∙ sym (ap (λ (p : Known). p.store) (first_at s s.passes k d low)), numbered k d here ∙ sym (ap (λ (p : Known). p.number) (first_at s s.passes k d low)))) in
     let count : length qs ≡ length (new_passes s) = l ∙ sym e in
     all_same (new_passes s) qs count same (all_new s)
+
+-- both, for the function that starts the workers
+pub ruleset of_load = (dealt_worker, all_back)

@@ -1,9 +1,29 @@
 -- What a load tells of the history that its workers made.
-use Rattle.std.specs.Prelude.{◌≡◌, ℕ, List, length}
-use Rattle.mst_key.specs.History.{History, after}
+use Rattle.std.specs.Prelude.{◌≡◌, ℕ, List, length, All}
+use Rattle.mst_key.specs.History.{History, after, events_of, IsPrefix}
 use Rattle.mst_key.specs.declared.format.Format.TheVariants.{One}
 use Rattle.mst_node.specs.Text as text
+use Rattle.mst_store.specs.Passes.{Known}
+use Rattle.mst_store.specs.Settling.{IsOfOne, AreAllPasses}
 
 -- the number of events and the root digest are those of one history
 abbrev pub IsOneVersion : ℕ → List ℕ → Type 0
 IsOneVersion events root = (h : History) × (events ≡ length h) × (root ≡ text.root One (after h))
+
+-- The number of events and the root digest are those of the one history at which these passes
+-- settled. It begins with all that each of them had seen, each one's events in it are its own, and
+-- it has no events but theirs
+pub record IsSettled (passes : List Known) (events : ℕ) (root : List ℕ) : Type 0 where
+  pub log : History
+  pub later : All (λ p. IsPrefix p.seen log) passes
+  pub own : All (λ p. events_of p.number log ≡ p.mine) passes
+  pub alone : All (IsOfOne passes) log
+  pub events_is : events ≡ length log
+  pub root_is : root ≡ text.root One (after log)
+
+-- The same of all passes of one store, which are so many
+pub record HasSettled (count events : ℕ) (root : List ℕ) : Type 0 where
+  pub passes : List Known
+  pub all : AreAllPasses passes
+  pub count_is : length passes ≡ count
+  pub settled : IsSettled passes events root

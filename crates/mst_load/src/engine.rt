@@ -1,11 +1,12 @@
 //! A load of readers and writers, from the store's opening to its end.
-ghost use Rattle.std.specs.Prelude.{◌≡◌, ◌<◌, ◌≤◌, ◌∷◌, ◌++◌, [], All, IfOk, vec_len, vec_capacity};
+ghost use Rattle.std.specs.Prelude.{◌≡◌, ◌<◌, ◌≤◌, ◌+◌, ◌∷◌, ◌++◌, [], All, IfOk, length, vec_len, vec_capacity};
 ghost use Rattle.mst_key.specs.declared.format.Format.TheVariants.{One};
-ghost use Rattle.mst_key.specs.History.{KeepsFormat};
+ghost use Rattle.mst_key.specs.History.{after, events_of, KeepsFormat};
+ghost use Rattle.mst_store.specs.Passes.{format_seen};
 ghost use Rattle.mst_store.specs.Settling.{AreAllPasses};
 ghost use Rattle.mst_node.specs.Text as text;
 ghost use Rattle.mst_load.specs.Calls.{map_left};
-ghost use Rattle.mst_load.specs.Reports.{IsOneVersion};
+ghost use Rattle.mst_load.specs.Reports.{IsOneVersion, HasSettled};
 
 use crate::calls::left_by;
 use crate::gate::Gate;
@@ -46,18 +47,17 @@ pub enum LoadFault {
     Thread,
 }
 
-// The number of the version that a pass finds, and the root digest of its map. All passes then
-// settle, so that all events that led to it are known.
+// The number of the version that a pass finds when all have settled, and the root digest of its map.
+// That all settle again shows that no event came since.
 fn version_of<'a, A: Allocator>(
     pass: Pass<'a, Global>,
     others: Vec<Pass<'a, Global>, A>,
 ) -> (u64, [u8; 32])
     requires room { vec_len others < vec_capacity others }
     requires whole { AreAllPasses (others.items ++ pass ∷ []) }
-    requires format { pass.store.format ≡ One }
-    requires keeps { All (λ p. KeepsFormat p.mine) others.items }
-    requires own { KeepsFormat pass.mine }
-    ensures version { IsOneVersion result.0 result.1 }
+    requires seen { All (λ p. events_of p.number pass.seen ≡ p.mine) (others.items ++ pass ∷ []) }
+    ensures events { result.0 ≡ length pass.entry.seen }
+    ensures root { result.1 ≡ text.root (format_seen pass.entry) (after pass.entry.seen) }
 {
     let mut pinned = pass.pin();
     let events = pinned.version();
@@ -68,20 +68,23 @@ fn version_of<'a, A: Allocator>(
     (events, root)
 }
 
-// What a pass finds when all have settled.
+// What all passes have seen when they have settled.
 fn report_of<A: Allocator>(passes: Vec<Pass<'_, Global>, A>, falls: u64, built: [u8; 32]) -> Report
+    requires some { 0 < vec_len passes }
     requires whole { AreAllPasses passes.items }
     requires format { All (λ p. p.store.format ≡ One) passes.items }
     requires keeps { All (λ p. KeepsFormat p.mine) passes.items }
     ensures falls { result.falls ≡ falls }
     ensures built { result.built ≡ built }
+    ensures settled { HasSettled (vec_len passes.entry) result.events result.root }
     ensures version { IsOneVersion result.events result.root }
 {
     let mut passes = passes;
-    let (events, root) = match passes.pop() {
-        Some(pass) => version_of(pass, passes),
-        None => (0, root_of(&[])),
+    settle(passes.as_mut_slice(), &mut []);
+    let Some(pass) = passes.pop() else {
+        unreachable!()
     };
+    let (events, root) = version_of(pass, passes);
     Report {
         events,
         falls,
@@ -101,7 +104,7 @@ fn report_of<A: Allocator>(passes: Vec<Pass<'_, Global>, A>, falls: u64, built: 
 /// which the threads share, lies in the runtime's memory, the lists of passes and threads in
 /// `alloc`. It returns when all threads have returned, also with a fault: `Memory` where a growth
 /// was refused, `Thread` where a thread could not be started.
-#[tactic(auto, using(crate::proofs::Returning::dealt_worker, crate::proofs::Returning::all_back))]
+#[tactic(auto, using(crate::proofs::Returning::of_load, crate::proofs::Kept::settled_count))]
 pub fn load<R: Threads + Wait + AllocGlobal + Sync, A: Allocator + Copy, G: Gate + Sync>(
     rt: &R,
     alloc: A,
@@ -115,6 +118,8 @@ pub fn load<R: Threads + Wait + AllocGlobal + Sync, A: Allocator + Copy, G: Gate
     requires calls { (1 ≤ calls) × (calls ≤ 100000) }
     ensures never { IfOk result (λ report. report.falls ≡ 0) }
     ensures version { IfOk result (λ report. IsOneVersion report.events report.root) }
+    ensures settled { IfOk result
+        (λ report. HasSettled (readers + writers) report.events report.root) }
     ensures built { IfOk result (λ report. report.built ≡ text.root One (map_left writers calls)) }
 {
     let Ok(pairs) = left_by(alloc, writers, calls) else {

@@ -1,4 +1,4 @@
-use Rattle.std.specs.Prelude.{◌≡◌, vec_len, length}
+use Rattle.std.specs.Prelude.{◌≡◌, ◌+◌, ◌≤◌, vec_len, length}
 use Rattle.std.proofs.Common.{rules, arith, ap, ◌∙◌}
 use Rattle.mst_store.specs.Passes.{StoreId}
 use Rattle.mst_store.specs.Settling.{AreAllPasses}
@@ -20,7 +20,10 @@ report_of-requires g c =
     let store = c.in-Ok-open.store in let back = c.in_ok-passes in let passes = back.passes.items in
     let count : length passes ≡ store.passes = search rules in
     let whole : AreAllPasses passes = all_back store passes count (λ k d below. (back.ensures.own k d (search rules)).of_store) (λ k d below. back.ensures.numbered k d (search rules)) in
+    let shape : store.passes ≡ c.args.readers + c.args.writers = c.in-Ok-open.ensures.store.1 in
+    let writers : 1 ≤ c.args.writers = c.requires.writers.0 in
     record {
+      some = omega (arith, count, shape, writers);
       whole = whole;
       format = λ k d below. (let own = back.ensures.own k d (search rules) in ap (λ (s : StoreId). s.format) own.of_store ∙ c.in-Ok-open.ensures.store.2);
       keeps = λ k d below. (let own = back.ensures.own k d (search rules) in each_keeps (get_or passes k d).mine own.keeps);

@@ -1,48 +1,59 @@
-use Rattle.std.proofs.Common.{◌≡◌, ℕ, List, [], refl, sym, subst, rules}
-use Rattle.std.specs.List.{All}
-use Rattle.mst_key.specs.declared.format.Format.TheVariants.{One}
-use Rattle.mst_key.specs.History.{KeepsFormat}
+use Rattle.std.proofs.Common.{◌≡◌, List, [], sym, ◌∙◌, subst, rules}
 use Rattle.mst_store.specs.Passes.{Known}
-use Rattle.mst_store.specs.Settling.{AreAllPasses}
-use Rattle.mst_load.proofs.Kept.{last_of}
-use Rattle.mst_load.specs.Reports.{IsOneVersion}
+use Rattle.mst_store.specs.Settling.{AreAllPasses, Settled}
+use Rattle.mst_store.proofs.AllPasses.{none_held}
+use Rattle.mst_load.proofs.Kept.{all_whole, settled_back, told_settled, one_settled, seen_by_last}
 use Rattle.mst_load.proofs.engine.report_of.Goals as goal
-use Rattle.mst_load.proofs.engine.report_of.Goals.{in-Some, in-None}
 
--- the version that the pass pinned, or where there is no pass that of no events
+pub settle-requires : goal.settle-requires
+settle-requires g c =
+    let items : c.as_mut_slice.result.now ≡ c.args.passes.items = search rules in
+    record { whole = none_held c.as_mut_slice.result.now (subst AreAllPasses (sym items) c.requires.whole) }
+
+-- the pass that was taken, and those before it
+pub version_of-events-requires-clause-whole : goal.version_of-events-requires-clause-whole
+version_of-events-requires-clause-whole g c =
+    let ws = c.args.passes.items in
+    let free = c.settle.new.free in
+    let held = c.settle.new.held in
+    let items : c.as_mut_slice.result.now ≡ ws = search rules in
+    let settled = subst (λ (l : List Known). Settled l [] free held) items c.settle.ensures.settled in
+    let taken = settled_back ws free held c.args.passes.len settled (search rules) ∙ c.in-Some.ensures.items in
+    subst AreAllPasses taken (all_whole ws free held settled c.requires.whole)
+
+pub version_of-events-requires-clause-seen : goal.version_of-events-requires-clause-seen
+version_of-events-requires-clause-seen g c =
+    let ws = c.args.passes.items in
+    let free = c.settle.new.free in
+    let held = c.settle.new.held in
+    let items : c.as_mut_slice.result.now ≡ ws = search rules in
+    let settled = subst (λ (l : List Known). Settled l [] free held) items c.settle.ensures.settled in
+    let taken = settled_back ws free held c.args.passes.len settled (search rules) ∙ c.in-Some.ensures.items in
+    seen_by_last ws free held c.pop.new.self.items c.in-Some.pass settled (sym taken)
+
+pub returns-clause-settled : goal.returns-clause-settled
+returns-clause-settled g c =
+    let ws = c.args.passes.items in
+    let free = c.settle.new.free in
+    let held = c.settle.new.held in
+    let items : c.as_mut_slice.result.now ≡ ws = search rules in
+    let settled = subst (λ (l : List Known). Settled l [] free held) items c.settle.ensures.settled in
+    let taken = settled_back ws free held c.args.passes.len settled (search rules) ∙ c.in-Some.ensures.items in
+    let told = c.version_of-events.ensures in record {
+      passes = ws;
+      all = c.requires.whole;
+      count_is = search rules;
+      settled = told_settled ws free held c.pop.new.self.items c.in-Some.pass c.version_of-events.result.0 c.version_of-events.result.1 settled (sym taken) c.requires.format c.requires.keeps told.events told.root;
+    }
+
 pub returns-clause-version : goal.returns-clause-version
-returns-clause-version g c = elim c.match-pop.branch [
-  | in-Some w ↦ subst (λ (found : ℕ × List ℕ). IsOneVersion found.0 found.1) (sym w.events-is) w.version_of.ensures.version
-  | in-None w ↦ subst (λ (found : ℕ × List ℕ). IsOneVersion found.0 found.1) (sym w.events-is) ([], refl, w.root_of.ensures.root)
-]
-
--- the pass that was popped, and those before it
-pub version_of-requires-clause-whole : goal.version_of-requires-clause-whole
-version_of-requires-clause-whole g c = subst AreAllPasses c.in-Some.ensures.items c.requires.whole
-
-pub version_of-requires-clause-format : goal.version_of-requires-clause-format
-version_of-requires-clause-format g c =
-    let os = c.pop.new.self.items in
-    let p = c.in-Some.pass in
-    (last_of (λ (x : Known). x.store.format ≡ One) os p (subst (All (λ x. x.store.format ≡ One)) c.in-Some.ensures.items c.requires.format)).0
-
-pub version_of-requires-clause-keeps : goal.version_of-requires-clause-keeps
-version_of-requires-clause-keeps g c =
-    let os = c.pop.new.self.items in
-    let p = c.in-Some.pass in
-    (last_of (λ (x : Known). KeepsFormat x.mine) os p (subst (All (λ x. KeepsFormat x.mine)) c.in-Some.ensures.items c.requires.keeps)).1
-
-pub version_of-requires-clause-own : goal.version_of-requires-clause-own
-version_of-requires-clause-own g c =
-    let os = c.pop.new.self.items in
-    let p = c.in-Some.pass in
-    (last_of (λ (x : Known). KeepsFormat x.mine) os p (subst (All (λ x. KeepsFormat x.mine)) c.in-Some.ensures.items c.requires.keeps)).0
-
-pub slice_bounds-root_of-end : goal.slice_bounds-root_of-end
-slice_bounds-root_of-end g c = search rules
-
-pub root_of-requires : goal.root_of-requires
-root_of-requires g c = search rules
-
-pub returns-clause-falls : goal.returns-clause-falls
-returns-clause-falls g c = search rules
+returns-clause-version g c =
+    let ws = c.args.passes.items in
+    let free = c.settle.new.free in
+    let held = c.settle.new.held in
+    let items : c.as_mut_slice.result.now ≡ ws = search rules in
+    let settled = subst (λ (l : List Known). Settled l [] free held) items c.settle.ensures.settled in
+    let taken = settled_back ws free held c.args.passes.len settled (search rules) ∙ c.in-Some.ensures.items in
+    let told = c.version_of-events.ensures in
+    one_settled ws c.version_of-events.result.0 c.version_of-events.result.1
+    (told_settled ws free held c.pop.new.self.items c.in-Some.pass c.version_of-events.result.0 c.version_of-events.result.1 settled (sym taken) c.requires.format c.requires.keeps told.events told.root)
