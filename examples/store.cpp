@@ -1,6 +1,7 @@
 // Two passes of one store: an old version stays readable, and so does its proof.
 //
-//     c++ -std=c++17 -I../include -I../bindings/cpp store.cpp ../bindings/out/libmst_store.a -o store
+//     make -C ../bindings
+//     c++ -std=c++17 -I../include -I../bindings/cpp store.cpp ../bindings/out/libmst_store.a
 #include "mst_store.hpp"
 #include <iostream>
 

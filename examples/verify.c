@@ -24,7 +24,8 @@ static const uint8_t proof[23] = {
 static void tell(const char *key, const uint8_t *bytes, size_t length)
 {
     uint8_t value[MST_VALUE_ROOM];
-    int32_t told = mst_verify(1, root, sizeof root, (const uint8_t *)key, strlen(key), bytes, length, value, sizeof value);
+    int32_t told = mst_verify(1, root, sizeof root, (const uint8_t *)key, strlen(key), bytes,
+                              length, value, sizeof value);
     if (told >= 0)
         printf("present %.*s\n", (int)told, (const char *)value);
     else if (told == MST_ABSENT)

@@ -24,7 +24,8 @@ std::optional<std::string> look(std::string_view key, const std::vector<std::uin
 {
     std::array<std::uint8_t, MST_VALUE_ROOM> value;
     auto bytes = reinterpret_cast<const std::uint8_t *>(key.data());
-    auto told = mst_verify(1, root.data(), root.size(), bytes, key.size(), proof.data(), proof.size(), value.data(), value.size());
+    auto told = mst_verify(1, root.data(), root.size(), bytes, key.size(), proof.data(),
+                           proof.size(), value.data(), value.size());
     if (told == MST_ABSENT)
         return std::nullopt;
     if (told < 0)

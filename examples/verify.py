@@ -2,7 +2,8 @@
 
 A static library becomes a shared one by
 
-    cc -shared -o libmst_verifier.so -Wl,--whole-archive ../crates/mst_verifier/out/libmst_verifier.a -Wl,--no-whole-archive
+    cc -shared -o libmst_verifier.so -Wl,--whole-archive \\
+        ../crates/mst_verifier/out/libmst_verifier.a -Wl,--no-whole-archive
 
 and then: python3 verify.py libmst_verifier.so
 """

@@ -32,7 +32,9 @@ int main(int count, char **words)
         double start = now(), took;
         do {
             for (int i = 0; i < 100; i++, calls++)
-                if (mst_verify(1, it.root, it.root_length, it.key, it.key_length, it.proof, it.proof_length, room, sizeof room) != it.told)
+                if (mst_verify(1, it.root, it.root_length, it.key, it.key_length, it.proof,
+                               it.proof_length, room, sizeof room)
+                    != it.told)
                     return puts("another answer"), 1;
         } while ((took = now() - start) < 0.02);
         all += 1e6 * took / (double)calls;
@@ -41,6 +43,7 @@ int main(int count, char **words)
     }
     if (lines == 0)
         return puts("no lines"), 1;
-    printf("%d proofs of %.0f bytes: %.1f microseconds of processor time a call\n", lines, bytes / lines, all / lines);
+    printf("%d proofs of %.0f bytes: %.1f microseconds of processor time a call\n", lines,
+           bytes / lines, all / lines);
     return 0;
 }

@@ -1,9 +1,11 @@
-/* What vectors cannot say: formats, sizes of roots and keys, null pointers, the first text, bytes of any kind. */
+/* What vectors cannot say: formats, sizes of roots and keys, null pointers, any bytes. */
 #include "vectors.h"
 
-static const char *const root_word = "d4a8a9fc55058427163bd8a1f09ca5ec542de1cdaf28df100be5472e47b72503";
+static const char *const root_word =
+    "d4a8a9fc55058427163bd8a1f09ca5ec542de1cdaf28df100be5472e47b72503";
 static const char *const proof_word = "0101000000110100000200016101310003616263017800";
-static const char *const empty_word = "e3b0c44298fc1c149afbf4c8996fb92427ae41e4649b934ca495991b7852b855";
+static const char *const empty_word =
+    "e3b0c44298fc1c149afbf4c8996fb92427ae41e4649b934ca495991b7852b855";
 
 static size_t passed, failed;
 
@@ -26,7 +28,8 @@ static uint64_t some(void)
 int main(void)
 {
     size_t size, n;
-    uint8_t *root = bytes_of(root_word, &n), *empty = bytes_of(empty_word, &n), *proof = bytes_of(proof_word, &size);
+    uint8_t *root = bytes_of(root_word, &n), *empty = bytes_of(empty_word, &n),
+            *proof = bytes_of(proof_word, &size);
     uint8_t key[300] = "a", room[MST_VALUE_ROOM];
     const uint8_t nothing[2] = {1, 0};
     is("present", mst_verify(1, root, 32, key, 1, proof, size, room, 64), 1);
@@ -39,15 +42,19 @@ int main(void)
     is("a null key", mst_verify(1, root, 32, NULL, 0, proof, size, room, 64), MST_BAD_KEY);
     is("a null root", mst_verify(1, NULL, 0, key, 1, proof, size, room, 64), MST_BAD_ROOT);
     is("all null", mst_verify(1, NULL, 0, NULL, 0, NULL, 0, NULL, 0), MST_BAD_ROOT);
-    is("all null, no format", mst_verify(0, NULL, 0, NULL, 0, NULL, 0, NULL, 0), MST_UNKNOWN_FORMAT);
-    is("a proof of format 1 in format 2", mst_verify(2, root, 32, key, 1, proof, size, room, 64), MST_P1_VERSION);
+    is("all null, no format", mst_verify(0, NULL, 0, NULL, 0, NULL, 0, NULL, 0),
+       MST_UNKNOWN_FORMAT);
+    is("a proof of format 1 in format 2", mst_verify(2, root, 32, key, 1, proof, size, room, 64),
+       MST_P1_VERSION);
     is("format 3", mst_verify(3, root, 32, key, 1, proof, size, room, 64), MST_UNKNOWN_FORMAT);
     for (uint32_t format = 4; format; format *= 2)
-        is("a format", mst_verify(format, root, 32, key, 1, proof, size, room, 64), MST_UNKNOWN_FORMAT);
+        is("a format", mst_verify(format, root, 32, key, 1, proof, size, room, 64),
+           MST_UNKNOWN_FORMAT);
     for (size_t length = 0; length < sizeof key; length++) {
         int32_t told = length == 0 || length > 32 ? MST_BAD_KEY : length == 1 ? 1 : MST_ABSENT;
         is("a key", mst_verify(1, root, 32, key, length, proof, size, room, 64), told);
-        is("a root", mst_verify(1, key, length, key, 1, proof, size, room, 64), length == 32 ? MST_P5_OTHER_DIGEST : MST_BAD_ROOT);
+        is("a root", mst_verify(1, key, length, key, 1, proof, size, room, 64),
+           length == 32 ? MST_P5_OTHER_DIGEST : MST_BAD_ROOT);
     }
     is("the first text", mst_top_text(proof, size), 17);
     is("more behind it", mst_top_text(proof, size - 1), -1);
@@ -58,8 +65,10 @@ int main(void)
         size_t length = some() % (sizeof bytes + 1);
         for (size_t at = 0; at < length; at++)
             bytes[at] = some() % 3 ? (uint8_t)some() : (uint8_t)(some() % 3);
-        int32_t told = mst_verify(1, root, 32, bytes, length % 33, bytes, length, room, some() % 65);
-        is("any bytes", told == MST_BAD_KEY || (told <= MST_P1_VERSION && told >= MST_P9_TEXT_BEHIND), 1);
+        int32_t told =
+            mst_verify(1, root, 32, bytes, length % 33, bytes, length, room, some() % 65);
+        is("any bytes",
+           told == MST_BAD_KEY || (told <= MST_P1_VERSION && told >= MST_P9_TEXT_BEHIND), 1);
         int64_t text = mst_top_text(bytes, length);
         is("any first text", text >= -1 && text + 6 <= (int64_t)(length < 6 ? 6 : length), 1);
     }

@@ -1,9 +1,10 @@
 /*
- * Mutated proofs: bits flipped, bytes set, cut, doubled, parts of two proofs put together, texts of two proofs framed anew;
- * a million unless told otherwise.
- * Of each, mst_verify may tell nothing but a refusal or what the line's map has.
+ * Mutated proofs: bits flipped, bytes set, cut, doubled, parts of two proofs put together, texts of
+ * two proofs framed anew; a million unless told otherwise. Of each, mst_verify may tell nothing but
+ * a refusal or what the line's map has.
  *
- *     cc -O2 -I../../include mutate.c ../../crates/mst_verifier/out/libmst_verifier.a -o mutate; ./mutate FILE [COUNT]
+ *     cc -O2 -I../../include mutate.c ../../crates/mst_verifier/out/libmst_verifier.a -o mutate
+ *     ./mutate FILE [COUNT]
  */
 #include "vectors.h"
 
@@ -109,7 +110,8 @@ int main(int words, char **word)
         while (changes-- && length < ROOM / 4)
             length = change(bytes, length);
         uint8_t room[MST_VALUE_ROOM];
-        int32_t told = mst_verify(it->format, it->root, it->root_length, it->key, it->key_length, bytes, length, room, sizeof room);
+        int32_t told = mst_verify(it->format, it->root, it->root_length, it->key, it->key_length,
+                                  bytes, length, room, sizeof room);
         if (told < MST_ABSENT)
             told_of[-told]++;
         else if (told == it->told && (told < 0 || memcmp(room, it->value, (size_t)told) == 0))

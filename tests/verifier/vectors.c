@@ -1,4 +1,4 @@
-/* Checks each line of vectors by the C library, in full room, in just the room that the value takes, and in less. */
+/* Checks each line of vectors by the C library: in full room, in just enough, and in less. */
 #include "vectors.h"
 
 int main(int count, char **words)

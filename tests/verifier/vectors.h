@@ -1,4 +1,4 @@
-/* Lines of vectors for the C programs here: a format, a root digest, a key, a proof and an answer, parted by tabs. */
+/* Lines of vectors: a format, a root digest, a key, a proof and an answer, parted by tabs. */
 #ifndef VECTORS_H
 #define VECTORS_H
 
@@ -20,7 +20,7 @@ static inline int digit(char c)
     return c >= '0' && c <= '9' ? c - '0' : c >= 'a' && c <= 'f' ? c - 'a' + 10 : -1;
 }
 
-/* The bytes of a word, in a block of just that size, so that tools see each read beyond it. `-` spells none. */
+/* The bytes of a word, `-` for none, in a block of that size: so tools see each read beyond it. */
 static inline uint8_t *bytes_of(const char *word, size_t *length)
 {
     size_t size = strcmp(word, "-") == 0 ? 0 : strlen(word) / 2;
@@ -64,7 +64,8 @@ static inline int read_vector(FILE *from, struct vector *to)
     if (fgets(line, sizeof line, from) == NULL)
         return 0;
     line[strcspn(line, "\n")] = 0;
-    char *format = strtok(line, "\t"), *root = strtok(NULL, "\t"), *key = strtok(NULL, "\t"), *proof = strtok(NULL, "\t"), *answer = strtok(NULL, "\t");
+    char *format = strtok(line, "\t"), *root = strtok(NULL, "\t"), *key = strtok(NULL, "\t"),
+         *proof = strtok(NULL, "\t"), *answer = strtok(NULL, "\t");
     if (answer == NULL)
         exit(2);
     to->format = (uint32_t)strtoul(format, NULL, 10);
@@ -93,7 +94,8 @@ static inline int tells(const struct vector *it, size_t room_length)
         want = MST_NO_ROOM;
     if (want > 0)
         memcpy(wanted, it->value, (size_t)want);
-    int32_t told = mst_verify(it->format, it->root, it->root_length, it->key, it->key_length, it->proof, it->proof_length, room, room_length);
+    int32_t told = mst_verify(it->format, it->root, it->root_length, it->key, it->key_length,
+                              it->proof, it->proof_length, room, room_length);
     return told == want && memcmp(room, wanted, sizeof room) == 0;
 }
 

@@ -1,7 +1,8 @@
 #!/usr/bin/env python3
-"""vectors_program.py PROGRAM FILE: checks each line of vectors by `mst verify`, where PROGRAM is crates/mst/out/mst.
+"""vectors_program.py PROGRAM FILE: checks each line of vectors by `mst verify`.
 
-Each proof is judged in the format of its line; a line of format 1 without the option and with it in turn.
+PROGRAM is crates/mst/out/mst. Each proof is judged in the format of its line; a line of format 1
+without the option and with it in turn.
 """
 import subprocess
 import sys

@@ -1,4 +1,7 @@
-"""vectors_python.py FILE: checks each line of vectors (a format, a root digest, a key, a proof, the answer) by mst_verifier.py."""
+"""vectors_python.py FILE: checks each line of vectors by mst_verifier.py.
+
+A line has a format, a root digest, a key, a proof and the answer.
+"""
 import os
 import sys
 
