@@ -178,8 +178,8 @@ told_settled ps free held others p events digest s is first keeps events_is dige
 pub one_settled : (ps : List Known) (events : ℕ) (digest : List ℕ) → IsSettled ps events digest → IsOneVersion events digest
 one_settled ps events digest s = (s.log, s.events_is, s.root_is)
 
-pub settled_count : (n m events : ℕ) (digest : List ℕ) → HasSettled n events digest → n ≡ m → HasSettled m events digest
-settled_count n m events digest s is = record { passes = s.passes; all = s.all; count_is = s.count_is ∙ is; settled = s.settled }
+pub settled_count : (n m writers calls events : ℕ) (digest : List ℕ) → HasSettled n writers calls events digest → n ≡ m → HasSettled m writers calls events digest
+settled_count n m writers calls events digest s is = record { passes = s.passes; all = s.all; count_is = s.count_is ∙ is; rows = s.rows; format = s.format; worked = s.worked; settled = s.settled }
 
 -- and what a pass that is taken from them needs to tell it
 pub seen_by_last : (ps free held others : List Known) (p : Known) → (s : Settled ps [] free held) → others ++ p ∷ [] ≡ free → All (λ x. events_of x.number p.seen ≡ x.mine) (others ++ p ∷ [])

@@ -3,12 +3,13 @@ use Rattle.std.proofs.Common.{◌≡◌, ◌≢◌, ℕ, zero, suc, ◌+◌, ◌
 use Rattle.std.specs.List.{Contains}
 use Rattle.std.proofs.lemmas.List.{get_or-append-add}
 use Rattle.std.proofs.Math.ListN.{get_or-append}
+use Rattle.std.proofs.lemmas.Grind.{merely}
 use mathlib.Core.Logic.{dite}
 use native.Mathlib.Decide.{ℕ_discrete}
 use Rattle.mst_store.specs.Passes.{StoreId, Known, IsSamePass, new_pass, first_passes, new_passes}
 use Rattle.mst_store.specs.Settling.{AreAllPasses, numbers}
 use Rattle.mst_store.proofs.AllPasses.{all_new}
-use Rattle.mst_load.specs.Workers.{IsWorkerOf}
+use Rattle.mst_load.specs.Workers.{IsNewOf}
 
 same_numbers : (ps qs : List Known) → length qs ≡ length ps → ((k : ℕ) (d : Known) → k < length ps → IsSamePass (get_or ps k d) (get_or qs k d)) → numbers qs ≡ numbers ps
 same_numbers [] [] l same = refl
@@ -38,8 +39,8 @@ first_at s (suc n) k d below =
     (λ (other : k ≢ n). let low : k < n = omega (arith, below, other) in let inside : k < length ps = omega (arith, low, e) in get_or-append ps (p ∷ []) d k inside ∙ first_at s n k d low)
 
 -- each pass that was dealt is of the store, and has no event yet
-pub dealt_worker : (s : StoreId) (ps : List Known) (k : ℕ) (d : Known) → ps ≡ new_passes s → k < s.passes → IsWorkerOf s (get_or ps k d)
-dealt_worker s ps k d is below = subst (IsWorkerOf s) (sym (ap (λ (qs : List Known). get_or qs k d) is ∙ first_at s s.passes k d below)) (record { of_store = refl; keeps = λ i e none. absurd (omega (arith, none)) })
+pub dealt_worker : (s : StoreId) (ps : List Known) (k : ℕ) (d : Known) → ps ≡ new_passes s → k < s.passes → IsNewOf s (get_or ps k d)
+dealt_worker s ps k d is below = subst (IsNewOf s) (sym (ap (λ (qs : List Known). get_or qs k d) is ∙ first_at s s.passes k d below)) (record { of_store = refl; keeps = λ i e none. absurd (omega (arith, none)); fresh = merely refl })
 
 -- passes of the store with the numbers from 1 on, as many as it has
 pub all_back : (s : StoreId) (qs : List Known) → length qs ≡ s.passes → ((k : ℕ) (d : Known) → k < length qs → (get_or qs k d).store ≡ s) → ((k : ℕ) (d : Known) → k < length qs → (get_or qs k d).number ≡ k + 1) → AreAllPasses qs

@@ -1,7 +1,7 @@
 -- Calls of a worker, one after another.
 use Rattle.std.proofs.Common.{◌≡◌, ◌⊎◌, inl, inr, ℕ, zero, suc, ◌+◌, ◌-◌, ◌<◌, ◌≤◌, List, [], ◌∷◌, length, length-append, Result, Ok, Err, IfOk, IfErr, refl, sym, ap, ◌∙◌, subst, arith}
 use Rattle.std.specs.Prelude.{Option}
-use mathlib.Core.Logic.{dite}
+use mathlib.Core.Logic.{dite, ∥∥₁_map}
 use native.Mathlib.Decide.{ℕ_discrete}
 use Rattle.mst_key.proofs.Alls.{alls-append}
 use Rattle.mst_key.specs.History.{History, KeepsFormat, IsMigration, had}
@@ -10,12 +10,12 @@ use Rattle.mst_key.specs.declared.history.Change.TheVariants.{Put}
 use Rattle.mst_key.specs.declared.history.Event.{Event}
 use Rattle.mst_store.specs.declared.faults.ChangeFault.{ChangeFault}
 use Rattle.mst_store.specs.declared.faults.ChangeFault.TheVariants.{VersionsSpent, NoRoom}
-use Rattle.mst_store.specs.Passes.{StoreId, Known, IsSamePass, Looks, made_by}
+use Rattle.mst_store.specs.Passes.{StoreId, Known, IsSamePass, Looks, made_by, new_pass}
 use Rattle.mst_store.specs.Waiting.{WroteAfter, RefusesAfter}
 use Rattle.mst_load.proofs.Kept.{each_keeps, all_keep}
 use Rattle.mst_load.specs.Calls.{key_of, value_of, change_of, event_of}
 use Rattle.mst_load.specs.declared.worker.Plan.{Plan}
-use Rattle.mst_load.specs.Workers.{HasPut, MadePuts, HasWritten, HasRead, HasWorked, IsWorkerOf}
+use Rattle.mst_load.specs.Workers.{HasPut, MadePuts, HasWritten, HasRead, HasWorked, IsNewOf, IsWorkerOf}
 
 same_then : (p q r : Known) → IsSamePass p q → IsSamePass q r → IsSamePass p r
 same_then p q r a b = (b.0 ∙ a.0, b.1 ∙ a.1)
@@ -80,14 +80,22 @@ puts_keep zero p q is keeps = subst KeepsFormat (sym (ap (λ (r : Known). r.mine
 puts_keep (suc n) p q (r, before, last) keeps = put_keeps (suc n) r q last (puts_keep n p r before keeps)
 
 -- a worker is still one of its store when it has worked
-pub still_worker : (store : StoreId) (plan : Plan) (p q : Known) (falls : ℕ) → HasWorked plan p q falls → IsWorkerOf store p → IsWorkerOf store q
-still_worker store plan p q falls worked was = record {
+pub still_worker : (store : StoreId) (writers calls : ℕ) (plan : Plan) (p q : Known) (falls : ℕ) → plan.writers ≡ writers → plan.calls ≡ calls →
+    HasWorked plan.writers plan.calls p q falls → IsNewOf store p → IsWorkerOf store writers calls q
+still_worker store writers calls plan p q falls same_writers same_calls worked was = record {
   of_store = worked.same.0 ∙ was.of_store;
   keeps = all_keep q.mine (elim (below_or_above p.number plan.writers) [
     | inl low ↦ puts_keep plan.calls p q (worked.writes low).puts (each_keeps p.mine was.keeps)
     | inr high ↦ subst KeepsFormat (sym (worked.reads high).mine) (each_keeps p.mine was.keeps)
   ]);
+  worked = ∥∥₁_map {B = HasWorked writers calls (new_pass q.store q.number) q 0} was.fresh (λ (is : p ≡ new_pass p.store p.number). all_calls is);
 }
   where
     below_or_above : (n w : ℕ) → (n ≤ w) ⊎ (w < n)
     below_or_above n w = dite (ℕ_discrete (n - w) 0) (λ none. inl (omega (arith, none))) (λ some. inr (omega (arith, some)))
+
+    all_calls : p ≡ new_pass p.store p.number → HasWorked writers calls (new_pass q.store q.number) q 0
+    all_calls is =
+        let first : p ≡ new_pass q.store q.number = is ∙ (λ i. new_pass (sym worked.same.0 i) (sym worked.same.1 i)) in
+        let named : HasWorked writers calls p q falls = subst (λ (n : ℕ). HasWorked writers n p q falls) same_calls (subst (λ (n : ℕ). HasWorked n plan.calls p q falls) same_writers worked) in
+        subst (λ (r : Known). HasWorked writers calls r q 0) first (subst (λ (n : ℕ). HasWorked writers calls p q n) worked.never named)

@@ -5,6 +5,7 @@ use Rattle.mst_key.specs.declared.format.Format.TheVariants.{One}
 use Rattle.mst_node.specs.Text as text
 use Rattle.mst_store.specs.Passes.{Known}
 use Rattle.mst_store.specs.Settling.{IsOfOne, AreAllPasses}
+use Rattle.mst_load.specs.Workers.{HasAllCalls}
 
 -- the number of events and the root digest are those of one history
 abbrev pub IsOneVersion : ℕ → List ℕ → Type 0
@@ -21,9 +22,13 @@ pub record IsSettled (passes : List Known) (events : ℕ) (root : List ℕ) : Ty
   pub events_is : events ≡ length log
   pub root_is : root ≡ text.root One (after log)
 
--- The same of all passes of one store, which are so many
-pub record HasSettled (count events : ℕ) (root : List ℕ) : Type 0 where
+-- The same of all passes of one store of 32,768 rows, opened in format 1, when each has made all
+-- calls of its worker. They are so many
+pub record HasSettled (count writers calls events : ℕ) (root : List ℕ) : Type 0 where
   pub passes : List Known
   pub all : AreAllPasses passes
   pub count_is : length passes ≡ count
+  pub rows : All (λ p. p.store.rows ≡ 32768) passes
+  pub format : All (λ p. p.store.format ≡ One) passes
+  pub worked : All (HasAllCalls writers calls) passes
   pub settled : IsSettled passes events root

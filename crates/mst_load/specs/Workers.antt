@@ -3,15 +3,9 @@
 use Rattle.std.specs.Prelude.{◌≡◌, ◌⊎◌, ℕ, zero, suc, ◌+◌, ◌<◌, ◌≤◌, length, All}
 use Rattle.mst_key.specs.History.{Reply, IsMigration}
 use Rattle.mst_store.specs.declared.faults.ChangeFault.{ChangeFault}
-use Rattle.mst_store.specs.Passes.{StoreId, Known, IsSamePass}
+use Rattle.mst_store.specs.Passes.{StoreId, Known, IsSamePass, new_pass}
 use Rattle.mst_store.specs.Waiting.{WroteAfter, RefusesAfter}
 use Rattle.mst_load.specs.Calls.{change_of, event_of}
-use Rattle.mst_load.specs.declared.worker.Plan.{Plan}
-
--- the pass is of the store, and none of its events is a migration
-pub record IsWorkerOf (store : StoreId) (p : Known) : Type 0 where
-  pub of_store : p.store ≡ store
-  pub keeps : All (λ e. IsMigration e.change → ⊥) p.mine
 
 -- the writer made this call: its event was added, or it was refused
 abbrev pub HasPut : ℕ → Known → Known → Type 0
@@ -41,8 +35,24 @@ pub record HasRead (calls : ℕ) (p q : Known) : Type 0 where
   pub missed : q.missed ≡ p.missed
 
 -- A worker has made its calls. No version that it read was below an earlier one
-pub record HasWorked (plan : Plan) (p q : Known) (falls : ℕ) : Type 0 where
+pub record HasWorked (writers calls : ℕ) (p q : Known) (falls : ℕ) : Type 0 where
   pub same : IsSamePass p q
-  pub writes : p.number ≤ plan.writers → HasWritten plan.calls p q
-  pub reads : plan.writers < p.number → HasRead plan.calls p q
+  pub writes : p.number ≤ writers → HasWritten calls p q
+  pub reads : writers < p.number → HasRead calls p q
   pub never : falls ≡ 0
+
+-- the pass has made all calls of its worker, as one that had seen and done nothing
+abbrev pub HasAllCalls : ℕ → ℕ → Known → Type 0
+HasAllCalls writers calls p = ∥ HasWorked writers calls (new_pass p.store p.number) p 0 ∥₁
+
+-- the pass is of the store, and has seen and done nothing
+pub record IsNewOf (store : StoreId) (p : Known) : Type 0 where
+  pub of_store : p.store ≡ store
+  pub keeps : All (λ e. IsMigration e.change → ⊥) p.mine
+  pub fresh : ∥ p ≡ new_pass p.store p.number ∥₁
+
+-- the pass is of the store, has made all calls of its worker, and none of its events is a migration
+pub record IsWorkerOf (store : StoreId) (writers calls : ℕ) (p : Known) : Type 0 where
+  pub of_store : p.store ≡ store
+  pub keeps : All (λ e. IsMigration e.change → ⊥) p.mine
+  pub worked : HasAllCalls writers calls p

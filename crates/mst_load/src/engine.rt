@@ -6,6 +6,7 @@ ghost use Rattle.mst_store.specs.Passes.{format_seen};
 ghost use Rattle.mst_store.specs.Settling.{AreAllPasses};
 ghost use Rattle.mst_node.specs.Text as text;
 ghost use Rattle.mst_load.specs.Calls.{map_left};
+ghost use Rattle.mst_load.specs.Workers.{HasAllCalls};
 ghost use Rattle.mst_load.specs.Reports.{IsOneVersion, HasSettled};
 
 use crate::calls::left_by;
@@ -69,14 +70,21 @@ fn version_of<'a, A: Allocator>(
 }
 
 // What all passes have seen when they have settled.
-fn report_of<A: Allocator>(passes: Vec<Pass<'_, Global>, A>, falls: u64, built: [u8; 32]) -> Report
+fn report_of<A: Allocator>(
+    passes: Vec<Pass<'_, Global>, A>,
+    falls: u64,
+    built: [u8; 32],
+    _plan: Plan,
+) -> Report
     requires some { 0 < vec_len passes }
     requires whole { AreAllPasses passes.items }
+    requires rows { All (λ p. p.store.rows ≡ 32768) passes.items }
     requires format { All (λ p. p.store.format ≡ One) passes.items }
     requires keeps { All (λ p. KeepsFormat p.mine) passes.items }
+    requires worked { All (HasAllCalls _plan.writers _plan.calls) passes.items }
     ensures falls { result.falls ≡ falls }
     ensures built { result.built ≡ built }
-    ensures settled { HasSettled (vec_len passes.entry) result.events result.root }
+    ensures settled { HasSettled (vec_len passes.entry) _plan.writers _plan.calls result.events result.root }
     ensures version { IsOneVersion result.events result.root }
 {
     let mut passes = passes;
@@ -119,7 +127,7 @@ pub fn load<R: Threads + Wait + AllocGlobal + Sync, A: Allocator + Copy, G: Gate
     ensures never { IfOk result (λ report. report.falls ≡ 0) }
     ensures version { IfOk result (λ report. IsOneVersion report.events report.root) }
     ensures settled { IfOk result
-        (λ report. HasSettled (readers + writers) report.events report.root) }
+        (λ report. HasSettled (readers + writers) writers calls report.events report.root) }
     ensures built { IfOk result (λ report. report.built ≡ text.root One (map_left writers calls)) }
 {
     let Ok(pairs) = left_by(alloc, writers, calls) else {
@@ -139,5 +147,5 @@ pub fn load<R: Threads + Wait + AllocGlobal + Sync, A: Allocator + Copy, G: Gate
     };
     let plan = Plan { writers, calls };
     let (passes, falls) = run_all::<R, A, G, Brand>(rt, alloc, &store, gate, passes, plan)?;
-    Ok(report_of(passes, falls, built))
+    Ok(report_of(passes, falls, built, plan))
 }

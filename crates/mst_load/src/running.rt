@@ -1,9 +1,9 @@
 //! The threads: one for each worker, all of them joined.
 ghost use Rattle.std.specs.Prelude.{◌≡◌, ◌<◌, ◌≤◌, ◌+◌, ℕ, IfOk, get_or, vec_len};
 ghost use Rattle.mst_store.specs.Passes.{Known};
-ghost use Rattle.mst_load.specs.Workers.{IsWorkerOf};
+ghost use Rattle.mst_load.specs.Workers.{IsNewOf, IsWorkerOf};
 
-use crate::course::{Course, Worker};
+use crate::course::{Course, Newcomer, Worker};
 use crate::engine::LoadFault;
 use crate::gate::Gate;
 use crate::worker::{Plan, work};
@@ -23,14 +23,14 @@ fn start<'s, 'a: 's, E, R: Wait + Sync, G: Gate + Sync, C: Course + Send + 's>(
     plan: Plan,
 ) -> Result<JoinHandle<Worker<'a, C>>, LoadFault>
     requires few { plan.writers ≤ 8 }
-    requires own { IsWorkerOf C.store pass }
+    requires plan { (plan.writers ≡ C.writers) × (plan.calls ≡ C.calls) }
+    requires own { IsNewOf C.store pass }
 {
-    let worker = Worker {
+    let newcomer = Newcomer {
         pass,
-        falls: 0,
         of: PhantomData,
     };
-    match scope.spawn(move || work(rt, gate, worker, plan)) {
+    match scope.spawn(move || work(rt, gate, newcomer, plan)) {
         Ok(handle) => Ok(handle),
         Err(_) => Err(LoadFault::Thread),
     }
@@ -47,8 +47,9 @@ fn start_all<'s, 'a: 's, E, R: Wait + Sync, A: Allocator, G: Gate + Sync, C: Cou
     plan: Plan,
 ) -> Result<Vec<JoinHandle<Worker<'a, C>>, A>, LoadFault>
     requires few { plan.writers ≤ 8 }
+    requires plan { (plan.writers ≡ C.writers) × (plan.calls ≡ C.calls) }
     requires own { (k : ℕ) (d : Known) → k < vec_len passes
-        → IsWorkerOf C.store (get_or passes.items k d) }
+        → IsNewOf C.store (get_or passes.items k d) }
     ensures count { IfOk result (λ handles. vec_len handles ≡ vec_len passes.entry) }
 {
     let mut handles = Vec::new(alloc);
@@ -72,7 +73,7 @@ fn join_all<'a, R: Threads, A: Allocator, C: Course>(
     ensures count { IfOk result (λ r. vec_len r.0 ≡ vec_len handles.entry) }
     ensures never { IfOk result (λ r. r.1 ≡ 0) }
     ensures own { IfOk result (λ r. (k : ℕ) (d : Known) → k < vec_len r.0
-        → IsWorkerOf C.store (get_or r.0.items k d)) }
+        → IsWorkerOf C.store C.writers C.calls (get_or r.0.items k d)) }
     ensures numbered { IfOk result (λ r. (k : ℕ) (d : Known) → k < vec_len r.0
         → (get_or r.0.items k d).number ≡ k + 1) }
 {
@@ -112,13 +113,14 @@ where
     G: Gate + Sync,
     C: Course + Send + 'static,
     requires few { plan.writers ≤ 8 }
+    requires plan { (plan.writers ≡ C.writers) × (plan.calls ≡ C.calls) }
     requires count { vec_len passes ≤ 32 }
     requires own { (k : ℕ) (d : Known) → k < vec_len passes
-        → IsWorkerOf C.store (get_or passes.items k d) }
+        → IsNewOf C.store (get_or passes.items k d) }
     ensures count { IfOk result (λ r. vec_len r.0 ≡ vec_len passes.entry) }
     ensures never { IfOk result (λ r. r.1 ≡ 0) }
     ensures own { IfOk result (λ r. (k : ℕ) (d : Known) → k < vec_len r.0
-        → IsWorkerOf C.store (get_or r.0.items k d)) }
+        → IsWorkerOf C.store C.writers C.calls (get_or r.0.items k d)) }
     ensures numbered { IfOk result (λ r. (k : ℕ) (d : Known) → k < vec_len r.0
         → (get_or r.0.items k d).number ≡ k + 1) }
 {
@@ -127,13 +129,14 @@ where
         rt,
         move |scope| -> Result<(Vec<Pass<Global>, A>, u64), LoadFault>
             requires few { plan.writers ≤ 8 }
+            requires plan { (plan.writers ≡ C.writers) × (plan.calls ≡ C.calls) }
             requires count { vec_len passes ≤ 32 }
             requires own { (k : ℕ) (d : Known) → k < vec_len passes
-                → IsWorkerOf C.store (get_or passes.items k d) }
+                → IsNewOf C.store (get_or passes.items k d) }
             ensures count { IfOk result (λ r. vec_len r.0 ≡ vec_len passes.entry) }
             ensures never { IfOk result (λ r. r.1 ≡ 0) }
             ensures own { IfOk result (λ r. (k : ℕ) (d : Known) → k < vec_len r.0
-                → IsWorkerOf C.store (get_or r.0.items k d)) }
+                → IsWorkerOf C.store C.writers C.calls (get_or r.0.items k d)) }
             ensures numbered { IfOk result (λ r. (k : ℕ) (d : Known) → k < vec_len r.0
                 → (get_or r.0.items k d).number ≡ k + 1) }
         {

@@ -3,7 +3,7 @@ ghost use Rattle.std.specs.Prelude.{◌≡◌, ◌<◌, ◌≤◌, length};
 ghost use Rattle.mst_load.specs.Workers.{HasWorked, HasWritten, HasRead};
 
 use crate::calls::{key, value};
-use crate::course::{Course, Worker};
+use crate::course::{Course, Newcomer, Worker};
 use crate::gate::Gate;
 use mst_store::Pass;
 use std::alloc::Global;
@@ -90,7 +90,7 @@ fn read<G: Gate>(gate: &G, pass: &mut Pass<'_, Global>, calls: u32) -> u64
 // earlier one.
 fn make_calls<R: Wait, G: Gate>(rt: &R, gate: &G, pass: &mut Pass<'_, Global>, plan: Plan) -> u64
     requires few { plan.writers ≤ 8 }
-    ensures worked { HasWorked plan pass.old pass.new result }
+    ensures worked { HasWorked plan.writers plan.calls pass.old pass.new result }
 {
     if pass.number() <= plan.writers {
         write(rt, gate, pass, plan.calls);
@@ -103,12 +103,13 @@ fn make_calls<R: Wait, G: Gate>(rt: &R, gate: &G, pass: &mut Pass<'_, Global>, p
 pub(crate) fn work<'a, R: Wait, G: Gate, C: Course>(
     rt: &R,
     gate: &G,
-    worker: Worker<'a, C>,
+    newcomer: Newcomer<'a, C>,
     plan: Plan,
 ) -> Worker<'a, C>
     requires few { plan.writers ≤ 8 }
+    requires plan { (plan.writers ≡ C.writers) × (plan.calls ≡ C.calls) }
 {
-    let Worker { mut pass, .. } = worker;
+    let Newcomer { mut pass, .. } = newcomer;
     let falls = make_calls(rt, gate, &mut pass, plan);
     Worker {
         pass,

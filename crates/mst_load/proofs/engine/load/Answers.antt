@@ -25,6 +25,8 @@ report_of-requires g c =
     record {
       some = omega (arith, count, shape, writers);
       whole = whole;
+      rows = λ k d below. (let own = back.ensures.own k d (search rules) in ap (λ (s : StoreId). s.rows) own.of_store ∙ c.in-Ok-open.ensures.store.0);
       format = λ k d below. (let own = back.ensures.own k d (search rules) in ap (λ (s : StoreId). s.format) own.of_store ∙ c.in-Ok-open.ensures.store.2);
       keeps = λ k d below. (let own = back.ensures.own k d (search rules) in each_keeps (get_or passes k d).mine own.keeps);
+      worked = λ k d below. (back.ensures.own k d (search rules)).worked;
     }

@@ -43,6 +43,9 @@ returns-clause-settled g c =
       passes = ws;
       all = c.requires.whole;
       count_is = search rules;
+      rows = c.requires.rows;
+      format = c.requires.format;
+      worked = c.requires.worked;
       settled = told_settled ws free held c.pop.new.self.items c.in-Some.pass c.version_of-events.result.0 c.version_of-events.result.1 settled (sym taken) c.requires.format c.requires.keeps told.events told.root;
     }
 

@@ -1,10 +1,10 @@
 use Rattle.std.specs.Prelude.{◌≡◌, ℕ, ◌+◌, ◌<◌, get_or, vec_len}
 use Rattle.std.specs.Vec.Iter.{into_iter_items, into_iter_len}
 use Rattle.mst_store.specs.Passes.{Known}
-use Rattle.mst_load.specs.Workers.{IsWorkerOf}
+use Rattle.mst_load.specs.Workers.{IsNewOf}
 use Rattle.mst_load.proofs.running.start_all.Given as goal
 
 abbrev pub invariant-loop-pass : goal.invariant-loop-pass
 invariant-loop-pass g l =
     (vec_len l.handles + into_iter_len l.pass-iterator ≡ vec_len l.fn.passes)
-    × ((k : ℕ) (d : Known) → k < into_iter_len l.pass-iterator → IsWorkerOf g.C.Course.store (get_or (into_iter_items l.pass-iterator) k d))
+    × ((k : ℕ) (d : Known) → k < into_iter_len l.pass-iterator → IsNewOf g.C.Course.store (get_or (into_iter_items l.pass-iterator) k d))
