@@ -23,6 +23,7 @@
 mod ending;
 mod events;
 mod input;
+mod laws;
 mod loading;
 mod numbers;
 mod options;
@@ -34,6 +35,7 @@ mod verify;
 mod words;
 
 pub use ending::{DONE, PROOF_REFUSED, complain};
+pub use laws::reading_laws;
 pub use plain::plain_task;
 pub use programs::execute;
 pub use task::{Ending, Load, Refusal, Size, Task};
