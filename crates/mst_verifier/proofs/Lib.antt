@@ -1,3 +1,4 @@
 pub mod CodeLaws
 pub mod Meaning
 pub mod TopLaws
+pub mod WorkedCodes

@@ -9,8 +9,10 @@ ghost use Rattle.mst_node.specs.Text.{FlatNode, digest_of};
 ghost use Rattle.mst_proof.specs.Faults.{FailsBy, Spells};
 ghost use Rattle.mst_proof.specs.declared.fault.ProofFault.{ProofFault};
 ghost use Rattle.mst_proof.specs.declared.fault.ProofFault.TheVariants.{Version, CutShort, LeftOver, NoNode, OtherDigest, LayerNotBelow, KeyOutside, Unfinished, TextBehind, OtherValue};
-ghost use Rattle.mst_verifier.specs.Codes.{fault_code, refusal_code};
+ghost use Rattle.mst_verifier.specs.Codes.{code_of, fault_code, refusal_code};
+ghost use Rattle.mst_verifier.specs.Question.{answer_of};
 ghost use Rattle.mst_verifier.specs.Top.{TellsTop};
+ghost use Rattle.mst_verifier.specs.Worked.{told, zeros};
 ghost use Rattle.mst_verifier.specs.declared.question.Refusal.{Refusal};
 
 /// The numbers of refusals: -11 to -20 in the order of the tests, no two the same, and none that of
@@ -41,6 +43,20 @@ pub fn code_laws()
         → FailsBy format d upper low high text fault
         → (n : FlatNode) × Spells format text n × IfSome upper (λ u. n.layer < u)
         × ¬ (AllByRecursion (λ e. IsBetween low high e.key) n.entries) }
+{}
+
+/// Questions that were worked by hand, each with its number.
+pub fn worked_codes()
+    // no format, no root digest, no key
+    ensures format { told 3 zeros (1 ∷ 0 ∷ []) ≡ negsuc 2 }
+    ensures root { told 1 [] (1 ∷ 0 ∷ []) ≡ negsuc 3 }
+    ensures key { code_of 0 (answer_of 1 zeros [] (1 ∷ 0 ∷ [])) ≡ negsuc 4 }
+    // a proof of the other format, of one byte, and with a byte left over
+    ensures version { told 1 zeros (2 ∷ 0 ∷ []) ≡ negsuc 10 }
+    ensures cut_short { told 1 zeros (1 ∷ []) ≡ negsuc 11 }
+    ensures left_over { told 1 zeros (1 ∷ 0 ∷ 0 ∷ []) ≡ negsuc 12 }
+    // one text, of no bytes
+    ensures no_node { told 1 zeros (1 ∷ 1 ∷ 0 ∷ 0 ∷ 0 ∷ 0 ∷ []) ≡ negsuc 13 }
 {}
 
 /// What is told of a proof's first text is its length and no other number, and -1 only where there

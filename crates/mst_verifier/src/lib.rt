@@ -27,7 +27,7 @@ mod telling;
 mod tests;
 
 use codes::NO_TEXT;
-pub use laws::{code_laws, top_laws};
+pub use laws::{code_laws, top_laws, worked_codes};
 use mst_node::top_text;
 use telling::tell;
 

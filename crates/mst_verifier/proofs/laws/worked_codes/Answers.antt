@@ -1,0 +1,24 @@
+use Rattle.std.proofs.Common.{refl}
+use Rattle.mst_verifier.proofs.WorkedCodes.{left_over, no_node}
+use Rattle.mst_verifier.proofs.laws.worked_codes.Goals as goal
+
+pub returns-clause-format : goal.returns-clause-format
+returns-clause-format c = refl
+
+pub returns-clause-root : goal.returns-clause-root
+returns-clause-root c = refl
+
+pub returns-clause-key : goal.returns-clause-key
+returns-clause-key c = refl
+
+pub returns-clause-version : goal.returns-clause-version
+returns-clause-version c = refl
+
+pub returns-clause-cut_short : goal.returns-clause-cut_short
+returns-clause-cut_short c = refl
+
+pub returns-clause-left_over : goal.returns-clause-left_over
+returns-clause-left_over c = left_over
+
+pub returns-clause-no_node : goal.returns-clause-no_node
+returns-clause-no_node c = no_node
