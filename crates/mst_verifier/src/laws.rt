@@ -1,5 +1,5 @@
 //! Laws of what the library tells. Each function does nothing: its contract is the law.
-ghost use Rattle.std.specs.Prelude.{◌≡◌, ◌≢◌, ◌<◌, ◌+◌, ℕ, List, [], ◌∷◌, Option, map, pos, negsuc, length, IfSome};
+ghost use Rattle.std.specs.Prelude.{◌≡◌, ◌≢◌, ◌<◌, ◌+◌, ℕ, List, [], ◌∷◌, ◌++◌, Option, map, pos, negsuc, length, IfSome};
 ghost use Rattle.std.specs.List.{AllByRecursion};
 ghost use Rattle.mst_key.specs.declared.format.Format.{Format};
 ghost use Rattle.mst_node.specs.Frame.{FramesFirst};
@@ -12,7 +12,7 @@ ghost use Rattle.mst_proof.specs.declared.fault.ProofFault.TheVariants.{Version,
 ghost use Rattle.mst_verifier.specs.Codes.{code_of, fault_code, refusal_code};
 ghost use Rattle.mst_verifier.specs.Question.{answer_of};
 ghost use Rattle.mst_verifier.specs.Top.{TellsTop};
-ghost use Rattle.mst_verifier.specs.Worked.{told, zeros};
+ghost use Rattle.mst_verifier.specs.Worked.{told, told_of, zeros, leaf, parent, leaf_in_format_2};
 ghost use Rattle.mst_verifier.specs.declared.question.Refusal.{Refusal};
 
 /// The numbers of refusals: -11 to -20 in the order of the tests, no two the same, and none that of
@@ -57,6 +57,17 @@ pub fn worked_codes()
     ensures left_over { told 1 zeros (1 ∷ 0 ∷ 0 ∷ []) ≡ negsuc 12 }
     // one text, of no bytes
     ensures no_node { told 1 zeros (1 ∷ 1 ∷ 0 ∷ 0 ∷ 0 ∷ 0 ∷ []) ≡ negsuc 13 }
+    // no texts, and a root digest that is not the empty map's
+    ensures other_digest { (root : List ℕ) → length root ≡ 32 → root ≢ digest_of []
+        → told 1 root (1 ∷ 0 ∷ []) ≡ negsuc 14 }
+    // for a key in whose gap is a child the proof ends; for one that is held a text follows
+    ensures unfinished { told_of (0x39 ∷ []) 1 (digest_of parent)
+        (1 ∷ 1 ∷ 0 ∷ 0 ∷ 0 ∷ 42 ∷ parent) ≡ negsuc 17 }
+    ensures text_behind { told 1 (digest_of leaf)
+        (1 ∷ 2 ∷ 0 ∷ 0 ∷ 0 ∷ 10 ∷ leaf ++ (0 ∷ 0 ∷ 0 ∷ 0 ∷ [])) ≡ negsuc 18 }
+    // the tail claims that a key which is held is absent
+    ensures other_value { told 2 (digest_of leaf_in_format_2)
+        (2 ∷ 1 ∷ 0 ∷ 0 ∷ 0 ∷ 40 ∷ leaf_in_format_2 ++ (0 ∷ [])) ≡ negsuc 19 }
 {}
 
 /// What is told of a proof's first text is its length and no other number, and -1 only where there

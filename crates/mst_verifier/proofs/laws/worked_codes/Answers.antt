@@ -1,5 +1,5 @@
 use Rattle.std.proofs.Common.{refl}
-use Rattle.mst_verifier.proofs.WorkedCodes.{left_over, no_node}
+use Rattle.mst_verifier.proofs.WorkedCodes.{left_over, no_node, other_digest, unfinished, text_behind, other_value}
 use Rattle.mst_verifier.proofs.laws.worked_codes.Goals as goal
 
 pub returns-clause-format : goal.returns-clause-format
@@ -22,3 +22,15 @@ returns-clause-left_over c = left_over
 
 pub returns-clause-no_node : goal.returns-clause-no_node
 returns-clause-no_node c = no_node
+
+pub returns-clause-other_digest : goal.returns-clause-other_digest
+returns-clause-other_digest c = other_digest
+
+pub returns-clause-unfinished : goal.returns-clause-unfinished
+returns-clause-unfinished c = unfinished
+
+pub returns-clause-text_behind : goal.returns-clause-text_behind
+returns-clause-text_behind c = text_behind
+
+pub returns-clause-other_value : goal.returns-clause-other_value
+returns-clause-other_value c = other_value
