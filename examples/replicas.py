@@ -1,9 +1,11 @@
-"""Two replicas in two processes: one becomes equal to the other, and asks for the nodes that differ alone.
+"""Two replicas in two processes: one becomes equal to the other, and asks for the nodes that differ
+alone.
 
-The other process serves a pinned version of its store: its root digest, and proofs. A proof has the texts of the
-nodes on the way to a key, and a text has the digests of the nodes below it. So the replica goes down from the root
-digest, skips each subtree whose digest its own tree has, and checks each text that comes against the digest that
-asked for it: it trusts the root digest, and nothing else that the other says.
+The other process serves a pinned version of its store: its root digest, and proofs. A proof has the
+texts of the nodes on the way to a key, and a text has the digests of the nodes below it. So the
+replica goes down from the root digest, skips each subtree whose digest its own tree has, and checks
+each text that comes against the digest that asked for it: it trusts the root digest, and nothing
+else that the other says.
 
     make -C bindings && python3 examples/replicas.py
 """
@@ -35,7 +37,8 @@ def filled(seed, changes):
 
 
 def serve(pipe):
-    """Answers questions of one pinned version until None is asked: no key for the root digest, a key for its proof."""
+    """Answers questions of one pinned version until None is asked: no key for the root digest, a
+    key for its proof."""
     with filled(seed=1, changes=10).pinned() as version:
         pipe.send(version.root())
         for key in iter(pipe.recv, None):
@@ -63,7 +66,8 @@ class Tree:
         return read_node(1, self.texts[digest])
 
     def walk(self, digest, low=b"", skip=()):
-        """Goes over the pairs below a node, in order; in place of a subtree in `skip` comes (its low key, None)."""
+        """Goes over the pairs below a node, in order; in place of a subtree in `skip` comes (its
+        low key, None)."""
         _, keys, values, children = self.node(digest, low)
         for child, (key, value) in zip(children, list(zip(keys, values)) + [(None, None)]):
             if child in skip:
@@ -76,7 +80,8 @@ class Tree:
 
 
 def mirror(mine, root, prove):
-    """Makes a store's map the one with this root digest. Returns how many pairs changed and how many texts came."""
+    """Makes a store's map the one with this root digest. Returns how many pairs changed and how
+    many texts came."""
     if mine.root() == root:
         return 0, 0
     own, theirs = Tree(mine.prove), Tree(prove)
@@ -111,8 +116,9 @@ def main():
     changed, texts = mirror(mine, root, prove)
     ours.send(None)
     process.join()
-    print(f"{changed} pairs changed, {texts} texts of nodes came, roots equal: {mine.root() == root}")
-    return 0 if mine.root() == root else 1
+    equal = mine.root() == root
+    print(f"{changed} pairs changed, {texts} texts of nodes came, roots equal: {equal}")
+    return 0 if equal else 1
 
 
 if __name__ == "__main__":

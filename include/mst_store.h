@@ -17,11 +17,12 @@
  *     mst_close(&passes[1]);                         // the store is gone
  *
  * What a caller owes, and nothing checks:
- *   - a hand is MST_PASS_CLOSED before its first call, and is neither copied nor written by the caller;
- *   - a hand is in one call at a time. Where it goes from one thread to another, it goes with a lock, with
- *     the start or the end of a thread, or with a sequentially consistent atomic;
- *   - pointers are valid for their lengths, and what a call writes overlaps nothing else that it is given.
- *     Where a length is 0, the pointer is not read and may be null;
+ *   - a hand is MST_PASS_CLOSED before its first call, and is neither copied nor written by the
+ *     caller;
+ *   - a hand is in one call at a time. Where it goes from one thread to another, it goes with a
+ *     lock, with the start or the end of a thread, or with a sequentially consistent atomic;
+ *   - pointers are valid for their lengths, and what a call writes overlaps nothing else that it is
+ *     given. Where a length is 0, the pointer is not read and may be null;
  *   - malloc, realloc and free are of one allocator and align to 16 bytes;
  *   - no call comes from a signal handler, or from the forked child of a process with threads.
  *
@@ -133,7 +134,8 @@ int32_t mst_close(mst_pass *pass);
  * MST_BAD_KEY; MST_ABSENT; MST_NO_ROOM where the room is shorter than the value. Then the room is
  * as it was.
  */
-int32_t mst_get(mst_pass *pass, const uint8_t *key, size_t key_length, uint8_t *room, size_t room_length);
+int32_t mst_get(mst_pass *pass, const uint8_t *key, size_t key_length,
+                uint8_t *room, size_t room_length);
 
 /*
  * The pair of the least key above `key`; with key_length 0 of the least key of all. The answer is
@@ -166,10 +168,10 @@ int32_t mst_range(mst_pass *pass, const uint8_t *from, size_t from_length,
 int32_t mst_root(mst_pass *pass, uint8_t *root, size_t root_length);
 
 /*
- * The proof of the key's answer, which mst_verify judges in the format and by the root digest of the
- * same version: MST_OK, its bytes stand first in the room, and *length is their number. MST_CLOSED,
- * MST_BAD_KEY, MST_MEMORY: room and *length are as they were. MST_NO_ROOM: *length tells how long
- * the proof is, and the room is as it was.
+ * The proof of the key's answer, which mst_verify judges in the format and by the root digest of
+ * the same version: MST_OK, its bytes stand first in the room, and *length is their number.
+ * MST_CLOSED, MST_BAD_KEY, MST_MEMORY: room and *length are as they were. MST_NO_ROOM: *length
+ * tells how long the proof is, and the room is as it was.
  */
 int32_t mst_prove(mst_pass *pass, const uint8_t *key, size_t key_length,
                   uint8_t *room, size_t room_length, size_t *length);
@@ -201,7 +203,10 @@ int32_t mst_rows(mst_pass *pass, uint32_t *rows);
 int32_t mst_try_put(mst_pass *pass, const uint8_t *key, size_t key_length,
                     const uint8_t *value, size_t value_length, uint8_t *room, size_t room_length);
 
-/* Takes the key out, if no other pass writes. The answers are those of mst_try_put, without MST_BAD_VALUE. */
+/*
+ * Takes the key out, if no other pass writes. The answers are those of mst_try_put, without
+ * MST_BAD_VALUE.
+ */
 int32_t mst_try_remove(mst_pass *pass, const uint8_t *key, size_t key_length,
                        uint8_t *room, size_t room_length);
 
@@ -257,7 +262,10 @@ static inline size_t mst_pair_at(const uint8_t *room, size_t at, mst_pair *pair)
 
 /* ---- writes that try until no other pass writes ---- */
 
-/* What goes on between two tries. Define it before this file for a pause of your own, sched_yield() say. */
+/*
+ * What goes on between two tries. Define it before this file for a pause of your own, sched_yield()
+ * say.
+ */
 #ifndef MST_PAUSE
 #if defined(__x86_64__) && defined(__GNUC__)
 #define MST_PAUSE() __builtin_ia32_pause()
@@ -268,9 +276,11 @@ static inline size_t mst_pair_at(const uint8_t *room, size_t at, mst_pair *pair)
 
 /* As mst_try_put, but never MST_BUSY. */
 static inline int32_t mst_put(mst_pass *pass, const uint8_t *key, size_t key_length,
-                              const uint8_t *value, size_t value_length, uint8_t *room, size_t room_length) {
+                              const uint8_t *value, size_t value_length,
+                              uint8_t *room, size_t room_length) {
     int32_t told;
-    while ((told = mst_try_put(pass, key, key_length, value, value_length, room, room_length)) == MST_BUSY)
+    while ((told = mst_try_put(pass, key, key_length, value, value_length,
+                               room, room_length)) == MST_BUSY)
         MST_PAUSE();
     return told;
 }

@@ -1,22 +1,23 @@
 /*
  * The verifier of proofs, for C.
  *
- * A map of short keys and values has a root digest of 32 bytes. Its store gives, with an answer for a
- * key, a proof of it. With the root digest, the key and the proof at hand, mst_verify tells what the
- * proof shows: the key's value, or that the key is absent, or which test the proof fails. It needs
- * neither the store nor the map. docs/FORMAT.md has the bytes of a proof and the tests.
+ * A map of short keys and values has a root digest of 32 bytes. Its store gives, with an answer for
+ * a key, a proof of it. With the root digest, the key and the proof at hand, mst_verify tells what
+ * the proof shows: the key's value, or that the key is absent, or which test the proof fails. It
+ * needs neither the store nor the map. docs/FORMAT.md has the bytes of a proof and the tests.
  *
  * The library takes no memory, keeps no state and starts no thread. Its calls may be made from any
- * threads at once, as long as no two of them write to the same room; from a signal handler too. They
- * only read what is const here. They call the C library for no more than memcpy, memmove, memset and
- * memcmp, if for anything.
+ * threads at once, as long as no two of them write to the same room; from a signal handler too.
+ * They only read what is const here. They call the C library for no more than memcpy, memmove,
+ * memset and memcmp, if for anything.
  *
  * Bytes of any kind and any length get an answer by number. Pointers are to be valid for their
  * lengths; where a length is 0, the pointer is not read and may be null. The room may not overlap
  * what is read. The numbers below never change.
  *
  *     uint8_t value[MST_VALUE_ROOM];
- *     int32_t told = mst_verify(1, root, 32, key, key_length, proof, proof_length, value, sizeof value);
+ *     int32_t told = mst_verify(1, root, 32, key, key_length, proof, proof_length,
+ *                               value, sizeof value);
  *     if (told >= 0)
  *         use(value, told);              // the key has this value, of `told` bytes
  *     else if (told == MST_ABSENT)
@@ -58,10 +59,12 @@ extern "C" {
 
 /* The proof fails this test first: P1 to P10 of docs/FORMAT.md are -11 to -20. */
 #define MST_P1_VERSION (-11)         /* the first byte is not the format's */
-#define MST_P2_CUT_SHORT (-12)       /* the version, the count, a length, a text or the tail is cut short */
+#define MST_P2_CUT_SHORT (-12)       /* the version, the count, a length, a text or the tail is cut
+                                        short */
 #define MST_P3_LEFT_OVER (-13)       /* bytes are left over after the last text, or the tail */
 #define MST_P4_NO_NODE (-14)         /* a text is not that of a node */
-#define MST_P5_OTHER_DIGEST (-15)    /* a digest is not the root's, or not the one the node above has */
+#define MST_P5_OTHER_DIGEST (-15)    /* a digest is not the root's, or not the one the node above
+                                        has */
 #define MST_P6_LAYER_NOT_BELOW (-16) /* a layer is not below that of the node above */
 #define MST_P7_KEY_OUTSIDE (-17)     /* a key lies outside the gap in which its node stands */
 #define MST_P8_UNFINISHED (-18)      /* the key's gap has a child, and no text follows */
@@ -71,9 +74,10 @@ extern "C" {
 /*
  * What the proof shows of the key, in the map with this root digest.
  *
- * 0 to 64: the key has a value of so many bytes, which now stands first in the room. All other answers
- * are the numbers above. The format is tested first, then the root digest, the key, the proof, and the
- * room last. The room's bytes after the value stay, and all of them do where no value is told.
+ * 0 to 64: the key has a value of so many bytes, which now stands first in the room. All other
+ * answers are the numbers above. The format is tested first, then the root digest, the key, the
+ * proof, and the room last. The room's bytes after the value stay, and all of them do where no
+ * value is told.
  */
 int32_t mst_verify(uint32_t format,
                    const uint8_t *root, size_t root_length,
@@ -87,9 +91,9 @@ int32_t mst_verify(uint32_t format,
 /*
  * The length of the first text that a proof frames, which is the text of the top node of its map's
  * tree where the proof is a true one: the text is proof[MST_TOP_TEXT_AT] and what follows. -1 where
- * the proof frames no text, as that of the empty map, or the first is cut short. Nothing is verified:
- * only the bytes up to the end of that text are looked at, and of the version and the count no more
- * than whether the count is 0.
+ * the proof frames no text, as that of the empty map, or the first is cut short. Nothing is
+ * verified: only the bytes up to the end of that text are looked at, and of the version and the
+ * count no more than whether the count is 0.
  */
 int64_t mst_top_text(const uint8_t *proof, size_t proof_length);
 

@@ -1,4 +1,5 @@
-"""What the tools of this folder share: the crates as the toolchain's command `rt` sees them, and a check of one of them."""
+"""What the tools of this folder share: the crates as the toolchain's command `rt` sees them, and a
+check of one of them."""
 import importlib.machinery
 import importlib.util
 import os
@@ -12,7 +13,8 @@ sys.dont_write_bytecode = True
 
 
 def load_rt():
-    """Loads the toolchain's command as a module, so that an edit is judged by the gate's own code."""
+    """Loads the toolchain's command as a module, so that an edit is judged by the gate's own
+    code."""
     path = os.path.realpath(shutil.which("rt"))
     loader = importlib.machinery.SourceFileLoader("rt_command", path)
     module = importlib.util.module_from_spec(importlib.util.spec_from_loader("rt_command", loader))
@@ -21,7 +23,9 @@ def load_rt():
 
 
 rt = load_rt()
-ROOT = subprocess.run(["git", "rev-parse", "--show-toplevel"], capture_output=True, text=True, check=True).stdout.strip()
+ROOT = subprocess.run(
+    ["git", "rev-parse", "--show-toplevel"], capture_output=True, text=True, check=True
+).stdout.strip()
 
 
 def crate_named(name):
@@ -51,7 +55,8 @@ def kept_work(name, what):
 def check(crate, *flags):
     """Checks the crate where it stands, and returns all that the check says."""
     kept = ["--incremental", f"{crate.folder}/out/incremental"]
-    words = [*rt.rtlib.guarded(), rt.rtlib.RATTLE, "check", *crate.words(["--jobs", "1"]), *kept, *flags]
+    words = [*rt.rtlib.guarded(), rt.rtlib.RATTLE, "check", *crate.words(["--jobs", "1"])]
+    words += [*kept, *flags]
     streams = {"stdin": subprocess.DEVNULL, "stdout": subprocess.PIPE, "stderr": subprocess.STDOUT}
     return subprocess.run(words, cwd=crate.folder, errors="replace", **streams).stdout
 
@@ -67,8 +72,10 @@ def seconds():
 
 
 def enclosing_function(text, at):
-    """Returns the type (with the trait's name behind it) and the name of the function that stands before a place in a file, or None."""
-    found = [it for it in re.finditer(r"(?m)^( *)(?:pub(?:\([a-z]+\))? )?(?:const )?(?:extern \"C\" )?fn (\w+)", text[:at])]
+    """Returns the type (with the trait's name behind it) and the name of the function that stands
+    before a place in a file, or None."""
+    head = r"(?m)^( *)(?:pub(?:\([a-z]+\))? )?(?:const )?(?:extern \"C\" )?fn (\w+)"
+    found = list(re.finditer(head, text[:at]))
     if not found:
         return None
     return owner_of(text[: found[-1].start()]) if found[-1][1] else "", found[-1][2]

@@ -5,7 +5,8 @@ EMPTY = sha256(b"").digest()
 
 
 def layer_of(key, format=1):
-    """How many digits are 0 at the front of the key's SHA-256: of base 16 in format 1, of base 4 in format 2."""
+    """How many digits are 0 at the front of the key's SHA-256: of base 16 in format 1, of base 4 in
+    format 2."""
     zeros = 256 - int.from_bytes(sha256(key).digest(), "big").bit_length()
     return zeros // (4 if format == 1 else 2)
 
@@ -21,7 +22,8 @@ class Node:
         return Node(self.layer, self.keys, self.values, self.children, self.format)
 
     def text(self):
-        text = bytes([self.format, self.layer]) + len(self.keys).to_bytes(2, "big") + child_text(self.children[0])
+        text = bytes([self.format, self.layer]) + len(self.keys).to_bytes(2, "big")
+        text += child_text(self.children[0])
         for key, value, child in zip(self.keys, self.values, self.children[1:]):
             text += bytes([len(key)]) + key + self.held_text(value) + child_text(child)
         return text
@@ -86,7 +88,8 @@ def tail(value):
 
 
 def linked(nodes, key):
-    """The root digest and the proof of nodes, each made the child of the one before in the key's gap there."""
+    """The root digest and the proof of nodes, each made the child of the one before in the key's
+    gap there."""
     nodes = [node.copy() for node in nodes]
     for upper, lower in zip(nodes[-2::-1], nodes[:0:-1]):
         upper.children[upper.gap(key)] = lower.digest()
@@ -104,7 +107,8 @@ def build(pairs, format=1):
         tops = [i for i in range(start, end) if layers[i] == layer]
         bounds = [start - 1, *tops, end]
         children = [tree(low + 1, high) for low, high in zip(bounds, bounds[1:])]
-        node = Node(layer, [pairs[i][0] for i in tops], [pairs[i][1] for i in tops], children, format)
+        keys, values = [pairs[i][0] for i in tops], [pairs[i][1] for i in tops]
+        node = Node(layer, keys, values, children, format)
         digest = node.digest()
         nodes[digest] = node
         return digest

@@ -175,7 +175,8 @@ public:
         return root;
     }
 
-    // The proof of the key's answer, for mst_verify and the format and root digest of the same version.
+    // The proof of the key's answer, for mst_verify and the format and root digest of the same
+    // version.
     std::vector<std::uint8_t> prove(std::string_view key) {
         std::vector<std::uint8_t> proof(4096);
         for (;;) {
@@ -288,8 +289,8 @@ public:
         return wait([&] { return try_remove(key); }).old;
     }
 
-    // Turns the tree of the map to a format, if no other pass has the turn. The map stays, and so do
-    // the pinned versions, each in its format.
+    // Turns the tree of the map to a format, if no other pass has the turn. The map stays, and so
+    // do the pinned versions, each in its format.
     migrated try_migrate(mst::format to) {
         int code = mst_try_migrate(at(), static_cast<std::uint32_t>(to));
         if (code == MST_BUSY) return migrated{true, std::nullopt};

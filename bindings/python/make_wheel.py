@@ -1,7 +1,8 @@
 """Makes the wheel by the standard library alone, as a build backend that pip calls.
 
-The wheel has the module and libmst_store.so, from the folder MST_STORE_DIR or from ../out. The Python code is
-of no version of Python, and the library of one platform, so the tag is py3-none-PLATFORM.
+The wheel has the module and libmst_store.so, from the folder MST_STORE_DIR or from ../out. The
+Python code is of no version of Python, and the library of one platform, so the tag is
+py3-none-PLATFORM.
 """
 import base64
 import hashlib
@@ -40,12 +41,12 @@ def build_wheel(wheel_directory, config_settings=None, metadata_directory=None):
     folder = os.environ.get("MST_STORE_DIR") or os.path.join(HERE, "..", "out")
     metadata = (f"Metadata-Version: 2.1\nName: {name}\nVersion: {version}\n"
                 f"Summary: {_field('description')}\nRequires-Python: {_field('requires-python')}\n")
+    about = f"Wheel-Version: 1.0\nGenerator: make_wheel\nRoot-Is-Purelib: false\nTag: {tag}\n"
     contents = {
         "mst_store.py": _read(os.path.join(HERE, "mst_store.py")),
         "libmst_store.so": _read(os.path.join(folder, "libmst_store.so")),
         f"{info}/METADATA": metadata.encode(),
-        f"{info}/WHEEL": f"Wheel-Version: 1.0\nGenerator: make_wheel\nRoot-Is-Purelib: false\nTag: {tag}\n"
-        .encode(),
+        f"{info}/WHEEL": about.encode(),
     }
     contents[f"{info}/RECORD"] = _record(contents, f"{info}/RECORD")
     wheel = f"{name}-{version}-{tag}.whl"

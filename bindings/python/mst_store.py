@@ -1,7 +1,8 @@
-"""An in-memory ordered map of short keys and values, with a root digest, proofs, and pinned versions.
+"""An in-memory ordered map of short keys and values, with a root digest, proofs, and pinned
+versions.
 
-A store is reached by its passes alone. Reads wait for no one; one write at a time goes on. The store goes
-with its last pass.
+A store is reached by its passes alone. Reads wait for no one; one write at a time goes on. The
+store goes with its last pass.
 
     writer, reader = open_store(rows=1000, passes=2)
     writer.put(b"apple", b"30")
@@ -11,9 +12,9 @@ with its last pass.
     reader.get(b"apple")            # b"31"
     writer.migrate(Format.TWO)      # shorter proofs; a store opens in Format.ONE
 
-Keys have 1 to 32 bytes, values 0 to 64. Use a pass for each thread: ctypes lets other threads run during a
-call, and two calls by one pass wait for each other. A store does not outlive os.fork() in a process with
-threads.
+Keys have 1 to 32 bytes, values 0 to 64. Use a pass for each thread: ctypes lets other threads run
+during a call, and two calls by one pass wait for each other. A store does not outlive os.fork() in
+a process with threads.
 """
 from __future__ import annotations
 
@@ -96,7 +97,8 @@ def _refuse(code: int) -> None:
 
 
 class _Hand(ctypes.Structure):
-    """What holds a pass. It stays where mst_open found it, since no one but the library may copy it."""
+    """What holds a pass. It stays where mst_open found it, since no one but the library may copy
+    it."""
 
     _fields_ = [("at", ctypes.c_void_p)]
 
@@ -126,7 +128,8 @@ def _signatures() -> dict:
 
 
 def _path() -> str:
-    """The shared library: in the folder MST_STORE_DIR; else beside this file, or where make puts it."""
+    """The shared library: in the folder MST_STORE_DIR; else beside this file, or where make puts
+    it."""
     here = os.path.dirname(os.path.abspath(__file__))
     named = os.environ.get("MST_STORE_DIR")
     folders = [named] if named else [here, os.path.join(here, "..", "out")]
@@ -161,7 +164,8 @@ def _word(number: int) -> int:
 
 
 class Pass:
-    """A pass of a store, from open_store. Its reads are of the current version, or of the pinned one."""
+    """A pass of a store, from open_store. Its reads are of the current version, or of the pinned
+    one."""
 
     def __init__(self, hand) -> None:
         self._hand = hand
@@ -219,7 +223,8 @@ class Pass:
                 self._long_room = ctypes.create_string_buffer(length.value)
 
     def items(self) -> Iterator[Tuple[bytes, bytes]]:
-        """The pairs by rising keys: of one version while the pass is pinned; else it asks anew for each."""
+        """The pairs by rising keys: of one version while the pass is pinned; else it asks anew for
+        each."""
         pair = self.next()
         while pair is not None:
             yield pair
@@ -234,12 +239,14 @@ class Pass:
             return self._room.raw[:ROOT_LENGTH]
 
     def prove(self, key: Octets) -> bytes:
-        """The proof of the key's answer, for a verifier and the format and root digest of the same version."""
+        """The proof of the key's answer, for a verifier and the format and root digest of the same
+        version."""
         key, length = _octets(key), ctypes.c_size_t()
         with self._lock:
             while True:
                 room = self._long_room
-                code = _lib.mst_prove(self._hand, key, len(key), room, len(room), ctypes.byref(length))
+                code = _lib.mst_prove(
+                    self._hand, key, len(key), room, len(room), ctypes.byref(length))
                 if code == 0:
                     return ctypes.string_at(room, length.value)
                 if code != NO_ROOM:
@@ -257,7 +264,8 @@ class Pass:
             return _format(_lib.mst_format(self._hand))
 
     def try_rows(self) -> int:
-        """How many rows the current version takes, if no other pass writes (else Busy) and none pins."""
+        """How many rows the current version takes, if no other pass writes (else Busy) and none
+        pins."""
         return self._number(_lib.mst_rows, ctypes.c_uint32())
 
     def _number(self, call: Callable, number) -> int:
@@ -268,7 +276,8 @@ class Pass:
         return number.value
 
     def try_put(self, key: Octets, value: Octets) -> Optional[bytes]:
-        """Gives the key the value, or raises Busy: the value before, or None where the key is new."""
+        """Gives the key the value, or raises Busy: the value before, or None where the key is
+        new."""
         key, value = _octets(key), _octets(value)
         with self._lock:
             return self._value(_lib.mst_try_put(
@@ -327,7 +336,8 @@ class Pass:
         self.close()
 
     def __del__(self) -> None:
-        # No other call can be under way, since nothing refers to the pass. _lib goes first as Python ends.
+        # No other call can be under way, since nothing refers to the pass. _lib goes first as
+        # Python ends.
         if _lib is not None and hasattr(self, "_hand"):
             _lib.mst_close(self._hand)
 

@@ -1,11 +1,12 @@
-//! Links libmst_store.a, which `make -C bindings` makes: from the folder that MST_STORE_DIR names, or from
-//! ../out.
+//! Links libmst_store.a, which `make -C bindings` makes: from the folder that MST_STORE_DIR names,
+//! or from ../out.
 use std::env;
 use std::path::PathBuf;
 
 fn main() {
     println!("cargo:rerun-if-env-changed=MST_STORE_DIR");
-    let beside = PathBuf::from(env::var_os("CARGO_MANIFEST_DIR").expect("cargo sets it")).join("../out");
+    let beside =
+        PathBuf::from(env::var_os("CARGO_MANIFEST_DIR").expect("cargo sets it")).join("../out");
     let folder = env::var_os("MST_STORE_DIR").map_or(beside, PathBuf::from);
     let archive = folder.join("libmst_store.a");
     println!("cargo:rerun-if-changed={}", archive.display());

@@ -1,10 +1,10 @@
 /*
  * How deep calls nest, and the stack that they take, over trees in format 2 of 3, of 9 and of 15
- * nodes one below the other. Each call runs step by step in a process of its own, where its calls and
- * returns are counted, and then in a thread whose stack is filled with a pattern first, so the bytes
- * that it has written are counted. What six nodes more cost tells what 129 would, the most that a
- * tree can have on one path. Such a tree cannot be had: a key of layer 128 is one of 2 to the power
- * of 256.
+ * nodes one below the other. Each call runs step by step in a process of its own, where its calls
+ * and returns are counted, and then in a thread whose stack is filled with a pattern first, so the
+ * bytes that it has written are counted. What six nodes more cost tells what 129 would, the most
+ * that a tree can have on one path. Such a tree cannot be had: a key of layer 128 is one of 2 to
+ * the power of 256.
  */
 #include "depth.h"
 #include "tests.h"

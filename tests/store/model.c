@@ -186,7 +186,8 @@ static void compare_once(int hand, const struct pair *asked) {
     EXPECT(mst_root(&passes[hand], root, 32) == 32 && mst_root(&twin, twin_root, 32) == 32);
     EXPECT(memcmp(root, twin_root, 32) == 0);
     EXPECT(mst_prove(&passes[hand], asked->key, key_length, proof, PROOF_ROOM, &length) == MST_OK);
-    EXPECT(mst_prove(&twin, asked->key, key_length, twin_proof, PROOF_ROOM, &twin_length) == MST_OK);
+    EXPECT(mst_prove(&twin, asked->key, key_length, twin_proof, PROOF_ROOM, &twin_length)
+           == MST_OK);
     EXPECT(length == twin_length && memcmp(proof, twin_proof, length) == 0);
     EXPECT(mst_close(&twin) == MST_OK);
 }

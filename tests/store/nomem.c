@@ -181,7 +181,7 @@ int main(void) {
     EXPECT(mst_close(&pass) == MST_OK);
     counting = 0;
     EXPECT(live == 0);
-    printf("%ld openings, %ld proofs, %ld ranges and %ld migrations refused\n", opened, proved, ranged,
-           migrated);
+    printf("%ld openings, %ld proofs, %ld ranges and %ld migrations refused\n",
+           opened, proved, ranged, migrated);
     return ended("nomem");
 }

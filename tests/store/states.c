@@ -213,7 +213,8 @@ static int has_root(mst_pass *pass, const uint8_t *digest) {
 
 /* Migrations by one pass, and the other, which pins. */
 static void formats(void) {
-    mst_pass passes[2] = {MST_PASS_CLOSED, MST_PASS_CLOSED}, *pass = &passes[0], *other = &passes[1];
+    mst_pass passes[2] = {MST_PASS_CLOSED, MST_PASS_CLOSED};
+    mst_pass *pass = &passes[0], *other = &passes[1];
     uint8_t one[32], two[32];
     root_of_a(1, one);
     root_of_a(2, two);
@@ -226,7 +227,8 @@ static void formats(void) {
     EXPECT(mst_format(pass) == 1 && has_root(pass, one));
     EXPECT(mst_version(pass, &version) == MST_OK && version == 1);
     EXPECT(mst_pin(other) == MST_OK);
-    EXPECT(mst_try_migrate(other, 2) == MST_WRONG_STATE && mst_migrate(other, 1) == MST_WRONG_STATE);
+    EXPECT(mst_try_migrate(other, 2) == MST_WRONG_STATE
+           && mst_migrate(other, 1) == MST_WRONG_STATE);
     EXPECT(mst_try_migrate(other, 3) == MST_UNKNOWN_FORMAT);
     EXPECT(mst_try_migrate(pass, 2) == 1);
     EXPECT(mst_format(pass) == 2 && has_root(pass, two));

@@ -122,7 +122,8 @@ class Answers(unittest.TestCase):
         self.assertEqual((store.next(), list(store.items()), store.version()), (None, [], 0))
         for format in Format:
             self.assertEqual((store.migrate(format), store.format()), (Format.ONE, format))
-            self.assertIsNone(mst_verifier.verify(format, store.root(), b"key", store.prove(b"key")))
+            proof = store.prove(b"key")
+            self.assertIsNone(mst_verifier.verify(format, store.root(), b"key", proof))
 
     def test_bytes_of_each_kind(self):
         store = one()
@@ -219,7 +220,8 @@ class Refusals(unittest.TestCase):
         self.assertEqual(store.version(), 1)
 
     def test_shapes(self):
-        for shape in ((3, 1), (65536, 1), (1000, 0), (1000, 33), (1000, -1), (-1, 1), (2**32 + 4, 1)):
+        shapes = (3, 1), (65536, 1), (1000, 0), (1000, 33), (1000, -1), (-1, 1), (2**32 + 4, 1)
+        for shape in shapes:
             self.refused(mst_store.BAD_SHAPE, open_store, *shape)
         self.refused(mst_store.BAD_SHAPE, open_store, 3, 1, Format.TWO)
 
@@ -236,7 +238,8 @@ class Refusals(unittest.TestCase):
         store = one()
         with store.pinned() as then:
             for call in (lambda: then.put(b"key", b""), lambda: then.remove(b"key"), then.try_rows,
-                         lambda: then.migrate(2), lambda: then.try_migrate(1), then.pinned().__enter__):
+                         lambda: then.migrate(2), lambda: then.try_migrate(1),
+                         then.pinned().__enter__):
                 self.refused(mst_store.WRONG_STATE, call)
         self.assertIsNone(store.put(b"key", b""))
 
@@ -255,8 +258,8 @@ class Refusals(unittest.TestCase):
     def test_closed(self):
         with one() as store:
             store.put(b"key", b"")
-        for call in (lambda: store.get(b"key"), store.next, store.range, store.root, store.version, store.try_rows,
-                     lambda: store.prove(b"key"), lambda: store.put(b"key", b""),
+        for call in (lambda: store.get(b"key"), store.next, store.range, store.root, store.version,
+                     store.try_rows, lambda: store.prove(b"key"), lambda: store.put(b"key", b""),
                      lambda: store.remove(b"key"), store.format, lambda: store.migrate(2),
                      lambda: store.try_migrate(3), store.pinned().__enter__):
             self.refused(mst_store.CLOSED, call)

@@ -27,7 +27,8 @@ static_assert(!std::is_copy_constructible_v<mst::pass> && !std::is_copy_assignab
 static_assert(std::is_nothrow_move_constructible_v<mst::pass>);
 static_assert(!std::is_copy_constructible_v<mst::pinned>);
 
-// What the verifier shows of a key by a reader's format, root digest and proof: the code of mst_verify.
+// What the verifier shows of a key by a reader's format, root digest and proof: the code of
+// mst_verify.
 static int verified(mst::reader &reader, std::string_view key) {
     auto root = reader.root();
     auto proof = reader.prove(key);
@@ -143,7 +144,8 @@ static void threads(std::vector<mst::pass> &passes) {
         running.emplace_back([&pass] {
             for (int i = 0; i < 2000; i++) {
                 pass.put("n" + std::to_string(i % 50), std::to_string(i));
-                if (i % 100 == 99) pass.migrate(i % 200 == 99 ? mst::format::two : mst::format::one);
+                if (i % 100 == 99)
+                    pass.migrate(i % 200 == 99 ? mst::format::two : mst::format::one);
             }
         });
     for (auto &thread : running) thread.join();

@@ -43,7 +43,10 @@ static void key_bytes(uint8_t *key, uint32_t number) {
         key[i] = (uint8_t)(number >> (24 - 8 * i));
 }
 
-/* To the other format, or, if another writer did that between the two calls, to the one that stands. */
+/*
+ * To the other format, or, if another writer did that between the two calls, to the one that
+ * stands.
+ */
 static void migrate(mst_pass *pass) {
     uint32_t to = mst_format(pass) == 1 ? 2 : 1;
     int32_t told = mst_migrate(pass, to);

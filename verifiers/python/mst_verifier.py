@@ -1,6 +1,8 @@
-"""The verifier of proofs in Python, written from docs/FORMAT.md alone, with the standard library alone.
+"""The verifier of proofs in Python, written from docs/FORMAT.md alone, with the standard library
+alone.
 
-    python3 mst_verifier.py FORMAT ROOT KEY < PROOF      1 or 2, and the other three in hexadecimal digits
+    python3 mst_verifier.py FORMAT ROOT KEY < PROOF      1 or 2, and the other three in
+                                                         hexadecimal digits
 """
 import sys
 from hashlib import sha256
@@ -35,7 +37,8 @@ class Bytes:
 
 
 def layer_of(format, key):
-    """How many digits of the key's SHA-256 are 0 at its front: of base 16 in format 1, of base 4 in format 2."""
+    """How many digits of the key's SHA-256 are 0 at its front: of base 16 in format 1, of base 4 in
+    format 2."""
     zeros = 256 - int.from_bytes(sha256(key).digest(), "big").bit_length()
     return zeros // (4 if format == 1 else 2)
 
@@ -60,7 +63,8 @@ def read_held(format, text):
 
 
 def read_node(format, whole):
-    """The layer, the keys, what is held of the values, and the children of a node: one child more than keys."""
+    """The layer, the keys, what is held of the values, and the children of a node: one child more
+    than keys."""
     text = Bytes(whole)
     try:
         if text.number(1) != format:
@@ -74,7 +78,8 @@ def read_node(format, whole):
     except Short:
         raise Refused("P4")
     rising = all(one < next for one, next in zip(keys, keys[1:]))
-    if not keys or not text.is_at_end() or not rising or any(layer_of(format, key) != layer for key in keys):
+    layered = all(layer_of(format, key) == layer for key in keys)
+    if not keys or not text.is_at_end() or not rising or not layered:
         raise Refused("P4")
     return layer, keys, values, children
 
@@ -83,7 +88,8 @@ UNFIT = object()
 
 
 def read_tail(proof):
-    """The answer that a proof of format 2 claims: None, a value, or UNFIT where it can be no answer."""
+    """The answer that a proof of format 2 claims: None, a value, or UNFIT where it can be no
+    answer."""
     first = proof.number(1)
     if first == 1:
         value = proof.take(proof.number(1))
@@ -107,7 +113,8 @@ def read_frame(format, whole):
 
 
 def verify(format, root, key, proof):
-    """The key's value in the map with this root digest, or None where the key is absent; else Refused."""
+    """The key's value in the map with this root digest, or None where the key is absent; else
+    Refused."""
     if format not in (1, 2):
         raise ValueError("there are formats 1 and 2")
     if len(root) != 32 or not 1 <= len(key) <= 32:
@@ -167,6 +174,11 @@ def line_for(format, root, key, proof):
 if __name__ == "__main__":
     if len(sys.argv) != 4:
         sys.exit(__doc__)
-    line = line_for(int(sys.argv[1]), bytes.fromhex(sys.argv[2]), bytes.fromhex(sys.argv[3]), bytes.fromhex(sys.stdin.read()))
+    line = line_for(
+        int(sys.argv[1]),
+        bytes.fromhex(sys.argv[2]),
+        bytes.fromhex(sys.argv[3]),
+        bytes.fromhex(sys.stdin.read()),
+    )
     print(line)
     sys.exit(line[0] == "P")

@@ -11,7 +11,8 @@ pub enum Error {
     BadKey,
     /// A value has 0 to 64 bytes.
     BadValue,
-    /// The pass still pins, since a `Pinned` was leaked (`std::mem::forget`). The next pin ends that one.
+    /// The pass still pins, since a `Pinned` was leaked (`std::mem::forget`). The next pin ends
+    /// that one.
     WrongState,
     /// A growth of memory was refused.
     Memory,
@@ -66,12 +67,20 @@ impl fmt::Display for Error {
             Error::UnknownFormat => out.write_str("no format has this number"),
             Error::BadKey => out.write_str("a key has 1 to 32 bytes"),
             Error::BadValue => out.write_str("a value has 0 to 64 bytes"),
-            Error::WrongState => out.write_str("a pinned pass neither writes, migrates nor counts rows"),
+            Error::WrongState => {
+                out.write_str("a pinned pass neither writes, migrates nor counts rows")
+            }
             Error::Memory => out.write_str("a growth of memory was refused"),
             Error::BadShape => out.write_str("a store has 4 to 65535 rows and 1 to 32 passes"),
-            Error::VersionsSpent => out.write_str("the store has made all the versions that it can number"),
-            Error::RowsSpent => out.write_str("the write or the migration needs more rows than are free"),
-            Error::RowsPinned => out.write_str("some pass pins a version, so the rows are not counted"),
+            Error::VersionsSpent => {
+                out.write_str("the store has made all the versions that it can number")
+            }
+            Error::RowsSpent => {
+                out.write_str("the write or the migration needs more rows than are free")
+            }
+            Error::RowsPinned => {
+                out.write_str("some pass pins a version, so the rows are not counted")
+            }
             Error::Other(code) => write!(out, "the library answered {code}"),
         }
     }

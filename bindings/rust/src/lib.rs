@@ -1,8 +1,8 @@
-//! An in-memory ordered map of short keys and values, with a root digest, proofs, and versions that stay
-//! readable while they are pinned.
+//! An in-memory ordered map of short keys and values, with a root digest, proofs, and versions that
+//! stay readable while they are pinned.
 //!
-//! A store is reached by its passes alone. [`open`] gives them; a thread works through a pass of its own.
-//! Reads wait for no one. One write at a time goes on. The store goes with its last pass.
+//! A store is reached by its passes alone. [`open`] gives them; a thread works through a pass of
+//! its own. Reads wait for no one. One write at a time goes on. The store goes with its last pass.
 //!
 //! ```
 //! use mst_store::Reads;
@@ -69,7 +69,8 @@ pub const ROOT_LENGTH: usize = 32;
 
 /// Opens a store of the empty map in format 1: its passes, as many as are asked for.
 ///
-/// A map takes a row for each of its pairs and nodes; a store has 4 to 65,535 rows and 1 to 32 passes.
+/// A map takes a row for each of its pairs and nodes; a store has 4 to 65,535 rows and 1 to 32
+/// passes.
 pub fn open(rows: u32, passes: usize) -> Result<Vec<Pass>, Error> {
     open_format(Format::One, rows, passes)
 }
@@ -86,7 +87,8 @@ pub fn open_format(format: Format, rows: u32, passes: usize) -> Result<Vec<Pass>
     }
 }
 
-/// A pass: one thread's at a time, with writes, pins, and the reads of [`Reads`] of the current version.
+/// A pass: one thread's at a time, with writes, pins, and the reads of [`Reads`] of the current
+/// version.
 ///
 /// It may be sent to another thread, and closes when it is dropped.
 pub struct Pass(Hand);
@@ -100,10 +102,12 @@ impl reads::Held for Pass {
 impl Reads for Pass {}
 
 impl Pass {
-    /// Gives the key the value, if no other pass writes: the value before, or None where the key is new.
+    /// Gives the key the value, if no other pass writes: the value before, or None where the key is
+    /// new.
     pub fn try_put(&mut self, key: &[u8], value: &[u8]) -> Result<Option<Vec<u8>>, TryError> {
         let mut room = [0; VALUE_LONGEST];
-        // Safety: each pointer is valid for the length that goes with it, and the room is no other's.
+        // Safety: each pointer is valid for the length that goes with it, and the room is no
+        // other's.
         let code = unsafe {
             raw::mst_try_put(
                 &mut self.0,
@@ -118,7 +122,8 @@ impl Pass {
         reads::value(code, &room).map_err(TryError::of)
     }
 
-    /// Takes the key out, if no other pass writes: the value that it had, or None where it was absent.
+    /// Takes the key out, if no other pass writes: the value that it had, or None where it was
+    /// absent.
     pub fn try_remove(&mut self, key: &[u8]) -> Result<Option<Vec<u8>>, TryError> {
         let mut room = [0; VALUE_LONGEST];
         // Safety: as in try_put.
@@ -138,8 +143,8 @@ impl Pass {
         until_free(|| self.try_remove(key))
     }
 
-    /// Turns the tree of the map to a format, if no other pass writes: the format before. The map stays, and
-    /// so do the pinned versions, each in its format.
+    /// Turns the tree of the map to a format, if no other pass writes: the format before. The map
+    /// stays, and so do the pinned versions, each in its format.
     pub fn try_migrate(&mut self, to: Format) -> Result<Format, TryError> {
         // Safety: the hand is valid.
         let code = unsafe { raw::mst_try_migrate(&mut self.0, to.number()) };
@@ -163,7 +168,8 @@ impl Pass {
 
     /// Pins the current version: until the answer is dropped, each read by it is of that version.
     pub fn pin(&mut self) -> Pinned<'_> {
-        // Safety: the hand is valid. Where it pins already, a Pinned was leaked: that pin ends here.
+        // Safety: the hand is valid. Where it pins already, a Pinned was leaked: that pin ends
+        // here.
         unsafe {
             if raw::mst_pin(&mut self.0) != 0 {
                 raw::mst_unpin(&mut self.0);
@@ -185,7 +191,8 @@ fn until_free<T>(mut call: impl FnMut() -> Result<T, TryError>) -> Result<T, Err
     }
 }
 
-/// A pass while it pins a version: it has the reads of [`Reads`] alone. The pin ends when it is dropped.
+/// A pass while it pins a version: it has the reads of [`Reads`] alone. The pin ends when it is
+/// dropped.
 pub struct Pinned<'a>(&'a mut Pass);
 
 impl reads::Held for Pinned<'_> {

@@ -41,15 +41,17 @@ fn pairs(room: &[u8], count: usize) -> Vec<Pair> {
         .collect()
 }
 
-/// The reads: of the current version by a free pass, of the pinned one by a pinned pass. They wait for no
-/// one.
+/// The reads: of the current version by a free pass, of the pinned one by a pinned pass. They wait
+/// for no one.
 pub trait Reads: Held {
     /// The value of the key, or None where the key is absent.
     fn get(&mut self, key: &[u8]) -> Result<Option<Vec<u8>>, Error> {
         let mut room = [0; VALUE_LONGEST];
-        // Safety: each pointer is valid for the length that goes with it, and the room is no other's.
-        let code =
-            unsafe { raw::mst_get(self.hand(), key.as_ptr(), key.len(), room.as_mut_ptr(), room.len()) };
+        // Safety: each pointer is valid for the length that goes with it, and the room is no
+        // other's.
+        let code = unsafe {
+            raw::mst_get(self.hand(), key.as_ptr(), key.len(), room.as_mut_ptr(), room.len())
+        };
         value(code, &room).map_err(Error::of)
     }
 
@@ -73,8 +75,8 @@ pub trait Reads: Held {
         Ok(value.map(|value| (found[..length].to_vec(), value)))
     }
 
-    /// The first pairs, at most `limit`, of the keys that are at least `from` and below `to`, by rising keys and
-    /// all of one version. An empty bound does not bind.
+    /// The first pairs, at most `limit`, of the keys that are at least `from` and below `to`, by
+    /// rising keys and all of one version. An empty bound does not bind.
     fn range(&mut self, from: &[u8], to: &[u8], limit: usize) -> Result<Vec<Pair>, Error> {
         let most = u32::try_from(limit).unwrap_or(u32::MAX);
         let mut room = vec![0; PAIR_LONGEST * limit.min(64)];
@@ -104,7 +106,8 @@ pub trait Reads: Held {
         }
     }
 
-    /// The pairs by rising keys. Those of a pinned pass are of one version; a free pass asks anew for each.
+    /// The pairs by rising keys. Those of a pinned pass are of one version; a free pass asks anew
+    /// for each.
     fn items(&mut self) -> Items<'_, Self>
     where
         Self: Sized,
@@ -115,13 +118,14 @@ pub trait Reads: Held {
     /// The root digest, in the format of the version.
     fn root(&mut self) -> [u8; ROOT_LENGTH] {
         let mut root = [0; ROOT_LENGTH];
-        // Safety: as in get. The hand holds a pass and the room is long enough, so nothing is refused.
+        // Safety: as in get. The hand holds a pass and the room is long enough, so nothing is
+        // refused.
         unsafe { raw::mst_root(self.hand(), root.as_mut_ptr(), root.len()) };
         root
     }
 
-    /// The proof of the key's answer, which a verifier judges by the format and the root digest of the same
-    /// version.
+    /// The proof of the key's answer, which a verifier judges by the format and the root digest of
+    /// the same version.
     fn prove(&mut self, key: &[u8]) -> Result<Vec<u8>, Error> {
         let mut proof = vec![0; 4096];
         loop {

@@ -62,7 +62,8 @@ fn answers_are_those_of_a_map() {
     for limit in 0..120 {
         let (from, to) = (random.key(), random.key());
         let within = map.iter().filter(|(key, _)| **key >= from && **key < to);
-        let wanted: Vec<_> = within.take(limit).map(|(key, value)| (key.clone(), value.clone())).collect();
+        let wanted: Vec<_> =
+            within.take(limit).map(|(key, value)| (key.clone(), value.clone())).collect();
         assert_eq!(pass.range(&from, &to, limit), Ok(wanted.clone()));
         assert_eq!(pass.pin().range(&from, &to, limit), Ok(wanted));
     }
@@ -163,7 +164,8 @@ fn two_writers_wait_for_each_other() {
                     let expected = i.checked_sub(100).map(|old| old.to_le_bytes().to_vec());
                     assert_eq!(before, expected);
                     if i % 50 == 49 {
-                        pass.migrate(if i % 100 == 49 { Format::Two } else { Format::One }).unwrap();
+                        pass.migrate(if i % 100 == 49 { Format::Two } else { Format::One })
+                            .unwrap();
                     }
                 }
             });
