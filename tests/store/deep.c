@@ -167,6 +167,10 @@ static size_t tells_bytes(const char *name, size_t few, size_t some, size_t most
 
 /* Tells the depth of a call, and returns that over 129 nodes: at most one more for each node. */
 static int tells_depth(const char *name, int few, int some, int most) {
+    if (few < 0) {
+        printf("%s: no process may be traced here, so its depth was not counted\n", name);
+        return 0;
+    }
     int whole = most > some ? most + (MOST_NODES - NODES) : most;
     EXPECT(few > 0 && some > 0 && most > 0);
     EXPECT(most - some <= 6);
