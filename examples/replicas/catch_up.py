@@ -7,7 +7,7 @@ replica goes down from the root digest, skips each subtree whose digest its own 
 each text that comes against the digest that asked for it: it trusts the root digest, and nothing
 else that the other says.
 
-    make -C bindings && python3 examples/replicas.py
+    make -C bindings && python3 examples/replicas/catch_up.py
 """
 import bisect
 import hashlib
@@ -17,7 +17,7 @@ import random
 import sys
 
 here = os.path.dirname(os.path.abspath(__file__))
-sys.path += [os.path.join(here, "..", it) for it in ("bindings/python", "verifiers/python")]
+sys.path += [os.path.join(here, "../..", it) for it in ("bindings/python", "verifiers/python")]
 from mst_store import open_store
 from mst_verifier import read_frame, read_node
 
