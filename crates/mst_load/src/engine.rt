@@ -2,7 +2,7 @@
 ghost use Rattle.std.specs.Prelude.{◌≡◌, ◌<◌, ◌≤◌, ◌+◌, ◌∷◌, ◌++◌, [], All, IfOk, length, vec_len, vec_capacity};
 ghost use Rattle.mst_key.specs.declared.format.Format.TheVariants.{One};
 ghost use Rattle.mst_key.specs.History.{after, events_of, KeepsFormat};
-ghost use Rattle.mst_store.specs.Passes.{format_seen};
+ghost use Rattle.mst_store.specs.Passes.{format_seen, IsShape, HasShape};
 ghost use Rattle.mst_store.specs.Settling.{AreAllPasses};
 ghost use Rattle.mst_node.specs.Text as text;
 ghost use Rattle.mst_load.specs.Calls.{map_left};
@@ -13,8 +13,9 @@ use crate::calls::left_by;
 use crate::gate::Gate;
 use crate::running::run_all;
 use crate::worker::Plan;
+use mst_key::Memory;
 use mst_node::root_of;
-use mst_store::{Format, Pass, Shape, Store, settle};
+use mst_store::{Format, OpenFault, Pass, Seats, Shape, Store, settle};
 use std::alloc::{AllocGlobal, Allocator, Global};
 use std::marker::Brand;
 use std::sync::Wait;
@@ -101,6 +102,19 @@ fn report_of<A: Allocator>(
     }
 }
 
+// Opens a store of a shape that a store may have, so that only memory can be refused.
+fn opened<A: Allocator + Copy>(alloc: A, shape: Shape) -> Result<(Store<A>, Seats<A>), Memory>
+    requires shape { IsShape shape }
+    ensures store { IfOk result (λ opened. HasShape shape opened.0) }
+    ensures seats { IfOk result (λ opened. opened.1 ≡ opened.0) }
+{
+    match Store::open(alloc, shape) {
+        Ok(opened) => Ok(opened),
+        Err(OpenFault::Memory) => Err(Memory),
+        Err(OpenFault::Shape) => unreachable!(),
+    }
+}
+
 /// Lets readers and writers work at one store at once, each in a thread of its own, and reports
 /// what they left. The writers are the first passes, the readers follow.
 ///
@@ -139,7 +153,7 @@ pub fn load<R: Threads + Wait + AllocGlobal + Sync, A: Allocator + Copy, G: Gate
         passes: readers + writers,
         format: Format::One,
     };
-    let Ok((store, seats)) = Store::open(rt.alloc(), shape) else {
+    let Ok((store, seats)) = opened(rt.alloc(), shape) else {
         return Err(LoadFault::Memory);
     };
     let Ok(passes) = store.deal(alloc, seats) else {
