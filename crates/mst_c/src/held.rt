@@ -12,7 +12,7 @@ ghost use Rattle.mst_c.specs.Told.{ValueTold};
 ghost use Rattle.mst_c.specs.Formats.{Moves};
 ghost use Rattle.mst_c.specs.Holding.{Reads, Forgets, Writes, PinsNow, Unpins, Versions, Counts};
 
-use crate::telling::tell;
+use crate::answering::{tell_now, tell_pinned};
 use mst_key::{Format, Key, Memory, Value};
 use mst_store::{Busy, Laid, LaidPinned, MigrateFault, Store, WriteFault};
 use std::alloc::Global;
@@ -71,40 +71,6 @@ pub(crate) enum Uncounted {
     Pins,
     /// Another pass has the turn.
     Busy,
-}
-
-// Tells the value of the key that a free pass finds now.
-fn tell_now(
-    store: &Store<Global>,
-    laid: Laid<Global>,
-    key: &Key,
-    room: &mut [u8],
-) -> (Laid<Global>, i32)
-    requires own { laid.store ≡ store.now }
-    ensures told { ValueTold key.now (state.Free laid) room.old result.1 room.new
-        (state.Free result.0) }
-    ensures own { result.0.store ≡ store.now }
-{
-    let mut pass = store.lift(laid);
-    let code = tell(&pass.get(key), room);
-    (pass.lay(), code)
-}
-
-// Tells the value of the key in the version that a pass pins.
-fn tell_pinned(
-    store: &Store<Global>,
-    laid: LaidPinned<Global>,
-    key: &Key,
-    room: &mut [u8],
-) -> (LaidPinned<Global>, i32)
-    requires own { laid.store ≡ store.now }
-    ensures told { ValueTold key.now (state.Pinned laid) room.old result.1 room.new
-        (state.Pinned result.0) }
-    ensures own { result.0.store ≡ store.now }
-{
-    let mut pinned = store.lift_pinned(laid);
-    let code = tell(&pinned.get(key), room);
-    (pinned.lay(), code)
 }
 
 impl Held {

@@ -27,6 +27,7 @@ ghost use Rattle.mst_c.specs.Opened.{Opened, IsSize, AllEmpty};
 ghost use Rattle.mst_c.specs.Ranges.{RangeTold};
 ghost use Rattle.mst_c.specs.Told.{GetTold, PutTold, RootTold, ProveTold, PinTold, UnpinTold, CloseTold, RemoveTold, VersionTold, RowsTold, NextTold};
 
+mod answering;
 mod formats;
 mod hand;
 mod held;
