@@ -87,7 +87,7 @@ owing = record (idle 4 2 One 1 0) { turn = true; due = Some 0 }
 no_publication : (s : Table) → s.views ≡ dealer 4 2 One 2 ∷ owing ∷ [] → get_or s.words 1 0 ≡ 0 → IsRuled shape s → ⊥
 no_publication s is word a = let q = a.parts in let cur : q.cur ≡ 0 = (let c = q.pins.current in omega (arith, c, word)) in
     let due : Some 0 ≡ q.due = (q.pins.holder 1 owing (subst (λ (l : List View). SeatAt l 1 owing) (sym is) refl) refl).due_is in
-    never_due 2 q.path.moves q.path.state q.path.comes (q.path.due_is ∙ sym due ∙ ap Some (sym cur ∙ sym q.path.cur_is))
+    never_due 2 q.path.moves q.path.is.state q.path.is.comes (q.path.is.due_is ∙ sym due ∙ ap Some (sym cur ∙ sym q.path.is.cur_is))
 
 -- ---- a store of one pass, which has the turn
 

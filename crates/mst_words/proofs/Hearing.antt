@@ -115,7 +115,7 @@ module _ {S : Type 0} (T : Meaning S) (framed : IsFramed T) (R N : ℕ) where
     world = world_note R N T.first q.next q.log s.views id v q.world at;
     clear = clear_more N q.beside s.words s.views n q.clear;
     counts = counts_more N q.cur s.views n q.counts refl refl;
-    path = path_more N q.cur q.due s.views n q.path (λ l. absurd (omega arith));
+    path = record { moves = q.path.moves; is = path_more N q.cur q.due s.views n q.path.moves q.path.is (λ l. absurd (omega arith)) };
     still = still_more N (get_or s.words 1 0) s.views n q.still refl;
   })
 

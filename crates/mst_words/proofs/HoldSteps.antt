@@ -7,6 +7,7 @@ use lib.ListN.{get_elem?}
 use Rattle.std.specs.Int.{bit_at, trailing_zeros, w64}
 use Rattle.std.proofs.lemmas.Nat.Bits.{bit_at-zero, bit_at-trailing_zeros}
 use Rattle.atomic_table.specs.Table.{Me, step, keeps, stepped, Allows}
+use Rattle.mst_pin.specs.declared.event.Event.TheVariants.{Publish, Transfer}
 use Rattle.mst_words.specs.declared.view.View.{View}
 use Rattle.mst_key.specs.declared.history.Event.{Event}
 use Rattle.mst_words.specs.declared.view.DeskState.{DeskState}
@@ -65,7 +66,7 @@ module _ {S : Type 0} (T : Meaning S) (framed : IsFramed T) (R N : ℕ) where
           world = world_add R N T.first q.next q.log s.views id v w e q.world at (record { number = refl; deals = refl; rows = refl; passes = refl; format = refl }) refl ready.mine (subst (λ (z : ℕ). 0 < z) (sym h.1) h.0) (ap (λ (l : History). l ++ e ∷ []) h.2) refl ready.unpinned;
           clear = clear_same N q.beside q.beside s.words ws s.views id v w q.clear at (λ r k l. bits_stay q.beside s.words ws r k (stays s.words 1 b (r + 2) (λ f. omega arith))) refl refl;
           counts = counts_none N q.cur into s.views id w refl only;
-          path = path_publish N q.cur q.due s.views id v w q.path at into refl refl (sym known.due_is ∙ ready.settled) mine.0 mine.1 mine.3;
+          path = record { moves = Publish into 0 ∷ q.path.moves; is = path_publish N q.cur q.due s.views id v w q.path.moves q.path.is at into refl refl (sym known.due_is ∙ ready.settled) mine.0 mine.1 mine.3 };
           still = still_new N (get_or s.words 1 0) (get_or ws 1 0) s.views id w (λ _ _ k is. absurd (let c : None ≡ Some k = is in cc)) (λ i x away f own _. away (only i x f own));
         },
         (refl, record { mask = q.mask; small = q.pins.small; returned = q.pins.current ∙ ap (λ (z : ℕ). z * 4294967296 + q.mask) cur_now; is = refl }),
@@ -105,7 +106,7 @@ module _ {S : Type 0} (T : Meaning S) (framed : IsFramed T) (R N : ℕ) where
           clear = clear_same N q.beside (cleared q.beside o) s.words ws s.views id v w q.clear at
               (λ r k l. transfer_bits q.beside s.words ws o (here ∙ ap (bit_xor (done s.words o)) (is ∙ sym (known.mask_is o (sym known.due_is ∙ is_due)))) r k (λ other. stays s.words (o + 2) n (r + 2) (λ f. other (omega arith)))) refl refl;
           counts = counts_same N q.cur s.views id v w q.counts at refl (inl refl) refl refl;
-          path = path_transfer N q.cur q.due s.views id v w q.path at o refl refl (sym known.due_is ∙ is_due);
+          path = record { moves = Transfer ∷ q.path.moves; is = path_transfer N q.cur q.due s.views id v w q.path.moves q.path.is at o refl refl (sym known.due_is ∙ is_due) };
           still = still_same N (get_or s.words 1 0) (get_or ws 1 0) s.views id w v q.still at (stays s.words (o + 2) n 1 (λ f. omega arith)) refl refl;
         },
         ((o, is_due, refl), refl),

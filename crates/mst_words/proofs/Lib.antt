@@ -28,5 +28,7 @@ pub mod Limits
 pub mod WordWays
 pub mod Ruling
 pub mod Deeds
+pub mod Moves
 pub mod Worked
+pub mod WorkedMoves
 pub mod Breaches

@@ -40,7 +40,7 @@ module _ {S : Type 0} (T : Meaning S) (framed : IsFramed T) (R N : ℕ) where
     world = world_set R N T.first q.next q.log s.views id v w q.world at (record { number = number; deals = deals; rows = rows; passes = passes; format = format }) fits;
     clear = clear_same N q.beside q.beside s.words s.words s.views id v w q.clear at (λ r k _. refl) number pin;
     counts = counts;
-    path = path_same N q.cur q.due s.views id v w q.path at number pin;
+    path = record { moves = q.path.moves; is = path_same N q.cur q.due s.views id v w q.path.moves q.path.is at number pin };
     still = still;
   }
 

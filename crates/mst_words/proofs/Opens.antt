@@ -5,13 +5,11 @@ use Rattle.std.proofs.lemmas.Option.{none-some}
 use Rattle.std.proofs.lemmas.Nat.Bits.{bit_at-zero}
 use mathlib.Core.Option.{some-injective, some-ne-none}
 use Rattle.atomic_table.specs.Table.{State, opening, Splits}
-use Rattle.mst_pin.specs.State as core
 use Rattle.mst_key.proofs.HistoryLaws.{IsPrefix-nil}
 use Rattle.mst_words.specs.declared.view.View.{View}
 use Rattle.mst_words.specs.declared.view.DeskState.{DeskState}
 use Rattle.mst_words.specs.World.{SeatAt, Fits, IsPlaced, dealer, having_dealt, newcomer}
 use Rattle.mst_words.specs.Pins.{done, pin_bit, SeatPins}
-use Rattle.mst_words.specs.Path.{Path}
 use Rattle.mst_words.specs.Records.{Meaning, IsFramed, Standing}
 use Rattle.mst_words.specs.Rule.{Parts, Ruled}
 use Rattle.mst_words.proofs.Worlds.{world_deal}
@@ -19,25 +17,17 @@ use Rattle.mst_words.proofs.Turns.{turn_same}
 use Rattle.mst_words.proofs.PinParts.{pins_same}
 use Rattle.mst_words.proofs.RowParts.{rows_upper, pin_stays}
 use Rattle.mst_words.proofs.Marks.{clear_same, counts_same}
-use Rattle.mst_words.proofs.Paths.{path_same}
+use Rattle.mst_words.proofs.Paths.{path_same, path_opening, no_pin}
 use Rattle.mst_words.proofs.Stills.{still_same}
 use Rattle.mst_words.proofs.Seats.{each_seat}
 use Rattle.mst_words.proofs.Follows.{ruled}
 use Rattle.mst_words.proofs.Seated.{off_true, free_pins, turn_more, rows_more, pins_more, clear_more, counts_more, path_more, still_more}
 
-none_or : (x : Option ℕ) → ((r : ℕ) → x ≡ Some r → ⊥) → x ≡ None
-none_or None not = refl
-none_or (Some r) not = absurd (not r refl)
-
--- a number that no seat has pins nothing in the core
-no_pin : (N cur : ℕ) (due : Option ℕ) (vs : List View) (q : Path N cur due vs) (p : ℕ) → ((i : ℕ) (u : View) → SeatAt vs i u → u.number ≡ p → ⊥) → q.state.pins p ≡ None
-no_pin N cur due vs q p none_there = none_or (q.state.pins p) (λ r e. let t = (q.seats_are p r e).1 in none_there t.0 t.1 t.2 t.3)
-
 module _ {S : Type 0} (T : Meaning S) (framed : IsFramed T) (R N : ℕ) where
   -- ---- a pass more
 
   -- no seat has the number of the next pass yet
-  unseated : (s : State S View) (q : Parts T R N s) (id : ℕ) (v : View) → SeatAt s.views id v → 0 < v.deals → (i : ℕ) (u : View) → SeatAt s.views i u → u.number ≡ v.deals → ⊥
+  pub unseated : (s : State S View) (q : Parts T R N s) (id : ℕ) (v : View) → SeatAt s.views id v → 0 < v.deals → (i : ℕ) (u : View) → SeatAt s.views i u → u.number ≡ v.deals → ⊥
   unseated s q id v at some_deal i u e same = let below = (q.world.placed i u e).number in let is = ((q.world.placed id v at).deals some_deal).0 in absurd (omega arith)
 
   -- so no bit of it is set
@@ -70,8 +60,11 @@ module _ {S : Type 0} (T : Meaning S) (framed : IsFramed T) (R N : ℕ) where
         world = world_deal R N T.first q.next q.log s.views id v q.world at some_deal left;
         clear = clear_more N q.beside s.words vs n (clear_same N q.beside q.beside s.words s.words s.views id v w q.clear at (λ r k _. refl) refl refl);
         counts = counts_more N q.cur vs n (counts_same N q.cur s.views id v w q.counts at refl (inl refl) refl refl) refl refl;
-        path = let moved = path_same N q.cur q.due s.views id v w q.path at refl refl in path_more N q.cur q.due vs n moved
-            (λ _. no_pin N q.cur q.due vs moved v.deals (each_seat (λ i u. u.number ≡ v.deals → ⊥) s.views id w (unseated s q id v at some_deal id v at) (λ i u _ e. unseated s q id v at some_deal i u e)));
+        path = record {
+          moves = q.path.moves;
+          is = (let moved = path_same N q.cur q.due s.views id v w q.path.moves q.path.is at refl refl in path_more N q.cur q.due vs n q.path.moves moved
+              (λ _. no_pin N q.cur q.due vs q.path.moves moved v.deals (each_seat (λ i u. u.number ≡ v.deals → ⊥) s.views id w (unseated s q id v at some_deal id v at) (λ i u _ e. unseated s q id v at some_deal i u e))));
+        };
         still = still_more N (get_or s.words 1 0) vs n (still_same N (get_or s.words 1 0) (get_or s.words 1 0) s.views id w v q.still at refl refl refl) refl;
       }
 
@@ -142,15 +135,6 @@ module _ {S : Type 0} (T : Meaning S) (framed : IsFramed T) (R N : ℕ) where
     };
     clear = record { seat_of = λ r k l e. absurd (let z : pin_bit (λ r. 0) ws r k ≡ 0 = ap (λ (z : ℕ). (bit_at 0 k + bit_at z k) % 2) (front (r + 2) (omega arith)) ∙ ap (λ (z : ℕ). (z + z) % 2) (bit_at-zero k) in let c : 1 ≡ 0 = sym e ∙ z in omega arith) };
     counts = record { blamed = λ i u e on. off i u e on };
-    path = record {
-      state = core.opening N;
-      moves = [];
-      comes = refl;
-      passes_is = refl;
-      cur_is = refl;
-      due_is = refl;
-      pins_are = λ i u e l. ap (λ (z : View). z.pin) (one i u e);
-      seats_are = λ p r e. absurd (none-some r e);
-    };
+    path = record { moves = []; is = path_opening R N T.first };
     still = record { noted = λ i u e on. off i u e on };
   }

@@ -1,10 +1,11 @@
 -- A pin and its end keep the rule.
-use Rattle.std.proofs.Common.{◌≡◌, ℕ, ◌+◌, ◌-◌, ◌*◌, ◌^◌, ◌<◌, ◌≤◌, ◌≢◌, inl, inr, true, false, Some, None, List, length, set, get_or, sym, refl, ap, ◌∙◌, subst, arith, bit_xor, length-set, get_or-set_same}
+use Rattle.std.proofs.Common.{◌≡◌, ℕ, ◌+◌, ◌-◌, ◌*◌, ◌^◌, ◌<◌, ◌≤◌, ◌≢◌, inl, inr, true, false, Some, None, List, ◌∷◌, length, set, get_or, sym, refl, ap, ◌∙◌, subst, arith, bit_xor, length-set, get_or-set_same}
 use mathlib.Core.Option.{none}
 use Rattle.std.proofs.lemmas.Option.{same_Some, none-some}
 use Rattle.atomic_table.specs.Table.{Me, step, keeps, stepped, Allows}
 use Rattle.mst_key.specs.History.{History}
 use Rattle.mst_key.proofs.HistoryLaws.{IsPrefix-itself}
+use Rattle.mst_pin.specs.declared.event.Event.TheVariants.{Pin, Unpin}
 use Rattle.mst_words.specs.declared.view.View.{View}
 use Rattle.mst_words.specs.World.{SeatAt, Fits}
 use Rattle.mst_words.specs.Pins.{done, pin_bit}
@@ -25,11 +26,11 @@ use Rattle.mst_words.proofs.Stills.{still_set, still_pin}
 
 module _ {S : Type 0} (T : Meaning S) (framed : IsFramed T) (R N : ℕ) where
   -- other seats have other numbers
-  apart_from : (s : St T framed R N) (q : Parts T R N s) (id : ℕ) (v : View) → SeatAt s.views id v → 0 < v.number → (i : ℕ) (u : View) → i ≢ id → SeatAt s.views i u → u.number ≢ v.number
+  pub apart_from : (s : St T framed R N) (q : Parts T R N s) (id : ℕ) (v : View) → SeatAt s.views id v → 0 < v.number → (i : ℕ) (u : View) → i ≢ id → SeatAt s.views i u → u.number ≢ v.number
   apart_from s q id v at pos i u other e same = other (q.world.apart i id u v e at (subst (λ (z : ℕ). 0 < z) (sym same) pos) same)
 
   -- a pass has a number up to N
-  dealt : (s : St T framed R N) (q : Parts T R N s) (i : ℕ) (u : View) → SeatAt s.views i u → u.number ≤ N
+  pub dealt : (s : St T framed R N) (q : Parts T R N s) (i : ℕ) (u : View) → SeatAt s.views i u → u.number ≤ N
   dealt s q i u e = let a = (q.world.placed i u e).number in let b = q.world.few in omega arith
 
   holders : (s : St T framed R N) (q : Parts T R N s) (i : ℕ) (u : View) → SeatAt s.views i u → u.turn ≡ true → (0 < u.number) × (u.number ≤ N)
@@ -72,7 +73,7 @@ module _ {S : Type 0} (T : Meaning S) (framed : IsFramed T) (R N : ℕ) where
         clear = clear_set N q.beside (turned q.cur q.beside k) s.words ws s.views id v w q.clear at q.cur k (λ r b l other. pin_others q.cur q.beside s.words ws k r b (done_same r) other)
             (λ r b l other. pin_elsewhere q.cur q.beside s.words ws k r b (done_same r) other) number refl (λ r e. absurd (none-some r (sym free ∙ e))) (inl refl);
         counts = counts_set N q.cur s.views id v w q.counts at refl (inr (inr refl)) (λ on. absurd (let c : true ≡ false = sym on ∙ off in cc));
-        path = path_pin N q.cur q.due s.views id v w q.path at refl free refl apart pos (dealt s q id v at);
+        path = record { moves = Pin v.number ∷ q.path.moves; is = path_pin N q.cur q.due s.views id v w q.path.moves q.path.is at refl free refl apart pos (dealt s q id v at) };
         still = still_pin N (get_or s.words 1 0) (get_or ws 1 0) s.views id w v off pos (dealt s q id v at) apart (holders s q);
       }
 
@@ -134,7 +135,7 @@ module _ {S : Type 0} (T : Meaning S) (framed : IsFramed T) (R N : ℕ) where
         clear = clear_set N q.beside q.beside s.words ws s.views id v w q.clear at o k (λ r b _ other. unpin_others q.beside s.words ws k o here r b (elsewhere r) other) (λ r b _ other. bits_stay q.beside s.words ws r b (elsewhere r other))
             number same.number (λ r e. sym (same_Some o r (sym pinned ∙ e))) (inr (unpin_turns q.beside s.words ws k o here (ap (pin_bit q.beside s.words o) (let g : k ≡ v.number - 1 = omega arith in g) ∙ mine.2)));
         counts = counts_set N q.cur s.views id v w q.counts at same.number (inr (inl free)) (λ on. absurd (let c : true ≡ false = sym on ∙ off_now in cc));
-        path = path_unpin N q.cur q.due s.views id v w q.path at o same.number pinned free apart mine.0;
+        path = record { moves = Unpin v.number ∷ q.path.moves; is = path_unpin N q.cur q.due s.views id v w q.path.moves q.path.is at o same.number pinned free apart mine.0 };
         still = still_set N (get_or s.words 1 0) (get_or ws 1 0) s.views id w q.still (stays s.words (o + 2) n 1 (λ f. omega arith)) (λ on. absurd (let c : true ≡ false = sym on ∙ off_now in cc));
       }
 

@@ -7,7 +7,8 @@ use Rattle.mst_words.specs.declared.view.View.{View}
 use Rattle.mst_words.specs.declared.view.DeskState.{DeskState}
 use Rattle.mst_words.specs.World.{SeatAt}
 use Rattle.mst_words.specs.Pins.{SeatPins, Drains, Pins, Clear, Blamed, Counts}
-use Rattle.mst_words.specs.Path.{Path}
+use Rattle.mst_pin.specs.declared.event.Event as core
+use Rattle.mst_words.specs.Path.{IsPathOf}
 use Rattle.mst_words.specs.Records.{Meaning, IsLive, Reads, Rows}
 use Rattle.mst_words.specs.Rule.{Turn, Still}
 
@@ -87,10 +88,9 @@ counts_more N cur vs n q off free = record {
 }
 
 -- the new seat is no pass, or one that pins nothing in the core
-pub path_more : (N cur : ℕ) (due : Option ℕ) (vs : List View) (n : View) (q : Path N cur due vs) → (0 < n.number → q.state.pins n.number ≡ n.pin) → Path N cur due (vs ++ n ∷ [])
-path_more N cur due vs n q new = record {
+pub path_more : (N cur : ℕ) (due : Option ℕ) (vs : List View) (n : View) (moves : List core.Event) (q : IsPathOf moves N cur due vs) → (0 < n.number → q.state.pins n.number ≡ n.pin) → IsPathOf moves N cur due (vs ++ n ∷ [])
+path_more N cur due vs n moves q new = record {
   state = q.state;
-  moves = q.moves;
   comes = q.comes;
   passes_is = q.passes_is;
   cur_is = q.cur_is;

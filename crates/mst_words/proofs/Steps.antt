@@ -89,7 +89,7 @@ module _ {S : Type 0} (T : Meaning S) (framed : IsFramed T) (R N : ℕ) where
           world = world_set R N T.first q.next q.log s.views id v w q.world at (record { number = refl; deals = refl; rows = refl; passes = refl; format = refl }) (let f = q.world.fits id v at in record { seen = f.seen; told = f.told; own = f.own; mine = f.mine; pinned = f.pinned });
           clear = clear_same N q.beside q.beside s.words ws s.views id v w q.clear at (λ r k l. bits_stay q.beside s.words ws r k (low (r + 2) (let few = q.pins.few in omega arith))) refl refl;
           counts = counts_same N q.cur s.views id v w q.counts at refl (inl refl) refl refl;
-          path = path_same N q.cur q.due s.views id v w q.path at refl refl;
+          path = record { moves = q.path.moves; is = path_same N q.cur q.due s.views id v w q.path.moves q.path.is at refl refl };
           still = still_same N (get_or s.words 1 0) (get_or ws 1 0) s.views id w v q.still at (low 1 (omega arith)) refl refl;
         },
         refl,

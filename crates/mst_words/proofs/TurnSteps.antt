@@ -59,7 +59,7 @@ module _ {S : Type 0} (T : Meaning S) (framed : IsFramed T) (R N : ℕ) where
         world = world_set R N T.first q.next q.log s.views id v w q.world at (record { number = refl; deals = refl; rows = refl; passes = refl; format = refl }) (let f = q.world.fits id v at in record { seen = IsPrefix-itself q.log; told = f.told; own = f.own; mine = λ _. f.own; pinned = f.pinned });
         clear = clear_same N q.beside q.beside s.words ws s.views id v w q.clear at (λ r k l. bits_stay q.beside s.words ws r k (stays s.words 0 p (r + 2) (λ f. omega arith))) refl refl;
         counts = counts_set N q.cur s.views id v w q.counts at refl (inl refl) (λ _. ([], tt));
-        path = path_same N q.cur q.due s.views id v w q.path at refl refl;
+        path = record { moves = q.path.moves; is = path_same N q.cur q.due s.views id v w q.path.moves q.path.is at refl refl };
         still = still_set N (get_or s.words 1 0) (get_or ws 1 0) s.views id w q.still (stays s.words 0 p 1 (λ f. omega arith)) (λ _ _ k is. absurd (let c : None ≡ Some k = is in cc));
       }
 
@@ -139,7 +139,7 @@ module _ {S : Type 0} (T : Meaning S) (framed : IsFramed T) (R N : ℕ) where
         world = world_set R N T.first q.next q.log s.views id v w q.world at (record { number = refl; deals = refl; rows = refl; passes = refl; format = refl }) (let f = q.world.fits id v at in record { seen = f.seen; told = f.told; own = f.own; mine = f.mine; pinned = f.pinned });
         clear = clear_same N q.beside q.beside s.words ws s.views id v w q.clear at (λ r k l. bits_stay q.beside s.words ws r k (stays s.words 0 0 (r + 2) (λ f. omega arith))) refl refl;
         counts = counts_set N q.cur s.views id v w q.counts at refl (inl refl) (λ own. absurd (let c : false ≡ true = own in cc));
-        path = path_same N q.cur q.due s.views id v w q.path at refl refl;
+        path = record { moves = q.path.moves; is = path_same N q.cur q.due s.views id v w q.path.moves q.path.is at refl refl };
         still = still_set N (get_or s.words 1 0) (get_or ws 1 0) s.views id w q.still (stays s.words 0 0 1 (λ f. omega arith)) (λ own. absurd (let c : false ≡ true = own in cc));
       }
 

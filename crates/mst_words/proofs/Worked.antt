@@ -41,16 +41,16 @@ use Rattle.mst_words.proofs.HoldSteps.{asks_allows, publishes_allows, transfers_
 abbrev pub shape : Shape
 shape = record { rows = 4; passes = 2; format = One }
 
-abbrev T : Meaning (Option lives.State)
+abbrev pub T : Meaning (Option lives.State)
 T = stored One
 
 framed : IsFramed T
 framed = stored_framed One
 
-abbrev Mine : Type 0
+abbrev pub Mine : Type 0
 Mine = Me (Option lives.State) View
 
-abbrev fresh : lives.State
+abbrev pub fresh : lives.State
 fresh = fresh_desk 4 2
 
 -- ---- the words at the start
@@ -82,20 +82,20 @@ begun = opening words (Some fresh ∷ []) (dealer 4 2 One 1)
 pub begun_ruled : Ruled T 4 2 begun
 begun_ruled = opens T framed 4 2 words (Some fresh) (desk_state fresh) refl (λ i l. front i (omega (arith, l))) (omega arith) (fresh_is_desk 4 2) refl (fresh_standing One 4 2 words front digest refl)
 
-abbrev pass : ℕ → View
+abbrev pub pass : ℕ → View
 pass p = idle 4 2 One p 0
 
-abbrev at : List ℕ → List View → Table
+abbrev pub at : List ℕ → List View → Table
 at ws vs = record { words = ws; homes = some (Some fresh) ∷ []; views = vs }
 
-one_dealt : Ruled T 4 2 (at words (dealer 4 2 One 2 ∷ pass 1 ∷ []))
+pub one_dealt : Ruled T 4 2 (at words (dealer 4 2 One 2 ∷ pass 1 ∷ []))
 one_dealt = deal_splits T framed 4 2 0 (dealer 4 2 One 1) refl refl (omega arith) (omega arith) begun begun_ruled refl
 
 pub dealt : Ruled T 4 2 (at words (dealer 4 2 One 3 ∷ pass 1 ∷ pass 2 ∷ []))
 dealt = deal_splits T framed 4 2 0 (dealer 4 2 One 2) refl refl (omega arith) (omega arith) (at words (dealer 4 2 One 2 ∷ pass 1 ∷ [])) one_dealt refl
 
 -- while no seat has seen an event, there is none
-none_seen : (s : Table) (v w x : View) → s.views ≡ v ∷ w ∷ x ∷ [] → v.seen ≡ [] → w.seen ≡ [] → x.seen ≡ [] → (a : Ruled T 4 2 s) → a.parts.log ≡ []
+pub none_seen : (s : Table) (v w x : View) → s.views ≡ v ∷ w ∷ x ∷ [] → v.seen ≡ [] → w.seen ≡ [] → x.seen ≡ [] → (a : Ruled T 4 2 s) → a.parts.log ≡ []
 none_seen s v w x is first second third a = ⊎_elim (λ none_there. none_there)
     (λ (t : (i : ℕ) × (u : View) × SeatAt s.views i u × (u.seen ≡ a.parts.log)). sym t.3 ∙ each t.0 t.1 (subst (λ (l : List View). SeatAt l t.0 t.1) is t.2)) a.seen.whole
   where
@@ -110,25 +110,25 @@ none_seen s v w x is first second third a = ⊎_elim (λ none_there. none_there)
 abbrev pub used : List ℕ
 used = dealt.parts.used dealt.parts.cur
 
-abbrev reader : View
+abbrev pub reader : View
 reader = record (pass 1) { pin = Some 0; pinned_history = []; pinned_rows = used; known_words = words; asked = 1 }
 
-cur_is : dealt.parts.cur ≡ 0
+pub cur_is : dealt.parts.cur ≡ 0
 cur_is = let c : 0 ≡ dealt.parts.cur * 4294967296 + dealt.parts.mask = dealt.parts.pins.current in omega (arith, c)
 
-pinned : Ruled T 4 2 (at (set words 1 1) (dealer 4 2 One 3 ∷ reader ∷ pass 2 ∷ []))
+pub pinned : Ruled T 4 2 (at (set words 1 1) (dealer 4 2 One 3 ∷ reader ∷ pass 2 ∷ []))
 pinned = ruled T framed 4 2 _ (subst (λ (x : ℕ × History). Parts T 4 2 (at (set words 1 1) (dealer 4 2 One 3 ∷ record (pass 1) { pin = Some x.0; pinned_history = x.1; pinned_rows = used; known_words = words; asked = 1 } ∷ pass 2 ∷ [])))
     (λ i. (cur_is i, none_seen (at words (dealer 4 2 One 3 ∷ pass 1 ∷ pass 2 ∷ [])) (dealer 4 2 One 3) (pass 1) (pass 2) refl refl refl refl dealt i))
     (pinned_now T framed 4 2 (at words (dealer 4 2 One 3 ∷ pass 1 ∷ pass 2 ∷ [])) dealt.parts 1 1 0 [] (pass 1) refl refl refl refl refl))
 
 -- ---- pass 2 takes the turn
 
-desk_is : pinned.parts.desk ≡ desk_state fresh
+pub desk_is : pinned.parts.desk ≡ desk_state fresh
 desk_is = let t = pinned.parts.turn.free refl in
     let home : Some fresh ≡ t.0 = some-injective (Some fresh) t.0 (some-injective (some (Some fresh)) (some t.0) (ap (λ (l : List (mathlib.Core.Option.Option (Option lives.State))). get_elem? l 0) t.1)) in
     ap desk_state (sym (same_Some fresh (state_of pinned.parts.desk) (home ∙ t.2.there)))
 
-abbrev held : List ℕ
+abbrev pub held : List ℕ
 held = set words 1 1
 
 abbrev holding : History → DeskState → View
@@ -139,10 +139,10 @@ pub record Ready (ws : List ℕ) (vs : List View) : Type 0 where
   pub homes : List (mathlib.Core.Option.Option (Option lives.State))
   pub rule : IsRuled shape record { words = ws; homes = homes; views = vs }
 
-abbrev writer : View
+abbrev pub writer : View
 writer = holding [] (desk_state fresh)
 
-turn_taken : Ready (set held 0 2) (dealer 4 2 One 3 ∷ reader ∷ writer ∷ [])
+pub turn_taken : Ready (set held 0 2) (dealer 4 2 One 3 ∷ reader ∷ writer ∷ [])
 turn_taken = record {
   homes = none ∷ [];
   rule = ruled T framed 4 2 _ (subst (λ (x : History × DeskState). Parts T 4 2 record { words = set held 0 2; homes = none ∷ []; views = dealer 4 2 One 3 ∷ reader ∷ holding x.0 x.1 ∷ [] })
@@ -160,13 +160,13 @@ next ws vs h id i me f told allows here small w is = let t = allows (length h.ho
 
 -- ---- it finds record 1 drained
 
-abbrev slot : List (ℕ × Option lives.State)
+abbrev pub slot : List (ℕ × Option lives.State)
 slot = (0, Some fresh) ∷ []
 
-abbrev asked : View
+abbrev pub asked : View
 asked = record writer { drained = 1 ∷ []; asked = 2 }
 
-found : Ready (set (set held 0 2) 3 0) (dealer 4 2 One 3 ∷ reader ∷ asked ∷ [])
+pub found : Ready (set (set held 0 2) 3 0) (dealer 4 2 One 3 ∷ reader ∷ asked ∷ [])
 found = next (set held 0 2) (dealer 4 2 One 3 ∷ reader ∷ writer ∷ []) turn_taken 2 3 (writer, slot) (λ n. n) (λ slots. asks T (step slots 3 0 0 none) (writer, slot))
     (λ slots. asks_allows T framed 4 2 slots 2 1 (writer, slot) (refl, refl, refl) (omega arith) (λ e. omega (arith, e)) (λ i. in_nothing 1 i)) refl (lit< tt) asked
     (λ slots m t. let one : t.0 ≡ 1 = (let e = t.1 in omega (arith, e)) in ap (λ (z : Mine). z.0) (t.2 refl) ∙ ap (λ (y : ℕ). record writer { drained = y ∷ []; asked = 2 }) one)
@@ -176,7 +176,7 @@ found = next (set held 0 2) (dealer 4 2 One 3 ∷ reader ∷ writer ∷ []) turn
 abbrev pub event : Event
 event = record { pass = 2; change = Remove (97 ∷ []) }
 
-abbrev later : DeskState
+abbrev pub later : DeskState
 later = record { current = 1; versions = 0 ∷ 1 ∷ 0 ∷ 0 ∷ []; lives = replicate 4 Free }
 
 empty_still : AgedOn One (row held) (field held 1) later (event ∷ []) []
@@ -227,10 +227,10 @@ ready = record {
   agrees = agrees;
 }
 
-abbrev publisher : ℕ → View
+abbrev pub publisher : ℕ → View
 publisher mask = record asked { seen = event ∷ []; mine = event ∷ []; due = Some 0; mask = mask; drained = []; blocked = []; noted = None; desk = later; asked = 3 }
 
-published : Ready (set (set (set held 0 2) 3 0) 1 4294967296) (dealer 4 2 One 3 ∷ reader ∷ publisher 1 ∷ [])
+pub published : Ready (set (set (set held 0 2) 3 0) 1 4294967296) (dealer 4 2 One 3 ∷ reader ∷ publisher 1 ∷ [])
 published = next (set (set held 0 2) 3 0) (dealer 4 2 One 3 ∷ reader ∷ asked ∷ []) found 2 1 (asked, slot) (λ n. 4294967296) (λ slots. publishes event later (step slots 1 4294967296 0 none) (asked, slot))
     (λ slots. publishes_allows T framed 4 2 slots 2 4294967296 1 event later [] (asked, slot) ready refl) refl (lit< tt) (publisher 1)
     (λ slots m t. let one : t.1.mask ≡ 1 = (let e : 1 ≡ 0 * 4294967296 + t.1.mask = t.1.returned in omega (arith, e)) in ap (λ (z : Mine). z.0) t.1.is ∙ ap publisher one)

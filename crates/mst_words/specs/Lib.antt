@@ -9,3 +9,4 @@ pub mod Notes
 pub mod Stored
 pub mod Access
 pub mod Laws
+pub mod Moves

@@ -1,6 +1,6 @@
 -- The pins of the table are those of the core of pins: the current record, the pins of the passes
 -- and the record whose transfer waits are reached from the core's opening state by events that it
--- takes.
+-- takes. Which events these are, step by step, is in `Moves`.
 use Rattle.std.specs.Prelude.{◌≡◌, ℕ, ◌<◌, List, [], ◌∷◌, Option, Some}
 use Rattle.mst_pin.specs.declared.event.Event as core
 use Rattle.mst_pin.specs.declared.event.Event.TheVariants.{Pin, Unpin, Write, Publish, Transfer, Ask}
@@ -24,9 +24,11 @@ ComesTo n [] s = s ≡ opening n
 ComesTo n (e ∷ es) s =
     (before : State) × ComesTo n es before × IsMove e × IsTaken before e × (s ≡ after before e)
 
-pub record Path (n cur : ℕ) (due : Option ℕ) (views : List View) : Type 0 where
+-- by these events the core comes to this current record, to this transfer that waits, and to the
+-- pins that the views tell
+pub record IsPathOf (moves : List core.Event) (n cur : ℕ) (due : Option ℕ)
+    (views : List View) : Type 0 where
   pub state : State
-  pub moves : List core.Event
   pub comes : ComesTo n moves state
   pub passes_is : state.passes ≡ n
   pub cur_is : state.current ≡ cur
@@ -34,3 +36,8 @@ pub record Path (n cur : ℕ) (due : Option ℕ) (views : List View) : Type 0 wh
   pub pins_are : (i : ℕ) (v : View) → SeatAt views i v → 0 < v.number → state.pins v.number ≡ v.pin
   pub seats_are : (p r : ℕ) → state.pins p ≡ Some r → (0 < p)
       × ((i : ℕ) × (v : View) × SeatAt views i v × (v.number ≡ p))
+
+-- some events lead there
+pub record Path (n cur : ℕ) (due : Option ℕ) (views : List View) : Type 0 where
+  pub moves : List core.Event
+  pub is : IsPathOf moves n cur due views

@@ -38,7 +38,7 @@ mod view;
 mod words;
 
 pub use board::{Board, Token};
-pub use laws::rule_laws;
+pub use laws::{path_laws, rule_laws};
 pub use notes::Telling;
 pub use plays::Naming;
 pub use seat::PassSeat;
