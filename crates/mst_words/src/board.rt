@@ -139,7 +139,8 @@ impl<A: Allocator + Copy> Board<A> {
     pub(crate) fn give_turn(&self, seat: &mut Token<A>)
         requires own { seat.old.table_id ≡ self.now }
         requires wide { self.now.words ≡ table_words seat.old.me.0.rows }
-        requires giving { (x : Option State) × (d : DeskState) × IsGiving (stored seat.old.me.0.format) x d seat.old.me }
+        requires giving { (x : Option State) × (d : DeskState)
+            × IsGiving (stored seat.old.me.0.format) x d seat.old.me }
         ensures same { (seat.new.table_id ≡ seat.old.table_id) × (seat.new.id ≡ seat.old.id) }
         ensures gave { Gives seat.old.me seat.new.me }
     {

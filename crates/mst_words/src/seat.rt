@@ -116,7 +116,8 @@ impl<'a, A: Allocator + Copy> PassSeat<'a, A> {
     /// The desk in the slot has to say of each record that was not found drained, that its version
     /// reaches the same rows as when the turn was taken.
     pub fn give_turn(&mut self)
-        requires giving { (x : Option State) × (d : DeskState) × IsGiving (stored self.old.me.0.format) x d self.old.me }
+        requires giving { (x : Option State) × (d : DeskState)
+            × IsGiving (stored self.old.me.0.format) x d self.old.me }
         ensures same { IsSameSeat self.old self.new }
         ensures gave { Gives self.old.me self.new.me }
     {
