@@ -20,7 +20,7 @@ use Rattle.mst_words.specs.Path.{IsPathOf}
 use Rattle.mst_words.specs.Steps.{IsWritable}
 use Rattle.mst_words.specs.Stored.{stored}
 use Rattle.mst_words.specs.Laws.{Table, IsRuled, Told, Makes, Deed, told_by, trying, giving, pinning, unpinning, forgetting, reading, writing, transferring, asking, noting, asking_current, seeing_all, seeing_told, glancing, Adds, Hears}
-use Rattle.mst_words.specs.Moves.{IsReachedBy, IsOpened, IsAllowed, word_after, moves_of, Does, MakesCurrent, ChangesSeats, GoesBy, IsLedTo}
+use Rattle.mst_words.specs.Moves.{IsReachedBy, IsOpened, moves_of, Does, MakesCurrent, ChangesSeats, GoesBy, IsLedTo}
 use Rattle.mst_words.proofs.Bits.{xor_low, xor_small}
 use Rattle.mst_words.proofs.Seats.{each_seat, same_view}
 use Rattle.mst_words.proofs.Worlds.{within}

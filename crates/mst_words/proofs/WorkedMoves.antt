@@ -1,23 +1,21 @@
 -- The worked table is reached by the events of its steps: pass 1 pins record 0, record 1 is
 -- published, and the pin is moved. It is not reached where one of them is left out.
-use Rattle.std.proofs.Common.{◌≡◌, ℕ, ◌+◌, ◌*◌, ◌<◌, inl, inr, Option, Some, None, List, [], ◌∷◌, set, get_or, sym, refl, ap, ◌∙◌, subst, arith, lit<}
+use Rattle.std.proofs.Common.{◌≡◌, ℕ, inl, inr, Some, None, List, [], ◌∷◌, set, sym, refl, ap, ◌∙◌, subst, arith, lit<}
 use Rattle.std.specs.Prelude.{is_some}
 use Rattle.std.proofs.lemmas.Bool.{false≢true}
 use Rattle.std.proofs.lemmas.Option.{none-some}
 use mathlib.Core.Option.{none}
-use Rattle.atomic_table.specs.Table.{Me, step}
+use Rattle.atomic_table.specs.Table.{step}
 use Rattle.mst_key.specs.declared.format.Format.TheVariants.{One}
 use Rattle.mst_key.specs.History.{History}
 use Rattle.mst_key.proofs.HistoryLaws.{IsPrefix-nil}
-use Rattle.mst_pin.specs.declared.event.Event as core
 use Rattle.mst_pin.specs.declared.event.Event.TheVariants.{Pin, Publish, Transfer}
 use Rattle.mst_pin.specs.State.{State, opening, after}
-use Rattle.mst_arena.specs.Lives as lives
 use Rattle.mst_words.specs.declared.view.View.{View}
 use Rattle.mst_words.specs.declared.view.DeskState.{DeskState}
 use Rattle.mst_words.specs.World.{dealer}
 use Rattle.mst_words.specs.Records.{Standing}
-use Rattle.mst_words.specs.Path.{ComesTo, IsPathOf}
+use Rattle.mst_words.specs.Path.{ComesTo}
 use Rattle.mst_words.specs.Steps.{pins_now, takes_turn}
 use Rattle.mst_words.specs.Stored.{desk_state}
 use Rattle.mst_words.specs.Laws.{Table, pinning, trying, asking, transferring}
@@ -25,7 +23,7 @@ use Rattle.mst_words.specs.Moves.{IsReachedBy, GoesBy, IsLedTo}
 use Rattle.mst_words.proofs.Members.{in_first}
 use Rattle.mst_words.proofs.Fresh.{fresh_is_desk}
 use Rattle.mst_words.proofs.Moves.{due_held, led}
-use Rattle.mst_words.proofs.Worked.{T, shape, Mine, fresh, words, begun, begun_ruled, pass, at, one_dealt, dealt, none_seen, cur_is, used, reader, pinned, desk_is, held, writer, Ready, turn_taken, slot, asked, found, event, later, publisher, published, after_words, after_views, moved}
+use Rattle.mst_words.proofs.Worked.{T, shape, fresh, words, begun, begun_ruled, pass, at, one_dealt, dealt, none_seen, cur_is, used, reader, pinned, desk_is, held, writer, Ready, turn_taken, slot, asked, found, event, later, publisher, published, after_words, after_views, moved}
 
 abbrev of : (ws : List ℕ) (vs : List View) → Ready ws vs → Table
 of ws vs h = record { words = ws; homes = h.homes; views = vs }

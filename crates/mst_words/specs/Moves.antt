@@ -1,5 +1,6 @@
 -- The steps of the table, each with the events that it adds to the list by which the core of pins
--- comes to the table. Only a pin, the end of a pin, a publication and a transfer add one.
+-- comes to the table. Only a pin, the end of a pin, a publication and a transfer add one. To take
+-- the desk out of the slot or to lay it back changes nothing of the table.
 use Rattle.std.specs.Prelude.{◌≡◌, ◌⊎◌, ℕ, ◌-◌, ◌*◌, ◌^◌, ◌<◌, ◌==◌, if◌then◌else◌, true, List, [], ◌∷◌, ◌++◌, slice_index, slice_set, bit_xor, Option, None}
 use Rattle.atomic_table.specs.Table.{Step}
 use Rattle.mst_key.specs.declared.history.Event.{Event}

@@ -29,7 +29,8 @@ impl<A: Allocator + Copy> Board<A> {
         requires free { IsFree number seat.old.me }
         requires few { number ≤ most_passes }
         ensures same { (seat.new.table_id ≡ seat.old.table_id) × (seat.new.id ≡ seat.old.id) }
-        ensures pinned { (found : ℕ) × (p : PinsNow (stored seat.old.me.0.format) seat.old.me found seat.new.me)
+        ensures pinned { (found : ℕ)
+            × (p : PinsNow (stored seat.old.me.0.format) seat.old.me found seat.new.me)
             × (p.cur ≡ result) }
     {
         let found = self

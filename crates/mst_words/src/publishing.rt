@@ -60,7 +60,8 @@ impl<A: Allocator + Copy> Board<A> {
         requires wide { self.now.words ≡ table_words seat.old.me.0.rows }
         requires named { (J.event ≡ event.now) × (J.desk ≡ desk_state desk.now) }
         requires ready { (used : List ℕ)
-            × IsReady (stored seat.old.me.0.format) into event.now (desk_state desk.now) used seat.old.me.0 }
+            × IsReady (stored seat.old.me.0.format) into event.now (desk_state desk.now)
+            used seat.old.me.0 }
         ensures same { (seat.new.table_id ≡ seat.old.table_id) × (seat.new.id ≡ seat.old.id) }
         ensures published { Publishes event.now
             (desk_state desk.now) seat.old.me result seat.new.me }

@@ -72,7 +72,8 @@ impl<A: Allocator + Copy> Board<A> {
 impl<'a, A: Allocator + Copy> PassSeat<'a, A> {
     /// The token of the seat, apart from the board. [`Board::seat`] makes the seat of it again.
     pub fn into_token(self) -> Token<A>
-        ensures same { self.entry ≡ record { table = result.table_id; id = result.id; me = result.me } }
+        ensures same { self.entry
+            ≡ record { table = result.table_id; id = result.id; me = result.me } }
         ensures wide { self.entry.table.words ≡ table_words self.entry.me.0.rows }
     {
         let PassSeat { board: _, token } = self;
@@ -132,7 +133,8 @@ impl<'a, A: Allocator + Copy> PassSeat<'a, A> {
         requires free { IsFree number self.old.me }
         requires few { number ≤ most_passes }
         ensures same { IsSameSeat self.old self.new }
-        ensures pinned { (found : ℕ) × (p : PinsNow (stored self.old.me.0.format) self.old.me found self.new.me)
+        ensures pinned { (found : ℕ)
+            × (p : PinsNow (stored self.old.me.0.format) self.old.me found self.new.me)
             × (p.cur ≡ result) }
     {
         self.board.pin(&mut self.token, number)
@@ -209,7 +211,8 @@ impl<'a, A: Allocator + Copy> PassSeat<'a, A> {
     pub fn publish<J: Naming>(&mut self, into: u32, event: &Event, desk: &Desk<A>) -> u64
         requires named { (J.event ≡ event.now) × (J.desk ≡ desk_state desk.now) }
         requires ready { (used : List ℕ)
-            × IsReady (stored self.old.me.0.format) into event.now (desk_state desk.now) used self.old.me.0 }
+            × IsReady (stored self.old.me.0.format) into event.now (desk_state desk.now)
+            used self.old.me.0 }
         ensures same { IsSameSeat self.old self.new }
         ensures published { Publishes event.now
             (desk_state desk.now) self.old.me result self.new.me }
