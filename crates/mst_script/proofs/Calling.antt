@@ -104,7 +104,7 @@ written change p q (Ok old) a is ok err = (
 written change p q (Err write.Busy) a is ok err = (p.seen, [], busy_of p q err.0, inr (inl (ap text_of is, err.1), busy_seen p q err.0))
 written change p q (Err write.VersionsSpent) a is ok err = (q.seen, [], looked p q err.0, inr (inr (inl (ap text_of is, err.1)), refl))
 written change p q (Err write.NoRoom) a is ok err =
-    (q.seen, [], looked p q err.0, inr (inr (inr (ap text_of is, err.1, lacks_there change p q err.0 err.2, err.4)), refl))
+    (q.seen, [], looked p q err.0, inr (inr (inr (ap text_of is, err.1, lacks_there change p q err.0 err.2, (q.found, err.4))), refl))
 
 -- ---- migrations
 
@@ -128,7 +128,7 @@ migrated to p q (Err migrate.Memory) a is ok err =
     (q.seen, [], looked p q err.0, inr (inr (inr (other_there to p q err.0 err.3, err.1, inl (ap text_of is))), refl))
 migrated to p q (Err migrate.NoRoom) a is ok err =
     let refused = err.0 in
-    (q.seen, [], looked p q refused.0, inr (inr (inr (other_there to p q refused.0 err.1, refused.1, inr (ap text_of is, refused.1, lacks_there (Migrate to) p q refused.0 refused.2, refused.4))), refl))
+    (q.seen, [], looked p q refused.0, inr (inr (inr (other_there to p q refused.0 err.1, refused.1, inr (ap text_of is, refused.1, lacks_there (Migrate to) p q refused.0 refused.2, (q.found, refused.4)))), refl))
 
 -- ---- commands
 

@@ -64,13 +64,13 @@ LacksMemory text = text ≡ line_of (codes "memory")
 abbrev pub IsSpent : History → List ℕ → Type 0
 IsSpent h text = (text ≡ line_of (codes "spent")) × (length h ≡ last_version)
 
--- There is a next version, and the change finds no room: the versions that are kept hold too many
--- rows, the last one and at most one for each other pass. Where there is one pass, the rows that
--- the map leaves over are too few
+-- There is a next version, and the change finds no room: the last version and those that were found
+-- pinned, fewer than the passes, hold too many rows. Where there is one pass, the rows that the map
+-- leaves over are too few
 abbrev pub HasNoRoom : StoreId → Change → History → List ℕ → Type 0
 HasNoRoom store change h text = (text ≡ line_of (codes "noroom")) × (length h < last_version)
     × (store.passes ≡ 1 → LacksRoom store.rows (format_after store.format h) (after h) change)
-    × LacksKept store.format store.rows store.passes h change
+    × ((found : List ℕ) × LacksKept store.format store.rows store.passes h found change)
 
 -- there is a next version, and in another format the tree finds no memory or no room
 abbrev pub HasNoTree : StoreId → Format → History → List ℕ → Type 0

@@ -26,8 +26,8 @@ length-snoc (y ∷ ys) x = let more = length-snoc ys x in omega (arith, more)
 pub in_front : (x : ℕ) (xs ys : List ℕ) → In x xs → In x (xs ++ ys)
 in_front x xs ys i = omega (arith, times-append x xs ys, i)
 
-pub asked_none : (desk : State) (a : Asked) (m : Seat) → KnowsRecords desk m → m.0.drained ≡ [] → m.0.blocked ≡ [] → a.live.items ≡ version desk ∷ [] → HasAsked 0 desk a m
-asked_none desk a m k d b is =
+pub asked_none : (desk : State) (a : Asked) (m : Seat) → KnowsRecords desk m → m.0.drained ≡ [] → m.0.blocked ≡ [] → m.0.found ≡ [] → a.live.items ≡ version desk ∷ [] → HasAsked 0 desk a m
+asked_none desk a m k d b f is =
     let no_drained : length m.0.drained ≡ 0 = ap (λ (z : List ℕ). length z) d in
     let no_blocked : length m.0.blocked ≡ 0 = ap (λ (z : List ℕ). length z) b in
     let one : length a.live.items ≡ 1 = ap (λ (z : List ℕ). length z) is in
@@ -37,6 +37,7 @@ asked_none desk a m k d b is =
       behind = λ l. absurd (omega (arith, l));
       fewer = let some = k.some in omega (arith, no_blocked, some);
       room = omega (arith, one, no_blocked);
+      live = is ∙ ap (λ (z : List ℕ). version desk ∷ z) (sym f);
       blocked = λ r within. absurd (in_nothing r (subst (λ (z : List ℕ). In r z) b within));
       drained = λ r within. absurd (in_nothing r (subst (λ (z : List ℕ). In r z) d within));
       now = subst (λ (z : List ℕ). In (version desk) z) (sym is) (in_first (version desk) (version desk) [] refl);
@@ -55,6 +56,7 @@ asked_current n desk a m h is = record {
   behind = λ l. let b = h.before (omega (arith, is)) in omega (arith, b);
   fewer = h.fewer;
   room = h.room;
+  live = h.live;
   blocked = λ r within. let l = h.blocked r within in omega (arith, l);
   drained = λ r within. let d = h.drained r within in let l = d.0 in (omega (arith, l), d.1);
   now = h.now;
@@ -74,11 +76,12 @@ asked_drained n desk a b m m' h other is live into = subst (λ (z : Seat). HasAs
         let one : length (n ∷ m.0.drained) ≡ length m.0.drained + 1 = omega arith in
         let k = h.knows in
         record {
-          knows = record { holder = k.holder; some = k.some; few = k.few; current = k.current; there = k.there; records = k.records };
+          knows = record { holder = k.holder; some = k.some; few = k.few; current = k.current; there = k.there; records = k.records; versions = k.versions };
           before = λ l. let e = h.before (omega (arith, l)) in omega (arith, e, one);
           behind = λ l. let e = h.behind (omega (arith, l, other)) in omega (arith, e, one);
           fewer = h.fewer;
           room = ap (λ z. length z.items) live ∙ h.room;
+          live = ap (λ z. z.items) live ∙ h.live;
           blocked = λ r within. let l = h.blocked r within in omega (arith, l);
           drained = λ r within. ⊎_elim (λ (e : r ≡ n). (omega (arith, e), λ (f : r ≡ desk.current). other (sym e ∙ f)))
               (λ (t : In r m.0.drained). let d = h.drained r t in let l = d.0 in (omega (arith, l), d.1)) (in_cases r n m.0.drained within);
@@ -99,17 +102,18 @@ pub asked_blocked : (n : ℕ) (desk : State) (a b : Asked) (m m' : Seat) → Has
     → b.live.items ≡ a.live.items ++ slice_index desk.versions n ∷ [] → b.into ≡ a.into → HasAsked (n + 1) desk b m'
 asked_blocked n desk a b m m' h other is live into = subst (λ (z : Seat). HasAsked (n + 1) desk b z) (sym is.is) known
   where
-    known : HasAsked (n + 1) desk b (record m.0 { blocked = n ∷ m.0.blocked; asked = m.0.asked + 1 }, m.1)
+    known : HasAsked (n + 1) desk b (record m.0 { blocked = n ∷ m.0.blocked; found = m.0.found ++ slice_index m.0.desk.versions n ∷ []; asked = m.0.asked + 1 }, m.1)
     known =
         let one : length (n ∷ m.0.blocked) ≡ length m.0.blocked + 1 = omega arith in
         let longer : length b.live.items ≡ length a.live.items + 1 = ap (λ (z : List ℕ). length z) live ∙ length-snoc a.live.items (slice_index desk.versions n) in
         let k = h.knows in
         record {
-          knows = record { holder = k.holder; some = k.some; few = k.few; current = k.current; there = k.there; records = k.records };
+          knows = record { holder = k.holder; some = k.some; few = k.few; current = k.current; there = k.there; records = k.records; versions = k.versions };
           before = λ l. let e = h.before (omega (arith, l)) in omega (arith, e, one);
           behind = λ l. let e = h.behind (omega (arith, l, other)) in omega (arith, e, one);
           fewer = let f = is.fewer in omega (arith, f, one);
           room = let r = h.room in omega (arith, longer, r, one);
+          live = live ∙ ap (λ (z : List ℕ). z ++ slice_index desk.versions n ∷ []) h.live ∙ ap (λ (z : List ℕ). version desk ∷ (m.0.found ++ slice_index z n ∷ [])) (sym k.versions);
           blocked = λ r within. ⊎_elim (λ (e : r ≡ n). omega (arith, e)) (λ (t : In r m.0.blocked). let l = h.blocked r t in omega (arith, l)) (in_cases r n m.0.blocked within);
           drained = λ r within. let d = h.drained r within in let l = d.0 in (omega (arith, l), d.1);
           now = subst (λ (z : List ℕ). In (version desk) z) (sym live) (in_front (version desk) a.live.items (slice_index desk.versions n ∷ []) h.now);

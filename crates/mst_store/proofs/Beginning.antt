@@ -10,6 +10,7 @@ use Rattle.std.proofs.lemmas.Option.{slice_get_within, slice_get-map}
 use Rattle.std.proofs.lemmas.List.{length-map}
 use Rattle.mst_key.specs.declared.format.Format.{Format}
 use Rattle.mst_key.specs.History.{after, format_after}
+use Rattle.mst_node.specs.Stays.{held}
 use Rattle.mst_arena.specs.Lives.{State, version, reaches, reached_at, free_count, swept_life, IsSettled}
 use Rattle.mst_arena.specs.declared.life.Life.{Life}
 use Rattle.mst_arena.specs.declared.life.Life.TheVariants.{Free, Born, Dead}
@@ -35,7 +36,7 @@ use Rattle.mst_store.specs.declared.turn.Turn.{Turn}
 use Rattle.mst_store.specs.Asking.{KnowsRecords, HasAsked, AsksOnly, AsksEach}
 use Rattle.mst_store.specs.Turns.{Seat, StoodAtAsk, IsKept, AreKept, LeavesFree, HoldsDesk, HasTurn, TakesDesk}
 use Rattle.mst_store.proofs.Asked.{some_drained}
-use Rattle.mst_words.proofs.Members.{each}
+use Rattle.mst_words.proofs.Members.{each, in_later}
 use Rattle.mst_store.proofs.Places.{reached_inside, place_of}
 use Rattle.mst_store.proofs.Pinning.{link_of_root, in_list}
 
@@ -101,8 +102,8 @@ abbrev pub of_turn : {A : Type 0} → State → Root → Format → ℕ → ℕ 
 of_turn {A} desk root format into kept = record { desk = desk; root = root; format = format; into = into; kept = kept }
 
 -- from the seat with the desk out of the slot to the one that has asked
-pub only_asked : (m n m' : Seat) → n ≡ (m.0, (0, None) ∷ []) → AsksOnly n m' → m' ≡ (record m.0 { drained = m'.0.drained; blocked = m'.0.blocked; asked = m'.0.asked }, (0, None) ∷ [])
-only_asked m n m' left is = is ∙ ap (λ (z : Seat). (record z.0 { drained = m'.0.drained; blocked = m'.0.blocked; asked = m'.0.asked }, z.1)) left
+pub only_asked : (m n m' : Seat) → n ≡ (m.0, (0, None) ∷ []) → AsksOnly n m' → m' ≡ (record m.0 { drained = m'.0.drained; blocked = m'.0.blocked; found = m'.0.found; asked = m'.0.asked }, (0, None) ∷ [])
+only_asked m n m' left is = is ∙ ap (λ (z : Seat). (record z.0 { drained = m'.0.drained; blocked = m'.0.blocked; found = m'.0.found; asked = m'.0.asked }, z.1)) left
 
 module _ (before taken : Seat) (p : Takes (stored before.0.format) before taken) where
   -- the format of the current version
@@ -111,63 +112,63 @@ module _ (before taken : Seat) (p : Takes (stored before.0.format) before taken)
 
   -- only what was asked has changed, and the desk is out of the slot
   abbrev pub IsAskedOf : Seat → Type 0
-  IsAskedOf m = m ≡ (record taken.0 { drained = m.0.drained; blocked = m.0.blocked; asked = m.0.asked }, (0, None) ∷ [])
+  IsAskedOf m = m ≡ (record taken.0 { drained = m.0.drained; blocked = m.0.blocked; found = m.0.found; asked = m.0.asked }, (0, None) ∷ [])
 
   -- the view, when some records were found drained and others pinned
-  abbrev asked_view : List ℕ → List ℕ → ℕ → View
-  asked_view drained blocked asked = record before.0 { seen = p.log; known_words = p.words; turn = true; desk = p.desk; due = None; mask = 0; drained = drained; blocked = blocked; noted = None; asked = asked }
+  abbrev asked_view : List ℕ → List ℕ → List ℕ → ℕ → View
+  asked_view drained blocked found asked = record before.0 { seen = p.log; known_words = p.words; turn = true; desk = p.desk; due = None; mask = 0; drained = drained; blocked = blocked; noted = None; found = found; asked = asked }
 
-  abbrev asked_seat : List ℕ → List ℕ → ℕ → Seat
-  asked_seat drained blocked asked = (asked_view drained blocked asked, (0, None) ∷ [])
+  abbrev asked_seat : List ℕ → List ℕ → List ℕ → ℕ → Seat
+  asked_seat drained blocked found asked = (asked_view drained blocked found asked, (0, None) ∷ [])
 
   abbrev turn_of : {A : Type 0} → State → Asked → Root → Turn A
   turn_of {A} desk a root = record { desk = swept_by a.live.items desk; root = root; format = format_there; into = a.into; kept = length a.live.items }
 
-  blank_free : (drained blocked : List ℕ) (asked : ℕ) (a : Asked) → HasAsked (before.0.passes + 2) (state_of p.desk) a (asked_seat drained blocked asked) → (x : ℕ)
-      → slice_get (map (swept_life a.live.items) p.desk.lives) x ≡ Some Free → IsTrue (is_blank (asked_view drained blocked asked) x)
-  blank_free drained blocked asked a h x free =
+  blank_free : (drained blocked found : List ℕ) (asked : ℕ) (a : Asked) → HasAsked (before.0.passes + 2) (state_of p.desk) a (asked_seat drained blocked found asked) → (x : ℕ)
+      → slice_get (map (swept_life a.live.items) p.desk.lives) x ≡ Some Free → IsTrue (is_blank (asked_view drained blocked found asked) x)
+  blank_free drained blocked found asked a h x free =
       let inside : x < length p.desk.lives = free_inside a.live.items p.desk.lives x free in
       let lt : x < before.0.rows = (let r = p.is_desk.rows_is in omega (arith, inside, r)) in
       let there : row_word x 15 < length p.words = (let w = p.wide in omega (arith, lt, w)) in
       let pinless : before.0.pin ≡ None = h.knows.holder.1 in
-      let none : is_unreached (asked_view drained blocked asked) x ≡ true = unreached (before.0.passes + 2) (state_of p.desk) a (asked_seat drained blocked asked) h p.is_desk.settled x free inside in
-      ap (λ (b : Bool). b && nat_lt x before.0.rows && true && is_none before.0.pin && true && is_unreached (asked_view drained blocked asked) x) (lt-ltb (row_word x 15) (length p.words) there)
-      ∙ ap (λ (b : Bool). true && b && true && is_none before.0.pin && true && is_unreached (asked_view drained blocked asked) x) (lt-ltb x before.0.rows lt)
-      ∙ ap (λ (o : Option ℕ). true && true && true && is_none o && true && is_unreached (asked_view drained blocked asked) x) pinless
+      let none : is_unreached (asked_view drained blocked found asked) x ≡ true = unreached (before.0.passes + 2) (state_of p.desk) a (asked_seat drained blocked found asked) h p.is_desk.settled x free inside in
+      ap (λ (b : Bool). b && nat_lt x before.0.rows && true && is_none before.0.pin && true && is_unreached (asked_view drained blocked found asked) x) (lt-ltb (row_word x 15) (length p.words) there)
+      ∙ ap (λ (b : Bool). true && b && true && is_none before.0.pin && true && is_unreached (asked_view drained blocked found asked) x) (lt-ltb x before.0.rows lt)
+      ∙ ap (λ (o : Option ℕ). true && true && true && is_none o && true && is_unreached (asked_view drained blocked found asked) x) pinless
       ∙ none
 
   -- the versions that are live are those of the current record and of the records that were found
   -- pinned
-  kept_of : (drained blocked : List ℕ) (asked : ℕ) (a : Asked) → HasAsked (before.0.passes + 2) (state_of p.desk) a (asked_seat drained blocked asked) → (v : ℕ) → In v a.live.items → IsKept (state_of p.desk) (asked_view drained blocked asked) v
-  kept_of drained blocked asked a h v i = ⊎_elim
+  kept_of : (drained blocked found : List ℕ) (asked : ℕ) (a : Asked) → HasAsked (before.0.passes + 2) (state_of p.desk) a (asked_seat drained blocked found asked) → (v : ℕ) → In v a.live.items → IsKept (state_of p.desk) (asked_view drained blocked found asked) v
+  kept_of drained blocked found asked a h v i = ⊎_elim
       (λ (e : v ≡ version (state_of p.desk)). (p.desk.current, h.knows.there, (λ within. (h.drained p.desk.current within).1 refl), e))
       (λ (t : (r : ℕ) × (r < before.0.passes + 2) × (In r drained → ⊥) × (v ≡ slice_index p.desk.versions r)). t) (h.only v i)
 
-  live_kept : (drained blocked : List ℕ) (asked : ℕ) (a : Asked) → HasAsked (before.0.passes + 2) (state_of p.desk) a (asked_seat drained blocked asked) → (v : ℕ) → IsKept (state_of p.desk) (asked_view drained blocked asked) v → In v a.live.items
-  live_kept drained blocked asked a h v (r, l, out, is) = subst (λ (n : ℕ). In n a.live.items) (sym is) (live_of (before.0.passes + 2) (state_of p.desk) a (asked_seat drained blocked asked) h r l out)
+  live_kept : (drained blocked found : List ℕ) (asked : ℕ) (a : Asked) → HasAsked (before.0.passes + 2) (state_of p.desk) a (asked_seat drained blocked found asked) → (v : ℕ) → IsKept (state_of p.desk) (asked_view drained blocked found asked) v → In v a.live.items
+  live_kept drained blocked found asked a h v (r, l, out, is) = subst (λ (n : ℕ). In n a.live.items) (sym is) (live_of (before.0.passes + 2) (state_of p.desk) a (asked_seat drained blocked found asked) h r l out)
 
-  free_blank : (drained blocked : List ℕ) (asked : ℕ) (a : Asked) → HasAsked (before.0.passes + 2) (state_of p.desk) a (asked_seat drained blocked asked) → (x : ℕ)
-      → is_blank (asked_view drained blocked asked) x ≡ true → slice_get (map (swept_life a.live.items) p.desk.lives) x ≡ Some Free
-  free_blank drained blocked asked a h x blank =
-      let b : IsBlank (stored before.0.format) (asked_view drained blocked asked) x = blank_row (asked_view drained blocked asked) x blank in
+  free_blank : (drained blocked found : List ℕ) (asked : ℕ) (a : Asked) → HasAsked (before.0.passes + 2) (state_of p.desk) a (asked_seat drained blocked found asked) → (x : ℕ)
+      → is_blank (asked_view drained blocked found asked) x ≡ true → slice_get (map (swept_life a.live.items) p.desk.lives) x ≡ Some Free
+  free_blank drained blocked found asked a h x blank =
+      let b : IsBlank (stored before.0.format) (asked_view drained blocked found asked) x = blank_row (asked_view drained blocked found asked) x blank in
       let inside : x < length p.desk.lives = (let r = p.is_desk.rows_is in let l = b.0 in omega (arith, l, r)) in
       (free_swept (state_of p.desk) a.live.items x p.is_desk.settled h.now inside).1
-      (λ v i. let k = kept_of drained blocked asked a h v i in is_not (reaches p.desk.lives v x) (λ (reached : reaches p.desk.lives v x ≡ true). b.1 k.0 k.1 k.2 (subst (λ (n : ℕ). reaches p.desk.lives n x ≡ true) k.3 reached)))
+      (λ v i. let k = kept_of drained blocked found asked a h v i in is_not (reaches p.desk.lives v x) (λ (reached : reaches p.desk.lives v x ≡ true). b.1 k.0 k.1 k.2 (subst (λ (n : ℕ). reaches p.desk.lives n x ≡ true) k.3 reached)))
 
-  counted_rows : (drained blocked : List ℕ) (asked : ℕ) (a : Asked) → HasAsked (before.0.passes + 2) (state_of p.desk) a (asked_seat drained blocked asked) → (live rows : List ℕ) → AreKept (swept_by a.live.items (state_of p.desk)) (asked_view drained blocked asked) live
+  counted_rows : (drained blocked found : List ℕ) (asked : ℕ) (a : Asked) → HasAsked (before.0.passes + 2) (state_of p.desk) a (asked_seat drained blocked found asked) → (live rows : List ℕ) → AreKept (swept_by a.live.items (state_of p.desk)) (asked_view drained blocked found asked) live
       → IsDistinct rows → TogetherReach (map (swept_life a.live.items) p.desk.lives) live rows → free_count (map (swept_life a.live.items) p.desk.lives) + length rows ≡ before.0.rows
-  counted_rows drained blocked asked a h live rows kept once together =
+  counted_rows drained blocked found asked a h live rows kept once together =
       let same : (v : ℕ) → In v a.live.items → (x : ℕ) → reaches (map (swept_life a.live.items) p.desk.lives) v x ≡ reaches p.desk.lives v x = λ v i x. same_swept (state_of p.desk) a.live.items v x i in
       count_swept (state_of p.desk) a.live.items rows p.is_desk.settled h.now once
       (λ x. (
-        (λ (v, i, is). (together x).0 (v, (kept v).1 (kept_of drained blocked asked a h v i), same v i x ∙ is)),
-        (λ i. let t = (together x).1 i in let l = live_kept drained blocked asked a h t.0 ((kept t.0).0 t.1) in (t.0, l, sym (same t.0 l x) ∙ t.2)),
+        (λ (v, i, is). (together x).0 (v, (kept v).1 (kept_of drained blocked found asked a h v i), same v i x ∙ is)),
+        (λ i. let t = (together x).1 i in let l = live_kept drained blocked found asked a h t.0 ((kept t.0).0 t.1) in (t.0, l, sym (same t.0 l x) ∙ t.2)),
       )) ∙ p.is_desk.rows_is
 
-  holds : {A : Type 0} (drained blocked : List ℕ) (asked : ℕ) (a : Asked) (root : Root) → HasAsked (before.0.passes + 2) (state_of p.desk) a (asked_seat drained blocked asked)
-      → HoldsDesk (turn_of {A = A} (state_of p.desk) a root) (asked_seat drained blocked asked)
-  holds {A} drained blocked asked a root h =
-      let into : In a.into drained = h.into (some_drained (state_of p.desk) a (asked_seat drained blocked asked) h) in
+  holds : {A : Type 0} (drained blocked found : List ℕ) (asked : ℕ) (a : Asked) (root : Root) → HasAsked (before.0.passes + 2) (state_of p.desk) a (asked_seat drained blocked found asked)
+      → HoldsDesk (turn_of {A = A} (state_of p.desk) a root) (asked_seat drained blocked found asked)
+  holds {A} drained blocked found asked a root h =
+      let into : In a.into drained = h.into (some_drained (state_of p.desk) a (asked_seat drained blocked found asked) h) in
       record {
         holder = h.knows.holder;
         slot = refl;
@@ -181,9 +182,9 @@ module _ (before taken : Seat) (p : Takes (stored before.0.format) before taken)
         earlier = p.is_desk.earlier;
         agrees = λ r l out. record {
           version = refl;
-          reached = λ x i. same_rows (before.0.passes + 2) (state_of p.desk) a (asked_seat drained blocked asked) h r x l out ∙ i;
-          exactly = λ x i. sym (same_rows (before.0.passes + 2) (state_of p.desk) a (asked_seat drained blocked asked) h r x l out) ∙ i;
-          ages = λ x v _ i. let same = same_ages a.live.items p.desk.lives (slice_index p.desk.versions r) x v (live_of (before.0.passes + 2) (state_of p.desk) a (asked_seat drained blocked asked) h r l out) i in ((λ is. same ∙ is), (λ is. sym same ∙ is));
+          reached = λ x i. same_rows (before.0.passes + 2) (state_of p.desk) a (asked_seat drained blocked found asked) h r x l out ∙ i;
+          exactly = λ x i. sym (same_rows (before.0.passes + 2) (state_of p.desk) a (asked_seat drained blocked found asked) h r x l out) ∙ i;
+          ages = λ x v _ i. let same = same_ages a.live.items p.desk.lives (slice_index p.desk.versions r) x v (live_of (before.0.passes + 2) (state_of p.desk) a (asked_seat drained blocked found asked) h r l out) i in ((λ is. same ∙ is), (λ is. sym same ∙ is));
         };
         into_drained = into;
         into_in = (h.drained a.into into).0;
@@ -201,24 +202,24 @@ module _ (before taken : Seat) (p : Takes (stored before.0.format) before taken)
       )
 
   -- each version that is live has its place in rows
-  places : (drained blocked : List ℕ) (asked : ℕ) (a : Asked) → HasAsked (before.0.passes + 2) (state_of p.desk) a (asked_seat drained blocked asked) → (v : ℕ) → In v a.live.items → (v ≤ length p.log) × HasPlace before.0.format p.desk.lives p.log v
-  places drained blocked asked a h v i = ⊎_elim (λ (e : v ≡ version (state_of p.desk)). current v e)
+  places : (drained blocked found : List ℕ) (asked : ℕ) (a : Asked) → HasAsked (before.0.passes + 2) (state_of p.desk) a (asked_seat drained blocked found asked) → (v : ℕ) → In v a.live.items → (v ≤ length p.log) × HasPlace before.0.format p.desk.lives p.log v
+  places drained blocked found asked a h v i = ⊎_elim (λ (e : v ≡ version (state_of p.desk)). current v e)
       (λ (t : (r : ℕ) × (r < before.0.passes + 2) × (In r drained → ⊥) × (v ≡ slice_index p.desk.versions r)). dite (ℕ_discrete t.0 p.desk.current)
       (λ same. current v (t.3 ∙ ap (λ (r : ℕ). slice_index p.desk.versions r) same))
-      (λ other. let stood : StoodAtAsk t.0 (asked_view drained blocked asked) = h.stood t.0 (h.found t.0 t.1 other t.2) in
+      (λ other. let stood : StoodAtAsk t.0 (asked_view drained blocked found asked) = h.stood t.0 (h.found t.0 t.1 other t.2) in
       place_of before.0.format before.0.rows before.0.passes p.words p.log p.desk t.0 stood.0 stood.1 p.is_desk.rows_is stood.2 v t.3)) (h.only v i)
     where
       current : (v : ℕ) → v ≡ version (state_of p.desk) → (v ≤ length p.log) × HasPlace before.0.format p.desk.lives p.log v
       current v e = place_of before.0.format before.0.rows before.0.passes p.words p.log p.desk p.desk.current p.log p.used p.is_desk.rows_is p.stands v e
 
-  leaves : (drained blocked : List ℕ) (asked : ℕ) (a : Asked) → HasAsked (before.0.passes + 2) (state_of p.desk) a (asked_seat drained blocked asked) → LeavesFree before.0.format (map (swept_life a.live.items) p.desk.lives) p.log (length a.live.items) before.0.rows
-  leaves drained blocked asked a h = record {
-    live = a.live.items;
-    now = subst (λ (v : ℕ). In v a.live.items) p.stands.filed h.now;
-    below = λ v i. (places drained blocked asked a h v i).0;
-    as_many = refl;
-    left = held_free before.0.format (state_of p.desk) p.log a.live.items p.is_desk.settled h.now (places drained blocked asked a h) ∙ p.is_desk.rows_is;
-  }
+  leaves : (drained blocked found : List ℕ) (asked : ℕ) (a : Asked) → HasAsked (before.0.passes + 2) (state_of p.desk) a (asked_seat drained blocked found asked) → LeavesFree before.0.format (map (swept_life a.live.items) p.desk.lives) p.log found (length a.live.items) before.0.rows
+  leaves drained blocked found asked a h =
+      let live : a.live.items ≡ length p.log ∷ found = h.live ∙ ap (λ (v : ℕ). v ∷ found) p.stands.filed in record {
+        below = λ v i. (places drained blocked found asked a h v (subst (λ (l : List ℕ). In v l) (sym live) (in_later v (length p.log) found i))).0;
+        as_many = (let long : length (length p.log ∷ found) ≡ length found + 1 = omega arith in sym (ap (λ (l : List ℕ). length l) live ∙ long));
+        left = ap (λ (l : List ℕ). free_count (map (swept_life a.live.items) p.desk.lives) + held before.0.format p.log l) (sym live)
+            ∙ held_free before.0.format (state_of p.desk) p.log a.live.items p.is_desk.settled h.now (places drained blocked found asked a h) ∙ p.is_desk.rows_is;
+      }
 
   -- the rows of the map keep their ages in the sweep
   swept_ages : (a : Asked) → In (version (state_of p.desk)) a.live.items → SameAges p.desk.lives (map (swept_life a.live.items) p.desk.lives) p.log (numbers p.stands.aged.0.0)
@@ -226,31 +227,31 @@ module _ (before taken : Seat) (p : Takes (stored before.0.format) before taken)
       let within : In x p.used = subst (In x) p.stands.aged.0.1 i in
       same_ages a.live.items p.desk.lives (version (state_of p.desk)) x v now (subst (λ (n : ℕ). reaches p.desk.lives n x ≡ true) (sym p.stands.filed) (p.stands.reached x within))
 
-  known : {A : Type 0} (drained blocked : List ℕ) (asked : ℕ) (a : Asked) (root : Root) → HasAsked (before.0.passes + 2) (state_of p.desk) a (asked_seat drained blocked asked) → root ≡ root_in (field p.words p.desk.current)
-      → HasTurn (turn_of {A = A} (state_of p.desk) a root) (asked_seat drained blocked asked)
-  known {A} drained blocked asked a root h here =
-      let v : View = asked_view drained blocked asked in
+  known : {A : Type 0} (drained blocked found : List ℕ) (asked : ℕ) (a : Asked) (root : Root) → HasAsked (before.0.passes + 2) (state_of p.desk) a (asked_seat drained blocked found asked) → root ≡ root_in (field p.words p.desk.current)
+      → HasTurn (turn_of {A = A} (state_of p.desk) a root) (asked_seat drained blocked found asked)
+  known {A} drained blocked found asked a root h here =
+      let v : View = asked_view drained blocked found asked in
       let s = p.stands.aged.0 in
       let content : AllByRecursion (λ x. content_of v x ≡ rows_in (row p.words) x) (numbers s.0) = subst (AllByRecursion (λ x. content_of v x ≡ rows_in (row p.words) x)) (sym s.1)
       (each (λ x. content_of v x ≡ rows_in (row p.words) x) p.used (λ x within. reads_held v x refl (p.stands.inside x within))) in
       let t = aged_frame before.0.format format_there (rows_in (row p.words)) (content_of v) (root_in (field p.words p.desk.current)) root p.log p.desk.lives (map (swept_life a.live.items) p.desk.lives) s.0 content here (swept_ages a h.now) p.stands.aged.1 in
       record {
-        holds = holds {A = A} drained blocked asked a root h;
+        holds = holds {A = A} drained blocked found asked a root h;
         settled = settled_swept (state_of p.desk) a.live.items p.is_desk.settled;
         format = refl;
         stands = t.0;
         reached = λ x. subst (λ (used : List ℕ). reaches (map (swept_life a.live.items) p.desk.lives) (version (state_of p.desk)) x ≡ true ↔ In x used) (sym (t.1 ∙ s.1)) (reached_now a h.now x);
         aged = t.2;
-        blank = λ x free. blank_free drained blocked asked a h x free;
-        free = λ x blank. free_blank drained blocked asked a h x blank;
+        blank = λ x free. blank_free drained blocked found asked a h x free;
+        free = λ x blank. free_blank drained blocked found asked a h x blank;
         kept = λ r l out other. h.found r l other out;
         stood = h.stood;
         now = (p.desk.current, h.knows.there, (λ within. (h.drained p.desk.current within).1 refl), refl);
         fewer = h.fewer;
         number = h.room;
         there = h.knows.there;
-        count = λ live rows kept once together. counted_rows drained blocked asked a h live rows kept once together;
-        leaves = leaves drained blocked asked a h;
+        count = λ live rows kept once together. counted_rows drained blocked found asked a h live rows kept once together;
+        leaves = leaves drained blocked found asked a h;
       }
 
   pub slot_there : taken.1 ≡ (0, Some (state_of p.desk)) ∷ []
@@ -261,8 +262,8 @@ module _ (before taken : Seat) (p : Takes (stored before.0.format) before taken)
   desk_there desk slot = ap (λ (s : List (ℕ × Option State)). desk_in s desk) (sym slot ∙ slot_there)
 
   -- what was asked is all that has changed since
-  whole : (m : Seat) → IsAskedOf m → m ≡ asked_seat m.0.drained m.0.blocked m.0.asked
-  whole m is = is ∙ ap (λ (z : Seat). (record z.0 { drained = m.0.drained; blocked = m.0.blocked; asked = m.0.asked }, (0, None) ∷ [])) p.is
+  whole : (m : Seat) → IsAskedOf m → m ≡ asked_seat m.0.drained m.0.blocked m.0.found m.0.asked
+  whole m is = is ∙ ap (λ (z : Seat). (record z.0 { drained = m.0.drained; blocked = m.0.blocked; found = m.0.found; asked = m.0.asked }, (0, None) ∷ [])) p.is
 
   -- the link that the current record has
   pub link_there : (desk : State) (m : Seat) (which : ℕ) → taken.1 ≡ (0, Some desk) ∷ [] → IsAskedOf m → which ≡ desk.current → taken.0.rows ≤ 65535 → field m.0.known_words which 1 ≤ 65535
@@ -283,24 +284,24 @@ module _ (before taken : Seat) (p : Takes (stored before.0.format) before taken)
       → HasAsked (passes + 2) desk a m → which ≡ desk.current → root ≡ root_in (field m.0.known_words which) → format ≡ format_there → live ≡ a.live.items → swept_life ≡ swept_by live desk → HasTurn (of_turn {A = A} swept_life root format a.into kept) m
   ready {A} desk swept_life a live root format m which passes kept number slot is few h current here in_format all by =
       let d : desk ≡ state_of p.desk = desk_there desk slot in
-      let w : m ≡ asked_seat m.0.drained m.0.blocked m.0.asked = whole m is in
+      let w : m ≡ asked_seat m.0.drained m.0.blocked m.0.found m.0.asked = whole m is in
       let n : passes ≡ before.0.passes = few ∙ ap (λ (z : Seat). z.0.passes) p.is in
-      let known_asked : HasAsked (before.0.passes + 2) (state_of p.desk) a (asked_seat m.0.drained m.0.blocked m.0.asked) = subst (λ (z : Seat). HasAsked (before.0.passes + 2) (state_of p.desk) a z) w
+      let known_asked : HasAsked (before.0.passes + 2) (state_of p.desk) a (asked_seat m.0.drained m.0.blocked m.0.found m.0.asked) = subst (λ (z : Seat). HasAsked (before.0.passes + 2) (state_of p.desk) a z) w
       (subst (λ (s : State). HasAsked (before.0.passes + 2) s a m) d (subst (λ (k : ℕ). HasAsked (k + 2) desk a m) n h)) in
       let root_is : root ≡ root_in (field p.words p.desk.current) = here ∙ ap (λ (z : Seat). root_in (field z.0.known_words which)) w ∙ ap (λ (r : ℕ). root_in (field p.words r)) (current ∙ ap (λ (s : State). s.current) d) in
       let swept_is : swept_life ≡ swept_by a.live.items (state_of p.desk) = by ∙ ap (λ (l : List ℕ). swept_by l desk) all ∙ ap (λ (s : State). swept_by a.live.items s) d in
       subst (λ (s : State). HasTurn (of_turn {A = A} s root format a.into kept) m) (sym swept_is)
       (subst (λ (k : ℕ). HasTurn (of_turn {A = A} (swept_by a.live.items (state_of p.desk)) root format a.into k) m) (sym number)
       (subst (λ (f : Format). HasTurn (of_turn {A = A} (swept_by a.live.items (state_of p.desk)) root f a.into (length a.live.items)) m) (sym in_format)
-      (subst (λ (z : Seat). HasTurn (of_turn {A = A} (swept_by a.live.items (state_of p.desk)) root format_there a.into (length a.live.items)) z) (sym w) (known {A = A} m.0.drained m.0.blocked m.0.asked a root known_asked root_is))))
+      (subst (λ (z : Seat). HasTurn (of_turn {A = A} (swept_by a.live.items (state_of p.desk)) root format_there a.into (length a.live.items)) z) (sym w) (known {A = A} m.0.drained m.0.blocked m.0.found m.0.asked a root known_asked root_is))))
 
 -- the turn may be given back once the desk lies in the slot again
-pub giving : {A : Type 0} (t : Turn A) (m m' : Seat) → HasTurn t m → m' ≡ (m.0, (0, Some t.desk) ∷ []) → IsGiving (stored m'.0.format) (Some t.desk) (desk_state t.desk) m'
-giving t m m' h is = let k = h.holds in subst (λ (z : Seat). IsGiving (stored z.0.format) (Some t.desk) (desk_state t.desk) z) (sym is) record {
+pub giving : {A : Type 0} (t : Turn A) (m m' : Seat) → HoldsDesk t m → IsSettled t.desk → m' ≡ (m.0, (0, Some t.desk) ∷ []) → IsGiving (stored m'.0.format) (Some t.desk) (desk_state t.desk) m'
+giving t m m' k settled is = subst (λ (z : Seat). IsGiving (stored z.0.format) (Some t.desk) (desk_state t.desk) z) (sym is) record {
   on = k.holder.0;
   settled = k.holder.2;
   slot = refl;
-  is_desk = record { there = refl; rows_is = k.rows_is; records = k.records; settled = h.settled; earlier = k.earlier };
+  is_desk = record { there = refl; rows_is = k.rows_is; records = k.records; settled = settled; earlier = k.earlier };
   current = k.current;
   agrees = k.agrees;
 }
@@ -313,7 +314,7 @@ module _ (before : Seat) (desk : State) (m : Seat) (out : TakesDesk before desk 
 
   -- the view of the holder of the turn
   abbrev holding : View
-  holding = record before.0 { seen = p.log; known_words = p.words; turn = true; desk = p.desk; due = None; mask = 0; drained = []; blocked = []; noted = None; asked = before.0.asked + 1 }
+  holding = record before.0 { seen = p.log; known_words = p.words; turn = true; desk = p.desk; due = None; mask = 0; drained = []; blocked = []; noted = None; found = []; asked = before.0.asked + 1 }
 
   same_desk : desk ≡ state_of p.desk
   same_desk = desk_there before out.0 p desk out.2
@@ -327,6 +328,9 @@ module _ (before : Seat) (desk : State) (m : Seat) (out : TakesDesk before desk 
   pub none_blocked : m.0.blocked ≡ []
   none_blocked = ap (λ (z : Seat). z.0.blocked) has_out
 
+  pub none_found : m.0.found ≡ []
+  none_found = ap (λ (z : Seat). z.0.found) has_out
+
   -- the records may be asked
   pub knows : (passes : ℕ) → IsHolder m → passes ≡ m.0.passes → passes ≤ 32 → KnowsRecords desk m
   knows passes holder size few = subst (λ (z : Seat). KnowsRecords desk z) (sym has_out) record {
@@ -336,6 +340,7 @@ module _ (before : Seat) (desk : State) (m : Seat) (out : TakesDesk before desk 
     current = sym (ap (λ (s : State). s.current) same_desk);
     there = subst (λ (s : State). s.current < before.0.passes + 2) (sym same_desk) p.stands.numbered;
     records = ap (λ (s : State). length s.versions) same_desk ∙ p.is_desk.records;
+    versions = sym (ap (λ (s : State). s.versions) same_desk);
   }
 
 -- every record but the current one was asked, once

@@ -20,11 +20,11 @@ use Rattle.mst_path.proofs.lemmas.versions.Versions.{room_alone, rows_of_map}
 use Rattle.mst_words.specs.declared.view.View.{View}
 use Rattle.mst_words.specs.Access.{content_of}
 use Rattle.mst_words.specs.Notes.{IsOfPasses}
-use Rattle.mst_words.proofs.Members.{in_nothing, contained, within}
+use Rattle.mst_words.proofs.Members.{in_nothing, within}
 use Rattle.mst_store.specs.declared.turn.Turn.{Turn}
 use Rattle.mst_store.specs.declared.faults.WriteFault.TheVariants.{NoRoom}
 use Rattle.mst_store.specs.Turns.{Seat, IsKept, AreKept, LeavesFree, HasTurn, Begun, Added}
-use Rattle.mst_store.specs.Writes.{made_at_seat, rows_of, rows_taken, Made, LacksRows, WroteAtSeat, LookedAtSeat, LacksKept, RefusesAtSeat}
+use Rattle.mst_store.specs.Writes.{made_at_seat, rows_of, rows_taken, Made, LacksRows, WroteAtSeat, LookedAtSeat, AreFound, FindsRoom, LacksKept, RefusesAtSeat}
 use Rattle.mst_store.proofs.Asked.{in_last}
 
 dead_more : (b d : ℕ) (life : Life) (old new : List Life) → frees old ≤ frees new → frees (Dead b d ∷ old) ≤ frees (life ∷ new)
@@ -86,17 +86,35 @@ module _ {A : Type 0} (m m1 : Seat) (t : Turn A) (b : Begun m t m1) where
   pub format_now : t.format ≡ format_after m.0.format m1.0.seen
   format_now = b.has.format ∙ ap (λ (v : View). format_after v.format m1.0.seen) b.rest
 
-  -- the versions that are kept leave too few rows free
-  lacks_kept : (change : Change) → LacksRows change t m1 → LacksKept m.0.format m.0.rows m.0.passes m1.0.seen change
-  lacks_kept change lacks = let l = subst (λ (f : Format). LeavesFree f t.desk.lives m1.0.seen t.kept m1.0.rows) (ap (λ (v : View). v.format) b.rest) b.has.leaves in let n = ap (λ (v : View). v.rows) b.rest in let k = ap (λ (v : View). v.passes) b.rest in record {
-    live = l.live;
-    now = contained (length m1.0.seen) l.live l.now;
-    below = λ v has. l.below v (within v l.live has);
-    few = (let as_many = l.as_many in let number = b.has.number in let fewer = b.has.fewer in omega (arith, as_many, number, fewer, k));
-    fits = (let left = l.left in omega (arith, left, n));
-    costs = (let taken = subst (λ (f : Format). free_count t.desk.lives < rows_taken f (after m1.0.seen) change) format_now lacks in omega (arith, taken));
-    lacks = (let left = l.left in let taken = subst (λ (f : Format). free_count t.desk.lives < rows_taken f (after m1.0.seen) change) format_now lacks in omega (arith, left, taken, n));
+  leaves : LeavesFree m.0.format t.desk.lives m1.0.seen m1.0.found t.kept m1.0.rows
+  leaves = subst (λ (f : Format). LeavesFree f t.desk.lives m1.0.seen m1.0.found t.kept m1.0.rows) (ap (λ (v : View). v.format) b.rest) b.has.leaves
+
+  -- the versions that were found pinned
+  pub are_found : AreFound m.0.passes m1.0.seen m1.0.found
+  are_found = record {
+    few = (let as_many = leaves.as_many in let number = b.has.number in let fewer = b.has.fewer in let k = ap (λ (v : View). v.passes) b.rest in omega (arith, as_many, number, fewer, k));
+    below = λ v has. leaves.below v (within v m1.0.found has);
   }
+
+  -- the versions that are kept leave too few rows free
+  lacks_kept : (change : Change) → LacksRows change t m1 → LacksKept m.0.format m.0.rows m.0.passes m1.0.seen m1.0.found change
+  lacks_kept change lacks =
+      let left = leaves.left in let n = ap (λ (v : View). v.rows) b.rest in
+      let taken = subst (λ (f : Format). free_count t.desk.lives < rows_taken f (after m1.0.seen) change) format_now lacks in record {
+        are = are_found;
+        fits = omega (arith, left, n);
+        costs = omega (arith, taken);
+        lacks = omega (arith, left, taken, n);
+      }
+
+  -- or enough
+  finds_room : (change : Change) → rows_taken t.format (after m1.0.seen) change ≤ free_count t.desk.lives → FindsRoom m.0.format m.0.rows m.0.passes m1.0.seen m1.0.found change
+  finds_room change enough =
+      let left = leaves.left in let n = ap (λ (v : View). v.rows) b.rest in
+      let taken = subst (λ (f : Format). rows_taken f (after m1.0.seen) change ≤ free_count t.desk.lives) format_now enough in record {
+        are = are_found;
+        fits = omega (arith, left, taken, n);
+      }
 
   -- the turn was given back with the history as it was
   module _ (m2 m' : Seat) (still : m2 ≡ m1) (gave : m' ≡ (record m2.0 { turn = false }, [])) where
@@ -114,7 +132,7 @@ module _ {A : Type 0} (m m1 : Seat) (t : Turn A) (b : Begun m t m1) where
           (λ one. subst (λ (log : History). m.0.rows < rows_of (format_after m.0.format log) (after log) + rows_taken (format_after m.0.format log) (after log) change) (sym seen)
               (subst (λ (f : Format). m.0.rows < rows_of f (after m1.0.seen) + rows_taken f (after m1.0.seen) change) format_now
               (let f = b.has.fewer in let k = ap (λ (v : View). v.passes) b.rest in let all = room_alone_left t m1 b.has (omega (arith, f, k, one)) in let n = ap (λ (v : View). v.rows) b.rest in omega (arith, all, lacks, n)))),
-          subst (λ (log : History). LacksKept m.0.format m.0.rows m.0.passes log change) (sym seen) (lacks_kept change lacks),
+          subst (λ (z : Seat). LacksKept m.0.format m.0.rows m.0.passes z.0.seen z.0.found change) (sym back) (lacks_kept change lacks),
         )
 
   -- the version that was made is published
@@ -125,6 +143,7 @@ module _ {A : Type 0} (m m1 : Seat) (t : Turn A) (b : Begun m t m1) where
     own = b.own;
     numbered = early;
     room = subst (λ (f : Format). rows_of f (after m1.0.seen) + rows_taken f (after m1.0.seen) e.change ≤ m.0.rows) format_now (let r = made.rows in let n = ap (λ (v : View). v.rows) b.rest in omega (arith, room, r, n));
+    beside = subst (λ (found : List ℕ). FindsRoom m.0.format m.0.rows m.0.passes m1.0.seen found e.change) (sym (added.found ∙ ap (λ (z : Seat). z.0.found) made.kept)) (finds_room e.change (let r = made.rows in omega (arith, r)));
     answer = made.answer ∙ ap (λ (v : View). reply_of (format_after v.format m1.0.seen) (after m1.0.seen) e.change) b.rest;
     seen = now;
     alone = subst (IsOfPasses m.0.passes) (sym now) (one_longer m.0.passes m1.0.seen e b.alone (let d = b.dealt in let pos = d.0 in let low = d.1 in omega (arith, by, pos)) (let d = b.dealt in let low = d.1 in omega (arith, by, low)));

@@ -1,14 +1,15 @@
 -- How many rows the map takes, as the holder of the turn counts them.
-use Rattle.std.specs.Prelude.{◌≡◌, ℕ, ◌+◌, IsSome, Option, Some}
+use Rattle.std.specs.Prelude.{◌≡◌, ◌↔◌, ℕ, ◌+◌, [], IsSome, Option, Some}
 use Rattle.mst_key.specs.History.{after, format_after, events_of, IsPrefix}
 use Rattle.mst_words.specs.Notes.{IsOfPasses}
 use Rattle.mst_store.specs.Turns.{Seat}
-use Rattle.mst_store.specs.Writes.{rows_of}
+use Rattle.mst_store.specs.Writes.{rows_of, AreFound}
 
 -- The pass has now seen a history that begins with all that it had seen, its events in it are its
 -- own, and each event is of a pass of the store. A number that was found is that of the rows that
--- the map of this history takes; in a store of one pass one is found. The turn was tried once and
--- taken, each record but the current one asked once, and the current one by two loads
+-- the map of this history takes; one is found exactly where no version was found pinned, and so in a
+-- store of one pass. The turn was tried once and taken, each record but the current one asked once,
+-- and the current one by two loads
 pub record Counts (m : Seat) (found : Option ℕ) (m' : Seat) : Type 0 where
   pub later : IsPrefix m.0.seen m'.0.seen
   pub own : events_of m.0.number m'.0.seen ≡ m.0.mine
@@ -17,5 +18,7 @@ pub record Counts (m : Seat) (found : Option ℕ) (m' : Seat) : Type 0 where
   pub number : (n : ℕ) → found ≡ Some n
       → n ≡ rows_of (format_after m'.0.format m'.0.seen) (after m'.0.seen)
   pub found_alone : m.0.passes ≡ 1 → IsSome found
+  pub exact : IsSome found ↔ (m'.0.found ≡ [])
+  pub are : AreFound (m.0.passes + 1) m'.0.seen m'.0.found
   pub asked : m'.0.asked ≡ m.0.asked + m.0.passes + 4
   pub missed : m'.0.missed ≡ m.0.missed

@@ -15,7 +15,7 @@ use Rattle.mst_store.specs.declared.reading.PinnedRoot.{PinnedRoot}
 use Rattle.mst_store.specs.Pinned.{HasPinned}
 use Rattle.mst_store.specs.declared.faults.WriteFault.{WriteFault}
 use Rattle.mst_store.specs.declared.faults.WriteFault.TheVariants.{Busy, VersionsSpent, NoRoom}
-use Rattle.mst_store.specs.Writes.{rows_of, rows_taken, LacksKept}
+use Rattle.mst_store.specs.Writes.{rows_of, rows_taken, FindsRoom, LacksKept}
 
 -- which store it is, its size, and the format of its version 0
 pub record StoreId : Type 0 where
@@ -27,7 +27,8 @@ pub record StoreId : Type 0 where
 -- Which store a pass is of, its number, the history that it has seen, and its own events. And how
 -- many of its steps so far had an answer that depends on what other passes do: a loop that waits
 -- for another pass makes such a step in each turn. And how many of these were tries of the turn
--- that missed, since another pass had it
+-- that missed, since another pass had it. And which versions it found pinned when it had the turn
+-- last
 pub record Known : Type 0 where
   pub store : StoreId
   pub number : ℕ
@@ -35,6 +36,7 @@ pub record Known : Type 0 where
   pub mine : History
   pub asked : ℕ
   pub missed : ℕ
+  pub found : List ℕ
 
 -- which store a seat is of
 abbrev pub store_of : access.Seated → StoreId
@@ -50,6 +52,7 @@ known number s = record {
   mine = s.me.0.mine;
   asked = s.me.0.asked;
   missed = s.me.0.missed;
+  found = s.me.0.found;
 }
 
 -- What a pinned pass shows to callers: of what it has seen the history at its pin, which lasts
@@ -62,6 +65,7 @@ known_at_pin number s = record {
   mine = s.me.0.mine;
   asked = s.me.0.asked;
   missed = s.me.0.missed;
+  found = s.me.0.found;
 }
 
 -- The pass has no pin and not the turn, and its events in what it has seen are its own
@@ -99,7 +103,15 @@ HasShape shape store = (store.rows ≡ shape.rows) × (store.passes ≡ shape.pa
 -- a pass that has seen and done nothing
 abbrev pub new_pass : StoreId → ℕ → Known
 new_pass store number =
-    record { store = store; number = number; seen = []; mine = []; asked = 0; missed = 0 }
+    record {
+      store = store;
+      number = number;
+      seen = [];
+      mine = [];
+      asked = 0;
+      missed = 0;
+      found = [];
+    }
 
 -- the first passes of a store, in the order of their numbers from 1
 abbrev pub first_passes : StoreId → ℕ → List Known
@@ -158,8 +170,9 @@ LacksRoom rows format m change = rows < rows_of format m + rows_taken format m c
 
 -- A write added its event right behind a history that begins with all that the pass had seen, and
 -- answered what that history replies. The pass has now seen both, its events there are its own, and
--- each event is of a pass of the store. It tried the turn once and got it, asked each record but
--- the current one once, and published once
+-- each event is of a pass of the store. The change found room beside the versions that were found
+-- pinned. The pass tried the turn once and got it, asked each record but the current one once, and
+-- published once
 pub record Wrote (e : Event) (p : Known) (answered : Reply) (q : Known) : Type 0 where
   pub log : History
   pub same : IsSamePass p q
@@ -171,6 +184,7 @@ pub record Wrote (e : Event) (p : Known) (answered : Reply) (q : Known) : Type 0
   pub alone : IsOfPasses q.store.passes q.seen
   pub numbered : length log < last_version
   pub room : HasRoom p.store.rows (format_after p.store.format log) (after log) e.change
+  pub beside : FindsRoom p.store.format p.store.rows p.store.passes log q.found e.change
   pub asked : q.asked ≡ p.asked + p.store.passes + 3
   pub missed : q.missed ≡ p.missed
 
@@ -178,14 +192,14 @@ pub record Wrote (e : Event) (p : Known) (answered : Reply) (q : Known) : Type 0
 abbrev pub FindsBusy : Known → Known → Type 0
 FindsBusy p q = (q ≡ having_missed 1 p) × (1 < p.store.passes)
 
--- Why a change was refused. Nothing was added to the history. There is no room where the versions
--- that are kept hold too many rows: the last one, and at most one for each other pass. In a store
--- of one pass there is no room exactly where the rows that the map leaves over are too few
+-- Why a change was refused. Nothing was added to the history. There is no room exactly where the
+-- last version and those that were found pinned hold too many rows. In a store of one pass this is
+-- where the rows that the map leaves over are too few
 abbrev pub Refuses : WriteFault → Change → Known → Known → Type 0
 Refuses Busy change p q = FindsBusy p q
 Refuses VersionsSpent change p q =
-    Looks p q × (length q.seen ≡ last_version) × (q.asked ≡ p.asked + 1)
+    Looks p q × (length q.seen ≡ last_version) × (q.asked ≡ p.asked + 1) × (q.found ≡ [])
 Refuses NoRoom change p q = Looks p q × (length q.seen < last_version)
     × (p.store.passes ≡ 1 → LacksRoom q.store.rows (format_seen q) (after q.seen) change)
     × (q.asked ≡ p.asked + p.store.passes + 2)
-    × LacksKept p.store.format p.store.rows p.store.passes q.seen change
+    × LacksKept p.store.format p.store.rows p.store.passes q.seen q.found change

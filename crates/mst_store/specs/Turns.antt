@@ -64,15 +64,13 @@ IsKept desk v n =
 abbrev pub AreKept : State → View → List ℕ → Type 0
 AreKept desk v live = (n : ℕ) → In n live ↔ IsKept desk v n
 
--- Of the history so many versions are kept: the last one, and none above it. All rows are free but
--- those that they hold. The format is that of version 0
+-- Of the history so many versions are kept: the last one, and those that were found pinned, none of
+-- them above it. All rows are free but those that they hold. The format is that of version 0
 pub record LeavesFree (first : Format) (lives : List Life)
-    (log : History) (kept rows : ℕ) : Type 0 where
-  pub live : List ℕ
-  pub now : In (length log) live
-  pub below : (v : ℕ) → In v live → v ≤ length log
-  pub as_many : length live ≡ kept
-  pub left : free_count lives + held first log live ≡ rows
+    (log : History) (found : List ℕ) (kept rows : ℕ) : Type 0 where
+  pub below : (v : ℕ) → In v found → v ≤ length log
+  pub as_many : length found + 1 ≡ kept
+  pub left : free_count lives + held first log (length log ∷ found) ≡ rows
 
 -- The map of the whole history stands at the root, in the format that the history leaves, on exactly
 -- the rows that the current version reaches, and no write is under way. The rows that may be written are free, and no others: all
@@ -99,7 +97,7 @@ pub record HasTurn {A : Type 0} (t : Turn A) (m : Seat) : Type 0 where
   pub count : (live rows : List ℕ) → AreKept t.desk m.0 live → IsDistinct rows
       → TogetherReach t.desk.lives live rows
       → free_count t.desk.lives + length rows ≡ m.0.rows
-  pub leaves : LeavesFree m.0.format t.desk.lives m.0.seen t.kept m.0.rows
+  pub leaves : LeavesFree m.0.format t.desk.lives m.0.seen m.0.found t.kept m.0.rows
 
 -- the turn was taken, and the desk out of the slot
 abbrev pub TakesDesk : Seat → State → Seat → Type 0
@@ -125,6 +123,7 @@ pub record Begun {A : Type 0} (m : Seat) (t : Turn A) (m' : Seat) : Type 0 where
     drained = m'.0.drained;
     blocked = m'.0.blocked;
     noted = None;
+    found = m'.0.found;
     asked = m'.0.asked;
   }
   pub asked : m'.0.asked ≡ m.0.asked + m.0.passes + 2
@@ -147,6 +146,7 @@ pub record Spent (m m' : Seat) : Type 0 where
       drained = [];
       blocked = [];
       noted = None;
+      found = [];
       asked = m.0.asked + 1;
     },
     [],
@@ -176,6 +176,7 @@ pub record HasMade {A : Type 0} (t : Turn A) (root : Root) (format : Format)
 pub record Added (e : Event) (m m' : Seat) : Type 0 where
   pub seen : m'.0.seen ≡ m.0.seen ++ e ∷ []
   pub mine : m'.0.mine ≡ m.0.mine ++ e ∷ []
+  pub found : m'.0.found ≡ m.0.found
   pub asked : m'.0.asked ≡ m.0.asked + 1
   pub missed : m'.0.missed ≡ m.0.missed
   pub free : (m'.1 ≡ []) × (m'.0.turn ≡ false) × (m'.0.pin ≡ None)

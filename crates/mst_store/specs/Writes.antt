@@ -43,18 +43,33 @@ pub record Made {A : Type 0} (change : Change) (t : Turn A) (m : Seat)
       ≡ free_count t.desk.lives
   pub kept : m' ≡ (record m.0 { known_words = m'.0.known_words }, m.1)
 
--- Versions are kept that hold too many of these rows for the change, which takes some; what they
--- hold is there. The last one is among them, none is above it, and they are at most as many as the
--- passes. The format is that of version 0
+-- the versions that were found pinned are fewer than n, and none is above the last one
+pub record AreFound (n : ℕ) (log : History) (found : List ℕ) : Type 0 where
+  pub few : length found < n
+  pub below : (v : ℕ) → Contains found v → v ≤ length log
+
+-- what the last version holds in rows together with those that were found pinned. The format is
+-- that of version 0, here and below
+abbrev pub rows_kept : Format → History → List ℕ → ℕ
+rows_kept first log found = held first log (length log ∷ found)
+
+-- how many rows a change takes behind a history
+abbrev pub rows_needed : Format → History → Change → ℕ
+rows_needed first log change = rows_taken (format_after first log) (after log) change
+
+-- the change finds room among the rows beside what is kept
+pub record FindsRoom (first : Format) (rows passes : ℕ)
+    (log : History) (found : List ℕ) (change : Change) : Type 0 where
+  pub are : AreFound passes log found
+  pub fits : rows_kept first log found + rows_needed first log change ≤ rows
+
+-- What is kept holds too many of the rows for the change, which takes some; what it holds is there
 pub record LacksKept (first : Format) (rows passes : ℕ)
-    (log : History) (change : Change) : Type 0 where
-  pub live : List ℕ
-  pub now : Contains live (length log)
-  pub below : (v : ℕ) → Contains live v → v ≤ length log
-  pub few : length live ≤ passes
-  pub fits : held first log live ≤ rows
-  pub costs : 0 < rows_taken (format_after first log) (after log) change
-  pub lacks : rows < held first log live + rows_taken (format_after first log) (after log) change
+    (log : History) (found : List ℕ) (change : Change) : Type 0 where
+  pub are : AreFound passes log found
+  pub fits : rows_kept first log found ≤ rows
+  pub costs : 0 < rows_needed first log change
+  pub lacks : rows < rows_kept first log found + rows_needed first log change
 
 -- fewer rows are free than the change takes
 abbrev pub LacksRows : {A : Type 0} → Change → Turn A → Seat → Type 0
@@ -76,6 +91,7 @@ pub record WroteAtSeat (e : Event) (m : Seat) (answered : Reply) (m' : Seat) : T
   pub numbered : length log < last_version
   pub room : rows_of (format_after m.0.format log) (after log)
       + rows_taken (format_after m.0.format log) (after log) e.change ≤ m.0.rows
+  pub beside : FindsRoom m.0.format m.0.rows m.0.passes log m'.0.found e.change
   pub answer : answered ≡ reply m.0.format log e
   pub seen : m'.0.seen ≡ log ++ e ∷ []
   pub mine : m'.0.mine ≡ m.0.mine ++ e ∷ []
@@ -99,7 +115,7 @@ abbrev pub LacksAtSeat : Seat → Seat → Change → Type 0
 LacksAtSeat m m' change = m.0.rows < rows_of (format_after m.0.format m'.0.seen) (after m'.0.seen)
     + rows_taken (format_after m.0.format m'.0.seen) (after m'.0.seen) change
 
--- Why a change was refused. There is no room where the versions that are kept hold too many rows.
+-- Why a change was refused. There is no room exactly where what is kept holds too many rows.
 -- In a store of one pass the map alone is kept, so there is none exactly where the rows that it
 -- leaves over are too few
 abbrev pub RefusesAtSeat : WriteFault → Change → Seat → Seat → Type 0
@@ -107,4 +123,4 @@ RefusesAtSeat Busy change m m' = Misses m m'
 RefusesAtSeat VersionsSpent change m m' = Spent m m'
 RefusesAtSeat NoRoom change m m' = LookedAtSeat m m' × (length m'.0.seen < last_version)
     × (m.0.passes ≡ 1 → LacksAtSeat m m' change)
-    × LacksKept m.0.format m.0.rows m.0.passes m'.0.seen change
+    × LacksKept m.0.format m.0.rows m.0.passes m'.0.seen m'.0.found change

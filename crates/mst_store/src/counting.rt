@@ -14,7 +14,8 @@ use std::alloc::Allocator;
 // record, as it was noted, is then what its own word says.
 fn where_alone(used: u32, kept: u32, noted: u64, done: u64) -> Option<u32>
     ensures alone { kept ≡ 1 → noted % 4294967296 ≡ done → result ≡ Some used }
-    ensures only { IfSome result (λ n. (n ≡ used) × (kept ≡ 1)) }
+    ensures only { IfSome result
+        (λ n. (n ≡ used) × (kept ≡ 1) × (noted % 4294967296 ≡ done)) }
 {
     if kept == 1 && noted % 4_294_967_296 == done {
         Some(used)
@@ -24,8 +25,8 @@ fn where_alone(used: u32, kept: u32, noted: u64, done: u64) -> Option<u32>
 }
 
 /// How many rows the map of the current version takes: all rows but those that are free once no
-/// other version is kept. It answers `None` where some pass was found to pin a version; in a store
-/// of one pass it never does.
+/// other version is kept. It answers `None` exactly where a version was found pinned; in a store of
+/// one pass it never does.
 ///
 /// The turn is taken, each record is asked, the rows that no version reaches are freed, and the
 /// turn is given back. `Busy` comes only where another pass has the turn. It takes no memory.

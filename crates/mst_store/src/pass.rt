@@ -1,5 +1,5 @@
 //! A pass: the calls that one thread makes.
-ghost use Rattle.std.specs.Prelude.{◌≡◌, ◌+◌, ◌<◌, ◌^◌, length, IfOk, IfErr, IfSome, IsSome, OnOk, OnErr};
+ghost use Rattle.std.specs.Prelude.{◌≡◌, ◌↔◌, ◌+◌, ◌<◌, ◌^◌, [], length, IfOk, IfErr, IfSome, IsSome, OnOk, OnErr};
 ghost use Rattle.mst_key.specs.declared.history.Change.TheVariants.{Put, Remove, Migrate};
 ghost use Rattle.mst_key.specs.Map.{map_get, map_next, map_range};
 ghost use Rattle.mst_node.specs.Text.{root};
@@ -7,7 +7,7 @@ ghost use Rattle.mst_node.specs.Trail.{proof_text};
 ghost use Rattle.std.specs.Option.{option_copied};
 ghost use Rattle.mst_store.specs.Passes.{Looks, Answers, format_seen, having_asked, made_by, Wrote, FindsBusy, Refuses};
 ghost use Rattle.mst_key.specs.History.{after, had, was, IsMigration};
-ghost use Rattle.mst_store.specs.Writes.{rows_of};
+ghost use Rattle.mst_store.specs.Writes.{rows_of, AreFound};
 ghost use Rattle.mst_store.specs.Migrating.{RefusesMigration};
 
 use crate::faults::{Busy, MigrateFault, WriteFault};
@@ -159,8 +159,8 @@ impl<'a, A: Allocator + Copy> Pass<'a, A> {
     }
 
     /// How many rows the map takes, one for each key and one for each node of its tree; or `None`
-    /// where some pass was found to pin a version, which never comes in a store of one pass. It
-    /// takes no memory.
+    /// exactly where a version was found pinned, which never comes in a store of one pass. It takes
+    /// no memory.
     ///
     /// `Busy` comes only where another pass has the turn.
     pub fn rows(&mut self) -> Result<Option<u32>, Busy>
@@ -168,6 +168,9 @@ impl<'a, A: Allocator + Copy> Pass<'a, A> {
         ensures some { IfOk result
             (λ found. IfSome found (λ n. n ≡ rows_of (format_seen self.new) (after self.new.seen))) }
         ensures alone { IfOk result (λ found. self.old.store.passes ≡ 1 → IsSome found) }
+        ensures exact { IfOk result (λ found. IsSome found ↔ (self.new.found ≡ [])) }
+        ensures found { OnOk result
+            (AreFound (self.old.store.passes + 1) self.new.seen self.new.found) }
         ensures steps { OnOk result (self.new.asked ≡ self.old.asked + self.old.store.passes + 4) }
         ensures busy { OnErr result (FindsBusy self.old self.new) }
     {

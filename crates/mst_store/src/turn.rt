@@ -1,11 +1,11 @@
 //! The turn: from taking it with the desk to giving both back.
 ghost use Rattle.std.specs.Prelude.{◌≡◌, ◌<◌, ◌≤◌, ◌+◌, ◌∷◌, [], length, IfSome, IfNone, IfOk, IfErr, OnOk, Some, None, false};
 ghost use Rattle.mst_words.specs.Access.{IsSameSeat};
-ghost use Rattle.mst_arena.specs.Lives.{last_version};
+ghost use Rattle.mst_arena.specs.Lives.{last_version, IsSettled};
 ghost use Rattle.mst_words.specs.Steps.{IsFree, IsHolder, IsGiving, Misses};
 ghost use Rattle.mst_words.specs.Stored.{stored, desk_state};
 ghost use Rattle.mst_store.specs.Asking.{KnowsRecords, HasAsked, AsksOnly, AsksEach};
-ghost use Rattle.mst_store.specs.Turns.{Seat, TakesDesk, HasTurn, Begun, IsNotBegun};
+ghost use Rattle.mst_store.specs.Turns.{Seat, TakesDesk, HoldsDesk, HasTurn, Begun, IsNotBegun};
 
 use crate::roots::{read_format, read_root};
 use arrayvec::ArrayVec;
@@ -75,7 +75,8 @@ impl Asked {
 fn ask_others<A: Allocator + Copy>(seat: &mut PassSeat<'_, A>, desk: &Desk<A>, passes: u32) -> Asked
     requires knows { KnowsRecords desk.now seat.old.me }
     requires passes { passes ≡ seat.old.me.0.passes }
-    requires none { (seat.old.me.0.drained ≡ []) × (seat.old.me.0.blocked ≡ []) }
+    requires none { (seat.old.me.0.drained ≡ []) × (seat.old.me.0.blocked ≡ [])
+        × (seat.old.me.0.found ≡ []) }
     ensures same { IsSameSeat seat.old seat.new }
     ensures kept { AsksOnly seat.old.me seat.new.me }
     ensures counted { AsksEach seat.old.me seat.new.me }
@@ -202,7 +203,8 @@ pub(crate) fn begin_write<A: Allocator + Copy>(
 
 /// Gives the turn back with the history as it was: one exchange and one store.
 pub(crate) fn give_back<A: Allocator + Copy>(seat: &mut PassSeat<'_, A>, turn: Turn<A>)
-    requires turn { HasTurn turn seat.old.me }
+    requires holds { HoldsDesk turn seat.old.me }
+    requires settled { IsSettled turn.desk }
     ensures same { IsSameSeat seat.old seat.new }
     ensures gave { seat.new.me ≡ (record seat.old.me.0 { turn = false }, []) }
 {

@@ -90,7 +90,7 @@ module _ {S : Type 0} (T : Meaning S) (framed : IsFramed T) (R N : ℕ) where
 
   -- a word is loaded, and nothing is said of it
   pub glances_allows : (slots id i : ℕ) (me : Me S View) → Allows (Ruled T R N) slots id me i (λ n. n) (glances (step slots i 0 0 none) me)
-  glances_allows slots id i me s whole _ at _ = (record me.0 { asked = me.0.asked + 1 }, keeps, tt, ruled T framed R N _ (counted T framed R N s whole.parts id i me.1 me.0 me.0.missed at), refl)
+  glances_allows slots id i me s whole _ at _ = (record me.0 { asked = me.0.asked + 1 }, keeps, tt, ruled T framed R N _ (counted T framed R N s whole.parts id i me.1 me.0 me.0.found me.0.missed at), refl)
 
   -- a note is written, and the writer's own view stays
   pub note_splits : (id : ℕ) (v : View) → Splits (Ruled T R N) id v v (note_of v)

@@ -16,7 +16,7 @@ use Rattle.mst_arena.specs.Lists.{In}
 use Rattle.mst_words.specs.Pins.{done, pin_bit, Blamed}
 use Rattle.mst_words.specs.Records.{Meaning, IsFramed, IsLive, Agrees, Standing}
 use Rattle.mst_words.specs.Rule.{Turn, Parts, Ruled}
-use Rattle.mst_words.specs.Steps.{IsReady, publishes, transfers, IsHolder, asks, notes_current, asks_current}
+use Rattle.mst_words.specs.Steps.{IsReady, publishes, transfers, IsHolder, asks, notes_current, asks_current, found_now}
 use Rattle.mst_words.proofs.Worlds.{world_set, world_add}
 use Rattle.mst_words.proofs.Seats.{same_view}
 use Rattle.mst_words.proofs.Turns.{turn_held, only_one}
@@ -156,7 +156,7 @@ module _ {S : Type 0} (T : Meaning S) (framed : IsFramed T) (R N : ℕ) where
             (still_same N (get_or s.words 1 0) (get_or s.words 1 0) s.views id w v q.still at refl refl refl)),
         (r, refl, (λ _. refl), (λ not. absurd (not zero_there))),
       ))
-      (λ some_there. let w : View = record v { blocked = r ∷ v.blocked; asked = v.asked + 1 } in let not_due : q.due ≢ Some r = (λ e. let f : None ≡ Some r = sym settled ∙ (q.pins.holder id v at on).due_is ∙ e in absurd (let c = f in cc)) in
+      (λ some_there. let w : View = record v { blocked = r ∷ v.blocked; found = v.found ++ T.version v.desk r ∷ []; asked = v.asked + 1 } in let not_due : q.due ≢ Some r = (λ e. let f : None ≡ Some r = sym settled ∙ (q.pins.holder id v at on).due_is ∙ e in absurd (let c = f in cc)) in
       let t = some_seat s q r inside not_cur not_due some_there small in let b = q.counts.blamed id v at on in
       let some_pass = ((q.pins.seats t.0 t.1 t.2).pinned r t.3).0 in
       let more : Blamed N v.number q.cur s.views (t.1.number ∷ b.0) (r ∷ v.blocked) = blamed_more N v.number q.cur s.views t.0 t.1 r t.2 t.3 not_cur some_pass (dealt s q t.0 t.1 t.2) (apart_numbers s q id t.0 v t.1 r at t.2 free t.3)
@@ -190,9 +190,9 @@ module _ {S : Type 0} (T : Meaning S) (framed : IsFramed T) (R N : ℕ) where
   -- ---- the current record is asked
   pub asks_current_allows : (slots id r : ℕ) (me : Me S View) → IsHolder me → r ≡ me.0.desk.current → Allows (Ruled T R N) slots id me (r + 2) (λ n. n) (asks_current (step slots (r + 2) 0 0 none) me)
   asks_current_allows slots id r me holder here s whole _ at _ = let q = whole.parts in (
-    record me.0 { asked = me.0.asked + 1 },
+    record me.0 { found = me.0.found ++ found_now me.0.noted (get_or s.words (r + 2) 0) (length me.0.seen); asked = me.0.asked + 1 },
     keeps,
     tt,
-    ruled T framed R N _ (counted T framed R N s q id (r + 2) me.1 me.0 me.0.missed at),
+    ruled T framed R N _ (counted T framed R N s q id (r + 2) me.1 me.0 (me.0.found ++ found_now me.0.noted (get_or s.words (r + 2) 0) (length me.0.seen)) me.0.missed at),
     (ap (λ (z : ℕ). z + 2) here, record { is = refl; alone = λ one mask small noted. ap (done s.words) here ∙ alone T R N s q id me.0 at holder.0 holder.1 one mask small noted }),
   )

@@ -53,10 +53,11 @@ module _ {S : Type 0} (T : Meaning S) (framed : IsFramed T) (R N : ℕ) where
       subst (λ (z : List ℕ). Parts T R N record { words = z; homes = s.homes; views = set s.views id w }) (sym (set-get_or s.words i 0))
       (view_set s q id v w at rows passes format number deals pin pinned_history pinned_rows known_words turn kept fits drains counts still)
 
-  -- a step is counted, which may have been a try of the turn, and nothing else changes
-  pub counted : (s : State S View) (q : Parts T R N s) (id i : ℕ) (cs : List (ℕ × S)) (v : View) (missed : ℕ) → SeatAt s.views id v
-      → Parts T R N (stepped s i (get_or s.words i 0) id cs (record v { asked = v.asked + 1; missed = missed }) keeps)
-  counted s q id i cs v missed at = let w : View = record v { asked = v.asked + 1; missed = missed } in let f = q.world.fits id v at in
+  -- a step is counted, which may have been a try of the turn or found a version pinned, and nothing
+  -- else changes
+  pub counted : (s : State S View) (q : Parts T R N s) (id i : ℕ) (cs : List (ℕ × S)) (v : View) (found : List ℕ) (missed : ℕ) → SeatAt s.views id v
+      → Parts T R N (stepped s i (get_or s.words i 0) id cs (record v { found = found; asked = v.asked + 1; missed = missed }) keeps)
+  counted s q id i cs v found missed at = let w : View = record v { found = found; asked = v.asked + 1; missed = missed } in let f = q.world.fits id v at in
       looked s q id i cs v w at refl refl refl refl refl refl refl refl refl refl (λ on. ((q.turn.holder id v at on).2, refl)) (record { seen = f.seen; told = f.told; own = f.own; mine = f.mine; pinned = f.pinned })
       (drains_same N q.cur q.mask q.due q.beside s.words s.words s.views id v w q.pins at refl refl refl refl refl)
       (counts_same N q.cur s.views id v w q.counts at refl (inl refl) refl refl)

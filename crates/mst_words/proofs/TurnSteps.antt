@@ -32,8 +32,8 @@ two_passes a b next passes p q apart l m few = omega (arith, apart)
 module _ {S : Type 0} (T : Meaning S) (framed : IsFramed T) (R N : ℕ) where
   -- ---- the turn is taken
   pub taken : (s : St T framed R N) (q : Parts T R N s) (id p : ℕ) (v : View) → get_elem? s.views id ≡ some v → v.number ≡ p → 0 < p → v.pin ≡ None → (x : S) → s.homes ≡ some x ∷ [] → q.due ≡ None → get_or s.words 0 0 ≡ 0
-      → Parts T R N (stepped s 0 p id [] (record v { seen = q.log; known_words = s.words; turn = true; desk = q.desk; due = None; mask = 0; drained = []; blocked = []; noted = None; asked = v.asked + 1 }) (takes 0 x))
-  taken s q id p v at number some_pass unpinned x homes settled free = let w : View = record v { seen = q.log; known_words = s.words; turn = true; desk = q.desk; due = None; mask = 0; drained = []; blocked = []; noted = None; asked = v.asked + 1 } in let ws : List ℕ = set s.words 0 p in
+      → Parts T R N (stepped s 0 p id [] (record v { seen = q.log; known_words = s.words; turn = true; desk = q.desk; due = None; mask = 0; drained = []; blocked = []; noted = None; found = []; asked = v.asked + 1 }) (takes 0 x))
+  taken s q id p v at number some_pass unpinned x homes settled free = let w : View = record v { seen = q.log; known_words = s.words; turn = true; desk = q.desk; due = None; mask = 0; drained = []; blocked = []; noted = None; found = []; asked = v.asked + 1 } in let ws : List ℕ = set s.words 0 p in
       let upper : (k : ℕ) → 36 ≤ k → get_or ws k 0 ≡ get_or s.words k 0 = λ k l. stays s.words 0 p k (λ f. omega arith) in record {
         log = q.log;
         next = q.next;
@@ -76,7 +76,7 @@ module _ {S : Type 0} (T : Meaning S) (framed : IsFramed T) (R N : ℕ) where
   pub takes_allows : (slots id p number : ℕ) (me : Me S View) → p ≡ number → IsFree number me → Allows (Ruled T R N) slots id me 0 (λ n. either (eqb n 0) p n) (takes_turn T (step slots 0 0 p none) me)
   takes_allows slots id p number me same free s whole _ at _ = let q = whole.parts in exchanged (get_or s.words 0 0) 0 p
       (λ n. (w : View) × (a : Act S) × Valid s.homes me.1 a × Ruled T R N (stepped s 0 n id me.1 w a) × takes_turn T (step slots 0 0 p none) me (get_or s.words 0 0) (w, carried_after me.1 a))
-      (λ hit. let h = q.turn.free hit in let w : View = record me.0 { seen = q.log; known_words = s.words; turn = true; desk = q.desk; due = None; mask = 0; drained = []; blocked = []; noted = None; asked = me.0.asked + 1 } in let place = q.world.placed id me.0 at in (
+      (λ hit. let h = q.turn.free hit in let w : View = record me.0 { seen = q.log; known_words = s.words; turn = true; desk = q.desk; due = None; mask = 0; drained = []; blocked = []; noted = None; found = []; asked = me.0.asked + 1 } in let place = q.world.placed id me.0 at in (
         w,
         takes 0 h.0,
         ap (λ (l : List (mathlib.Core.Option.Option S)). get_elem? l 0) h.1,
@@ -107,7 +107,7 @@ module _ {S : Type 0} (T : Meaning S) (framed : IsFramed T) (R N : ℕ) where
         record me.0 { asked = me.0.asked + 1; missed = me.0.missed + 1 },
         keeps,
         tt,
-        ruled T framed R N _ (counted T framed R N s q id 0 me.1 me.0 (me.0.missed + 1) at),
+        ruled T framed R N _ (counted T framed R N s q id 0 me.1 me.0 me.0.found (me.0.missed + 1) at),
         (refl, (λ hit. absurd (miss hit)), (λ _. record { is = refl; others = other_holder s q id number me at free miss })),
       ))
 

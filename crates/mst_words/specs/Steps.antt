@@ -2,7 +2,7 @@
 -- after: its view, and what it holds of the slot; and on which word it is made. A step whose answer
 -- depends on what other passes do adds one to `asked`, and a try of the turn that misses one to
 -- `missed`.
-use Rattle.std.specs.Prelude.{◌≡◌, ◌≢◌, ◌⊎◌, ℕ, ◌+◌, ◌*◌, ◌<◌, ◌≤◌, true, false, List, [], ◌∷◌, ◌++◌, length, slice_index, slice_set, Some, None}
+use Rattle.std.specs.Prelude.{◌≡◌, ◌≢◌, ◌⊎◌, ℕ, ◌+◌, ◌*◌, ◌%◌, ◌<◌, ◌≤◌, ◌==◌, if◌then◌else◌, true, false, List, [], ◌∷◌, ◌++◌, length, slice_index, slice_set, Option, Some, None}
 use Rattle.atomic_table.specs.Table.{Me, Step}
 use Rattle.mst_key.specs.declared.history.Change.TheVariants.{Remove}
 use Rattle.mst_key.specs.declared.history.Event.{Event}
@@ -32,6 +32,12 @@ IsDoneAtPin v i = (r : ℕ) × (v.pin ≡ Some r) × (i ≡ done_word r)
 -- the word DONE of the record whose transfer waits
 abbrev pub IsDoneAtDue : View → ℕ → Type 0
 IsDoneAtDue v i = (r : ℕ) × (v.due ≡ Some r) × (i ≡ done_word r)
+
+-- the version, if its record's word DONE is not the mask of the word that was noted
+abbrev pub found_now : Option ℕ → ℕ → ℕ → List ℕ
+found_now None done version = []
+found_now (Some word) done version =
+    if word % 4294967296 == done then [] else version ∷ []
 
 module _ {S : Type 0} where
   -- a pass that has neither the turn nor the slot nor a pin
@@ -144,11 +150,17 @@ module _ {S : Type 0} where
   abbrev pub notes_current : Step S → Me S View → ℕ → Me S View → Type 0
   notes_current st m r m' = (st.word ≡ current_word) × NotesCurrent m r m'
 
-  -- In a store of one pass, which pins nothing while it has the turn, the word DONE of the current
-  -- record is the mask that was noted. In a larger store nothing is said of the word: others may
-  -- pin the record and end their pins between the two loads
+  -- The current version was found pinned where the word DONE of its record is not the mask that was
+  -- noted. In a store of one pass, which pins nothing while it has the turn, it is that mask. In a
+  -- larger store others may pin the record and end their pins between the two loads
   pub record AsksCurrent (m : Me S View) (r : ℕ) (m' : Me S View) : Type 0 where
-    pub is : m' ≡ (record m.0 { asked = m.0.asked + 1 }, m.1)
+    pub is : m' ≡ (
+      record m.0 {
+        found = m.0.found ++ found_now m.0.noted r (length m.0.seen);
+        asked = m.0.asked + 1;
+      },
+      m.1,
+    )
     pub alone : m.0.passes ≡ 1 → (mask : ℕ) → mask < 4294967296
         → m.0.noted ≡ Some (m.0.desk.current * 4294967296 + mask) → r ≡ mask
 
@@ -198,6 +210,7 @@ module _ {S : Type 0} (T : Meaning S) where
         drained = [];
         blocked = [];
         noted = None;
+        found = [];
         asked = m.0.asked + 1;
       },
       (0, value) ∷ [],
@@ -210,7 +223,14 @@ module _ {S : Type 0} (T : Meaning S) where
     pub place : History
     pub used : List ℕ
     pub stands : Standing T m.0.rows m.0.passes m.0.known_words m.0.seen m.0.desk a place used
-    pub is : m' ≡ (record m.0 { blocked = a ∷ m.0.blocked; asked = m.0.asked + 1 }, m.1)
+    pub is : m' ≡ (
+      record m.0 {
+        blocked = a ∷ m.0.blocked;
+        found = m.0.found ++ T.version m.0.desk a ∷ [];
+        asked = m.0.asked + 1;
+      },
+      m.1,
+    )
 
   -- the record is the one whose word DONE was loaded
   abbrev pub asks : Step S → Me S View → ℕ → Me S View → Type 0

@@ -75,6 +75,7 @@ idle rows passes first number deals = record {
   drained = [];
   blocked = [];
   noted = None;
+  found = [];
   asked = 0;
   missed = 0;
 }

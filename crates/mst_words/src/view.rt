@@ -62,6 +62,9 @@ pub struct View {
     pub blocked: LinkedList<u32>,
     /// The word of the current record, as the holder of the turn has noted it.
     pub noted: Option<u64>,
+    /// The versions that the seat found pinned when it had the turn last, in the order in which it
+    /// asked. No part of the rule speaks of them, and they stay when the turn is given back.
+    pub found: LinkedList<u64>,
     /// How many steps of the seat had an answer that depends on what other passes do: a try of the
     /// turn, a pin, a publication, a load of the word of the current record, a question to a
     /// record, and a note that was heard. No part of the rule speaks of it, and no other step

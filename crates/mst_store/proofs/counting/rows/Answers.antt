@@ -4,7 +4,8 @@ use Rattle.mst_store.proofs.counting.rows.Goals as goal
 
 pub give_back-requires : goal.give_back-requires
 give_back-requires g c = let n = c.note_current-noted in let a = c.ask_current-done in record {
-  turn = still_holds c.in-Some.turn c.begin.new.seat.me n.new.self.me a.new.self.me n.result a.result n.ensures.noted a.ensures.asked c.in-Some.ensures.begun.has;
+  holds = still_holds c.in-Some.turn c.begin.new.seat.me n.new.self.me a.new.self.me n.result a.result n.ensures.noted a.ensures.asked c.in-Some.ensures.begun.has;
+  settled = c.in-Some.ensures.begun.has.settled;
 }
 
 pub returns-clause-counted : goal.returns-clause-counted

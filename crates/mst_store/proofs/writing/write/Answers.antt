@@ -4,10 +4,11 @@ use Rattle.mst_key.specs.declared.format.Format.{Format}
 use Rattle.mst_key.specs.declared.history.Event.{Event}
 use Rattle.mst_key.specs.History.{had}
 use Rattle.mst_key.proofs.HistoryLaws.{format_kept}
+use Rattle.mst_arena.specs.Lives.{IsSettled}
 use Rattle.mst_words.specs.declared.view.View.{View}
 use Rattle.mst_words.specs.Access.{Seated}
 use Rattle.mst_store.specs.declared.turn.Turn.{Turn}
-use Rattle.mst_store.specs.Turns.{HasTurn, HasMade}
+use Rattle.mst_store.specs.Turns.{HoldsDesk, HasMade}
 use Rattle.mst_store.specs.Writes.{made_at_seat}
 use Rattle.mst_store.proofs.Written.{own_event, refused, wrote}
 use Rattle.mst_store.proofs.writing.write.Goals as goal
@@ -20,7 +21,8 @@ publish-requires g c = record {
 
 pub give_back-requires : goal.give_back-requires
 give_back-requires g c = let same = c.in-Err.ensures.untouched in record {
-  turn = subst (λ (t : Turn g.row.A.Denot). HasTurn t c.make.new.seat.me) (sym same.0) (subst (λ (z : Seated). HasTurn c.in-Ok.turn z.me) (sym same.1) c.in-Ok.ensures.begun.has);
+  holds = subst (λ (t : Turn g.row.A.Denot). HoldsDesk t c.make.new.seat.me) (sym same.0) (subst (λ (z : Seated). HoldsDesk c.in-Ok.turn z.me) (sym same.1) c.in-Ok.ensures.begun.has.holds);
+  settled = subst (λ (t : Turn g.row.A.Denot). IsSettled t.desk) (sym same.0) c.in-Ok.ensures.begun.has.settled;
 }
 
 pub returns-in-Ok-make-clause-wrote : goal.returns-in-Ok-make-clause-wrote
