@@ -42,6 +42,7 @@ mod place;
 mod reading;
 mod releasing;
 mod root;
+mod short;
 mod sinks;
 mod texts;
 

@@ -4,6 +4,7 @@ ghost use Rattle.sha2.specs.Hashers.{Holds256};
 ghost use Rattle.mst_node.specs.Text.{heading, version, child_text, counted, held_of, held_text};
 
 use crate::hashing::digest;
+use crate::short::ShortText;
 use mst_key::{Format, Memory};
 use sha2::{Digest, Sha256};
 use std::alloc::Allocator;
@@ -30,7 +31,8 @@ pub trait TextSink: Drop {
     }
 
     /// Takes an entry: the child before it, its key, and its value or, in format 2, the SHA-256 of
-    /// that.
+    /// that. It takes an entry of a node in one piece, since each piece costs a hasher some forty
+    /// instructions.
     final fn entry(&mut self, format: Format, child: Option<[u8; 32]>, key: &[u8], value: &[u8])
         requires key { length key.now ≤ 255 }
         requires value { length value.now ≤ 255 }
@@ -38,9 +40,12 @@ pub trait TextSink: Drop {
             → took self.new (m ++ child_text child ++ counted key.now
             ++ held_text format (held_of format value.now)) }
     {
-        self.child(child);
-        take_counted(self, key);
-        take_held(self, format, value);
+        let mut entry = ShortText::new();
+        take_entry(&mut entry, format, child, key, value);
+        match entry.bytes() {
+            Some(bytes) => self.take(bytes),
+            None => take_entry(self, format, child, key, value),
+        }
     }
 
     /// Takes a child, also the last one: a byte 1 and its digest, or a byte 0 for none.
@@ -55,6 +60,25 @@ pub trait TextSink: Drop {
             }
         }
     }
+}
+
+/// Hands over an entry in pieces.
+fn take_entry<S: TextSink>(
+    sink: &mut S,
+    format: Format,
+    child: Option<[u8; 32]>,
+    key: &[u8],
+    value: &[u8],
+)
+    requires key { length key.now ≤ 255 }
+    requires value { length value.now ≤ 255 }
+    ensures entry { (m : List ℕ) → S.took sink.old m
+        → S.took sink.new (m ++ child_text child ++ counted key.now
+        ++ held_text format (held_of format value.now)) }
+{
+    sink.child(child);
+    take_counted(sink, key);
+    take_held(sink, format, value);
 }
 
 /// Hands over bytes behind their number, at most 255.
