@@ -9,7 +9,7 @@ use Rattle.std.proofs.lemmas.Bool.Decides.{nat_tests}
 use Rattle.std.proofs.lemmas.Option.{slice_get_within, slice_get-map}
 use Rattle.std.proofs.lemmas.List.{length-map}
 use Rattle.mst_key.specs.declared.format.Format.{Format}
-use Rattle.mst_key.specs.History.{after, format_after}
+use Rattle.mst_key.specs.History.{format_after}
 use Rattle.mst_node.specs.Stays.{held}
 use Rattle.mst_arena.specs.Lives.{State, version, reaches, reached_at, free_count, swept_life, IsSettled}
 use Rattle.mst_arena.specs.declared.life.Life.{Life}

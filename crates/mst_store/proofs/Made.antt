@@ -10,7 +10,7 @@ use Rattle.mst_node.specs.Tree.{tree}
 use Rattle.mst_node.specs.Cost.{cost}
 use Rattle.mst_arena.specs.Content.{Content}
 use Rattle.mst_arena.specs.Lives.{State, version, reaches, free_count, last_version}
-use Rattle.mst_arena.specs.Standing.{Stands, numbers, tree_of, used}
+use Rattle.mst_arena.specs.Standing.{Stands, numbers, tree_of}
 use Rattle.mst_arena.specs.declared.row.Root.{Root}
 use Rattle.mst_arena.specs.Lists.{In}
 use Rattle.mst_path.specs.Ages.{placed_nodes, IsAged, HasAges}

@@ -1,7 +1,6 @@
 -- From the tree that was planted and the one that was felled to the migration that is made.
-use Rattle.std.proofs.Common.{◌≡◌, ℕ, ◌+◌, ◌<◌, ◌≤◌, ◌&&◌, false, Option, None, List, [], ◌∷◌, length, refl, sym, ap, ◌∙◌, subst, arith}
+use Rattle.std.proofs.Common.{◌≡◌, ℕ, ◌+◌, ◌<◌, ◌≤◌, ◌&&◌, false, None, List, [], ◌∷◌, length, refl, sym, ap, ◌∙◌, subst, arith}
 use Rattle.std.specs.Prelude.{◌≢◌, take, filter}
-use Rattle.std.specs.List.{AllByRecursion}
 use Rattle.std.proofs.lemmas.List.{take_all}
 use Rattle.mst_key.specs.declared.format.Format.{Format}
 use Rattle.mst_key.specs.declared.format.Format.TheVariants.{One, Two}
@@ -9,10 +8,9 @@ use Rattle.mst_key.specs.declared.history.Change.TheVariants.{Migrate}
 use Rattle.mst_key.specs.Map.{Pair, from_on, below, map_range}
 use Rattle.mst_key.specs.History.{History, after, format_after, was}
 use Rattle.mst_node.specs.Tree.{tree}
-use Rattle.mst_node.specs.Cost.{subtrees, same_format, new_rows}
+use Rattle.mst_node.specs.Cost.{same_format}
 use Rattle.mst_node.proofs.Formats as formats
 use Rattle.mst_change.proofs.Formats.{stays}
-use Rattle.mst_arena.specs.Content.{Content}
 use Rattle.mst_arena.specs.Lives.{State, free_count, last_version}
 use Rattle.mst_arena.specs.Lists.{In, times}
 use Rattle.mst_arena.specs.Standing.{Stands, numbers}
@@ -21,7 +19,6 @@ use Rattle.mst_path.specs.Changing.{AreOld}
 use Rattle.mst_path.specs.Felling.{MayFall}
 use Rattle.mst_path.specs.Moves.{Moves}
 use Rattle.mst_path.specs.Planting.{node_count}
-use Rattle.mst_path.specs.Reached.{Changes}
 use Rattle.mst_path.specs.Takes.{Takes, KeepsBut}
 use Rattle.mst_path.proofs.lemmas.cost.NodeCounts.{count_nodes}
 use Rattle.mst_path.proofs.lemmas.rows.Moving.{out_of_times, moves_takes, alive_out, old_stays}

@@ -3,7 +3,6 @@ use Rattle.mst_key.specs.declared.history.Change.TheVariants.{Migrate}
 use Rattle.mst_key.specs.History.{after, was}
 use Rattle.mst_words.specs.Access.{Seated}
 use Rattle.mst_store.specs.Writes.{Made}
-use Rattle.mst_store.proofs.Made.{same_seat}
 use Rattle.mst_store.proofs.Migrated.{lacks_rows, may_fall, moved_made}
 use Rattle.mst_store.proofs.migrating.move_tree.Goals as goal
 

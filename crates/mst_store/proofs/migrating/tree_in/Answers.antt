@@ -1,4 +1,4 @@
-use Rattle.std.proofs.Common.{◌≡◌, None, sym, subst, ◌∙◌, rules}
+use Rattle.std.proofs.Common.{◌≡◌, None, subst, ◌∙◌, rules}
 use Rattle.std.specs.Prelude.{IfOk}
 use Rattle.mst_key.specs.Map.{map_range}
 use Rattle.mst_key.specs.History.{after}
