@@ -1,5 +1,5 @@
 -- The parts of the row that sixteen words spell, each from some of the words.
-use Rattle.std.proofs.Common.{◌≡◌, ℕ, ◌+◌, ◌*◌, ◌/◌, ◌%◌, ◌<◌, ◌≤◌, List, [], ◌∷◌, length, take, drop, map, refl, sym, ◌∙◌, ap, arith, Some, None, Option}
+use Rattle.std.proofs.Common.{◌≡◌, ℕ, ◌+◌, ◌*◌, ◌/◌, ◌%◌, ◌<◌, ◌≤◌, List, [], ◌∷◌, length, take, drop, set, map, refl, sym, ◌∙◌, ap, arith, Some, None, Option}
 use Rattle.std.specs.Prelude.{slice_index, slice_range, option_and_then, IsSome}
 use Rattle.std.specs.List.{range_with_len}
 use Rattle.std.proofs.lemmas.List.{ext_get_or, get_or-take, get_or-drop, length-take-le, length-drop}
@@ -11,8 +11,9 @@ use Rattle.mst_arena.specs.declared.row.HeadLinks.{HeadLinks}
 use Rattle.mst_arena.specs.declared.row.EntryLinks.{EntryLinks}
 use Rattle.mst_arena.specs.Row.{IsRow, HasBytes, head_links, head_digest, entry_links, entry_value}
 use Rattle.mst_arena.specs.Words.{words_of, byte_of_words, row_in, part_in}
+use Rattle.mst_arena.specs.Content.{relinked}
 use Rattle.mst_arena.proofs.Packing.{packed, bytes_back, front_back}
-use Rattle.mst_arena.proofs.Spelling.{words_of_row}
+use Rattle.mst_arena.proofs.Spelling.{words_of_row, row_of_words}
 
 -- words that are loaded one by one
 pub words_at : (words : List ℕ) (a n : ℕ) → a + n ≤ length words → map (slice_index words) (range_with_len a n) ≡ take n (drop a words)
@@ -200,3 +201,11 @@ no_value words len some one v of_value is =
     let e : EntryIn words = entry_of_first words some one in
     let w : v ≡ Some e.value = read_there entry_value words v (of_value words refl (words_at words 8 8 (omega (arith, len)))) e.value (has_part entry_value words _ _ e.row refl) in
     cc (w, is)
+
+-- ---- the same entry with other links
+
+pub relinked_words : (words : List ℕ) (row : Row) (child next : ℕ) → row_in words ≡ Some row → IsSome (entry_links row) → child ≤ 65535 → next ≤ 65535 → row_in (set (set words 1 child) 2 next) ≡ Some (relinked child next row)
+relinked_words words (Entry c n key value) child next e some low small =
+    let is : IsRow (Entry c n key value) × HasBytes (Entry c n key value) × (words_of (Entry c n key value) ≡ words) = words_of_row words (Entry c n key value) e in
+    ap (λ (l : List ℕ). row_in (set (set l 1 child) 2 next)) (sym is.2) ∙ row_of_words (Entry child next key value) (low, small) is.1
+relinked_words words (Head layer count first tail digest) child next e some low small = cc

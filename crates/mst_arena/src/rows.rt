@@ -1,7 +1,7 @@
 //! Rows that a holder may read and write.
-ghost use Rattle.std.specs.Prelude.{◌≡◌, IsTrue, IsSome, Some};
+ghost use Rattle.std.specs.Prelude.{◌≡◌, ◌≤◌, IsTrue, IsSome, IfSome, Some};
 ghost use Rattle.mst_arena.specs.Row.{IsRow, IsHead, head_links, head_digest, entry_links, entry_value};
-ghost use Rattle.mst_arena.specs.Content.{part_at, Writes};
+ghost use Rattle.mst_arena.specs.Content.{part_at, Writes, relinked};
 ghost use Rattle.mst_arena.specs.Ways.{entry_way};
 
 use crate::row::{EntryLinks, HeadLinks, Row};
@@ -43,6 +43,31 @@ pub trait Rows {
         ensures writes { Writes (content self.old) (content self.new) row value.now }
         ensures blank { blank self.new ≡ blank self.old }
         ensures kept { kept self.new ≡ kept self.old };
+
+    /// Copies the entry at a number into a blank row, with another child and another next.
+    fn copy_entry(&mut self, from: u32, to: u32, child: u32, next: u32)
+        requires there { IsSome (part_at entry_links (content self.old) from) }
+        requires blank { IsTrue (blank self.old to) }
+        requires child { child ≤ 65535 }
+        requires next { next ≤ 65535 }
+        ensures writes { IfSome (content self.old from)
+            (λ entry. Writes (content self.old) (content self.new) to (relinked child next entry)) }
+        ensures blank { blank self.new ≡ blank self.old }
+        ensures kept { kept self.new ≡ kept self.old }
+    {
+        match self.read(from) {
+            Row::Entry { key, value, .. } => {
+                let entry = Row::Entry {
+                    child,
+                    next,
+                    key,
+                    value,
+                };
+                self.write(to, &entry);
+            }
+            Row::Head { .. } => unreachable!(),
+        }
+    }
 
     /// The layer, the count and the links of the head at this number.
     fn head(&mut self, row: u32) -> HeadLinks

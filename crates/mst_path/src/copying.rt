@@ -3,7 +3,7 @@ ghost use Rattle.std.specs.Prelude.{◌≡◌, ◌≤◌, ◌<◌, ◌+◌, ℕ,
 ghost use Rattle.mst_key.specs.declared.format.Format.{Format};
 ghost use Rattle.mst_arena.specs.Lives.{free_count};
 ghost use Rattle.mst_arena.specs.Content.{part_at};
-ghost use Rattle.mst_arena.specs.Row.{entry_value};
+ghost use Rattle.mst_arena.specs.Row.{entry_links, entry_value};
 ghost use Rattle.mst_arena.specs.Standing.{Placed, link_of, rows_of, used, HasRows};
 ghost use Rattle.mst_path.specs.Takes.{IsOut, KeepsBut, FreeIsBlank};
 ghost use Rattle.mst_path.specs.Writing.{PlacedEntry, entries_used, IsRootOf, ahead, IsWriter, IsWritten};
@@ -11,8 +11,7 @@ ghost use Rattle.mst_path.specs.Moves.{IsOld, Moves};
 ghost use Rattle.mst_path.specs.Copying.{Copying, Copied};
 
 use crate::node_writer::NodeWriter;
-use mst_arena::{Desk, Root, Rows};
-use mst_key::Key;
+use mst_arena::{Desk, EntryLinks, Root, Rows};
 use mst_node::empty_digest;
 use std::alloc::Allocator;
 
@@ -36,14 +35,14 @@ pub(crate) fn root_at<R: Rows>(rows: &mut R, link: u32) -> Root
     }
 }
 
-/// Moves the entry in a row into the node, with a tree in the gap before it: it is written anew,
-/// and the row dies.
+/// Moves the entry in a row, which has these links and this key, into the node, with a tree in the
+/// gap before it: it is copied, and the row dies.
 pub(crate) fn move_entry<R: Rows, A: Allocator>(
     rows: &mut R,
     desk: &mut Desk<A>,
     writer: &mut NodeWriter,
     row: u32,
-    key: &Key,
+    entry: &EntryLinks,
     child: &Root,
 )
     requires writer { IsWriter writer.old }
@@ -52,6 +51,7 @@ pub(crate) fn move_entry<R: Rows, A: Allocator>(
     requires few { length desk.old.lives ≤ 65535 }
     requires blank { IfSome writer.old.next (λ r. IsTrue (R.blank rows.old r)) }
     requires child { child.now.link ≤ 65535 }
+    requires entry { part_at entry_links (R.content rows.old) row ≡ Some entry.now }
     requires value { IsSome (part_at entry_value (R.content rows.old) row) }
     requires old { IsOld desk.old row }
     ensures writer { IsWriter writer.new }
@@ -60,7 +60,7 @@ pub(crate) fn move_entry<R: Rows, A: Allocator>(
         → IsWritten format writer.old (R.content rows.old) es → IsRootOf format p child.now
         → HasRows (R.content rows.old) (rows_of format p) → IsOut r (entries_used es ++ used p)
         → IsWritten format writer.new (R.content rows.new)
-        (es ++ record { at = r; child = p; key = key.now; value = v } ∷ []) }
+        (es ++ record { at = r; child = p; key = entry.now.key; value = v } ∷ []) }
     ensures node { (writer.new.layer ≡ writer.old.layer) × (writer.new.count ≡ writer.old.count)
         × (writer.new.left + 1 ≡ writer.old.left) × (writer.new.head ≡ writer.old.head) }
     ensures moves { Moves desk.old desk.new (ahead writer.new.next) (row ∷ []) }
@@ -68,8 +68,7 @@ pub(crate) fn move_entry<R: Rows, A: Allocator>(
     ensures blank { R.blank rows.new ≡ R.blank rows.old }
     ensures kept { R.kept rows.new ≡ R.kept rows.old }
 {
-    let value = rows.value(row);
-    writer.entry(rows, desk, child, key, &value);
+    writer.copy(rows, desk, child, row, entry);
     desk.kill(row);
 }
 
@@ -107,7 +106,7 @@ pub(crate) fn move_run<R: Rows, A: Allocator>(
         let row = link - 1;
         let entry = rows.entry(row);
         let child = root_at(rows, entry.child);
-        move_entry(rows, desk, writer, row, &entry.key, &child);
+        move_entry(rows, desk, writer, row, &entry, &child);
         link = entry.next;
     }
     link

@@ -186,7 +186,7 @@ fn finish_with_back<R: Rows, A: Allocator>(
 {
     let row = parts.back.first - 1;
     let entry = rows.entry(row);
-    move_entry(rows, desk, &mut writer, row, &entry.key, &parts.seam);
+    move_entry(rows, desk, &mut writer, row, &entry, &parts.seam);
     move_run(rows, desk, &mut writer, entry.next, parts.back.count - 1);
     let tail = root_at(rows, parts.tail);
     writer.finish(rows, &tail)

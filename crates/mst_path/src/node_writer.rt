@@ -1,14 +1,15 @@
 //! One node, written into rows entry by entry.
-ghost use Rattle.std.specs.Prelude.{◌≡◌, ◌≤◌, ◌<◌, ◌+◌, ℕ, List, [], ◌∷◌, ◌++◌, length, Some, IfSome, IsTrue};
+ghost use Rattle.std.specs.Prelude.{◌≡◌, ◌≤◌, ◌<◌, ◌+◌, ℕ, List, [], ◌∷◌, ◌++◌, length, Some, IfSome, IsTrue, IsSome};
 ghost use Rattle.mst_node.specs.Text.{child_digest};
 ghost use Rattle.mst_key.specs.declared.format.Format.{Format};
 ghost use Rattle.mst_arena.specs.Lives.{free_count};
-ghost use Rattle.mst_arena.specs.Content.{Content};
+ghost use Rattle.mst_arena.specs.Content.{Content, part_at};
+ghost use Rattle.mst_arena.specs.Row.{entry_links, entry_value};
 ghost use Rattle.mst_arena.specs.Standing.{Placed, head, tree_of, rows_of, used, HasRows};
 ghost use Rattle.mst_path.specs.Takes.{Takes, IsOut, KeepsBut};
 ghost use Rattle.mst_path.specs.Writing.{PlacedEntry, chain_of, entries_used, IsRootOf, ahead, IsAhead, IsWriter, IsWritten};
 
-use mst_arena::{Desk, Root, Row, Rows};
+use mst_arena::{Desk, EntryLinks, Root, Row, Rows};
 use mst_key::{Format, Key, Value};
 use mst_node::TextSink;
 use sha2::{Digest, Sha256};
@@ -156,6 +157,52 @@ impl NodeWriter {
         rows.write(row, &entry);
         self.hasher
             .entry(self.format, digest_at(child), key.bytes(), value.bytes());
+    }
+
+    /// Writes the next entry, behind the tree at `child`: that in a row, which has these links and
+    /// this key. It takes a row where a further entry is left.
+    pub(crate) fn copy<R: Rows, A: Allocator>(
+        &mut self,
+        rows: &mut R,
+        desk: &mut Desk<A>,
+        child: &Root,
+        from: u32,
+        entry: &EntryLinks,
+    )
+        requires writer { IsWriter self.old }
+        requires some { 0 < self.old.left }
+        requires room { 1 < self.old.left → 0 < free_count desk.old.lives }
+        requires few { length desk.old.lives ≤ 65535 }
+        requires blank { IfSome self.old.next (λ r. IsTrue (R.blank rows.old r)) }
+        requires child { child.now.link ≤ 65535 }
+        requires entry { part_at entry_links (R.content rows.old) from ≡ Some entry.now }
+        requires value { IsSome (part_at entry_value (R.content rows.old) from) }
+        ensures writer { IsWriter self.new }
+        ensures written { (format : Format) (es : List PlacedEntry) (p : Placed) (r : ℕ)
+            (v : List ℕ) → self.old.next ≡ Some r
+            → part_at entry_value (R.content rows.old) from ≡ Some v
+            → IsWritten format self.old (R.content rows.old) es → IsRootOf format p child.now
+            → HasRows (R.content rows.old) (rows_of format p) → IsOut r (entries_used es ++ used p)
+            → IsWritten format self.new (R.content rows.new)
+            (es ++ record { at = r; child = p; key = entry.now.key; value = v } ∷ []) }
+        ensures node { (self.new.layer ≡ self.old.layer) × (self.new.count ≡ self.old.count)
+            × (self.new.left + 1 ≡ self.old.left) × (self.new.head ≡ self.old.head) }
+        ensures takes { Takes desk.old desk.new (ahead self.new.next) }
+        ensures keeps { KeepsBut (ahead self.old.next) (R.content rows.old) (R.content rows.new) }
+        ensures blank { R.blank rows.new ≡ R.blank rows.old }
+        ensures kept { R.kept rows.new ≡ R.kept rows.old }
+    {
+        let Some(to) = self.next else { unreachable!() };
+        let value = rows.value(from);
+        self.left -= 1;
+        self.next = take_next(desk, self.left);
+        let next = match self.next {
+            Some(row) => row + 1,
+            None => 0,
+        };
+        rows.copy_entry(from, to, child.link, next);
+        self.hasher
+            .entry(self.format, digest_at(child), entry.key.bytes(), value.bytes());
     }
 
     /// Writes the head, once all entries are written, with the tree at `tail` in the last gap. It

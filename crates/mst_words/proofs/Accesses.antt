@@ -1,5 +1,6 @@
 -- What a pass may read and write of the rows, as the steps ask for it.
-use Rattle.std.proofs.Common.{◌≡◌, ℕ, zero, suc, ◌+◌, ◌*◌, ◌<◌, ◌≤◌, ◌≢◌, ◌⊎◌, inl, inr, Bool, true, false, not, ◌&&◌, ◌||◌, eqb, is_some, is_none, nat_lt, Option, Some, None, List, [], length, map, take, set, get_or, refl, sym, ap, ◌∙◌, arith, ⊎_elim, if◌then◌else◌, length-set, get_or-set_same, get_or-set_other}
+use Rattle.std.proofs.Common.{◌≡◌, ℕ, zero, suc, ◌+◌, ◌*◌, ◌<◌, ◌≤◌, ◌≢◌, ◌⊎◌, inl, inr, Bool, true, false, not, ◌&&◌, ◌||◌, eqb, is_some, is_none, nat_lt, Option, Some, None, IsSome, IfSome, List, [], length, map, take, set, get_or, refl, sym, ap, ◌∙◌, arith, ⊎_elim, if◌then◌else◌, length-set, get_or-set_same, get_or-set_other}
+use Rattle.std.specs.Prelude.{option_and_then}
 use Rattle.std.specs.List.{list_any, range_with_len}
 use mathlib.Core.Logic.{dite}
 use native.Mathlib.Decide.{ℕ_discrete}
@@ -7,10 +8,12 @@ use Rattle.std.proofs.lemmas.Bool.{ltb-true, lt-ltb}
 use Rattle.std.proofs.lemmas.List.{ext_get_or, get_or-take, length-take-le}
 use Rattle.std.proofs.lemmas.List.FromFn.{fill_by_all, length-map-range_with_len, get_or-map-range_with_len}
 use Rattle.mst_arena.specs.Lives as lives
-use Rattle.mst_arena.specs.Content.{Writes}
+use Rattle.mst_arena.specs.Content.{Writes, part_at, relinked}
+use Rattle.mst_arena.specs.Row.{entry_links}
 use Rattle.mst_arena.specs.Words.{row_in}
 use Rattle.mst_arena.specs.declared.row.Row.{Row}
 use Rattle.mst_arena.proofs.ListLemmas.{any_times}
+use Rattle.mst_arena.proofs.Readers.{relinked_words}
 use Rattle.mst_words.specs.declared.view.View.{View}
 use Rattle.mst_words.specs.Layout.{row_word}
 use Rattle.mst_words.specs.Records as records
@@ -146,3 +149,16 @@ beside_stays s t x words same wide stored =
     ap beside same
     ∙ ap (λ (f : List ℕ). record { seat = with_words [] s; front = f; long = length held }) front
     ∙ ap (λ (n : ℕ). record { seat = with_words [] s; front = take 278 s.me.0.known_words; long = n }) stored.long
+
+-- the words of an entry that may be read spell it with other links, once these are put in
+its_row : (b : Bool) (o : Option Row) (row : Row) → (if b then o else None) ≡ Some row → o ≡ Some row
+its_row true o row is = is
+its_row false o row is = cc
+
+pub entry_copied : (v : View) (from child next : ℕ) (words : List ℕ) (P : Row → Type 0) → IsSome (part_at entry_links (content_of v) from) → words ≡ map (records.row v.known_words from) (range_with_len 0 16) → child ≤ 65535 → next ≤ 65535
+    → ((value : Row) → row_in (set (set words 1 child) 2 next) ≡ Some value → P value) → IfSome (content_of v from) (λ entry. P (relinked child next entry))
+entry_copied v from child next words P some loaded low small each = go (content_of v from) refl some
+  where
+    go : (o : Option Row) → content_of v from ≡ o → IsSome (option_and_then entry_links o) → IfSome o (λ entry. P (relinked child next entry))
+    go None is some = tt
+    go (Some row) is some = each (relinked child next row) (relinked_words words row child next (ap row_in loaded ∙ its_row (may_read v from) (rows_in (records.row v.known_words) from) row is) some low small)

@@ -1,12 +1,15 @@
 //! The rows of the table, as a pass reads and writes them.
-ghost use Rattle.std.specs.Prelude.{◌≡◌, ◌+◌, ◌%◌, ◌<◌, ◌≤◌, length, map, slice_set, true, IsTrue};
+ghost use Rattle.std.specs.Prelude.{◌≡◌, ◌+◌, ◌%◌, ◌<◌, ◌≤◌, length, map, slice_set, true, IsTrue, Some};
 ghost use Rattle.std.specs.List.{range_with_len};
 ghost use Rattle.std.specs.Ordering.{nat_cmp, ordering_then};
 ghost use Rattle.mst_key.specs.Bytes.{IsKey, IsBytes};
+ghost use Rattle.mst_arena.specs.Content.{Writes};
 ghost use Rattle.mst_arena.specs.Ways.{words_order};
+ghost use Rattle.mst_arena.specs.Words.{row_in};
+ghost use Rattle.mst_arena.specs.declared.row.Row.{Row};
 ghost use Rattle.mst_words.specs.Layout.{row_words, row_word};
 ghost use Rattle.mst_words.specs.Records as records;
-ghost use Rattle.mst_words.specs.Access.{may_read, is_blank};
+ghost use Rattle.mst_words.specs.Access.{may_read, is_blank, content_of, beside};
 
 use crate::layout::{ROW_WORDS, row_word};
 use crate::seat::PassSeat;
@@ -107,6 +110,19 @@ impl<'a, A: Allocator + Copy> PassSeat<'a, A> {
             self.store(row_word(row, k), value);
         }
     }
+
+    // Makes the words of a blank row these.
+    fn store_words(&mut self, row: u32, words: &[u64; ROW_WORDS])
+        requires blank { IsTrue (is_blank self.old.me.0 row) }
+        ensures writes { (value : Row) → row_in words.now ≡ Some value
+            → Writes (content_of self.old.me.0) (content_of self.new.me.0) row value }
+        ensures blank { is_blank self.new.me.0 ≡ is_blank self.old.me.0 }
+        ensures kept { beside self.new ≡ beside self.old }
+    {
+        for k in 0..ROW_WORDS {
+            self.store_word(row, k, words[k]);
+        }
+    }
 }
 
 impl<'a, A: Allocator + Copy> Rows for PassSeat<'a, A> {
@@ -129,9 +145,14 @@ impl<'a, A: Allocator + Copy> Rows for PassSeat<'a, A> {
 
     fn write(&mut self, row: u32, value: &Row) {
         let words = value.words();
-        for k in 0..ROW_WORDS {
-            self.store_word(row, k, words[k]);
-        }
+        self.store_words(row, &words);
+    }
+
+    fn copy_entry(&mut self, from: u32, to: u32, child: u32, next: u32) {
+        let mut words: [u64; ROW_WORDS] = self.words(from, 0);
+        words[1] = u64::from(child);
+        words[2] = u64::from(next);
+        self.store_words(to, &words);
     }
 
     fn head(&mut self, row: u32) -> HeadLinks {

@@ -6,7 +6,7 @@ ghost use Rattle.mst_arena.specs.declared.life.Life.TheVariants.{Free};
 
 use super::{entry_is, entry_of, free_after, head_is, row_is};
 use crate::heaps::{heap_of, is_made};
-use crate::pairs::{key_of, prints};
+use crate::pairs::{key_of, pair, prints};
 use linked_list_allocator::LocalHeap;
 use mst_arena::{Desk, HeadLinks, PlainRows, Row, Rows, Sought, VersionsSpent, Way};
 use mst_key::Memory;
@@ -52,6 +52,27 @@ fn plain_rows_are_read_as_written(rt: HostRuntime) {
     assert!(rt;
         comes_back(&HEAD) && comes_back(&row),
         "rows at their limits"
+    );
+}
+
+#[test]
+fn copied_entry_has_other_links_alone(rt: HostRuntime) {
+    let (key, value) = pair(&rt, &[0x6b; 32], &[0x76; 64]);
+    let row = Row::Entry {
+        child: 7,
+        next: 9,
+        key,
+        value,
+    };
+    let Ok(mut rows) = PlainRows::new(rt.alloc(), 2) else {
+        panic!(rt; "no memory")
+    };
+    rows.write(0, &row);
+    rows.copy_entry(0, 1, 65_535, 0);
+    assert!(rt; entry_is(&mut rows, 1, (65_535, 0), &[0x6b; 32], &[0x76; 64]));
+    assert!(rt;
+        row_is(&mut rows, 0, &row),
+        "the entry that was copied stays"
     );
 }
 

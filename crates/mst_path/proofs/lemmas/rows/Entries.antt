@@ -1,14 +1,17 @@
 -- Entries that are written, with one more of them and as the chain of a node.
 use Rattle.mst_key.specs.declared.format.Format.{Format}
-use Rattle.std.proofs.Common.{◌≡◌, ℕ, ◌+◌, ◌∷◌, [], List, ◌++◌, length, map, refl, sym, ◌∙◌, ap, arith, append_assoc}
+use Rattle.std.proofs.Common.{◌≡◌, ◌≢◌, ℕ, ◌+◌, ◌∷◌, [], List, ◌++◌, length, map, Option, Some, None, IfSome, IsSome, refl, sym, ◌∙◌, ap, subst, arith, append_assoc}
+use Rattle.std.specs.Prelude.{option_and_then}
 use Rattle.std.specs.List.{AllByRecursion}
 use Rattle.std.proofs.lemmas.List.{append-nil, map-append, length-map}
 use Rattle.std.proofs.lemmas.Grind.{flat_map-append}
 use Rattle.mst_node.specs.Tree as tree
 use Rattle.mst_node.specs.Text.{child_text, child_digest, counted, flat_entries, tail_digest, spelling, text, held_of, held_text}
-use Rattle.mst_arena.specs.Content.{Content}
+use Rattle.mst_arena.specs.Content.{Content, Writes, part_at, relinked}
+use Rattle.mst_arena.specs.Row.{entry_links, entry_value}
+use Rattle.mst_arena.specs.declared.row.EntryLinks.{EntryLinks}
 use Rattle.mst_arena.specs.declared.row.Row.{Row}
-use Rattle.mst_arena.specs.declared.row.Row.TheVariants.{Entry}
+use Rattle.mst_arena.specs.declared.row.Row.TheVariants.{Entry, Head}
 use Rattle.mst_arena.specs.Standing.{Placed, tree_of, entries_of, link_of, first_of, tail_of, count_of, rows_of, chain_rows, used, chain_used, HasRows}
 use Rattle.mst_arena.proofs.Stands.{all-append, all-front, all-back, placed_frame}
 use Rattle.mst_path.specs.Writing.{PlacedEntry, chain_of, link_from, entry_rows, entries_used, flat_of, text_up_to}
@@ -85,3 +88,29 @@ text_chain form layer es p =
     ap (λ fs. spelling (record { format = form; layer = layer; entries = fs; tail = tail_digest (entries_of form (chain_of es p)) })) (flat_chain form es p)
     ∙ ap (λ d. spelling (record { format = form; layer = layer; entries = map (flat_of form) es; tail = d })) (tail_digest_chain form es p)
     ∙ simp (append_assoc, length-map)
+
+-- ---- an entry that is copied
+
+pub is_there : {A : Type 0} (o : Option A) (x : A) → o ≡ Some x → IsSome o
+is_there o x e = cc
+
+-- what is written is the entry of these parts with other links
+pub copy_is : (old new : Content) (from to child next : ℕ) (links : EntryLinks) (value : List ℕ) → part_at entry_links old from ≡ Some links → part_at entry_value old from ≡ Some value
+    → IfSome (old from) (λ entry. Writes old new to (relinked child next entry)) → Writes old new to (Entry child next links.key value)
+copy_is old new from to child next links value is_links is_value writes = go (old from) is_links is_value writes
+  where
+    go : (o : Option Row) → option_and_then entry_links o ≡ Some links → option_and_then entry_value o ≡ Some value → IfSome o (λ entry. Writes old new to (relinked child next entry)) → Writes old new to (Entry child next links.key value)
+    go None l v writes = absurd (cc)
+    go (Some (Head layer count first tail digest)) l v writes = absurd (cc)
+    go (Some (Entry c n k w)) l v writes =
+        let same : record { child = c; next = n; key = k } ≡ links = cc in
+        let same_value : w ≡ value = cc in
+        subst (λ (x : List ℕ). Writes old new to (Entry child next links.key x)) same_value (subst (λ (x : EntryLinks). Writes old new to (Entry child next x.key w)) same writes)
+
+-- and it leaves all else
+pub copy_keeps : (old new : Content) (from to child next : ℕ) (links : EntryLinks) → part_at entry_links old from ≡ Some links → IfSome (old from) (λ entry. Writes old new to (relinked child next entry)) → (k : ℕ) → k ≢ to → new k ≡ old k
+copy_keeps old new from to child next links is writes k other = go (old from) is writes
+  where
+    go : (o : Option Row) → option_and_then entry_links o ≡ Some links → IfSome o (λ entry. Writes old new to (relinked child next entry)) → new k ≡ old k
+    go None l writes = absurd (cc)
+    go (Some row) l writes = writes.others k other

@@ -1,6 +1,7 @@
-use Rattle.std.proofs.Common.{◌≡◌, ◌-◌, ℕ, List, [], ◌∷◌, ◌++◌, length, Option, sym, ◌∙◌, ap, subst, arith}
+use Rattle.std.proofs.Common.{◌≡◌, ◌-◌, ℕ, List, [], ◌∷◌, ◌++◌, length, Option, Some, sym, ◌∙◌, ap, subst, arith}
 use Rattle.mst_key.specs.declared.format.Format.{Format}
-use Rattle.mst_arena.specs.Content.{Content}
+use Rattle.mst_arena.specs.Content.{Content, part_at}
+use Rattle.mst_arena.specs.Row.{entry_links}
 use Rattle.mst_arena.specs.Lists.{times}
 use Rattle.mst_arena.specs.Standing.{rows_of, HasRows}
 use Rattle.mst_path.specs.Takes.{KeepsBut}
@@ -27,6 +28,9 @@ pub move_entry-requires-clause-old : goal.move_entry-requires-clause-old
 move_entry-requires-clause-old g c =
     let format = c.requires.rest.0 in
     (first_back format _ _ _ _ c.requires.rest.1 c.requires.some).old
+
+pub move_entry-requires-clause-entry : goal.move_entry-requires-clause-entry
+move_entry-requires-clause-entry g c = subst (λ (x : Content). part_at entry_links x (c.args.parts.now.back.first - 1) ≡ Some c.entry-entry.result) (sym (ap g.R.Rows.content c.entry-entry.ensures.same)) c.entry-entry.ensures.value
 
 module _ (g : Over) (c : goal.After-move_entry g) (format : Format) (r : Rest format c.args.writer (g.R.Rows.content c.args.rows.now) c.args.desk.now c.args.parts.now) where
   seamed : Seamed format c.args.writer c.move_entry.new.writer (g.R.Rows.content c.args.rows.now) (g.R.Rows.content c.move_entry.new.rows) c.args.desk.now c.move_entry.new.desk c.args.parts.now r c.entry-entry.result.next
