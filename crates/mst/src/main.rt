@@ -3,6 +3,7 @@
 
 use mst_command::{Refusal, complain};
 use mst_devices::{StdSink, StdSource};
+use mst_key::Memory;
 use mst_load::Open;
 use mst_program::{Progress, command};
 use std::io::IsTerminal;
@@ -14,10 +15,12 @@ fn arguments(rt: &HostRuntime) -> Result<Vec<String>, Refusal> {
     match env::args(rt) {
         Ok(words) => match words.collect(rt.alloc()) {
             Ok(words) => Ok(words),
-            Err(_) => Err(Refusal::Memory),
+            Err(refused) => Err(Refusal::Memory(Memory::from(refused))),
         },
-        Err(error) if error.kind() == io::ErrorKind::OutOfMemory => Err(Refusal::Memory),
-        Err(_) => Err(Refusal::NotText),
+        Err(error) => match Memory::of_call(&error) {
+            Some(refused) => Err(Refusal::Memory(refused)),
+            None => Err(Refusal::NotText),
+        },
     }
 }
 
@@ -30,8 +33,12 @@ fn main(rt: HostRuntime) -> ExitCode {
         Ok(words) => words,
         Err(why) => return ExitCode::from(complain(&mut err, &why)),
     };
-    let Ok(words) = words.iter().map(|word| word.as_str()).collect(rt.alloc()) else {
-        return ExitCode::from(complain(&mut err, &Refusal::Memory));
+    let words = match words.iter().map(|word| word.as_str()).collect(rt.alloc()) {
+        Ok(words) => words,
+        Err(refused) => {
+            let why = Refusal::Memory(Memory::from(refused));
+            return ExitCode::from(complain(&mut err, &why));
+        }
     };
     let words: Vec<&str> = words;
     let (words, alloc, errors) = (words.as_slice(), rt.alloc(), rt.stderr());

@@ -64,9 +64,7 @@ impl<A: Allocator> Model for Desk<A> {
 fn copies<T: Copy, A: Allocator>(alloc: A, value: T, count: usize) -> Result<Vec<T, A>, Memory>
     ensures ok { IfOk result (λ v. v.items ≡ replicate count value) }
 {
-    let Ok(mut all) = Vec::with_capacity(alloc, count) else {
-        return Err(Memory);
-    };
+    let mut all = Vec::with_capacity(alloc, count)?;
     for _ in 0..count {
         all.push_reserved(value);
     }
@@ -77,7 +75,7 @@ fn copies<T: Copy, A: Allocator>(alloc: A, value: T, count: usize) -> Result<Vec
 fn room<T, A: Allocator>(alloc: A, count: usize) -> Result<Vec<T, A>, Memory>
     ensures ok { IfOk result (λ v. (v.items ≡ []) × (vec_capacity v ≡ count)) }
 {
-    Vec::with_capacity(alloc, count).map_err(|_| Memory)
+    Ok(Vec::with_capacity(alloc, count)?)
 }
 
 impl<A: Allocator + Copy> Desk<A> {

@@ -36,9 +36,7 @@ impl<A: Allocator> Model for FreeRows<A> {
 fn zeros<A: Allocator>(alloc: A, count: usize) -> Result<Vec<u64, A>, Memory>
     ensures ok { IfOk result (λ v. v.items ≡ replicate count 0) }
 {
-    let Ok(mut words) = Vec::with_capacity(alloc, count) else {
-        return Err(Memory);
-    };
+    let mut words = Vec::with_capacity(alloc, count)?;
     for _ in 0..count {
         words.push_reserved(0);
     }

@@ -37,9 +37,7 @@ impl<A: Allocator> PlainRows<A> {
         requires few { rows ≤ 65535 }
         ensures ok { IfOk result (λ p. p ≡ replicate rows None) }
     {
-        let Ok(mut places) = Vec::with_capacity(alloc, rows as usize) else {
-            return Err(Memory);
-        };
+        let mut places = Vec::with_capacity(alloc, rows as usize)?;
         for _ in 0..rows {
             places.push_reserved(None);
         }

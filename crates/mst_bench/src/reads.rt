@@ -2,10 +2,10 @@
 ghost use Rattle.std.specs.Prelude.{◌<◌, length};
 
 use crate::calls::picked;
-use mst_key::Key;
+use mst_key::{Key, Memory};
 use mst_proof::verify_in;
 use mst_store::{Pass, Pinned};
-use std::alloc::{AllocError, Global};
+use std::alloc::Global;
 
 /// How many pairs a range returns at most.
 const RANGE: usize = 100;
@@ -92,15 +92,13 @@ fn proofs(
     alloc: Global,
     pass: &mut Pass<'_, Global>,
     keys: &[Key],
-) -> Result<Vec<(Key, Vec<u8>)>, AllocError>
+) -> Result<Vec<(Key, Vec<u8>)>, Memory>
     requires some { 0 < length keys.now }
 {
     let mut proofs = Vec::new(alloc);
     for call in 0..PROOFS {
         let key = picked(keys, call);
-        let Ok(proof) = pass.prove(alloc, key) else {
-            return Err(AllocError);
-        };
+        let proof = pass.prove(alloc, key)?;
         proofs.push((key.copy(), proof))?;
     }
     Ok(proofs)

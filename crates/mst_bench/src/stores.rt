@@ -1,7 +1,7 @@
 //! Stores and their passes.
 ghost use Rattle.std.specs.Prelude.{◌≡◌, IfOk};
 
-use mst_store::{Pass, Seats, Shape, Store};
+use mst_store::{OpenFault, Pass, Seats, Shape, Store};
 use std::alloc::Global;
 use std::io;
 
@@ -11,7 +11,8 @@ pub fn opened(alloc: Global, shape: Shape) -> io::Result<(Store<Global>, Seats<G
 {
     match Store::open(alloc, shape) {
         Ok(opened) => Ok(opened),
-        Err(_) => Err(io::ErrorKind::OutOfMemory.into()),
+        Err(OpenFault::Memory(refused)) => Err(refused.into()),
+        Err(OpenFault::Shape) => Err(io::ErrorKind::InvalidInput.into()),
     }
 }
 
@@ -25,6 +26,6 @@ pub fn dealt<'a>(
 {
     match store.deal(alloc, seats) {
         Ok(passes) => Ok(passes),
-        Err(_) => Err(io::ErrorKind::OutOfMemory.into()),
+        Err((refused, _)) => Err(refused.into()),
     }
 }

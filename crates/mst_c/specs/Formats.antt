@@ -45,7 +45,7 @@ abbrev pub unmoved_code : Unmoved → ℤ
 unmoved_code Pins = negsuc 7
 unmoved_code (Store Busy) = negsuc 20
 unmoved_code (Store VersionsSpent) = negsuc 21
-unmoved_code (Store Memory) = negsuc 8
+unmoved_code (Store (Memory refused)) = negsuc 8
 unmoved_code (Store NoRoom) = negsuc 22
 
 abbrev pub move_code : Result Format Unmoved → ℤ

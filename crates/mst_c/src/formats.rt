@@ -39,7 +39,7 @@ fn move_code(moved: Result<Format, Unmoved>) -> i32
         Err(Unmoved::Pins) => WRONG_STATE,
         Err(Unmoved::Store(MigrateFault::Busy)) => -21,
         Err(Unmoved::Store(MigrateFault::VersionsSpent)) => -22,
-        Err(Unmoved::Store(MigrateFault::Memory)) => MEMORY,
+        Err(Unmoved::Store(MigrateFault::Memory(_))) => MEMORY,
         Err(Unmoved::Store(MigrateFault::NoRoom)) => -23,
     }
 }

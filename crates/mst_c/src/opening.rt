@@ -91,7 +91,7 @@ pub(crate) fn open(alloc: Global, format: u32, rows: u32, hands: &mut [Hand]) ->
     let (store, seats) = match Store::open(alloc, shape) {
         Ok(opened) => opened,
         Err(OpenFault::Shape) => return BAD_SHAPE,
-        Err(OpenFault::Memory) => return MEMORY,
+        Err(OpenFault::Memory(_)) => return MEMORY,
     };
     let Ok(store) = Arc::new(alloc, store) else {
         return MEMORY;

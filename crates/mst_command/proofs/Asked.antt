@@ -89,7 +89,7 @@ words_device Shape h n = absurd h
 words_device BadRoot h n = absurd h
 words_device BadKey h n = absurd h
 words_device Device h n = absurd h
-words_device Memory h n = refl
+words_device (Memory refused) h n = refl
 
 pub still_unread : {S : Type 0} (why : Refusal) (s : S) → Unread why s s
 still_unread (Words text) s = refl
@@ -98,7 +98,7 @@ still_unread Shape s = refl
 still_unread BadRoot s = refl
 still_unread BadKey s = refl
 still_unread Device s = tt
-still_unread Memory s = tt
+still_unread (Memory refused) s = tt
 
 pub still_untouched : {S : Type 0} (why : Refusal) (s : S) → Untouched why s s
 still_untouched (Words text) s = refl
@@ -107,7 +107,7 @@ still_untouched Shape s = refl
 still_untouched BadRoot s = refl
 still_untouched BadKey s = refl
 still_untouched Device s = tt
-still_untouched Memory s = refl
+still_untouched (Memory refused) s = refl
 
 abbrev EndsOfWords : Refusal → Type 0
 EndsOfWords (Words text) = Unit {0}
@@ -138,7 +138,7 @@ no_words task Shape ends of = of
 no_words task BadRoot ends of = of
 no_words task BadKey ends of = of
 no_words task Device ends of = of
-no_words task Memory ends of = of
+no_words task (Memory refused) ends of = of
 
 -- a task that is cut short is so for a reason that comes
 pub task_comes : (words : List (Bor (List ℕ))) (task : Task) (r : Result Ending Refusal) → AsksFor words task → IsErrOf r Shape ↔ HasBadShape task → IsErrOf r BadRoot ↔ HasBadRoot task → IsErrOf r BadKey ↔ HasBadKey task →
@@ -150,7 +150,7 @@ task_comes words task (Err Shape) asked shape root key ends = (task, asked, shap
 task_comes words task (Err BadRoot) asked shape root key ends = (task, asked, root.0 refl)
 task_comes words task (Err BadKey) asked shape root key ends = (task, asked, key.0 refl)
 task_comes words task (Err Device) asked shape root key ends = tt
-task_comes words task (Err Memory) asked shape root key ends = λ plain. (task, asked, not_bad task (Err Memory) shape root key (λ is. cc) (λ is. cc) (λ is. cc))
+task_comes words task (Err (Memory refused)) asked shape root key ends = λ plain. (task, asked, not_bad task (Err (Memory refused)) shape root key (λ is. cc) (λ is. cc) (λ is. cc))
 
 -- words that are refused are so for a reason that comes
 pub words_come : (words : List (Bor (List ℕ))) (why : Refusal) → EndsWords why → ¬ (IsPlain words) → Comes words why
@@ -160,7 +160,7 @@ words_come words Shape h other = absurd h
 words_come words BadRoot h other = absurd h
 words_come words BadKey h other = absurd h
 words_come words Device h other = absurd h
-words_come words Memory h other = λ plain. absurd (other plain)
+words_come words (Memory refused) h other = λ plain. absurd (other plain)
 
 -- words that are refused fail by no device
 pub no_device : (why : Refusal) → EndsWords why → (let r : Result Ending Refusal = Err why in IsErrOf r Device) → ⊥
@@ -170,7 +170,7 @@ no_device Shape h is = h
 no_device BadRoot h is = h
 no_device BadKey h is = h
 no_device Device h is = h
-no_device Memory h is = cc
+no_device (Memory refused) h is = cc
 
 only_device : (why : Refusal) → status_of why ≡ 3 → why ≡ Device
 only_device (Words text) is = absurd (omega (arith, is))
@@ -179,7 +179,7 @@ only_device Shape is = absurd (omega (arith, is))
 only_device BadRoot is = absurd (omega (arith, is))
 only_device BadKey is = absurd (omega (arith, is))
 only_device Device is = refl
-only_device Memory is = absurd (omega (arith, is))
+only_device (Memory refused) is = absurd (omega (arith, is))
 
 -- what stands on standard error where a program ended early
 module _ {E : Type 0} (takes : E → List ℕ → E → Type 0) (failures : E → ℕ) (e f : E) (why : Refusal) (n : ℕ)

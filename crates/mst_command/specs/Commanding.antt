@@ -196,7 +196,7 @@ AsksFor words task = (is_replay task ≡ asks_replay words)
 abbrev pub EndsScript : Refusal → Type 0
 EndsScript BadShape = Unit {0}
 EndsScript Device = Unit {0}
-EndsScript Memory = Unit {0}
+EndsScript (Memory refused) = Unit {0}
 EndsScript _ = ⊥
 
 -- how the judging of a proof may end early
@@ -204,7 +204,7 @@ abbrev pub EndsVerify : Refusal → Type 0
 EndsVerify BadRoot = Unit {0}
 EndsVerify BadKey = Unit {0}
 EndsVerify Device = Unit {0}
-EndsVerify Memory = Unit {0}
+EndsVerify (Memory refused) = Unit {0}
 EndsVerify _ = ⊥
 
 -- how a task ends that names a format that there is not
@@ -215,14 +215,14 @@ EndsUnknown _ = ⊥
 -- how a replay may end early
 abbrev pub EndsReplay : Refusal → Type 0
 EndsReplay Device = Unit {0}
-EndsReplay Memory = Unit {0}
+EndsReplay (Memory refused) = Unit {0}
 EndsReplay _ = ⊥
 
 -- how a load may end early
 abbrev pub EndsLoad : Refusal → Type 0
 EndsLoad BadShape = Unit {0}
 EndsLoad Device = Unit {0}
-EndsLoad Memory = Unit {0}
+EndsLoad (Memory refused) = Unit {0}
 EndsLoad _ = ⊥
 
 -- how help may end early
@@ -242,7 +242,7 @@ Ends (Help text) why = EndsHelp why
 -- how words may be refused
 abbrev pub EndsWords : Refusal → Type 0
 EndsWords (Words text) = Unit {0}
-EndsWords Memory = Unit {0}
+EndsWords (Memory refused) = Unit {0}
 EndsWords _ = ⊥
 
 -- how many reads and writes had failed before and after: more where this is the reason, and else as
@@ -259,7 +259,7 @@ Untouched _ s t = t ≡ s
 -- a source before and after: as it was, but where a device failed or memory was refused
 abbrev pub Unread : {S : Type 0} → Refusal → S → S → Type 0
 Unread Device s t = Unit {0}
-Unread Memory s t = Unit {0}
+Unread (Memory refused) s t = Unit {0}
 Unread _ s t = t ≡ s
 
 -- what is said on standard error
@@ -270,12 +270,12 @@ told BadShape = codes "shape" ++ 10 ∷ []
 told BadRoot = codes "bad root" ++ 10 ∷ []
 told BadKey = codes "bad key" ++ 10 ∷ []
 told Device = codes "device" ++ 10 ∷ []
-told Memory = codes "memory" ++ 10 ∷ []
+told (Memory refused) = codes "memory" ++ 10 ∷ []
 
 -- the exit status
 abbrev pub status_of : Refusal → ℕ
 status_of Device = 3
-status_of Memory = 4
+status_of (Memory refused) = 4
 status_of _ = 2
 
 -- the exit status of a program that was not cut short

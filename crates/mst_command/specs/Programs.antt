@@ -180,7 +180,7 @@ Comes words BadShape = (task : Task) × AsksFor words task × HasBadShape task
 Comes words BadRoot = (task : Task) × AsksFor words task × HasBadRoot task
 Comes words BadKey = (task : Task) × AsksFor words task × HasBadKey task
 Comes words Device = Unit {0}
-Comes words Memory = IsPlain words → (task : Task) × AsksFor words task × ¬ (IsBad task)
+Comes words (Memory refused) = IsPlain words → (task : Task) × AsksFor words task × ¬ (IsBad task)
 
 -- The program ended early for a reason that comes for the words: what was read and what the sink
 -- took then, and where a device failed, by which task.

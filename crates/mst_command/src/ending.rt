@@ -37,11 +37,11 @@ pub fn complain<W: Sink>(err: &mut W, why: &Refusal) -> u8
         Refusal::BadRoot => "bad root\n",
         Refusal::BadKey => "bad key\n",
         Refusal::Device => "device\n",
-        Refusal::Memory => "memory\n",
+        Refusal::Memory(_) => "memory\n",
     };
     match (write_all(err, text.as_bytes()), why) {
         (Err(_), _) | (_, Refusal::Device) => DEVICE,
-        (_, Refusal::Memory) => MEMORY,
+        (_, Refusal::Memory(_)) => MEMORY,
         _ => REFUSED,
     }
 }

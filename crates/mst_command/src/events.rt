@@ -1,11 +1,13 @@
 //! A replay: the lines of a source, answered by a core of pins into a sink.
-ghost use Rattle.std.specs.Prelude.{◌≡◌, ◌<◌, ◌-◌, ◌+◌, ◌^◌, [], OnOk, OnErr};
+ghost use Rattle.std.specs.Prelude.{◌≡◌, ◌<◌, ◌-◌, ◌+◌, ◌^◌, [], IfErr, OnOk, OnErr};
 ghost use Rattle.mst_lines.specs.Runs.{Ran, Stopped};
 ghost use Rattle.mst_lines.specs.Driving.{Answered, Lost, Closed, NotClosed};
+ghost use Rattle.mst_script.specs.Scripts.{OnMemory};
 ghost use Rattle.mst_command.specs.Recalling.{Recalls};
 
 use crate::replay::answer_event;
 use mst_devices::{Device, Pending, Sink, Source};
+use mst_key::Memory;
 use mst_lines::{LineBuffer, Reader};
 use mst_replay::Replay;
 use mst_script::RunFault;
@@ -112,14 +114,16 @@ pub fn replay_events<S: Source, W: Sink, A: Allocator + Copy>(
     ensures device { result ≡ Err RunFault.Device
         → S.failures source.old + W.failures sink.old < S.failures source.new
         + W.failures sink.new }
-    ensures memory { result ≡ Err RunFault.Memory → (source.new ≡ source.old)
-        × (sink.new ≡ sink.old) × (replay.new ≡ replay.old) }
+    ensures memory { IfErr result (λ fault. OnMemory fault
+        ((source.new ≡ source.old) × (sink.new ≡ sink.old) × (replay.new ≡ replay.old))) }
 {
-    let Ok(mut pending) = Pending::new(alloc) else {
-        return Err(RunFault::Memory);
+    let mut pending = match Pending::new(alloc) {
+        Ok(pending) => pending,
+        Err(refused) => return Err(RunFault::Memory(Memory::from(refused))),
     };
-    let Ok(mut reader) = Reader::new(alloc) else {
-        return Err(RunFault::Memory);
+    let mut reader = match Reader::new(alloc) {
+        Ok(reader) => reader,
+        Err(refused) => return Err(RunFault::Memory(Memory::from(refused))),
     };
     match drive(source, sink, &mut pending, &mut reader, replay) {
         Ok(()) => Ok(()),

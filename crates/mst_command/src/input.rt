@@ -1,8 +1,10 @@
 //! All that a source gives, up to a limit.
-ghost use Rattle.std.specs.Prelude.{◌≡◌, ◌<◌, ◌≤◌, ◌-◌, ◌+◌, ◌^◌, ◌++◌, length, Err, IfOk, OnOk, MatchOption};
+ghost use Rattle.std.specs.Prelude.{◌≡◌, ◌<◌, ◌≤◌, ◌-◌, ◌+◌, ◌^◌, ◌++◌, length, Err, IfOk, IfErr, OnOk, MatchOption};
+ghost use Rattle.mst_script.specs.Scripts.{OnMemory};
 ghost use Rattle.mst_command.specs.Reading.{GaveAll, GaveMore};
 
 use mst_devices::Source;
+use mst_key::Memory;
 use mst_script::RunFault;
 use std::alloc::{AllocError, Allocator};
 
@@ -38,7 +40,8 @@ pub fn read_up_to<S: Source, A: Allocator>(
         (λ bytes. GaveAll S.gives S.left most source.old bytes.items source.new)) }
     ensures steady { OnOk result (S.failures source.new ≡ S.failures source.old) }
     ensures device { result ≡ Err RunFault.Device → S.failures source.old < S.failures source.new }
-    ensures memory { result ≡ Err RunFault.Memory → S.failures source.new ≡ S.failures source.old }
+    ensures memory { IfErr result
+        (λ fault. OnMemory fault (S.failures source.new ≡ S.failures source.old)) }
 {
     let mut bytes = Vec::new(alloc);
     let mut piece = [0; PIECE];
@@ -52,8 +55,8 @@ pub fn read_up_to<S: Source, A: Allocator>(
         if count > most - bytes.len() {
             return Ok(None);
         }
-        if append(&mut bytes, &piece[..count], most).is_err() {
-            return Err(RunFault::Memory);
+        if let Err(refused) = append(&mut bytes, &piece[..count], most) {
+            return Err(RunFault::Memory(Memory::from(refused)));
         }
     }
 }

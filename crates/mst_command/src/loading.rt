@@ -6,7 +6,7 @@ ghost use Rattle.mst_command.specs.declared.task.Ending.TheVariants.{Done};
 
 use crate::task::{Ending, Load, Refusal};
 use mst_devices::{Device, Sink, write_all};
-use mst_load::{Gate, load};
+use mst_load::{Gate, LoadFault, load};
 use std::alloc::{AllocGlobal, Allocator};
 use std::sync::Wait;
 use std::thread::Threads;
@@ -49,8 +49,10 @@ where
     if !is_load_size(size) {
         return Err(Refusal::Shape);
     }
-    let Ok(report) = load(rt, alloc, size.readers, size.writers, size.calls, gate) else {
-        return Err(Refusal::Memory);
+    let report = match load(rt, alloc, size.readers, size.writers, size.calls, gate) {
+        Ok(report) => report,
+        Err(LoadFault::Memory(refused)) => return Err(Refusal::Memory(refused)),
+        Err(LoadFault::Thread(refused)) => return Err(Refusal::Memory(refused)),
     };
     match write_all(out, report.lines().as_slice()) {
         Ok(()) => Ok(Ending::Done),

@@ -49,15 +49,16 @@ pub fn run_script<A: Allocator + Copy, S: Source, W: Sink>(
     let (store, seats) = match Store::open(alloc, shape) {
         Ok(opened) => opened,
         Err(OpenFault::Shape) => return Err(Refusal::Shape),
-        Err(OpenFault::Memory) => return Err(Refusal::Memory),
+        Err(OpenFault::Memory(refused)) => return Err(Refusal::Memory(refused)),
     };
-    let Ok(mut passes) = store.deal(alloc, seats) else {
-        return Err(Refusal::Memory);
+    let mut passes = match store.deal(alloc, seats) {
+        Ok(passes) => passes,
+        Err((refused, _)) => return Err(Refusal::Memory(refused)),
     };
     match run(alloc, source, out, &store, &mut passes) {
         Ok(()) => Ok(Ending::Done),
         Err(RunFault::Device) => Err(Refusal::Device),
-        Err(RunFault::Memory) => Err(Refusal::Memory),
+        Err(RunFault::Memory(refused)) => Err(Refusal::Memory(refused)),
     }
 }
 
@@ -89,7 +90,7 @@ pub fn run_replay<A: Allocator + Copy, S: Source, W: Sink>(
     match replay_events(alloc, source, out, &mut replay) {
         Ok(()) => Ok(Ending::Done),
         Err(RunFault::Device) => Err(Refusal::Device),
-        Err(RunFault::Memory) => Err(Refusal::Memory),
+        Err(RunFault::Memory(refused)) => Err(Refusal::Memory(refused)),
     }
 }
 

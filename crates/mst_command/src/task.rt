@@ -1,5 +1,5 @@
 //! What a program is to do, and how it ends.
-use mst_key::Format;
+use mst_key::{Format, Memory};
 use mst_store::Shape;
 
 /// How large the store of a script is.
@@ -64,5 +64,5 @@ pub enum Refusal {
     /// A read or a write failed.
     Device,
     /// A growth was refused, or a thread could not be started.
-    Memory,
+    Memory(Memory),
 }

@@ -1,13 +1,14 @@
 //! A proof of standard input, verified.
 ghost use Rattle.std.specs.Prelude.{◌≡◌, ◌<◌, ◌-◌, ◌+◌, ◌^◌, ◌↔◌, ◌⊎◌, Some, None, IfOk, OnOk, IfErr, IsErrOf, IsSome};
 ghost use Rattle.mst_verify.specs.Words.{root_of, key_of};
+ghost use Rattle.mst_script.specs.Scripts.{OnMemory};
 ghost use Rattle.mst_command.specs.Commanding.{EndsVerify, IsDevice, Unread, Untouched};
 ghost use Rattle.mst_command.specs.Programs.{RanVerify, BrokeVerify, IsSaid, ending_of};
 
 use crate::input::read_up_to;
 use crate::task::{Ending, Refusal};
 use mst_devices::{Device, Sink, Source, write_all};
-use mst_key::{Format, Key, Memory};
+use mst_key::{Format, Key};
 use mst_script::RunFault;
 use mst_verify::{LIMIT, Report, key_in, report_on, root_in};
 use std::alloc::Allocator;
@@ -36,14 +37,15 @@ fn read_report<A: Allocator + Copy, S: Source>(
         (λ report. IsSaid S.gives S.left format root.now key.now source.old report source.new) }
     ensures steady { OnOk result (S.failures source.new ≡ S.failures source.old) }
     ensures device { result ≡ Err RunFault.Device → S.failures source.old < S.failures source.new }
-    ensures memory { result ≡ Err RunFault.Memory → S.failures source.new ≡ S.failures source.old }
+    ensures memory { IfErr result
+        (λ fault. OnMemory fault (S.failures source.new ≡ S.failures source.old)) }
 {
     let Some(text) = read_up_to(alloc, source, LIMIT)? else {
         return Ok(Report::Long);
     };
     match report_on(alloc, format, root, key, text.as_slice()) {
         Ok(report) => Ok(report),
-        Err(Memory) => Err(RunFault::Memory),
+        Err(refused) => Err(RunFault::Memory(refused)),
     }
 }
 
@@ -88,7 +90,7 @@ pub fn run_verify<A: Allocator + Copy, S: Source, W: Sink>(
     let report = match read_report(alloc, format, &root, &key, source) {
         Ok(report) => report,
         Err(RunFault::Device) => return Err(Refusal::Device),
-        Err(RunFault::Memory) => return Err(Refusal::Memory),
+        Err(RunFault::Memory(refused)) => return Err(Refusal::Memory(refused)),
     };
     match write_all(out, report.line().as_slice()) {
         Ok(()) => Ok(ending(&report)),

@@ -24,7 +24,6 @@ mod key;
 mod laws;
 mod layer;
 mod memory;
-mod refusal;
 mod value;
 
 pub use format::Format;

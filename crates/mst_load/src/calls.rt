@@ -57,10 +57,8 @@ fn append_pair<A: Allocator>(
     let Some(call) = call else {
         return Ok(());
     };
-    match pairs.push((key(writer, call), value(call))) {
-        Ok(()) => Ok(()),
-        Err(_) => Err(Memory),
-    }
+    pairs.push((key(writer, call), value(call)))?;
+    Ok(())
 }
 
 // Appends the pairs that so many calls of the writer leave.

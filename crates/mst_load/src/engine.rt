@@ -43,10 +43,10 @@ pub struct Report {
 pub enum LoadFault {
     /// A growth was refused.
     #[error("no memory")]
-    Memory,
-    /// A thread could not be started.
+    Memory(Memory),
+    /// A thread could not be started: the system had no memory for it.
     #[error("no thread")]
-    Thread,
+    Thread(Memory),
 }
 
 // The number of the version that a pass finds when all have settled, and the root digest of its map.
@@ -110,7 +110,7 @@ fn opened<A: Allocator + Copy>(alloc: A, shape: Shape) -> Result<(Store<A>, Seat
 {
     match Store::open(alloc, shape) {
         Ok(opened) => Ok(opened),
-        Err(OpenFault::Memory) => Err(Memory),
+        Err(OpenFault::Memory(refused)) => Err(refused),
         Err(OpenFault::Shape) => unreachable!(),
     }
 }
@@ -144,8 +144,9 @@ pub fn load<R: Threads + Wait + AllocGlobal + Sync, A: Allocator + Copy, G: Gate
         (λ report. HasSettled (readers + writers) writers calls report.events report.root) }
     ensures built { IfOk result (λ report. report.built ≡ text.root One (map_left writers calls)) }
 {
-    let Ok(pairs) = left_by(alloc, writers, calls) else {
-        return Err(LoadFault::Memory);
+    let pairs = match left_by(alloc, writers, calls) {
+        Ok(pairs) => pairs,
+        Err(refused) => return Err(LoadFault::Memory(refused)),
     };
     let built = root_of(&pairs);
     let shape = Shape {
@@ -153,11 +154,13 @@ pub fn load<R: Threads + Wait + AllocGlobal + Sync, A: Allocator + Copy, G: Gate
         passes: readers + writers,
         format: Format::One,
     };
-    let Ok((store, seats)) = opened(rt.alloc(), shape) else {
-        return Err(LoadFault::Memory);
+    let (store, seats) = match opened(rt.alloc(), shape) {
+        Ok(opened) => opened,
+        Err(refused) => return Err(LoadFault::Memory(refused)),
     };
-    let Ok(passes) = store.deal(alloc, seats) else {
-        return Err(LoadFault::Memory);
+    let passes = match store.deal(alloc, seats) {
+        Ok(passes) => passes,
+        Err((refused, _)) => return Err(LoadFault::Memory(refused)),
     };
     let plan = Plan { writers, calls };
     let (passes, falls) = run_all::<R, A, G, Brand>(rt, alloc, &store, gate, passes, plan)?;

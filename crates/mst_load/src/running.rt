@@ -7,8 +7,8 @@ use crate::course::{Course, Newcomer, Worker};
 use crate::engine::LoadFault;
 use crate::gate::Gate;
 use crate::worker::{Plan, work};
-use mst_store::{Pass, Store};
-use std::alloc::{Allocator, Global};
+use mst_store::{Memory, Pass, Store};
+use std::alloc::{AllocError, Allocator, Global};
 use std::marker::PhantomData;
 use std::sync::Wait;
 use std::thread;
@@ -32,7 +32,7 @@ fn start<'s, 'a: 's, E, R: Wait + Sync, G: Gate + Sync, C: Course + Send + 's>(
     };
     match scope.spawn(move || work(rt, gate, newcomer, plan)) {
         Ok(handle) => Ok(handle),
-        Err(_) => Err(LoadFault::Thread),
+        Err(refused) => Err(LoadFault::Thread(Memory::from(refused))),
     }
 }
 
@@ -55,8 +55,8 @@ fn start_all<'s, 'a: 's, E, R: Wait + Sync, A: Allocator, G: Gate + Sync, C: Cou
     let mut handles = Vec::new(alloc);
     for pass in passes {
         let handle = start(scope, rt, gate, pass, plan)?;
-        if handles.push(handle).is_err() {
-            return Err(LoadFault::Memory);
+        if let Err(refused) = handles.push(handle) {
+            return Err(LoadFault::Memory(Memory::from(refused)));
         }
     }
     Ok(handles)
@@ -88,10 +88,10 @@ fn join_all<'a, R: Threads, A: Allocator, C: Course>(
         falls += more;
         if pass.number() as usize != passes.len() + 1 {
             // no thread gives back another pass than it was given
-            return Err(LoadFault::Thread);
+            return Err(LoadFault::Thread(Memory::from(AllocError)));
         }
-        if passes.push(pass).is_err() {
-            return Err(LoadFault::Memory);
+        if let Err(refused) = passes.push(pass) {
+            return Err(LoadFault::Memory(Memory::from(refused)));
         }
     }
     Ok((passes, falls))

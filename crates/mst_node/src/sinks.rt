@@ -124,16 +124,16 @@ impl TextSink for Sha256 {
 #[derive(Drop)]
 pub struct TextBuffer<A: Allocator> {
     bytes: Vec<u8, A>,
-    is_refused: bool,
+    refused: Option<Memory>,
 }
 
 /// Contracts see the bytes; none once a growth was refused.
 impl<A: Allocator> Model for TextBuffer<A> {
-    ghost use Rattle.std.specs.Prelude.{List, ℕ, Option, Some, None, cond};
+    ghost use Rattle.std.specs.Prelude.{List, ℕ, Option, Some, None, cond, is_some};
 
     ghost Value = { Option (List ℕ) };
 
-    ghost view = { λ s. cond s.is_refused None (Some s.bytes.items) };
+    ghost view = { λ s. cond (is_some s.refused) None (Some s.bytes.items) };
 }
 
 impl<A: Allocator> TextBuffer<A> {
@@ -143,7 +143,7 @@ impl<A: Allocator> TextBuffer<A> {
     {
         TextBuffer {
             bytes: Vec::new(alloc),
-            is_refused: false,
+            refused: None,
         }
     }
 
@@ -152,10 +152,9 @@ impl<A: Allocator> TextBuffer<A> {
         ensures bytes { IfOk result (λ bytes. self ≡ Some bytes.items) }
         ensures refused { OnErr result (self ≡ None) }
     {
-        if self.is_refused {
-            Err(Memory)
-        } else {
-            Ok(self.bytes)
+        match self.refused {
+            Some(refused) => Err(refused),
+            None => Ok(self.bytes),
         }
     }
 }
@@ -164,11 +163,12 @@ impl<A: Allocator> TextSink for TextBuffer<A> {
     ghost took = { λ s m. IfSome s (λ bytes. bytes ≡ m) };
 
     fn take(&mut self, bytes: &[u8]) {
-        if !self.is_refused {
-            match self.bytes.extend_from_slice(bytes) {
+        match self.refused {
+            Some(_) => {}
+            None => match self.bytes.extend_from_slice(bytes) {
                 Ok(()) => {}
-                Err(_) => self.is_refused = true,
-            }
+                Err(refused) => self.refused = Some(Memory::from(refused)),
+            },
         }
     }
 }

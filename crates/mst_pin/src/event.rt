@@ -1,5 +1,6 @@
 //! What the core is told, and what it answers.
 
+use std::alloc::AllocError;
 use thiserror::Error;
 
 /// An event. Passes are numbered from 1, version records and rows from 0; a number that names none
@@ -38,4 +39,12 @@ pub enum Answer {
 /// The memory for the answers was refused.
 #[derive(Debug, Drop, Error)]
 #[error("memory")]
-pub struct Memory;
+pub struct Memory {
+    refused: AllocError,
+}
+
+impl From<AllocError> for Memory {
+    fn from(refused: AllocError) -> Memory {
+        Memory { refused }
+    }
+}

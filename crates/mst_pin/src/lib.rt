@@ -114,7 +114,7 @@ impl Core {
             Runs (state self.old) events.now answers.items (state self.new)) }
         ensures memory { OnErr result (self.new ≡ self.old) }
     {
-        let mut answers = Vec::with_capacity(alloc, events.len()).map_err(|_| Memory)?;
+        let mut answers = Vec::with_capacity(alloc, events.len())?;
         for event in events {
             answers.push(self.step(*event)).unwrap();
         }

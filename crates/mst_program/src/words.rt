@@ -1,10 +1,13 @@
 //! The words of the command line.
-ghost use Rattle.std.specs.Prelude.{◌≡◌, IfOk, IfErr, OnErr, false, string_bytes};
+ghost use Rattle.std.specs.Prelude.{◌≡◌, ◌↔◌, IfOk, IfErr, IsSome, OnErr, false, string_bytes};
+ghost use Rattle.clap.specs.Values.{kind_of};
+ghost use Rattle.clap.specs.declared.error.kind.ErrorKind.TheVariants.{OutOfMemory};
 ghost use Rattle.mst_command.specs.Commanding.{AsksFor, EndsWords, IsPlain, asks_version_alone, version_text};
 
 use clap::error::ErrorKind;
 use clap::{Arg, ArgAction, ArgMatches, Command, Error, value_parser};
 use mst_command::{Load, Refusal, Size, Task, ask_text, ask_version_alone, named_task, plain_task};
+use mst_store::Memory;
 use std::alloc::{AllocError, Global};
 
 /// What the help says behind the commands and the options.
@@ -167,6 +170,16 @@ fn task_in<'a>(alloc: Global, words: &[&'a str]) -> Result<Task<'a>, Error>
     Ok(named_task(words, size_in(&matches), load_in(&matches)))
 }
 
+// The refusal of memory that kept clap from its work, if it was one.
+fn refusal_in(error: &Error) -> Option<Memory>
+    ensures exact { IsSome result ↔ kind_of error.now ≡ OutOfMemory }
+{
+    match error.kind() {
+        ErrorKind::OutOfMemory => Some(Memory::from(AllocError)),
+        _ => None,
+    }
+}
+
 // What clap answers words that name no task: help and the version that were asked for are one, and
 // all else is a refusal.
 fn answer_words<'a>(alloc: Global, words: &[&'a str], error: &Error) -> Result<Task<'a>, Refusal>
@@ -175,11 +188,12 @@ fn answer_words<'a>(alloc: Global, words: &[&'a str], error: &Error) -> Result<T
     ensures help { IfOk result (λ task. AsksFor words.now task) }
     ensures refused { IfErr result (λ why. EndsWords why) }
 {
-    if error.kind() == ErrorKind::OutOfMemory {
-        return Err(Refusal::Memory);
+    if let Some(refused) = refusal_in(error) {
+        return Err(Refusal::Memory(refused));
     }
-    let Ok(text) = format!(in alloc; "{error}") else {
-        return Err(Refusal::Memory);
+    let text = match format!(in alloc; "{error}") {
+        Ok(text) => text,
+        Err(refused) => return Err(Refusal::Memory(Memory::from(refused))),
     };
     if error.use_stderr() || !ask_text(words) {
         return Err(Refusal::Words(text));
@@ -218,7 +232,7 @@ fn other_task<'a>(alloc: Global, words: &[&'a str]) -> Result<Task<'a>, Refusal>
     }
     match version_told(alloc) {
         Ok(text) => Ok(Task::Help(text)),
-        Err(_) => Err(Refusal::Memory),
+        Err(refused) => Err(Refusal::Memory(Memory::from(refused))),
     }
 }
 

@@ -11,16 +11,16 @@ use std::marker::Model;
 #[derive(Drop)]
 pub struct NodeBuffer<A: Allocator> {
     bytes: Vec<u8, A>,
-    is_refused: bool,
+    refused: Option<Memory>,
 }
 
 /// Contracts see the bytes of the text at hand; none once a growth was refused.
 impl<A: Allocator> Model for NodeBuffer<A> {
-    ghost use Rattle.std.specs.Prelude.{List, ℕ, Option, Some, None, cond};
+    ghost use Rattle.std.specs.Prelude.{List, ℕ, Option, Some, None, cond, is_some};
 
     ghost Value = { Option (List ℕ) };
 
-    ghost view = { λ s. cond s.is_refused None (Some s.bytes.items) };
+    ghost view = { λ s. cond (is_some s.refused) None (Some s.bytes.items) };
 }
 
 impl<A: Allocator> NodeBuffer<A> {
@@ -30,7 +30,7 @@ impl<A: Allocator> NodeBuffer<A> {
     {
         NodeBuffer {
             bytes: Vec::new(alloc),
-            is_refused: false,
+            refused: None,
         }
     }
 
@@ -41,7 +41,7 @@ impl<A: Allocator> NodeBuffer<A> {
         self.bytes.clear();
         match self.bytes.reserve(room) {
             Ok(()) => {}
-            Err(_) => self.is_refused = true,
+            Err(refused) => self.refused = Some(Memory::from(refused)),
         }
     }
 
@@ -49,10 +49,9 @@ impl<A: Allocator> NodeBuffer<A> {
     pub fn bytes(&self) -> Result<&[u8], Memory>
         ensures bytes { IfOk result (λ bytes. self.now ≡ Some bytes.now) }
     {
-        if self.is_refused {
-            Err(Memory)
-        } else {
-            Ok(self.bytes.as_slice())
+        match self.refused {
+            Some(refused) => Err(refused),
+            None => Ok(self.bytes.as_slice()),
         }
     }
 }
@@ -61,11 +60,12 @@ impl<A: Allocator> TextSink for NodeBuffer<A> {
     ghost took = { λ s m. IfSome s (λ bytes. bytes ≡ m) };
 
     fn take(&mut self, bytes: &[u8]) {
-        if !self.is_refused {
-            match self.bytes.extend_from_slice(bytes) {
+        match self.refused {
+            Some(_) => {}
+            None => match self.bytes.extend_from_slice(bytes) {
                 Ok(()) => {}
-                Err(_) => self.is_refused = true,
-            }
+                Err(refused) => self.refused = Some(Memory::from(refused)),
+            },
         }
     }
 }

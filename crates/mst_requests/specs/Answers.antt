@@ -23,7 +23,7 @@ first_words NoNode = codes "empty"
 first_words Busy = codes "busy"
 first_words Spent = codes "spent"
 first_words NoRoom = codes "noroom"
-first_words Memory = codes "memory"
+first_words (Memory refused) = codes "memory"
 
 -- all lines
 abbrev pub text_of : {A : Type 0} → Answer A → List ℕ
@@ -42,4 +42,4 @@ text_of NoNode = line_of (codes "empty")
 text_of Busy = line_of (codes "busy")
 text_of Spent = line_of (codes "spent")
 text_of NoRoom = line_of (codes "noroom")
-text_of Memory = line_of (codes "memory")
+text_of (Memory refused) = line_of (codes "memory")

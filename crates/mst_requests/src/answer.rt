@@ -10,7 +10,7 @@ use crate::request::Fault;
 use arrayvec::ArrayVec;
 use itoa::Buffer;
 use mst_devices::{Device, Pending, Sink};
-use mst_key::{Format, Key, Value};
+use mst_key::{Format, Key, Memory, Value};
 use std::alloc::Allocator;
 
 /// What a line is answered.
@@ -47,7 +47,7 @@ pub enum Answer<A: Allocator> {
     /// The map would have no room.
     NoRoom,
     /// The memory for what is found was refused.
-    Memory,
+    Memory(Memory),
 }
 
 /// A line of an answer: the longest is `pair ` with the 64 digits of a key, a blank, the 128 digits
@@ -224,7 +224,7 @@ fn first_line<A: Allocator>(answer: &Answer<A>) -> Text
         Answer::Busy => extend(&mut text, b"busy"),
         Answer::Spent => extend(&mut text, b"spent"),
         Answer::NoRoom => extend(&mut text, b"noroom"),
-        Answer::Memory => extend(&mut text, b"memory"),
+        Answer::Memory(_) => extend(&mut text, b"memory"),
     }
     extend(&mut text, b"\n");
     text

@@ -124,7 +124,7 @@ migrated to p q (Ok format) a is ok err = (
 )
 migrated to p q (Err migrate.Busy) a is ok err = (p.seen, [], busy_of p q err.0, inr (inl (ap text_of is, err.1), busy_seen p q err.0))
 migrated to p q (Err migrate.VersionsSpent) a is ok err = (q.seen, [], looked p q err.0, inr (inr (inl (ap text_of is, err.1)), refl))
-migrated to p q (Err migrate.Memory) a is ok err =
+migrated to p q (Err (migrate.Memory refused)) a is ok err =
     (q.seen, [], looked p q err.0, inr (inr (inr (other_there to p q err.0 err.3, err.1, inl (ap text_of is))), refl))
 migrated to p q (Err migrate.NoRoom) a is ok err =
     let refused = err.0 in

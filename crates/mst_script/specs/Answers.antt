@@ -22,5 +22,5 @@ abbrev pub migration_answer : {A : Type 0} → Result Format MigrateFault → An
 migration_answer (Ok format) = Was format
 migration_answer (Err migrate.Busy) = Busy
 migration_answer (Err migrate.VersionsSpent) = Spent
-migration_answer (Err migrate.Memory) = Memory
+migration_answer (Err (migrate.Memory refused)) = Memory refused
 migration_answer (Err migrate.NoRoom) = NoRoom

@@ -5,6 +5,13 @@ use Rattle.mst_store.specs.Passes.{StoreId, Known}
 use Rattle.mst_lines.specs.Runs.{Ran, Stopped}
 use Rattle.mst_script.specs.Machine.{Machine, Line, with_no_pins}
 use Rattle.mst_script.specs.Serving.{Gathers, AllSaw}
+use Rattle.mst_script.specs.declared.script.RunFault.{RunFault}
+use Rattle.mst_script.specs.declared.script.RunFault.TheVariants.{Memory, Device}
+
+-- what holds where a run was refused memory
+abbrev pub OnMemory : RunFault → Type 0 → Type 0
+OnMemory (Memory refused) holds = holds
+OnMemory Device holds = Unit {0}
 
 -- a read or a write has failed since
 abbrev pub HasFailed : {S W : Type 0} → (S → ℕ) → (W → ℕ) → S → W → S → W → Type 0

@@ -42,7 +42,7 @@ fn migration_answer_of<A: Allocator>(migrated: Result<Format, MigrateFault>) -> 
         Ok(format) => Answer::Was(format),
         Err(MigrateFault::Busy) => Answer::Busy,
         Err(MigrateFault::VersionsSpent) => Answer::Spent,
-        Err(MigrateFault::Memory) => Answer::Memory,
+        Err(MigrateFault::Memory(refused)) => Answer::Memory(refused),
         Err(MigrateFault::NoRoom) => Answer::NoRoom,
     }
 }
@@ -60,7 +60,7 @@ fn ask_range<A: Allocator, B: Allocator + Copy>(
 {
     match pass.range(alloc, from, to, limit as usize) {
         Ok(pairs) => Answer::Pairs(pairs),
-        Err(Memory) => Answer::Memory,
+        Err(refused) => Answer::Memory(refused),
     }
 }
 
@@ -74,7 +74,7 @@ fn ask_proof<A: Allocator + Copy, B: Allocator + Copy>(
 {
     match pass.prove(alloc, key) {
         Ok(proof) => Answer::Bytes(proof),
-        Err(Memory) => Answer::Memory,
+        Err(refused) => Answer::Memory(refused),
     }
 }
 
@@ -88,7 +88,7 @@ pub fn top_of<A: Allocator>(alloc: A, proof: &[u8]) -> Answer<A>
     };
     match top.to_vec(alloc) {
         Ok(text) => Answer::Bytes(text),
-        Err(_) => Answer::Memory,
+        Err(refused) => Answer::Memory(Memory::from(refused)),
     }
 }
 
@@ -101,7 +101,7 @@ fn ask_node<A: Allocator + Copy, B: Allocator + Copy>(alloc: A, pass: &mut Pass<
     };
     match pass.prove(alloc, &least) {
         Ok(proof) => top_of(alloc, proof.as_slice()),
-        Err(Memory) => Answer::Memory,
+        Err(refused) => Answer::Memory(refused),
     }
 }
 

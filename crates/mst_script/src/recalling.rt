@@ -11,7 +11,7 @@ ghost use Rattle.mst_script.specs.Serving.{is_unpin};
 use crate::asking::top_of;
 use mst_key::Key;
 use mst_requests::{Answer, Command, Fault};
-use mst_store::{Memory, Pinned};
+use mst_store::Pinned;
 use std::alloc::Allocator;
 
 // Asks a pinned pass for the pairs between two bounds.
@@ -28,7 +28,7 @@ fn recall_range<A: Allocator, B: Allocator + Copy>(
 {
     match pinned.range(alloc, from, to, limit as usize) {
         Ok(pairs) => Answer::Pairs(pairs),
-        Err(Memory) => Answer::Memory,
+        Err(refused) => Answer::Memory(refused),
     }
 }
 
@@ -44,7 +44,7 @@ fn recall_proof<A: Allocator + Copy, B: Allocator + Copy>(
 {
     match pinned.prove(alloc, key) {
         Ok(proof) => Answer::Bytes(proof),
-        Err(Memory) => Answer::Memory,
+        Err(refused) => Answer::Memory(refused),
     }
 }
 
@@ -62,7 +62,7 @@ fn recall_node<A: Allocator + Copy, B: Allocator + Copy>(
     };
     match pinned.prove(alloc, &least) {
         Ok(proof) => top_of(alloc, proof.as_slice()),
-        Err(Memory) => Answer::Memory,
+        Err(refused) => Answer::Memory(refused),
     }
 }
 

@@ -1,16 +1,16 @@
 //! A script: the lines of a source, asked of the passes of a store, and answered into a sink.
-ghost use Rattle.std.specs.Prelude.{◌≡◌, ◌<◌, ◌-◌, ◌+◌, ◌^◌, [], OnOk, OnErr};
+ghost use Rattle.std.specs.Prelude.{◌≡◌, ◌<◌, ◌-◌, ◌+◌, ◌^◌, [], IfErr, OnOk, OnErr};
 ghost use Rattle.mst_lines.specs.Runs.{Ran, Stopped};
 ghost use Rattle.mst_lines.specs.Driving.{Answered, Lost, Closed, NotClosed};
 ghost use Rattle.mst_script.specs.Serving.{AreAllOf, everyone, Serves};
-ghost use Rattle.mst_script.specs.Scripts.{RanScript, StoppedScript, HasFailed};
+ghost use Rattle.mst_script.specs.Scripts.{RanScript, StoppedScript, HasFailed, OnMemory};
 
 use crate::passes::Passes;
 use crate::serve::serve;
 use mst_devices::{Device, Pending, Sink, Source};
 use mst_lines::{LineBuffer, Reader};
 use mst_requests::put_answer;
-use mst_store::{Pass, Store};
+use mst_store::{Memory, Pass, Store};
 use std::alloc::Allocator;
 use std::mem;
 use thiserror::Error;
@@ -20,7 +20,7 @@ use thiserror::Error;
 pub enum RunFault {
     /// A growth was refused before anything was read.
     #[error("no memory")]
-    Memory,
+    Memory(Memory),
     /// A read or a write failed.
     #[error("a device failed")]
     Device,
@@ -173,17 +173,20 @@ pub fn run<S: Source, W: Sink, A: Allocator + Copy, B: Allocator + Copy>(
         source.new sink.new passes.new.items }
     ensures device { result ≡ Err RunFault.Device
         → HasFailed S.failures W.failures source.old sink.old source.new sink.new }
-    ensures memory { result ≡ Err RunFault.Memory
-        → (source.new ≡ source.old) × (sink.new ≡ sink.old) × (passes.new ≡ passes.old) }
+    ensures memory { IfErr result (λ fault. OnMemory fault
+        ((source.new ≡ source.old) × (sink.new ≡ sink.old) × (passes.new ≡ passes.old))) }
 {
-    let Ok(mut pending) = Pending::new(alloc) else {
-        return Err(RunFault::Memory);
+    let mut pending = match Pending::new(alloc) {
+        Ok(pending) => pending,
+        Err(refused) => return Err(RunFault::Memory(Memory::from(refused))),
     };
-    let Ok(mut reader) = Reader::new(alloc) else {
-        return Err(RunFault::Memory);
+    let mut reader = match Reader::new(alloc) {
+        Ok(reader) => reader,
+        Err(refused) => return Err(RunFault::Memory(Memory::from(refused))),
     };
-    let Ok(held) = Vec::with_capacity(alloc, passes.len()) else {
-        return Err(RunFault::Memory);
+    let held = match Vec::with_capacity(alloc, passes.len()) {
+        Ok(held) => held,
+        Err(refused) => return Err(RunFault::Memory(Memory::from(refused))),
     };
     let none = Vec::new(*passes.allocator());
     let mut all = Passes::new(mem::replace(passes, none), held);

@@ -29,6 +29,7 @@ use Rattle.mst_words.specs.Access.{Seated, beside, content_of}
 use Rattle.mst_words.proofs.Framed.{stands_frame}
 use Rattle.mst_words.proofs.Members.{each}
 use Rattle.mst_store.specs.declared.turn.Turn.{Turn}
+use Rattle.mst_key.specs.declared.memory.Memory.{Memory}
 use Rattle.mst_store.specs.declared.faults.MigrateFault.TheVariants as fault
 use Rattle.mst_store.specs.Turns.{Seat, HasTurn, Begun}
 use Rattle.mst_store.specs.Writes.{rows_taken, Made, LacksRows}
@@ -128,8 +129,8 @@ module _ {A : Type 0} (m m1 : Seat) (t : Turn A) (b : Begun m t m1) (m2 m' : Sea
   other_now : format_after m.0.format m'.0.seen ≢ to
   other_now is = other (format_now m m1 t b ∙ ap (λ (log : History). format_after m.0.format log) (sym seen) ∙ is)
 
-  pub refused_memory : RefusesMoveAtSeat fault.Memory to m m'
-  refused_memory = (looked m m1 t b m2 m' same gave, subst (λ (log : History). length log < last_version) (sym seen) early, other_now)
+  pub refused_memory : (refused : Memory) → RefusesMoveAtSeat (fault.Memory refused) to m m'
+  refused_memory refused = (looked m m1 t b m2 m' same gave, subst (λ (log : History). length log < last_version) (sym seen) early, other_now)
 
   pub refused_room : LacksRows (Migrate to) t m1 → RefusesMoveAtSeat fault.NoRoom to m m'
   refused_room lacks = (refused m m1 t b m2 m' same gave (Migrate to) early lacks, other_now)

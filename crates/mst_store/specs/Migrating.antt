@@ -20,20 +20,20 @@ use Rattle.mst_store.specs.Passes.{Known, Looks, format_seen, Refuses}
 abbrev pub RefusesMigration : MigrateFault → Format → Known → Known → Type 0
 RefusesMigration Busy to p q = Refuses write.Busy (Migrate to) p q
 RefusesMigration VersionsSpent to p q = Refuses write.VersionsSpent (Migrate to) p q
-RefusesMigration Memory to p q = Looks p q × (length q.seen < last_version)
+RefusesMigration (Memory refused) to p q = Looks p q × (length q.seen < last_version)
     × (q.asked ≡ p.asked + p.store.passes + 2) × (format_seen q ≢ to)
 RefusesMigration NoRoom to p q = Refuses write.NoRoom (Migrate to) p q × (format_seen q ≢ to)
 
 -- why the holder of the turn makes no tree of another format
 abbrev pub LacksTree : {A : Type 0} → NotMoved → Format → Turn A → Seat → Type 0
-LacksTree moved.Memory to t m = t.format ≢ to
+LacksTree (moved.Memory refused) to t m = t.format ≢ to
 LacksTree moved.NoRoom to t m = (t.format ≢ to) × LacksRows (Migrate to) t m
 
 -- the same refusals, as the seat of the pass has them
 abbrev pub RefusesMoveAtSeat : MigrateFault → Format → Seat → Seat → Type 0
 RefusesMoveAtSeat Busy to m m' = RefusesAtSeat write.Busy (Migrate to) m m'
 RefusesMoveAtSeat VersionsSpent to m m' = RefusesAtSeat write.VersionsSpent (Migrate to) m m'
-RefusesMoveAtSeat Memory to m m' = LookedAtSeat m m' × (length m'.0.seen < last_version)
+RefusesMoveAtSeat (Memory refused) to m m' = LookedAtSeat m m' × (length m'.0.seen < last_version)
     × (format_after m.0.format m'.0.seen ≢ to)
 RefusesMoveAtSeat NoRoom to m m' = RefusesAtSeat write.NoRoom (Migrate to) m m'
     × (format_after m.0.format m'.0.seen ≢ to)

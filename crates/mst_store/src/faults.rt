@@ -1,4 +1,5 @@
 //! Why calls are refused.
+use mst_key::Memory;
 use thiserror::Error;
 
 /// Why a store was not opened.
@@ -9,7 +10,7 @@ pub enum OpenFault {
     Shape,
     /// A growth was refused.
     #[error("no memory")]
-    Memory,
+    Memory(Memory),
 }
 
 /// Why a write was refused. It changed nothing.
@@ -37,7 +38,7 @@ pub enum MigrateFault {
     VersionsSpent,
     /// A growth of the list of the pairs or of their tree was refused.
     #[error("no memory")]
-    Memory,
+    Memory(Memory),
     /// The rows that are free are too few for the tree in the other format.
     #[error("no room")]
     NoRoom,

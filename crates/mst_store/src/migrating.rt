@@ -31,7 +31,7 @@ const MOST_PAIRS: usize = 65_535;
 #[derive(Clone, Copy, Debug, PartialEq, Eq)]
 pub(crate) enum NotMoved {
     /// A growth of the list of the pairs or of their tree was refused.
-    Memory,
+    Memory(Memory),
     /// Fewer rows are free than the tree takes.
     NoRoom,
 }
@@ -98,8 +98,9 @@ fn make_move<A: Allocator + Copy, B: Allocator + Copy>(
     if turn.format == to {
         return Ok(turn.root);
     }
-    let Ok(tree) = tree_in(seat, alloc, turn, to) else {
-        return Err(NotMoved::Memory);
+    let tree = match tree_in(seat, alloc, turn, to) {
+        Ok(tree) => tree,
+        Err(refused) => return Err(NotMoved::Memory(refused)),
     };
     let moved = move_tree(seat, turn, tree.as_deref(), to);
     release(tree);
@@ -153,9 +154,9 @@ pub(crate) fn migrate<A: Allocator + Copy, B: Allocator + Copy>(
             publish(seat, turn, &root, to, &event);
             Ok(format)
         }
-        Err(NotMoved::Memory) => {
+        Err(NotMoved::Memory(refused)) => {
             give_back(seat, turn);
-            Err(MigrateFault::Memory)
+            Err(MigrateFault::Memory(refused))
         }
         Err(NotMoved::NoRoom) => {
             give_back(seat, turn);

@@ -98,10 +98,10 @@ impl<'a, A: Allocator + Copy> Pass<'a, A> {
                 self.seat.unpin(self.number, at.pinned);
                 Ok(found)
             }
-            Err(Memory) => {
+            Err(refused) => {
                 // no pairs are answered, so none were seen
                 self.seat.forget(self.number, at.pinned);
-                Err(Memory)
+                Err(refused)
             }
         }
     }
@@ -150,10 +150,10 @@ impl<'a, A: Allocator + Copy> Pass<'a, A> {
                 self.seat.unpin(self.number, at.pinned);
                 Ok(proof)
             }
-            Err(Memory) => {
+            Err(refused) => {
                 // no proof is answered, so no map was seen
                 self.seat.forget(self.number, at.pinned);
-                Err(Memory)
+                Err(refused)
             }
         }
     }

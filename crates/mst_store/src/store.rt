@@ -84,12 +84,13 @@ impl<A: Allocator + Copy> Store<A> {
         }
         // one record for each pass and two more, so that a record is always free for the next
         // version
-        let Ok(desk) = Desk::new(alloc, shape.rows, shape.passes + 2, 0) else {
-            return Err(OpenFault::Memory);
+        let desk = match Desk::new(alloc, shape.rows, shape.passes + 2, 0) {
+            Ok(desk) => desk,
+            Err(refused) => return Err(OpenFault::Memory(refused)),
         };
         match Board::open(alloc, shape, desk) {
             Ok((board, token)) => Ok((Store { board, shape }, Seats { token })),
-            Err(Memory) => Err(OpenFault::Memory),
+            Err(refused) => Err(OpenFault::Memory(refused)),
         }
     }
 
@@ -116,8 +117,9 @@ impl<A: Allocator + Copy> Store<A> {
         ensures err { IfErr result (λ refused. refused.1 ≡ seats) }
     {
         let count = self.passes();
-        let Ok(mut passes) = Vec::with_capacity(alloc, count as usize) else {
-            return Err((Memory, seats));
+        let mut passes = match Vec::with_capacity(alloc, count as usize) {
+            Ok(passes) => passes,
+            Err(refused) => return Err((Memory::from(refused), seats)),
         };
         let Seats { mut token } = seats;
         for index in 0..count {

@@ -90,7 +90,7 @@ fn stores_of_many_sizes_open_and_deal(rt: HostRuntime) {
 fn are_given<A: Allocator>(found: Result<Vec<(Key, Value), A>, Memory>, count: u32) -> bool {
     match found {
         Ok(pairs) => pairs.len() == count as usize,
-        Err(Memory) => false,
+        Err(_) => false,
     }
 }
 

@@ -10,8 +10,8 @@ use crate::fixtures::{
 use crate::stores::{AMPLE, SMALL, both_passes, fill, heap_of, is_full, opened};
 use linked_list_allocator::LocalHeap;
 use mst_store::Format::{One, Two};
-use mst_store::{Format, MigrateFault, Pass, Pinned, Shape};
-use std::alloc::Global;
+use mst_store::{Format, Memory, MigrateFault, Pass, Pinned, Shape};
+use std::alloc::{AllocError, Global};
 
 /// The root digest in format 1 of the map of 1 with a and 9 with 1: the SHA-256 of the 15 bytes 01
 /// 00 0002 00 01 31 01 61 00 01 39 01 31 00.
@@ -235,7 +235,7 @@ fn migrated_in(alloc: Global, pass: &mut Pass<Global>, from: &Kept, bytes: usize
     }
     match answered {
         Ok(was) => Some(was == from.format),
-        Err(MigrateFault::Memory) => None,
+        Err(MigrateFault::Memory(_)) => None,
         Err(_) => Some(false),
     }
 }
@@ -314,7 +314,8 @@ fn to_the_format_that_stands_no_memory_is_taken(rt: HostRuntime) {
     assert!(rt; puts(&mut first, b"1", b"a", None));
     let blocks = fill(&rt, &heap);
     assert!(rt; is_full(&heap) && !blocks.is_empty());
-    assert!(rt; migration_fails(&mut second, &heap, Two, MigrateFault::Memory));
+    let refused = MigrateFault::Memory(Memory::from(AllocError));
+    assert!(rt; migration_fails(&mut second, &heap, Two, refused));
     assert!(rt; migrates(&mut second, &heap, One, One));
     assert!(rt; has_version(&mut first, 2) && first.format() == One);
 }

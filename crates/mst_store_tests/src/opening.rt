@@ -4,45 +4,47 @@ ghost use Rattle.std.specs.Prelude.{◌≡◌};
 use crate::calls::Call::{Get, Put};
 use crate::calls::{Step, run};
 use crate::stores::{SMALL, both_passes, heap_of, opened};
-use mst_store::{Format, Memory, OpenFault, Seats, Shape, Store};
+use mst_store::{Format, OpenFault, Seats, Shape, Store};
 use std::alloc::Global;
 use std::process::Abort;
 
-// Whether a store of this shape is refused so in a heap of 64 bytes.
-fn is_refused(rt: &(impl Abort + AllocGlobal), shape: Shape, fault: OpenFault) -> bool {
+// Whether a store of this shape is refused in a heap of 64 bytes, for memory or for its shape.
+fn is_refused(rt: &(impl Abort + AllocGlobal), shape: Shape, for_memory: bool) -> bool {
     let heap = heap_of(rt, 64);
     match Store::open(&heap, shape) {
         Ok(_) => false,
-        Err(found) => found == fault,
+        Err(OpenFault::Memory(_)) => for_memory,
+        Err(OpenFault::Shape) => !for_memory,
     }
 }
 
 // Whether a store of this shape is refused so in that heap, and opened where there is memory
 // exactly if memory was what it lacked.
-fn is_tested(rt: &(impl Abort + AllocGlobal), shape: Shape, fault: OpenFault) -> bool {
+fn is_tested(rt: &(impl Abort + AllocGlobal), shape: Shape, for_memory: bool) -> bool {
     let opened = Store::open(rt.alloc(), shape).is_ok();
-    opened == (fault == OpenFault::Memory) && is_refused(rt, shape, fault)
+    opened == for_memory && is_refused(rt, shape, for_memory)
 }
 
 #[test]
 fn shapes_are_tested_before_memory(rt: HostRuntime) {
-    const CASES: &[(u32, u32, OpenFault)] = &[
-        (3, 1, OpenFault::Shape),
-        (65_536, 1, OpenFault::Shape),
-        (4, 0, OpenFault::Shape),
-        (4, 33, OpenFault::Shape),
-        (4, 1, OpenFault::Memory),
-        (4, 32, OpenFault::Memory),
-        (65_535, 1, OpenFault::Memory),
+    // how many rows and passes, and whether memory is what refuses them
+    const CASES: &[(u32, u32, bool)] = &[
+        (3, 1, false),
+        (65_536, 1, false),
+        (4, 0, false),
+        (4, 33, false),
+        (4, 1, true),
+        (4, 32, true),
+        (65_535, 1, true),
     ];
-    for (rows, passes, fault) in CASES {
+    for (rows, passes, for_memory) in CASES {
         let shape = Shape {
             rows: *rows,
             passes: *passes,
             format: Format::One,
         };
         assert!(rt;
-            is_tested(&rt, shape, *fault),
+            is_tested(&rt, shape, *for_memory),
             "{rows} rows, {passes} passes"
         );
     }
@@ -55,7 +57,7 @@ fn opens_in(rt: &(impl Abort + AllocGlobal), bytes: usize) -> bool {
     match Store::open(&heap, SMALL) {
         Ok(_) => true,
         Err(fault) => {
-            assert!(rt; fault == OpenFault::Memory && heap.used() == 0);
+            assert!(rt; matches!(fault, OpenFault::Memory(_)) && heap.used() == 0);
             false
         }
     }
@@ -88,7 +90,7 @@ fn refused(
     ensures own { result ≡ store.now }
 {
     let heap = heap_of(rt, 16);
-    let Err((Memory, seats)) = store.deal(&heap, seats) else {
+    let Err((_, seats)) = store.deal(&heap, seats) else {
         panic!(rt; "16 bytes hold no two passes")
     };
     seats

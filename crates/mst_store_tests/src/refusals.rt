@@ -1,6 +1,6 @@
 //! The text of each refusal.
-use mst_store::{Busy, ChangeFault, MigrateFault, OpenFault, WriteFault};
-use std::alloc::Global;
+use mst_store::{Busy, ChangeFault, Memory, MigrateFault, OpenFault, WriteFault};
+use std::alloc::{AllocError, Global};
 use std::fmt::Display;
 use std::process::Abort;
 
@@ -12,13 +12,7 @@ fn says<T: Display>(rt: &impl Abort, alloc: Global, fault: &T, text: &str) -> bo
 
 #[test]
 fn each_refusal_has_its_text(rt: HostRuntime) {
-    const OPENS: &[(OpenFault, &str)] = &[
-        (
-            OpenFault::Shape,
-            "a store has 4 to 65535 rows and 1 to 32 passes",
-        ),
-        (OpenFault::Memory, "no memory"),
-    ];
+    const SHAPE: &str = "a store has 4 to 65535 rows and 1 to 32 passes";
     const WRITES: &[(WriteFault, &str)] = &[
         (WriteFault::Busy, "another pass has the turn"),
         (WriteFault::VersionsSpent, "version numbers are spent"),
@@ -31,12 +25,12 @@ fn each_refusal_has_its_text(rt: HostRuntime) {
     const MIGRATIONS: &[(MigrateFault, &str)] = &[
         (MigrateFault::Busy, "another pass has the turn"),
         (MigrateFault::VersionsSpent, "version numbers are spent"),
-        (MigrateFault::Memory, "no memory"),
         (MigrateFault::NoRoom, "no room"),
     ];
-    for (fault, text) in OPENS {
-        assert!(rt; says(&rt, rt.alloc(), fault, text), "{text}");
-    }
+    let refused = Memory::from(AllocError);
+    assert!(rt; says(&rt, rt.alloc(), &OpenFault::Shape, SHAPE));
+    assert!(rt; says(&rt, rt.alloc(), &OpenFault::Memory(refused), "no memory"));
+    assert!(rt; says(&rt, rt.alloc(), &MigrateFault::Memory(refused), "no memory"));
     for (fault, text) in WRITES {
         assert!(rt; says(&rt, rt.alloc(), fault, text), "{text}");
     }

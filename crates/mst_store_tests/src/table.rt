@@ -117,7 +117,7 @@ fn opens_in<R: Abort + AllocGlobal>(rt: &R, bytes: usize) -> bool {
     };
     match opened(&heap) {
         Ok(_) => true,
-        Err(Memory) => {
+        Err(_) => {
             assert!(rt; heap.used() == 0);
             false
         }

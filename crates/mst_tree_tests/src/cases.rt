@@ -13,7 +13,7 @@ use crate::reports::{is_key, is_not_hex, is_root, is_said, is_said_behind};
 use mst_key::{KeySize, Memory, ValueSize};
 use mst_node::NodeFault;
 use mst_proof::ProofFault;
-use std::alloc::Global;
+use std::alloc::{AllocError, Global};
 use std::process::Abort;
 
 type Bytes = &'static [u8];
@@ -121,7 +121,7 @@ fn prints_hold(rt: &impl Abort, alloc: Global, case: Case) -> bool {
     match case {
         Case::KeySizePrints(text) => prints(rt, alloc, &KeySize, text),
         Case::ValueSizePrints(text) => prints(rt, alloc, &ValueSize, text),
-        Case::MemoryPrints(text) => prints(rt, alloc, &Memory, text),
+        Case::MemoryPrints(text) => prints(rt, alloc, &Memory::from(AllocError), text),
         Case::NodeFaultPrints(text) => prints(rt, alloc, &NodeFault, text),
         Case::FaultPrints(fault, text) => prints(rt, alloc, &fault, text),
         other => roots_hold(rt, alloc, other),

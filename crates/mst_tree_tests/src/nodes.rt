@@ -7,7 +7,7 @@ use crate::pairs::{
     text_of, top,
 };
 use linked_list_allocator::LocalHeap;
-use mst_key::{Key, Memory, Value};
+use mst_key::{Key, Value};
 use mst_node::{NodeFault, ascending, digest, is_map, read_text, top_text};
 use std::alloc::Global;
 use std::process::Abort;
@@ -207,7 +207,7 @@ fn text_in(heap: &LocalHeap, pairs: &[(Key, Value)], want: &[u8]) -> Option<bool
     match top(heap, pairs) {
         Ok(Some(text)) => Some(text.as_slice() == want),
         Ok(None) => Some(false),
-        Err(Memory) => None,
+        Err(_) => None,
     }
 }
 

@@ -290,7 +290,7 @@ fn collided_in(
     let (key, proof) = asked;
     Some(match collide_in(heap, format, key, proof, Some(&*node)) {
         Ok(pair) => Ok(pair.is_some()),
-        Err(Memory) => Err(Memory),
+        Err(refused) => Err(refused),
     })
 }
 

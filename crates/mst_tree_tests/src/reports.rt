@@ -135,7 +135,7 @@ pub fn is_not_hex(rt: &impl Abort, alloc: Global, zeros: usize, more: &[u8]) -> 
     match report_in(rt, &heap, "62", text.as_slice()) {
         Ok(Report::NotHex) => Some(true),
         Ok(_) => Some(false),
-        Err(Memory) => None,
+        Err(_) => None,
     }
 }
 

@@ -1,9 +1,11 @@
 //! What is said of the text of a proof.
-ghost use Rattle.std.specs.Prelude.{◌≡◌, ◌≤◌, ◌<◌, ◌+◌, ◌*◌, ◌++◌, ◌↔◌, length, IfOk, IsOk, IsTrue, OnErr};
+ghost use Rattle.std.specs.Prelude.{◌≡◌, ◌≢◌, ◌≤◌, ◌<◌, ◌+◌, ◌*◌, ◌++◌, ◌↔◌, length, IfOk, IsOk, IsTrue, OnErr};
 ghost use Rattle.std.specs.List.{list_all};
 ghost use Rattle.hex.specs.Hex.{decode_of, is_hex_digit};
+ghost use Rattle.hex.specs.declared.error.FromHexError.TheVariants.{OutOfMemory};
 ghost use Rattle.mst_key.specs.Digits.{digits_of};
 ghost use Rattle.mst_verify.specs.Report.{limit, without_newline as up_to_newline, report_of, fault_words as words_of_fault, line_of, is_refusal};
+ghost use Rattle.mst_verify.specs.declared.report.Report.TheVariants.{NotHex};
 
 use arrayvec::ArrayVec;
 use hex::FromHexError;
@@ -67,6 +69,16 @@ fn is_hex(text: &[u8]) -> bool
     are_digits(text)
 }
 
+/// What is said of digits that were not decoded.
+fn unread(error: FromHexError) -> Result<Report, Memory>
+    ensures digits { IfOk result (λ report. (report ≡ NotHex) × (error ≢ OutOfMemory)) }
+{
+    match Memory::of_digits(error) {
+        Some(refused) => Err(refused),
+        None => Ok(Report::NotHex),
+    }
+}
+
 /// What a text says of the key in the map with this root digest in this format: the hexadecimal
 /// digits of a proof, in either case, with at most one newline behind them.
 ///
@@ -92,8 +104,7 @@ pub fn report_on<A: Allocator>(
     }
     let proof = match hex::decode(alloc, digits) {
         Ok(proof) => proof,
-        Err(FromHexError::OutOfMemory) => return Err(Memory),
-        Err(_) => return Ok(Report::NotHex),
+        Err(error) => return unread(error),
     };
     Ok(match verify_in(format, root, key, proof.as_slice()) {
         Ok(Some(value)) => Report::Present(value),

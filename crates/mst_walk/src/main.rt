@@ -22,7 +22,7 @@ mod tally;
 mod walk;
 
 use list::List;
-use mst_store::{Format, Pass, Shape, Store};
+use mst_store::{Format, OpenFault, Pass, Shape, Store};
 use std::alloc::Global;
 use std::{env, io};
 use walk::{PASSES, Walk};
@@ -96,11 +96,14 @@ fn main(rt: HostRuntime) -> io::Result<()> {
     let Some(operations) = asked_operations(&rt)? else {
         return println!(rt; "mst_walk [OPERATIONS]: makes so many calls by chance");
     };
-    let Ok((store, seats)) = Store::open(rt.alloc(), SHAPE) else {
-        return Err(io::ErrorKind::OutOfMemory.into());
+    let (store, seats) = match Store::open(rt.alloc(), SHAPE) {
+        Ok(opened) => opened,
+        Err(OpenFault::Memory(refused)) => return Err(refused.into()),
+        Err(OpenFault::Shape) => return Err(io::ErrorKind::InvalidInput.into()),
     };
-    let Ok(passes) = store.deal(rt.alloc(), seats) else {
-        return Err(io::ErrorKind::OutOfMemory.into());
+    let passes = match store.deal(rt.alloc(), seats) {
+        Ok(passes) => passes,
+        Err((refused, _)) => return Err(refused.into()),
     };
     run(&rt, passes, operations)
 }

@@ -129,9 +129,7 @@ fn range<R: Reads>(
 ) -> io::Result<bool> {
     let (from, to) = (some_bound(chance), some_bound(chance));
     let limit = chance.below(MOST_PAIRS + 1);
-    let Ok(found) = reader.pairs(alloc, from.as_ref(), to.as_ref(), limit) else {
-        return Err(io::ErrorKind::OutOfMemory.into());
-    };
+    let found = reader.pairs(alloc, from.as_ref(), to.as_ref(), limit)?;
     Ok(list.is_range(from.as_ref(), to.as_ref(), limit, found.as_slice()))
 }
 
@@ -143,9 +141,7 @@ fn prove<R: Reads>(
     chance: &mut Chance,
 ) -> io::Result<bool> {
     let key = some_key(chance);
-    let Ok(proof) = reader.proof_of(alloc, &key) else {
-        return Err(io::ErrorKind::OutOfMemory.into());
-    };
+    let proof = reader.proof_of(alloc, &key)?;
     match verify_in(list.format(), &reader.root_digest(), &key, proof.as_slice()) {
         Ok(answer) => Ok(answer == list.get(&key)),
         Err(_) => Ok(false),

@@ -98,7 +98,7 @@ fn migrate(
             list.migrate(to);
         }
         Err(MigrateFault::NoRoom) => tally.add(Call::Refused, is_pinned),
-        Err(MigrateFault::Memory) => return Err(io::ErrorKind::OutOfMemory.into()),
+        Err(MigrateFault::Memory(refused)) => return Err(refused.into()),
         Err(_) => tally.add(Call::Migrate, false),
     }
     Ok(())

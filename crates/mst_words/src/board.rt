@@ -15,7 +15,7 @@ use crate::words::first_words;
 use atomic_table::{Seat, Table};
 use mst_arena::Desk;
 use mst_key::Memory;
-use std::alloc::Allocator;
+use std::alloc::{AllocError, Allocator};
 use std::marker::Model;
 
 /// The token of a seat at one table: it has no bytes, and carries what the seat knows. The dealer's
@@ -49,9 +49,7 @@ impl<A: Allocator + Copy> Model for Board<A> {
 fn one_slot<A: Allocator>(alloc: A, desk: Desk<A>) -> Result<Vec<Option<Desk<A>>, A>, Memory>
     ensures ok { IfOk result (λ v. v.items ≡ Some desk ∷ []) }
 {
-    let Ok(mut slots) = Vec::with_capacity(alloc, 1) else {
-        return Err(Memory);
-    };
+    let mut slots = Vec::with_capacity(alloc, 1)?;
     slots.push_reserved(Some(desk));
     Ok(slots)
 }
@@ -71,7 +69,8 @@ impl<A: Allocator + Copy> Board<A> {
         let words = first_words(alloc, shape)?;
         let slots = one_slot(alloc, desk)?;
         let Ok((table, seat)) = Table::new(alloc, &words, slots, &shape) else {
-            return Err(Memory);
+            // the table's refusal says no more than that there was no memory
+            return Err(Memory::from(AllocError));
         };
         Ok((Board { table }, seat))
     }

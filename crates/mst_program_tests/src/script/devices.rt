@@ -3,7 +3,7 @@ use super::{FIVE_ANSWERS, FIVE_LINES, run_over};
 use crate::failing::{Reader, Writer};
 use mst_devices::{BytesSink, BytesSource, Device, StdSink, StdSource};
 use mst_script::RunFault;
-use mst_store::{Format, Shape};
+use mst_store::{Format, Memory, Shape};
 use std::alloc::{AllocError, Global};
 use std::process::Abort;
 use std::test::Fail;
@@ -221,7 +221,8 @@ fn sinks_are_full(rt: HostRuntime) -> Result<(), Fail> {
 
 #[test]
 fn a_run_that_ended_early_says_why(rt: HostRuntime) -> Result<(), Fail> {
-    let told = format!(in rt.alloc(); "{Device}, {}, {}", RunFault::Device, RunFault::Memory)?;
+    let refused = RunFault::Memory(Memory::from(AllocError));
+    let told = format!(in rt.alloc(); "{Device}, {}, {refused}", RunFault::Device)?;
     assert!(rt; told.as_str() == "a device failed, a device failed, no memory");
     Ok(())
 }

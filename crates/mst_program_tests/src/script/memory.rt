@@ -37,7 +37,7 @@ enum Answered {
 
 // How the case is answered; none where that is no such answer.
 fn judged(ran: Result<(), RunFault>, answers: &[u8], case: &Case<'_>) -> Option<Answered> {
-    if ran == Err(RunFault::Memory) && answers.is_empty() {
+    if matches!(ran, Err(RunFault::Memory(_))) && answers.is_empty() {
         return Some(Answered::Nothing);
     }
     if ran.is_err() {
@@ -225,7 +225,7 @@ fn starts_over(
     let mut source = BytesSource::new(PIN);
     let mut sink = BytesSink::new(alloc, 128)?;
     let first = run(heap, &mut source, &mut sink, store, passes);
-    if first == Err(RunFault::Memory) {
+    if matches!(first, Err(RunFault::Memory(_))) {
         assert!(rt; sink.bytes().is_empty() && heap.used() == 0);
         let ran = run(alloc, &mut source, &mut sink, store, passes);
         assert!(rt; ran.is_ok());

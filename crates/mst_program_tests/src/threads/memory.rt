@@ -56,7 +56,7 @@ fn growths_are_refused(rt: HostRuntime) -> Result<(), Fail> {
                 return Ok(());
             }
             Err(fault) => {
-                assert!(rt; fault == LoadFault::Memory);
+                assert!(rt; matches!(fault, LoadFault::Memory(_)));
                 if entered == 0 {
                     stopped_early = true;
                 } else {

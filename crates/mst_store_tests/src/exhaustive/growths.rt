@@ -5,7 +5,7 @@ use crate::fixtures::{PROOF_OF_BOTH, counts, gets, puts, still_gets};
 use crate::stores::{AMPLE, SMALL, both_passes, fill, heap_of, is_full, opened};
 use linked_list_allocator::LocalHeap;
 use mst_key::{Format, Key};
-use mst_store::{Memory, Pass, Pinned, Seats, Shape, Store};
+use mst_store::{Pass, Pinned, Seats, Shape, Store};
 use std::alloc::Global;
 use std::process::Abort;
 
@@ -36,7 +36,7 @@ fn refused_heaps(
                 assert!(rt; all_read_nothing(&mut passes));
                 return units - 1;
             }
-            Err((Memory, again)) => {
+            Err((_, again)) => {
                 assert!(rt; heap.used() == 0, "nothing is kept");
                 seats = again;
             }
@@ -64,7 +64,7 @@ fn each_growth_of_deal_is_refused(rt: HostRuntime) {
 fn range_in(pinned: &mut Pinned<Global>, heap: &LocalHeap) -> Option<bool> {
     match pinned.range(heap, None, None, 10) {
         Ok(pairs) => Some(pairs.len() == 2),
-        Err(Memory) => None,
+        Err(_) => None,
     }
 }
 
@@ -72,7 +72,7 @@ fn range_in(pinned: &mut Pinned<Global>, heap: &LocalHeap) -> Option<bool> {
 fn proof_in(pinned: &mut Pinned<Global>, heap: &LocalHeap, key: &Key) -> Option<bool> {
     match pinned.prove(heap, key) {
         Ok(proof) => Some(proof.as_slice() == PROOF_OF_BOTH),
-        Err(Memory) => None,
+        Err(_) => None,
     }
 }
 

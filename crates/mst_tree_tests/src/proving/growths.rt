@@ -3,7 +3,7 @@ use super::{collided, proof_for, top_in};
 use crate::heaps::{heap_of, is_made};
 use crate::pairs::numbered;
 use linked_list_allocator::LocalHeap;
-use mst_key::{Format, Key, Memory, Value};
+use mst_key::{Format, Key, Value};
 use std::alloc::Global;
 use std::process::Abort;
 
@@ -28,7 +28,7 @@ fn least_blocks(
             blocks,
         ) {
             Some(Ok(false)) => return blocks,
-            Some(Err(Memory)) => {}
+            Some(Err(_)) => {}
             _ => panic!(rt; "a collision, or no tree"),
         }
     }
@@ -60,7 +60,7 @@ fn text_made(
     match top_in(heap, format, pairs) {
         Ok(Some(text)) => Some(text.as_slice() == want),
         Ok(None) => Some(false),
-        Err(Memory) => None,
+        Err(_) => None,
     }
 }
 

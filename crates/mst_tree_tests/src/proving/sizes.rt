@@ -86,9 +86,7 @@ fn collides(alloc: Global, pairs: &[(Key, Value)], key: &Key, proof: &[u8]) -> R
     requires few { length pairs.now ≤ 65535 }
     requires map { IsMap pairs.now }
 {
-    let Ok(tree) = build(alloc, pairs) else {
-        return Err(Memory);
-    };
+    let tree = build(alloc, pairs)?;
     let Some(node) = tree else {
         return Ok(false);
     };

@@ -9,7 +9,6 @@ use crate::heaps::{heap_of, is_made};
 use crate::pairs::{key_of, pair, prints};
 use linked_list_allocator::LocalHeap;
 use mst_arena::{Desk, HeadLinks, PlainRows, Row, Rows, Sought, VersionsSpent, Way};
-use mst_key::Memory;
 use std::alloc::Global;
 use std::process::Abort;
 
@@ -204,7 +203,7 @@ fn sweeps_in_place(desk: &mut Desk<&LocalHeap>, heap: &LocalHeap) -> bool {
 fn desk_in(heap: &LocalHeap) -> Option<bool> {
     match Desk::new(heap, 100, 3, 0) {
         Ok(mut desk) => Some(sweeps_in_place(&mut desk, heap)),
-        Err(Memory) => None,
+        Err(_) => None,
     }
 }
 
@@ -219,7 +218,7 @@ fn desk_fits(rt: &impl Abort, alloc: Global, bytes: usize) -> bool {
 fn rows_in(heap: &LocalHeap) -> Option<bool> {
     match PlainRows::new(heap, 3) {
         Ok(_) => Some(true),
-        Err(Memory) => None,
+        Err(_) => None,
     }
 }
 

@@ -7,7 +7,7 @@ use super::standing::StandingMap;
 use crate::heaps::{heap_of, is_made};
 use crate::pairs::{key_of, next_random, value_of};
 use linked_list_allocator::LocalHeap;
-use mst_key::{Key, Memory, Value};
+use mst_key::{Key, Value};
 use mst_node::root_of;
 use mst_proof::verify;
 use std::alloc::Global;
@@ -250,7 +250,7 @@ fn twenty_thousand_pairs(rt: HostRuntime) {
 fn range_in(heap: &LocalHeap, planted: &mut StandingMap, pairs: &[(Key, Value)]) -> Option<bool> {
     match planted.range(heap, None, None, usize::MAX) {
         Ok(found) => Some(found.as_slice() == pairs),
-        Err(Memory) => None,
+        Err(_) => None,
     }
 }
 

@@ -66,17 +66,17 @@ slice_bounds-append-end g c = search rules
 pub append-requires : goal.append-requires
 append-requires g c = search rules
 
-pub returns-then-is_err-clause-all : goal.returns-then-is_err-clause-all
-returns-then-is_err-clause-all g c = search rules
+pub returns-in-Err-clause-all : goal.returns-in-Err-clause-all
+returns-in-Err-clause-all g c = search rules
 
-pub returns-then-is_err-clause-steady : goal.returns-then-is_err-clause-steady
-returns-then-is_err-clause-steady g c = search rules
+pub returns-in-Err-clause-steady : goal.returns-in-Err-clause-steady
+returns-in-Err-clause-steady g c = search rules
 
-pub returns-then-is_err-clause-device : goal.returns-then-is_err-clause-device
-returns-then-is_err-clause-device g c = search rules
+pub returns-in-Err-clause-device : goal.returns-in-Err-clause-device
+returns-in-Err-clause-device g c = search rules
 
-pub returns-then-is_err-clause-memory : goal.returns-then-is_err-clause-memory
-returns-then-is_err-clause-memory g c = search rules
+pub returns-in-Err-clause-memory : goal.returns-in-Err-clause-memory
+returns-in-Err-clause-memory g c = search rules
 
 pub loop-count-smaller : goal.loop-count-smaller
 loop-count-smaller g c = search rules

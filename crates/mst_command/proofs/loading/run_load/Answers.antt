@@ -22,26 +22,47 @@ returns-then-not-is_load_size-clause-ends g c = search rules
 pub returns-then-not-is_load_size-clause-shape : goal.returns-then-not-is_load_size-clause-shape
 returns-then-not-is_load_size-clause-shape g c = search rules
 
-pub returns-in_default-clause-ran : goal.returns-in_default-clause-ran
-returns-in_default-clause-ran g c = search rules
+pub returns-in-Err-Memory-clause-ran : goal.returns-in-Err-Memory-clause-ran
+returns-in-Err-Memory-clause-ran g c = search rules
 
-pub returns-in_default-clause-done : goal.returns-in_default-clause-done
-returns-in_default-clause-done g c = search rules
+pub returns-in-Err-Thread-clause-ran : goal.returns-in-Err-Thread-clause-ran
+returns-in-Err-Thread-clause-ran g c = search rules
 
-pub returns-in_default-clause-steady : goal.returns-in_default-clause-steady
-returns-in_default-clause-steady g c = search rules
+pub returns-in-Err-Memory-clause-done : goal.returns-in-Err-Memory-clause-done
+returns-in-Err-Memory-clause-done g c = search rules
 
-pub returns-in_default-clause-device : goal.returns-in_default-clause-device
-returns-in_default-clause-device g c = search rules
+pub returns-in-Err-Thread-clause-done : goal.returns-in-Err-Thread-clause-done
+returns-in-Err-Thread-clause-done g c = search rules
 
-pub returns-in_default-clause-unwritten : goal.returns-in_default-clause-unwritten
-returns-in_default-clause-unwritten g c = search rules
+pub returns-in-Err-Memory-clause-steady : goal.returns-in-Err-Memory-clause-steady
+returns-in-Err-Memory-clause-steady g c = search rules
 
-pub returns-in_default-clause-ends : goal.returns-in_default-clause-ends
-returns-in_default-clause-ends g c = search rules
+pub returns-in-Err-Thread-clause-steady : goal.returns-in-Err-Thread-clause-steady
+returns-in-Err-Thread-clause-steady g c = search rules
 
-pub returns-in_default-clause-shape : goal.returns-in_default-clause-shape
-returns-in_default-clause-shape g c = search rules
+pub returns-in-Err-Memory-clause-device : goal.returns-in-Err-Memory-clause-device
+returns-in-Err-Memory-clause-device g c = search rules
+
+pub returns-in-Err-Thread-clause-device : goal.returns-in-Err-Thread-clause-device
+returns-in-Err-Thread-clause-device g c = search rules
+
+pub returns-in-Err-Memory-clause-unwritten : goal.returns-in-Err-Memory-clause-unwritten
+returns-in-Err-Memory-clause-unwritten g c = search rules
+
+pub returns-in-Err-Thread-clause-unwritten : goal.returns-in-Err-Thread-clause-unwritten
+returns-in-Err-Thread-clause-unwritten g c = search rules
+
+pub returns-in-Err-Memory-clause-ends : goal.returns-in-Err-Memory-clause-ends
+returns-in-Err-Memory-clause-ends g c = search rules
+
+pub returns-in-Err-Thread-clause-ends : goal.returns-in-Err-Thread-clause-ends
+returns-in-Err-Thread-clause-ends g c = search rules
+
+pub returns-in-Err-Memory-clause-shape : goal.returns-in-Err-Memory-clause-shape
+returns-in-Err-Memory-clause-shape g c = search rules
+
+pub returns-in-Err-Thread-clause-shape : goal.returns-in-Err-Thread-clause-shape
+returns-in-Err-Thread-clause-shape g c = search rules
 
 pub returns-in-Ok-write_all-clause-ran : goal.returns-in-Ok-write_all-clause-ran
 returns-in-Ok-write_all-clause-ran g c = search rules
@@ -97,8 +118,11 @@ load-requires-clause-writers g c = search rules
 pub load-requires-clause-calls : goal.load-requires-clause-calls
 load-requires-clause-calls g c = search rules
 
-pub returns-in_default-clause-stopped : goal.returns-in_default-clause-stopped
-returns-in_default-clause-stopped g c = search rules
+pub returns-in-Err-Memory-clause-stopped : goal.returns-in-Err-Memory-clause-stopped
+returns-in-Err-Memory-clause-stopped g c = search rules
+
+pub returns-in-Err-Thread-clause-stopped : goal.returns-in-Err-Thread-clause-stopped
+returns-in-Err-Thread-clause-stopped g c = search rules
 
 pub write_all-requires : goal.write_all-requires
 write_all-requires g c = search rules

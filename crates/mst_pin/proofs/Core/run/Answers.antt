@@ -24,9 +24,6 @@ loop-event-preserved g c =
       room = omega arith;
     }
 
-pub map_err-requires : goal.map_err-requires
-map_err-requires g c = search rules
-
 pub returns-in_err-answers-clause-ok : goal.returns-in_err-answers-clause-ok
 returns-in_err-answers-clause-ok g c = search rules
 

@@ -1,80 +1,80 @@
 use Rattle.std.proofs.Common.{rules}
 use Rattle.mst_script.proofs.script.run.Goals as goal
 
-pub returns-in_default-clause-whole : goal.returns-in_default-clause-whole
-returns-in_default-clause-whole g c = search rules
+pub returns-in-Err-clause-whole : goal.returns-in-Err-clause-whole
+returns-in-Err-clause-whole g c = search rules
 
-pub returns-in_default-clause-ok : goal.returns-in_default-clause-ok
-returns-in_default-clause-ok g c = search rules
+pub returns-in-Err-clause-ok : goal.returns-in-Err-clause-ok
+returns-in-Err-clause-ok g c = search rules
 
-pub returns-in_default-clause-ended : goal.returns-in_default-clause-ended
-returns-in_default-clause-ended g c = search rules
+pub returns-in-Err-clause-ended : goal.returns-in-Err-clause-ended
+returns-in-Err-clause-ended g c = search rules
 
-pub returns-in_default-clause-steady_source : goal.returns-in_default-clause-steady_source
-returns-in_default-clause-steady_source g c = search rules
+pub returns-in-Err-clause-steady_source : goal.returns-in-Err-clause-steady_source
+returns-in-Err-clause-steady_source g c = search rules
 
-pub returns-in_default-clause-steady_sink : goal.returns-in_default-clause-steady_sink
-returns-in_default-clause-steady_sink g c = search rules
+pub returns-in-Err-clause-steady_sink : goal.returns-in-Err-clause-steady_sink
+returns-in-Err-clause-steady_sink g c = search rules
 
-pub returns-in_default-clause-stopped : goal.returns-in_default-clause-stopped
-returns-in_default-clause-stopped g c = search rules
+pub returns-in-Err-clause-stopped : goal.returns-in-Err-clause-stopped
+returns-in-Err-clause-stopped g c = search rules
 
-pub returns-in_default-clause-device : goal.returns-in_default-clause-device
-returns-in_default-clause-device g c = search rules
+pub returns-in-Err-clause-device : goal.returns-in-Err-clause-device
+returns-in-Err-clause-device g c = search rules
 
-pub returns-in_default-clause-memory : goal.returns-in_default-clause-memory
-returns-in_default-clause-memory g c = search rules
+pub returns-in-Err-clause-memory : goal.returns-in-Err-clause-memory
+returns-in-Err-clause-memory g c = search rules
 
-pub returns-in_default-new-clause-whole : goal.returns-in_default-new-clause-whole
-returns-in_default-new-clause-whole g c = search rules
+pub returns-in-Err-new-clause-whole : goal.returns-in-Err-new-clause-whole
+returns-in-Err-new-clause-whole g c = search rules
 
-pub returns-in_default-new-clause-ok : goal.returns-in_default-new-clause-ok
-returns-in_default-new-clause-ok g c = search rules
+pub returns-in-Err-new-clause-ok : goal.returns-in-Err-new-clause-ok
+returns-in-Err-new-clause-ok g c = search rules
 
-pub returns-in_default-new-clause-ended : goal.returns-in_default-new-clause-ended
-returns-in_default-new-clause-ended g c = search rules
+pub returns-in-Err-new-clause-ended : goal.returns-in-Err-new-clause-ended
+returns-in-Err-new-clause-ended g c = search rules
 
-pub returns-in_default-new-clause-steady_source : goal.returns-in_default-new-clause-steady_source
-returns-in_default-new-clause-steady_source g c = search rules
+pub returns-in-Err-new-clause-steady_source : goal.returns-in-Err-new-clause-steady_source
+returns-in-Err-new-clause-steady_source g c = search rules
 
-pub returns-in_default-new-clause-steady_sink : goal.returns-in_default-new-clause-steady_sink
-returns-in_default-new-clause-steady_sink g c = search rules
+pub returns-in-Err-new-clause-steady_sink : goal.returns-in-Err-new-clause-steady_sink
+returns-in-Err-new-clause-steady_sink g c = search rules
 
-pub returns-in_default-new-clause-stopped : goal.returns-in_default-new-clause-stopped
-returns-in_default-new-clause-stopped g c = search rules
+pub returns-in-Err-new-clause-stopped : goal.returns-in-Err-new-clause-stopped
+returns-in-Err-new-clause-stopped g c = search rules
 
-pub returns-in_default-new-clause-device : goal.returns-in_default-new-clause-device
-returns-in_default-new-clause-device g c = search rules
+pub returns-in-Err-new-clause-device : goal.returns-in-Err-new-clause-device
+returns-in-Err-new-clause-device g c = search rules
 
-pub returns-in_default-new-clause-memory : goal.returns-in_default-new-clause-memory
-returns-in_default-new-clause-memory g c = search rules
+pub returns-in-Err-new-clause-memory : goal.returns-in-Err-new-clause-memory
+returns-in-Err-new-clause-memory g c = search rules
 
 pub same-pending : goal.same-pending
 same-pending g c = search rules
 
-pub returns-in_default-with_capacity-clause-whole : goal.returns-in_default-with_capacity-clause-whole
-returns-in_default-with_capacity-clause-whole g c = search rules
+pub returns-in-Err-with_capacity-clause-whole : goal.returns-in-Err-with_capacity-clause-whole
+returns-in-Err-with_capacity-clause-whole g c = search rules
 
-pub returns-in_default-with_capacity-clause-ok : goal.returns-in_default-with_capacity-clause-ok
-returns-in_default-with_capacity-clause-ok g c = search rules
+pub returns-in-Err-with_capacity-clause-ok : goal.returns-in-Err-with_capacity-clause-ok
+returns-in-Err-with_capacity-clause-ok g c = search rules
 
-pub returns-in_default-with_capacity-clause-ended : goal.returns-in_default-with_capacity-clause-ended
-returns-in_default-with_capacity-clause-ended g c = search rules
+pub returns-in-Err-with_capacity-clause-ended : goal.returns-in-Err-with_capacity-clause-ended
+returns-in-Err-with_capacity-clause-ended g c = search rules
 
-pub returns-in_default-with_capacity-clause-steady_source : goal.returns-in_default-with_capacity-clause-steady_source
-returns-in_default-with_capacity-clause-steady_source g c = search rules
+pub returns-in-Err-with_capacity-clause-steady_source : goal.returns-in-Err-with_capacity-clause-steady_source
+returns-in-Err-with_capacity-clause-steady_source g c = search rules
 
-pub returns-in_default-with_capacity-clause-steady_sink : goal.returns-in_default-with_capacity-clause-steady_sink
-returns-in_default-with_capacity-clause-steady_sink g c = search rules
+pub returns-in-Err-with_capacity-clause-steady_sink : goal.returns-in-Err-with_capacity-clause-steady_sink
+returns-in-Err-with_capacity-clause-steady_sink g c = search rules
 
-pub returns-in_default-with_capacity-clause-stopped : goal.returns-in_default-with_capacity-clause-stopped
-returns-in_default-with_capacity-clause-stopped g c = search rules
+pub returns-in-Err-with_capacity-clause-stopped : goal.returns-in-Err-with_capacity-clause-stopped
+returns-in-Err-with_capacity-clause-stopped g c = search rules
 
-pub returns-in_default-with_capacity-clause-device : goal.returns-in_default-with_capacity-clause-device
-returns-in_default-with_capacity-clause-device g c = search rules
+pub returns-in-Err-with_capacity-clause-device : goal.returns-in-Err-with_capacity-clause-device
+returns-in-Err-with_capacity-clause-device g c = search rules
 
-pub returns-in_default-with_capacity-clause-memory : goal.returns-in_default-with_capacity-clause-memory
-returns-in_default-with_capacity-clause-memory g c = search rules
+pub returns-in-Err-with_capacity-clause-memory : goal.returns-in-Err-with_capacity-clause-memory
+returns-in-Err-with_capacity-clause-memory g c = search rules
 
 pub new-all-requires-clause-empty : goal.new-all-requires-clause-empty
 new-all-requires-clause-empty g c = search rules

@@ -4,7 +4,7 @@ use crate::heaps::{heap_of, is_made};
 use crate::pairs::key_of;
 use crate::rows::standing::StandingMap;
 use linked_list_allocator::LocalHeap;
-use mst_key::{Key, Memory, Value};
+use mst_key::{Key, Value};
 use mst_node::root_of;
 use std::alloc::Global;
 use std::process::Abort;
@@ -69,7 +69,7 @@ fn ten_thousand_pairs(rt: HostRuntime) {
 fn proof_in(heap: &LocalHeap, planted: &mut StandingMap, key: &Key, wanted: &[u8]) -> Option<bool> {
     match planted.prove(heap, key) {
         Ok(proof) => Some(proof.as_slice() == wanted),
-        Err(Memory) => None,
+        Err(_) => None,
     }
 }
 

@@ -4,9 +4,6 @@ use Rattle.mst_verify.proofs.report.report_on.Goals as goal
 pub returns-then-text-gt-LIMIT : goal.returns-then-text-gt-LIMIT
 returns-then-text-gt-LIMIT g c = search rules
 
-pub returns-in-Err-OutOfMemory : goal.returns-in-Err-OutOfMemory
-returns-in-Err-OutOfMemory g c = search rules
-
 pub returns-in-Err : goal.returns-in-Err
 returns-in-Err g c = search rules
 

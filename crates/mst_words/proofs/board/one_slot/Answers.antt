@@ -1,8 +1,8 @@
 use Rattle.std.proofs.Common.{rules}
 use Rattle.mst_words.proofs.board.one_slot.Goals as goal
 
-pub returns-in_default : goal.returns-in_default
-returns-in_default g c = search rules
+pub returns-in_err-slots : goal.returns-in_err-slots
+returns-in_err-slots g c = search rules
 
 pub returns : goal.returns
 returns g c = search rules

@@ -2,8 +2,8 @@ use Rattle.std.proofs.Common.{arith, rules}
 use Rattle.std.proofs.lemmas.Grind.{common_steps}
 use Rattle.mst_arena.proofs.plain.PlainRows.new.Goals as goal
 
-pub returns-in_default : goal.returns-in_default
-returns-in_default g c = search rules
+pub returns-in_err-places : goal.returns-in_err-places
+returns-in_err-places g c = search rules
 
 pub loop-init : goal.loop-init
 loop-init g c = search rules

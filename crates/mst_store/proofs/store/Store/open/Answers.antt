@@ -31,17 +31,17 @@ new-requires-clause-few_records g c = search rules
 pub new-requires-clause-first : goal.new-requires-clause-first
 new-requires-clause-first g c = search rules
 
-pub returns-in_default-clause-shape : goal.returns-in_default-clause-shape
-returns-in_default-clause-shape g c = search rules
+pub returns-in-Err-clause-shape : goal.returns-in-Err-clause-shape
+returns-in-Err-clause-shape g c = search rules
 
-pub returns-in_default-clause-limits : goal.returns-in_default-clause-limits
-returns-in_default-clause-limits g c = search rules
+pub returns-in-Err-clause-limits : goal.returns-in-Err-clause-limits
+returns-in-Err-clause-limits g c = search rules
 
-pub returns-in_default-clause-store : goal.returns-in_default-clause-store
-returns-in_default-clause-store g c = search rules
+pub returns-in-Err-clause-store : goal.returns-in-Err-clause-store
+returns-in-Err-clause-store g c = search rules
 
-pub returns-in_default-clause-seats : goal.returns-in_default-clause-seats
-returns-in_default-clause-seats g c = search rules
+pub returns-in-Err-clause-seats : goal.returns-in-Err-clause-seats
+returns-in-Err-clause-seats g c = search rules
 
 pub open-requires-clause-some_rows : goal.open-requires-clause-some_rows
 open-requires-clause-some_rows g c = search rules
@@ -76,14 +76,14 @@ returns-in-Ok-open-clause-store g c = search rules
 pub returns-in-Ok-open-clause-seats : goal.returns-in-Ok-open-clause-seats
 returns-in-Ok-open-clause-seats g c = search rules
 
-pub returns-in-Err-clause-shape : goal.returns-in-Err-clause-shape
-returns-in-Err-clause-shape g c = search rules
+pub returns-in-Err-open-clause-shape : goal.returns-in-Err-open-clause-shape
+returns-in-Err-open-clause-shape g c = search rules
 
-pub returns-in-Err-clause-limits : goal.returns-in-Err-clause-limits
-returns-in-Err-clause-limits g c = search rules
+pub returns-in-Err-open-clause-limits : goal.returns-in-Err-open-clause-limits
+returns-in-Err-open-clause-limits g c = search rules
 
-pub returns-in-Err-clause-store : goal.returns-in-Err-clause-store
-returns-in-Err-clause-store g c = search rules
+pub returns-in-Err-open-clause-store : goal.returns-in-Err-open-clause-store
+returns-in-Err-open-clause-store g c = search rules
 
-pub returns-in-Err-clause-seats : goal.returns-in-Err-clause-seats
-returns-in-Err-clause-seats g c = search rules
+pub returns-in-Err-open-clause-seats : goal.returns-in-Err-open-clause-seats
+returns-in-Err-open-clause-seats g c = search rules
