@@ -2,7 +2,7 @@
 -- is a migration, so that the version is one of the format that the store was opened with.
 use Rattle.std.proofs.Common.{◌≡◌, ℕ, zero, suc, ◌+◌, ◌<◌, ◌≤◌, Bool, true, false, cond, List, [], ◌∷◌, ◌++◌, length, length-append, append-nil, get_or, take, drop, take_all, refl, sym, ap, ◌∙◌, subst, eq-eqb, arith}
 use Rattle.std.specs.Prelude.{◌==◌, filter}
-use Rattle.std.specs.List.{All, Contains}
+use Rattle.std.specs.List.{All, AllByRecursion, Contains}
 use Rattle.std.proofs.lemmas.Bool.{cond-true}
 use Rattle.std.proofs.lemmas.Bool.Decides.{nat_tests}
 use Rattle.std.proofs.lemmas.List.{get_or-map, length-map, take-append-le}
@@ -31,24 +31,27 @@ all_keep [] keeps k d below = absurd (omega (arith, below))
 all_keep (e ∷ log) keeps zero d below = keeps.0
 all_keep (e ∷ log) keeps (suc k) d below = all_keep log keeps.1 k d (omega (arith, below))
 
--- ---- a history whose events each keep the format among those of their pass
+-- ---- a history of whose events each is well among those of its pass
 
-first_keeps : (test : Event → Bool) (e : Event) (log : History) → test e ≡ true → KeepsFormat (filter test (e ∷ log)) → IsMigration e.change → ⊥
-first_keeps test e log passes keeps = (subst (λ (b : Bool). KeepsFormat (cond b (e ∷ filter test log) (filter test log))) passes keeps).0
+first_holds : (P : Event → Type 0) (test : Event → Bool) (e : Event) (log : History) → test e ≡ true → AllByRecursion P (filter test (e ∷ log)) → P e
+first_holds P test e log passes each = (subst (λ (b : Bool). AllByRecursion P (cond b (e ∷ filter test log) (filter test log))) passes each).0
 
-rest_keeps : (test : Event → Bool) (e : Event) (log : History) → KeepsFormat (filter test (e ∷ log)) → KeepsFormat (filter test log)
-rest_keeps test e log keeps = go (test e) keeps
+rest_hold : (P : Event → Type 0) (test : Event → Bool) (e : Event) (log : History) → AllByRecursion P (filter test (e ∷ log)) → AllByRecursion P (filter test log)
+rest_hold P test e log each = go (test e) each
   where
-    go : (b : Bool) → KeepsFormat (cond b (e ∷ filter test log) (filter test log)) → KeepsFormat (filter test log)
+    go : (b : Bool) → AllByRecursion P (cond b (e ∷ filter test log) (filter test log)) → AllByRecursion P (filter test log)
     go true all = all.1
     go false all = all
 
-pub keeps_each : (log : History) → ((k : ℕ) (d : Event) → k < length log → KeepsFormat (events_of (get_or log k d).pass log)) → KeepsFormat log
-keeps_each [] own = tt
-keeps_each (e ∷ log) own = (
-  first_keeps (λ x. x.pass == e.pass) e log (grind (arith, nat_tests)) (own 0 e (omega arith)),
-  keeps_each log (λ k d below. rest_keeps (λ x. x.pass == (get_or log k d).pass) e log (own (suc k) d (omega (arith, below)))),
+pub each_of : (P : Event → Type 0) (log : History) → ((k : ℕ) (d : Event) → k < length log → AllByRecursion P (events_of (get_or log k d).pass log)) → AllByRecursion P log
+each_of P [] own = tt
+each_of P (e ∷ log) own = (
+  first_holds P (λ x. x.pass == e.pass) e log (grind (arith, nat_tests)) (own 0 e (omega arith)),
+  each_of P log (λ k d below. rest_hold P (λ x. x.pass == (get_or log k d).pass) e log (own (suc k) d (omega (arith, below)))),
 )
+
+pub keeps_each : (log : History) → ((k : ℕ) (d : Event) → k < length log → KeepsFormat (events_of (get_or log k d).pass log)) → KeepsFormat log
+keeps_each log own = each_of (λ e. IsMigration e.change → ⊥) log own
 
 -- ---- the last of a list
 
@@ -73,7 +76,7 @@ lone P p is zero d below = is
 lone P p is (suc k) d below = absurd (omega (arith, below))
 
 -- the pass of an event of one of the passes
-pass_at : (ps : List Known) (d : Known) (pass : ℕ) → Contains (numbers ps) pass → (k : ℕ) × (k < length ps) × ((get_or ps k d).number ≡ pass)
+pub pass_at : (ps : List Known) (d : Known) (pass : ℕ) → Contains (numbers ps) pass → (k : ℕ) × (k < length ps) × ((get_or ps k d).number ≡ pass)
 pass_at ps d pass there =
     let same = length-map ps (λ (p : Known). p.number) in
     let low : there.0 < length ps = (let below = there.1 in omega (arith, below, same)) in
@@ -179,7 +182,7 @@ pub one_settled : (ps : List Known) (events : ℕ) (digest : List ℕ) → IsSet
 one_settled ps events digest s = (s.log, s.events_is, s.root_is)
 
 pub settled_count : (n m writers calls events : ℕ) (digest : List ℕ) → HasSettled n writers calls events digest → n ≡ m → HasSettled m writers calls events digest
-settled_count n m writers calls events digest s is = record { passes = s.passes; all = s.all; count_is = s.count_is ∙ is; rows = s.rows; format = s.format; worked = s.worked; settled = s.settled }
+settled_count n m writers calls events digest s is = record { passes = s.passes; all = s.all; count_is = s.count_is ∙ is; numbered = s.numbered; rows = s.rows; format = s.format; worked = s.worked; settled = s.settled }
 
 -- and what a pass that is taken from them needs to tell it
 pub seen_by_last : (ps free held others : List Known) (p : Known) → (s : Settled ps [] free held) → others ++ p ∷ [] ≡ free → All (λ x. events_of x.number p.seen ≡ x.mine) (others ++ p ∷ [])

@@ -2,3 +2,5 @@ mod Returning
 mod Working
 mod Kept
 mod Left
+mod Counting
+mod Merged

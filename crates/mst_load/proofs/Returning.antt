@@ -42,6 +42,10 @@ first_at s (suc n) k d below =
 pub dealt_worker : (s : StoreId) (ps : List Known) (k : ℕ) (d : Known) → ps ≡ new_passes s → k < s.passes → IsNewOf s (get_or ps k d)
 dealt_worker s ps k d is below = subst (IsNewOf s) (sym (ap (λ (qs : List Known). get_or qs k d) is ∙ first_at s s.passes k d below)) (record { of_store = refl; keeps = λ i e none. absurd (omega (arith, none)); fresh = merely refl })
 
+-- and its number is the next
+pub dealt_number : (s : StoreId) (ps : List Known) (k : ℕ) (d : Known) → ps ≡ new_passes s → k < s.passes → (get_or ps k d).number ≡ k + 1
+dealt_number s ps k d is below = ap (λ (p : Known). p.number) (ap (λ (qs : List Known). get_or qs k d) is ∙ first_at s s.passes k d below)
+
 -- passes of the store with the numbers from 1 on, as many as it has
 pub all_back : (s : StoreId) (qs : List Known) → length qs ≡ s.passes → ((k : ℕ) (d : Known) → k < length qs → (get_or qs k d).store ≡ s) → ((k : ℕ) (d : Known) → k < length qs → (get_or qs k d).number ≡ k + 1) → AreAllPasses qs
 all_back s qs l own numbered =

@@ -21,11 +21,11 @@ same_then : (p q r : Known) → IsSamePass p q → IsSamePass q r → IsSamePass
 same_then p q r a b = (b.0 ∙ a.0, b.1 ∙ a.1)
 
 -- a refused put leaves the pass's events as they were
-refused_same : (fault : ChangeFault) (change : Change) (p q : Known) → RefusesAfter fault change p q → IsSamePass p q × (q.mine ≡ p.mine)
+pub refused_same : (fault : ChangeFault) (change : Change) (p q : Known) → RefusesAfter fault change p q → IsSamePass p q × (q.mine ≡ p.mine)
 refused_same VersionsSpent change p q r = (r.refused.0.same, r.refused.0.mine)
 refused_same NoRoom change p q r = (r.refused.0.same, r.refused.0.mine)
 
-put_same : (call : ℕ) (p q : Known) → HasPut call p q → IsSamePass p q
+pub put_same : (call : ℕ) (p q : Known) → HasPut call p q → IsSamePass p q
 put_same call p q (inl made) = made.1.wrote.same
 put_same call p q (inr (fault, refused)) = (refused_same fault (change_of p.number call) p q refused).0
 

@@ -1,5 +1,5 @@
 -- What a load tells of the history that its workers made.
-use Rattle.std.specs.Prelude.{◌≡◌, ℕ, List, length, All}
+use Rattle.std.specs.Prelude.{◌≡◌, ℕ, ◌+◌, ◌<◌, List, length, get_or, All}
 use Rattle.mst_key.specs.History.{History, after, events_of, IsPrefix}
 use Rattle.mst_key.specs.declared.format.Format.TheVariants.{One}
 use Rattle.mst_node.specs.Text as text
@@ -23,11 +23,12 @@ pub record IsSettled (passes : List Known) (events : ℕ) (root : List ℕ) : Ty
   pub root_is : root ≡ text.root One (after log)
 
 -- The same of all passes of one store of 32,768 rows, opened in format 1, when each has made all
--- calls of its worker. They are so many
+-- calls of its worker. They are so many, in the order of their numbers from 1
 pub record HasSettled (count writers calls events : ℕ) (root : List ℕ) : Type 0 where
   pub passes : List Known
   pub all : AreAllPasses passes
   pub count_is : length passes ≡ count
+  pub numbered : (k : ℕ) (d : Known) → k < length passes → (get_or passes k d).number ≡ k + 1
   pub rows : All (λ p. p.store.rows ≡ 32768) passes
   pub format : All (λ p. p.store.format ≡ One) passes
   pub worked : All (HasAllCalls writers calls) passes

@@ -7,6 +7,7 @@ ghost use Rattle.mst_load.specs.Workers.{IsNewOf, IsWorkerOf};
 use mst_store::Pass;
 use std::alloc::Global;
 use std::marker::{Brand, PhantomData};
+use std::thread::Promise;
 
 /// Which store the passes of a load are of, how many of the first ones write, and how many calls
 /// each worker makes. Each load picks them.
@@ -45,4 +46,14 @@ pub(crate) struct Worker<'a, C: Course> {
     pub(crate) of: PhantomData<C>,
     pub ghost own: { IsWorkerOf C.store C.writers C.calls pass },
     pub ghost never: { falls ≡ 0 },
+}
+
+/// What a worker's thread promises: it gives back the pass of this number.
+#[derive(Drop)]
+pub(crate) struct SamePass {
+    pub(crate) number: u32,
+}
+
+impl<'a, C: Course> Promise<Worker<'a, C>> for SamePass {
+    ghost kept_by = { λ promise worker. worker.pass.number ≡ promise.number };
 }

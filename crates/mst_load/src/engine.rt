@@ -1,8 +1,8 @@
 //! A load of readers and writers, from the store's opening to its end.
-ghost use Rattle.std.specs.Prelude.{◌≡◌, ◌<◌, ◌≤◌, ◌+◌, ◌∷◌, ◌++◌, [], All, IfOk, length, vec_len, vec_capacity};
+ghost use Rattle.std.specs.Prelude.{◌≡◌, ◌<◌, ◌≤◌, ◌+◌, ◌*◌, ◌∷◌, ◌++◌, ℕ, [], All, IfOk, get_or, length, vec_len, vec_capacity};
 ghost use Rattle.mst_key.specs.declared.format.Format.TheVariants.{One};
 ghost use Rattle.mst_key.specs.History.{after, events_of, KeepsFormat};
-ghost use Rattle.mst_store.specs.Passes.{format_seen, IsShape, HasShape};
+ghost use Rattle.mst_store.specs.Passes.{Known, format_seen, IsShape, HasShape};
 ghost use Rattle.mst_store.specs.Settling.{AreAllPasses};
 ghost use Rattle.mst_node.specs.Text as text;
 ghost use Rattle.mst_load.specs.Calls.{map_left};
@@ -81,6 +81,8 @@ fn report_of<A: Allocator>(
     requires whole { AreAllPasses passes.items }
     requires rows { All (λ p. p.store.rows ≡ 32768) passes.items }
     requires format { All (λ p. p.store.format ≡ One) passes.items }
+    requires numbered { (k : ℕ) (d : Known) → k < vec_len passes
+        → (get_or passes.items k d).number ≡ k + 1 }
     requires keeps { All (λ p. KeepsFormat p.mine) passes.items }
     requires worked { All (HasAllCalls _plan.writers _plan.calls) passes.items }
     ensures falls { result.falls ≡ falls }
@@ -119,7 +121,8 @@ fn opened<A: Allocator + Copy>(alloc: A, shape: Shape) -> Result<(Store<A>, Seat
 /// what they left. The writers are the first passes, the readers follow.
 ///
 /// Call `c` of writer `w` puts the value `c` at the key of `w` and `c` by 32, and waits for its
-/// turn. A put that is refused is no event, and the writer goes on. A reader asks for the version
+/// turn. A put that is refused is no event, and the writer goes on: where there are as many events
+/// as calls of writers, none was refused, and the map is the one that they leave. A reader asks for the version
 /// and for a value in turns. Each worker asks the gate before each call and tells it after.
 ///
 /// There are at most 24 readers, 1 to 8 writers, and 1 to 100,000 calls of each worker. The store,
@@ -143,6 +146,9 @@ pub fn load<R: Threads + Wait + AllocGlobal + Sync, A: Allocator + Copy, G: Gate
     ensures settled { IfOk result
         (λ report. HasSettled (readers + writers) writers calls report.events report.root) }
     ensures built { IfOk result (λ report. report.built ≡ text.root One (map_left writers calls)) }
+    ensures few { IfOk result (λ report. report.events ≤ writers * calls) }
+    ensures whole { IfOk result
+        (λ report. report.events ≡ writers * calls → report.root ≡ report.built) }
 {
     let pairs = match left_by(alloc, writers, calls) {
         Ok(pairs) => pairs,

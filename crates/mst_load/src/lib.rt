@@ -12,9 +12,9 @@
 //!
 //! It is proved that `falls` is 0, from what each read says of its own pass; that `events` and
 //! `root` are those of the one history at which all passes settled when their threads had returned;
-//! and that `built` is the root digest of the map after all calls of the writers. The rest is
-//! tested. A [`Gate`] is asked before each call and told after it, so that a test can hold a worker
-//! until another has come.
+//! that `built` is the root digest of the map after all calls of the writers; and that `root` is it
+//! too where there are as many events as calls. The rest is tested. A [`Gate`] is asked before each
+//! call and told after it, so that a test can hold a worker until another has come.
 //!
 //! Nothing is proved of threads that run at once. What is said of a worker follows from the
 //! contracts of its pass, and what is said of the end from those of all passes together.

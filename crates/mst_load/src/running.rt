@@ -3,16 +3,16 @@ ghost use Rattle.std.specs.Prelude.{◌≡◌, ◌<◌, ◌≤◌, ◌+◌, ℕ,
 ghost use Rattle.mst_store.specs.Passes.{Known};
 ghost use Rattle.mst_load.specs.Workers.{IsNewOf, IsWorkerOf};
 
-use crate::course::{Course, Newcomer, Worker};
+use crate::course::{Course, Newcomer, SamePass, Worker};
 use crate::engine::LoadFault;
 use crate::gate::Gate;
 use crate::worker::{Plan, work};
 use mst_store::{Memory, Pass, Store};
-use std::alloc::{AllocError, Allocator, Global};
+use std::alloc::{Allocator, Global};
 use std::marker::PhantomData;
 use std::sync::Wait;
 use std::thread;
-use std::thread::{JoinHandle, Scope, Threads};
+use std::thread::{PromisedHandle, Scope, Threads};
 
 // Starts the thread of a worker.
 fn start<'s, 'a: 's, E, R: Wait + Sync, G: Gate + Sync, C: Course + Send + 's>(
@@ -21,16 +21,20 @@ fn start<'s, 'a: 's, E, R: Wait + Sync, G: Gate + Sync, C: Course + Send + 's>(
     gate: &'s G,
     pass: Pass<'a, Global>,
     plan: Plan,
-) -> Result<JoinHandle<Worker<'a, C>>, LoadFault>
+) -> Result<PromisedHandle<Worker<'a, C>, SamePass>, LoadFault>
     requires few { plan.writers ≤ 8 }
     requires plan { (plan.writers ≡ C.writers) × (plan.calls ≡ C.calls) }
     requires own { IsNewOf C.store pass }
+    ensures same { IfOk result (λ handle. handle.promise.number ≡ pass.entry.number) }
 {
+    let promise = SamePass {
+        number: pass.number(),
+    };
     let newcomer = Newcomer {
         pass,
         of: PhantomData,
     };
-    match scope.spawn(move || work(rt, gate, newcomer, plan)) {
+    match scope.spawn_with(promise, move || work(rt, gate, newcomer, plan)) {
         Ok(handle) => Ok(handle),
         Err(refused) => Err(LoadFault::Thread(Memory::from(refused))),
     }
@@ -45,12 +49,16 @@ fn start_all<'s, 'a: 's, E, R: Wait + Sync, A: Allocator, G: Gate + Sync, C: Cou
     gate: &'s G,
     passes: Vec<Pass<'a, Global>, A>,
     plan: Plan,
-) -> Result<Vec<JoinHandle<Worker<'a, C>>, A>, LoadFault>
+) -> Result<Vec<PromisedHandle<Worker<'a, C>, SamePass>, A>, LoadFault>
     requires few { plan.writers ≤ 8 }
     requires plan { (plan.writers ≡ C.writers) × (plan.calls ≡ C.calls) }
     requires own { (k : ℕ) (d : Known) → k < vec_len passes
         → IsNewOf C.store (get_or passes.items k d) }
+    requires numbered { (k : ℕ) (d : Known) → k < vec_len passes
+        → (get_or passes.items k d).number ≡ k + 1 }
     ensures count { IfOk result (λ handles. vec_len handles ≡ vec_len passes.entry) }
+    ensures numbered { IfOk result (λ handles. (k : ℕ) (d : _) → k < vec_len handles
+        → (get_or handles.items k d).promise.number ≡ k + 1) }
 {
     let mut handles = Vec::new(alloc);
     for pass in passes {
@@ -63,13 +71,16 @@ fn start_all<'s, 'a: 's, E, R: Wait + Sync, A: Allocator, G: Gate + Sync, C: Cou
 }
 
 // Joins the threads of all workers: their passes, and how often a version was below an earlier one.
-// The passes come back in the order of their numbers, since the threads were started so.
+// The passes come back in the order of their numbers, since the threads were started so and each
+// gives back its own.
 fn join_all<'a, R: Threads, A: Allocator, C: Course>(
     rt: &R,
     alloc: A,
-    handles: Vec<JoinHandle<Worker<'a, C>>, A>,
+    handles: Vec<PromisedHandle<Worker<'a, C>, SamePass>, A>,
 ) -> Result<(Vec<Pass<'a, Global>, A>, u64), LoadFault>
     requires few { vec_len handles ≤ 32 }
+    requires numbered { (k : ℕ) (d : _) → k < vec_len handles
+        → (get_or handles.items k d).promise.number ≡ k + 1 }
     ensures count { IfOk result (λ r. vec_len r.0 ≡ vec_len handles.entry) }
     ensures never { IfOk result (λ r. r.1 ≡ 0) }
     ensures own { IfOk result (λ r. (k : ℕ) (d : Known) → k < vec_len r.0
@@ -86,10 +97,6 @@ fn join_all<'a, R: Threads, A: Allocator, C: Course>(
             ..
         } = handle.join(rt);
         falls += more;
-        if pass.number() as usize != passes.len() + 1 {
-            // no thread gives back another pass than it was given
-            return Err(LoadFault::Thread(Memory::from(AllocError)));
-        }
         if let Err(refused) = passes.push(pass) {
             return Err(LoadFault::Memory(Memory::from(refused)));
         }
@@ -117,6 +124,8 @@ where
     requires count { vec_len passes ≤ 32 }
     requires own { (k : ℕ) (d : Known) → k < vec_len passes
         → IsNewOf C.store (get_or passes.items k d) }
+    requires numbered { (k : ℕ) (d : Known) → k < vec_len passes
+        → (get_or passes.items k d).number ≡ k + 1 }
     ensures count { IfOk result (λ r. vec_len r.0 ≡ vec_len passes.entry) }
     ensures never { IfOk result (λ r. r.1 ≡ 0) }
     ensures own { IfOk result (λ r. (k : ℕ) (d : Known) → k < vec_len r.0
@@ -133,6 +142,8 @@ where
             requires count { vec_len passes ≤ 32 }
             requires own { (k : ℕ) (d : Known) → k < vec_len passes
                 → IsNewOf C.store (get_or passes.items k d) }
+            requires numbered { (k : ℕ) (d : Known) → k < vec_len passes
+                → (get_or passes.items k d).number ≡ k + 1 }
             ensures count { IfOk result (λ r. vec_len r.0 ≡ vec_len passes.entry) }
             ensures never { IfOk result (λ r. r.1 ≡ 0) }
             ensures own { IfOk result (λ r. (k : ℕ) (d : Known) → k < vec_len r.0
@@ -140,7 +151,7 @@ where
             ensures numbered { IfOk result (λ r. (k : ℕ) (d : Known) → k < vec_len r.0
                 → (get_or r.0.items k d).number ≡ k + 1) }
         {
-            let handles: Vec<JoinHandle<Worker<C>>, A> = start_all(
+            let handles: Vec<PromisedHandle<Worker<C>, SamePass>, A> = start_all(
                 scope, rt, alloc, gate, passes, plan,
             )?;
             join_all(rt, alloc, handles)

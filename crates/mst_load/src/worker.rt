@@ -108,6 +108,7 @@ pub(crate) fn work<'a, R: Wait, G: Gate, C: Course>(
 ) -> Worker<'a, C>
     requires few { plan.writers ≤ 8 }
     requires plan { (plan.writers ≡ C.writers) × (plan.calls ≡ C.calls) }
+    ensures same { result.pass.number ≡ newcomer.entry.pass.number }
 {
     let Newcomer { mut pass, .. } = newcomer;
     let falls = make_calls(rt, gate, &mut pass, plan);

@@ -3,8 +3,9 @@ use Rattle.std.proofs.Common.{rules, arith, ap, ◌∙◌}
 use Rattle.mst_store.specs.Passes.{StoreId}
 use Rattle.mst_store.specs.Settling.{AreAllPasses}
 use Rattle.std.specs.Prelude.{get_or}
-use Rattle.mst_load.proofs.Kept.{each_keeps}
-use Rattle.mst_load.proofs.Returning.{dealt_worker, all_back}
+use Rattle.mst_load.proofs.Kept.{each_keeps, settled_count}
+use Rattle.mst_load.proofs.Returning.{dealt_worker, dealt_number, all_back}
+use Rattle.mst_load.proofs.Merged.{few_puts, all_puts}
 use Rattle.mst_load.proofs.engine.load.Goals as goal
 
 -- the passes that go to the workers are those that were dealt
@@ -27,6 +28,28 @@ report_of-requires g c =
       whole = whole;
       rows = λ k d below. (let own = back.ensures.own k d (search rules) in ap (λ (s : StoreId). s.rows) own.of_store ∙ c.in-Ok-opened.ensures.store.0);
       format = λ k d below. (let own = back.ensures.own k d (search rules) in ap (λ (s : StoreId). s.format) own.of_store ∙ c.in-Ok-opened.ensures.store.2);
+      numbered = λ k d below. back.ensures.numbered k d (search rules);
       keeps = λ k d below. (let own = back.ensures.own k d (search rules) in each_keeps (get_or passes k d).mine own.keeps);
       worked = λ k d below. (back.ensures.own k d (search rules)).worked;
     }
+
+-- they are numbered from 1 on
+pub run_all-requires-clause-numbered : goal.run_all-requires-clause-numbered
+run_all-requires-clause-numbered g c κs within =
+    let store = c.in-Ok-opened.store in let dealt = c.in-Ok-deal in
+    let count : vec_len dealt.passes ≡ store.passes = search rules in
+    (λ k d below. dealt_number store dealt.passes.items k d dealt.ensures.ok (omega (arith, below, count)))
+
+pub returns-clause-few : goal.returns-clause-few
+returns-clause-few g c =
+    let count : vec_len c.in_ok-passes.passes ≡ c.in-Ok-opened.store.passes = search rules in
+    let told = c.report_of.result in
+    few_puts c.args.readers c.args.writers c.args.calls told.events told.root
+    (settled_count (vec_len c.in_ok-passes.passes) (c.args.readers + c.args.writers) c.args.writers c.args.calls told.events told.root c.report_of.ensures.settled (count ∙ c.in-Ok-opened.ensures.store.1))
+
+pub returns-clause-whole : goal.returns-clause-whole
+returns-clause-whole g c =
+    let count : vec_len c.in_ok-passes.passes ≡ c.in-Ok-opened.store.passes = search rules in
+    let told = c.report_of.result in
+    all_puts c.args.readers c.args.writers c.args.calls told.events told.root
+    (settled_count (vec_len c.in_ok-passes.passes) (c.args.readers + c.args.writers) c.args.writers c.args.calls told.events told.root c.report_of.ensures.settled (count ∙ c.in-Ok-opened.ensures.store.1)) told.built (search rules)

@@ -1,4 +1,4 @@
-use Rattle.std.proofs.Common.{◌≡◌, List, [], sym, ◌∙◌, subst, rules}
+use Rattle.std.proofs.Common.{◌≡◌, List, [], length, sym, ◌∙◌, subst, arith, rules}
 use Rattle.mst_store.specs.Passes.{Known}
 use Rattle.mst_store.specs.Settling.{AreAllPasses, Settled}
 use Rattle.mst_store.proofs.AllPasses.{none_held}
@@ -43,6 +43,7 @@ returns-clause-settled g c =
       passes = ws;
       all = c.requires.whole;
       count_is = search rules;
+      numbered = λ k d below. (let size : length ws ≡ c.args.passes.len = search rules in c.requires.numbered k d (omega (arith, below, size)));
       rows = c.requires.rows;
       format = c.requires.format;
       worked = c.requires.worked;

@@ -1,5 +1,5 @@
 use Rattle.std.specs.Prelude.{◌≡◌, ℕ, ◌+◌, ◌<◌, get_or, vec_items, vec_len}
-use Rattle.std.specs.Vec.Iter.{into_iter_len}
+use Rattle.std.specs.Vec.Iter.{into_iter_items, into_iter_len}
 use Rattle.mst_store.specs.Passes.{Known}
 use Rattle.mst_load.specs.Workers.{IsWorkerOf}
 use Rattle.mst_load.proofs.running.join_all.Given as goal
@@ -10,3 +10,4 @@ invariant-loop-handle g l =
     × (l.falls ≡ 0)
     × ((k : ℕ) (d : Known) → k < vec_len l.passes → IsWorkerOf g.C.Course.store g.C.Course.writers g.C.Course.calls (get_or (vec_items l.passes) k d))
     × ((k : ℕ) (d : Known) → k < vec_len l.passes → (get_or (vec_items l.passes) k d).number ≡ k + 1)
+    × ((k : ℕ) (d : _) → k < into_iter_len l.handle-iterator → (get_or (into_iter_items l.handle-iterator) k d).promise.number ≡ vec_len l.passes + k + 1)

@@ -1,4 +1,4 @@
-use Rattle.std.specs.Prelude.{◌≡◌, ℕ, ◌+◌, ◌<◌, get_or, vec_len}
+use Rattle.std.specs.Prelude.{◌≡◌, ℕ, ◌+◌, ◌<◌, get_or, vec_items, vec_len}
 use Rattle.std.specs.Vec.Iter.{into_iter_items, into_iter_len}
 use Rattle.mst_store.specs.Passes.{Known}
 use Rattle.mst_load.specs.Workers.{IsNewOf}
@@ -8,3 +8,5 @@ abbrev pub invariant-loop-pass : goal.invariant-loop-pass
 invariant-loop-pass g l =
     (vec_len l.handles + into_iter_len l.pass-iterator ≡ vec_len l.fn.passes)
     × ((k : ℕ) (d : Known) → k < into_iter_len l.pass-iterator → IsNewOf g.C.Course.store (get_or (into_iter_items l.pass-iterator) k d))
+    × ((k : ℕ) (d : Known) → k < into_iter_len l.pass-iterator → (get_or (into_iter_items l.pass-iterator) k d).number ≡ vec_len l.handles + k + 1)
+    × ((k : ℕ) (d : _) → k < vec_len l.handles → (get_or (vec_items l.handles) k d).promise.number ≡ k + 1)
