@@ -71,6 +71,8 @@ impl Sought {
     pub fn words(&self) -> [u64; 4]
         ensures words { result ≡ word_from self.now 0 ∷ word_from self.now 8 ∷ word_from self.now 16
             ∷ word_from self.now 24 ∷ [] }
+        ensures limits { IsKey self.now }
+        ensures range { IsBytes self.now }
     {
         self.words
     }

@@ -2,10 +2,11 @@
 ghost use Rattle.std.specs.Prelude.{◌≡◌, ◌+◌, ◌%◌, ◌<◌, ◌≤◌, length, map, slice_set, true, IsTrue, Some};
 ghost use Rattle.std.specs.List.{range_with_len};
 ghost use Rattle.std.specs.Ordering.{nat_cmp, ordering_then};
+ghost use Rattle.std.specs.declared.cmp.Ordering.TheVariants.{Equal};
 ghost use Rattle.mst_key.specs.Bytes.{IsKey, IsBytes};
 ghost use Rattle.mst_arena.specs.Content.{Writes};
 ghost use Rattle.mst_arena.specs.Ways.{words_order};
-ghost use Rattle.mst_arena.specs.Words.{row_in};
+ghost use Rattle.mst_arena.specs.Words.{row_in, word_from};
 ghost use Rattle.mst_arena.specs.declared.row.Row.{Row};
 ghost use Rattle.mst_words.specs.Layout.{row_words, row_word};
 ghost use Rattle.mst_words.specs.Records as records;
@@ -75,7 +76,22 @@ impl<'a, A: Allocator + Copy> PassSeat<'a, A> {
         }
     }
 
-    // The order of a key and that of an entry: words are loaded until two differ, mostly one.
+    // The order of a key and that of an entry whose first words are the same: words are loaded until
+    // two differ.
+    fn order_behind(&mut self, row: u32, key: &Sought) -> Ordering
+        requires readable { may_read self.old.me.0 row ≡ true }
+        ensures order { nat_cmp (word_from key.now 0) (records.row self.old.me.0.known_words row 4)
+            ≡ Equal → result ≡ words_order key.now (records.row self.old.me.0.known_words row) }
+        ensures same { self.new ≡ self.old }
+    {
+        let [_, second, third, last] = key.words();
+        let order = second.cmp(&self.word(row, 5));
+        let order = self.next_order(order, third, row, 6);
+        let order = self.next_order(order, last, row, 7);
+        self.length_order(order, key.len(), row)
+    }
+
+    // The order of a key and that of an entry: mostly the first word decides, by one load.
     fn order(&mut self, row: u32, key: &Sought) -> Ordering
         requires readable { may_read self.old.me.0 row ≡ true }
         ensures order { result ≡ words_order key.now (records.row self.old.me.0.known_words row) }
@@ -83,12 +99,15 @@ impl<'a, A: Allocator + Copy> PassSeat<'a, A> {
         ensures range { IsBytes key.now }
         ensures same { self.new ≡ self.old }
     {
-        let [first, second, third, last] = key.words();
-        let order = first.cmp(&self.word(row, 4));
-        let order = self.next_order(order, second, row, 5);
-        let order = self.next_order(order, third, row, 6);
-        let order = self.next_order(order, last, row, 7);
-        self.length_order(order, key.len(), row)
+        let [first, ..] = key.words();
+        let stored = self.word(row, 4);
+        if first < stored {
+            Ordering::Less
+        } else if stored < first {
+            Ordering::Greater
+        } else {
+            self.order_behind(row, key)
+        }
     }
 
     // Makes word k of a blank row this one: one load, and a store where another word stands there,
