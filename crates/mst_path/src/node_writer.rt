@@ -201,8 +201,12 @@ impl NodeWriter {
             None => 0,
         };
         rows.copy_entry(from, to, child.link, next);
-        self.hasher
-            .entry(self.format, digest_at(child), entry.key.bytes(), value.bytes());
+        self.hasher.entry(
+            self.format,
+            digest_at(child),
+            entry.key.bytes(),
+            value.bytes(),
+        );
     }
 
     /// Writes the head, once all entries are written, with the tree at `tail` in the last gap. It

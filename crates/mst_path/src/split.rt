@@ -9,13 +9,13 @@ ghost use Rattle.mst_change.specs.Parts.{is_empty};
 ghost use Rattle.mst_change.specs.Cost.{side_rows, split_rows};
 ghost use Rattle.mst_path.specs.Takes.{FreeIsBlank};
 ghost use Rattle.mst_path.specs.Writing.{IsRootOf};
-ghost use Rattle.mst_path.specs.Making.{PartsStand, in_parts, Grown, Split};
+ghost use Rattle.mst_path.specs.Making.{PartsStand, in_parts, Grown, Split, tail_behind};
 ghost use Rattle.mst_path.specs.Splitting.{ToSplit, BothStand, side_of, in_both};
 
 use crate::copying::root_at;
 use crate::cut::{Cut, cut_at};
 use crate::making::{Parts, Run, kept_tail, make_node, no_run};
-use mst_arena::{Desk, Root, Rows, Sought};
+use mst_arena::{Desk, HeadLinks, Root, Rows, Sought};
 use mst_key::Format;
 use mst_node::empty_digest;
 use std::alloc::Allocator;
@@ -93,6 +93,44 @@ pub(crate) fn both_sides<R: Rows, A: Allocator>(
     (lower, upper)
 }
 
+/// The part of a node in front of a gap, with a tree behind it.
+fn front_part(layer: u8, front: Run, seam: Root) -> Parts
+    ensures part { result ≡ record {
+      layer = layer;
+      front = front;
+      seam = seam;
+      back = record { first = 0; count = 0 };
+      tail = 0;
+    } }
+{
+    Parts {
+        layer,
+        front,
+        seam,
+        back: no_run(),
+        tail: 0,
+    }
+}
+
+/// The part of a node behind a gap, with a tree in front of it.
+fn back_part(head: &HeadLinks, back: Run, seam: Root) -> Parts
+    ensures part { result ≡ record {
+      layer = head.now.layer;
+      front = record { first = 0; count = 0 };
+      seam = seam;
+      back = back;
+      tail = tail_behind back.count head.now.tail;
+    } }
+{
+    Parts {
+        layer: head.layer,
+        front: no_run(),
+        seam,
+        back,
+        tail: kept_tail(back.count, head.tail),
+    }
+}
+
 /// The two sides of a tree at a key that is of a higher layer than all its keys. Along the path to
 /// the key each node is made anew, in at most two parts; all beside the path is shared, and so is a
 /// tree that is all on one side of the key.
@@ -135,19 +173,7 @@ pub(crate) fn split<R: Rows, A: Allocator>(
     if is_none(&front, &lower) {
         return (nothing(), root_at(rows, link));
     }
-    let left = Parts {
-        layer: head.layer,
-        front,
-        seam: lower,
-        back: no_run(),
-        tail: 0,
-    };
-    let right = Parts {
-        layer: head.layer,
-        front: no_run(),
-        seam: upper,
-        back,
-        tail: kept_tail(back.count, head.tail),
-    };
+    let left = front_part(head.layer, front, lower);
+    let right = back_part(&head, back, upper);
     both_sides(rows, desk, link - 1, &left, &right, format)
 }

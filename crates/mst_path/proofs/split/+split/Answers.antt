@@ -166,18 +166,18 @@ returns-then-is_none-2-clause-shared_above g n c t given =
 pub both_sides-requires-clause-parts : goal.both_sides-requires-clause-parts
 both_sides-requires-clause-parts g n c =
     let at = (goal.at.both_sides-requires-clause-parts g n c).After-split in
-    both c.args.format (here g n at c.requires.tree.0) (cut g n at c.requires.tree.0) (parted g n at c.requires.tree.0) c.no_run.ensures.none c.no_run-2.ensures.none c.kept_tail.ensures.tail
+    rw c.front_part-left.ensures.part (rw c.back_part-right.ensures.part (both c.args.format (here g n at c.requires.tree.0) (cut g n at c.requires.tree.0) (parted g n at c.requires.tree.0) refl refl refl))
 
 pub both_sides-requires-clause-low : goal.both_sides-requires-clause-low
 both_sides-requires-clause-low g n c =
     let low = layer_low c.args.format (here g n (goal.at.both_sides-requires-clause-low g n c).After-split c.requires.tree.0) in
-    (low, low)
+    rw c.front_part-left.ensures.part (rw c.back_part-right.ensures.part (low, low))
 
 pub both_sides-requires-clause-room : goal.both_sides-requires-clause-room
 both_sides-requires-clause-room g n c =
     let at = (goal.at.both_sides-requires-clause-room g n c).After-split in
     let r = parted g n at c.requires.tree.0 in
-    omega (arith, c.requires.tree.1, r.moves.room, r.counted, count_is c.args.format (here g n at c.requires.tree.0) (cut g n at c.requires.tree.0) r c.no_run.ensures.none c.no_run-2.ensures.none c.kept_tail.ensures.tail (sym c.is_none.ensures.none ∙ c.if-is_none.false) (sym c.is_none-2.ensures.none ∙ c.if-is_none-2.false))
+    rw c.front_part-left.ensures.part (rw c.back_part-right.ensures.part (omega (arith, c.requires.tree.1, r.moves.room, r.counted, count_is c.args.format (here g n at c.requires.tree.0) (cut g n at c.requires.tree.0) r refl refl refl (sym c.is_none.ensures.none ∙ c.if-is_none.false) (sym c.is_none-2.ensures.none ∙ c.if-is_none-2.false))))
 
 pub both_sides-requires-clause-few : goal.both_sides-requires-clause-few
 both_sides-requires-clause-few g n c =
@@ -192,8 +192,9 @@ both_sides-requires-clause-free g n c =
 pub returns-clause-split : goal.returns-clause-split
 returns-clause-split g n c t =
     let at = (goal.at.returns-clause-split g n c).After-split in
-    let made = c.both_sides.ensures.made (both c.args.format (here g n at t) (cut g n at t) (parted g n at t) c.no_run.ensures.none c.no_run-2.ensures.none c.kept_tail.ensures.tail) in
-    split_made c.args.format (here g n at t) (cut g n at t) (parted g n at t) c.no_run.ensures.none c.no_run-2.ensures.none c.kept_tail.ensures.tail (sym c.is_none.ensures.none ∙ c.if-is_none.false) (sym c.is_none-2.ensures.none ∙ c.if-is_none-2.false) refl _ _ _ _ made
+    let each = c.both_sides.ensures.made in
+    let made = (rw (c.front_part-left.ensures.part, c.back_part-right.ensures.part) at each) (both c.args.format (here g n at t) (cut g n at t) (parted g n at t) refl refl refl) in
+    split_made c.args.format (here g n at t) (cut g n at t) (parted g n at t) refl refl refl (sym c.is_none.ensures.none ∙ c.if-is_none.false) (sym c.is_none-2.ensures.none ∙ c.if-is_none-2.false) refl _ _ _ _ made
 
 pub returns-clause-shared_below : goal.returns-clause-shared_below
 returns-clause-shared_below g n c t e =

@@ -4,7 +4,7 @@ use Rattle.std.proofs.Common.{◌≡◌, ◌≢◌, ◌+◌, ◌∷◌, [], ℕ,
 use Rattle.std.specs.List.{AllByRecursion}
 use Rattle.sha2.specs.Hashers.{Holds256}
 use Rattle.mst_arena.specs.Content.{Content, Writes, part_at, relinked}
-use Rattle.mst_arena.specs.Row.{entry_links, entry_value}
+use Rattle.mst_arena.specs.Row.{entry_links}
 use Rattle.mst_arena.specs.declared.row.Row.TheVariants.{Entry}
 use Rattle.mst_arena.specs.Standing.{rows_of, used, link_of, HasRows}
 use Rattle.mst_arena.proofs.Stands.{all-append, placed_frame, same_of_write}
