@@ -21,14 +21,22 @@ impl Key {
     /// The layer of the key in a format: how many digits 0 begin the SHA-256 of its bytes (FIPS
     /// 180-4), in format 1 hexadecimal ones, 0 to 64, in format 2 base-four ones, 0 to 128. In each
     /// byte the high digit comes first.
-    #[tactic(auto, unfolding(crate::specs::Layer::layer_in))]
     pub fn layer_in(&self, format: Format) -> u8
         ensures layer { result ≡ layer_in format self.now }
         ensures range { result ≤ most_layer format }
     {
-        let digest = Sha256::digest(self.bytes());
-        zeros_of_digest(format, &digest)
+        layer_of(format, self.bytes())
     }
+}
+
+/// The layer in a format of the key that has these bytes.
+#[tactic(auto, unfolding(crate::specs::Layer::layer_in))]
+pub fn layer_of(format: Format, key: &[u8]) -> u8
+    ensures layer { result ≡ layer_in format key.now }
+    ensures range { result ≤ most_layer format }
+{
+    let digest = Sha256::digest(key);
+    zeros_of_digest(format, &digest)
 }
 
 /// How many hexadecimal digits 0 begin a byte.

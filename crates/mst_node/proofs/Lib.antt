@@ -12,6 +12,7 @@ pub mod Places
 pub mod Fits
 pub mod Located
 pub mod Grammars
+pub mod Scans
 pub mod Lying
 pub mod Frames
 pub mod Spelt

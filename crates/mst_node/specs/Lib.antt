@@ -12,4 +12,6 @@ pub mod Trail
 pub mod Cost
 pub mod Stays
 pub mod Place
+pub mod Scan
+pub mod Found
 pub mod Collision

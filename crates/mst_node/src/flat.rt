@@ -13,11 +13,11 @@ ghost use Rattle.mst_node.specs.Seen.{seen};
 ghost use Rattle.mst_node.specs.Held.{held_as, HasSize};
 
 use crate::held::Held;
-use crate::order::precedes;
+use crate::order::comes_before;
 use crate::place::{Place, Span};
 use crate::reading::{EntryBytes, behind, child_of, entry_of};
 use crate::sinks::format_byte;
-use mst_key::{Format, Key, Value};
+use mst_key::{Format, Key, Value, layer_of};
 use std::cmp::Ordering;
 use std::marker::Model;
 
@@ -85,16 +85,16 @@ pub(crate) fn flat_of(format: Format, text: &[u8]) -> Option<Flat<'_>>
 
 /// Whether the key of an entry has the layer of its node, and comes after the key of the entry
 /// before.
-fn fits(format: Format, layer: u8, last: &Option<Key>, key: &Key) -> bool
-    ensures fits { IsTrue result
-        ↔ ((layer_in format key.now ≡ layer) × IfSome last.now (λ low. key_cmp low key.now ≡ Less)) }
+pub(crate) fn fits(format: Format, layer: u8, last: Option<&[u8]>, key: &[u8]) -> bool
+    ensures fits { IsTrue result ↔ ((layer_in format key.now ≡ layer)
+        × IfSome (option_copied last.entry) (λ low. key_cmp low key.now ≡ Less)) }
 {
-    if key.layer_in(format) != layer {
+    if layer_of(format, key) != layer {
         return false;
     }
     match last {
         None => true,
-        Some(low) => precedes(low, key),
+        Some(low) => comes_before(low, key),
     }
 }
 
@@ -104,18 +104,15 @@ impl<'a> Flat<'a> {
         ensures fit { IsTrue result ↔ KeysFit self.now }
     {
         let mut rest = self.body;
-        let mut last: Option<Key> = None;
+        let mut last: Option<&[u8]> = None;
         for _ in 0..self.count {
             let Some((entry, after)) = entry_of(self.format, rest) else {
                 unreachable!()
             };
-            let Ok(key) = Key::new(entry.key) else {
-                unreachable!()
-            };
-            if !fits(self.format, self.layer, &last, &key) {
+            if !fits(self.format, self.layer, last, entry.key) {
                 return false;
             }
-            last = Some(key);
+            last = Some(entry.key);
             rest = after;
         }
         true

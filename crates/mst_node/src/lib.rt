@@ -29,6 +29,7 @@
 //! of their keys, which `is_map` tests and the calls do not.
 #![tactic(auto)]
 
+mod finding;
 mod flat;
 mod framing;
 mod grammar;
@@ -46,6 +47,7 @@ mod short;
 mod sinks;
 mod texts;
 
+pub use finding::{Finding, find_in_text};
 pub use flat::Flat;
 pub use framing::top_text;
 pub use grammar::{NodeFault, read_text, read_text_in};

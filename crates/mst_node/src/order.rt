@@ -7,6 +7,16 @@ ghost use Rattle.mst_key.specs.Map.{key_cmp, IsAscending, IsMap};
 use mst_key::{Key, Value};
 use std::cmp::Ordering;
 
+/// Whether the bytes of a key come before those of another.
+pub(crate) fn comes_before(one: &[u8], other: &[u8]) -> bool
+    ensures less { IsTrue result ↔ (key_cmp one.now other.now ≡ Less) }
+{
+    match one.cmp(&other) {
+        Ordering::Less => true,
+        Ordering::Equal | Ordering::Greater => false,
+    }
+}
+
 /// Whether a key comes before another.
 pub(crate) fn precedes(one: &Key, other: &Key) -> bool
     ensures less { IsTrue result ↔ (key_cmp one.now other.now ≡ Less) }

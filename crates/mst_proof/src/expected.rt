@@ -4,7 +4,7 @@ ghost use Rattle.mst_proof.specs.Verdict.{is_under as under, first_expected, ste
 
 use crate::fault::ProofFault;
 use mst_key::{Format, Key, Value};
-use mst_node::{Place, Span, digest, read_text_in};
+use mst_node::{Place, Span, digest, find_in_text};
 
 /// What is expected of the next text.
 #[derive(Debug, Drop)]
@@ -72,20 +72,18 @@ impl Expected {
     pub(crate) fn step(self, format: Format, key: &Key, text: &[u8]) -> Result<Step, ProofFault>
         ensures step { result ≡ step_at format key.now self text.now }
     {
-        let Ok(node) = read_text_in(format, text) else {
+        let Some(found) = find_in_text(format, text, key, self.span) else {
             return Err(ProofFault::NoNode);
         };
         if digest(text) != self.digest {
             return Err(ProofFault::OtherDigest);
         }
-        let layer = node.layer();
-        if !is_under(self.upper, layer) {
+        if !is_under(self.upper, found.layer) {
             return Err(ProofFault::LayerNotBelow);
         }
-        if !node.lies_within(&self.span) {
+        if !found.within {
             return Err(ProofFault::KeyOutside);
         }
-        let place = node.locate(key, self.span);
-        Ok(Step::of(layer, place))
+        Ok(Step::of(found.layer, found.place))
     }
 }

@@ -1,8 +1,8 @@
 use Rattle.std.proofs.Common.{rules}
 use Rattle.mst_node.proofs.flat.fits.Goals as goal
 
-pub returns-then-layer_in-layer : goal.returns-then-layer_in-layer
-returns-then-layer_in-layer c = search rules
+pub returns-then-layer_of-layer : goal.returns-then-layer_of-layer
+returns-then-layer_of-layer c = search rules
 
 pub returns-in-None : goal.returns-in-None
 returns-in-None c = search rules

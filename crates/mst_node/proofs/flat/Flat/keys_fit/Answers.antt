@@ -1,9 +1,5 @@
 use Rattle.std.proofs.Common.{◌≡◌, ◌-◌, ◌+◌, ◌↔◌, List, ℕ, Option, Some, None, sym, ap, ◌∙◌, refl, arith, subst, rules}
-use Rattle.std.specs.Prelude.{IfSome}
-use Rattle.std.specs.declared.cmp.Ordering.TheVariants.{Less}
-use Rattle.mst_key.specs.declared.format.Format.{Format}
-use Rattle.mst_key.specs.Layer.{layer_in}
-use Rattle.mst_key.specs.Map.{key_cmp}
+use Rattle.std.specs.Prelude.{option_copied}
 use Rattle.mst_node.specs.Text.{FlatNode}
 use Rattle.mst_node.specs.Grammar.{KeysFit}
 use Rattle.mst_node.specs.Reading.{entries_at, body_or_empty}
@@ -11,10 +7,6 @@ use Rattle.mst_node.specs.Seen.{seen}
 use Rattle.mst_node.proofs.Fits.{FitsFrom, fits-all, entries-step, entries-none, entries-first}
 use Rattle.mst_node.proofs.Places.{parts}
 use Rattle.mst_node.proofs.flat.Flat.keys_fit.Goals as goal
-
--- the key fits behind the last one
-abbrev Fits : Format → ℕ → Option (List ℕ) → List ℕ → Type 0
-Fits format l last k = (layer_in format k ≡ l) × IfSome last (λ low. key_cmp low k ≡ Less)
 
 pub loop-init : goal.loop-init
 loop-init c =
@@ -32,13 +24,13 @@ returns-then-not-fits c =
     let l = c.self.inside.layer in
     let e = seen c.in-Some.entry in
     let step = entries-step c.self.inside.format (c.self.inside.count - c.loop.counter) (c.self.inside.count - (c.loop.counter + 1)) c.loop.rest.now c.loop.invariant.0 (e, c.in-Some.after.now) c.loop.invariant.1 (omega arith) c.in-Some.ensures.reading in
-    let key_is : c.in-Ok.key ≡ e.key = c.in-Ok.ensures.ok in
+    let last = option_copied c.loop.last in
     record {
       fit = (
         λ f. absurd (search rules),
         λ fit.
-            let now = subst (FitsFrom c.self.inside.format c.loop.last l) step.1 (c.loop.invariant.2.0 fit) in
-            c.if-not-fits.ensures.fits.1 (subst (Fits c.self.inside.format l c.loop.last) (sym key_is) (now.0, now.1)),
+            let now = subst (FitsFrom c.self.inside.format last l) step.1 (c.loop.invariant.2.0 fit) in
+            c.if-not-fits.ensures.fits.1 (now.0, now.1),
       );
     }
 
@@ -47,18 +39,17 @@ loop-preserved c =
     let l = c.self.inside.layer in
     let e = seen c.in-Some.entry in
     let step = entries-step c.self.inside.format (c.self.inside.count - c.loop.counter) (c.self.inside.count - (c.loop.counter + 1)) c.loop.rest.now c.loop.invariant.0 (e, c.in-Some.after.now) c.loop.invariant.1 (omega arith) c.in-Some.ensures.reading in
-    let key_is : c.in-Ok.key ≡ e.key = c.in-Ok.ensures.ok in
-    let P : List ℕ → Type 0 = λ k. FitsFrom c.self.inside.format (Some k) l step.0 in
-    let here = subst (Fits c.self.inside.format l c.loop.last) key_is (c.if-not-fits.ensures.fits.0 refl) in (
+    let last = option_copied c.loop.last in
+    let here = c.if-not-fits.ensures.fits.0 refl in (
       (step.0, c.loop.invariant.0.1),
       step.2,
       (
-        λ fit. let now = subst (FitsFrom c.self.inside.format c.loop.last l) step.1 (c.loop.invariant.2.0 fit) in subst P (sym key_is) now.2,
-        λ fits. c.loop.invariant.2.1 (subst (FitsFrom c.self.inside.format c.loop.last l) (sym step.1) (here.0, here.1, subst P key_is fits)),
+        λ fit. let now = subst (FitsFrom c.self.inside.format last l) step.1 (c.loop.invariant.2.0 fit) in now.2,
+        λ fits. c.loop.invariant.2.1 (subst (FitsFrom c.self.inside.format last l) (sym step.1) (here.0, here.1, fits)),
       ),
     )
 
 pub returns : goal.returns
 returns c =
     let none = entries-none c.self.inside.format (c.self.inside.count - c.loop.counter) c.loop.rest.now c.loop.invariant.0 c.loop.invariant.1 (omega arith) in
-    record { fit = (λ t. c.loop.invariant.2.1 (subst (FitsFrom c.self.inside.format c.loop.last c.self.inside.layer) (sym none) tt), λ fit. refl) }
+    record { fit = (λ t. c.loop.invariant.2.1 (subst (FitsFrom c.self.inside.format (option_copied c.loop.last) c.self.inside.layer) (sym none) tt), λ fit. refl) }

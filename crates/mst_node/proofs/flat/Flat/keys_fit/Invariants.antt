@@ -1,4 +1,5 @@
 use Rattle.std.proofs.Common.{◌≡◌, ◌-◌, List, ℕ, Some, ◌↔◌}
+use Rattle.std.specs.Prelude.{option_copied}
 use Rattle.mst_node.specs.Grammar.{KeysFit}
 use Rattle.mst_node.specs.Text.{FlatEntry}
 use Rattle.mst_node.specs.Reading.{entries_at}
@@ -7,4 +8,4 @@ use Rattle.mst_node.proofs.flat.Flat.keys_fit.Given as goal
 
 -- the entries to come are read from the rest, and all keys fit where theirs do from the last key on
 abbrev pub invariant-loop : goal.invariant-loop
-invariant-loop l = (p : List FlatEntry × List ℕ) × (entries_at l.self-inside.format (l.self-inside.count - l.counter) l.rest ≡ Some p) × (KeysFit l.self ↔ FitsFrom l.self-inside.format l.last l.self-inside.layer p.0)
+invariant-loop l = (p : List FlatEntry × List ℕ) × (entries_at l.self-inside.format (l.self-inside.count - l.counter) l.rest ≡ Some p) × (KeysFit l.self ↔ FitsFrom l.self-inside.format (option_copied l.last) l.self-inside.layer p.0)

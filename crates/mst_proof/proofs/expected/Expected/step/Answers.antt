@@ -2,12 +2,13 @@ use Rattle.std.proofs.Common.{◌≡◌, ◌∙◌, refl, sym, ap, arith, List, 
 use Rattle.std.specs.Prelude.{not}
 use Rattle.std.specs.Str.{bytes_eq}
 use Rattle.std.specs.declared.result.Result.TheVariants.{Ok}
-use Rattle.mst_node.specs.Text.{digest_of}
+use Rattle.mst_node.specs.Found.{IsFound}
+use Rattle.mst_node.specs.Text.{FlatNode, digest_of}
 use Rattle.mst_node.proofs.Takes.{bytes-at}
 use Rattle.mst_proof.specs.Verdict.{node_in, is_under, step_of}
 use Rattle.mst_proof.proofs.Decisions.{node_in-none, node_in-read, keys_inside}
 use Rattle.mst_proof.proofs.Steps.{step-no_node, step-other_digest, step-not_below, step-outside, step-passed}
-use Rattle.mst_proof.proofs.expected.Expected.step.Goals.{In-Ok, After-layer-layer}
+use Rattle.mst_proof.proofs.expected.Expected.step.Goals.{In-Some}
 use Rattle.mst_proof.proofs.expected.Expected.step.Goals as goal
 
 -- the two answers of a test and of its negation
@@ -19,6 +20,10 @@ yes_from_not : (b : Bool) → false ≡ not b → b ≡ true
 yes_from_not true e = refl
 yes_from_not false e = e
 
+-- the digest of a text is the one that was computed
+digest_is : (text d r : List ℕ) (t : Bool) → r ≡ digest_of text → bytes_eq r d ≡ t → bytes_eq (digest_of text) d ≡ t
+digest_is text d r t is e = ap (λ (y : List ℕ). bytes_eq y d) (sym is) ∙ e
+
 pub returns-in_default : goal.returns-in_default
 returns-in_default c =
     let b = bytes-at c.args.text.now (λ i. omega (arith, c.type_inv.text i)) in
@@ -27,38 +32,44 @@ returns-in_default c =
 
 -- ---- the text is a node's
 
-module _ (c : goal.In-Ok) where
-  read : node_in c.args.format c.args.text.now ≡ Some c.in-Ok.node
-  read = node_in-read c.args.format c.args.text.now (c.in-Ok.node, c.in-Ok.ensures.spelling.0, c.in-Ok.ensures.spelling.1, c.in-Ok.ensures.spelling.2)
+module _ (c : goal.In-Some) where
+  abbrev node : FlatNode
+  node = c.in-Some.ensures.found.0
+
+  says : IsFound c.args.key.now c.args.self.span node c.in-Some.found
+  says = c.in-Some.ensures.found.4
+
+  read : node_in c.args.format c.args.text.now ≡ Some node
+  read = node_in-read c.args.format c.args.text.now (node, c.in-Some.ensures.found.1, c.in-Some.ensures.found.2, c.in-Some.ensures.found.3)
+
+  under_is : is_under c.args.self.upper node.layer ≡ is_under c.args.self.upper c.in-Some.found.layer
+  under_is = ap (is_under c.args.self.upper) (sym says.layer)
 
 pub returns-then-ne : goal.returns-then-ne
 returns-then-ne c =
-    let other : bytes_eq (digest_of c.args.text.now) c.args.self.digest ≡ false = ap (λ (y : List ℕ). bytes_eq y c.args.self.digest) (sym c.digest.ensures.digest) ∙ no_from_not _ c.if-ne.ensures in
-    record { step = sym (step-other_digest c.args.format c.args.key.now c.args.text.now c.args.self c.in-Ok.node (read (goal.at.returns-then-ne c).In-Ok) other) }
+    let at = (goal.at.returns-then-ne c).In-Some in
+    let other = digest_is c.args.text.now c.args.self.digest _ false c.digest.ensures.digest (no_from_not _ c.if-ne.ensures) in
+    record { step = sym (step-other_digest c.args.format c.args.key.now c.args.text.now c.args.self (node at) (read at) other) }
 
 -- ---- and it has the digest
 
-module _ (c : goal.After-layer-layer) where
-  same_digest : bytes_eq (digest_of c.args.text.now) c.args.self.digest ≡ true
-  same_digest = ap (λ (y : List ℕ). bytes_eq y c.args.self.digest) (sym c.digest.ensures.digest) ∙ yes_from_not _ c.if-ne.ensures
-
-  under_is : is_under c.args.self.upper c.in-Ok.node.layer ≡ is_under c.args.self.upper c.layer-layer.result
-  under_is = ap (is_under c.args.self.upper) (sym c.layer-layer.ensures.layer)
-
 pub returns-then-not-is_under : goal.returns-then-not-is_under
 returns-then-not-is_under c =
-    let at = goal.at.returns-then-not-is_under c in
-    record { step = sym (step-not_below c.args.format c.args.key.now c.args.text.now c.args.self c.in-Ok.node (read at.In-Ok) (same_digest at.After-layer-layer) (under_is at.After-layer-layer ∙ sym c.if-not-is_under.ensures.under)) }
+    let at = (goal.at.returns-then-not-is_under c).In-Some in
+    let same = digest_is c.args.text.now c.args.self.digest _ true c.digest.ensures.digest (yes_from_not _ c.if-ne.ensures) in
+    record { step = sym (step-not_below c.args.format c.args.key.now c.args.text.now c.args.self (node at) (read at) same (under_is at ∙ sym c.if-not-is_under.ensures.under)) }
 
-pub returns-then-not-lies_within : goal.returns-then-not-lies_within
-returns-then-not-lies_within c =
-    let at = goal.at.returns-then-not-lies_within c in
-    let outside = keys_inside c.args.self.span c.in-Ok.node c.lies_within.result c.lies_within.ensures.within ∙ c.if-not-lies_within.true in
-    record { step = sym (step-outside c.args.format c.args.key.now c.args.text.now c.args.self c.in-Ok.node (read at.In-Ok) (same_digest at.After-layer-layer) (under_is at.After-layer-layer ∙ sym c.if-not-is_under.ensures.under) outside) }
+pub returns-then-not-found : goal.returns-then-not-found
+returns-then-not-found c =
+    let at = (goal.at.returns-then-not-found c).In-Some in
+    let same = digest_is c.args.text.now c.args.self.digest _ true c.digest.ensures.digest (yes_from_not _ c.if-ne.ensures) in
+    let outside = keys_inside c.args.self.span (node at) c.in-Some.found.within (says at).within ∙ no_from_not _ (sym c.if-not-found.true) in
+    record { step = sym (step-outside c.args.format c.args.key.now c.args.text.now c.args.self (node at) (read at) same (under_is at ∙ sym c.if-not-is_under.ensures.under) outside) }
 
 pub returns : goal.returns
 returns c =
-    let at = goal.at.returns c in
-    let inside = keys_inside c.args.self.span c.in-Ok.node c.lies_within.result c.lies_within.ensures.within ∙ c.if-not-lies_within.false in
-    let step = c.of.ensures.step ∙ ap (λ (k : ℕ). step_of k c.locate-place.result) c.layer-layer.ensures.layer ∙ ap (step_of c.in-Ok.node.layer) c.locate-place.ensures.place in
-    record { step = ap Ok step ∙ sym (step-passed c.args.format c.args.key.now c.args.text.now c.args.self c.in-Ok.node (read at.In-Ok) (same_digest at.After-layer-layer) (under_is at.After-layer-layer ∙ sym c.if-not-is_under.ensures.under) inside) }
+    let at = (goal.at.returns c).In-Some in
+    let same = digest_is c.args.text.now c.args.self.digest _ true c.digest.ensures.digest (yes_from_not _ c.if-ne.ensures) in
+    let inside = keys_inside c.args.self.span (node at) c.in-Some.found.within (says at).within ∙ yes_from_not _ (sym c.if-not-found.false) in
+    let step = c.of.ensures.step ∙ ap (λ (k : ℕ). step_of k c.in-Some.found.place) (says at).layer ∙ ap (step_of (node at).layer) (says at).place in
+    record { step = ap Ok step ∙ sym (step-passed c.args.format c.args.key.now c.args.text.now c.args.self (node at) (read at) same (under_is at ∙ sym c.if-not-is_under.ensures.under) inside) }
