@@ -205,12 +205,12 @@ impl<'a, A: Allocator + Copy> Pass<'a, A> {
     /// Gives the key the value, and answers the value that it had. It takes no memory.
     ///
     /// `Busy` comes only where another pass has the turn, else `VersionsSpent` exactly where the
-    /// current version has the last number, else `NoRoom` where too few rows are free for the nodes
-    /// that the write makes new. A write copies whole nodes along its path; its cost is a row for
-    /// each entry and one for each node that it makes new. All rows are free but those that the
-    /// kept versions hold: the current one, and those that other passes pin, of which there is at
-    /// most one for each. A node that stays over several of them counts once. In a store of one
-    /// pass these are the rows of the map. A put of the value that stands costs nothing.
+    /// current version has the last number, else `NoRoom` exactly where too few rows are free for
+    /// the nodes that the write makes new. A write copies whole nodes along its path; its cost is a
+    /// row for each entry and one for each node that it makes new. All rows are free but those that
+    /// the kept versions hold: the current one, and those that were found pinned, at most one for
+    /// each other pass. A node that stays over several of them counts once. In a store of one pass
+    /// these are the rows of the map. A put of the value that stands costs nothing.
     pub fn try_put(&mut self, key: &Key, value: &Value) -> Result<Option<Value>, WriteFault>
         ensures ok { IfOk result
             (λ old. Wrote (made_by self.old (Put key.now value.now)) self.old (had old) self.new) }
