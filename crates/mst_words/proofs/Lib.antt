@@ -29,6 +29,7 @@ pub mod WordWays
 pub mod Ruling
 pub mod Deeds
 pub mod Moves
+pub mod Doable
 pub mod Worked
 pub mod WorkedMoves
 pub mod Breaches

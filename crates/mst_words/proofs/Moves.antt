@@ -17,7 +17,7 @@ use Rattle.mst_words.specs.World.{SeatAt, dealer, having_dealt, newcomer}
 use Rattle.mst_words.specs.Records.{IsBlank}
 use Rattle.mst_words.specs.Notes.{note_of, having_heard}
 use Rattle.mst_words.specs.Path.{IsPathOf}
-use Rattle.mst_words.specs.Steps.{IsWritable}
+use Rattle.mst_words.specs.Steps.{IsFree, IsWritable}
 use Rattle.mst_words.specs.Stored.{stored}
 use Rattle.mst_words.specs.Laws.{Table, IsRuled, Told, Makes, Deed, told_by, trying, giving, pinning, unpinning, forgetting, reading, writing, transferring, asking, noting, asking_current, seeing_all, seeing_told, glancing, Adds, Hears}
 use Rattle.mst_words.specs.Moves.{IsReachedBy, IsOpened, moves_of, Does, MakesCurrent, ChangesSeats, GoesBy, IsLedTo}
@@ -135,22 +135,22 @@ module _ (z : Shape) (s t : Table) (a : IsRuled z s) (b : IsRuled z t) (moves : 
       (word_there s t m.step.word _ 0 d.words i (room 0 (omega arith)) ∙ ap (λ (x : Bool). cond x m.before.0.number m.found) (ne_eqb m.found 0 miss) ∙ sym before) current q)
 
   gives : Does giving s t → IsReachedBy z moves s a → IsReachedBy z moves t b
-  gives d q = let m = d.makes in let i = m.tells.0 in let is = m.tells.1 in
+  gives d q = let m = d.makes in let i = m.tells.0 in let is = m.tells.1 in let giving = d.may.1.2 in
       quiet m.id m.before.0 m.after.0 m.at m.views (ap (λ (x : Mine). x.0.number) is) (ap (λ (x : Mine). x.0.pin) is) (current_stays z s t a b (word_else s t m.step.word _ 1 d.words (λ f. omega (arith, f, i))))
-      (due_free z t b (word_there s t m.step.word _ 0 d.words i (room 0 (omega arith))) ∙ sym (due_held z s a m.id m.before.0 m.at d.allowed.0 ∙ d.allowed.1)) q
+      (due_free z t b (word_there s t m.step.word _ 0 d.words i (room 0 (omega arith))) ∙ sym (due_held z s a m.id m.before.0 m.at giving.on ∙ giving.settled)) q
 
   writes : Does writing s t → IsReachedBy z moves s a → IsReachedBy z moves t b
-  writes d q = let m = d.makes in let high = above z m.before.0 m.step.word d.allowed in
+  writes d q = let m = d.makes in let high = above z m.before.0 m.step.word d.may.1 in
       calm m.id m.before.0 m.after.0 m.at m.views (still m.before m.after _ m.tells refl refl refl refl) (word_else s t m.step.word _ 0 d.words (λ f. omega (arith, f, high))) (word_else s t m.step.word _ 1 d.words (λ f. omega (arith, f, high))) q
 
   pins : (d : Does pinning s t) → IsReachedBy z moves s a → IsReachedBy z (Pin d.makes.before.0.number ∷ moves) t b
-  pins d q = let m = d.makes in let v : View = m.before.0 in let w : View = m.after.0 in let i = m.tells.0 in let p = m.tells.1 in let pos = d.allowed.0 in
+  pins d q = let m = d.makes in let v : View = m.before.0 in let w : View = m.after.0 in let i = m.tells.0 in let p = m.tells.1 in let free : IsFree v.number m.before = d.may.1 in let pos = free.4 in
       let before : get_or s.words 1 0 ≡ m.found = ap (λ (k : ℕ). get_or s.words k 0) (sym i) ∙ sym d.finds in
       let cur : a.parts.cur ≡ p.cur = current_by z s a p.cur p.mask p.small (before ∙ p.found_is) in
       let number : w.number ≡ v.number = ap (λ (x : Mine). x.0.number) p.is in let small : v.number - 1 < 32 = (let l = (a.parts.pins.seats m.id v m.at).small in omega (arith, l, pos)) in
       let word = word_there s t m.step.word _ 1 d.words i (room 1 (omega arith)) ∙ ap (λ (n : ℕ). bit_xor n (2 ^ (v.number - 1))) (sym before ∙ a.parts.pins.current) ∙ xor_low a.parts.cur a.parts.mask (v.number - 1) a.parts.pins.small small in
       arrives z t b (Pin v.number ∷ moves) a.parts.cur a.parts.due (set s.views m.id w)
-      (path_pin z.passes a.parts.cur a.parts.due s.views m.id v w moves q m.at number d.allowed.1 (ap (λ (x : Mine). x.0.pin) p.is ∙ ap (λ (n : ℕ). Some n) (sym cur))
+      (path_pin z.passes a.parts.cur a.parts.due s.views m.id v w moves q m.at number free.2 (ap (λ (x : Mine). x.0.pin) p.is ∙ ap (λ (n : ℕ). Some n) (sym cur))
       (apart_from (stored z.format) (stored_framed z.format) z.rows z.passes s a.parts m.id v m.at pos) pos (dealt (stored z.format) (stored_framed z.format) z.rows z.passes s a.parts m.id v m.at))
       (current_by z t b a.parts.cur (bit_xor a.parts.mask (2 ^ (v.number - 1))) (xor_small a.parts.mask (v.number - 1) a.parts.pins.small small) word)
       (due_stays z s t a b (set s.views m.id w) (word_else s t m.step.word _ 0 d.words (λ f. omega (arith, f, i))) m.views (holder_set s.views m.id v w m.at (ap (λ (x : Mine). x.0.turn) p.is) (ap (λ (x : Mine). x.0.due) p.is))) m.views
@@ -167,9 +167,9 @@ module _ (z : Shape) (s t : Table) (a : IsRuled z s) (b : IsRuled z t) (moves : 
   transfers : Does transferring s t → IsReachedBy z moves s a → IsReachedBy z (Transfer ∷ moves) t b
   transfers d q = let m = d.makes in let v : View = m.before.0 in let w : View = m.after.0 in let r = m.tells.0.0 in let i = m.tells.0.2 in let is = m.tells.1 in
       arrives z t b (Transfer ∷ moves) a.parts.cur None (set s.views m.id w)
-      (path_transfer z.passes a.parts.cur a.parts.due s.views m.id v w moves q m.at r (ap (λ (x : Mine). x.0.number) is) (ap (λ (x : Mine). x.0.pin) is) (due_held z s a m.id v m.at d.allowed ∙ m.tells.0.1))
+      (path_transfer z.passes a.parts.cur a.parts.due s.views m.id v w moves q m.at r (ap (λ (x : Mine). x.0.number) is) (ap (λ (x : Mine). x.0.pin) is) (due_held z s a m.id v m.at d.may.1 ∙ m.tells.0.1))
       (current_stays z s t a b (word_else s t m.step.word _ 1 d.words (λ f. omega (arith, f, i))))
-      (due_held z t b m.id w (there (told_by transferring) m) (ap (λ (x : Mine). x.0.turn) is ∙ d.allowed) ∙ ap (λ (x : Mine). x.0.due) is) m.views
+      (due_held z t b m.id w (there (told_by transferring) m) (ap (λ (x : Mine). x.0.turn) is ∙ d.may.1) ∙ ap (λ (x : Mine). x.0.due) is) m.views
 
   pub publication : (into : ℕ) → MakesCurrent into s t → IsReachedBy z moves s a → IsReachedBy z (Publish into 0 ∷ moves) t b
   publication into p q = let m = p.publishes.made in let v : View = m.before.0 in let w : View = m.after.0 in let on = p.publishes.on in let is = m.tells.1.is in

@@ -20,7 +20,7 @@ use Rattle.mst_words.specs.Steps.{pins_now, takes_turn}
 use Rattle.mst_words.specs.Stored.{desk_state}
 use Rattle.mst_words.specs.Laws.{Table, pinning, trying, asking, transferring}
 use Rattle.mst_words.specs.Moves.{IsReachedBy, GoesBy, IsLedTo}
-use Rattle.mst_words.proofs.Members.{in_first}
+use Rattle.mst_words.proofs.Members.{in_nothing, in_first}
 use Rattle.mst_words.proofs.Fresh.{fresh_is_desk}
 use Rattle.mst_words.proofs.Moves.{due_held, led}
 use Rattle.mst_words.proofs.Worked.{T, shape, fresh, words, begun, begun_ruled, pass, at, one_dealt, dealt, none_seen, cur_is, used, reader, pinned, desk_is, held, writer, Ready, turn_taken, slot, asked, found, event, later, publisher, published, after_words, after_views, moved}
@@ -90,7 +90,7 @@ pins = inl (
   pinning,
   record {
     makes = record { id = 1; step = step 1 1 1 0 none; found = 0; before = (pass 1, []); after = (reader, []); at = refl; views = refl; tells = pin_told };
-    allowed = (lit< tt, refl);
+    may = (refl, (refl, refl, refl, refl, lit< tt));
     finds = refl;
     words = refl;
   },
@@ -132,7 +132,7 @@ takes = inl (
   trying,
   record {
     makes = record { id = 2; step = step 1 0 0 2 none; found = 0; before = (pass 2, []); after = (writer, slot); at = refl; views = refl; tells = turn_told };
-    allowed = tt;
+    may = (refl, (refl, refl, refl, refl, lit< tt));
     finds = refl;
     words = refl;
   },
@@ -144,7 +144,7 @@ asks = inl (
   asking,
   record {
     makes = record { id = 2; step = step 1 3 0 0 none; found = 0; before = (writer, slot); after = (asked, slot); at = refl; views = refl; tells = (1, refl, (λ _. refl), (λ some_there. absurd (some_there refl))) };
-    allowed = tt;
+    may = (1, refl, lit< tt, (λ e. omega (arith, e)), (λ i. in_nothing 1 i), (refl, refl, refl));
     finds = refl;
     words = refl;
   },
@@ -173,7 +173,7 @@ transfers = inl (
   transferring,
   record {
     makes = record { id = 2; step = step 1 2 1 0 none; found = 0; before = (publisher 1, slot); after = (record (publisher 1) { due = None }, slot); at = refl; views = refl; tells = ((0, refl, refl), refl) };
-    allowed = refl;
+    may = ((0, refl, refl), refl);
     finds = refl;
     words = refl;
   },

@@ -1,17 +1,20 @@
 //! Laws of the rule, each proved as the contract of a function that does nothing.
-ghost use Rattle.std.specs.Prelude.{◌≡◌, ◌<◌, ◌++◌, ℕ, List, [], ◌∷◌, length};
+ghost use Rattle.std.specs.Prelude.{◌≡◌, ◌<◌, ◌++◌, ℕ, List, [], ◌∷◌, length, slice_index, Option};
+ghost use Rattle.atomic_table.specs.Table.{Me};
+ghost use Rattle.mst_arena.specs.Lives.{State};
+ghost use Rattle.mst_words.specs.declared.view.DeskState.{DeskState};
 ghost use Rattle.mst_pin.specs.declared.event.Event as core;
 ghost use Rattle.mst_pin.specs.declared.event.Event.TheVariants.{Publish};
 ghost use Rattle.mst_key.specs.declared.history.Event.{Event};
 ghost use Rattle.mst_key.specs.History.{events_of};
 ghost use Rattle.mst_words.specs.declared.view.View.{View};
 ghost use Rattle.mst_words.specs.declared.view.Shape.{Shape};
-ghost use Rattle.mst_words.specs.Layout.{row_words, row_word};
+ghost use Rattle.mst_words.specs.Layout.{row_words, row_word, current_word};
 ghost use Rattle.mst_words.specs.Records.{IsLive};
-ghost use Rattle.mst_words.specs.Steps.{IsWritable};
+ghost use Rattle.mst_words.specs.Steps.{IsWritable, IsReady};
 ghost use Rattle.mst_words.specs.Stored.{stored, Reaches, version_of};
 ghost use Rattle.mst_words.specs.Laws.{Table, IsRuled, HaveSeen, HaveMade, HasTurn, IsWordOf, Tells, IsPublication, IsOther, Deed};
-ghost use Rattle.mst_words.specs.Moves.{IsReachedBy, IsOpened, Does, moves_of, MakesCurrent, ChangesSeats, IsLedTo};
+ghost use Rattle.mst_words.specs.Moves.{IsReachedBy, IsOpened, MayDo, Does, moves_of, MakesCurrent, ChangesSeats, IsLedTo};
 ghost use Rattle.mst_words.specs.World.{SeatAt};
 
 /// What the rule says of the history and of what may be written.
@@ -50,6 +53,18 @@ pub fn path_laws()
     // no event comes before the table as it is opened
     ensures opens { (z : Shape) (s : Table) (a : IsRuled z s) → IsOpened z s
         → IsReachedBy z [] s a }
+    // from each table that is as the rule says a seat can do each deed that it may do
+    ensures can { (z : Shape) (s : Table) (a : IsRuled z s) (deed : Deed) (id i : ℕ)
+        (me : Me (Option State) View) → SeatAt s.views id me.0 → MayDo deed i me
+        → slice_index s.words i < 18446744073709551616 → (t : Table) × IsRuled z t
+        × (d : Does deed s t) × (d.makes.id ≡ id) × (d.makes.before ≡ me) }
+    // and publish a record that is ready
+    ensures can_publish { (z : Shape) (s : Table) (a : IsRuled z s) (id into : ℕ)
+        (me : Me (Option State) View) (e : Event) (d : DeskState) (used : List ℕ)
+        → SeatAt s.views id me.0 → IsReady (stored me.0.format) into e d used me.0
+        → slice_index s.words current_word < 18446744073709551616 → (t : Table) × IsRuled z t
+        × (p : MakesCurrent into s t) × (p.publishes.made.id ≡ id)
+        × (p.publishes.made.before ≡ me) }
     // a deed adds its events
     ensures deed { (z : Shape) (s t : Table) (a : IsRuled z s) (b : IsRuled z t)
         (moves : List core.Event) (deed : Deed) (d : Does deed s t) → IsReachedBy z moves s a
