@@ -11,14 +11,14 @@ use Rattle.mst_load.proofs.engine.load.Goals as goal
 -- the passes that go to the workers are those that were dealt
 pub run_all-requires-clause-own : goal.run_all-requires-clause-own
 run_all-requires-clause-own g c κs within =
-    let store = c.in-Ok-opened.store in let dealt = c.in-Ok-deal in
+    let store = c.in-Ok-opened.opened.0 in let dealt = c.in-Ok-deal in
     let count : vec_len dealt.passes ≡ store.passes = search rules in
     (λ k d below. dealt_worker store dealt.passes.items k d dealt.ensures.ok (omega (arith, below, count)))
 
 -- and those that come back are all of them
 pub report_of-requires : goal.report_of-requires
 report_of-requires g c =
-    let store = c.in-Ok-opened.store in let back = c.in_ok-passes in let passes = back.passes.items in
+    let store = c.in-Ok-opened.opened.0 in let back = c.in_ok-passes in let passes = back.passes.items in
     let count : length passes ≡ store.passes = search rules in
     let whole : AreAllPasses passes = all_back store passes count (λ k d below. (back.ensures.own k d (search rules)).of_store) (λ k d below. back.ensures.numbered k d (search rules)) in
     let shape : store.passes ≡ c.args.readers + c.args.writers = c.in-Ok-opened.ensures.store.1 in
