@@ -11,8 +11,7 @@ pub(crate) fn lacks_memory<A: Allocator + Copy>(
     heap: &LocalHeap,
     key: &Key,
 ) -> bool {
-    matches!(pass.range(heap, None, None, 10), Err(_))
-        && matches!(pass.prove(heap, key), Err(_))
+    matches!(pass.range(heap, None, None, 10), Err(_)) && matches!(pass.prove(heap, key), Err(_))
 }
 
 /// The same in a heap of 16 bytes.
