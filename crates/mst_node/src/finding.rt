@@ -133,7 +133,8 @@ impl<'a> Passed<'a> {
     fn pass(self, key: &[u8], entry: EntryBytes<'a>) -> Passed<'a>
         requires key { IsKey entry.key.now }
         requires value { IsValue entry.value.now }
-        ensures passed { seen_passed result ≡ pass_at key.now (seen_passed self.entry) (seen entry.entry) }
+        ensures passed { seen_passed result
+            ≡ pass_at key.now (seen_passed self.entry) (seen entry.entry) }
         ensures limits { PassedFits (seen_passed self.entry) → PassedFits (seen_passed result) }
     {
         let first = match self.first {
@@ -162,8 +163,8 @@ impl<'a> Passed<'a> {
     /// Where the search ended, in a span and before this last child.
     fn place(self, span: Span, tail: Option<&[u8; 32]>) -> Place
         requires limits { PassedFits (seen_passed self) }
-        ensures place { result ≡ place_by (seen_passed self.entry).stop (seen_passed self.entry).last span
-            (option_copied tail.entry) }
+        ensures place { result ≡ place_by (seen_passed self.entry).stop
+            (seen_passed self.entry).last span (option_copied tail.entry) }
     {
         match self.stop {
             Some(stop) => stop.place(span.low),
@@ -256,8 +257,8 @@ fn text_scan<'a>(
 }
 
 /// What a text says of a key, if it is a node's: what `read_text_in`, `Flat::lies_within` and
-/// `Flat::locate` say, from one reading in which each key is hashed once. `None` comes exactly where
-/// the bytes are not in the grammar of node texts.
+/// `Flat::locate` say, from one reading in which each key is hashed once. `None` comes exactly
+/// where the bytes are not in the grammar of node texts.
 pub fn find_in_text(format: Format, text: &[u8], key: &Key, span: Span) -> Option<Finding>
     ensures found { IfSome result (λ f. (n : FlatNode) × (n.format ≡ format) × IsFlatNode n
         × (text.now ≡ spelling n) × IsFound key.now span n f) }
