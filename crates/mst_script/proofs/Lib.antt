@@ -7,3 +7,4 @@ pub mod ProofTops
 pub mod Calling
 pub mod Serving
 pub mod Scripts
+pub mod Told

@@ -16,10 +16,12 @@
 #![tactic(auto)]
 
 mod asking;
+mod laws;
 mod passes;
 mod recalling;
 mod script;
 mod serve;
 
+pub use laws::script_laws;
 pub use mst_devices::{BytesSink, BytesSource, Device, Sink, Source, StdSink, StdSource};
 pub use script::{RunFault, run};
