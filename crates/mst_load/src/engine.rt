@@ -122,8 +122,9 @@ fn opened<A: Allocator + Copy>(alloc: A, shape: Shape) -> Result<(Store<A>, Seat
 ///
 /// Call `c` of writer `w` puts the value `c` at the key of `w` and `c` by 32, and waits for its
 /// turn. A put that is refused is no event, and the writer goes on: where there are as many events
-/// as calls of writers, none was refused, and the map is the one that they leave. A reader asks for the version
-/// and for a value in turns. Each worker asks the gate before each call and tells it after.
+/// as calls of writers, none was refused, and the map is the one that they leave. A reader asks for
+/// the version and for a value in turns. Each worker asks the gate before each call and tells it
+/// after.
 ///
 /// There are at most 24 readers, 1 to 8 writers, and 1 to 100,000 calls of each worker. The store,
 /// which the threads share, lies in the runtime's memory, the lists of passes and threads in
