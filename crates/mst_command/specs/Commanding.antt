@@ -192,6 +192,12 @@ AsksFor words task = (is_replay task ≡ asks_replay words)
     × (verified_words task ≡ asks_verify words) × IsSized words task
     × (is_load task ≡ asks_load words)
 
+-- a script's store has this size, and a load these numbers
+abbrev pub HasNumbers : Size → LoadSize → Task → Type 0
+HasNumbers size load (Run shape) = (shape.rows ≡ size.rows) × (shape.passes ≡ size.passes)
+HasNumbers size load (Load numbers) = numbers ≡ load
+HasNumbers size load task = Unit {0}
+
 -- how a script may end early
 abbrev pub EndsScript : Refusal → Type 0
 EndsScript BadShape = Unit {0}

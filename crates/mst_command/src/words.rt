@@ -2,7 +2,7 @@
 ghost use Rattle.std.specs.Prelude.{◌≡◌, ◌↔◌, IfSome, IfNone, true, false, None};
 ghost use Rattle.std.specs.Option.{option_map};
 ghost use Rattle.mst_command.specs.Loading.{asks_load};
-ghost use Rattle.mst_command.specs.Commanding.{AskHelp, AskText, AskVersion, AsksFor, IsHelp, IsPlain, IsVersion, NamesSize, asks_replay, asks_verify, asks_version_alone, format_in as named_format};
+ghost use Rattle.mst_command.specs.Commanding.{AskHelp, AskText, AskVersion, AsksFor, HasNumbers, IsHelp, IsPlain, IsVersion, NamesSize, asks_replay, asks_verify, asks_version_alone, format_in as named_format};
 
 use crate::options::{format_named, operand};
 use crate::task::{Load, Size, Task};
@@ -117,6 +117,7 @@ fn verify_words<'a>(words: &[&'a str]) -> Option<(Option<Format>, &'a str, &'a s
 /// The task of words whose first behind the program's name is `verify`.
 pub fn verify_task<'a>(words: &[&'a str]) -> Option<Task<'a>>
     ensures asked { IfSome result (λ task. AsksFor words.now task) }
+    ensures numbers { IfSome result (λ task. (size load : _) → HasNumbers size load task) }
     ensures other { IfNone result (asks_verify words.now ≡ None) }
 {
     let (format, root, key) = verify_words(words)?;
@@ -132,7 +133,8 @@ pub fn script_task(words: &[&str], size: Size) -> Task<'static>
     requires verify { asks_verify words.now ≡ None }
     requires load { asks_load words.now ≡ false }
     requires size { NamesSize words.now size }
-    ensures { AsksFor words.now result }
+    ensures asked { AsksFor words.now result }
+    ensures numbers { (load : _) → HasNumbers size load result }
 {
     match format_in(words) {
         Some(format) => Task::Run(Shape {
@@ -149,7 +151,8 @@ fn named_store(words: &[&str], size: Size, load: Load) -> Task<'static>
     requires plain { ¬ (IsPlain words.now) }
     requires replay { asks_replay words.now ≡ false }
     requires verify { asks_verify words.now ≡ None }
-    ensures { AsksFor words.now result }
+    ensures asked { AsksFor words.now result }
+    ensures numbers { HasNumbers size load result }
 {
     if names_load(words) {
         Task::Load(load)
@@ -162,7 +165,8 @@ fn named_store(words: &[&str], size: Size, load: Load) -> Task<'static>
 /// program's name. A script has this size, and a load these numbers.
 pub fn named_task<'a>(words: &[&'a str], size: Size, load: Load) -> Task<'a>
     requires { ¬ (IsPlain words.now) }
-    ensures { AsksFor words.now result }
+    ensures asked { AsksFor words.now result }
+    ensures numbers { HasNumbers size load result }
 {
     if names_replay(words) {
         return Task::Replay;
