@@ -12,7 +12,7 @@ import threading
 import urllib.request
 
 here = os.path.dirname(os.path.abspath(__file__))
-sys.path.append(os.path.join(here, "../../verifiers/python"))
+sys.path.append(os.path.join(here, "../../by_hand/python"))
 import mst_verifier
 
 FORMAT = 1

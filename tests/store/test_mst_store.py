@@ -10,7 +10,7 @@ import mst_store
 from mst_store import Busy, Format, Pass, Refused, open_store
 
 HERE = os.path.dirname(os.path.abspath(__file__))
-sys.path.append(os.path.join(HERE, "..", "..", "verifiers", "python"))
+sys.path.append(os.path.join(HERE, "..", "..", "by_hand", "python"))
 import mst_verifier  # noqa: E402
 
 

@@ -6,7 +6,7 @@ import os
 import sys
 
 here = os.path.dirname(os.path.abspath(__file__))
-sys.path.append(os.path.join(here, "..", "..", "verifiers", "python"))
+sys.path.append(os.path.join(here, "..", "..", "by_hand", "python"))
 from mst_verifier import line_for
 
 

@@ -14,7 +14,7 @@ LAYERS = [
     (("the store",), {"mst_store": 690}),
     (("the shared table;", "replays"), {"mst_words": 750, "mst_replay": 930}),
     (("verifiers; trees in", "rows; pins"), {
-        "mst_verifier": 286, "mst_verify": 448, "mst_read": 620, "mst_path": 775, "mst_pin": 930,
+        "mst_verifier": 286, "mst_report": 448, "mst_read": 620, "mst_path": 775, "mst_pin": 930,
     }),
     (("proofs; rows;", "changes; requests"), {
         "mst_proof": 366, "mst_arena": 640, "mst_change": 800, "mst_requests": 1090,
@@ -25,7 +25,7 @@ LAYERS = [
 TESTS = {"mst_tree_tests", "mst_store_tests", "mst_program_tests"}
 NOT_DRAWN = {"mst_audit", "mst_bench", "mst_walk", *TESTS}
 FOR_C = {"mst_verifier", "mst_c"}
-BENT = {("mst_command", "mst_verify")}
+BENT = {("mst_command", "mst_report")}
 BOX, HIGH, FIRST, APART = 140, 36, 30, 82
 
 

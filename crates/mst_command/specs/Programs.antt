@@ -8,9 +8,9 @@ use Rattle.mst_devices.specs.Device.{Breaks, Flow}
 use Rattle.mst_script.specs.Machine.{Machine, Line, with_no_pins}
 use Rattle.mst_lines.specs.Runs.{Ran, Stopped}
 use Rattle.mst_key.specs.declared.format.Format.{Format}
-use Rattle.mst_verify.specs.declared.report.Report.{Report}
-use Rattle.mst_verify.specs.Words.{root_of, key_of}
-use Rattle.mst_verify.specs.Report.{limit, report_of, line_of, is_refusal}
+use Rattle.mst_report.specs.declared.report.Report.{Report}
+use Rattle.mst_report.specs.Words.{root_of, key_of}
+use Rattle.mst_report.specs.Report.{limit, report_of, line_of, is_refusal}
 use Rattle.mst_command.specs.declared.task.Task.{Task}
 use Rattle.mst_command.specs.declared.task.Task.TheVariants.{Run, Verify, UnknownFormat, Replay as TaskReplay, Load, Help}
 use Rattle.mst_command.specs.declared.task.Ending.{Ending}

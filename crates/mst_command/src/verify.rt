@@ -1,6 +1,6 @@
 //! A proof of standard input, verified.
 ghost use Rattle.std.specs.Prelude.{◌≡◌, ◌<◌, ◌-◌, ◌+◌, ◌^◌, ◌↔◌, ◌⊎◌, Some, None, IfOk, OnOk, IfErr, IsErrOf, IsSome};
-ghost use Rattle.mst_verify.specs.Words.{root_of, key_of};
+ghost use Rattle.mst_report.specs.Words.{root_of, key_of};
 ghost use Rattle.mst_script.specs.Scripts.{OnMemory};
 ghost use Rattle.mst_command.specs.Commanding.{EndsVerify, IsDevice, Unread, Untouched};
 ghost use Rattle.mst_command.specs.Programs.{RanVerify, BrokeVerify, IsSaid, ending_of};
@@ -9,8 +9,8 @@ use crate::input::read_up_to;
 use crate::task::{Ending, Refusal};
 use mst_devices::{Device, Sink, Source, write_all};
 use mst_key::{Format, Key};
+use mst_report::{LIMIT, Report, key_in, report_on, root_in};
 use mst_script::RunFault;
-use mst_verify::{LIMIT, Report, key_in, report_on, root_in};
 use std::alloc::Allocator;
 
 // How the program ends that said this.

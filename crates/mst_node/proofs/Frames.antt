@@ -6,8 +6,8 @@ use Rattle.std.proofs.lemmas.Nat.{be_bytes_4, from_be_bytes-to_be_bytes_4}
 use Rattle.mst_key.specs.Bytes.{IsBytes}
 use Rattle.mst_node.specs.Frame.{FramesFirst}
 use Rattle.mst_node.specs.Reading.{part_at, first_text_at}
-use Rattle.mst_node.proofs.Takes.{guard_ok, part_takes}
-use Rattle.mst_node.proofs.Again.{part_again}
+use Rattle.mst_node.proofs.ReadIsSpelled.{guard_ok, part_takes}
+use Rattle.mst_node.proofs.SpelledIsRead.{part_again}
 
 pub four_fit : (a b c d : ℕ) → a < 256 → b < 256 → c < 256 → d < 256 → (i : ℕ) → get_or (a ∷ b ∷ c ∷ d ∷ []) i 0 < 256
 four_fit a b c d e f g h zero = e

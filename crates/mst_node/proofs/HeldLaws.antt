@@ -13,7 +13,7 @@ use Rattle.mst_key.proofs.SpanLaws.{contains-cases, contains-nothing, contains-f
 use Rattle.mst_node.specs.Tree.{Tree, empty, node, Entries, last, entry, entry_count, pairs, entries_pairs, tree}
 use Rattle.mst_node.specs.Cost.{subtrees, entries_subtrees, same_tree, is_subtree, top_entries}
 use Rattle.mst_node.specs.Stays.{tree_at, lasts, is_kept, has_stayed, rows_first_at, held_below, held}
-use Rattle.mst_node.proofs.Unique.{pairs_tree, tree_mst}
+use Rattle.mst_node.proofs.UniqueTree.{pairs_tree, tree_mst}
 use Rattle.mst_node.proofs.SameTrees.{tree_from_same}
 use Rattle.mst_node.proofs.Distinct.{bit, copies, once}
 

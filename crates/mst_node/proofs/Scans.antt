@@ -23,9 +23,9 @@ use Rattle.mst_node.specs.Trail.{by_order}
 use Rattle.mst_node.specs.declared.place.Place.{Place}
 use Rattle.mst_node.specs.declared.place.Place.TheVariants.{Held, Gap}
 use Rattle.mst_node.specs.declared.place.Span.{Span}
-use Rattle.mst_node.proofs.Fits.{FitsFrom, fits-all}
-use Rattle.mst_node.proofs.Places.{entries-count, none-some}
-use Rattle.mst_node.proofs.Takes.{bind_ok, guard_ok, some_same}
+use Rattle.mst_node.proofs.FittingKeys.{FitsFrom, fits-all}
+use Rattle.mst_node.proofs.EntryPlaces.{entries-count, none-some}
+use Rattle.mst_node.proofs.ReadIsSpelled.{bind_ok, guard_ok, some_same}
 
 -- ---- keys that fit
 

@@ -8,14 +8,14 @@ use Rattle.mst_arena.specs.Lives.{State}
 use Rattle.mst_arena.specs.Standing.{tree_of}
 use Rattle.mst_path.specs.declared.frames.Frame.{Frame}
 use Rattle.mst_path.specs.declared.joining.Meeting.{Meeting}
-use Rattle.mst_path.specs.declared.removing.Step.{Step}
-use Rattle.mst_path.specs.declared.removing.Step.TheVariants.{Down, Here}
+use Rattle.mst_path.specs.declared.remove_path.Step.{Step}
+use Rattle.mst_path.specs.declared.remove_path.Step.TheVariants.{Down, Here}
 use Rattle.mst_change.specs.Parts.{first_child, with_first}
 use Rattle.mst_change.specs.Gap.{IsGap, IsAt}
 use Rattle.mst_path.specs.Making.{cells_of, entries_to}
 use Rattle.mst_path.specs.Frames.{Framed, in_frame}
 use Rattle.mst_path.specs.Joining.{TwoTrees, in_both, height}
-use Rattle.mst_path.specs.Removing.{SearchTree, in_tree}
+use Rattle.mst_path.specs.RemovePath.{SearchTree, in_tree}
 
 -- The key falls into a gap of the node: the tree there, and the frame round it.
 pub record OpensGap (format : Format) (content : Content) (s : State) (link : ℕ) (t : SearchTree format content s link)

@@ -8,11 +8,11 @@ pub mod Copying
 pub mod Making
 pub mod Frames
 pub mod Joining
-pub mod Removing
+pub mod RemovePath
 pub mod Gaps
 pub mod Cutting
 pub mod Splitting
-pub mod Putting
+pub mod PutPath
 pub mod Changing
 pub mod Felling
 pub mod Reached

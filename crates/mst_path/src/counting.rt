@@ -8,11 +8,11 @@ ghost use Rattle.mst_change.specs.Split.{below, above};
 ghost use Rattle.mst_change.specs.Parts.{is_empty};
 ghost use Rattle.mst_change.specs.Cost.{side_rows, split_rows};
 ghost use Rattle.mst_path.specs.Splitting.{ToSplit};
-ghost use Rattle.mst_path.specs.Putting.{RisingTree, pair_rows, with_rows};
+ghost use Rattle.mst_path.specs.PutPath.{RisingTree, pair_rows, with_rows};
 
 use crate::frames::Frame;
-use crate::putting::{PutStep, put_step};
-use crate::removing::{Step, top_step};
+use crate::put_path::{PutStep, put_step};
+use crate::remove_path::{Step, top_step};
 use mst_arena::{Rows, Sought};
 
 /// What a split of a tree makes.

@@ -5,7 +5,7 @@ ghost use Rattle.mst_key.specs.declared.format.Format.{Format};
 ghost use Rattle.mst_node.specs.Tree.{pairs};
 ghost use Rattle.mst_arena.specs.Lives.{State};
 ghost use Rattle.mst_arena.specs.Standing.{tree_of};
-ghost use Rattle.mst_path.specs.Removing.{SearchTree};
+ghost use Rattle.mst_path.specs.RemovePath.{SearchTree};
 
 use crate::cut::{Cut, cut_at};
 use mst_arena::{Rows, Sought};

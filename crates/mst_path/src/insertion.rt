@@ -16,7 +16,7 @@ ghost use Rattle.mst_path.specs.Reached.{Changes};
 use crate::counting::put_cost;
 use crate::faults::NoRoom;
 use crate::finding::find;
-use crate::putting::put_at;
+use crate::put_path::put_at;
 use mst_arena::{Desk, Root, Rows, Sought};
 use mst_key::{Format, Key, Value};
 use std::alloc::Allocator;

@@ -29,8 +29,8 @@
 //! Below the calls, from the top down:
 //!
 //! - `insertion` and `removal` look for the key (`finding`), count the rows that are needed
-//!   (`counting`, `removing`), and only then write.
-//! - `putting`, `split`, `removing` and `joining` go down the path, with where the key stands among
+//!   (`counting`, `remove_path`), and only then write.
+//! - `put_path`, `split`, `remove_path` and `joining` go down the path, with where the key stands among
 //!   the entries of a node (`cut`).
 //! - `frames` has what is left of a node round the gap whose tree changes; `making` makes a new
 //!   node of such parts.
@@ -50,9 +50,9 @@ mod joining;
 mod laws;
 mod making;
 mod node_writer;
-mod putting;
+mod put_path;
 mod removal;
-mod removing;
+mod remove_path;
 mod split;
 mod whole_tree;
 

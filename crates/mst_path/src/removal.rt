@@ -13,7 +13,7 @@ ghost use Rattle.mst_path.specs.Reached.{Changes};
 
 use crate::faults::NoRoom;
 use crate::finding::find;
-use crate::removing::{remove_at, remove_cost};
+use crate::remove_path::{remove_at, remove_cost};
 use mst_arena::{Desk, Root, Rows, Sought};
 use mst_key::{Format, Key, Value};
 use std::alloc::Allocator;

@@ -6,7 +6,7 @@ use mathlib.Core.Logic.{dite}
 use native.Mathlib.Decide.{ℕ_discrete}
 use Rattle.mst_pin.specs.declared.words.Words.{Words}
 use Rattle.mst_pin.specs.declared.words.Returned.{Returned}
-use Rattle.mst_pin.specs.WordParts.{record_of, mask_of}
+use Rattle.mst_pin.specs.WordParts.{record_of, mask_of, masks}
 use Rattle.mst_pin.specs.Words.{returned_mask, counted_mask, pinned_mask}
 use Rattle.mst_pin.proofs.Bits.{xor_current, xor_assoc}
 
@@ -68,10 +68,10 @@ abbrev pub back_from : Words → Returned
 back_from w = record { from = record_of w.current; mask = mask_of w.current }
 
 abbrev pub published : Words → ℕ → Words
-published w into = record w { current = into * 4294967296; returned = Some (back_from w) }
+published w into = record w { current = into * masks; returned = Some (back_from w) }
 
 -- the words of a publish, by their parts
-pub published_parts : (w u : Words) (into from mask : ℕ) → u.current ≡ into * 4294967296 → u.done ≡ w.done → from ≡ record_of w.current → mask ≡ mask_of w.current
+pub published_parts : (w u : Words) (into from mask : ℕ) → u.current ≡ into * masks → u.done ≡ w.done → from ≡ record_of w.current → mask ≡ mask_of w.current
     → record { current = u.current; done = u.done; returned = Some record { from = from; mask = mask } } ≡ published w into
 published_parts w u into from mask a b x y = λ i. record { current = a i; done = b i; returned = Some record { from = x i; mask = y i } }
 

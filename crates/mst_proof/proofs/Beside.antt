@@ -11,7 +11,7 @@ use Rattle.mst_node.specs.declared.node.Entry.{Entry, out-Entry}
 use Rattle.mst_node.specs.Tree.{Tree, empty, last}
 use Rattle.mst_node.specs.Shape.{TreeEntry, with_entries, tree_of, tree_of_child, tree_entry}
 use Rattle.mst_node.specs.Trail.{by_order}
-use Rattle.mst_node.proofs.Shapes.{tree_of_out, tree_entry_out}
+use Rattle.mst_node.proofs.NodeShapes.{tree_of_out, tree_entry_out}
 use Rattle.mst_proof.specs.Beside.{gap_in, gap_tree, held_in, held_value}
 
 -- ---- entries of the program

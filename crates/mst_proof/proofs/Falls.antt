@@ -20,7 +20,7 @@ use Rattle.mst_node.specs.Place.{place_among}
 use Rattle.mst_node.specs.declared.place.Place.{Place}
 use Rattle.mst_node.specs.declared.place.Place.TheVariants.{Held, Gap}
 use Rattle.mst_node.specs.declared.place.Span.{Span}
-use Rattle.mst_node.proofs.Lying.{all-front, split}
+use Rattle.mst_node.proofs.TreeOrder.{all-front, split}
 
 -- the place of the key among the entries
 abbrev pub place : (format : Format) → List ℕ → Option (List ℕ) → Option (List ℕ) → Entries → Place

@@ -17,8 +17,8 @@ use Rattle.mst_node.specs.Place.{place_of}
 use Rattle.mst_node.specs.Trail.{framed, answer_text}
 use Rattle.mst_node.specs.declared.place.Place.{Place}
 use Rattle.mst_node.specs.declared.place.Place.TheVariants.{Gap}
-use Rattle.mst_node.proofs.Places.{none-some}
-use Rattle.mst_node.proofs.Takes.{some_same}
+use Rattle.mst_node.proofs.EntryPlaces.{none-some}
+use Rattle.mst_node.proofs.ReadIsSpelled.{some_same}
 use Rattle.mst_proof.specs.declared.fault.ProofFault.{ProofFault}
 use Rattle.mst_proof.specs.declared.fault.ProofFault.TheVariants.{Version, CutShort, LeftOver, NoNode, OtherDigest, LayerNotBelow, KeyOutside, Unfinished, TextBehind, OtherValue}
 use Rattle.mst_proof.specs.declared.claim.Claim.{Claim}

@@ -15,8 +15,8 @@ use Rattle.mst_key.specs.Bytes.{IsBytes}
 use Rattle.mst_node.specs.Text.{FlatEntry, FlatNode, child_text, counted, held_text, entry_text, spelling, version}
 use Rattle.mst_node.specs.Grammar.{IsDigest, IsHeld, IsFlatEntry, IsFlatNode}
 use Rattle.mst_node.specs.Trail.{framed, framing, answer_text}
-use Rattle.mst_node.proofs.Takes.{bind_ok, some_same, part_takes}
-use Rattle.mst_node.proofs.Again.{part_again}
+use Rattle.mst_node.proofs.ReadIsSpelled.{bind_ok, some_same, part_takes}
+use Rattle.mst_node.proofs.SpelledIsRead.{part_again}
 use Rattle.mst_node.proofs.Frames.{four_fit}
 use Rattle.mst_proof.specs.declared.fault.ProofFault.{ProofFault}
 use Rattle.mst_proof.specs.Frame.{◌>>◌, text_at, texts_at, alone, given, value_at, claim_at, claimed_at, count_at, heading_at, frame_at}

@@ -3,7 +3,7 @@ use Rattle.std.proofs.Common.{◌≡◌, ℕ, zero, suc, ◌==◌, List, [], ◌
 use Rattle.std.specs.Prelude.{option_map, unwrap_or}
 use Rattle.mst_key.specs.Bytes.{IsBytes}
 use Rattle.mst_node.specs.Reading.{◌>>=◌}
-use Rattle.mst_node.proofs.Takes.{bind_ok, some_same}
+use Rattle.mst_node.proofs.ReadIsSpelled.{bind_ok, some_same}
 use Rattle.std.specs.declared.result.Result.TheVariants.{Err}
 use Rattle.mst_key.specs.declared.format.Format.{Format}
 use Rattle.mst_proof.specs.declared.fault.ProofFault.TheVariants.{CutShort}

@@ -9,8 +9,8 @@ use Rattle.mst_key.specs.Map.{Pair, key_cmp}
 use Rattle.mst_node.specs.Tree.{Tree, empty, node, Entries, last, entry, entry_count, tree, IsUnder, IsMst, IsMstEntries}
 use Rattle.mst_node.specs.Gaps.{LayersFall, LayersFallIn}
 use Rattle.mst_node.specs.Trail.{by_order, nodes_met, met_in_gap, trail}
-use Rattle.mst_node.proofs.Lying.{layers_fall}
-use Rattle.mst_node.proofs.Unique.{tree_mst}
+use Rattle.mst_node.proofs.TreeOrder.{layers_fall}
+use Rattle.mst_node.proofs.UniqueTree.{tree_mst}
 
 mutual
   met_few : (t : Tree) (k : List ℕ) (l : ℕ) → IsUnder l t → LayersFall t → length (nodes_met k t) ≤ l

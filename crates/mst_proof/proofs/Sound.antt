@@ -17,9 +17,9 @@ use Rattle.mst_node.specs.Place.{place_of}
 use Rattle.mst_node.specs.declared.place.Place.{Place}
 use Rattle.mst_node.specs.declared.place.Place.TheVariants.{Gap}
 use Rattle.mst_node.specs.declared.place.Span.{Span}
-use Rattle.mst_node.proofs.Takes.{some_same}
-use Rattle.mst_node.proofs.Again.{one_node}
-use Rattle.mst_node.proofs.Spelt.{flat_is}
+use Rattle.mst_node.proofs.ReadIsSpelled.{some_same}
+use Rattle.mst_node.proofs.SpelledIsRead.{one_node}
+use Rattle.mst_node.proofs.MapTextsInGrammar.{flat_is}
 use Rattle.mst_proof.specs.declared.expected.Expected.{Expected}
 use Rattle.mst_proof.specs.Verdict.{step_of}
 use Rattle.mst_proof.proofs.Stepwise.{Says, Leads}

@@ -4,7 +4,7 @@ use Rattle.mst_key.specs.declared.format.Format.{Format}
 use Rattle.mst_key.specs.declared.format.Format.TheVariants.{One, Two}
 use Rattle.mst_proof.specs.Accepted.{held_answer, IsAnswer}
 use Rattle.mst_proof.specs.Frame.{frame_at}
-use Rattle.mst_node.proofs.Takes.{some_same}
+use Rattle.mst_node.proofs.ReadIsSpelled.{some_same}
 use Rattle.std.specs.Ordering.{is_eq}
 use Rattle.std.specs.Str.{bytes_eq}
 use Rattle.std.proofs.lemmas.Bool.Decides.{not_from_Decides}
@@ -21,8 +21,8 @@ use Rattle.mst_node.specs.Text.{FlatNode, spelling, text, digest, digest_of}
 use Rattle.mst_node.specs.Gaps.{LiesBetween}
 use Rattle.mst_node.specs.Collision.{Collision, HasCollision}
 use Rattle.mst_node.specs.Trail.{framed, framing, nodes_met, proof_text}
-use Rattle.mst_node.proofs.Lying.{lies_between, between_none}
-use Rattle.mst_node.proofs.Unique.{pairs_tree, tree_mst}
+use Rattle.mst_node.proofs.TreeOrder.{lies_between, between_none}
+use Rattle.mst_node.proofs.UniqueTree.{pairs_tree, tree_mst}
 use Rattle.mst_proof.specs.Verdict.{first_expected}
 use Rattle.mst_proof.proofs.Stepwise.{LeadsFrom, Leads, Accepted}
 use Rattle.mst_proof.specs.Theorem.{HasRoot, claimed, or_none, value_of, texts_of, values_named, texts_named}

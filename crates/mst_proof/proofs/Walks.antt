@@ -17,8 +17,8 @@ use Rattle.mst_node.specs.Tree.{Tree, empty, node, pairs, nodes, nodes_below, tr
 use Rattle.mst_node.specs.Shape.{tree_of}
 use Rattle.mst_node.specs.Text.{digest_of, text, digest}
 use Rattle.mst_node.specs.Collision.{Collision}
-use Rattle.mst_node.proofs.Shapes.{tree_of_out}
-use Rattle.mst_node.proofs.Unique.{pairs_tree, tree_mst}
+use Rattle.mst_node.proofs.NodeShapes.{tree_of_out}
+use Rattle.mst_node.proofs.UniqueTree.{pairs_tree, tree_mst}
 use Rattle.mst_proof.specs.declared.collision.Pair.{Pair}
 use Rattle.mst_proof.specs.declared.fault.ProofFault.{ProofFault}
 use Rattle.mst_proof.specs.declared.fault.ProofFault.TheVariants.{OtherDigest}

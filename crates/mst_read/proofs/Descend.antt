@@ -4,7 +4,7 @@ use Rattle.std.specs.Prelude.{IfSome}
 use Rattle.mst_key.specs.declared.format.Format.{Format}
 use Rattle.mst_key.specs.Map.{Pair, IsAscending}
 use Rattle.mst_node.specs.Tree.{Tree, pairs, entries_pairs, IsMst, IsMstEntries, IsUnder}
-use Rattle.mst_node.proofs.Unique.{pairs_tree, tree_mst}
+use Rattle.mst_node.proofs.UniqueTree.{pairs_tree, tree_mst}
 use Rattle.mst_arena.specs.Content.{Content}
 use Rattle.mst_arena.specs.declared.row.Root.{Root}
 use Rattle.mst_arena.specs.declared.row.HeadLinks.{HeadLinks}

@@ -9,7 +9,7 @@ use Rattle.mst_key.specs.Map.{Pair, key_cmp}
 use Rattle.mst_node.specs.Tree.{Tree, node, IsMst, IsMstEntries, IsUnder}
 use Rattle.mst_node.specs.Text.{text}
 use Rattle.mst_node.specs.Trail.{nodes_met, met_in_gap, trail, framed, by_order}
-use Rattle.mst_node.proofs.Unique.{tree_mst}
+use Rattle.mst_node.proofs.UniqueTree.{tree_mst}
 use Rattle.mst_arena.specs.Content.{Content}
 use Rattle.mst_arena.specs.declared.row.Root.{Root}
 use Rattle.mst_arena.specs.declared.row.HeadLinks.{HeadLinks}

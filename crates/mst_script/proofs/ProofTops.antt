@@ -8,7 +8,7 @@ use Rattle.mst_node.specs.Frame.{FramesFirst}
 use Rattle.mst_node.specs.Text.{text, version}
 use Rattle.mst_node.specs.Trail.{nodes_met, met_in_gap, framed}
 use Rattle.mst_node.specs.Tree.{Tree, Entries, empty, node}
-use Rattle.mst_node.proofs.Takes.{some_same}
+use Rattle.mst_node.proofs.ReadIsSpelled.{some_same}
 use Rattle.mst_node.proofs.Frames.{first_again}
 use Rattle.mst_script.specs.Machine.{top_words}
 

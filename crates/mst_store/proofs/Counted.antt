@@ -7,6 +7,7 @@ use Rattle.mst_key.specs.History.{after, format_after, events_of, IsPrefix}
 use Rattle.mst_arena.specs.Lives.{free_count}
 use Rattle.mst_arena.specs.Lists.{In}
 use Rattle.mst_path.proofs.lemmas.rows.Moving.{in_either, one_row}
+use Rattle.mst_pin.specs.WordParts.{masks}
 use Rattle.mst_words.specs.declared.view.View.{View}
 use Rattle.mst_words.specs.Notes.{IsOfPasses}
 use Rattle.mst_words.specs.Steps.{NotesCurrent, AsksCurrent, found_now}
@@ -34,25 +35,25 @@ some_of (Some k) is = (k, refl)
 -- ---- whether the current version was found pinned
 
 module _ (noted done version : ℕ) where
-  unpinned : noted % 4294967296 ≡ done → found_now (Some noted) done version ≡ []
-  unpinned same = ap (λ (b : Bool). if b then [] else version ∷ []) (eq-eqb (noted % 4294967296) done same)
+  unpinned : noted % masks ≡ done → found_now (Some noted) done version ≡ []
+  unpinned same = ap (λ (b : Bool). if b then [] else version ∷ []) (eq-eqb (noted % masks) done same)
 
-  is_unpinned : length (found_now (Some noted) done version) ≡ 0 → noted % 4294967296 ≡ done
-  is_unpinned none = go (eqb (noted % 4294967296) done) refl none
+  is_unpinned : length (found_now (Some noted) done version) ≡ 0 → noted % masks ≡ done
+  is_unpinned none = go (eqb (noted % masks) done) refl none
     where
-      go : (b : Bool) → eqb (noted % 4294967296) done ≡ b → length (if b then [] else version ∷ []) ≡ 0 → noted % 4294967296 ≡ done
+      go : (b : Bool) → eqb (noted % masks) done ≡ b → length (if b then [] else version ∷ []) ≡ 0 → noted % masks ≡ done
       go true e is = grind (arith, nat_tests)
       go false e is = absurd (omega (arith, is))
 
   at_most_one : length (found_now (Some noted) done version) ≤ 1
-  at_most_one = go (eqb (noted % 4294967296) done)
+  at_most_one = go (eqb (noted % masks) done)
     where
       go : (b : Bool) → length (if b then [] else version ∷ []) ≤ 1
       go true = omega arith
       go false = omega arith
 
   it_is : (v : ℕ) → In v (found_now (Some noted) done version) → v ≤ version
-  it_is v = go (eqb (noted % 4294967296) done)
+  it_is v = go (eqb (noted % masks) done)
     where
       go : (b : Bool) → In v (if b then [] else version ∷ []) → v ≤ version
       go true i = absurd (in_nothing v i)
@@ -71,13 +72,13 @@ module _ {A : Type 0} (t : Turn A) (m1 m2 m3 : Seat) (noted done : ℕ) (n : Not
   still_holds h = subst (HoldsDesk t) (sym asked_both) (still t m1 (Some noted) all_found (m1.0.asked + 1 + 1) h.holds)
 
   -- in a store of one pass the mask that was noted is what the record's word says
-  same_mask : m1.0.passes ≡ 1 → noted % 4294967296 ≡ done
+  same_mask : m1.0.passes ≡ 1 → noted % masks ≡ done
   same_mask one =
-      let word : m2.0.noted ≡ Some (m2.0.desk.current * 4294967296 + n.mask) = ap (λ (z : Seat). z.0.noted) n.is ∙ ap Some n.found ∙ ap (λ (z : Seat). Some (z.0.desk.current * 4294967296 + n.mask)) (sym n.is) in
-      ap (λ (z : ℕ). z % 4294967296) n.found ∙ mod-mul-add m1.0.desk.current 4294967296 n.mask n.small ∙ sym (a.alone (ap (λ (z : Seat). z.0.passes) n.is ∙ one) n.mask n.small word)
+      let word : m2.0.noted ≡ Some (m2.0.desk.current * masks + n.mask) = ap (λ (z : Seat). z.0.noted) n.is ∙ ap Some n.found ∙ ap (λ (z : Seat). Some (z.0.desk.current * masks + n.mask)) (sym n.is) in
+      ap (λ (z : ℕ). z % masks) n.found ∙ mod-mul-add m1.0.desk.current masks n.mask n.small ∙ sym (a.alone (ap (λ (z : Seat). z.0.passes) n.is ∙ one) n.mask n.small word)
 
   pub counted : (m m' : Seat) → Begun m t m1 → m' ≡ (record m3.0 { turn = false }, []) → (found : Option ℕ) (used : ℕ) → used + free_count t.desk.lives ≡ m.0.rows
-      → (t.kept ≡ 1 → noted % 4294967296 ≡ done → found ≡ Some used) → IfSome found (λ k. (k ≡ used) × (t.kept ≡ 1) × (noted % 4294967296 ≡ done)) → Counts m found m'
+      → (t.kept ≡ 1 → noted % masks ≡ done → found ≡ Some used) → IfSome found (λ k. (k ≡ used) × (t.kept ≡ 1) × (noted % masks ≡ done)) → Counts m found m'
   counted m m' b gave found used all alone only =
       let back : m' ≡ (record m1.0 { noted = Some noted; found = all_found; asked = m1.0.asked + 1 + 1; turn = false }, []) = gave ∙ ap (λ (z : Seat). (record z.0 { turn = false }, [])) asked_both in
       let seen : m'.0.seen ≡ m1.0.seen = ap (λ (z : Seat). z.0.seen) back in record {
@@ -85,13 +86,13 @@ module _ {A : Type 0} (t : Turn A) (m1 m2 m3 : Seat) (noted done : ℕ) (n : Not
         own = subst (λ (z : Seat). events_of m.0.number z.0.seen ≡ m.0.mine) (sym back) b.own;
         mine = ap (λ (z : Seat). z.0.mine) back ∙ ap (λ (v : View). v.mine) b.rest;
         alone = subst (λ (z : Seat). IsOfPasses m.0.passes z.0.seen) (sym back) b.alone;
-        number = λ k is. (let o = subst (λ (z : Option ℕ). IfSome z (λ i. (i ≡ used) × (t.kept ≡ 1) × (noted % 4294967296 ≡ done))) is only in let f = b.has.number in let r = ap (λ (v : View). v.rows) b.rest in
+        number = λ k is. (let o = subst (λ (z : Option ℕ). IfSome z (λ i. (i ≡ used) × (t.kept ≡ 1) × (noted % masks ≡ done))) is only in let f = b.has.number in let r = ap (λ (v : View). v.rows) b.rest in
             let map_is = room_alone_left t m1 b.has (omega (arith, f, o.1)) in
             let here : k ≡ rows_of t.format (after m1.0.seen) = omega (arith, all, o.0, map_is, r) in
             here ∙ ap (λ (f : _). rows_of f (after m1.0.seen)) b.has.format ∙ ap (λ (z : Seat). rows_of (format_after z.0.format z.0.seen) (after z.0.seen)) (sym back));
         found_alone = λ one. (let p = ap (λ (v : View). v.passes) b.rest in let f = b.has.fewer in let k = b.has.number in ap is_some (alone (omega (arith, f, k, p, one)) (same_mask (p ∙ one))));
         exact = (
-          (λ is. let some = some_of found is in let o = subst (λ (z : Option ℕ). IfSome z (λ i. (i ≡ used) × (t.kept ≡ 1) × (noted % 4294967296 ≡ done))) some.1 only in let kept = o.1 in let as_many = b.has.leaves.as_many in
+          (λ is. let some = some_of found is in let o = subst (λ (z : Option ℕ). IfSome z (λ i. (i ≡ used) × (t.kept ≡ 1) × (noted % masks ≡ done))) some.1 only in let kept = o.1 in let as_many = b.has.leaves.as_many in
               ap (λ (z : Seat). z.0.found) back ∙ ap (λ (z : List ℕ). z ++ found_now (Some noted) done (length m1.0.seen)) (no_members m1.0.found (omega (arith, as_many, kept))) ∙ unpinned noted done (length m1.0.seen) o.2),
           (λ none. let all_none : all_found ≡ [] = sym (ap (λ (z : Seat). z.0.found) back) ∙ none in
               let lengths = length-append m1.0.found (found_now (Some noted) done (length m1.0.seen)) in let no_length : length all_found ≡ 0 = ap (λ (z : List ℕ). length z) all_none in let as_many = b.has.leaves.as_many in

@@ -9,7 +9,7 @@ use Rattle.mst_key.specs.Map.{Pair, from_on, below, map_range}
 use Rattle.mst_key.specs.History.{History, after, format_after, was}
 use Rattle.mst_node.specs.Tree.{tree}
 use Rattle.mst_node.specs.Cost.{same_format}
-use Rattle.mst_node.proofs.Formats as formats
+use Rattle.mst_node.proofs.FormatsShareNothing as formats
 use Rattle.mst_change.proofs.Formats.{stays}
 use Rattle.mst_arena.specs.Lives.{State, free_count, last_version}
 use Rattle.mst_arena.specs.Lists.{In, times}

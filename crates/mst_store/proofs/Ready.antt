@@ -15,6 +15,7 @@ use Rattle.mst_arena.specs.declared.life.Life.{Life}
 use Rattle.mst_arena.specs.declared.row.Root.{Root}
 use Rattle.mst_arena.specs.Lists.{In}
 use Rattle.mst_path.specs.Reached.{advanced}
+use Rattle.mst_words.specs.Layout.{row_word}
 use Rattle.mst_words.specs.declared.view.View.{View}
 use Rattle.mst_words.specs.declared.view.DeskState.{DeskState}
 use Rattle.mst_words.specs.Access.{content_of}
@@ -58,7 +59,7 @@ module _ {A : Type 0} (t : Turn A) (root : Root) (format : Format) (e : Event) (
 
   same_content : AllByRecursion (λ x. rows_in (row held) x ≡ content_of m.0 x) (numbers made.stands)
   same_content = each (λ x. rows_in (row held) x ≡ content_of m.0 x) (numbers made.stands) (λ x within.
-      same_row (row m.0.known_words) (row held) x (λ k lt. kept.others (x * 16 + k + 278) (λ j l is. let i = holds.into_in in let f = holds.few in omega arith)) ∙ sym (reads_all m.0 x holds.holder.0 (within_rows x within)))
+      same_row (row m.0.known_words) (row held) x (λ k lt. kept.others (row_word x k) (λ j l is. let i = holds.into_in in let f = holds.few in omega arith)) ∙ sym (reads_all m.0 x holds.holder.0 (within_rows x within)))
 
   numbered : length (m.0.seen ++ e ∷ []) ≡ version t.desk + 1
   numbered = length_more m.0.seen e ∙ ap (λ (n : ℕ). n + 1) (sym holds.version_is)

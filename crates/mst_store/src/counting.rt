@@ -8,16 +8,17 @@ ghost use Rattle.mst_store.specs.Writes.{KeepsPass};
 use crate::faults::Busy;
 use crate::turn::{begin, give_back};
 use mst_words::PassSeat;
+use mst_words::layout::MASKS;
 use std::alloc::Allocator;
 
 // The number, where one version is kept, and nobody was found to pin it: the mask of the current
 // record, as it was noted, is then what its own word says.
 fn where_alone(used: u32, kept: u32, noted: u64, done: u64) -> Option<u32>
-    ensures alone { kept ≡ 1 → noted % 4294967296 ≡ done → result ≡ Some used }
+    ensures alone { kept ≡ 1 → noted % MASKS ≡ done → result ≡ Some used }
     ensures only { IfSome result
-        (λ n. (n ≡ used) × (kept ≡ 1) × (noted % 4294967296 ≡ done)) }
+        (λ n. (n ≡ used) × (kept ≡ 1) × (noted % MASKS ≡ done)) }
 {
-    if kept == 1 && noted % 4_294_967_296 == done {
+    if kept == 1 && noted % MASKS == done {
         Some(used)
     } else {
         None

@@ -8,6 +8,7 @@ use crate::turn::Turn;
 use mst_arena::Root;
 use mst_key::{Event, Format};
 use mst_words::PassSeat;
+use mst_words::layout::MASKS;
 use std::alloc::Allocator;
 use std::marker::Brand;
 
@@ -30,7 +31,7 @@ pub(crate) fn publish<A: Allocator + Copy>(
     write_root(seat, into, version + 1, root, format);
     desk.advance(into);
     let found = seat.publish::<Brand>(into, event, &desk);
-    seat.transfer(old, found % 4_294_967_296);
+    seat.transfer(old, found % MASKS);
     seat.return_desk(desk);
     seat.give_turn();
 }

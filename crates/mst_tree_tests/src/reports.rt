@@ -4,7 +4,7 @@ use crate::cases::{Case, ask};
 use crate::heaps::heap_of;
 use crate::proving::TWO;
 use mst_key::{Format, Memory};
-use mst_verify::{LIMIT, Report, key_in, report_on, root_in};
+use mst_report::{LIMIT, Report, key_in, report_on, root_in};
 use std::alloc::{Allocator, Global};
 use std::process::Abort;
 

@@ -8,7 +8,7 @@ use Rattle.mst_key.specs.declared.format.Format.TheVariants.{One, Two}
 use Rattle.mst_key.proofs.Layers.{one_of_8, two_of_8}
 use Rattle.mst_node.specs.Reading.{part_at, child_at, counted_at, entry_at, entries_at, body_at, node_at}
 use Rattle.mst_node.specs.Text.{FlatNode, digest_of}
-use Rattle.mst_node.proofs.Spelt.{sha256_digest}
+use Rattle.mst_node.proofs.MapTextsInGrammar.{sha256_digest}
 use Rattle.mst_proof.specs.declared.fault.ProofFault.{ProofFault}
 use Rattle.mst_proof.specs.declared.fault.ProofFault.TheVariants.{OtherDigest}
 use Rattle.mst_node.specs.Place.{place_of}

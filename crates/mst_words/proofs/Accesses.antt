@@ -15,7 +15,7 @@ use Rattle.mst_arena.specs.declared.row.Row.{Row}
 use Rattle.mst_arena.proofs.ListLemmas.{any_times}
 use Rattle.mst_arena.proofs.Readers.{relinked_words}
 use Rattle.mst_words.specs.declared.view.View.{View}
-use Rattle.mst_words.specs.Layout.{row_word}
+use Rattle.mst_words.specs.Layout.{row_word, row_words, first_row}
 use Rattle.mst_words.specs.Records as records
 use Rattle.mst_words.specs.Records.{IsBlank}
 use Rattle.mst_words.specs.Steps.{IsReadable, IsWritable}
@@ -39,7 +39,7 @@ gone : (o : Option ℕ) → is_none o ≡ true → o ≡ None
 gone None h = refl
 gone (Some r) h = absurd (let c : false ≡ true = h in cc)
 
-pub readable : (v : View) (x k : ℕ) → may_read v x ≡ true → k < 16 → IsReadable v (x * 16 + k + 278)
+pub readable : (v : View) (x k : ℕ) → may_read v x ≡ true → k < row_words → IsReadable v (row_word x k)
 readable v x k may lt = let a = both (nat_lt x v.rows) (v.turn || (is_some v.pin && list_any (eqb x) v.pinned_rows)) may in ⊎_elim
     (λ (on : v.turn ≡ true). inl (on, omega arith))
     (λ (pinned : (is_some v.pin && list_any (eqb x) v.pinned_rows) ≡ true). let b = both (is_some v.pin) (list_any (eqb x) v.pinned_rows) pinned in let p = there v.pin b.0 in inr (inr (p.0, x, k, p.1, any_times x v.pinned_rows b.1, lt, refl)))
@@ -86,26 +86,26 @@ blank_row v x h = let b = blank_parts v x h in (
       (either_of (list_any (eqb r) v.drained) (not (lives.reaches v.desk.lives (version_of v.desk r) x)) (each_below (v.passes + 2) (λ r. list_any (eqb r) v.drained || not (lives.reaches v.desk.lives (version_of v.desk r) x)) r b.unreached small))),
 )
 
-pub writable : (v : View) (x k : ℕ) → is_blank v x ≡ true → k < 16 → IsWritable (stored v.format) v (x * 16 + k + 278)
+pub writable : (v : View) (x k : ℕ) → is_blank v x ≡ true → k < row_words → IsWritable (stored v.format) v (row_word x k)
 writable v x k h lt = inl (x, k, blank_row v x h, lt, refl)
 
 -- a row whose sixteen words were stored
 pub record Stored (x n : ℕ) (words old new : List ℕ) : Type 0 where
   pub long : length new ≡ length old
   pub so_far : (k : ℕ) → k < n → records.row new x k ≡ get_or words k 0
-  pub others : (i : ℕ) → ((k : ℕ) → k < 16 → i ≢ x * 16 + k + 278) → get_or new i 0 ≡ get_or old i 0
+  pub others : (i : ℕ) → ((k : ℕ) → k < row_words → i ≢ row_word x k) → get_or new i 0 ≡ get_or old i 0
 
 pub stored_none : (x : ℕ) (words old : List ℕ) → Stored x 0 words old old
 stored_none x words old = record { long = refl; so_far = λ k l. absurd (omega arith); others = λ i _. refl }
 
-pub stored_more : (x n : ℕ) (words old new : List ℕ) → Stored x n words old new → n < 16 → x * 16 + 294 ≤ length old → (value : ℕ) → value ≡ get_or words n 0
-    → Stored x (n + 1) words old (set new (x * 16 + n + 278) value)
+pub stored_more : (x n : ℕ) (words old new : List ℕ) → Stored x n words old new → n < row_words → x * 16 + 294 ≤ length old → (value : ℕ) → value ≡ get_or words n 0
+    → Stored x (n + 1) words old (set new (row_word x n) value)
 stored_more x n words old new s lt wide value is = let long = s.long in record {
-  long = length-set new (x * 16 + n + 278) value ∙ s.long;
+  long = length-set new (row_word x n) value ∙ s.long;
   so_far = λ k l. dite (ℕ_discrete k n)
-      (λ same. ap (λ (j : ℕ). get_or (set new (x * 16 + n + 278) value) (x * 16 + j + 278) 0) same ∙ get_or-set_same new (x * 16 + n + 278) value 0 (omega arith) ∙ is ∙ ap (λ (j : ℕ). get_or words j 0) (sym same))
-      (λ other. get_or-set_other new (x * 16 + n + 278) (x * 16 + k + 278) value 0 (λ e. other (omega arith)) ∙ s.so_far k (omega arith));
-  others = λ i away. get_or-set_other new (x * 16 + n + 278) i value 0 (away n lt) ∙ s.others i away;
+      (λ same. ap (λ (j : ℕ). get_or (set new (row_word x n) value) (row_word x j) 0) same ∙ get_or-set_same new (row_word x n) value 0 (omega arith) ∙ is ∙ ap (λ (j : ℕ). get_or words j 0) (sym same))
+      (λ other. get_or-set_other new (row_word x n) (row_word x k) value 0 (λ e. other (omega arith)) ∙ s.so_far k (omega arith));
+  others = λ i away. get_or-set_other new (row_word x n) i value 0 (away n lt) ∙ s.others i away;
 }
 
 -- the rows are as before but for the one that was written
@@ -122,8 +122,8 @@ written v x value words held blank long spelt s = let b = blank_parts v x blank 
     all : words ≡ map (records.row held x) (range_with_len 0 16)
     all = fill_by_all (records.row held x) words 16 0 long (λ k lt. sym (s.so_far k (omega arith)))
 
-    same_word : (k j : ℕ) → k ≢ x → j < 16 → records.row held k j ≡ records.row v.known_words k j
-    same_word k j other lt = s.others (k * 16 + j + 278) (λ i l e. other (omega arith))
+    same_word : (k j : ℕ) → k ≢ x → j < row_words → records.row held k j ≡ records.row v.known_words k j
+    same_word k j other lt = s.others (row_word k j) (λ i l e. other (omega arith))
 
     elsewhere : (k : ℕ) → k ≢ x → rows_in (records.row held) k ≡ rows_in (records.row v.known_words) k
     elsewhere k other = same_row (records.row v.known_words) (records.row held) k (λ j lt. same_word k j other lt)
@@ -142,13 +142,13 @@ same_front n xs ys le long h = let a = length-take-le n xs le in let b = length-
     (λ i lt. let small : i < n = omega (arith, lt, b) in get_or-take n ys i 0 small ∙ h i small ∙ sym (get_or-take n xs i 0 small))
 
 -- what the seat is beside its rows depends on no word of a row
-pub beside_stays : (s t : Seated) (x : ℕ) (words : List ℕ) → t ≡ with_words t.me.0.known_words s → 278 ≤ length s.me.0.known_words → Stored x 16 words s.me.0.known_words t.me.0.known_words → beside t ≡ beside s
+pub beside_stays : (s t : Seated) (x : ℕ) (words : List ℕ) → t ≡ with_words t.me.0.known_words s → first_row ≤ length s.me.0.known_words → Stored x 16 words s.me.0.known_words t.me.0.known_words → beside t ≡ beside s
 beside_stays s t x words same wide stored =
     let held = t.me.0.known_words in
-    let front : take 278 held ≡ take 278 s.me.0.known_words = same_front 278 s.me.0.known_words held wide stored.long (λ i lt. stored.others i (λ k l is. omega (arith, lt, is))) in
+    let front : take first_row held ≡ take first_row s.me.0.known_words = same_front first_row s.me.0.known_words held wide stored.long (λ i lt. stored.others i (λ k l is. omega (arith, lt, is))) in
     ap beside same
     ∙ ap (λ (f : List ℕ). record { seat = with_words [] s; front = f; long = length held }) front
-    ∙ ap (λ (n : ℕ). record { seat = with_words [] s; front = take 278 s.me.0.known_words; long = n }) stored.long
+    ∙ ap (λ (n : ℕ). record { seat = with_words [] s; front = take first_row s.me.0.known_words; long = n }) stored.long
 
 -- the words of an entry that may be read spell it with other links, once these are put in
 its_row : (b : Bool) (o : Option Row) (row : Row) → (if b then o else None) ≡ Some row → o ≡ Some row

@@ -8,6 +8,8 @@ use lib.ListN.{get_elem?}
 use Rattle.mst_key.specs.declared.format.Format.TheVariants.{One}
 use Rattle.mst_key.specs.History.{History}
 use Rattle.mst_arena.specs.Lives as lives
+use Rattle.mst_pin.specs.WordParts.{masks}
+use Rattle.mst_words.specs.Layout.{record_word, first_record}
 use Rattle.mst_words.specs.declared.view.View.{View}
 use Rattle.mst_words.specs.declared.view.Shape.{Shape}
 use Rattle.mst_words.specs.World.{SeatAt, dealer, idle}
@@ -43,14 +45,14 @@ no_desk a = let t = a.parts.turn.free refl in
 
 -- the pins: the word of the current record names record 4, of records 0 to 3
 no_record : IsRuled shape (record begun { words = set words 1 17179869184 }) → ⊥
-no_record a = let c : 17179869184 ≡ a.parts.cur * 4294967296 + a.parts.mask = a.parts.pins.current in let s = a.parts.pins.small in let l = a.parts.pins.cur_in in omega (arith, c, s, l)
+no_record a = let c : 17179869184 ≡ a.parts.cur * masks + a.parts.mask = a.parts.pins.current in let s = a.parts.pins.small in let l = a.parts.pins.cur_in in omega (arith, c, s, l)
 
 -- the records and rows: the current record has version 1, before any event
-no_version : IsRuled shape (record begun { words = set words 36 1 }) → ⊥
+no_version : IsRuled shape (record begun { words = set words first_record 1 }) → ⊥
 no_version a = let q = a.parts in let stood = q.rows.live q.cur (inl refl) in
-    let c : 0 ≡ q.cur * 4294967296 + q.mask = q.pins.current in let cur : q.cur ≡ 0 = omega (arith, c) in
-    let version : 1 ≡ length (q.place q.cur) = subst (λ (r : ℕ). get_or (set words 36 1) (r * 7 + 0 + 36) 0 ≡ length (q.place q.cur)) cur stood.version in
-    let none_yet : length (q.place q.cur) ≡ 0 = ap (λ (l : History). length l) (q.rows.now ∙ nothing_seen (record begun { words = set words 36 1 }) (dealer 4 2 One 1) refl refl a) in omega (arith, version, none_yet)
+    let c : 0 ≡ q.cur * masks + q.mask = q.pins.current in let cur : q.cur ≡ 0 = omega (arith, c) in
+    let version : 1 ≡ length (q.place q.cur) = subst (λ (r : ℕ). get_or (set words first_record 1) (record_word r 0) 0 ≡ length (q.place q.cur)) cur stood.version in
+    let none_yet : length (q.place q.cur) ≡ 0 = ap (λ (l : History). length l) (q.rows.now ∙ nothing_seen (record begun { words = set words first_record 1 }) (dealer 4 2 One 1) refl refl a) in omega (arith, version, none_yet)
 
 -- the world: two seats are pass 1
 two_of_one : IsRuled shape (record begun { views = dealer 4 2 One 3 ∷ idle 4 2 One 1 0 ∷ idle 4 2 One 1 0 ∷ [] }) → ⊥
@@ -65,7 +67,7 @@ no_pass a = let q = a.parts in let v : View = record (dealer 4 2 One 1) { seen =
 -- the pins of passes: the bit of pass 1 is set at record 0, and no seat pins it
 no_pin : IsRuled shape (record begun { words = set words 2 1 }) → ⊥
 no_pin a = let q = a.parts in
-    let c : 0 ≡ q.cur * 4294967296 + q.mask = q.pins.current in let cur : q.cur ≡ 0 = omega (arith, c) in let mask : q.mask ≡ 0 = omega (arith, c) in
+    let c : 0 ≡ q.cur * masks + q.mask = q.pins.current in let cur : q.cur ≡ 0 = omega (arith, c) in let mask : q.mask ≡ 0 = omega (arith, c) in
     let beside : q.beside 0 ≡ 0 = ap q.beside (sym cur) ∙ q.pins.beside_cur ∙ mask in
     let bit : pin_bit q.beside (set words 2 1) 0 0 ≡ 1 = ap (λ (z : ℕ). (bit_at z 0 + bit_at 1 0) % 2) beside in
     let t = q.clear.seat_of 0 0 (omega arith) bit in let number : 0 ≡ 1 = ap (λ (z : View). z.number) (one (dealer 4 2 One 1) t.0 t.1 t.2) ∙ t.3 in omega (arith, number)

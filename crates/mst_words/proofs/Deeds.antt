@@ -10,6 +10,7 @@ use Rattle.mst_key.specs.History.{History, IsPrefix}
 use Rattle.mst_key.proofs.HistoryLaws.{IsPrefix-nil, IsPrefix-itself}
 use Rattle.mst_arena.specs.Lists.{In}
 use Rattle.mst_arena.specs.Lives as lives
+use Rattle.mst_words.specs.Layout.{record_word, record_words, row_word, row_words}
 use Rattle.mst_words.specs.declared.view.View.{View}
 use Rattle.mst_words.specs.declared.view.Shape.{Shape}
 use Rattle.mst_words.specs.declared.view.DeskState.{DeskState}
@@ -89,20 +90,20 @@ module _ {S : Type 0} (T : Meaning S) (R N : ℕ) where
   -- ---- what is writable
 
   -- the words of rows lie behind those of records
-  behind : (r k x j n : ℕ) → r < n + 2 → n < 33 → k < 7 → r * 7 + k + 36 ≡ x * 16 + j + 278 → ⊥
+  behind : (r k x j n : ℕ) → r < n + 2 → n < 33 → k < record_words → record_word r k ≡ row_word x j → ⊥
   behind r k x j n inside few small same = omega (arith, inside, few, small, same)
 
   -- no word of a live record or of its rows is writable
   pub live_stays : (s : State S View) (a : Ruled T R N s) (id : ℕ) (v : View) (r i : ℕ) → SeatAt s.views id v → v.turn ≡ true → IsLive a.parts.cur s.views r → IsWordOf r (a.parts.used r) i → IsWritable T v i → ⊥
   live_stays s a id v r i at on live word can = ⊎_elim
-      (λ (t : (k : ℕ) × (k < 7) × (i ≡ r * 7 + k + 36)). ⊎_elim
-      (λ (x : (x k : ℕ) × IsBlank T v x × (k < 16) × (i ≡ x * 16 + k + 278)). behind r t.0 x.0 x.1 N numbered few t.1 (sym t.2 ∙ x.4))
-      (λ (x : (r k : ℕ) × In r v.drained × (k < 7) × (i ≡ r * 7 + k + 36)). let e = t.2 in let f = x.4 in let l = t.1 in let m = x.3 in let same : x.0 ≡ r = omega (arith, e, f, l, m) in
+      (λ (t : (k : ℕ) × (k < record_words) × (i ≡ record_word r k)). ⊎_elim
+      (λ (x : (x k : ℕ) × IsBlank T v x × (k < row_words) × (i ≡ row_word x k)). behind r t.0 x.0 x.1 N numbered few t.1 (sym t.2 ∙ x.4))
+      (λ (x : (r k : ℕ) × In r v.drained × (k < record_words) × (i ≡ record_word r k)). let e = t.2 in let f = x.4 in let l = t.1 in let m = x.3 in let same : x.0 ≡ r = omega (arith, e, f, l, m) in
       live_not_drained N a.parts.cur a.parts.due a.parts.beside s.views v known r live (subst (λ (z : ℕ). In z v.drained) same x.2)) can)
-      (λ (t : (x k : ℕ) × In x (a.parts.used r) × (k < 16) × (i ≡ x * 16 + k + 278)). ⊎_elim
-      (λ (x : (x k : ℕ) × IsBlank T v x × (k < 16) × (i ≡ x * 16 + k + 278)). let e = t.4 in let f = x.4 in let l = t.3 in let m = x.3 in let same : t.0 ≡ x.0 = omega (arith, e, f, l, m) in
+      (λ (t : (x k : ℕ) × In x (a.parts.used r) × (k < row_words) × (i ≡ row_word x k)). ⊎_elim
+      (λ (x : (x k : ℕ) × IsBlank T v x × (k < row_words) × (i ≡ row_word x k)). let e = t.4 in let f = x.4 in let l = t.3 in let m = x.3 in let same : t.0 ≡ x.0 = omega (arith, e, f, l, m) in
       a.apart.blank id v at on x.0 x.2 r live (subst (λ (z : ℕ). In z (a.parts.used r)) same t.2))
-      (λ (x : (r k : ℕ) × In r v.drained × (k < 7) × (i ≡ r * 7 + k + 36)). behind x.0 x.1 t.0 t.1 N (known.drained x.0 x.2).0 few x.3 (sym x.4 ∙ t.4)) can) word
+      (λ (x : (r k : ℕ) × In r v.drained × (k < record_words) × (i ≡ record_word r k)). behind x.0 x.1 t.0 t.1 N (known.drained x.0 x.2).0 few x.3 (sym x.4 ∙ t.4)) can) word
     where
       known : Drains N a.parts.cur a.parts.due a.parts.beside s.views v
       known = a.parts.pins.holder id v at on
@@ -114,12 +115,12 @@ module _ {S : Type 0} (T : Meaning S) (R N : ℕ) where
       few = let l = a.parts.pins.few in omega (arith, l)
 
   -- no live version reaches a writable row
-  pub row_unreached : (s : State S View) (a : Ruled T R N s) (id : ℕ) (v : View) (r x k : ℕ) → SeatAt s.views id v → v.turn ≡ true → IsLive a.parts.cur s.views r → k < 16 → IsWritable T v (x * 16 + k + 278) → T.Reaches a.parts.desk (T.version a.parts.desk r) x → ⊥
+  pub row_unreached : (s : State S View) (a : Ruled T R N s) (id : ℕ) (v : View) (r x k : ℕ) → SeatAt s.views id v → v.turn ≡ true → IsLive a.parts.cur s.views r → k < row_words → IsWritable T v (row_word x k) → T.Reaches a.parts.desk (T.version a.parts.desk r) x → ⊥
   row_unreached s a id v r x k at on live small can reached = ⊎_elim
-      (λ (t : (y j : ℕ) × IsBlank T v y × (j < 16) × (x * 16 + k + 278 ≡ y * 16 + j + 278)). let e = t.4 in let l = t.3 in let same : x ≡ t.0 = omega (arith, e, l, small) in
+      (λ (t : (y j : ℕ) × IsBlank T v y × (j < row_words) × (row_word x k ≡ row_word y j)). let e = t.4 in let l = t.3 in let same : x ≡ t.0 = omega (arith, e, l, small) in
       t.2.1 r (subst (λ (n : ℕ). r < n + 2) (sym (a.parts.world.placed id v at).passes_is) (a.parts.rows.live r live).numbered) (live_not_drained N a.parts.cur a.parts.due a.parts.beside s.views v known r live)
       (subst (λ (d : DeskState). T.Reaches d (T.version d r) t.0) (sym (a.parts.turn.holder id v at on).3) (subst (λ (z : ℕ). T.Reaches a.parts.desk (T.version a.parts.desk r) z) same reached)))
-      (λ (t : (q j : ℕ) × In q v.drained × (j < 7) × (x * 16 + k + 278 ≡ q * 7 + j + 36)). behind t.0 t.1 x k N (known.drained t.0 t.2).0 (let l = a.parts.pins.few in omega (arith, l)) t.3 (sym t.4)) can
+      (λ (t : (q j : ℕ) × In q v.drained × (j < record_words) × (row_word x k ≡ record_word q j)). behind t.0 t.1 x k N (known.drained t.0 t.2).0 (let l = a.parts.pins.few in omega (arith, l)) t.3 (sym t.4)) can
     where
       known : Drains N a.parts.cur a.parts.due a.parts.beside s.views v
       known = a.parts.pins.holder id v at on

@@ -6,6 +6,7 @@ use Rattle.atomic_table.specs.Table.{Me, step, carried_after, stepped, Allows}
 use Rattle.mst_key.specs.declared.history.Event.{Event}
 use Rattle.mst_arena.specs.Lists.{In}
 use Rattle.mst_arena.specs.Lives as lives
+use Rattle.mst_pin.specs.WordParts.{masks}
 use Rattle.mst_words.specs.declared.view.View.{View}
 use Rattle.mst_words.specs.declared.view.Shape.{Shape}
 use Rattle.mst_words.specs.declared.view.DeskState.{DeskState}
@@ -96,14 +97,14 @@ module _ (z : Shape) (s : Table) (a : IsRuled z s) (id : ℕ) (me : Mine) (at : 
   can glancing i may small = done_by glancing i 0 (λ n. n) (λ x m. told_by glancing (step (length s.homes) i 0 0 none) me x m) tt small (glances_allows T framed z.rows z.passes (length s.homes) id i me) refl (λ m t. t)
 
   pub can_publish : (into : ℕ) (e : Event) (d : DeskState) (used : List ℕ) → IsReady (stored me.0.format) into e d used me.0 → Small 1 → (t : Table) × IsRuled z t × (p : MakesCurrent into s t) × (p.publishes.made.id ≡ id) × (p.publishes.made.before ≡ me)
-  can_publish into e d used ready small = let r = publishes_by z.format z.rows z.passes (length s.homes) id (into * 4294967296) into e d used me ready refl s a refl at small in (
-    stepped s 1 (into * 4294967296) id me.1 r.0 r.1,
+  can_publish into e d used ready small = let r = publishes_by z.format z.rows z.passes (length s.homes) id (into * masks) into e d used me ready refl s a refl at small in (
+    stepped s 1 (into * masks) id me.1 r.0 r.1,
     r.3,
     record {
       event = e;
       publishes = record {
         desk = d;
-        made = record { id = id; step = step (length s.homes) 1 (into * 4294967296) 0 none; found = get_or s.words 1 0; before = me; after = (r.0, carried_after me.1 r.1); at = at; views = refl; tells = r.4 };
+        made = record { id = id; step = step (length s.homes) 1 (into * masks) 0 none; found = get_or s.words 1 0; before = me; after = (r.0, carried_after me.1 r.1); at = at; views = refl; tells = r.4 };
         on = ready.on;
       };
       settled = ready.settled;

@@ -8,6 +8,7 @@ use Rattle.mst_key.specs.declared.history.Event.{Event}
 use Rattle.mst_arena.specs.Lists.{In}
 use Rattle.mst_key.specs.declared.format.Format.{Format}
 use Rattle.mst_arena.specs.Lives.{State}
+use Rattle.mst_pin.specs.WordParts.{masks}
 use Rattle.mst_words.specs.declared.view.View.{View}
 use Rattle.mst_words.specs.declared.view.DeskState.{DeskState}
 use Rattle.mst_words.specs.Rule.{Ruled}
@@ -43,5 +44,5 @@ module _ (first : Format) (R N slots id : ℕ) where
   pub asks_by : (r : ℕ) (me : Me (Option State) View) → IsHolder me → r < me.0.passes + 2 → r ≢ me.0.desk.current → (In r me.0.blocked → ⊥) → Allows (Ruled (stored first) R N) slots id me (r + 2) (λ n. n) (asks (stored me.0.format) (step slots (r + 2) 0 0 none) me)
   asks_by r me holder there other new = own_format first R N slots id (r + 2) me (λ n. n) (λ k. asks (stored k) (step slots (r + 2) 0 0 none) me) (asks_allows (stored first) (stored_framed first) R N slots id r me holder there other new)
 
-  pub publishes_by : (b into : ℕ) (e : Event) (d : DeskState) (u : List ℕ) (me : Me (Option State) View) → IsReady (stored me.0.format) into e d u me.0 → b ≡ into * 4294967296 → Allows (Ruled (stored first) R N) slots id me 1 (λ _. b) (publishes e d (step slots 1 b 0 none) me)
+  pub publishes_by : (b into : ℕ) (e : Event) (d : DeskState) (u : List ℕ) (me : Me (Option State) View) → IsReady (stored me.0.format) into e d u me.0 → b ≡ into * masks → Allows (Ruled (stored first) R N) slots id me 1 (λ _. b) (publishes e d (step slots 1 b 0 none) me)
   publishes_by b into e d u me is word = given_format first R N slots id 1 me (λ _. b) (publishes e d (step slots 1 b 0 none) me) (λ k. IsReady (stored k) into e d u me.0) is (λ ready. publishes_allows (stored first) (stored_framed first) R N slots id b into e d u me ready word)

@@ -13,6 +13,7 @@ use Rattle.mst_arena.specs.declared.row.Root.{Root}
 use Rattle.mst_arena.proofs.Stands.{placed_frame}
 use Rattle.mst_arena.specs.Lists.{In}
 use Rattle.mst_path.specs.Ages.{HasAges}
+use Rattle.mst_words.specs.Layout.{record_words, row_words}
 use Rattle.mst_words.specs.Records.{SameWords, Agrees, IsFramed}
 use Rattle.mst_words.specs.Stored.{rows_in, root_in, Contents, StandsOn, AgedOn, Reaches, version_of, stored}
 use Rattle.mst_words.specs.declared.view.DeskState.{DeskState}
@@ -30,10 +31,10 @@ below_same zero f g same k = refl
 below_same (suc n) f g same zero = same 0 (omega arith)
 below_same (suc n) f g same (suc k) = below_same n (λ j. f (suc j)) (λ j. g (suc j)) (λ j l. same (suc j) (omega arith)) k
 
-pub same_row : (f g : ℕ → ℕ → ℕ) (x : ℕ) → ((k : ℕ) → k < 16 → g x k ≡ f x k) → rows_in g x ≡ rows_in f x
+pub same_row : (f g : ℕ → ℕ → ℕ) (x : ℕ) → ((k : ℕ) → k < row_words → g x k ≡ f x k) → rows_in g x ≡ rows_in f x
 same_row f g x same = λ i. rows_in (λ _ k. below_same 16 (f x) (g x) same k i) x
 
-same_root : (p q : ℕ → ℕ) → ((k : ℕ) → k < 7 → q k ≡ p k) → root_in q ≡ root_in p
+same_root : (p q : ℕ → ℕ) → ((k : ℕ) → k < record_words → q k ≡ p k) → root_in q ≡ root_in p
 same_root p q same = λ i. root_in (λ k. below_same 7 p q same k i)
 
 -- rows that stand do so by their own numbers, on any content and root that agree there, and by the

@@ -16,6 +16,7 @@ use Rattle.mst_arena.specs.Lives.{reached_at, reaches, version, IsPast}
 use Rattle.mst_arena.specs.Standing.{none}
 use Rattle.mst_arena.specs.Words.{word_from, byte_of_words, bytes_in}
 use Rattle.mst_arena.proofs.Packing.{packed, bytes_back}
+use Rattle.mst_words.specs.Layout.{first_record}
 use Rattle.mst_words.specs.Records.{field, row, Standing}
 use Rattle.mst_words.specs.declared.view.DeskState.{DeskState}
 use Rattle.mst_words.specs.Stored.{AgedOn, IsDesk, stored, format_number, fresh_desk, desk_state}
@@ -93,7 +94,7 @@ pub fresh_standing : (first : Format) (R N : ℕ) (ws : List ℕ) → ((i : ℕ)
 fresh_standing first R N ws front digest number = record {
   numbered = omega arith;
   begins = IsPrefix-nil [];
-  version = front 36 (omega arith);
+  version = front first_record (omega arith);
   filed = get_or-replicate (N + 2) 0 0 0 (omega arith);
   stands = (empty_stands first (row ws) (field ws 0) (desk_state (fresh_desk R N)) (front 37 (omega arith)) digest number).0;
   aged = empty_stands first (row ws) (field ws 0) (desk_state (fresh_desk R N)) (front 37 (omega arith)) digest number;

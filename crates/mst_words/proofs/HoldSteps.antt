@@ -8,6 +8,8 @@ use Rattle.std.specs.Int.{bit_at, trailing_zeros, w64}
 use Rattle.std.proofs.lemmas.Nat.Bits.{bit_at-zero, bit_at-trailing_zeros}
 use Rattle.atomic_table.specs.Table.{Me, step, keeps, stepped, Allows}
 use Rattle.mst_pin.specs.declared.event.Event.TheVariants.{Publish, Transfer}
+use Rattle.mst_pin.specs.WordParts.{masks}
+use Rattle.mst_words.specs.Layout.{first_record}
 use Rattle.mst_words.specs.declared.view.View.{View}
 use Rattle.mst_key.specs.declared.history.Event.{Event}
 use Rattle.mst_words.specs.declared.view.DeskState.{DeskState}
@@ -32,12 +34,12 @@ use Rattle.mst_words.proofs.Stills.{still_new, still_set, still_same, alone}
 
 module _ {S : Type 0} (T : Meaning S) (framed : IsFramed T) (R N : ℕ) where
   -- ---- a publication
-  pub publishes_allows : (slots id b into : ℕ) (e : Event) (d : DeskState) (u : List ℕ) (me : Me S View) → IsReady T into e d u me.0 → b ≡ into * 4294967296
+  pub publishes_allows : (slots id b into : ℕ) (e : Event) (d : DeskState) (u : List ℕ) (me : Me S View) → IsReady T into e d u me.0 → b ≡ into * masks
       → Allows (Ruled T R N) slots id me 1 (λ _. b) (publishes e d (step slots 1 b 0 none) me)
   publishes_allows slots id b into e d u me ready is s whole _ at _ = let q = whole.parts in let v : View = me.0 in let on = ready.on in let place = q.world.placed id v at in let h = q.turn.holder id v at on in let known = q.pins.holder id v at on in
       let w : View = record v { seen = v.seen ++ e ∷ []; mine = v.mine ++ e ∷ []; due = Some v.desk.current; mask = q.mask; drained = []; blocked = []; noted = None; desk = d; asked = v.asked + 1 } in let ws : List ℕ = set s.words 1 b in let longer : History = q.log ++ e ∷ [] in
       let only = only_one T R N _ _ _ _ _ s.views id v q.turn at on q.world.apart in let mine = known.drained into ready.drained in let held = q.rows.held id v at on in
-      let upper : (k : ℕ) → 36 ≤ k → get_or ws k 0 ≡ get_or s.words k 0 = λ k l. stays s.words 1 b k (λ f. omega arith) in
+      let upper : (k : ℕ) → first_record ≤ k → get_or ws k 0 ≡ get_or s.words k 0 = λ k l. stays s.words 1 b k (λ f. omega arith) in
       let new : Standing T R N ws longer d into longer u = subst (λ (l : History). Standing T R N ws (l ++ e ∷ []) d into (l ++ e ∷ []) u) h.2
       (standing_same T framed R N v.known_words ws (v.seen ++ e ∷ []) d d into (v.seen ++ e ∷ []) u (rw (sym place.rows_is) (rw (sym place.passes_is) ready.stands)) (kept_upper v.known_words ws (λ k l. upper k l ∙ held.1 k l) into u) (agrees_same T framed R N d into)) in
       let cur_now : q.cur ≡ v.desk.current = sym q.rows.desk_at ∙ ap (λ (z : DeskState). z.current) (sym h.3) in let due_now : w.due ≡ Some q.cur = ap Some (sym cur_now) in
@@ -69,7 +71,7 @@ module _ {S : Type 0} (T : Meaning S) (framed : IsFramed T) (R N : ℕ) where
           path = record { moves = Publish into 0 ∷ q.path.moves; is = path_publish N q.cur q.due s.views id v w q.path.moves q.path.is at into refl refl (sym known.due_is ∙ ready.settled) mine.0 mine.1 mine.3 };
           still = still_new N (get_or s.words 1 0) (get_or ws 1 0) s.views id w (λ _ _ k is. absurd (let c : None ≡ Some k = is in cc)) (λ i x away f own _. away (only i x f own));
         },
-        (refl, record { mask = q.mask; small = q.pins.small; returned = q.pins.current ∙ ap (λ (z : ℕ). z * 4294967296 + q.mask) cur_now; is = refl }),
+        (refl, record { mask = q.mask; small = q.pins.small; returned = q.pins.current ∙ ap (λ (z : ℕ). z * masks + q.mask) cur_now; is = refl }),
       )
 
   -- ---- the transfer
@@ -77,7 +79,7 @@ module _ {S : Type 0} (T : Meaning S) (framed : IsFramed T) (R N : ℕ) where
   transfers_allows slots id o b me on is_due is s whole _ at _ = let q = whole.parts in let v : View = me.0 in let w : View = record v { due = None } in let n : ℕ = bit_xor (get_or s.words (o + 2) 0) b in let ws : List ℕ = set s.words (o + 2) n in
       let h = q.turn.holder id v at on in let known = q.pins.holder id v at on in let inside : o < N + 2 = q.pins.due_in o (sym known.due_is ∙ is_due) in let few = q.pins.few in
       let only = only_one T R N _ _ _ _ _ s.views id v q.turn at on q.world.apart in
-      let upper : (k : ℕ) → 36 ≤ k → get_or ws k 0 ≡ get_or s.words k 0 = λ k l. stays s.words (o + 2) n k (λ f. omega arith) in
+      let upper : (k : ℕ) → first_record ≤ k → get_or ws k 0 ≡ get_or s.words k 0 = λ k l. stays s.words (o + 2) n k (λ f. omega arith) in
       let here : done ws o ≡ bit_xor (done s.words o) b = get_or-set_same s.words (o + 2) n 0 (let a = q.wide in omega arith) in
       let pins = pins_transfer N q.cur q.mask q.due q.beside s.words ws s.views id v w q.pins at o (stays s.words (o + 2) n 1 (λ f. omega arith))
       (here ∙ ap (λ (z : ℕ). bit_xor (done s.words o) z) is) (λ r l other. stays s.words (o + 2) n (r + 2) (λ f. other (omega arith)))
@@ -184,7 +186,7 @@ module _ {S : Type 0} (T : Meaning S) (framed : IsFramed T) (R N : ℕ) where
             (drains_same N q.cur q.mask q.due q.beside s.words s.words s.views id v w q.pins at refl refl refl refl refl)
             (counts_same N q.cur s.views id v w q.counts at refl (inl refl) refl refl)
             (still_set N (get_or s.words 1 0) (get_or s.words 1 0) s.views id w q.still refl (λ _ _ k is. (let c : Some (get_or s.words 1 0) ≡ Some k = is in let d : k ≡ get_or s.words 1 0 = cc in d)))),
-        (refl, record { mask = q.mask; small = q.pins.small; found = q.pins.current ∙ ap (λ (z : ℕ). z * 4294967296 + q.mask) cur_now; is = refl }),
+        (refl, record { mask = q.mask; small = q.pins.small; found = q.pins.current ∙ ap (λ (z : ℕ). z * masks + q.mask) cur_now; is = refl }),
       )
 
   -- ---- the current record is asked

@@ -4,7 +4,6 @@ pub mod Members
 pub mod AgeFrames
 pub mod Framed
 pub mod Fresh
-pub mod Bits
 pub mod Seats
 pub mod Turns
 pub mod PinParts

@@ -10,6 +10,8 @@ use Rattle.mst_pin.specs.declared.event.Event.TheVariants.{Pin, Unpin, Publish, 
 use Rattle.mst_pin.specs.State.{State}
 use Rattle.mst_arena.specs.Lists.{In}
 use Rattle.mst_arena.specs.Lives as lives
+use Rattle.mst_pin.specs.WordParts.{masks}
+use Rattle.mst_words.specs.Layout.{first_record, record_word, record_words, row_word, row_words}
 use Rattle.mst_words.specs.declared.view.View.{View}
 use Rattle.mst_words.specs.declared.view.Shape.{Shape}
 use Rattle.mst_words.specs.declared.view.DeskState.{DeskState}
@@ -21,7 +23,7 @@ use Rattle.mst_words.specs.Steps.{IsFree, IsWritable}
 use Rattle.mst_words.specs.Stored.{stored}
 use Rattle.mst_words.specs.Laws.{Table, IsRuled, Told, Makes, Deed, told_by, trying, giving, pinning, unpinning, forgetting, reading, writing, transferring, asking, noting, asking_current, seeing_all, seeing_told, glancing, Adds, Hears}
 use Rattle.mst_words.specs.Moves.{IsReachedBy, IsOpened, moves_of, Does, MakesCurrent, ChangesSeats, GoesBy, IsLedTo}
-use Rattle.mst_words.proofs.Bits.{xor_low, xor_small}
+use Rattle.mst_pin.proofs.Bits.{xor_low, xor_small}
 use Rattle.mst_words.proofs.Seats.{each_seat, same_view}
 use Rattle.mst_words.proofs.Worlds.{within}
 use Rattle.mst_words.proofs.Steps.{stays}
@@ -37,11 +39,11 @@ Mine = Me (Option lives.State) View
 
 -- ---- the current record and the transfer that waits, by the words and the views
 
-halves : (c d m n : ℕ) → m < 4294967296 → n < 4294967296 → c * 4294967296 + m ≡ d * 4294967296 + n → c ≡ d
+halves : (c d m n : ℕ) → m < masks → n < masks → c * masks + m ≡ d * masks + n → c ≡ d
 halves c d m n l k e = omega (arith, l, k, e)
 
 -- the word of the current record names it
-pub current_by : (z : Shape) (t : Table) (b : IsRuled z t) (c mask : ℕ) → mask < 4294967296 → get_or t.words 1 0 ≡ c * 4294967296 + mask → b.parts.cur ≡ c
+pub current_by : (z : Shape) (t : Table) (b : IsRuled z t) (c mask : ℕ) → mask < masks → get_or t.words 1 0 ≡ c * masks + mask → b.parts.cur ≡ c
 current_by z t b c mask small word = halves b.parts.cur c b.parts.mask mask b.parts.pins.small small (sym b.parts.pins.current ∙ word)
 
 current_stays : (z : Shape) (s t : Table) (a : IsRuled z s) (b : IsRuled z t) → get_or t.words 1 0 ≡ get_or s.words 1 0 → b.parts.cur ≡ a.parts.cur
@@ -102,11 +104,11 @@ word_else : (s t : Table) (i n j : ℕ) → t.words ≡ set s.words i n → j �
 word_else s t i n j words other = ap (λ (l : List ℕ). get_or l j 0) words ∙ stays s.words i n j other
 
 -- a writable word is none of the turn, the current record and the words DONE
-above : (z : Shape) (v : View) (i : ℕ) → IsWritable (stored v.format) v i → 36 ≤ i
-above z v i can = ⊎_elim (λ (t : (x k : ℕ) × IsBlank (stored v.format) v x × (k < 16) × (i ≡ x * 16 + k + 278)). let e = t.4 in omega (arith, e)) (λ (t : (r k : ℕ) × In r v.drained × (k < 7) × (i ≡ r * 7 + k + 36)). let e = t.4 in omega (arith, e)) can
+above : (z : Shape) (v : View) (i : ℕ) → IsWritable (stored v.format) v i → first_record ≤ i
+above z v i can = ⊎_elim (λ (t : (x k : ℕ) × IsBlank (stored v.format) v x × (k < row_words) × (i ≡ row_word x k)). let e = t.4 in omega (arith, e)) (λ (t : (r k : ℕ) × In r v.drained × (k < record_words) × (i ≡ record_word r k)). let e = t.4 in omega (arith, e)) can
 
 module _ (z : Shape) (s t : Table) (a : IsRuled z s) (b : IsRuled z t) (moves : List core.Event) where
-  room : (j : ℕ) → j < 36 → j < length s.words
+  room : (j : ℕ) → j < first_record → j < length s.words
   room j l = let w = a.parts.wide in omega (arith, w, l)
 
   -- no pin changes
@@ -173,11 +175,11 @@ module _ (z : Shape) (s t : Table) (a : IsRuled z s) (b : IsRuled z t) (moves : 
 
   pub publication : (into : ℕ) → MakesCurrent into s t → IsReachedBy z moves s a → IsReachedBy z (Publish into 0 ∷ moves) t b
   publication into p q = let m = p.publishes.made in let v : View = m.before.0 in let w : View = m.after.0 in let on = p.publishes.on in let is = m.tells.1.is in
-      let sum : into * 4294967296 ≡ into * 4294967296 + 0 = omega arith in let known = a.parts.pins.holder m.id v m.at on in let mine = known.drained into p.drained in
+      let sum : into * masks ≡ into * masks + 0 = omega arith in let known = a.parts.pins.holder m.id v m.at on in let mine = known.drained into p.drained in
       let cur_now : a.parts.cur ≡ v.desk.current = sym a.parts.rows.desk_at ∙ ap (λ (x : DeskState). x.current) (sym (a.parts.turn.holder m.id v m.at on).3) in
       arrives z t b (Publish into 0 ∷ moves) into (Some a.parts.cur) (set s.views m.id w)
       (path_publish z.passes a.parts.cur a.parts.due s.views m.id v w moves q m.at into (ap (λ (x : Mine). x.0.number) is) (ap (λ (x : Mine). x.0.pin) is) (sym known.due_is ∙ p.settled) mine.0 mine.1 mine.3)
-      (current_by z t b into 0 (lit< tt) (word_there s t 1 (into * 4294967296) 1 p.words refl (room 1 (omega arith)) ∙ sum))
+      (current_by z t b into 0 (lit< tt) (word_there s t 1 (into * masks) 1 p.words refl (room 1 (omega arith)) ∙ sum))
       (due_held z t b m.id w (subst (λ (l : List View). SeatAt l m.id w) (sym m.views) (set_here s.views m.id w (within s.views m.id v m.at))) (ap (λ (x : Mine). x.0.turn) is ∙ on) ∙ ap (λ (x : Mine). x.0.due) is ∙ ap (λ (n : ℕ). Some n) (sym cur_now)) m.views
 
   -- ---- the seats

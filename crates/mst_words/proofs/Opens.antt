@@ -6,6 +6,7 @@ use Rattle.std.proofs.lemmas.Nat.Bits.{bit_at-zero}
 use mathlib.Core.Option.{some-injective, some-ne-none}
 use Rattle.atomic_table.specs.Table.{State, opening, Splits}
 use Rattle.mst_key.proofs.HistoryLaws.{IsPrefix-nil}
+use Rattle.mst_words.specs.Layout.{first_record, table_words}
 use Rattle.mst_words.specs.declared.view.View.{View}
 use Rattle.mst_words.specs.declared.view.DeskState.{DeskState}
 use Rattle.mst_words.specs.World.{SeatAt, Fits, IsPlaced, dealer, having_dealt, newcomer}
@@ -85,7 +86,7 @@ module _ {S : Type 0} (T : Meaning S) (framed : IsFramed T) (R N : ℕ) where
   free_too : {A : Type 0} (i : ℕ) (u : View) (r : ℕ) → SeatAt (dealer R N T.first 1 ∷ []) i u → u.pin ≡ Some r → A
   free_too i u r e pin = free_pins u r (ap (λ (z : View). z.pin) (sym (one i u e))) pin
 
-  pub opens : (ws : List ℕ) (x : S) (d : DeskState) → length ws ≡ R * 16 + 278 → ((i : ℕ) → i < 36 → get_or ws i 0 ≡ 0) → N ≤ 32 → T.IsDesk x R N d → d.current ≡ 0 → Standing T R N ws [] d 0 [] []
+  pub opens : (ws : List ℕ) (x : S) (d : DeskState) → length ws ≡ table_words R → ((i : ℕ) → i < first_record → get_or ws i 0 ≡ 0) → N ≤ 32 → T.IsDesk x R N d → d.current ≡ 0 → Standing T R N ws [] d 0 [] []
       → Ruled T R N (opening ws (x ∷ []) (dealer R N T.first 1))
   opens ws x d wide front few is_desk current stands = ruled T framed R N (opening ws (x ∷ []) (dealer R N T.first 1)) record {
     log = [];

@@ -6,10 +6,11 @@ use native.Mathlib.Decide.{ℕ_discrete}
 use Rattle.std.proofs.lemmas.Nat.Bits.{bit_at-lt, bit_at-zero, bit_at_xor}
 use Rattle.std.proofs.lemmas.Option.{same_Some, none-some}
 use Rattle.mst_arena.specs.Lists.{In}
+use Rattle.mst_pin.specs.WordParts.{masks}
 use Rattle.mst_words.specs.declared.view.View.{View}
 use Rattle.mst_words.specs.World.{SeatAt}
 use Rattle.mst_words.specs.Pins.{done, pin_bit, SeatPins, Drains, Pins}
-use Rattle.mst_words.proofs.Bits.{bit_other, bit_same, turn_right}
+use Rattle.mst_pin.proofs.Bits.{bit_other, bit_same, turn_right}
 use Rattle.mst_words.proofs.Members.{in_nothing, in_cases}
 use Rattle.mst_words.proofs.Seats.{each_seat}
 use Rattle.mst_words.proofs.PinParts.{seat_keeps, drains_keep, bits_stay}
@@ -85,7 +86,7 @@ module _ (N cur mask : ℕ) (due : Option ℕ) (beside : ℕ → ℕ) (ws ws' : 
 
   -- ---- a publication
 
-  pub pins_publish : (into : ℕ) → get_or ws' 1 0 ≡ into * 4294967296 + 0 → ((r : ℕ) → r < N + 2 → done ws' r ≡ done ws r) → into < N + 2 → into ≢ cur → due ≡ None → w.number ≡ v.number → w.pin ≡ v.pin
+  pub pins_publish : (into : ℕ) → get_or ws' 1 0 ≡ into * masks + 0 → ((r : ℕ) → r < N + 2 → done ws' r ≡ done ws r) → into < N + 2 → into ≢ cur → due ≡ None → w.number ≡ v.number → w.pin ≡ v.pin
       → w.due ≡ Some cur → w.mask ≡ mask → w.drained ≡ [] → ((i : ℕ) (u : View) → SeatAt vs i u → u.turn ≡ true → i ≡ id) → Pins N into 0 (Some cur) beside ws' (set vs id w)
   pins_publish into word dones inside other settled number pin is_due is_mask none_drained only = record {
     few = q.few;

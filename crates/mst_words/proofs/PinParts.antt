@@ -6,10 +6,11 @@ use native.Mathlib.Decide.{ℕ_discrete}
 use Rattle.std.proofs.lemmas.Nat.Bits.{bit_at-lt}
 use Rattle.std.proofs.lemmas.Option.{same_Some, none-some}
 use Rattle.mst_arena.specs.Lists.{In}
+use Rattle.mst_pin.specs.WordParts.{masks}
 use Rattle.mst_words.specs.declared.view.View.{View}
 use Rattle.mst_words.specs.World.{SeatAt}
 use Rattle.mst_words.specs.Pins.{done, pin_bit, SeatPins, Drains, Pins}
-use Rattle.mst_words.proofs.Bits.{xor_small, bit_other, bit_same, turn_left}
+use Rattle.mst_pin.proofs.Bits.{xor_small, bit_other, bit_same, turn_left}
 use Rattle.mst_words.proofs.Seats.{each_seat}
 
 -- ---- frames
@@ -83,7 +84,7 @@ module _ (N cur mask : ℕ) (due : Option ℕ) (beside : ℕ → ℕ) (ws ws' : 
     drained = λ r within. k.drained r (subst (λ (z : List ℕ). In r z) is_drained within);
   }
 
-  pub pins_pin : (k : ℕ) → get_or ws' 1 0 ≡ cur * 4294967296 + bit_xor mask (2 ^ k) → ((r : ℕ) → r < N + 2 → done ws' r ≡ done ws r) → v.number ≡ k + 1 → w.number ≡ v.number → v.pin ≡ None → w.pin ≡ Some cur
+  pub pins_pin : (k : ℕ) → get_or ws' 1 0 ≡ cur * masks + bit_xor mask (2 ^ k) → ((r : ℕ) → r < N + 2 → done ws' r ≡ done ws r) → v.number ≡ k + 1 → w.number ≡ v.number → v.pin ≡ None → w.pin ≡ Some cur
       → v.turn ≡ false → w.turn ≡ v.turn → ((i : ℕ) (u : View) → i ≢ id → SeatAt vs i u → u.number ≢ v.number) → Pins N cur (bit_xor mask (2 ^ k)) due (turned cur beside k) ws' (set vs id w)
   pins_pin k word dones is number free pin off turn apart = let mine = q.seats id v at in let small : k < 32 = (let l = mine.small in omega arith) in
       let bit : w.number - 1 ≡ k = (let e : w.number ≡ k + 1 = number ∙ is in omega arith) in let c = q.cur_in in record {

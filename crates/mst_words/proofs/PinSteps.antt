@@ -6,13 +6,15 @@ use Rattle.atomic_table.specs.Table.{Me, step, keeps, stepped, Allows}
 use Rattle.mst_key.specs.History.{History}
 use Rattle.mst_key.proofs.HistoryLaws.{IsPrefix-itself}
 use Rattle.mst_pin.specs.declared.event.Event.TheVariants.{Pin, Unpin}
+use Rattle.mst_pin.specs.WordParts.{masks}
+use Rattle.mst_words.specs.Layout.{record_word, row_word, table_words}
 use Rattle.mst_words.specs.declared.view.View.{View}
 use Rattle.mst_words.specs.World.{SeatAt, Fits}
 use Rattle.mst_words.specs.Pins.{done, pin_bit}
 use Rattle.mst_words.specs.Records.{Meaning, IsFramed, field, row, Reads}
 use Rattle.mst_words.specs.Rule.{Turn, Parts, Ruled}
 use Rattle.mst_words.specs.Steps.{IsFree, IsPinned, pins_now, unpins, forgets}
-use Rattle.mst_words.proofs.Bits.{xor_low}
+use Rattle.mst_pin.proofs.Bits.{xor_low}
 use Rattle.mst_words.proofs.Worlds.{IsInPlaceOf, world_set, each_dealt}
 use Rattle.mst_words.proofs.Turns.{turn_same}
 use Rattle.mst_words.proofs.PinParts.{bits_stay, turned, pin_elsewhere, pin_others, pins_pin}
@@ -42,8 +44,8 @@ module _ {S : Type 0} (T : Meaning S) (framed : IsFramed T) (R N : ℕ) where
   read_now s q w n place rows known = record {
     place_is = place ∙ sym q.rows.now;
     rows_are = rows;
-    fields = λ k l. stays s.words 1 n (q.cur * 7 + k + 36) (λ f. omega arith) ∙ ap (λ (z : List ℕ). field z q.cur k) (sym known);
-    kept = λ x within k l. stays s.words 1 n (x * 16 + k + 278) (λ f. omega arith) ∙ ap (λ (z : List ℕ). row z x k) (sym known);
+    fields = λ k l. stays s.words 1 n (record_word q.cur k) (λ f. omega arith) ∙ ap (λ (z : List ℕ). field z q.cur k) (sym known);
+    kept = λ x within k l. stays s.words 1 n (row_word x k) (λ f. omega arith) ∙ ap (λ (z : List ℕ). row z x k) (sym known);
   }
 
   -- the bit k is that of the pass
@@ -51,7 +53,7 @@ module _ {S : Type 0} (T : Meaning S) (framed : IsFramed T) (R N : ℕ) where
       → Parts T R N (stepped s 1 n id cs (record v { pin = Some q.cur; pinned_history = q.log; pinned_rows = q.used q.cur; known_words = s.words; asked = v.asked + 1 }) keeps)
   pinned_now s q id n k cs v at off free number word = let ws : List ℕ = set s.words 1 n in let w : View = record v { pin = Some q.cur; pinned_history = q.log; pinned_rows = q.used q.cur; known_words = s.words; asked = v.asked + 1 } in
       let small : k < 32 = (let l = (q.pins.seats id v at).small in omega arith) in let pos : 0 < v.number = omega arith in let apart = apart_from s q id v at pos in
-      let now : n ≡ q.cur * 4294967296 + bit_xor q.mask (2 ^ k) = word ∙ ap (λ (z : ℕ). bit_xor z (2 ^ k)) q.pins.current ∙ xor_low q.cur q.mask k q.pins.small small in
+      let now : n ≡ q.cur * masks + bit_xor q.mask (2 ^ k) = word ∙ ap (λ (z : ℕ). bit_xor z (2 ^ k)) q.pins.current ∙ xor_low q.cur q.mask k q.pins.small small in
       let done_same : (r : ℕ) → done ws r ≡ done s.words r = λ r. stays s.words 1 n (r + 2) (λ f. omega arith) in record {
         log = q.log;
         next = q.next;
@@ -95,7 +97,7 @@ module _ {S : Type 0} (T : Meaning S) (framed : IsFramed T) (R N : ℕ) where
             found_is = q.pins.current;
             small = q.pins.small;
             in_table = subst (λ (z : ℕ). q.cur < z + 2) (sym place.passes_is) q.pins.cur_in;
-            wide = q.wide ∙ ap (λ (z : ℕ). z * 16 + 278) (sym place.rows_is);
+            wide = q.wide ∙ ap (λ (z : ℕ). table_words z) (sym place.rows_is);
             later = fits.seen;
             own = fits.own;
             alone = each_dealt R N T.first q.next q.log s.views id v q.world at;

@@ -4,6 +4,7 @@ use mathlib.Core.Logic.{dite}
 use mathlib.Core.Option.{some}
 use native.Mathlib.Decide.{ℕ_discrete}
 use lib.ListN.{get_elem?}
+use Rattle.mst_words.specs.Layout.{first_record, record_word, record_words, row_word, row_words}
 use Rattle.mst_words.specs.declared.view.View.{View}
 use Rattle.mst_key.specs.declared.history.Event.{Event}
 use Rattle.mst_words.specs.declared.view.DeskState.{DeskState}
@@ -16,17 +17,17 @@ use Rattle.mst_words.proofs.Histories.{begins_longer}
 -- ---- the words that a record and rows stand on stay
 
 pub Kept : List ℕ → List ℕ → ℕ → List ℕ → Type 0
-Kept ws ws' r u = ((k : ℕ) → k < 7 → field ws' r k ≡ field ws r k) × ((x : ℕ) → In x u → (k : ℕ) → k < 16 → row ws' x k ≡ row ws x k)
+Kept ws ws' r u = ((k : ℕ) → k < record_words → field ws' r k ≡ field ws r k) × ((x : ℕ) → In x u → (k : ℕ) → k < row_words → row ws' x k ≡ row ws x k)
 
-pub kept_upper : (ws ws' : List ℕ) → ((k : ℕ) → 36 ≤ k → get_or ws' k 0 ≡ get_or ws k 0) → (r : ℕ) (u : List ℕ) → Kept ws ws' r u
+pub kept_upper : (ws ws' : List ℕ) → ((k : ℕ) → first_record ≤ k → get_or ws' k 0 ≡ get_or ws k 0) → (r : ℕ) (u : List ℕ) → Kept ws ws' r u
 unfolding Kept
-kept_upper ws ws' upper r u = ((λ k l. upper (r * 7 + k + 36) (omega arith)), (λ x _ k l. upper (x * 16 + k + 278) (omega arith)))
+kept_upper ws ws' upper r u = ((λ k l. upper (record_word r k) (omega arith)), (λ x _ k l. upper (row_word x k) (omega arith)))
 
 -- one word above the front changes, which is none of those
-pub kept_else : (ws : List ℕ) (i n r : ℕ) (u : List ℕ) → ((k : ℕ) → k < 7 → r * 7 + k + 36 ≢ i) → ((x : ℕ) → In x u → (k : ℕ) → k < 16 → x * 16 + k + 278 ≢ i)
+pub kept_else : (ws : List ℕ) (i n r : ℕ) (u : List ℕ) → ((k : ℕ) → k < record_words → record_word r k ≢ i) → ((x : ℕ) → In x u → (k : ℕ) → k < row_words → row_word x k ≢ i)
     → ((j : ℕ) → j ≢ i → get_or (set ws i n) j 0 ≡ get_or ws j 0) → Kept ws (set ws i n) r u
 unfolding Kept
-kept_else ws i n r u fields rows stay = ((λ k l. stay (r * 7 + k + 36) (fields k l)), (λ x within k l. stay (x * 16 + k + 278) (rows x within k l)))
+kept_else ws i n r u fields rows stay = ((λ k l. stay (record_word r k) (fields k l)), (λ x within k l. stay (row_word x k) (rows x within k l)))
 
 module _ {S : Type 0} (T : Meaning S) (framed : IsFramed T) (R N : ℕ) where
   pub agrees_same : (d : DeskState) (r : ℕ) → Agrees T d d r
@@ -65,9 +66,9 @@ module _ {S : Type 0} (T : Meaning S) (framed : IsFramed T) (R N : ℕ) where
 
   -- what is in the holder's hands
   abbrev pub IsHeld : List ℕ → View → Type 0
-  IsHeld ws v = (length v.known_words ≡ length ws) × ((k : ℕ) → 36 ≤ k → get_or ws k 0 ≡ get_or v.known_words k 0)
+  IsHeld ws v = (length v.known_words ≡ length ws) × ((k : ℕ) → first_record ≤ k → get_or ws k 0 ≡ get_or v.known_words k 0)
 
-  pub held_upper : (ws ws' : List ℕ) (v w : View) → ((k : ℕ) → 36 ≤ k → get_or ws' k 0 ≡ get_or ws k 0) → length ws' ≡ length ws → w.known_words ≡ v.known_words → IsHeld ws v → IsHeld ws' w
+  pub held_upper : (ws ws' : List ℕ) (v w : View) → ((k : ℕ) → first_record ≤ k → get_or ws' k 0 ≡ get_or ws k 0) → length ws' ≡ length ws → w.known_words ≡ v.known_words → IsHeld ws v → IsHeld ws' w
   held_upper ws ws' v w upper long same h = (ap (λ (z : List ℕ). length z) same ∙ h.0 ∙ sym long, (λ k l. upper k l ∙ h.1 k l ∙ ap (λ (z : List ℕ). get_or z k 0) (sym same)))
 
   module _ (cur : ℕ) (ws : List ℕ) (log : History) (desk : DeskState) (place : ℕ → History) (used : ℕ → List ℕ) (vs : List View) (id : ℕ) (v : View) (q : Rows T R N cur ws log desk place used vs) (at : get_elem? vs id ≡ some v) where
@@ -92,13 +93,13 @@ module _ {S : Type 0} (T : Meaning S) (framed : IsFramed T) (R N : ℕ) where
     }
 
     -- the same where no word above the front changes, and the view's pin stays or ends
-    pub rows_upper : (ws' : List ℕ) (w : View) → ((k : ℕ) → 36 ≤ k → get_or ws' k 0 ≡ get_or ws k 0) → length ws' ≡ length ws → ((r : ℕ) → w.pin ≡ Some r → IsLive cur vs r × Reads T R N ws' r (place r) (used r) w) → (w.turn ≡ true → IsHeld ws' w)
+    pub rows_upper : (ws' : List ℕ) (w : View) → ((k : ℕ) → first_record ≤ k → get_or ws' k 0 ≡ get_or ws k 0) → length ws' ≡ length ws → ((r : ℕ) → w.pin ≡ Some r → IsLive cur vs r × Reads T R N ws' r (place r) (used r) w) → (w.turn ≡ true → IsHeld ws' w)
         → Rows T R N cur ws' log desk place used (set vs id w)
     rows_upper ws' w upper long mine held = rows_to ws' desk w q.desk_at (λ r _. kept_upper ws ws' upper r (used r)) (λ r _. agrees_same desk r) mine held
         (λ i u _ e on. held_upper ws ws' u u upper long refl (q.held i u e on))
 
     -- the view's pin stays
-    pub pin_stays : (ws' : List ℕ) (w : View) → ((k : ℕ) → 36 ≤ k → get_or ws' k 0 ≡ get_or ws k 0) → w.pin ≡ v.pin → w.pinned_history ≡ v.pinned_history → w.pinned_rows ≡ v.pinned_rows → w.known_words ≡ v.known_words
+    pub pin_stays : (ws' : List ℕ) (w : View) → ((k : ℕ) → first_record ≤ k → get_or ws' k 0 ≡ get_or ws k 0) → w.pin ≡ v.pin → w.pinned_history ≡ v.pinned_history → w.pinned_rows ≡ v.pinned_rows → w.known_words ≡ v.known_words
         → (r : ℕ) → w.pin ≡ Some r → IsLive cur vs r × Reads T R N ws' r (place r) (used r) w
     pin_stays ws' w upper pin is_place is_rows is_held r e = (inr (id, v, at, sym pin ∙ e), reads_to ws ws' r (place r) (used r) v w (q.reads id v at r (sym pin ∙ e)) (kept_upper ws ws' upper r (used r)) is_place is_rows is_held)
 
@@ -113,7 +114,7 @@ module _ {S : Type 0} (T : Meaning S) (framed : IsFramed T) (R N : ℕ) where
     elsewhere : {A : Type 0} (into : ℕ) (a : A) (f : ℕ → A) (r : ℕ) → r ≢ into → then_for into a f r ≡ f r
     elsewhere into a f r not = ap (λ (b : Bool). cond b a (f r)) (ne_eqb r into not)
 
-    pub rows_publish : (into : ℕ) (ws' : List ℕ) (e : Event) (desk' : DeskState) (u : List ℕ) (w : View) → ((k : ℕ) → 36 ≤ k → get_or ws' k 0 ≡ get_or ws k 0) → length ws' ≡ length ws → desk'.current ≡ into
+    pub rows_publish : (into : ℕ) (ws' : List ℕ) (e : Event) (desk' : DeskState) (u : List ℕ) (w : View) → ((k : ℕ) → first_record ≤ k → get_or ws' k 0 ≡ get_or ws k 0) → length ws' ≡ length ws → desk'.current ≡ into
         → length log + 1 < 9223372036854775808 → ((i : ℕ) (x : View) → get_elem? vs i ≡ some x → x.pin ≢ Some into) → Standing T R N ws' (log ++ e ∷ []) desk' into (log ++ e ∷ []) u → ((r : ℕ) → IsLive cur vs r → Agrees T desk desk' r)
         → w.pin ≡ v.pin → w.pinned_history ≡ v.pinned_history → w.pinned_rows ≡ v.pinned_rows → w.known_words ≡ v.known_words → (w.turn ≡ v.turn)
         → (place' : ℕ → History) × (used' : ℕ → List ℕ) × Rows T R N into ws' (log ++ e ∷ []) desk' place' used' (set vs id w)

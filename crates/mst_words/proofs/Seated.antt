@@ -3,6 +3,7 @@ use Rattle.std.proofs.Common.{◌≡◌, ℕ, ◌<◌, ◌≤◌, ◌≢◌, ◌
 use Rattle.std.proofs.lemmas.Option.{none-some}
 use Rattle.atomic_table.proofs.Lists.{at_snoc, at_longer}
 use Rattle.mst_key.specs.History.{History}
+use Rattle.mst_words.specs.Layout.{first_record}
 use Rattle.mst_words.specs.declared.view.View.{View}
 use Rattle.mst_words.specs.declared.view.DeskState.{DeskState}
 use Rattle.mst_words.specs.World.{SeatAt}
@@ -41,7 +42,7 @@ module _ {S : Type 0} (T : Meaning S) (R N : ℕ) where
     live = λ r l. q.live r (⊎_elim (λ (is : r ≡ cur). inl is) (λ (t : (i : ℕ) × (u : View) × SeatAt (vs ++ n ∷ []) i u × (u.pin ≡ Some r)).
         more (λ u. u.pin ≡ Some r → IsLive cur vs r) vs n (λ i u e pin. inr (i, u, e, pin)) (free_pins n r free) t.0 t.1 t.2 t.3) l);
     reads = more (λ u. (r : ℕ) → u.pin ≡ Some r → Reads T R N ws r (place r) (used r) u) vs n q.reads (λ r pin. free_pins n r free pin);
-    held = more (λ u. u.turn ≡ true → (length u.known_words ≡ length ws) × ((k : ℕ) → 36 ≤ k → get_or ws k 0 ≡ get_or u.known_words k 0)) vs n q.held (off_true n off);
+    held = more (λ u. u.turn ≡ true → (length u.known_words ≡ length ws) × ((k : ℕ) → first_record ≤ k → get_or ws k 0 ≡ get_or u.known_words k 0)) vs n q.held (off_true n off);
   }
 
 pub pins_more : (N cur mask : ℕ) (due : Option ℕ) (beside : ℕ → ℕ) (ws : List ℕ) (vs : List View) (n : View) → Pins N cur mask due beside ws vs → n.turn ≡ false → n.pin ≡ None → SeatPins N beside ws n

@@ -8,6 +8,7 @@ use lib.Seq.{set-get_or}
 use Rattle.atomic_table.specs.Table.{State, Me, step, keeps, stepped, Allows}
 use Rattle.atomic_table.proofs.Lists.{set_again}
 use Rattle.mst_arena.specs.Lists.{In}
+use Rattle.mst_words.specs.Layout.{first_record, record_word, record_words, row_word, row_words, table_words}
 use Rattle.mst_words.specs.declared.view.View.{View}
 use Rattle.mst_words.specs.Records.{Meaning, IsFramed, IsLive, IsBlank}
 use Rattle.mst_words.specs.Rule.{Turn, Parts, Ruled}
@@ -46,10 +47,10 @@ module _ {S : Type 0} (T : Meaning S) (framed : IsFramed T) (R N : ℕ) where
       can,
       refl,
       ⊎_elim
-          (λ (t : (v.turn ≡ true) × (36 ≤ i)). (q.rows.held id v at t.0).1 i t.1)
-          (λ (t : ((r k : ℕ) × (v.pin ≡ Some r) × (k < 7) × (i ≡ r * 7 + k + 36)) ⊎ ((r x k : ℕ) × (v.pin ≡ Some r) × In x v.pinned_rows × (k < 16) × (i ≡ x * 16 + k + 278))). ⊎_elim
-          (λ (t : (r k : ℕ) × (v.pin ≡ Some r) × (k < 7) × (i ≡ r * 7 + k + 36)). ap (λ (z : ℕ). get_or s.words z 0) t.4 ∙ (q.rows.reads id v at t.0 t.2).fields t.1 t.3 ∙ ap (λ (z : ℕ). get_or v.known_words z 0) (sym t.4))
-          (λ (t : (r x k : ℕ) × (v.pin ≡ Some r) × In x v.pinned_rows × (k < 16) × (i ≡ x * 16 + k + 278)). let h = q.rows.reads id v at t.0 t.3 in
+          (λ (t : (v.turn ≡ true) × (first_record ≤ i)). (q.rows.held id v at t.0).1 i t.1)
+          (λ (t : ((r k : ℕ) × (v.pin ≡ Some r) × (k < record_words) × (i ≡ record_word r k)) ⊎ ((r x k : ℕ) × (v.pin ≡ Some r) × In x v.pinned_rows × (k < row_words) × (i ≡ row_word x k))). ⊎_elim
+          (λ (t : (r k : ℕ) × (v.pin ≡ Some r) × (k < record_words) × (i ≡ record_word r k)). ap (λ (z : ℕ). get_or s.words z 0) t.4 ∙ (q.rows.reads id v at t.0 t.2).fields t.1 t.3 ∙ ap (λ (z : ℕ). get_or v.known_words z 0) (sym t.4))
+          (λ (t : (r x k : ℕ) × (v.pin ≡ Some r) × In x v.pinned_rows × (k < row_words) × (i ≡ row_word x k)). let h = q.rows.reads id v at t.0 t.3 in
           ap (λ (z : ℕ). get_or s.words z 0) t.6 ∙ h.kept t.1 (subst (λ (l : List ℕ). In t.1 l) h.rows_are t.4) t.2 t.5 ∙ ap (λ (z : ℕ). get_or v.known_words z 0) (sym t.6)) t)
           can,
     ),
@@ -95,23 +96,23 @@ module _ {S : Type 0} (T : Meaning S) (framed : IsFramed T) (R N : ℕ) where
         refl,
       )
     where
-      below : (s : St) (q : Parts T R N s) → get_elem? s.views id ≡ some me.0 → i < R * 16 + 278
-      below s q at = let e = (q.world.placed id me.0 at).rows_is in let few = q.pins.few in ⊎_elim (λ (t : (x k : ℕ) × IsBlank T me.0 x × (k < 16) × (i ≡ x * 16 + k + 278)). let a = t.4 in let b = t.3 in let c = t.2.0 in omega arith)
-          (λ (t : (r k : ℕ) × In r me.0.drained × (k < 7) × (i ≡ r * 7 + k + 36)). let a = t.4 in let b = t.3 in let c = ((q.pins.holder id me.0 at on).drained t.0 t.2).0 in omega arith) can
+      below : (s : St) (q : Parts T R N s) → get_elem? s.views id ≡ some me.0 → i < table_words R
+      below s q at = let e = (q.world.placed id me.0 at).rows_is in let few = q.pins.few in ⊎_elim (λ (t : (x k : ℕ) × IsBlank T me.0 x × (k < row_words) × (i ≡ row_word x k)). let a = t.4 in let b = t.3 in let c = t.2.0 in omega arith)
+          (λ (t : (r k : ℕ) × In r me.0.drained × (k < record_words) × (i ≡ record_word r k)). let a = t.4 in let b = t.3 in let c = ((q.pins.holder id me.0 at on).drained t.0 t.2).0 in omega arith) can
 
-      above : 36 ≤ i
-      above = ⊎_elim (λ (t : (x k : ℕ) × IsBlank T me.0 x × (k < 16) × (i ≡ x * 16 + k + 278)). let e = t.4 in omega arith) (λ (t : (r k : ℕ) × In r me.0.drained × (k < 7) × (i ≡ r * 7 + k + 36)). let e = t.4 in omega arith) can
+      above : first_record ≤ i
+      above = ⊎_elim (λ (t : (x k : ℕ) × IsBlank T me.0 x × (k < row_words) × (i ≡ row_word x k)). let e = t.4 in omega arith) (λ (t : (r k : ℕ) × In r me.0.drained × (k < record_words) × (i ≡ record_word r k)). let e = t.4 in omega arith) can
 
-      low : (j : ℕ) → j < 36 → get_or (set s.words i x) j 0 ≡ get_or s.words j 0
+      low : (j : ℕ) → j < first_record → get_or (set s.words i x) j 0 ≡ get_or s.words j 0
       low j l = stays s.words i x j (λ e. let a = above in omega arith)
 
       kept : (r : ℕ) → IsLive whole.parts.cur s.views r → Kept s.words (set s.words i x) r (whole.parts.used r)
       kept r live = ⊎_elim
-          (λ (t : (x k : ℕ) × IsBlank T me.0 x × (k < 16) × (i ≡ x * 16 + k + 278)). kept_else s.words i x r (whole.parts.used r)
+          (λ (t : (x k : ℕ) × IsBlank T me.0 x × (k < row_words) × (i ≡ row_word x k)). kept_else s.words i x r (whole.parts.used r)
           (λ k l e. let a = t.4 in let b = (whole.parts.rows.live r live).numbered in let few = whole.parts.pins.few in omega arith)
           (λ y within k l e. let a = t.4 in let b = t.3 in let same : y ≡ t.0 = omega arith in blank_apart T framed R N s whole.parts id me.0 at on t.0 t.2 r live (subst (λ (z : ℕ). In z (whole.parts.used r)) same within))
           (λ j other. stays s.words i x j other))
-          (λ (t : (r k : ℕ) × In r me.0.drained × (k < 7) × (i ≡ r * 7 + k + 36)). kept_else s.words i x r (whole.parts.used r)
+          (λ (t : (r k : ℕ) × In r me.0.drained × (k < record_words) × (i ≡ record_word r k)). kept_else s.words i x r (whole.parts.used r)
           (λ k l e. let a = t.4 in let b = t.3 in let same : t.0 ≡ r = omega arith in live_not_drained N whole.parts.cur whole.parts.due whole.parts.beside s.views me.0 (whole.parts.pins.holder id me.0 at on) r live (subst (λ (z : ℕ). In z me.0.drained) same t.2))
           (λ y within k l e. let a = t.4 in let b = t.3 in let c = ((whole.parts.pins.holder id me.0 at on).drained t.0 t.2).0 in let few = whole.parts.pins.few in omega arith)
           (λ j other. stays s.words i x j other)) can

@@ -7,6 +7,7 @@ use native.Mathlib.Decide.{ℕ_discrete}
 use Rattle.std.proofs.lemmas.Nat.Bits.{bit_at-lt, same_from_bits}
 use Rattle.std.proofs.lemmas.Option.{none-some}
 use Rattle.atomic_table.specs.Table.{State}
+use Rattle.mst_pin.specs.WordParts.{masks}
 use Rattle.mst_words.specs.declared.view.View.{View}
 use Rattle.mst_words.specs.declared.view.DeskState.{DeskState}
 use Rattle.mst_words.specs.World.{SeatAt}
@@ -59,7 +60,7 @@ module _ {S : Type 0} (T : Meaning S) (R N : ℕ) where
   -- the holder of the turn, which pins nothing, is the only pass, so the word DONE of the current
   -- record is the mask that it noted
   pub alone : (s : State S View) (q : Parts T R N s) (id : ℕ) (v : View) → SeatAt s.views id v → v.turn ≡ true → v.pin ≡ None → v.passes ≡ 1
-      → (mask : ℕ) → mask < 4294967296 → v.noted ≡ Some (v.desk.current * 4294967296 + mask) → get_or s.words (v.desk.current + 2) 0 ≡ mask
+      → (mask : ℕ) → mask < masks → v.noted ≡ Some (v.desk.current * masks + mask) → get_or s.words (v.desk.current + 2) 0 ≡ mask
   alone s q id v at on free one mask small noted = ap (done s.words) here ∙ marks ∙ same
     where
       is_one : N ≡ 1

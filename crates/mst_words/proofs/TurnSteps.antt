@@ -5,6 +5,7 @@ use lib.ListN.{get_elem?}
 use prog.Atomic.{either}
 use Rattle.atomic_table.specs.Table.{Me, step, Act, keeps, takes, gives, Valid, carried_after, rest, stepped, Allows}
 use Rattle.atomic_table.proofs.Lists.{exchanged}
+use Rattle.mst_words.specs.Layout.{first_record, table_words}
 use Rattle.mst_words.specs.declared.view.View.{View}
 use Rattle.mst_words.specs.declared.view.DeskState.{DeskState}
 use Rattle.mst_key.specs.History.{History}
@@ -34,7 +35,7 @@ module _ {S : Type 0} (T : Meaning S) (framed : IsFramed T) (R N : ℕ) where
   pub taken : (s : St T framed R N) (q : Parts T R N s) (id p : ℕ) (v : View) → get_elem? s.views id ≡ some v → v.number ≡ p → 0 < p → v.pin ≡ None → (x : S) → s.homes ≡ some x ∷ [] → q.due ≡ None → get_or s.words 0 0 ≡ 0
       → Parts T R N (stepped s 0 p id [] (record v { seen = q.log; known_words = s.words; turn = true; desk = q.desk; due = None; mask = 0; drained = []; blocked = []; noted = None; found = []; asked = v.asked + 1 }) (takes 0 x))
   taken s q id p v at number some_pass unpinned x homes settled free = let w : View = record v { seen = q.log; known_words = s.words; turn = true; desk = q.desk; due = None; mask = 0; drained = []; blocked = []; noted = None; found = []; asked = v.asked + 1 } in let ws : List ℕ = set s.words 0 p in
-      let upper : (k : ℕ) → 36 ≤ k → get_or ws k 0 ≡ get_or s.words k 0 = λ k l. stays s.words 0 p k (λ f. omega arith) in record {
+      let upper : (k : ℕ) → first_record ≤ k → get_or ws k 0 ≡ get_or s.words k 0 = λ k l. stays s.words 0 p k (λ f. omega arith) in record {
         log = q.log;
         next = q.next;
         cur = q.cur;
@@ -95,7 +96,7 @@ module _ {S : Type 0} (T : Meaning S) (framed : IsFramed T) (R N : ℕ) where
             own = (q.world.fits id me.0 at).own;
             alone = each_dealt R N T.first q.next q.log s.views id me.0 q.world at;
             short = q.rows.short;
-            wide = q.wide ∙ ap (λ (z : ℕ). z * 16 + 278) (sym place.rows_is);
+            wide = q.wide ∙ ap (λ (z : ℕ). table_words z) (sym place.rows_is);
             stands = rw place.rows_is (rw place.passes_is (subst (λ (c : ℕ). Standing T R N s.words q.log q.desk c q.log (q.used q.cur)) (sym q.rows.desk_at)
                 (subst (λ (l : History). Standing T R N s.words q.log q.desk q.cur l (q.used q.cur)) q.rows.now (q.rows.live q.cur (inl refl)))));
             is = ap (λ (c : List (ℕ × S)). (w, (0, h.0) ∷ c)) free.0;
@@ -116,7 +117,7 @@ module _ {S : Type 0} (T : Meaning S) (framed : IsFramed T) (R N : ℕ) where
       → ((r : ℕ) → r < N + 2 → (In r v.drained → ⊥) → Agrees T v.desk d r) → Parts T R N (stepped s 0 0 id ((0, x) ∷ []) (record v { turn = false }) gives)
   given s q id v x d at on settled is_desk current agrees = let w : View = record v { turn = false } in let ws : List ℕ = set s.words 0 0 in let h = q.turn.holder id v at on in let known = q.pins.holder id v at on in
       let only = only_one T R N _ _ _ _ _ s.views id v q.turn at on q.world.apart in
-      let upper : (k : ℕ) → 36 ≤ k → get_or ws k 0 ≡ get_or s.words k 0 = λ k l. stays s.words 0 0 k (λ f. omega arith) in record {
+      let upper : (k : ℕ) → first_record ≤ k → get_or ws k 0 ≡ get_or s.words k 0 = λ k l. stays s.words 0 0 k (λ f. omega arith) in record {
         log = q.log;
         next = q.next;
         cur = q.cur;

@@ -13,12 +13,13 @@ use Rattle.mst_key.specs.History.{History}
 use Rattle.mst_key.proofs.HistoryLaws.{IsPrefix-itself}
 use Rattle.mst_node.specs.Text.{digest_of}
 use Rattle.mst_node.specs.Tree.{tree, tree_within}
-use Rattle.mst_node.proofs.Spelt.{sha256_digest}
+use Rattle.mst_node.proofs.MapTextsInGrammar.{sha256_digest}
 use Rattle.mst_arena.specs.declared.life.Life.TheVariants.{Free}
 use Rattle.mst_arena.specs.Lists.{In}
 use Rattle.mst_arena.specs.Lives as lives
 use Rattle.mst_arena.specs.Standing as standing
 use Rattle.mst_arena.specs.Words.{word_from, bytes_in}
+use Rattle.mst_pin.specs.WordParts.{masks}
 use Rattle.mst_words.specs.declared.view.View.{View}
 use Rattle.mst_words.specs.declared.view.Shape.{Shape}
 use Rattle.mst_words.specs.declared.view.DeskState.{DeskState}
@@ -114,7 +115,7 @@ abbrev pub reader : View
 reader = record (pass 1) { pin = Some 0; pinned_history = []; pinned_rows = used; known_words = words; asked = 1 }
 
 pub cur_is : dealt.parts.cur ≡ 0
-cur_is = let c : 0 ≡ dealt.parts.cur * 4294967296 + dealt.parts.mask = dealt.parts.pins.current in omega (arith, c)
+cur_is = let c : 0 ≡ dealt.parts.cur * masks + dealt.parts.mask = dealt.parts.pins.current in omega (arith, c)
 
 pub pinned : Ruled T 4 2 (at (set words 1 1) (dealer 4 2 One 3 ∷ reader ∷ pass 2 ∷ []))
 pinned = ruled T framed 4 2 _ (subst (λ (x : ℕ × History). Parts T 4 2 (at (set words 1 1) (dealer 4 2 One 3 ∷ record (pass 1) { pin = Some x.0; pinned_history = x.1; pinned_rows = used; known_words = words; asked = 1 } ∷ pass 2 ∷ [])))
@@ -230,21 +231,21 @@ ready = record {
 abbrev pub publisher : ℕ → View
 publisher mask = record asked { seen = event ∷ []; mine = event ∷ []; due = Some 0; mask = mask; drained = []; blocked = []; noted = None; desk = later; asked = 3 }
 
-pub published : Ready (set (set (set held 0 2) 3 0) 1 4294967296) (dealer 4 2 One 3 ∷ reader ∷ publisher 1 ∷ [])
-published = next (set (set held 0 2) 3 0) (dealer 4 2 One 3 ∷ reader ∷ asked ∷ []) found 2 1 (asked, slot) (λ n. 4294967296) (λ slots. publishes event later (step slots 1 4294967296 0 none) (asked, slot))
-    (λ slots. publishes_allows T framed 4 2 slots 2 4294967296 1 event later [] (asked, slot) ready refl) refl (lit< tt) (publisher 1)
-    (λ slots m t. let one : t.1.mask ≡ 1 = (let e : 1 ≡ 0 * 4294967296 + t.1.mask = t.1.returned in omega (arith, e)) in ap (λ (z : Mine). z.0) t.1.is ∙ ap publisher one)
+pub published : Ready (set (set (set held 0 2) 3 0) 1 masks) (dealer 4 2 One 3 ∷ reader ∷ publisher 1 ∷ [])
+published = next (set (set held 0 2) 3 0) (dealer 4 2 One 3 ∷ reader ∷ asked ∷ []) found 2 1 (asked, slot) (λ n. masks) (λ slots. publishes event later (step slots 1 masks 0 none) (asked, slot))
+    (λ slots. publishes_allows T framed 4 2 slots 2 masks 1 event later [] (asked, slot) ready refl) refl (lit< tt) (publisher 1)
+    (λ slots m t. let one : t.1.mask ≡ 1 = (let e : 1 ≡ 0 * masks + t.1.mask = t.1.returned in omega (arith, e)) in ap (λ (z : Mine). z.0) t.1.is ∙ ap publisher one)
 
 -- ---- and moves the pin of pass 1, whose bit is the first, to record 0
 
 abbrev pub after_words : List ℕ
-after_words = set (set (set (set held 0 2) 3 0) 1 4294967296) 2 1
+after_words = set (set (set (set held 0 2) 3 0) 1 masks) 2 1
 
 abbrev pub after_views : List View
 after_views = dealer 4 2 One 3 ∷ reader ∷ record (publisher 1) { due = None } ∷ []
 
 pub moved : Ready after_words after_views
-moved = next (set (set (set held 0 2) 3 0) 1 4294967296) (dealer 4 2 One 3 ∷ reader ∷ publisher 1 ∷ []) published 2 2 (publisher 1, slot) (λ n. bit_xor n 1) (λ slots. transfers (step slots 2 1 0 none) (publisher 1, slot))
+moved = next (set (set (set held 0 2) 3 0) 1 masks) (dealer 4 2 One 3 ∷ reader ∷ publisher 1 ∷ []) published 2 2 (publisher 1, slot) (λ n. bit_xor n 1) (λ slots. transfers (step slots 2 1 0 none) (publisher 1, slot))
     (λ slots. transfers_allows T framed 4 2 slots 2 0 1 (publisher 1, slot) refl refl refl) refl (lit< tt) (record (publisher 1) { due = None })
     (λ slots m t. ap (λ (z : Mine). z.0) t.1)
 
@@ -252,7 +253,7 @@ moved = next (set (set (set held 0 2) 3 0) 1 4294967296) (dealer 4 2 One 3 ∷ r
 history : moved.rule.parts.log ≡ event ∷ []
 history = sym (moved.rule.parts.turn.holder 2 (record (publisher 1) { due = None }) refl refl).2
 
-current : get_or after_words 1 0 ≡ 1 * 4294967296
+current : get_or after_words 1 0 ≡ 1 * masks
 current = refl
 
 pin_there : done after_words 0 ≡ 1

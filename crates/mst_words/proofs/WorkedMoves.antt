@@ -11,6 +11,7 @@ use Rattle.mst_key.specs.History.{History}
 use Rattle.mst_key.proofs.HistoryLaws.{IsPrefix-nil}
 use Rattle.mst_pin.specs.declared.event.Event.TheVariants.{Pin, Publish, Transfer}
 use Rattle.mst_pin.specs.State.{State, opening, after}
+use Rattle.mst_pin.specs.WordParts.{masks}
 use Rattle.mst_words.specs.declared.view.View.{View}
 use Rattle.mst_words.specs.declared.view.DeskState.{DeskState}
 use Rattle.mst_words.specs.World.{dealer}
@@ -46,7 +47,7 @@ abbrev with_answer : Table
 with_answer = of (set (set held 0 2) 3 0) (dealer 4 2 One 3 ∷ reader ∷ asked ∷ []) found
 
 abbrev with_event : Table
-with_event = of (set (set (set held 0 2) 3 0) 1 4294967296) (dealer 4 2 One 3 ∷ reader ∷ publisher 1 ∷ []) published
+with_event = of (set (set (set held 0 2) 3 0) 1 masks) (dealer 4 2 One 3 ∷ reader ∷ publisher 1 ∷ []) published
 
 abbrev pub worked : Table
 worked = of after_words after_views moved
@@ -158,7 +159,7 @@ publishes = inr (inl (
     event = event;
     publishes = record {
       desk = later;
-      made = record { id = 2; step = step 1 1 4294967296 0 none; found = 1; before = (asked, slot); after = (publisher 1, slot); at = refl; views = refl; tells = (refl, record { mask = 1; small = lit< tt; returned = refl; is = refl }) };
+      made = record { id = 2; step = step 1 1 masks 0 none; found = 1; before = (asked, slot); after = (publisher 1, slot); at = refl; views = refl; tells = (refl, record { mask = 1; small = lit< tt; returned = refl; is = refl }) };
       on = refl;
     };
     settled = refl;

@@ -6,6 +6,7 @@ use Rattle.mst_key.specs.declared.history.Event.{Event}
 use Rattle.mst_key.specs.History.{History}
 use Rattle.mst_arena.specs.Lists.{In}
 use Rattle.mst_arena.specs.Lives as lives
+use Rattle.mst_pin.specs.WordParts.{masks}
 use Rattle.mst_words.specs.declared.view.View.{View}
 use Rattle.mst_words.specs.declared.view.Shape.{Shape}
 use Rattle.mst_words.specs.declared.view.DeskState.{DeskState}
@@ -52,8 +53,8 @@ pub record Tells (z : Shape) (s : Table) (log : History) : Type 0 where
   pub mask : ℕ
   pub used : List ℕ
   pub wide : length s.words ≡ table_words z.rows
-  pub named : slice_index s.words current_word ≡ current * 4294967296 + mask
-  pub small : mask < 4294967296
+  pub named : slice_index s.words current_word ≡ current * masks + mask
+  pub small : mask < masks
   pub there : current < z.passes + 2
   pub version : field s.words current 0 ≡ length log
   pub stands : StandsOn (row s.words) (field s.words current) (contents_after z.format log) used

@@ -9,6 +9,7 @@ use Rattle.mst_pin.specs.declared.event.Event as core
 use Rattle.mst_pin.specs.declared.event.Event.TheVariants.{Pin, Unpin, Publish, Transfer}
 use Rattle.mst_arena.specs.Lists.{In}
 use Rattle.mst_arena.specs.Lives as lives
+use Rattle.mst_pin.specs.WordParts.{masks}
 use Rattle.mst_words.specs.declared.view.View.{View}
 use Rattle.mst_words.specs.declared.view.Shape.{Shape}
 use Rattle.mst_words.specs.declared.view.DeskState.{DeskState}
@@ -88,7 +89,7 @@ pub record MakesCurrent (into : ℕ) (s t : Table) : Type 0 where
   pub publishes : IsPublication event s t
   pub settled : publishes.made.before.0.due ≡ None
   pub drained : In into publishes.made.before.0.drained
-  pub words : t.words ≡ slice_set s.words current_word (into * 4294967296)
+  pub words : t.words ≡ slice_set s.words current_word (into * masks)
 
 -- a pass is dealt, or a note is written or heard, and no word changes
 pub record ChangesSeats (s t : Table) : Type 0 where

@@ -4,6 +4,7 @@
 use Rattle.std.specs.Prelude.{◌≡◌, ◌≢◌, ◌⊎◌, ℕ, ◌+◌, ◌-◌, ◌*◌, ◌%◌, ◌<◌, ◌≤◌, true, List, [], ◌∷◌, slice_index, Option, Some, None}
 use Rattle.std.specs.Int.{bit_at}
 use Rattle.mst_arena.specs.Lists.{In}
+use Rattle.mst_pin.specs.WordParts.{masks}
 use Rattle.mst_words.specs.declared.view.View.{View}
 use Rattle.mst_words.specs.World.{SeatAt}
 use Rattle.mst_words.specs.Layout.{most_passes, current_word, done_word}
@@ -38,8 +39,8 @@ pub record Drains (n cur : ℕ) (due : Option ℕ) (beside : ℕ → ℕ)
 pub record Pins (n cur mask : ℕ) (due : Option ℕ) (beside : ℕ → ℕ)
     (ws : List ℕ) (views : List View) : Type 0 where
   pub few : n ≤ most_passes
-  pub current : slice_index ws current_word ≡ cur * 4294967296 + mask
-  pub small : mask < 4294967296
+  pub current : slice_index ws current_word ≡ cur * masks + mask
+  pub small : mask < masks
   pub cur_in : cur < n + 2
   pub beside_cur : beside cur ≡ mask
   pub beside_rest : (r : ℕ) → r ≢ cur → due ≢ Some r → beside r ≡ 0

@@ -8,6 +8,7 @@ use Rattle.mst_key.specs.declared.history.Change.TheVariants.{Remove}
 use Rattle.mst_key.specs.declared.history.Event.{Event}
 use Rattle.mst_key.specs.History.{History, events_of, IsPrefix}
 use Rattle.mst_arena.specs.Lists.{In}
+use Rattle.mst_pin.specs.WordParts.{masks}
 use Rattle.mst_words.specs.declared.view.View.{View}
 use Rattle.mst_words.specs.declared.view.DeskState.{DeskState}
 use Rattle.mst_words.specs.Layout.{record_words, row_words, turn_word, current_word, first_record, done_word, record_word, row_word, table_words}
@@ -37,7 +38,7 @@ IsDoneAtDue v i = (r : ℕ) × (v.due ≡ Some r) × (i ≡ done_word r)
 abbrev pub found_now : Option ℕ → ℕ → ℕ → List ℕ
 found_now None done version = []
 found_now (Some word) done version =
-    if word % 4294967296 == done then [] else version ∷ []
+    if word % masks == done then [] else version ∷ []
 
 module _ {S : Type 0} where
   -- a pass that has neither the turn nor the slot nor a pin
@@ -107,8 +108,8 @@ module _ {S : Type 0} where
   pub record Publishes (e : Event) (d : DeskState)
       (m : Me S View) (r : ℕ) (m' : Me S View) : Type 0 where
     pub mask : ℕ
-    pub small : mask < 4294967296
-    pub returned : r ≡ m.0.desk.current * 4294967296 + mask
+    pub small : mask < masks
+    pub returned : r ≡ m.0.desk.current * masks + mask
     pub is : m' ≡ (
       record m.0 {
         seen = m.0.seen ++ e ∷ [];
@@ -143,8 +144,8 @@ module _ {S : Type 0} where
   -- the holder of the turn notes the word of the current record
   pub record NotesCurrent (m : Me S View) (r : ℕ) (m' : Me S View) : Type 0 where
     pub mask : ℕ
-    pub small : mask < 4294967296
-    pub found : r ≡ m.0.desk.current * 4294967296 + mask
+    pub small : mask < masks
+    pub found : r ≡ m.0.desk.current * masks + mask
     pub is : m' ≡ (record m.0 { noted = Some r; asked = m.0.asked + 1 }, m.1)
 
   abbrev pub notes_current : Step S → Me S View → ℕ → Me S View → Type 0
@@ -161,8 +162,8 @@ module _ {S : Type 0} where
       },
       m.1,
     )
-    pub alone : m.0.passes ≡ 1 → (mask : ℕ) → mask < 4294967296
-        → m.0.noted ≡ Some (m.0.desk.current * 4294967296 + mask) → r ≡ mask
+    pub alone : m.0.passes ≡ 1 → (mask : ℕ) → mask < masks
+        → m.0.noted ≡ Some (m.0.desk.current * masks + mask) → r ≡ mask
 
   abbrev pub asks_current : Step S → Me S View → ℕ → Me S View → Type 0
   asks_current st m r m' = (st.word ≡ done_word m.0.desk.current) × AsksCurrent m r m'
@@ -259,8 +260,8 @@ module _ {S : Type 0} (T : Meaning S) where
     pub log : History
     pub words : List ℕ
     pub used : List ℕ
-    pub found_is : found ≡ cur * 4294967296 + mask
-    pub small : mask < 4294967296
+    pub found_is : found ≡ cur * masks + mask
+    pub small : mask < masks
     pub in_table : cur < m.0.passes + 2
     pub wide : length words ≡ table_words m.0.rows
     pub later : IsPrefix m.0.seen log

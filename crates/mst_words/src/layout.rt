@@ -21,8 +21,11 @@ pub const ROW_WORDS: usize = 16;
 /// The place of the turn: 0, or the number of the pass that has it.
 pub(crate) const TURN: usize = 0;
 
-/// The place of the word of the current record: its number * 2^32 + the mask of its pins.
+/// The place of the word of the current record: its number * `MASKS` + the mask of its pins.
 pub(crate) const CURRENT: usize = 1;
+
+/// How many masks of passes there are: 2^32.
+pub const MASKS: u64 = 4_294_967_296;
 
 /// The place of the word DONE of record 0.
 pub(crate) const FIRST_DONE: usize = 2;

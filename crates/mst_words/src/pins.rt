@@ -6,7 +6,7 @@ ghost use Rattle.mst_words.specs.Stored.{stored};
 ghost use Rattle.mst_words.specs.Steps.{IsFree, IsPinned, PinsNow, Unpins, Forgets, IsReadable, Glances};
 
 use crate::board::{Board, Token};
-use crate::layout::{CURRENT, FIRST_DONE};
+use crate::layout::{CURRENT, FIRST_DONE, MASKS};
 use crate::plays::{Forget, Glance, Pin, Read, Unpin};
 use crate::seat::PassSeat;
 use std::alloc::Allocator;
@@ -88,9 +88,9 @@ impl<A: Allocator + Copy> Board<A> {
 
 // The low half of a word: a mask of passes.
 fn low_half(word: u64) -> u32
-    ensures half { result ≡ word % 4294967296 }
+    ensures half { result ≡ word % MASKS }
 {
-    (word % 4_294_967_296) as u32
+    (word % MASKS) as u32
 }
 
 impl<A: Allocator + Copy> Board<A> {

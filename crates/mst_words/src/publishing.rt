@@ -6,7 +6,7 @@ ghost use Rattle.mst_words.specs.Layout.{most_records, table_words};
 ghost use Rattle.mst_words.specs.Steps.{IsHolder, IsWritable, IsReady, Publishes, Transfers, Drained, Blocked, NotesCurrent, AsksCurrent};
 
 use crate::board::{Board, Token};
-use crate::layout::{CURRENT, FIRST_DONE};
+use crate::layout::{CURRENT, FIRST_DONE, MASKS};
 use crate::plays::{Ask, AskCurrent, Naming, NoteCurrent, Publish, Transfer, Write};
 use mst_arena::Desk;
 use mst_key::Event;
@@ -68,7 +68,7 @@ impl<A: Allocator + Copy> Board<A> {
     {
         self.table
             .shared
-            .swap::<Publish<J>>(seat, CURRENT, u64::from(into) * 4_294_967_296)
+            .swap::<Publish<J>>(seat, CURRENT, u64::from(into) * MASKS)
     }
 
     /// Moves the mask that a publication brought back into the old record's word DONE: one xor.

@@ -14,7 +14,7 @@ use Rattle.mst_node.specs.Tree.{Tree, empty, node, Entries, last, entry, entry_c
 use Rattle.mst_node.specs.Shape.{with_entries}
 use Rattle.mst_node.specs.Trail.{by_order, nodes_met, met_in_gap}
 use Rattle.mst_node.specs.Cost.{same_bytes, top_entries, cost, weight}
-use Rattle.mst_node.proofs.Unique.{pairs_tree}
+use Rattle.mst_node.proofs.UniqueTree.{pairs_tree}
 use Rattle.mst_change.specs.Parts.{cells, first_child, last_child, with_first, node_of, is_empty}
 use Rattle.mst_change.specs.Split.{below, entries_below, above, entries_above}
 use Rattle.mst_change.specs.Join.{join_node, join_first, join, join_last}

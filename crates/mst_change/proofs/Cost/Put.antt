@@ -14,7 +14,7 @@ use Rattle.mst_node.specs.Tree.{Tree, empty, node, Entries, last, entry, entry_c
 use Rattle.mst_node.specs.Shape.{with_entries}
 use Rattle.mst_node.specs.Trail.{by_order}
 use Rattle.mst_node.specs.Cost.{same_bytes, cost, new_rows}
-use Rattle.mst_node.proofs.Unique.{pairs_tree, tree_mst}
+use Rattle.mst_node.proofs.UniqueTree.{pairs_tree, tree_mst}
 use Rattle.mst_change.specs.Parts.{cells, last_child}
 use Rattle.mst_change.specs.Split.{entries_below, entries_above}
 use Rattle.mst_change.specs.Put.{put_among, put_at, put_in_gap, tree_put}

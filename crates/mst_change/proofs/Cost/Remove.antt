@@ -10,7 +10,7 @@ use Rattle.mst_key.proofs.Splits.{map_get-left, map_get-right}
 use Rattle.mst_node.specs.Tree.{Tree, empty, node, Entries, last, entry, entry_count, pairs, entries_pairs, tree, IsMst, IsMstEntries}
 use Rattle.mst_node.specs.Trail.{by_order}
 use Rattle.mst_node.specs.Cost.{is_subtree, cost, new_rows}
-use Rattle.mst_node.proofs.Unique.{pairs_tree, tree_mst}
+use Rattle.mst_node.proofs.UniqueTree.{pairs_tree, tree_mst}
 use Rattle.mst_change.specs.Parts.{node_of, first_child, with_first}
 use Rattle.mst_change.specs.Join.{join}
 use Rattle.mst_change.specs.Remove.{tree_remove, entries_remove}

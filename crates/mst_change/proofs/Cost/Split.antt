@@ -10,8 +10,8 @@ use Rattle.mst_key.proofs.Splits.{parts_absent}
 use Rattle.mst_node.specs.Tree.{Tree, empty, node, Entries, last, entry, entry_count, pairs, entries_pairs, tree, IsUnder, IsMst, IsMstEntries}
 use Rattle.mst_node.specs.Trail.{by_order}
 use Rattle.mst_node.specs.Cost.{is_subtree}
-use Rattle.mst_node.proofs.Trees.{tree-no_pairs}
-use Rattle.mst_node.proofs.Unique.{tree_unique, keys_under}
+use Rattle.mst_node.proofs.TreeEquation.{tree-no_pairs}
+use Rattle.mst_node.proofs.UniqueTree.{tree_unique, keys_under}
 use Rattle.mst_change.specs.Parts.{node_of, is_empty}
 use Rattle.mst_change.specs.Split.{below, entries_below, above, entries_above}
 use Rattle.mst_change.specs.Cost.{split_rows, gap_rows}

@@ -6,7 +6,7 @@ use Rattle.mst_key.specs.Map.{Pair, IsAscending}
 use Rattle.mst_key.specs.Map as map
 use Rattle.mst_key.proofs.Splits.{put-left, put-right, put-at}
 use Rattle.mst_node.specs.Tree.{Tree, empty, node, Entries, last, entry, entry_count, pairs, entries_pairs, IsUnder, IsMst, IsMstEntries, tree}
-use Rattle.mst_node.proofs.Unique.{pairs_tree, tree_unique, tree_mst}
+use Rattle.mst_node.proofs.UniqueTree.{pairs_tree, tree_unique, tree_mst}
 use Rattle.mst_change.specs.Parts.{last_child}
 use Rattle.mst_change.specs.Split.{entries_below, entries_above}
 use Rattle.mst_change.specs.Put.{put_among, put_at, put_in_gap, tree_put}

@@ -5,7 +5,7 @@ use Rattle.mst_key.specs.Map.{Pair, IsAscending}
 use Rattle.mst_key.specs.Map as map
 use Rattle.mst_key.proofs.Splits.{remove-left, remove-right, remove-at}
 use Rattle.mst_node.specs.Tree.{Tree, empty, node, Entries, last, entry, pairs, entries_pairs, IsUnder, IsMst, IsMstEntries, tree}
-use Rattle.mst_node.proofs.Unique.{pairs_tree, tree_unique, tree_mst}
+use Rattle.mst_node.proofs.UniqueTree.{pairs_tree, tree_unique, tree_mst}
 use Rattle.mst_change.specs.Parts.{first_child, with_first}
 use Rattle.mst_change.specs.Join.{join}
 use Rattle.mst_change.specs.Remove.{tree_remove, entries_remove}

@@ -9,6 +9,7 @@ use crate::writing::{make, write};
 use mst_arena::Root;
 use mst_key::Event;
 use mst_words::PassSeat;
+use mst_words::layout::MASKS;
 use std::alloc::Allocator;
 use std::marker::Brand;
 use std::test::Fail;
@@ -34,7 +35,7 @@ fn publish_by_steps<A: Allocator + Copy>(
     desk.advance(into);
     let found = seat.publish::<Brand>(into, event, &desk);
     let published = seat.pins(old);
-    seat.transfer(old, found % 4_294_967_296);
+    seat.transfer(old, found % MASKS);
     (published, seat.pins(old))
 }
 

@@ -1,5 +1,5 @@
 use Rattle.std.proofs.Common.{◌∙◌, arith, rules, SFits, w32, to_z-of_z}
-use Rattle.mst_node.proofs.Takes.{bytes-at}
+use Rattle.mst_node.proofs.ReadIsSpelled.{bytes-at}
 use Rattle.mst_proof.proofs.Agreed.{accepted, accepts}
 use Rattle.mst_proof.proofs.Nodewise.{accepted_nodewise}
 use Rattle.mst_proof.proofs.Truth.{proof_accepted, other_answer}

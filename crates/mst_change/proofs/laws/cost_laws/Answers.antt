@@ -2,7 +2,7 @@ use Rattle.mst_node.proofs.SameTrees.{tree_from_same, same_from_tree}
 use Rattle.mst_change.proofs.Cost.Put.{cost_put}
 use Rattle.mst_change.proofs.Cost.Remove.{cost_remove}
 use Rattle.mst_change.proofs.Cost.Bounds.{put_cost_bound, remove_cost_bound}
-use Rattle.mst_node.proofs.Formats.{moved}
+use Rattle.mst_node.proofs.FormatsShareNothing.{moved}
 use Rattle.mst_change.proofs.Formats.{stays}
 use Rattle.mst_change.proofs.laws.cost_laws.Goals as goal
 

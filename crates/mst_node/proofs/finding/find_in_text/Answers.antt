@@ -1,8 +1,8 @@
 use Rattle.std.proofs.Common.{List, ℕ, refl, ap, ◌∙◌, arith, rules}
 use Rattle.mst_node.specs.Place.{place_of}
-use Rattle.mst_node.proofs.Grammars.{read_in_grammar, grammar_read}
+use Rattle.mst_node.proofs.GrammarIsRead.{read_in_grammar, grammar_read}
 use Rattle.mst_node.proofs.Scans.{text-scanned, node-scanned}
-use Rattle.mst_node.proofs.Takes.{bytes-at}
+use Rattle.mst_node.proofs.ReadIsSpelled.{bytes-at}
 use Rattle.mst_node.proofs.finding.find_in_text.Goals as goal
 
 pub returns-in_default-clause-grammar : goal.returns-in_default-clause-grammar

@@ -1,6 +1,6 @@
 use Rattle.std.proofs.Common.{arith}
-use Rattle.mst_node.proofs.Takes.{bytes-at}
-use Rattle.mst_node.proofs.Places.{none-some}
+use Rattle.mst_node.proofs.ReadIsSpelled.{bytes-at}
+use Rattle.mst_node.proofs.EntryPlaces.{none-some}
 use Rattle.mst_node.proofs.Frames.{first_takes, first_again}
 use Rattle.mst_node.proofs.framing.top_text.Goals as goal
 

@@ -1,8 +1,8 @@
 use Rattle.std.proofs.Common.{refl, sym, ◌∙◌, subst, rules, arith}
 use Rattle.mst_node.specs.Grammar.{KeysFit}
-use Rattle.mst_node.proofs.Takes.{bytes-at, some_same}
-use Rattle.mst_node.proofs.Places.{none-some}
-use Rattle.mst_node.proofs.Grammars.{read_in_grammar, grammar_read}
+use Rattle.mst_node.proofs.ReadIsSpelled.{bytes-at, some_same}
+use Rattle.mst_node.proofs.EntryPlaces.{none-some}
+use Rattle.mst_node.proofs.GrammarIsRead.{read_in_grammar, grammar_read}
 use Rattle.mst_node.proofs.grammar.read_text_in.Goals as goal
 use Rattle.mst_node.proofs.grammar.read_text_in.Goals.{in_default-via-in-Some+else-keys_fit, in_default-via-in_default}
 

@@ -1,5 +1,5 @@
-use Rattle.mst_node.proofs.Again.{one_node}
-use Rattle.mst_node.proofs.Spelt.{in_grammar}
+use Rattle.mst_node.proofs.SpelledIsRead.{one_node}
+use Rattle.mst_node.proofs.MapTextsInGrammar.{in_grammar}
 use Rattle.mst_node.proofs.laws.one_text.Goals as goal
 
 pub returns-clause-one_node : goal.returns-clause-one_node

@@ -1,6 +1,6 @@
 use Rattle.std.proofs.Common.{◌∙◌, sym, ap}
 use Rattle.mst_node.specs.Tree.{pairs}
-use Rattle.mst_node.proofs.Unique.{pairs_tree, tree_unique, tree_mst}
+use Rattle.mst_node.proofs.UniqueTree.{pairs_tree, tree_unique, tree_mst}
 use Rattle.mst_node.proofs.laws.one_tree.Goals as goal
 
 pub returns-clause-search_tree : goal.returns-clause-search_tree

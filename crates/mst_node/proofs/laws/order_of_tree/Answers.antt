@@ -1,9 +1,9 @@
 use Rattle.std.proofs.Common.{sym, subst, None}
 use Rattle.mst_key.specs.Map.{IsAscending}
 use Rattle.mst_node.specs.Tree.{node, tree, pairs}
-use Rattle.mst_node.proofs.Unique.{pairs_tree, tree_mst}
-use Rattle.mst_node.proofs.Lying.{layers_fall, lies_between, between_none}
-use Rattle.mst_node.proofs.Under.{under_in}
+use Rattle.mst_node.proofs.UniqueTree.{pairs_tree, tree_mst}
+use Rattle.mst_node.proofs.TreeOrder.{layers_fall, lies_between, between_none}
+use Rattle.mst_node.proofs.LayersBelow.{under_in}
 use Rattle.mst_node.proofs.laws.order_of_tree.Goals as goal
 
 pub returns-clause-layers : goal.returns-clause-layers

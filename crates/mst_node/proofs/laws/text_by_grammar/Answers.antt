@@ -1,4 +1,4 @@
-use Rattle.mst_node.proofs.Grammars.{read_in_grammar, grammar_read}
+use Rattle.mst_node.proofs.GrammarIsRead.{read_in_grammar, grammar_read}
 use Rattle.mst_node.proofs.laws.text_by_grammar.Goals as goal
 
 pub returns-clause-found : goal.returns-clause-found

@@ -1,5 +1,5 @@
 use Rattle.std.proofs.Common.{[], refl}
-use Rattle.mst_node.proofs.Trees.{tree-no_pairs, tree_some}
+use Rattle.mst_node.proofs.TreeEquation.{tree-no_pairs, tree_some}
 use Rattle.mst_node.proofs.laws.tree_by_gaps.Goals as goal
 
 pub returns-clause-none : goal.returns-clause-none

@@ -6,8 +6,8 @@ use Rattle.std.specs.Prelude.{slice_range}
 use Rattle.mst_node.specs.Tree.{Tree, tree, greatest, node, entries_of, last}
 use Rattle.mst_node.specs.Shape.{TreeEntry, tree_entry, with_entries}
 use Rattle.mst_key.specs.Layer.{layer_in}
-use Rattle.mst_node.proofs.Trees.{tree-no_pairs, has_some, tree_some, step_at, step_other, some_other, last_gap}
-use Rattle.mst_node.proofs.Layers.{layers-part, layers-length, layer-at}
+use Rattle.mst_node.proofs.TreeEquation.{tree-no_pairs, has_some, tree_some, step_at, step_other, some_other, last_gap}
+use Rattle.mst_node.proofs.LayersByPlace.{layers-part, layers-length, layer-at}
 use Rattle.mst_node.proofs.making.+subtree.Goals as goal
 use Rattle.mst_node.proofs.making.+subtree.Goals.{then-layers-i+in_ok-child+in_ok-push, else-layers-i}
 

@@ -3,7 +3,7 @@ use Rattle.std.specs.Prelude.{slice_range}
 use Rattle.mst_key.specs.Layer.{layer_in}
 use Rattle.mst_node.specs.Tree.{tree, entries_of}
 use Rattle.mst_node.specs.Shape.{tree_entry, with_entries}
-use Rattle.mst_node.proofs.Trees.{Has}
+use Rattle.mst_node.proofs.TreeEquation.{Has}
 use Rattle.mst_node.proofs.making.+subtree.Given as goal
 
 abbrev pub decreases-subtree : goal.decreases-subtree

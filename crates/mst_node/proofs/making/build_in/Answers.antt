@@ -9,7 +9,7 @@ use Rattle.mst_key.specs.Map.{Pair}
 use Rattle.mst_key.specs.declared.format.Format.{Format}
 use Rattle.mst_node.specs.Tree.{tree, pairs}
 use Rattle.mst_node.specs.Shape.{tree_of_child}
-use Rattle.mst_node.proofs.Unique.{pairs_tree}
+use Rattle.mst_node.proofs.UniqueTree.{pairs_tree}
 use Rattle.mst_node.proofs.making.build_in.Goals as goal
 
 -- what has the tree of the list has its pairs

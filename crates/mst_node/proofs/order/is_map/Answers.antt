@@ -4,7 +4,7 @@ use Rattle.std.proofs.lemmas.List.{take_more}
 use Rattle.std.specs.List.{AllByRecursion}
 use Rattle.mst_key.specs.Bytes.{IsKey, IsValue}
 use Rattle.mst_key.specs.Map.{Pair}
-use Rattle.mst_node.proofs.Rising.{all-push}
+use Rattle.mst_node.proofs.RisingKeys.{all-push}
 use Rattle.mst_node.proofs.order.is_map.Goals as goal
 
 abbrev Fits : Pair → Type 0

@@ -1,6 +1,6 @@
 use Rattle.std.proofs.Common.{◌-◌, ◌+◌, ◌∙◌, arith}
 use Rattle.mst_node.specs.Seen.{seen}
-use Rattle.mst_node.proofs.Behind.{behind_more}
+use Rattle.mst_node.proofs.BytesAfterEntries.{behind_more}
 use Rattle.mst_node.proofs.reading.behind.Goals as goal
 
 pub loop-preserved : goal.loop-preserved

@@ -5,8 +5,8 @@ use Rattle.std.specs.Prelude.{slice_range}
 use Rattle.sha2.specs.Sha256.{sha256}
 use Rattle.mst_key.specs.Layer.{layer_in}
 use Rattle.mst_node.specs.Text.{child_digest, counted, held_of, held_text, heading}
-use Rattle.mst_node.proofs.Trees.{tree-no_pairs, has_some, some_other, gap_more, gap_none}
-use Rattle.mst_node.proofs.Tops.{at_layer-le, text_some, text_at, text_other, text_end, child_digest_some}
+use Rattle.mst_node.proofs.TreeEquation.{tree-no_pairs, has_some, some_other, gap_more, gap_none}
+use Rattle.mst_node.proofs.TopNodes.{at_layer-le, text_some, text_at, text_other, text_end, child_digest_some}
 use Rattle.mst_node.proofs.root.+root.Goals as goal
 use Rattle.mst_node.proofs.root.+root.Goals.{digest_of-then-layer-top, digest_of-else-layer-top}
 

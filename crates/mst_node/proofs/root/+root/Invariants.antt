@@ -5,8 +5,8 @@ use Rattle.mst_key.specs.Layer.{layer_in}
 use Rattle.mst_node.specs.Tree.{tree, entries_of}
 use Rattle.mst_node.specs.Text.{text}
 use Rattle.mst_node.specs.Top.{IsTop}
-use Rattle.mst_node.proofs.Trees.{Has}
-use Rattle.mst_node.proofs.Tops.{entries_text}
+use Rattle.mst_node.proofs.TreeEquation.{Has}
+use Rattle.mst_node.proofs.TopNodes.{entries_text}
 use Rattle.mst_node.proofs.root.+root.Given as goal
 
 abbrev pub decreases-digest_of : goal.decreases-digest_of

@@ -6,7 +6,7 @@ use Rattle.sha2.specs.Hashers.{Holds256}
 use Rattle.mst_node.specs.Text.{held_of, held_text, heading}
 use Rattle.mst_node.specs.declared.node.Node.{out-Node}
 use Rattle.mst_node.specs.declared.node.Entry.TheViews.{the_lemmas}
-use Rattle.mst_node.proofs.Shapes.{entries-fit, child-fits, tail-fits, text-more, text_out}
+use Rattle.mst_node.proofs.NodeShapes.{entries-fit, child-fits, tail-fits, text-more, text_out}
 use Rattle.mst_node.proofs.texts.+digest.Goals as goal
 
 pub node_digest-overflow_cast-len : goal.node_digest-overflow_cast-len

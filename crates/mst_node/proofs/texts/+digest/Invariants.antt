@@ -3,7 +3,7 @@ use Rattle.std.specs.List.{flat_map}
 use Rattle.sha2.specs.Hashers.{Holds256}
 use Rattle.mst_node.specs.declared.node.Node.{out-Node}
 use Rattle.mst_node.specs.Text.{heading}
-use Rattle.mst_node.proofs.Shapes.{text_of_entry}
+use Rattle.mst_node.proofs.NodeShapes.{text_of_entry}
 use Rattle.mst_node.proofs.texts.+digest.Given as goal
 
 -- the hasher holds the text up to the entry

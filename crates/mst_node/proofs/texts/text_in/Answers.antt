@@ -5,8 +5,8 @@ use Rattle.std.specs.List.{flat_map}
 use Rattle.std.proofs.Math.Seq.{take-length}
 use Rattle.mst_node.specs.Text.{held_of, held_text, child_text, heading}
 use Rattle.mst_node.specs.declared.node.Node.{out-Node}
-use Rattle.mst_node.proofs.Shapes.{entries-fit, child-fits, tail-fits, text-more, text_out, text_of_entry}
-use Rattle.mst_node.proofs.Buffers.{took_none, gives_taken}
+use Rattle.mst_node.proofs.NodeShapes.{entries-fit, child-fits, tail-fits, text-more, text_out, text_of_entry}
+use Rattle.mst_node.proofs.TextBuffers.{took_none, gives_taken}
 use Rattle.mst_node.proofs.texts.text_in.Goals as goal
 
 pub overflow_cast-len : goal.overflow_cast-len

@@ -3,7 +3,7 @@ use Rattle.std.specs.Prelude.{IfSome}
 use Rattle.std.specs.List.{flat_map}
 use Rattle.mst_node.specs.Text.{heading}
 use Rattle.mst_node.specs.declared.node.Node.{out-Node}
-use Rattle.mst_node.proofs.Shapes.{text_of_entry}
+use Rattle.mst_node.proofs.NodeShapes.{text_of_entry}
 use Rattle.mst_node.proofs.texts.text_in.Given as goal
 
 -- the text up to the entry

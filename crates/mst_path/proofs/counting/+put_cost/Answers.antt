@@ -7,7 +7,7 @@ use Rattle.mst_arena.specs.Standing.{tree_of}
 use Rattle.mst_change.specs.Cost.{split_rows}
 use Rattle.mst_path.specs.Joining.{height, height_at}
 use Rattle.mst_path.specs.Splitting.{ToSplit}
-use Rattle.mst_path.specs.Putting.{RisingTree, pair_rows, IsPutStep, PutsDown, PutsBetween, PutsAnew}
+use Rattle.mst_path.specs.PutPath.{RisingTree, pair_rows, IsPutStep, PutsDown, PutsBetween, PutsAnew}
 use Rattle.mst_path.proofs.lemmas.steps.PutGaps.{whole_split, put_top_rows, falls_at}
 use Rattle.mst_path.proofs.counting.+put_cost.Given.{Over}
 use Rattle.mst_path.proofs.counting.+put_cost.Goals.{In-OnTop, After-split_cost, In-Down, After-put_cost-inner, In-Between, After-split_cost-split, In-Anew}

@@ -8,7 +8,7 @@ use Rattle.mst_arena.specs.Row.{entry_value}
 use Rattle.mst_arena.specs.Standing.{tree_of}
 use Rattle.mst_path.specs.Cutting.{EntriesLie}
 use Rattle.mst_path.specs.Joining.{height_at}
-use Rattle.mst_path.specs.Removing.{SearchTree}
+use Rattle.mst_path.specs.RemovePath.{SearchTree}
 use Rattle.mst_path.specs.Writing.{PlacedEntry}
 use Rattle.mst_path.proofs.lemmas.steps.Removals.{top}
 use Rattle.mst_path.proofs.lemmas.steps.Splitting.{positive}

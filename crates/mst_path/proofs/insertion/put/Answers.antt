@@ -6,7 +6,7 @@ use Rattle.mst_arena.specs.Content.{Content}
 use Rattle.mst_arena.specs.Lives.{State, free_count}
 use Rattle.mst_arena.specs.Standing.{Stands, numbers}
 use Rattle.mst_path.specs.Making.{Grown}
-use Rattle.mst_path.specs.Putting.{RisingTree, in_rising, with_pair, pair_rows}
+use Rattle.mst_path.specs.PutPath.{RisingTree, in_rising, with_pair, pair_rows}
 use Rattle.mst_path.specs.Changing.{AreOld}
 use Rattle.mst_path.proofs.lemmas.versions.Changes.{any_old, search_at, rises, says}
 use Rattle.mst_path.proofs.lemmas.versions.Inserted.{is_same, same_found, rising_at, few_new, cost_other, AfterPut, after_other, after_same}

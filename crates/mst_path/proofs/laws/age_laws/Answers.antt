@@ -5,7 +5,7 @@ use Rattle.mst_key.specs.declared.format.Format.{Format}
 use Rattle.mst_path.proofs.lemmas.versions.Migrated.{all_new}
 use Rattle.mst_node.specs.Cost.{cost, new_rows}
 use Rattle.mst_node.specs.Tree.{empty}
-use Rattle.mst_node.proofs.Trees.{tree-no_pairs}
+use Rattle.mst_node.proofs.TreeEquation.{tree-no_pairs}
 use Rattle.mst_arena.specs.Content.{Content}
 use Rattle.mst_arena.specs.Lives.{State, free_count}
 use Rattle.mst_arena.specs.declared.life.Life.{Life}

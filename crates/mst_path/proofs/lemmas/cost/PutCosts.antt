@@ -16,7 +16,7 @@ use Rattle.mst_change.specs.Split.{below, above}
 use Rattle.mst_change.specs.Cost.{side_rows, split_rows}
 use Rattle.mst_path.specs.Making.{cell_of, cells_of}
 use Rattle.mst_path.specs.Joining.{height, height_at}
-use Rattle.mst_path.specs.Removing.{SearchTree}
+use Rattle.mst_path.specs.RemovePath.{SearchTree}
 use Rattle.mst_path.specs.Gaps.{OpensGap, OpensEntry}
 use Rattle.mst_path.specs.Splitting.{ToSplit}
 use Rattle.mst_change.proofs.Split.Steps.{gap_count, none_below, none_above, split_rows_step}

@@ -6,7 +6,7 @@ use Rattle.std.specs.Option.{option_map_or}
 use Rattle.mst_key.specs.declared.format.Format.{Format}
 use Rattle.mst_key.specs.Map.{Pair}
 use Rattle.mst_node.specs.Tree.{Tree, IsMst, IsMstEntries, IsUnder}
-use Rattle.mst_node.proofs.Unique.{tree_mst}
+use Rattle.mst_node.proofs.UniqueTree.{tree_mst}
 use Rattle.mst_arena.specs.Content.{Content, part_at}
 use Rattle.mst_arena.specs.Lives.{State, next, with_life, ended_life}
 use Rattle.std.specs.Prelude.{slice_get}

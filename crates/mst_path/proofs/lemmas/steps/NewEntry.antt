@@ -10,7 +10,7 @@ use Rattle.mst_arena.specs.Standing.{Placed, none, tree_of, used}
 use Rattle.mst_path.specs.declared.making.Run.{Run as Entries_at}
 use Rattle.mst_path.specs.Making.{PartsStand, Grown, Split}
 use Rattle.mst_path.specs.Moves.{IsAlive}
-use Rattle.mst_path.specs.Putting.{TwoStand, in_two}
+use Rattle.mst_path.specs.PutPath.{TwoStand, in_two}
 use Rattle.mst_path.proofs.lemmas.steps.Steps.{step_split, step_grown, step_then, apart_after}
 
 -- parts without entries, with a tree in the seam

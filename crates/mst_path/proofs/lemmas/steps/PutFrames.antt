@@ -13,7 +13,7 @@ use Rattle.mst_path.specs.Moves.{IsAlive}
 use Rattle.mst_path.specs.Frames.{Framed, in_frame}
 use Rattle.mst_path.specs.Joining.{TwoTrees}
 use Rattle.mst_path.specs.Writing.{IsRootOf}
-use Rattle.mst_path.specs.Putting.{TwoStand, in_two, tree_with, with_rows}
+use Rattle.mst_path.specs.PutPath.{TwoStand, in_two, tree_with, with_rows}
 use Rattle.mst_path.proofs.lemmas.trees.Joined.{old_piece}
 use Rattle.mst_path.proofs.lemmas.rows.Copies.{old_alive}
 use Rattle.mst_path.proofs.lemmas.steps.Framing.{frame_old}

@@ -18,7 +18,7 @@ use Rattle.mst_path.specs.Making.{cells_of, entries_to}
 use Rattle.mst_path.specs.Joining.{height, height_at}
 use Rattle.mst_path.specs.Gaps.{OpensGap, OpensEntry}
 use Rattle.mst_path.specs.Splitting.{ToSplit}
-use Rattle.mst_path.specs.Putting.{RisingTree, PutsDown, PutsBetween, PutsAnew}
+use Rattle.mst_path.specs.PutPath.{RisingTree, PutsDown, PutsBetween, PutsAnew}
 use Rattle.mst_change.proofs.Parts.{with_first_count, with_entries_count}
 use Rattle.mst_change.proofs.Split.Steps.{gap_count}
 use Rattle.mst_change.proofs.Put.Steps.{put_lower, put_rows_lower, put_level, put_rows_level, put_higher, put_rows_higher, put_value, put_rows_value}

@@ -20,7 +20,7 @@ use Rattle.mst_path.specs.Moves.{IsOld}
 use Rattle.mst_path.specs.Runs.{OldPiece, Run, own, gaps_used, EachGap}
 use Rattle.mst_path.specs.Making.{BackRun, cell_of, cells_of, entries_to, others, tail_behind}
 use Rattle.mst_path.specs.Cutting.{gap_before, CutGap, CutHeld}
-use Rattle.mst_path.specs.Removing.{SearchTree, in_tree, StepsDown, StepsHere}
+use Rattle.mst_path.specs.RemovePath.{SearchTree, in_tree, StepsDown, StepsHere}
 use Rattle.mst_path.specs.Frames.{Framed}
 use Rattle.mst_path.specs.Joining.{TwoTrees, in_both}
 use Rattle.mst_path.specs.Gaps.{OpensGap, OpensEntry}

@@ -14,7 +14,7 @@ use Rattle.mst_path.specs.Making.{Grown}
 use Rattle.mst_path.specs.Writing.{IsRootOf}
 use Rattle.mst_path.specs.Frames.{Framed, in_frame, tree_round, frame_rows}
 use Rattle.mst_path.specs.Joining.{height_at}
-use Rattle.mst_path.specs.Removing.{SearchTree, in_tree, without, without_rows, StepsDown}
+use Rattle.mst_path.specs.RemovePath.{SearchTree, in_tree, without, without_rows, StepsDown}
 use Rattle.mst_path.proofs.lemmas.steps.Framing.{framed_after, grown_round}
 use Rattle.mst_path.proofs.lemmas.trees.Meetings.{height_there}
 use Rattle.mst_path.proofs.lemmas.trees.Joined.{placed_none, unchanged}

@@ -21,7 +21,7 @@ use Rattle.mst_change.specs.Gap.{CellsBelow, FallsFirst, IsGap, IsAt}
 use Rattle.mst_path.specs.Making.{cells_of, entries_to}
 use Rattle.mst_path.specs.Cutting.{EntriesLie, gap_before, IsCut, CutGap, CutHeld}
 use Rattle.mst_path.specs.Joining.{height_at}
-use Rattle.mst_path.specs.Removing.{SearchTree}
+use Rattle.mst_path.specs.RemovePath.{SearchTree}
 use Rattle.mst_path.specs.Writing.{PlacedEntry, link_from}
 use Rattle.mst_change.proofs.Split.Pairs.{behind_above, before_below, before_same}
 use Rattle.mst_change.proofs.Split.Trees.{rest_rises}

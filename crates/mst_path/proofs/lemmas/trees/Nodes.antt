@@ -11,7 +11,7 @@ use Rattle.mst_node.specs.Tree.{Tree, empty, node, Entries, last, entry, pairs, 
 use Rattle.mst_node.specs.Shape.{TreeEntry, with_entries, tree_of as tree_of_node, tree_of_child, tree_entry}
 use Rattle.mst_node.specs.declared.node.Node.{Node, out-Node}
 use Rattle.mst_node.specs.declared.node.Entry.{Entry, out-Entry}
-use Rattle.mst_node.proofs.Shapes.{tree_of_out, tree_entry_out}
+use Rattle.mst_node.proofs.NodeShapes.{tree_of_out, tree_entry_out}
 use Rattle.mst_arena.specs.Standing.{Placed, none, head, Chain, end, cell, tree_of, entries_of, used, chain_used}
 use Rattle.mst_path.specs.Planting.{node_count, entries_node_count, rows_needed}
 

@@ -9,7 +9,7 @@ use Rattle.mst_key.specs.Map.{Pair, IsMap, IsAscending, map_get}
 use Rattle.mst_node.specs.Tree.{Tree, IsMst, pairs, tree}
 use Rattle.mst_node.specs.Text.{digest}
 use Rattle.mst_node.specs.Cost.{cost}
-use Rattle.mst_node.proofs.Unique.{pairs_tree, tree_mst}
+use Rattle.mst_node.proofs.UniqueTree.{pairs_tree, tree_mst}
 use Rattle.mst_arena.specs.Content.{Content}
 use Rattle.mst_arena.specs.Lives.{State, free_count}
 use Rattle.mst_arena.specs.Lists.{In, times, bit}
@@ -20,7 +20,7 @@ use Rattle.mst_arena.proofs.Stands.{one_placed}
 use Rattle.mst_path.specs.Moves.{IsOld, IsKilled}
 use Rattle.mst_path.specs.Made.{IsMade}
 use Rattle.mst_path.specs.Making.{Grown}
-use Rattle.mst_path.specs.Removing.{SearchTree}
+use Rattle.mst_path.specs.RemovePath.{SearchTree}
 use Rattle.mst_path.specs.Changing.{AreOld, MapStands, IsTaken, AreTaken, AreKilled, OthersLive, OnlyFreeWritten, SameVersions}
 use Rattle.mst_path.specs.Reached.{Changes}
 use Rattle.mst_path.proofs.lemmas.rows.Copies.{kept_at, old_alive}

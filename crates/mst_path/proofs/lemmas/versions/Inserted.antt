@@ -9,7 +9,7 @@ use Rattle.mst_key.proofs.KeyOrder.{same_from_test, test_of_same}
 use Rattle.mst_key.proofs.MapLaws.{put-unchanged, IsMap-put}
 use Rattle.mst_node.specs.Tree.{Tree, tree}
 use Rattle.mst_node.specs.Cost.{same_bytes, cost}
-use Rattle.mst_node.proofs.Unique.{pairs_tree}
+use Rattle.mst_node.proofs.UniqueTree.{pairs_tree}
 use Rattle.mst_arena.specs.Content.{Content}
 use Rattle.mst_arena.specs.Lives.{State}
 use Rattle.mst_arena.specs.Lists.{times}
@@ -18,7 +18,7 @@ use Rattle.mst_arena.specs.Standing.{tree_of, used, Stands, numbers}
 use Rattle.mst_change.specs.Put.{put_at, tree_put}
 use Rattle.mst_change.specs.Cost.{put_rows}
 use Rattle.mst_path.specs.Making.{Grown}
-use Rattle.mst_path.specs.Putting.{RisingTree, in_rising, with_pair, pair_rows}
+use Rattle.mst_path.specs.PutPath.{RisingTree, in_rising, with_pair, pair_rows}
 use Rattle.mst_path.specs.Changing.{AreOld, MapStands}
 use Rattle.mst_path.proofs.lemmas.versions.Changes.{search_at, rises, AfterChange, Changed, after_change, unchanged_map, few_rows}
 use Rattle.mst_change.proofs.Cost.Put.{cost_put}

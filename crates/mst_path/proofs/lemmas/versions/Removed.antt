@@ -6,7 +6,7 @@ use Rattle.mst_key.specs.Map.{Pair, map_get, remove}
 use Rattle.mst_key.proofs.MapLaws.{remove-unchanged, IsMap-remove}
 use Rattle.mst_node.specs.Tree.{Tree, tree}
 use Rattle.mst_node.specs.Cost.{cost}
-use Rattle.mst_node.proofs.Unique.{pairs_tree}
+use Rattle.mst_node.proofs.UniqueTree.{pairs_tree}
 use Rattle.mst_arena.specs.Content.{Content}
 use Rattle.mst_arena.specs.Lives.{State}
 use Rattle.mst_arena.specs.Lists.{times}
@@ -15,7 +15,7 @@ use Rattle.mst_arena.specs.Standing.{tree_of, used, Stands, numbers}
 use Rattle.mst_change.specs.Remove.{tree_remove}
 use Rattle.mst_change.specs.Cost.{remove_rows}
 use Rattle.mst_path.specs.Making.{Grown}
-use Rattle.mst_path.specs.Removing.{SearchTree, in_tree, without, without_rows}
+use Rattle.mst_path.specs.RemovePath.{SearchTree, in_tree, without, without_rows}
 use Rattle.mst_path.specs.Changing.{AreOld, MapStands}
 use Rattle.mst_path.proofs.lemmas.versions.Changes.{search_at, AfterChange, Changed, after_change, unchanged_map, few_rows}
 use Rattle.mst_change.proofs.Cost.Remove.{cost_remove}

@@ -26,7 +26,7 @@ use Rattle.mst_path.proofs.lemmas.versions.Reached.{older, newest, version_after
 use Rattle.mst_path.proofs.lemmas.rows.FreeCounts.{count_swept, alone}
 use Rattle.mst_path.proofs.lemmas.trees.Nodes.{used_count}
 use Rattle.mst_path.specs.Planting.{node_count, rows_needed}
-use Rattle.mst_node.proofs.Unique.{pairs_tree}
+use Rattle.mst_node.proofs.UniqueTree.{pairs_tree}
 
 -- ---- one version
 

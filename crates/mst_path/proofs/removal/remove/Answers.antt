@@ -5,7 +5,7 @@ use Rattle.mst_arena.specs.Content.{Content}
 use Rattle.mst_arena.specs.Lives.{State, free_count}
 use Rattle.mst_arena.specs.Standing.{Stands, numbers}
 use Rattle.mst_path.specs.Making.{Grown}
-use Rattle.mst_path.specs.Removing.{SearchTree, in_tree, without, without_rows}
+use Rattle.mst_path.specs.RemovePath.{SearchTree, in_tree, without, without_rows}
 use Rattle.mst_path.specs.Changing.{AreOld}
 use Rattle.mst_path.proofs.lemmas.versions.Changes.{any_old, search_at, rises, says}
 use Rattle.mst_path.proofs.lemmas.versions.Removed.{few_new, cost_found, AfterRemove, after_found, after_none}

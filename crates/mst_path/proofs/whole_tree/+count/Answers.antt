@@ -4,7 +4,7 @@ use Rattle.mst_key.specs.declared.format.Format.{Format}
 use Rattle.mst_node.specs.Shape.{tree_of, tree_of_child, tree_entry}
 use Rattle.mst_node.specs.declared.node.Entry.{out-Entry}
 use Rattle.mst_node.specs.declared.node.Entry.TheViews.{the_lemmas}
-use Rattle.mst_node.proofs.Shapes.{child-fits, tail-fits}
+use Rattle.mst_node.proofs.NodeShapes.{child-fits, tail-fits}
 use Rattle.mst_path.specs.Planting.{rows_needed}
 use Rattle.mst_path.proofs.lemmas.trees.Nodes.{items, entries_needed, needed_take, needed_more, needed_ahead, take_all, node_needed, node_child, node_last, nodes_le}
 use Rattle.mst_path.proofs.whole_tree.+count.Given.{Over}

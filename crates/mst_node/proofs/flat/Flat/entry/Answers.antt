@@ -3,8 +3,8 @@ use Rattle.mst_node.specs.Text.{FlatEntry, FlatNode}
 use Rattle.mst_node.specs.Reading.{entry_at}
 use Rattle.mst_node.specs.Seen.{seen}
 use Rattle.mst_node.specs.Held.{HasSize}
-use Rattle.mst_node.proofs.Takes.{some_same}
-use Rattle.mst_node.proofs.Places.{seen-place, none-some, read-same}
+use Rattle.mst_node.proofs.ReadIsSpelled.{some_same}
+use Rattle.mst_node.proofs.EntryPlaces.{seen-place, none-some, read-same}
 use Rattle.mst_node.proofs.flat.Flat.entry.Goals as goal
 
 pub unreachable-requires : goal.unreachable-requires

@@ -4,8 +4,8 @@ use Rattle.mst_node.specs.Text.{FlatNode}
 use Rattle.mst_node.specs.Grammar.{KeysFit}
 use Rattle.mst_node.specs.Reading.{entries_at, body_or_empty}
 use Rattle.mst_node.specs.Seen.{seen}
-use Rattle.mst_node.proofs.Fits.{FitsFrom, fits-all, entries-step, entries-none, entries-first}
-use Rattle.mst_node.proofs.Places.{parts}
+use Rattle.mst_node.proofs.FittingKeys.{FitsFrom, fits-all, entries-step, entries-none, entries-first}
+use Rattle.mst_node.proofs.EntryPlaces.{parts}
 use Rattle.mst_node.proofs.flat.Flat.keys_fit.Goals as goal
 
 pub loop-init : goal.loop-init

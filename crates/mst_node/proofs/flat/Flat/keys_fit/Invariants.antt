@@ -3,7 +3,7 @@ use Rattle.std.specs.Prelude.{option_copied}
 use Rattle.mst_node.specs.Grammar.{KeysFit}
 use Rattle.mst_node.specs.Text.{FlatEntry}
 use Rattle.mst_node.specs.Reading.{entries_at}
-use Rattle.mst_node.proofs.Fits.{FitsFrom}
+use Rattle.mst_node.proofs.FittingKeys.{FitsFrom}
 use Rattle.mst_node.proofs.flat.Flat.keys_fit.Given as goal
 
 -- the entries to come are read from the rest, and all keys fit where theirs do from the last key on

@@ -1,6 +1,6 @@
 use Rattle.std.proofs.Common.{ap}
 use Rattle.mst_node.specs.Text.{FlatNode}
-use Rattle.mst_node.proofs.Places.{seen-count}
+use Rattle.mst_node.proofs.EntryPlaces.{seen-count}
 use Rattle.mst_node.proofs.flat.Flat.len.Goals as goal
 
 pub returns : goal.returns

@@ -5,8 +5,8 @@ use Rattle.mst_node.specs.Place.{LiesWithin}
 use Rattle.mst_node.specs.Text.{FlatEntry, FlatNode}
 use Rattle.mst_node.specs.Reading.{entries_at, body_or_empty}
 use Rattle.mst_node.specs.Seen.{seen}
-use Rattle.mst_node.proofs.Fits.{entries-step, entries-none, entries-first}
-use Rattle.mst_node.proofs.Places.{parts}
+use Rattle.mst_node.proofs.FittingKeys.{entries-step, entries-none, entries-first}
+use Rattle.mst_node.proofs.EntryPlaces.{parts}
 use Rattle.mst_node.proofs.flat.Flat.lies_within.Goals as goal
 
 -- all keys of the entries lie in the span

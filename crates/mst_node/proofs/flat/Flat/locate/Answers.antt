@@ -5,9 +5,9 @@ use Rattle.mst_node.specs.Place.{place_among, place_of}
 use Rattle.mst_node.specs.Text.{FlatEntry, FlatNode}
 use Rattle.mst_node.specs.Reading.{entries_at, body_or_empty}
 use Rattle.mst_node.specs.Seen.{seen}
-use Rattle.mst_node.proofs.Fits.{entries-first, entries-step, entries-none}
-use Rattle.mst_node.proofs.Located.{place_step}
-use Rattle.mst_node.proofs.Places.{parts}
+use Rattle.mst_node.proofs.FittingKeys.{entries-first, entries-step, entries-none}
+use Rattle.mst_node.proofs.KeyPlaces.{place_step}
+use Rattle.mst_node.proofs.EntryPlaces.{parts}
 use Rattle.mst_node.proofs.flat.Flat.locate.Goals as goal
 
 pub loop-init : goal.loop-init

@@ -2,8 +2,8 @@ use Rattle.std.proofs.Common.{Option, List, ℕ, [], sym, ap, ◌∙◌}
 use Rattle.std.specs.Prelude.{option_copied}
 use Rattle.mst_node.specs.Text.{FlatNode}
 use Rattle.mst_node.specs.Reading.{child_at, body_or_empty}
-use Rattle.mst_node.proofs.Takes.{some_same}
-use Rattle.mst_node.proofs.Places.{parts, parts-behind, none-some, read-same}
+use Rattle.mst_node.proofs.ReadIsSpelled.{some_same}
+use Rattle.mst_node.proofs.EntryPlaces.{parts, parts-behind, none-some, read-same}
 use Rattle.mst_node.proofs.flat.Flat.tail.Goals as goal
 
 pub unreachable-requires : goal.unreachable-requires

@@ -1,5 +1,5 @@
 use Rattle.std.proofs.Common.{arith}
-use Rattle.mst_node.proofs.Tops.{is_top-above, is_top-same, is_top-below}
+use Rattle.mst_node.proofs.TopNodes.{is_top-above, is_top-same, is_top-below}
 use Rattle.mst_node.proofs.root.Top.with.Goals as goal
 
 pub returns-then-layer-self : goal.returns-then-layer-self

@@ -1,6 +1,6 @@
 use Rattle.std.proofs.Common.{◌≡◌, List, ℕ, [], ◌++◌, rules, ap, sym, subst, ◌∙◌, append_assoc}
 use Rattle.mst_node.specs.Text.{child_text, counted, held_of, held_text}
-use Rattle.mst_node.proofs.Buffers.{bytes_taken}
+use Rattle.mst_node.proofs.TextBuffers.{bytes_taken}
 use Rattle.mst_node.proofs.sinks.TextSink.entry.Goals as goal
 
 pub returns-in-Some : goal.returns-in-Some

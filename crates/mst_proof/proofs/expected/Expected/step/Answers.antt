@@ -4,7 +4,7 @@ use Rattle.std.specs.Str.{bytes_eq}
 use Rattle.std.specs.declared.result.Result.TheVariants.{Ok}
 use Rattle.mst_node.specs.Found.{IsFound}
 use Rattle.mst_node.specs.Text.{FlatNode, digest_of}
-use Rattle.mst_node.proofs.Takes.{bytes-at}
+use Rattle.mst_node.proofs.ReadIsSpelled.{bytes-at}
 use Rattle.mst_proof.specs.Verdict.{node_in, is_under, step_of}
 use Rattle.mst_proof.proofs.Decisions.{node_in-none, node_in-read, keys_inside}
 use Rattle.mst_proof.proofs.Steps.{step-no_node, step-other_digest, step-not_below, step-outside, step-passed}

@@ -1,5 +1,6 @@
 use Rattle.std.proofs.Common.{ℕ, ◌*◌, rules, arith, ap}
 use Rattle.atomic_table.specs.Seated.{TableId}
+use Rattle.mst_pin.specs.WordParts.{masks}
 use Rattle.mst_words.specs.Stored.{desk_state}
 use Rattle.mst_words.proofs.Formats.{publishes_by}
 use Rattle.mst_words.proofs.board.Board.publish.Goals as goal
@@ -8,7 +9,7 @@ pub swap-requires : goal.swap-requires
 swap-requires g c = let r = c.requires.ready in (
   search rules,
   (let v = ap (λ (z : TableId). z.words) c.self.view_is in let e = c.requires.wide in omega arith),
-  rw c.requires.named.0 (rw c.requires.named.1 (publishes_by _ _ _ _ _ (c.from.result * 4294967296) c.args.into c.args.event.now (desk_state c.args.desk.now) r.0 c.args.seat.now.me r.1 (ap (λ (z : ℕ). z * 4294967296) c.from.ensures))),
+  rw c.requires.named.0 (rw c.requires.named.1 (publishes_by _ _ _ _ _ (c.from.result * masks) c.args.into c.args.event.now (desk_state c.args.desk.now) r.0 c.args.seat.now.me r.1 (ap (λ (z : ℕ). z * masks) c.from.ensures))),
 )
 
 pub returns-clause-same : goal.returns-clause-same

@@ -1,5 +1,0 @@
-use Rattle.mst_path.specs.Joining.{height_at}
-use Rattle.mst_path.proofs.removing.+remove_at.Given as goal
-
-abbrev pub decreases-remove_at : goal.decreases-remove_at
-decreases-remove_at g l = height_at (g.R.Rows.content l.rows.now) l.link

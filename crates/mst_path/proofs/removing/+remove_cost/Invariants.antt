@@ -1,5 +1,0 @@
-use Rattle.mst_path.specs.Joining.{height_at}
-use Rattle.mst_path.proofs.removing.+remove_cost.Given as goal
-
-abbrev pub decreases-remove_cost : goal.decreases-remove_cost
-decreases-remove_cost g l = height_at (g.R.Rows.content l.rows.now) l.link

@@ -1,0 +1,68 @@
+-- What is said of a proof that is spelt in hexadecimal digits.
+use Rattle.std.specs.Prelude.{ℕ, ◌-◌, ◌==◌, nat_lt, Bool, true, false, if◌then◌else◌, List, [], ◌∷◌, ◌++◌, length, take, slice_index, codes, Option, Some, None, Result, Ok, Err}
+use Rattle.hex.specs.Hex.{decode_of}
+use Rattle.hex.specs.declared.error.FromHexError.{FromHexError}
+use Rattle.mst_key.specs.Digits.{digits_of}
+use Rattle.mst_key.specs.declared.format.Format.{Format}
+use Rattle.mst_proof.specs.declared.fault.ProofFault.{ProofFault}
+use Rattle.mst_proof.specs.declared.fault.ProofFault.TheVariants.{Version, CutShort, LeftOver, NoNode, OtherDigest, LayerNotBelow, KeyOutside, Unfinished, TextBehind, OtherValue}
+use Rattle.mst_proof.specs.Verdict.{verdict}
+use Rattle.mst_report.specs.declared.report.Report.{Report}
+use Rattle.mst_report.specs.declared.report.Report.TheVariants.{Present, Absent, Refused, NotHex, Long}
+
+-- how many bytes a text has at most, its newline included
+abbrev pub limit : ℕ
+limit = 33554432
+
+-- a text without the newline at its end, if there is one
+abbrev pub without_newline : List ℕ → List ℕ
+without_newline text =
+    if slice_index text (length text - 1) == 10 then take (length text - 1) text else text
+
+abbrev pub said : Result (Option (List ℕ)) ProofFault → Report
+said (Ok (Some v)) = Present v
+said (Ok None) = Absent
+said (Err fault) = Refused fault
+
+abbrev pub said_of : Format → List ℕ → List ℕ → Result (List ℕ) FromHexError → Report
+said_of format root k (Ok proof) = said (verdict format root k proof)
+said_of format root k (Err e) = NotHex
+
+-- what is said of the text of a proof in a format, for a root digest and a key: its length is tested first, then
+-- its digits, then the proof that they spell
+abbrev pub report_of : Format → List ℕ → List ℕ → List ℕ → Report
+report_of format root k text =
+    if nat_lt limit (length text) then Long else said_of format root k (decode_of (without_newline text))
+
+-- ---- as it is written
+
+abbrev pub fault_words : ProofFault → List ℕ
+fault_words Version = codes "P1"
+fault_words CutShort = codes "P2"
+fault_words LeftOver = codes "P3"
+fault_words NoNode = codes "P4"
+fault_words OtherDigest = codes "P5"
+fault_words LayerNotBelow = codes "P6"
+fault_words KeyOutside = codes "P7"
+fault_words Unfinished = codes "P8"
+fault_words TextBehind = codes "P9"
+fault_words OtherValue = codes "P10"
+
+abbrev pub words_of : Report → List ℕ
+words_of (Present v) = codes "present " ++ digits_of v
+words_of Absent = codes "absent"
+words_of (Refused fault) = fault_words fault
+words_of NotHex = codes "fault hex"
+words_of Long = codes "fault long"
+
+-- the words with the newline that ends their line
+unfoldable pub line_of : Report → List ℕ
+line_of report = words_of report ++ 10 ∷ []
+
+-- whether the text is no proof of an answer
+abbrev pub is_refusal : Report → Bool
+is_refusal (Present v) = false
+is_refusal Absent = false
+is_refusal (Refused fault) = true
+is_refusal NotHex = true
+is_refusal Long = true
