@@ -62,5 +62,5 @@ pub use order::{ascending, is_map};
 pub use place::{Place, Span};
 pub use releasing::release;
 pub use root::{root_of, root_of_in};
-pub use sinks::{TextBuffer, TextSink, format_byte};
+pub use sinks::{TextBuffer, TextSink, format_byte, take_entry};
 pub use texts::{text, text_in};

@@ -62,8 +62,9 @@ pub trait TextSink: Drop {
     }
 }
 
-/// Hands over an entry in pieces.
-fn take_entry<S: TextSink>(
+/// Hands over an entry in pieces. A text in memory takes it so at less cost than by
+/// [`TextSink::entry`].
+pub fn take_entry<S: TextSink>(
     sink: &mut S,
     format: Format,
     child: Option<[u8; 32]>,

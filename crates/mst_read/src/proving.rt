@@ -16,7 +16,7 @@ use crate::descent::head_at;
 use crate::lookup::{Place, get_below, seek};
 use mst_arena::{HeadLinks, Root, Rows, Sought};
 use mst_key::{Format, Key, Memory, Value};
-use mst_node::{TextSink, format_byte};
+use mst_node::{TextSink, format_byte, take_entry};
 use std::alloc::Allocator;
 
 /// How many bytes a proof asks room for at first.
@@ -61,7 +61,7 @@ fn write_node<R: Rows, A: Allocator>(
         let entry = rows.entry(row);
         let value = rows.value(row);
         let child = digest_at(rows, entry.child);
-        out.entry(format, child, entry.key.bytes(), value.bytes());
+        take_entry(out, format, child, entry.key.bytes(), value.bytes());
         link = entry.next;
     }
     out.child(digest_at(rows, head.tail));

@@ -44,7 +44,7 @@ loop-preserved g c =
       same = c.digest_at-child.ensures.same ∙ c.value-value.ensures.same ∙ c.entry-entry.ensures.same ∙ c.loop.invariant.same;
       written = (
         _,
-        c.entry.ensures.entry m c.loop.invariant.written.1,
+        c.take_entry.ensures.entry m c.loop.invariant.written.1,
         omega (arith, entry_length c.args.format m (child_text c.digest_at-child.result) c.bytes.result.now c.bytes-in-loop.result.now (omega (arith, c.bytes-in-loop.ensures)), c.digest_at-child.ensures.short, c.loop.invariant.written.2, c.bytes.ensures, c.bytes-in-loop.ensures),
         λ chain behind.
             let here = at_cell (c.loop.invariant.written.3 chain behind) c.loop-test.true (ap g.R.Rows.content c.loop.invariant.same) c.entry-entry.ensures.value in

@@ -1,0 +1,50 @@
+use Rattle.std.proofs.Common.{rules}
+use Rattle.mst_words.proofs.seat.PassSeat.order.Goals as goal
+
+pub bounds-words-0 : goal.bounds-words-0
+bounds-words-0 g c = search rules
+
+pub word-stored-requires-clause-readable : goal.word-stored-requires-clause-readable
+word-stored-requires-clause-readable g c = search rules
+
+pub word-stored-requires-clause-there : goal.word-stored-requires-clause-there
+word-stored-requires-clause-there g c = search rules
+
+pub order_behind-requires : goal.order_behind-requires
+order_behind-requires g c = search rules
+
+pub returns-then-first-stored-clause-order : goal.returns-then-first-stored-clause-order
+returns-then-first-stored-clause-order g c = search rules
+
+pub returns-then-first-stored-clause-limits : goal.returns-then-first-stored-clause-limits
+returns-then-first-stored-clause-limits g c = search rules
+
+pub returns-then-first-stored-clause-range : goal.returns-then-first-stored-clause-range
+returns-then-first-stored-clause-range g c = search rules
+
+pub returns-then-first-stored-clause-same : goal.returns-then-first-stored-clause-same
+returns-then-first-stored-clause-same g c = search rules
+
+pub returns-then-stored-first-clause-order : goal.returns-then-stored-first-clause-order
+returns-then-stored-first-clause-order g c = search rules
+
+pub returns-then-stored-first-clause-limits : goal.returns-then-stored-first-clause-limits
+returns-then-stored-first-clause-limits g c = search rules
+
+pub returns-then-stored-first-clause-range : goal.returns-then-stored-first-clause-range
+returns-then-stored-first-clause-range g c = search rules
+
+pub returns-then-stored-first-clause-same : goal.returns-then-stored-first-clause-same
+returns-then-stored-first-clause-same g c = search rules
+
+pub returns-else-stored-first-clause-order : goal.returns-else-stored-first-clause-order
+returns-else-stored-first-clause-order g c = search rules
+
+pub returns-else-stored-first-clause-limits : goal.returns-else-stored-first-clause-limits
+returns-else-stored-first-clause-limits g c = search rules
+
+pub returns-else-stored-first-clause-range : goal.returns-else-stored-first-clause-range
+returns-else-stored-first-clause-range g c = search rules
+
+pub returns-else-stored-first-clause-same : goal.returns-else-stored-first-clause-same
+returns-else-stored-first-clause-same g c = search rules
