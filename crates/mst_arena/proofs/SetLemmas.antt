@@ -16,7 +16,8 @@ some_bit words row is none =
     let e : bit words row ≡ 0 = ap (λ (w : ℕ). bit_at w (row % 64)) none ∙ bit_at-zero (row % 64) in
     omega arith
 
-pub sums_put : (old new sums sums' : List ℕ) (row : ℕ) → Sums old sums → BitWritten old new row 1 → BitWritten sums sums' (row / 64) 1 → Sums new sums'
+pub sums_put : (old new sums sums' : List ℕ) (row : ℕ) → Sums old sums → BitWritten old new row 1
+    → BitWritten sums sums' (row / 64) 1 → Sums new sums'
 sums_put old new sums sums' row s w u = record {
   room = omega (arith, s.room, w.len, u.len);
   no = λ i none. no i none (cases_eq i (row / 64));
@@ -34,7 +35,8 @@ sums_put old new sums sums' row s w u = record {
     yes i is (inr e) = λ z. s.yes i (sym (u.others i e) ∙ is) (sym (w.elsewhere i e) ∙ z)
 
 -- a bit was cleared, and its word is now 0
-pub sums_empty : (old new sums sums' : List ℕ) (row : ℕ) → Sums old sums → BitWritten old new row 0 → slice_index new (row / 64) ≡ 0 → BitWritten sums sums' (row / 64) 0 → Sums new sums'
+pub sums_empty : (old new sums sums' : List ℕ) (row : ℕ) → Sums old sums → BitWritten old new row 0
+    → slice_index new (row / 64) ≡ 0 → BitWritten sums sums' (row / 64) 0 → Sums new sums'
 sums_empty old new sums sums' row s w z u = record {
   room = omega (arith, s.room, w.len, u.len);
   no = λ i none. no i none (cases_eq i (row / 64));
@@ -52,7 +54,8 @@ sums_empty old new sums sums' row s w z u = record {
     yes i is (inr e) = λ q. s.yes i (sym (u.others i e) ∙ is) (sym (w.elsewhere i e) ∙ q)
 
 -- a bit was cleared, and its word still has another
-pub sums_left : (old new sums : List ℕ) (row : ℕ) → Sums old sums → BitWritten old new row 0 → bit old row ≡ 1 → slice_index new (row / 64) ≢ 0 → Sums new sums
+pub sums_left : (old new sums : List ℕ) (row : ℕ) → Sums old sums → BitWritten old new row 0
+    → bit old row ≡ 1 → slice_index new (row / 64) ≢ 0 → Sums new sums
 sums_left old new sums row s w was left = record {
   room = omega (arith, s.room, w.len);
   no = λ i none. no i none (cases_eq i (row / 64));
@@ -73,40 +76,70 @@ module _ (rows count at : ℕ) (words sums : List ℕ) (set : IsSet rows count a
   pub count_few : count ≤ rows
   count_few = omega (arith, set.counted, count_le (flags rows words), length-flags rows words)
 
-  pub put_flags : (new : List ℕ) (row : ℕ) → BitWritten words new row 1 → flags rows new ≡ slice_set (flags rows words) row true
-  put_flags new row w = flags_set rows words new row true (let e = w.here in grind (arith, nat_tests)) w.others
+  pub put_flags : (new : List ℕ) (row : ℕ) → BitWritten words new row 1 → flags rows new ≡ slice_set
+      (flags rows words) row true
+  put_flags new row w =
+      flags_set rows words new row true (let e = w.here in grind (arith, nat_tests)) w.others
 
-  pub take_flags : (new : List ℕ) (row : ℕ) → BitWritten words new row 0 → flags rows new ≡ slice_set (flags rows words) row false
-  take_flags new row w = flags_set rows words new row false (let e = w.here in grind (arith, nat_tests)) w.others
+  pub take_flags : (new : List ℕ) (row : ℕ) → BitWritten words new row 0 → flags rows new
+      ≡ slice_set (flags rows words) row false
+  take_flags new row w =
+      flags_set rows words new row false (let e = w.here in grind (arith, nat_tests)) w.others
 
   pub put_room : (row : ℕ) → slice_get (flags rows words) row ≡ Some false → count + 1 ≤ 65535
-  put_room row out = omega (arith, set.counted, count_more (flags rows words) row out, count_le (slice_set (flags rows words) row true), length_same, length-flags rows words, set.few)
+  put_room row out =
+      omega (
+        arith,
+        set.counted,
+        count_more (flags rows words) row out,
+        count_le
+            (slice_set (flags rows words) row true),
+        length_same,
+        length-flags rows words,
+        set.few,
+      )
     where
       length_same : length (slice_set (flags rows words) row true) ≡ length (flags rows words)
       length_same = length-set (flags rows words) row true
 
-  pub set_put : (new sums' : List ℕ) (row : ℕ) → slice_get (flags rows words) row ≡ Some false → BitWritten words new row 1 → Sums new sums' → length sums' ≡ length sums → IsSet rows (count + 1) at new sums'
+  pub set_put : (new sums' : List ℕ) (row : ℕ) → slice_get (flags rows words) row ≡ Some false
+      → BitWritten words new row 1 → Sums new sums' → length sums' ≡ length sums
+      → IsSet rows (count + 1) at new sums'
   set_put new sums' row out w s few = record {
     few = set.few;
     room = omega (arith, set.room, w.len);
     few_words = omega (arith, set.few_words, w.len);
     few_sums = omega (arith, set.few_sums, few);
     cursor = omega (arith, set.cursor, w.len);
-    beyond = λ r far. let apart : r ≢ row = (λ e. absurd (omega (arith, flag_within rows words row false out))) in w.others r apart ∙ set.beyond r far;
+    beyond = λ r far. let apart : r ≢ row =
+        (λ e. absurd (omega (arith, flag_within rows words row false out))) in w.others r apart
+        ∙ set.beyond r far;
     sums = s;
-    counted = ap (λ (n : ℕ). n + 1) set.counted ∙ sym (count_more (flags rows words) row out) ∙ ap count_true (sym (put_flags new row w));
+    counted = ap (λ (n : ℕ). n + 1) set.counted ∙ sym (count_more (flags rows words) row out)
+        ∙ ap count_true (sym (put_flags new row w));
   }
 
-  pub set_take : (new sums' : List ℕ) (row at' : ℕ) → slice_get (flags rows words) row ≡ Some true → BitWritten words new row 0 → Sums new sums' → length sums' ≡ length sums → at' < length words → IsSet rows (count - 1) at' new sums'
+  pub set_take : (new sums' : List ℕ) (row at' : ℕ) → slice_get (flags rows words) row ≡ Some true
+      → BitWritten words new row 0 → Sums new sums' → length sums' ≡ length sums
+      → at' < length words → IsSet rows (count - 1) at' new sums'
   set_take new sums' row at' has w s few lt = record {
     few = set.few;
     room = omega (arith, set.room, w.len);
     few_words = omega (arith, set.few_words, w.len);
     few_sums = omega (arith, set.few_sums, few);
     cursor = omega (arith, w.len);
-    beyond = λ r far. let apart : r ≢ row = (λ e. absurd (omega (arith, flag_within rows words row true has))) in w.others r apart ∙ set.beyond r far;
+    beyond = λ r far. let apart : r ≢ row =
+        (λ e. absurd (omega (arith, flag_within rows words row true has))) in w.others r apart
+        ∙ set.beyond r far;
     sums = s;
-    counted = omega (arith, set.counted, count_drop (flags rows words) row has, ap count_true (take_flags new row w));
+    counted =
+        omega (
+          arith,
+          set.counted,
+          count_drop (flags rows words) row has,
+          ap count_true
+              (take_flags new row w),
+        );
   }
 
   pub take_some : (row : ℕ) → slice_get (flags rows words) row ≡ Some true → 0 < count
@@ -121,31 +154,39 @@ module _ (rows count at : ℕ) (words sums : List ℕ) (set : IsSet rows count a
       go (inr far) = absurd (omega (arith, set.beyond row far))
 
   pub set_bit_flag : (row : ℕ) → bit words row ≡ 1 → slice_get (flags rows words) row ≡ Some true
-  set_bit_flag row is = flag_at rows words row (bit_there row is) ∙ ap (λ (x : ℕ). Some (eqb x 1)) is
+  set_bit_flag row is = flag_at rows words row (bit_there row is) ∙ ap (λ (x : ℕ). Some (eqb x 1))
+      is
 
   -- where all words are 0, no row is in the set
   pub set_none : ((w : ℕ) → slice_index words w ≡ 0) → count_true (flags rows words) ≡ 0
-  set_none none = count_none (flags rows words) (λ r at. some_bit words r (bit_of_flag rows words r at) (none (r / 64)))
+  set_none none =
+      count_none (flags rows words)
+      (λ r at. some_bit words r (bit_of_flag rows words r at) (none (r / 64)))
 
 -- the items that are written back to a vector
-pub written : {X : Type 0} (n : ℕ) (new old : List X) → length new ≡ n → take n (new ++ drop (length new) old) ≡ new
-written n new old e = ap (λ (k : ℕ). take k (new ++ drop (length new) old)) (sym e) ∙ take-append_seam new (drop (length new) old)
+pub written : {X : Type 0} (n : ℕ) (new old : List X) → length new ≡ n
+    → take n (new ++ drop (length new) old) ≡ new
+written n new old e = ap (λ (k : ℕ). take k (new ++ drop (length new) old)) (sym e)
+    ∙ take-append_seam new (drop (length new) old)
 
 -- ---- places of a list, after a write
 
-pub get_set_same : {X : Type 0} (xs : List X) (i : ℕ) (x y : X) → slice_get xs i ≡ Some x → slice_get (slice_set xs i y) i ≡ Some y
+pub get_set_same : {X : Type 0} (xs : List X) (i : ℕ) (x y : X) → slice_get xs i ≡ Some x
+    → slice_get (slice_set xs i y) i ≡ Some y
 get_set_same [] i x y at = cc
 get_set_same (z ∷ zs) zero x y at = refl
 get_set_same (z ∷ zs) (suc i) x y at = get_set_same zs i x y at
 
-pub get_set_other : {X : Type 0} (xs : List X) (i j : ℕ) (y : X) → j ≢ i → slice_get (slice_set xs i y) j ≡ slice_get xs j
+pub get_set_other : {X : Type 0} (xs : List X) (i j : ℕ) (y : X) → j ≢ i
+    → slice_get (slice_set xs i y) j ≡ slice_get xs j
 get_set_other [] i j y apart = refl
 get_set_other (z ∷ zs) zero zero y apart = absurd (apart refl)
 get_set_other (z ∷ zs) zero (suc j) y apart = refl
 get_set_other (z ∷ zs) (suc i) zero y apart = refl
 get_set_other (z ∷ zs) (suc i) (suc j) y apart = get_set_other zs i j y (λ e. apart (ap suc e))
 
-pub all_true : (bs : List Bool) (n : ℕ) → length bs ≡ n → ((k : ℕ) → k < n → slice_get bs k ≡ Some true) → bs ≡ replicate n true
+pub all_true : (bs : List Bool) (n : ℕ) → length bs ≡ n
+    → ((k : ℕ) → k < n → slice_get bs k ≡ Some true) → bs ≡ replicate n true
 all_true [] zero len all = refl
 all_true [] (suc n) len all = absurd (omega arith)
 all_true (b ∷ bs) zero len all = absurd (omega arith)
@@ -169,9 +210,11 @@ pub bit_zeros : (n i : ℕ) → bit (replicate n 0) i ≡ 0
 bit_zeros n i = ap (λ (w : ℕ). bit_at w (i % 64)) (index_zeros n (i / 64)) ∙ bit_at-zero (i % 64)
 
 pub no_flag : (rows n r : ℕ) → r < rows → slice_get (flags rows (replicate n 0)) r ≡ Some false
-no_flag rows n r lt = flag_at rows (replicate n 0) r lt ∙ ap (λ (x : ℕ). Some (eqb x 1)) (bit_zeros n r)
+no_flag rows n r lt = flag_at rows (replicate n 0) r lt ∙ ap (λ (x : ℕ). Some (eqb x 1))
+    (bit_zeros n r)
 
-pub empty_set : (rows n m : ℕ) → rows ≤ 65535 → rows ≤ 64 * n → n ≤ 64 * m → 0 < n → n ≤ 65535 → m ≤ 65535 → IsSet rows 0 0 (replicate n 0) (replicate m 0)
+pub empty_set : (rows n m : ℕ) → rows ≤ 65535 → rows ≤ 64 * n → n ≤ 64 * m → 0 < n → n ≤ 65535
+    → m ≤ 65535 → IsSet rows 0 0 (replicate n 0) (replicate m 0)
 empty_set rows n m few room sums some few_n few_m = record {
   few = few;
   room = omega (arith, length_zeros n);
@@ -185,6 +228,7 @@ empty_set rows n m few room sums some few_n few_m = record {
     yes = λ w is. absurd (omega (arith, bit_zeros m w));
   };
   counted = sym (count_none (flags rows (replicate n 0)) (λ r at.
-      let off : Some false ≡ Some true = sym (no_flag rows n r (flag_within rows (replicate n 0) r true at)) ∙ at in
+      let off : Some false ≡ Some true =
+      sym (no_flag rows n r (flag_within rows (replicate n 0) r true at)) ∙ at in
       cc));
 }

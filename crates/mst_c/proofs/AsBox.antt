@@ -12,7 +12,20 @@ use Rattle.mst_c.specs.contracts.parts.Parts as Parts
 use Rattle.mst_c.specs.contracts.hand.Hand as Hand
 
 abbrev pub E : Bx
-E = record { row = Held.the_row; laws = held.the_row_laws; al = record { row = Heap.the_row; laws = heap.the_row_laws; g = ghosts; d = dict; drops = impl [] tnil dnil } }
+E =
+    record {
+      row = Held.the_row;
+      laws = held.the_row_laws;
+      al =
+          record {
+            row = Heap.the_row;
+            laws = heap.the_row_laws;
+            g = ghosts;
+            d = dict;
+            drops =
+                impl [] tnil dnil;
+          };
+    }
 
 abbrev pub FromParts : Slot 0
 FromParts = plain (λ _. Parts.the_row Held.the_row Heap.the_row ghosts)

@@ -17,11 +17,15 @@ found t (u ∷ ts) has = elim (contains-cases u ts t has) [
   | inr later ↦ ap (λ (b : Bool). same_tree t u || b) (found t ts later) ∙ or-true (same_tree t u)
 ]
 
-none_new : (whole ts : List Tree) → ((t : Tree) → Contains ts t → Contains whole t) → weigh (λ t. not (list_any (same_tree t) whole)) ts ≡ 0
+none_new : (whole ts : List Tree) → ((t : Tree) → Contains ts t → Contains whole t)
+    → weigh (λ t. not (list_any (same_tree t) whole)) ts ≡ 0
 none_new whole [] inside = refl
 none_new whole (t ∷ ts) inside =
-    let old : cond (not (list_any (same_tree t) whole)) (top_entries t + 1) 0 ≡ 0 = ap (λ (b : Bool). cond (not b) (top_entries t + 1) 0) (found t whole (inside t (contains-first t ts t refl))) in
+    let old : cond (not (list_any (same_tree t) whole)) (top_entries t + 1) 0 ≡ 0 =
+    ap (λ (b : Bool). cond (not b) (top_entries t + 1) 0)
+    (found t whole (inside t (contains-first t ts t refl))) in
     omega (arith, old, none_new whole ts (λ u has. inside u (contains-later t ts u has)))
 
 pub stays : (t : Tree) → new_rows t t ≡ 0
-stays t = weigh_is (λ u. not (list_any (same_tree u) (subtrees t))) (subtrees t) ∙ none_new (subtrees t) (subtrees t) (λ u has. has)
+stays t = weigh_is (λ u. not (list_any (same_tree u) (subtrees t))) (subtrees t)
+    ∙ none_new (subtrees t) (subtrees t) (λ u has. has)

@@ -13,31 +13,39 @@ pub cells_back : (es : Entries) → with_entries (cells es) (last (last_child es
 cells_back (last child) = refl
 cells_back (entry child key value rest) = ap (entry child key value) (cells_back rest)
 
-pub cells-with : (front : List TreeEntry) (es : Entries) → cells (with_entries front es) ≡ front ++ cells es
+pub cells-with : (front : List TreeEntry) (es : Entries) → cells (with_entries front es) ≡ front
+    ++ cells es
 cells-with [] es = refl
 cells-with (c ∷ front) es = ap (λ (l : List TreeEntry). c ∷ l) (cells-with front es)
 
-pub last_child-with : (front : List TreeEntry) (es : Entries) → last_child (with_entries front es) ≡ last_child es
+pub last_child-with : (front : List TreeEntry) (es : Entries) → last_child (with_entries front es)
+    ≡ last_child es
 last_child-with [] es = refl
 last_child-with (c ∷ front) es = last_child-with front es
 
-pub with_entries-append : (front more : List TreeEntry) (es : Entries) → with_entries (front ++ more) es ≡ with_entries front (with_entries more es)
+pub with_entries-append : (front more : List TreeEntry) (es : Entries)
+    → with_entries (front ++ more) es ≡ with_entries front (with_entries more es)
 with_entries-append [] more es = refl
-with_entries-append (c ∷ front) more es = ap (entry c.child c.key c.value) (with_entries-append front more es)
+with_entries-append (c ∷ front) more es =
+    ap (entry c.child c.key c.value) (with_entries-append front more es)
 
-pub with_entries_count : (front : List TreeEntry) (es : Entries) → entry_count (with_entries front es) ≡ length front + entry_count es
+pub with_entries_count : (front : List TreeEntry) (es : Entries)
+    → entry_count (with_entries front es) ≡ length front + entry_count es
 with_entries_count [] es = omega arith
 with_entries_count (c ∷ front) es = omega (arith, with_entries_count front es)
 
-pub node_of_empty : (es : Entries) (g : Format) (l : ℕ) → is_empty (node_of g l es) ≡ ((entry_count es == 0) && is_empty (first_child es))
+pub node_of_empty : (es : Entries) (g : Format) (l : ℕ) → is_empty (node_of g l es)
+    ≡ ((entry_count es == 0) && is_empty (first_child es))
 node_of_empty (last child) g l = refl
-node_of_empty (entry child key value rest) g l = let more : (entry_count rest + 1 == 0) ≡ false = grind (arith, nat_tests) in rw more
+node_of_empty (entry child key value rest) g l = let more : (entry_count rest + 1 == 0) ≡ false =
+    grind (arith, nat_tests) in rw more
 
 pub with_first_itself : (es : Entries) → with_first (first_child es) es ≡ es
 with_first_itself (last child) = refl
 with_first_itself (entry child key value rest) = refl
 
-pub with_first_twice : (es : Entries) (new other : Tree) → with_first new (with_first other es) ≡ with_first new es
+pub with_first_twice : (es : Entries) (new other : Tree) → with_first new (with_first other es)
+    ≡ with_first new es
 with_first_twice (last child) new other = refl
 with_first_twice (entry child key value rest) new other = refl
 
@@ -52,16 +60,20 @@ node_of_pairs (last child) g l = refl
 node_of_pairs (entry child key value rest) g l = refl
 
 -- entries in the place of a last child whose pairs they continue
-pub seam_pairs : (es fs : Entries) (more : List Pair) → entries_pairs fs ≡ pairs (last_child es) ++ more → entries_pairs (with_entries (cells es) fs) ≡ entries_pairs es ++ more
+pub seam_pairs : (es fs : Entries) (more : List Pair) → entries_pairs fs ≡ pairs (last_child es)
+    ++ more → entries_pairs (with_entries (cells es) fs) ≡ entries_pairs es ++ more
 seam_pairs (last child) fs more is = is
 seam_pairs (entry child key value rest) fs more is =
-    ap (λ (l : List Pair). pairs child ++ (key, value) ∷ l) (seam_pairs rest fs more is) ∙ sym (append_assoc (pairs child) ((key, value) ∷ entries_pairs rest) more)
+    ap (λ (l : List Pair). pairs child ++ (key, value) ∷ l) (seam_pairs rest fs more is)
+    ∙ sym (append_assoc (pairs child) ((key, value) ∷ entries_pairs rest) more)
 
 -- a first child that has more pairs in front
-pub with_first_pairs : (fs : Entries) (new : Tree) (front : List Pair) → pairs new ≡ front ++ pairs (first_child fs) → entries_pairs (with_first new fs) ≡ front ++ entries_pairs fs
+pub with_first_pairs : (fs : Entries) (new : Tree) (front : List Pair) → pairs new ≡ front ++ pairs
+    (first_child fs) → entries_pairs (with_first new fs) ≡ front ++ entries_pairs fs
 with_first_pairs (last child) new front is = is
 with_first_pairs (entry child key value rest) new front is =
-    ap (λ (l : List Pair). l ++ (key, value) ∷ entries_pairs rest) is ∙ append_assoc front (pairs child) ((key, value) ∷ entries_pairs rest)
+    ap (λ (l : List Pair). l ++ (key, value) ∷ entries_pairs rest) is ∙ append_assoc front
+    (pairs child) ((key, value) ∷ entries_pairs rest)
 
 -- ---- layers
 
@@ -69,37 +81,46 @@ pub under_weaker : (l j : ℕ) (t : Tree) → l ≤ j → IsUnder l t → IsUnde
 under_weaker l j empty h is = tt
 under_weaker l j (node g i es) h is = omega arith
 
-pub node_of_mst : (es : Entries) (format g : Format) (l : ℕ) → g ≡ format → IsMstEntries format l es → IsMst format (node_of g l es)
+pub node_of_mst : (es : Entries) (format g : Format) (l : ℕ) → g ≡ format → IsMstEntries format l es
+    → IsMst format (node_of g l es)
 node_of_mst (last child) format g l is mst = mst.1
 node_of_mst (entry child key value rest) format g l is mst = (is, omega arith, mst)
 
-pub node_of_under : (es : Entries) (format g : Format) (l j : ℕ) → l < j → IsMstEntries format l es → IsUnder j (node_of g l es)
+pub node_of_under : (es : Entries) (format g : Format) (l j : ℕ) → l < j → IsMstEntries format l es
+    → IsUnder j (node_of g l es)
 node_of_under (last child) format g l j h mst = under_weaker l j child (omega arith) mst.0
 node_of_under (entry child key value rest) format g l j h mst = h
 
-pub seam_mst : (es fs : Entries) (format : Format) (l : ℕ) → IsMstEntries format l es → IsMstEntries format l fs → IsMstEntries format l (with_entries (cells es) fs)
+pub seam_mst : (es fs : Entries) (format : Format) (l : ℕ) → IsMstEntries format l es
+    → IsMstEntries format l fs → IsMstEntries format l (with_entries (cells es) fs)
 seam_mst (last child) fs format l mst more = more
-seam_mst (entry child key value rest) fs format l mst more = (mst.0, mst.1, mst.2, seam_mst rest fs format l mst.3 more)
+seam_mst (entry child key value rest) fs format l mst more =
+    (mst.0, mst.1, mst.2, seam_mst rest fs format l mst.3 more)
 
-pub with_first_mst : (fs : Entries) (new : Tree) (format : Format) (l : ℕ) → IsUnder l new → IsMst format new → IsMstEntries format l fs → IsMstEntries format l (with_first new fs)
+pub with_first_mst : (fs : Entries) (new : Tree) (format : Format) (l : ℕ) → IsUnder l new
+    → IsMst format new → IsMstEntries format l fs → IsMstEntries format l (with_first new fs)
 with_first_mst (last child) new format l under is mst = (under, is)
 with_first_mst (entry child key value rest) new format l under is mst = (under, is, mst.2, mst.3)
 
 -- the first and the last child of a search tree's entries
-pub first_mst : (es : Entries) (format : Format) (l : ℕ) → IsMstEntries format l es → IsUnder l (first_child es) × IsMst format (first_child es)
+pub first_mst : (es : Entries) (format : Format) (l : ℕ) → IsMstEntries format l es
+    → IsUnder l (first_child es) × IsMst format (first_child es)
 first_mst (last child) format l mst = mst
 first_mst (entry child key value rest) format l mst = (mst.0, mst.1)
 
-pub last_mst : (es : Entries) (format : Format) (l : ℕ) → IsMstEntries format l es → IsUnder l (last_child es) × IsMst format (last_child es)
+pub last_mst : (es : Entries) (format : Format) (l : ℕ) → IsMstEntries format l es
+    → IsUnder l (last_child es) × IsMst format (last_child es)
 last_mst (last child) format l mst = mst
 last_mst (entry child key value rest) format l mst = last_mst rest format l mst.3
 
 -- ---- counts
 
-pub seam_count : (es fs : Entries) → entry_count (with_entries (cells es) fs) ≡ entry_count es + entry_count fs
+pub seam_count : (es fs : Entries) → entry_count (with_entries (cells es) fs) ≡ entry_count es
+    + entry_count fs
 seam_count (last child) fs = omega arith
 seam_count (entry child key value rest) fs = omega (arith, seam_count rest fs)
 
-pub with_first_count : (fs : Entries) (new : Tree) → entry_count (with_first new fs) ≡ entry_count fs
+pub with_first_count : (fs : Entries) (new : Tree) → entry_count (with_first new fs) ≡ entry_count
+    fs
 with_first_count (last child) new = refl
 with_first_count (entry child key value rest) new = refl

@@ -86,15 +86,19 @@ remove_top_new = refl
 join_level : join (leaf a x) (leaf c y) ≡ low
 join_level = refl
 
-join_higher : join behind (leaf (103 ∷ []) x) ≡ node One 1 (entry (leaf c y) d x (last (node One 0 (entry empty f y (entry empty (103 ∷ []) x (last empty))))))
+join_higher : join behind (leaf (103 ∷ []) x) ≡ node One 1
+    (entry (leaf c y) d x
+    (last (node One 0 (entry empty f y (entry empty (103 ∷ []) x (last empty))))))
 join_higher = refl
 
 -- ---- among the entries, and in a gap
 
-put_among_entries : put_at One 0 b y low ≡ node One 0 (entry empty a x (entry empty b y (entry empty c y (last empty))))
+put_among_entries : put_at One 0 b y low ≡ node One 0
+    (entry empty a x (entry empty b y (entry empty c y (last empty))))
 put_among_entries = refl
 
-put_value : put_at One 0 c x whole ≡ node One 1 (entry (node One 0 (entry empty a x (entry empty c x (last empty)))) d x (last (leaf f y)))
+put_value : put_at One 0 c x whole ≡ node One 1
+    (entry (node One 0 (entry empty a x (entry empty c x (last empty)))) d x (last (leaf f y)))
 put_value = refl
 
 put_value_rows : put_rows 0 c x whole ≡ 5
@@ -115,7 +119,8 @@ remove_only = refl
 
 -- ---- the same trees of two formats share nothing
 
-formats_differ : same_tree (node One 0 (entry empty a x (last empty))) (node Two 0 (entry empty a x (last empty))) ≡ false
+formats_differ : same_tree (node One 0 (entry empty a x (last empty)))
+    (node Two 0 (entry empty a x (last empty))) ≡ false
 formats_differ = refl
 
 old_leaf : is_subtree (leaf f y) whole ≡ true
@@ -130,39 +135,48 @@ abbrev three : List Pair
 three = (0x31 ∷ [], 0x78 ∷ []) ∷ (0x33 ∷ 0x39 ∷ [], 0x79 ∷ []) ∷ (0x61 ∷ [], 0x7a ∷ []) ∷ []
 
 put_of_higher_layer : cost One two three ≡ 6
-unfolding layer_in sha256 first_words schedule rounds compress hash_after digest_bytes tree tree_within entries_of
+unfolding layer_in sha256 first_words schedule rounds compress hash_after digest_bytes tree
+    tree_within entries_of
 put_of_higher_layer = refl
 
 put_of_higher_layer_counted : put_cost One (tree One two) (0x33 ∷ 0x39 ∷ []) (0x79 ∷ []) ≡ 6
-unfolding layer_in sha256 first_words schedule rounds compress hash_after digest_bytes tree tree_within entries_of
+unfolding layer_in sha256 first_words schedule rounds compress hash_after digest_bytes tree
+    tree_within entries_of
 put_of_higher_layer_counted = refl
 
 put_of_higher_layer_weight : weight One two (0x33 ∷ 0x39 ∷ []) ≡ 4
-unfolding layer_in sha256 first_words schedule rounds compress hash_after digest_bytes tree tree_within entries_of
+unfolding layer_in sha256 first_words schedule rounds compress hash_after digest_bytes tree
+    tree_within entries_of
 put_of_higher_layer_weight = refl
 
 -- the node of the greatest key is shared
 put_of_a_value : cost One three (put three (0x31 ∷ []) (0x79 ∷ [])) ≡ 4
-unfolding layer_in sha256 first_words schedule rounds compress hash_after digest_bytes tree tree_within entries_of
+unfolding layer_in sha256 first_words schedule rounds compress hash_after digest_bytes tree
+    tree_within entries_of
 put_of_a_value = refl
 
 put_of_a_value_counted : put_cost One (tree One three) (0x31 ∷ []) (0x79 ∷ []) ≡ 4
-unfolding layer_in sha256 first_words schedule rounds compress hash_after digest_bytes tree tree_within entries_of
+unfolding layer_in sha256 first_words schedule rounds compress hash_after digest_bytes tree
+    tree_within entries_of
 put_of_a_value_counted = refl
 
 -- what is there already costs nothing
 put_again : put_cost One (tree One three) (0x31 ∷ []) (0x78 ∷ []) ≡ 0
-unfolding layer_in sha256 first_words schedule rounds compress hash_after digest_bytes tree tree_within entries_of
+unfolding layer_in sha256 first_words schedule rounds compress hash_after digest_bytes tree
+    tree_within entries_of
 put_again = refl
 
 remove_of_higher_layer : cost One three (remove three (0x33 ∷ 0x39 ∷ [])) ≡ 3
-unfolding layer_in sha256 first_words schedule rounds compress hash_after digest_bytes tree tree_within entries_of
+unfolding layer_in sha256 first_words schedule rounds compress hash_after digest_bytes tree
+    tree_within entries_of
 remove_of_higher_layer = refl
 
 remove_of_higher_layer_counted : remove_cost (tree One three) (0x33 ∷ 0x39 ∷ []) ≡ 3
-unfolding layer_in sha256 first_words schedule rounds compress hash_after digest_bytes tree tree_within entries_of
+unfolding layer_in sha256 first_words schedule rounds compress hash_after digest_bytes tree
+    tree_within entries_of
 remove_of_higher_layer_counted = refl
 
 remove_of_none : remove_cost (tree One three) (0x32 ∷ []) ≡ 0
-unfolding layer_in sha256 first_words schedule rounds compress hash_after digest_bytes tree tree_within entries_of
+unfolding layer_in sha256 first_words schedule rounds compress hash_after digest_bytes tree
+    tree_within entries_of
 remove_of_none = refl

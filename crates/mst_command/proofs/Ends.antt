@@ -6,25 +6,32 @@ use Rattle.mst_command.specs.declared.task.Ending.{Ending}
 use Rattle.mst_command.specs.declared.task.Refusal.{Refusal}
 use Rattle.mst_command.specs.declared.task.Refusal.TheVariants.{Shape, BadRoot, BadKey}
 
-never : (P : Refusal → Type 0) (why : Refusal) (r : Result Ending Refusal) → IfErr r P → (P why → ⊥) → IsErrOf r why ↔ ⊥
+never : (P : Refusal → Type 0) (why : Refusal) (r : Result Ending Refusal) → IfErr r P → (P why → ⊥)
+    → IsErrOf r why ↔ ⊥
 never P why r h other = (λ e. other (IfErr-at_err P e h), λ b. absurd b)
 
-pub script_root : (r : Result Ending Refusal) → IfErr r (λ why. EndsScript why) → IsErrOf r BadRoot ↔ ⊥
+pub script_root : (r : Result Ending Refusal) → IfErr r (λ why. EndsScript why) → IsErrOf r BadRoot
+    ↔ ⊥
 script_root r h = never EndsScript BadRoot r h (λ b. b)
 
-pub script_key : (r : Result Ending Refusal) → IfErr r (λ why. EndsScript why) → IsErrOf r BadKey ↔ ⊥
+pub script_key : (r : Result Ending Refusal) → IfErr r (λ why. EndsScript why) → IsErrOf r BadKey
+    ↔ ⊥
 script_key r h = never EndsScript BadKey r h (λ b. b)
 
-pub verify_shape : (r : Result Ending Refusal) → IfErr r (λ why. EndsVerify why) → IsErrOf r Shape ↔ ⊥
+pub verify_shape : (r : Result Ending Refusal) → IfErr r (λ why. EndsVerify why) → IsErrOf r Shape
+    ↔ ⊥
 verify_shape r h = never EndsVerify Shape r h (λ b. b)
 
-pub replay_shape : (r : Result Ending Refusal) → IfErr r (λ why. EndsReplay why) → IsErrOf r Shape ↔ ⊥
+pub replay_shape : (r : Result Ending Refusal) → IfErr r (λ why. EndsReplay why) → IsErrOf r Shape
+    ↔ ⊥
 replay_shape r h = never EndsReplay Shape r h (λ b. b)
 
-pub replay_root : (r : Result Ending Refusal) → IfErr r (λ why. EndsReplay why) → IsErrOf r BadRoot ↔ ⊥
+pub replay_root : (r : Result Ending Refusal) → IfErr r (λ why. EndsReplay why) → IsErrOf r BadRoot
+    ↔ ⊥
 replay_root r h = never EndsReplay BadRoot r h (λ b. b)
 
-pub replay_key : (r : Result Ending Refusal) → IfErr r (λ why. EndsReplay why) → IsErrOf r BadKey ↔ ⊥
+pub replay_key : (r : Result Ending Refusal) → IfErr r (λ why. EndsReplay why) → IsErrOf r BadKey
+    ↔ ⊥
 replay_key r h = never EndsReplay BadKey r h (λ b. b)
 
 pub load_root : (r : Result Ending Refusal) → IfErr r (λ why. EndsLoad why) → IsErrOf r BadRoot ↔ ⊥

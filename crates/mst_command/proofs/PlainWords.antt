@@ -34,49 +34,64 @@ Sizes = List ℕ × List ℕ
 
 -- the words for the size behind `run`
 abbrev sizes_of : List Word → Sizes
-sizes_of words = (value_or (codes "1024") (codes "--rows") words, value_or (codes "4") (codes "--passes") words)
+sizes_of words =
+    (value_or (codes "1024") (codes "--rows") words, value_or (codes "4") (codes "--passes") words)
 
-pub parsed : {E : Type 0} (n : ℕ) (word : List ℕ) (r : Result ℕ E) → ParsesUnsigned 32 10 word r → word ≡ decimal n → n < 2 ^ 32 → result_ok r ≡ Some n
+pub parsed : {E : Type 0} (n : ℕ) (word : List ℕ) (r : Result ℕ E) → ParsesUnsigned 32 10 word r
+    → word ≡ decimal n → n < 2 ^ 32 → result_ok r ≡ Some n
 parsed n word r h is few = ap result_ok (parse-decimal 32 n word r few (omega (arith, few)) is h)
 
 pub ap_decimal : (m n : ℕ) → m ≡ n → decimal m ≡ decimal n
 ap_decimal m n e = ap decimal e
 
-pub found : (r p : Option ℕ) (rows passes : ℕ) (size : Size) → r ≡ Some rows → p ≡ Some passes → r ≡ Some size.rows → p ≡ Some size.passes → (let it : Size = record { rows = rows; passes = passes } in Some it) ≡ Some size
+pub found : (r p : Option ℕ) (rows passes : ℕ) (size : Size) → r ≡ Some rows → p ≡ Some passes
+    → r ≡ Some size.rows → p ≡ Some size.passes
+    → (let it : Size = record { rows = rows; passes = passes } in Some it) ≡ Some size
 found r p rows passes size a b c d =
     let e : rows ≡ size.rows = same_Some rows size.rows (sym a ∙ c) in
     let f : passes ≡ size.passes = same_Some passes size.passes (sym b ∙ d) in
     λ i. Some (record { rows = e i; passes = f i })
 
-pub run_some : (words : List Word) (named : List ℕ × List ℕ) (r : Option Size) → asks_run words ≡ Some named → IfSome r (λ size. IsSizeIn named size) → IfSome r (λ size. IsRunOf words size)
+pub run_some : (words : List Word) (named : List ℕ × List ℕ) (r : Option Size) → asks_run words
+    ≡ Some named → IfSome r (λ size. IsSizeIn named size) → IfSome r (λ size. IsRunOf words size)
 run_some words named None is h = tt
 run_some words named (Some size) is h = (named, is, h)
 
-pub run_only : (words : List Word) (named : List ℕ × List ℕ) (size : Size) (r : Option Size) → asks_run words ≡ Some named → ((it : Size) → IsSizeIn named it → r ≡ Some it) → IsRunOf words size → r ≡ Some size
-run_only words named size r is only of = only size (subst (λ (n : List ℕ × List ℕ). IsSizeIn n size) (same_Some of.0 named (sym of.1 ∙ is)) of.2)
+pub run_only : (words : List Word) (named : List ℕ × List ℕ) (size : Size) (r : Option Size)
+    → asks_run words ≡ Some named → ((it : Size) → IsSizeIn named it → r ≡ Some it)
+    → IsRunOf words size → r ≡ Some size
+run_only words named size r is only of =
+    only size (subst (λ (n : List ℕ × List ℕ). IsSizeIn n size)
+    (same_Some of.0 named (sym of.1 ∙ is)) of.2)
 
 pub run_none : (words : List Word) (size : Size) → asks_run words ≡ None → IsRunOf words size → ⊥
 run_none words size is of = none-some of.0 (sym is ∙ of.1)
 
-by_name : {T : Type 0} (name word : List ℕ) (x : Option T) (y : T) (b : Bool) → bytes_eq name word ≡ b → (if b then x else None) ≡ Some y → name ≡ word
+by_name : {T : Type 0} (name word : List ℕ) (x : Option T) (y : T) (b : Bool) → bytes_eq name word
+    ≡ b → (if b then x else None) ≡ Some y → name ≡ word
 by_name name word x y true is e = (bytes_eq-Decides name word).0 is
 by_name name word x y false is e = absurd (none-some y e)
 
-by_name_and : {T : Type 0} (name word : List ℕ) (x : Option T) (y : T) (a b : Bool) → bytes_eq name word ≡ a → (if a && b then x else None) ≡ Some y → name ≡ word
+by_name_and : {T : Type 0} (name word : List ℕ) (x : Option T) (y : T) (a b : Bool)
+    → bytes_eq name word ≡ a → (if a && b then x else None) ≡ Some y → name ≡ word
 by_name_and name word x y true b is e = (bytes_eq-Decides name word).0 is
 by_name_and name word x y false b is e = absurd (none-some y e)
 
 -- words of no replay, no proof and no load
 abbrev IsScript : List Word → Type 0
-IsScript words = (asks_replay words ≡ false) × (asks_verify words ≡ None) × (asks_load words ≡ false)
+IsScript words = (asks_replay words ≡ false) × (asks_verify words ≡ None)
+    × (asks_load words ≡ false)
 
-run_named : (words : List Word) (named : List ℕ × List ℕ) → asks_run words ≡ Some named → IsScript words
+run_named : (words : List Word) (named : List ℕ × List ℕ) → asks_run words ≡ Some named
+    → IsScript words
 run_named [] named is = absurd (none-some named is)
 run_named (program ∷ []) named is = absurd (none-some named is)
 run_named (program ∷ name ∷ words) named is =
-    let e : name.now ≡ codes "run" = by_name_and name.now (codes "run") (Some (sizes_of words)) named (bytes_eq name.now (codes "run")) (are_plain_options words) refl is in (
+    let e : name.now ≡ codes "run" = by_name_and name.now (codes "run") (Some (sizes_of words))
+    named (bytes_eq name.now (codes "run")) (are_plain_options words) refl is in (
       subst (λ (n : List ℕ). bytes_eq n (codes "replay") ≡ false) (sym e) refl,
-      subst (λ (n : List ℕ). (if bytes_eq n (codes "verify") then Some (proof_of words) else None) ≡ None) (sym e) refl,
+      subst (λ (n : List ℕ). (if bytes_eq n (codes "verify") then Some (proof_of words) else None)
+          ≡ None) (sym e) refl,
       subst (λ (n : List ℕ). bytes_eq n (codes "load") ≡ false) (sym e) refl,
     )
 
@@ -92,45 +107,66 @@ module _ (words : List Word) (size : Size) (of : IsRunOf words size) where
   pub run_load : asks_load words ≡ false
   run_load = (run_named words of.0 of.1).2
 
-pub run_size : (words : List Word) (size : Size) (r : Option Size) → r ≡ Some size → ((it : Size) → IsRunOf words it → r ≡ Some it) → NamesSize words size
+pub run_size : (words : List Word) (size : Size) (r : Option Size) → r ≡ Some size
+    → ((it : Size) → IsRunOf words it → r ≡ Some it) → NamesSize words size
 run_size words size r is only = λ other named. same_Some other size (sym (only other named) ∙ is)
 
-pub script_asked : (words : List Word) (size : Size) (format : Format) → asks_replay words ≡ false → asks_verify words ≡ None → asks_load words ≡ false → NamesSize words size → format_in words ≡ Some format → AsksFor words (Run (record { rows = size.rows; passes = size.passes; format = format }))
-script_asked words size format replay verify load names is = (sym replay, sym verify, record { format = is; size = names }, sym load)
+pub script_asked : (words : List Word) (size : Size) (format : Format) → asks_replay words ≡ false
+    → asks_verify words ≡ None → asks_load words ≡ false → NamesSize words size → format_in words
+    ≡ Some format
+    → AsksFor words (Run (record { rows = size.rows; passes = size.passes; format = format }))
+script_asked words size format replay verify load names is =
+    (sym replay, sym verify, record { format = is; size = names }, sym load)
 
 pub replay_asked : (words : List Word) → true ≡ is_plain_replay words → AsksFor words Replay
 replay_asked [] is = absurd (false≢true (sym is))
 replay_asked (program ∷ []) is = absurd (false≢true (sym is))
 replay_asked (program ∷ name ∷ []) is =
-    let e : name.now ≡ codes "replay" = (bytes_eq-Decides name.now (codes "replay")).0 (sym is) in
-    (is, subst (λ (n : List ℕ). None ≡ (if bytes_eq n (codes "verify") then Some (proof_of []) else None)) (sym e) refl, tt, subst (λ (n : List ℕ). false ≡ bytes_eq n (codes "load")) (sym e) refl)
+    let e : name.now ≡ codes "replay" = (bytes_eq-Decides name.now (codes "replay")).0 (sym is) in (
+      is,
+      subst (λ (n : List ℕ). None
+          ≡ (if bytes_eq n (codes "verify") then Some (proof_of []) else None)) (sym e) refl,
+      tt,
+      subst (λ (n : List ℕ). false ≡ bytes_eq n (codes "load")) (sym e) refl,
+    )
 replay_asked (program ∷ name ∷ more ∷ words) is = absurd (false≢true (sym is))
 
 pub replay_named : (words : List Word) → true ≡ asks_replay words → AsksFor words Replay
 replay_named [] is = absurd (false≢true (sym is))
 replay_named (program ∷ []) is = absurd (false≢true (sym is))
 replay_named (program ∷ name ∷ words) is =
-    let e : name.now ≡ codes "replay" = (bytes_eq-Decides name.now (codes "replay")).0 (sym is) in
-    (is, subst (λ (n : List ℕ). None ≡ (if bytes_eq n (codes "verify") then Some (proof_of words) else None)) (sym e) refl, tt, subst (λ (n : List ℕ). false ≡ bytes_eq n (codes "load")) (sym e) refl)
+    let e : name.now ≡ codes "replay" = (bytes_eq-Decides name.now (codes "replay")).0 (sym is) in (
+      is,
+      subst (λ (n : List ℕ). None
+          ≡ (if bytes_eq n (codes "verify") then Some (proof_of words) else None)) (sym e) refl,
+      tt,
+      subst (λ (n : List ℕ). false ≡ bytes_eq n (codes "load")) (sym e) refl,
+    )
 
 by_value : {T : Type 0} (x y : T) (b : Bool) → (if b then Some x else None) ≡ Some y → x ≡ y
 by_value x y true e = same_Some x y e
 by_value x y false e = absurd (none-some y e)
 
-verify_named : (words : List Word) (named : Proof) → asks_verify words ≡ Some named → (asks_replay words ≡ false) × (asks_load words ≡ false) × (format_in words ≡ named.0)
+verify_named : (words : List Word) (named : Proof) → asks_verify words ≡ Some named
+    → (asks_replay words ≡ false) × (asks_load words ≡ false) × (format_in words ≡ named.0)
 verify_named [] named is = absurd (none-some named is)
 verify_named (program ∷ []) named is = absurd (none-some named is)
 verify_named (program ∷ name ∷ words) named is =
-    let e : name.now ≡ codes "verify" = by_name name.now (codes "verify") (Some (proof_of words)) named (bytes_eq name.now (codes "verify")) refl is in (
+    let e : name.now ≡ codes "verify" = by_name name.now (codes "verify") (Some (proof_of words))
+    named (bytes_eq name.now (codes "verify")) refl is in (
       subst (λ (n : List ℕ). bytes_eq n (codes "replay") ≡ false) (sym e) refl,
       subst (λ (n : List ℕ). bytes_eq n (codes "load") ≡ false) (sym e) refl,
-      ap (λ (t : Proof). t.0) (by_value (proof_of words) named (bytes_eq name.now (codes "verify")) is),
+      ap (λ (t : Proof). t.0)
+          (by_value (proof_of words) named (bytes_eq name.now (codes "verify")) is),
     )
 
-pub verify_asked : (words : List Word) (format : Format) (root key : Word) → asks_verify words ≡ Some (Some format, root.now, key.now) → AsksFor words (Verify format root key)
-verify_asked words format root key is = let n = verify_named words (Some format, root.now, key.now) is in (sym n.0, sym is, tt, sym n.1)
+pub verify_asked : (words : List Word) (format : Format) (root key : Word) → asks_verify words
+    ≡ Some (Some format, root.now, key.now) → AsksFor words (Verify format root key)
+verify_asked words format root key is = let n = verify_named words (Some format, root.now, key.now)
+    is in (sym n.0, sym is, tt, sym n.1)
 
-pub unknown_asked : (words : List Word) (root key : List ℕ) → asks_verify words ≡ Some (None, root, key) → AsksFor words UnknownFormat
+pub unknown_asked : (words : List Word) (root key : List ℕ) → asks_verify words ≡ Some
+    (None, root, key) → AsksFor words UnknownFormat
 unknown_asked words root key is = verify_named words (None, root, key) is
 
 left_true : (a b : Bool) → (a && b) ≡ true → a ≡ true
@@ -143,9 +179,11 @@ some_if x false is e = false≢true is
 
 plain_verifies : (words : List Word) → is_plain_verify words ≡ true → asks_verify words ≡ None → ⊥
 plain_verifies (program ∷ name ∷ root ∷ key ∷ []) is none =
-    some_if (proof_of (root ∷ key ∷ [])) (bytes_eq name.now (codes "verify")) (left_true _ _ is) none
+    some_if (proof_of (root ∷ key ∷ [])) (bytes_eq name.now (codes "verify")) (left_true _ _ is)
+    none
 plain_verifies (program ∷ name ∷ option ∷ format ∷ root ∷ key ∷ []) is none =
-    some_if (proof_of (option ∷ format ∷ root ∷ key ∷ [])) (bytes_eq name.now (codes "verify")) (left_true _ _ is) none
+    some_if (proof_of (option ∷ format ∷ root ∷ key ∷ [])) (bytes_eq name.now (codes "verify"))
+    (left_true _ _ is) none
 plain_verifies [] is none = false≢true is
 plain_verifies (a ∷ []) is none = false≢true is
 plain_verifies (a ∷ b ∷ []) is none = false≢true is
@@ -153,14 +191,18 @@ plain_verifies (a ∷ b ∷ c ∷ []) is none = false≢true is
 plain_verifies (a ∷ b ∷ c ∷ d ∷ e ∷ []) is none = false≢true is
 plain_verifies (a ∷ b ∷ c ∷ d ∷ e ∷ f ∷ g ∷ words) is none = false≢true is
 
-pub not_plain_verify : (words : List Word) (r : Option Task) → is_plain_verify words ≡ true → IfNone r (asks_verify words ≡ None) → IfNone r (is_plain_verify words ≡ false)
+pub not_plain_verify : (words : List Word) (r : Option Task) → is_plain_verify words ≡ true
+    → IfNone r (asks_verify words ≡ None) → IfNone r (is_plain_verify words ≡ false)
 not_plain_verify words None is none = absurd (plain_verifies words is none)
 not_plain_verify words (Some task) is none = tt
 
 -- a plain load
 
-pub load_found : (r w c : Option ℕ) (readers writers calls : ℕ) (size : LoadSize) → r ≡ Some readers → w ≡ Some writers → c ≡ Some calls → r ≡ Some size.readers → w ≡ Some size.writers → c ≡ Some size.calls →
-    (let it : LoadSize = record { readers = readers; writers = writers; calls = calls } in Some it) ≡ Some size
+pub load_found : (r w c : Option ℕ) (readers writers calls : ℕ) (size : LoadSize) → r ≡ Some readers
+    → w ≡ Some writers → c ≡ Some calls → r ≡ Some size.readers → w ≡ Some size.writers
+    → c ≡ Some size.calls →
+    (let it : LoadSize = record { readers = readers; writers = writers; calls = calls } in Some it)
+    ≡ Some size
 load_found r w c readers writers calls size is_r is_w is_c of_r of_w of_c =
     let e : readers ≡ size.readers = same_Some readers size.readers (sym is_r ∙ of_r) in
     let f : writers ≡ size.writers = same_Some writers size.writers (sym is_w ∙ of_w) in
@@ -170,35 +212,51 @@ load_found r w c readers writers calls size is_r is_w is_c of_r of_w of_c =
 abbrev Three : Type 0
 Three = List ℕ × List ℕ × List ℕ
 
-pub load_some : (words : List Word) (named : Three) (r : Option LoadSize) → load_words words ≡ Some named → IfSome r (λ size. IsLoadIn named size) → IfSome r (λ size. IsLoadOf words size)
+pub load_some : (words : List Word) (named : Three) (r : Option LoadSize) → load_words words ≡ Some
+    named → IfSome r (λ size. IsLoadIn named size) → IfSome r (λ size. IsLoadOf words size)
 load_some words named None is h = tt
 load_some words named (Some size) is h = (named, is, h)
 
-pub load_only : (words : List Word) (named : Three) (size : LoadSize) (r : Option LoadSize) → load_words words ≡ Some named → ((it : LoadSize) → IsLoadIn named it → r ≡ Some it) → IsLoadOf words size → r ≡ Some size
-load_only words named size r is only of = only size (subst (λ (n : Three). IsLoadIn n size) (same_Some of.0 named (sym of.1 ∙ is)) of.2)
+pub load_only : (words : List Word) (named : Three) (size : LoadSize) (r : Option LoadSize)
+    → load_words words ≡ Some named → ((it : LoadSize) → IsLoadIn named it → r ≡ Some it)
+    → IsLoadOf words size → r ≡ Some size
+load_only words named size r is only of =
+    only size (subst (λ (n : Three). IsLoadIn n size) (same_Some of.0 named (sym of.1 ∙ is)) of.2)
 
-pub load_none : (words : List Word) (size : LoadSize) → load_words words ≡ None → IsLoadOf words size → ⊥
+pub load_none : (words : List Word) (size : LoadSize) → load_words words ≡ None
+    → IsLoadOf words size → ⊥
 load_none words size is of = none-some of.0 (sym is ∙ of.1)
 
-load_named : (words : List Word) (named : Three) → load_words words ≡ Some named → (false ≡ asks_replay words) × (None ≡ asks_verify words) × (true ≡ asks_load words)
+load_named : (words : List Word) (named : Three) → load_words words ≡ Some named
+    → (false ≡ asks_replay words) × (None ≡ asks_verify words) × (true ≡ asks_load words)
 load_named [] named is = absurd (none-some named is)
 load_named (program ∷ []) named is = absurd (none-some named is)
 load_named (program ∷ name ∷ words) named is =
-    let e : name.now ≡ codes "load" = by_name name.now (codes "load") (load_options_of words) named (bytes_eq name.now (codes "load")) refl is in (
+    let e : name.now ≡ codes "load" = by_name name.now (codes "load") (load_options_of words) named
+    (bytes_eq name.now (codes "load")) refl is in (
       subst (λ (n : List ℕ). false ≡ bytes_eq n (codes "replay")) (sym e) refl,
-      subst (λ (n : List ℕ). None ≡ (if bytes_eq n (codes "verify") then Some (proof_of words) else None)) (sym e) refl,
+      subst (λ (n : List ℕ). None
+          ≡ (if bytes_eq n (codes "verify") then Some (proof_of words) else None)) (sym e) refl,
       subst (λ (n : List ℕ). true ≡ bytes_eq n (codes "load")) (sym e) refl,
     )
 
-pub load_asked : (words : List Word) (size : LoadSize) (r : Option LoadSize) → r ≡ Some size → IsLoadOf words size → ((it : LoadSize) → IsLoadOf words it → r ≡ Some it) → AsksFor words (Load size)
-load_asked words size r is of only = let n = load_named words of.0 of.1 in (n.0, n.1, (λ other named. same_Some other size (sym (only other named) ∙ is)), n.2)
+pub load_asked : (words : List Word) (size : LoadSize) (r : Option LoadSize) → r ≡ Some size
+    → IsLoadOf words size → ((it : LoadSize) → IsLoadOf words it → r ≡ Some it)
+    → AsksFor words (Load size)
+load_asked words size r is of only = let n = load_named words of.0 of.1 in
+    (n.0, n.1, (λ other named. same_Some other size (sym (only other named) ∙ is)), n.2)
 
-pub plain_none : (words : List Word) (r : Option Task) → ((size : LoadSize) → IsLoadOf words size → ⊥) → IfNone r ((is_plain_replay words ≡ false) × (is_plain_verify words ≡ false)) →
-    IfNone r ((is_plain_replay words ≡ false) × (is_plain_verify words ≡ false) × ((size : LoadSize) → ¬ (IsLoadOf words size)))
+pub plain_none : (words : List Word) (r : Option Task)
+    → ((size : LoadSize) → IsLoadOf words size → ⊥)
+    → IfNone r ((is_plain_replay words ≡ false) × (is_plain_verify words ≡ false)) →
+    IfNone r ((is_plain_replay words ≡ false) × (is_plain_verify words ≡ false)
+    × ((size : LoadSize) → ¬ (IsLoadOf words size)))
 plain_none words None load h = (h.0, h.1, load)
 plain_none words (Some task) load h = tt
 
-pub not_plain : (words : List Word) → ((size : Size) → IsRunOf words size → ⊥) → (is_plain_replay words ≡ false) → (is_plain_verify words ≡ false) → ((size : LoadSize) → ¬ (IsLoadOf words size)) → ¬ (IsPlain words)
+pub not_plain : (words : List Word) → ((size : Size) → IsRunOf words size → ⊥)
+    → (is_plain_replay words ≡ false) → (is_plain_verify words ≡ false)
+    → ((size : LoadSize) → ¬ (IsLoadOf words size)) → ¬ (IsPlain words)
 not_plain words run replay verify load = λ plain. elim plain [
   | inl of ↦ run of.0 of.1
   | inr (inl is) ↦ false≢true (sym replay ∙ is)
@@ -206,7 +264,9 @@ not_plain words run replay verify load = λ plain. elim plain [
   | inr (inr (inr of)) ↦ load of.0 of.1
 ]
 
-pub other_plain : (words : List Word) (r : Option Task) → ((size : Size) → IsRunOf words size → ⊥) → IfNone r ((is_plain_replay words ≡ false) × (is_plain_verify words ≡ false) × ((size : LoadSize) → ¬ (IsLoadOf words size))) → IfNone r (¬ (IsPlain words))
+pub other_plain : (words : List Word) (r : Option Task) → ((size : Size) → IsRunOf words size → ⊥)
+    → IfNone r ((is_plain_replay words ≡ false) × (is_plain_verify words ≡ false)
+    × ((size : LoadSize) → ¬ (IsLoadOf words size))) → IfNone r (¬ (IsPlain words))
 other_plain words None run h = not_plain words run h.0 h.1 h.2
 other_plain words (Some task) run h = tt
 

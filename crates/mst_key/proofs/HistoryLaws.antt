@@ -19,14 +19,17 @@ IsMap-changed m (Put k v) map within = IsMap-put m k v map within.0 within.1
 IsMap-changed m (Remove k) map within = IsMap-remove m k map
 IsMap-changed m (Migrate to) map within = map
 
-pub IsMap-after_from : (m : List Pair) (h : History) → IsMap m → IsPossible h → IsMap (after_from m h)
+pub IsMap-after_from : (m : List Pair) (h : History) → IsMap m → IsPossible h
+    → IsMap (after_from m h)
 IsMap-after_from m [] map possible = map
-IsMap-after_from m (e ∷ h) map possible = IsMap-after_from (changed m e.change) h (IsMap-changed m e.change map possible.0) possible.1
+IsMap-after_from m (e ∷ h) map possible =
+    IsMap-after_from (changed m e.change) h (IsMap-changed m e.change map possible.0) possible.1
 
 pub IsMap-after : (h : History) → IsPossible h → IsMap (after h)
 IsMap-after h = IsMap-after_from [] h IsMap-nil
 
-pub after_from-append : (m : List Pair) (g h : History) → after_from m (g ++ h) ≡ after_from (after_from m g) h
+pub after_from-append : (m : List Pair) (g h : History) → after_from m (g ++ h) ≡ after_from
+    (after_from m g) h
 after_from-append m [] h = refl
 after_from-append m (e ∷ g) h = after_from-append (changed m e.change) g h
 
@@ -38,60 +41,81 @@ pub after-push : (h : History) (e : Event) → after (h ++ e ∷ []) ≡ changed
 after-push h e = after-append h (e ∷ [])
 
 -- a change leaves every key that it is not about as it was
-pub map_get-changed_other : (m : List Pair) (c : Change) (q : List ℕ) → (IsAbout q c → ⊥) → map_get (changed m c) q ≡ map_get m q
+pub map_get-changed_other : (m : List Pair) (c : Change) (q : List ℕ) → (IsAbout q c → ⊥)
+    → map_get (changed m c) q ≡ map_get m q
 map_get-changed_other m (Put k v) q other = map_get-put_other m k v q other
 map_get-changed_other m (Remove k) q other = map_get-remove_other m k q other
 map_get-changed_other m (Migrate to) q other = refl
 
-pub map_get-after_from_alone : (m : List Pair) (h : History) (k : List ℕ) → LeavesAlone h k → map_get (after_from m h) k ≡ map_get m k
+pub map_get-after_from_alone : (m : List Pair) (h : History) (k : List ℕ) → LeavesAlone h k
+    → map_get (after_from m h) k ≡ map_get m k
 map_get-after_from_alone m [] k alone = refl
-map_get-after_from_alone m (e ∷ h) k alone = map_get-after_from_alone (changed m e.change) h k alone.1 ∙ map_get-changed_other m e.change k alone.0
+map_get-after_from_alone m (e ∷ h) k alone = map_get-after_from_alone (changed m e.change) h k
+    alone.1 ∙ map_get-changed_other m e.change k alone.0
 
 pub map_get-after_alone : (h : History) (k : List ℕ) → LeavesAlone h k → map_get (after h) k ≡ None
 map_get-after_alone = map_get-after_from_alone []
 
 -- the last change of a key leaves its value
-after_last : (g h : History) (e : Event) (k : List ℕ) → LeavesAlone h k → map_get (after (g ++ e ∷ h)) k ≡ map_get (changed (after g) e.change) k
+after_last : (g h : History) (e : Event) (k : List ℕ) → LeavesAlone h k
+    → map_get (after (g ++ e ∷ h)) k ≡ map_get (changed (after g) e.change) k
 after_last g h e k alone =
-    ap (λ (m : List Pair). map_get m k) (after-append g (e ∷ h)) ∙ map_get-after_from_alone (changed (after g) e.change) h k alone
+    ap (λ (m : List Pair). map_get m k) (after-append g (e ∷ h)) ∙ map_get-after_from_alone
+    (changed (after g) e.change) h k alone
 
-pub map_get-after_last_put : (g h : History) (pass : ℕ) (k v : List ℕ) → LeavesAlone h k → map_get (after (g ++ record { pass = pass; change = Put k v } ∷ h)) k ≡ Some v
-map_get-after_last_put g h pass k v alone = after_last g h (record { pass = pass; change = Put k v }) k alone ∙ map_get-put_same (after g) k v
+pub map_get-after_last_put : (g h : History) (pass : ℕ) (k v : List ℕ) → LeavesAlone h k
+    → map_get (after (g ++ record { pass = pass; change = Put k v } ∷ h)) k ≡ Some v
+map_get-after_last_put g h pass k v alone =
+    after_last g h (record { pass = pass; change = Put k v }) k alone ∙ map_get-put_same (after g) k
+    v
 
-pub map_get-after_last_remove : (g h : History) (pass : ℕ) (k : List ℕ) → LeavesAlone h k → map_get (after (g ++ record { pass = pass; change = Remove k } ∷ h)) k ≡ None
-map_get-after_last_remove g h pass k alone = after_last g h (record { pass = pass; change = Remove k }) k alone ∙ map_get-remove_same (after g) k
+pub map_get-after_last_remove : (g h : History) (pass : ℕ) (k : List ℕ) → LeavesAlone h k
+    → map_get (after (g ++ record { pass = pass; change = Remove k } ∷ h)) k ≡ None
+map_get-after_last_remove g h pass k alone =
+    after_last g h (record { pass = pass; change = Remove k }) k alone ∙ map_get-remove_same
+    (after g) k
 
 -- ---- the format after a history
 
-pub format_after-append : (first : Format) (g h : History) → format_after first (g ++ h) ≡ format_after (format_after first g) h
+pub format_after-append : (first : Format) (g h : History) → format_after first (g ++ h)
+    ≡ format_after (format_after first g) h
 format_after-append first [] h = refl
 format_after-append first (e ∷ g) h = format_after-append (changed_format first e.change) g h
 
-pub format_after-push : (first : Format) (h : History) (e : Event) → format_after first (h ++ e ∷ []) ≡ changed_format (format_after first h) e.change
+pub format_after-push : (first : Format) (h : History) (e : Event) → format_after first
+    (h ++ e ∷ []) ≡ changed_format (format_after first h) e.change
 format_after-push first h e = format_after-append first h (e ∷ [])
 
-pub format_kept : (format : Format) (c : Change) → (IsMigration c → ⊥) → changed_format format c ≡ format
+pub format_kept : (format : Format) (c : Change) → (IsMigration c → ⊥) → changed_format format c
+    ≡ format
 format_kept format (Put k v) not = refl
 format_kept format (Remove k) not = refl
 format_kept format (Migrate to) not = absurd (not tt)
 
-pub format_after_none : (first : Format) (h : History) → KeepsFormat h → format_after first h ≡ first
+pub format_after_none : (first : Format) (h : History) → KeepsFormat h → format_after first h
+    ≡ first
 format_after_none first [] keeps = refl
-format_after_none first (e ∷ h) keeps = format_after_none (changed_format first e.change) h keeps.1 ∙ format_kept first e.change keeps.0
+format_after_none first (e ∷ h) keeps = format_after_none (changed_format first e.change) h keeps.1
+    ∙ format_kept first e.change keeps.0
 
-pub format_after_last : (first to : Format) (g h : History) (pass : ℕ) → KeepsFormat h → format_after first (g ++ record { pass = pass; change = Migrate to } ∷ h) ≡ to
-format_after_last first to g h pass keeps = format_after-append first g (record { pass = pass; change = Migrate to } ∷ h) ∙ format_after_none to h keeps
+pub format_after_last : (first to : Format) (g h : History) (pass : ℕ) → KeepsFormat h
+    → format_after first (g ++ record { pass = pass; change = Migrate to } ∷ h) ≡ to
+format_after_last first to g h pass keeps =
+    format_after-append first g (record { pass = pass; change = Migrate to } ∷ h)
+    ∙ format_after_none to h keeps
 
 -- ---- histories of possible changes
 
 pub IsPossible-append : (g h : History) → IsPossible g → IsPossible h → IsPossible (g ++ h)
 IsPossible-append = alls-append (λ e. IsWithinLimits e.change)
 
-pub IsPossible-push : (h : History) (e : Event) → IsPossible h → IsWithinLimits e.change → IsPossible (h ++ e ∷ [])
+pub IsPossible-push : (h : History) (e : Event) → IsPossible h → IsWithinLimits e.change
+    → IsPossible (h ++ e ∷ [])
 IsPossible-push h e possible within = IsPossible-append h (e ∷ []) possible (within, tt)
 
 pub IsPossible-begins : (g h : History) → IsPrefix g h → IsPossible h → IsPossible g
-IsPossible-begins g h begins possible = alls-front (λ e. IsWithinLimits e.change) g begins.0 (subst IsPossible begins.1 possible)
+IsPossible-begins g h begins possible = alls-front (λ e. IsWithinLimits e.change) g begins.0
+    (subst IsPossible begins.1 possible)
 
 -- ---- one history begins another
 
@@ -105,7 +129,8 @@ pub IsPrefix-append : (g h : History) → IsPrefix g (g ++ h)
 IsPrefix-append g h = (h, refl)
 
 pub IsPrefix-chain : (f g h : History) → IsPrefix f g → IsPrefix g h → IsPrefix f h
-IsPrefix-chain f g h a b = (a.0 ++ b.0, b.1 ∙ ap (λ (l : History). l ++ b.0) a.1 ∙ append_assoc f a.0 b.0)
+IsPrefix-chain f g h a b =
+    (a.0 ++ b.0, b.1 ∙ ap (λ (l : History). l ++ b.0) a.1 ∙ append_assoc f a.0 b.0)
 
 no_events : (h : History) → length h ≡ 0 → h ≡ []
 no_events [] e = refl
@@ -130,7 +155,11 @@ one_begins (x ∷ f) [] s t e = inr (IsPrefix-nil (x ∷ f))
 one_begins (x ∷ f) (y ∷ g) s t e =
     let first : x ≡ y = cc in
     let rest : f ++ s ≡ g ++ t = cc in
-    elim (one_begins f g s t rest) [ inl a ↦ inl (a.0, λ i. sym first i ∷ a.1 i) | inr b ↦ inr (b.0, λ i. first i ∷ b.1 i) ]
+    elim (one_begins f g s t rest) [
+      | inl a ↦ inl (a.0, λ i. sym first i ∷ a.1 i)
+      | inr b ↦ inr
+          (b.0, λ i. first i ∷ b.1 i)
+    ]
 
 -- of two histories that begin one history, one begins the other
 pub IsPrefix-compare : (f g h : History) → IsPrefix f h → IsPrefix g h → IsPrefix f g ⊎ IsPrefix g f
@@ -138,15 +167,21 @@ IsPrefix-compare f g h a b = one_begins f g a.0 b.0 (sym a.1 ∙ b.1)
 
 -- ---- the events of a pass
 
-pub events_of-append : (pass : ℕ) (g h : History) → events_of pass (g ++ h) ≡ events_of pass g ++ events_of pass h
+pub events_of-append : (pass : ℕ) (g h : History) → events_of pass (g ++ h) ≡ events_of pass g
+    ++ events_of pass h
 events_of-append pass g h = filter-append (λ (e : Event). e.pass == pass) g h
 
-pub events_of-begins : (pass : ℕ) (g h : History) → IsPrefix g h → IsPrefix (events_of pass g) (events_of pass h)
-events_of-begins pass g h a = (events_of pass a.0, ap (events_of pass) a.1 ∙ events_of-append pass g a.0)
+pub events_of-begins : (pass : ℕ) (g h : History) → IsPrefix g h → IsPrefix (events_of pass g)
+    (events_of pass h)
+events_of-begins pass g h a =
+    (events_of pass a.0, ap (events_of pass) a.1 ∙ events_of-append pass g a.0)
 
 -- a history between two that have the same events of a pass has them too
-pub events_of-between : (pass : ℕ) (mine x y z : History) → IsPrefix x y → IsPrefix y z → events_of pass x ≡ mine → events_of pass z ≡ mine → events_of pass y ≡ mine
+pub events_of-between : (pass : ℕ) (mine x y z : History) → IsPrefix x y → IsPrefix y z
+    → events_of pass x ≡ mine → events_of pass z ≡ mine → events_of pass y ≡ mine
 events_of-between pass mine x y z a b low high =
-    let more : IsPrefix mine (events_of pass y) = subst (λ (l : History). IsPrefix l (events_of pass y)) low (events_of-begins pass x y a) in
-    let less : IsPrefix (events_of pass y) mine = subst (λ (l : History). IsPrefix (events_of pass y) l) high (events_of-begins pass y z b) in
+    let more : IsPrefix mine (events_of pass y) =
+    subst (λ (l : History). IsPrefix l (events_of pass y)) low (events_of-begins pass x y a) in
+    let less : IsPrefix (events_of pass y) mine =
+    subst (λ (l : History). IsPrefix (events_of pass y) l) high (events_of-begins pass y z b) in
     IsPrefix-both_ways (events_of pass y) mine less more

@@ -16,13 +16,17 @@ key_cmp-itself k = tied_itself key_cmp-total k
 -- a front of a key is less than the key
 pub key_cmp-front : (k : List ℕ) (b : ℕ) (bs : List ℕ) → key_cmp k (k ++ b ∷ bs) ≡ Less
 key_cmp-front [] b bs = refl
-key_cmp-front (a ∷ k) b bs = ap (λ (r : Ordering). ordering_then r (key_cmp k (k ++ b ∷ bs))) (tied_itself nat_cmp_total a) ∙ key_cmp-front k b bs
+key_cmp-front (a ∷ k) b bs = ap (λ (r : Ordering). ordering_then r (key_cmp k (k ++ b ∷ bs)))
+    (tied_itself nat_cmp_total a) ∙ key_cmp-front k b bs
 
 -- the first byte in which two keys differ decides
-pub key_cmp-first_byte : (front : List ℕ) (a b : ℕ) (xs bs : List ℕ) → a < b → key_cmp (front ++ a ∷ xs) (front ++ b ∷ bs) ≡ Less
-key_cmp-first_byte [] a b xs bs less = ap (λ (r : Ordering). ordering_then r (key_cmp xs bs)) (cond-true (nat_lt a b) Less (cond (a == b) Equal Greater) (lt-ltb a b less))
+pub key_cmp-first_byte : (front : List ℕ) (a b : ℕ) (xs bs : List ℕ) → a < b
+    → key_cmp (front ++ a ∷ xs) (front ++ b ∷ bs) ≡ Less
+key_cmp-first_byte [] a b xs bs less = ap (λ (r : Ordering). ordering_then r (key_cmp xs bs))
+    (cond-true (nat_lt a b) Less (cond (a == b) Equal Greater) (lt-ltb a b less))
 key_cmp-first_byte (c ∷ front) a b xs bs less =
-    ap (λ (r : Ordering). ordering_then r (key_cmp (front ++ a ∷ xs) (front ++ b ∷ bs))) (tied_itself nat_cmp_total c) ∙ key_cmp-first_byte front a b xs bs less
+    ap (λ (r : Ordering). ordering_then r (key_cmp (front ++ a ∷ xs) (front ++ b ∷ bs)))
+    (tied_itself nat_cmp_total c) ∙ key_cmp-first_byte front a b xs bs less
 
 -- equal keys are the same
 pub same_from_test : (a b : List ℕ) → is_eq (key_cmp a b) ≡ true → a ≡ b
@@ -72,7 +76,8 @@ greater_from_test a b = go (key_cmp a b)
     go Greater e = refl
 
 -- a fact by the order of two keys
-pub by_order : {G : Type 0} (a b : List ℕ) → (key_cmp a b ≡ Less → G) → (a ≡ b → G) → (key_cmp b a ≡ Less → G) → G
+pub by_order : {G : Type 0} (a b : List ℕ) → (key_cmp a b ≡ Less → G) → (a ≡ b → G)
+    → (key_cmp b a ≡ Less → G) → G
 by_order {G} a b less same more = go (key_cmp a b) refl
   where
     go : (r : Ordering) → key_cmp a b ≡ r → G
@@ -82,4 +87,5 @@ by_order {G} a b less same more = go (key_cmp a b) refl
 
 -- a fact by whether two keys are the same
 pub by_same : {G : Type 0} (a b : List ℕ) → (a ≡ b → G) → (a ≢ b → G) → G
-by_same a b same other = by_order a b (λ e. other (other_from_less a b e)) same (λ e. other (λ s. other_from_less b a e (sym s)))
+by_same a b same other = by_order a b (λ e. other (other_from_less a b e)) same
+    (λ e. other (λ s. other_from_less b a e (sym s)))

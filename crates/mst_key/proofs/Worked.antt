@@ -56,7 +56,10 @@ three = (a, x) ∷ (ab, []) ∷ (c, z) ∷ []
 three_map : IsMap three
 three_map = record {
   ascending = ((refl, (refl, tt)), ((refl, tt), (tt, tt)));
-  limits = (((omega arith, omega arith), omega arith), (((omega arith, omega arith), omega arith), (((omega arith, omega arith), omega arith), tt)));
+  limits = (
+    ((omega arith, omega arith), omega arith),
+    (((omega arith, omega arith), omega arith), (((omega arith, omega arith), omega arith), tt)),
+  );
 }
 
 put_in_empty : put [] b y ≡ (b, y) ∷ []
@@ -99,7 +102,8 @@ abbrev first : History
 first = record { pass = 1; change = Put b x } ∷ record { pass = 2; change = Put a y } ∷ []
 
 abbrev whole : History
-whole = first ++ record { pass = 1; change = Put b z } ∷ record { pass = 2; change = Remove a } ∷ record { pass = 1; change = Remove c } ∷ []
+whole = first ++ record { pass = 1; change = Put b z } ∷ record { pass = 2; change = Remove a }
+    ∷ record { pass = 1; change = Remove c } ∷ []
 
 after_first : after first ≡ (a, y) ∷ (b, x) ∷ []
 after_first = refl
@@ -133,11 +137,16 @@ migrated_twice = refl
 reply_migration : reply One moved (record { pass = 3; change = Migrate One }) ≡ was Two
 reply_migration = refl
 
-events_of_one : events_of 1 whole ≡ record { pass = 1; change = Put b x } ∷ record { pass = 1; change = Put b z } ∷ record { pass = 1; change = Remove c } ∷ []
+events_of_one : events_of 1 whole ≡ record { pass = 1; change = Put b x }
+    ∷ record { pass = 1; change = Put b z } ∷ record { pass = 1; change = Remove c } ∷ []
 events_of_one = refl
 
 events_of_none : events_of 3 whole ≡ []
 events_of_none = refl
 
 first_begins : IsPrefix first whole
-first_begins = (record { pass = 1; change = Put b z } ∷ record { pass = 2; change = Remove a } ∷ record { pass = 1; change = Remove c } ∷ [], refl)
+first_begins = (
+  record { pass = 1; change = Put b z } ∷ record { pass = 2; change = Remove a }
+      ∷ record { pass = 1; change = Remove c } ∷ [],
+  refl,
+)

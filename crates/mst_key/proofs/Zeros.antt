@@ -10,18 +10,21 @@ zeros_le : (ds : List ℕ) → zeros_in_front ds ≤ length ds
 zeros_le [] = omega arith
 zeros_le (d ∷ ds) = go (d == 0) (zeros_le ds)
   where
-    go : (t : Bool) → zeros_in_front ds ≤ length ds → cond t (zeros_in_front ds + 1) 0 ≤ suc (length ds)
+    go : (t : Bool) → zeros_in_front ds ≤ length ds → cond t (zeros_in_front ds + 1) 0 ≤ suc
+        (length ds)
     go true h = omega arith
     go false h = omega arith
 
-digits_length : (format : Format) (bs : List ℕ) → length (digits format bs) ≡ digits_a_byte format * length bs
+digits_length : (format : Format) (bs : List ℕ) → length (digits format bs) ≡ digits_a_byte format *
+    length bs
 digits_length One [] = refl
 digits_length Two [] = refl
 digits_length One (b ∷ bs) = omega (arith, digits_length One bs)
 digits_length Two (b ∷ bs) = omega (arith, digits_length Two bs)
 
 -- the digits 0 that begin 32 bytes
-pub zeros_few : (format : Format) (bs : List ℕ) → length bs ≡ 32 → zeros_in_front (digits format bs) ≤ most_layer format
+pub zeros_few : (format : Format) (bs : List ℕ) → length bs ≡ 32 → zeros_in_front (digits format bs)
+    ≤ most_layer format
 zeros_few One bs size = omega (arith, zeros_le (digits One bs), digits_length One bs, size)
 zeros_few Two bs size = omega (arith, zeros_le (digits Two bs), digits_length Two bs, size)
 

@@ -10,59 +10,84 @@ use Rattle.mst_node.specs.Text.{FlatEntry}
 use Rattle.mst_node.specs.Reading.{◌>>=◌, child_at, entry_at, entries_at, behind_at, whole, body_at, node_of, node_at}
 use Rattle.mst_node.proofs.ReadIsSpelled.{some_same}
 
-pub behind_more : (format : Format) (n k : ℕ) (bytes : List ℕ) (p : FlatEntry × List ℕ) → n ≡ suc k → entry_at format bytes ≡ Some p → behind_at format k p.1 ≡ behind_at format n bytes
+pub behind_more : (format : Format) (n k : ℕ) (bytes : List ℕ) (p : FlatEntry × List ℕ) → n ≡ suc k
+    → entry_at format bytes ≡ Some p → behind_at format k p.1 ≡ behind_at format n bytes
 unfolding behind_at
 behind_more format zero k bytes p e h = absurd (omega (arith, e))
 behind_more format (suc n) k bytes p e h =
     let same : k ≡ n = omega (arith, e) in
-    ap (λ (j : ℕ). behind_at format j p.1) same ∙ sym (ap (λ (r : Option (FlatEntry × List ℕ)). r >>= λ x. behind_at format n x.1) h)
+    ap (λ (j : ℕ). behind_at format j p.1) same
+    ∙ sym (ap (λ (r : Option (FlatEntry × List ℕ)). r >>= λ x. behind_at format n x.1) h)
 
 -- the bytes behind entries are those that reading the entries leaves
-pub behind-entries : (format : Format) (n : ℕ) (bytes : List ℕ) → behind_at format n bytes ≡ option_map (λ (p : List FlatEntry × List ℕ). p.1) (entries_at format n bytes)
+pub behind-entries : (format : Format) (n : ℕ) (bytes : List ℕ) → behind_at format n bytes
+    ≡ option_map (λ (p : List FlatEntry × List ℕ). p.1) (entries_at format n bytes)
 unfolding behind_at entries_at
 behind-entries format zero bytes = refl
 behind-entries format (suc n) bytes = go (behind-entries format n) (entry_at format bytes)
   where
-    on : (e : FlatEntry) (r : Option (List FlatEntry × List ℕ)) → option_map (λ (p : List FlatEntry × List ℕ). p.1) r ≡ option_map (λ (p : List FlatEntry × List ℕ). p.1) (r >>= λ es. Some (e ∷ es.0, es.1))
+    on : (e : FlatEntry) (r : Option (List FlatEntry × List ℕ))
+        → option_map (λ (p : List FlatEntry × List ℕ). p.1) r ≡ option_map
+        (λ (p : List FlatEntry × List ℕ). p.1) (r >>= λ es. Some (e ∷ es.0, es.1))
     on e None = refl
     on e (Some es) = refl
 
-    go : ((rest : List ℕ) → behind_at format n rest ≡ option_map (λ (p : List FlatEntry × List ℕ). p.1) (entries_at format n rest)) → (r : Option (FlatEntry × List ℕ)) → (r >>= λ e. behind_at format n e.1) ≡ option_map (λ (p : List FlatEntry × List ℕ). p.1) (r >>= λ e. entries_at format n e.1 >>= λ es. Some (e.0 ∷ es.0, es.1))
+    go : ((rest : List ℕ) → behind_at format n rest ≡ option_map
+        (λ (p : List FlatEntry × List ℕ). p.1) (entries_at format n rest))
+        → (r : Option (FlatEntry × List ℕ)) → (r >>= λ e. behind_at format n e.1) ≡ option_map
+        (λ (p : List FlatEntry × List ℕ). p.1)
+        (r >>= λ e. entries_at format n e.1 >>= λ es. Some (e.0 ∷ es.0, es.1))
     go next None = refl
     go next (Some e) = next e.1 ∙ on e.0 (entries_at format n e.1)
 
 -- ---- the body of a text, by what lies behind its entries
 
 -- no entries, no body
-pub body-none : (format : Format) (n : ℕ) (bytes : List ℕ) → behind_at format n bytes ≡ None → is_some (body_at format n bytes) ≡ false
+pub body-none : (format : Format) (n : ℕ) (bytes : List ℕ) → behind_at format n bytes ≡ None
+    → is_some (body_at format n bytes) ≡ false
 unfolding body_at
-body-none format n bytes h = go (entries_at format n bytes) (sym (behind-entries format n bytes) ∙ h)
+body-none format n bytes h =
+    go (entries_at format n bytes) (sym (behind-entries format n bytes) ∙ h)
   where
-    go : (r : Option (List FlatEntry × List ℕ)) → option_map (λ (p : List FlatEntry × List ℕ). p.1) r ≡ None → is_some {T = List FlatEntry × Option (List ℕ)} (r >>= λ es. child_at es.1 >>= λ tail. whole ((es.0, tail.0), tail.1)) ≡ false
+    go : (r : Option (List FlatEntry × List ℕ)) → option_map (λ (p : List FlatEntry × List ℕ). p.1)
+        r ≡ None → is_some {T = List FlatEntry × Option (List ℕ)}
+        (r >>= λ es. child_at es.1 >>= λ tail. whole ((es.0, tail.0), tail.1)) ≡ false
     go None e = refl
     go (Some es) e = absurd (cc)
 
 -- behind the entries stands the last child, if there is a body
-pub body-child : (format : Format) (n : ℕ) (bytes rest : List ℕ) → behind_at format n bytes ≡ Some rest → is_some (body_at format n bytes) ≡ is_some (child_at rest >>= whole)
+pub body-child : (format : Format) (n : ℕ) (bytes rest : List ℕ) → behind_at format n bytes ≡ Some
+    rest → is_some (body_at format n bytes) ≡ is_some (child_at rest >>= whole)
 unfolding body_at
-body-child format n bytes rest h = go (entries_at format n bytes) (sym (behind-entries format n bytes) ∙ h)
+body-child format n bytes rest h =
+    go (entries_at format n bytes) (sym (behind-entries format n bytes) ∙ h)
   where
-    on : (es : List FlatEntry) (r : Option (Option (List ℕ) × List ℕ)) → is_some {T = List FlatEntry × Option (List ℕ)} (r >>= λ tail. whole ((es, tail.0), tail.1)) ≡ is_some (r >>= whole)
+    on : (es : List FlatEntry) (r : Option (Option (List ℕ) × List ℕ))
+        → is_some {T = List FlatEntry × Option (List ℕ)}
+        (r >>= λ tail. whole ((es, tail.0), tail.1)) ≡ is_some (r >>= whole)
     on es None = refl
     on es (Some (tail, [])) = refl
     on es (Some (tail, b ∷ bs)) = refl
 
-    go : (r : Option (List FlatEntry × List ℕ)) → option_map (λ (p : List FlatEntry × List ℕ). p.1) r ≡ Some rest → is_some {T = List FlatEntry × Option (List ℕ)} (r >>= λ es. child_at es.1 >>= λ tail. whole ((es.0, tail.0), tail.1)) ≡ is_some (child_at rest >>= whole)
+    go : (r : Option (List FlatEntry × List ℕ)) → option_map (λ (p : List FlatEntry × List ℕ). p.1)
+        r ≡ Some rest → is_some {T = List FlatEntry × Option (List ℕ)}
+        (r >>= λ es. child_at es.1 >>= λ tail. whole ((es.0, tail.0), tail.1)) ≡ is_some
+        (child_at rest >>= whole)
     go None e = absurd (cc)
-    go (Some es) e = on es.0 (child_at es.1) ∙ ap (λ (xs : List ℕ). is_some (child_at xs >>= whole)) (some_same es.1 rest e)
+    go (Some es) e = on es.0 (child_at es.1) ∙ ap (λ (xs : List ℕ). is_some (child_at xs >>= whole))
+        (some_same es.1 rest e)
 
-pub whole-empty : (x : Option (List ℕ)) (left : List ℕ) → is_some (whole (x, left)) ≡ (length left == 0)
+pub whole-empty : (x : Option (List ℕ)) (left : List ℕ) → is_some (whole (x, left))
+    ≡ (length left == 0)
 whole-empty x [] = refl
 whole-empty x (b ∷ left) = grind (arith, nat_tests)
 
 -- ---- the heading of a text
 
-pub node-heading : (text body : List ℕ) (n : ℕ) → 4 ≤ length text → get_or text 0 0 ≡ 1 → n ≡ from_be_bytes w16 (get_or text 2 0 ∷ get_or text 3 0 ∷ []) → body ≡ take (length text - 4) (drop 4 text) → node_at One text ≡ cond (n == 0) None (body_at One n body >>= λ b. Some (node_of One (get_or text 1 0) b))
+pub node-heading : (text body : List ℕ) (n : ℕ) → 4 ≤ length text → get_or text 0 0 ≡ 1
+    → n ≡ from_be_bytes w16 (get_or text 2 0 ∷ get_or text 3 0 ∷ []) → body ≡ take (length text - 4)
+    (drop 4 text) → node_at One text ≡ cond (n == 0) None
+    (body_at One n body >>= λ b. Some (node_of One (get_or text 1 0) b))
 unfolding node_at
 node-heading [] body n h v e is = absurd (omega arith)
 node-heading (a ∷ []) body n h v e is = absurd (omega arith)

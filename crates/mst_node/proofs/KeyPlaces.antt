@@ -9,11 +9,15 @@ use Rattle.mst_node.specs.Trail.{by_order}
 use Rattle.mst_node.specs.Place.{place_among}
 
 -- what the order of the key to the next entry's key chooses
-abbrev pub chosen : List ℕ → Option (List ℕ) → Option (List ℕ) → FlatEntry → List FlatEntry → Option (List ℕ) → List ℕ → Ordering → Place
-chosen k low high e es tail at r = by_order r (Gap e.child (record { low = low; high = Some at })) (Held e.held) (place_among k (Some at) high es tail)
+abbrev pub chosen : List ℕ → Option (List ℕ) → Option (List ℕ) → FlatEntry → List FlatEntry
+    → Option (List ℕ) → List ℕ → Ordering → Place
+chosen k low high e es tail at r = by_order r (Gap e.child (record { low = low; high = Some at }))
+    (Held e.held) (place_among k (Some at) high es tail)
 
-pub place_step : (k : List ℕ) (low high : Option (List ℕ)) (all es : List FlatEntry) (e : FlatEntry) (tail : Option (List ℕ)) (at : List ℕ) (r : Ordering) (p : Place)
-    → all ≡ e ∷ es → at ≡ e.key → r ≡ key_cmp k at → place_among k low high all tail ≡ p → chosen k low high e es tail at r ≡ p
+pub place_step : (k : List ℕ) (low high : Option (List ℕ)) (all es : List FlatEntry) (e : FlatEntry)
+    (tail : Option (List ℕ)) (at : List ℕ) (r : Ordering) (p : Place)
+    → all ≡ e ∷ es → at ≡ e.key → r ≡ key_cmp k at → place_among k low high all tail ≡ p
+    → chosen k low high e es tail at r ≡ p
 place_step k low high all es e tail at r p is at_is order whole =
     ap (chosen k low high e es tail at) order
     ∙ ap (λ (j : List ℕ). chosen k low high e es tail j (key_cmp k j)) at_is

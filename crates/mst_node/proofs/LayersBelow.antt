@@ -10,14 +10,16 @@ under_weaker l m empty lt is = tt
 under_weaker l m (node f k es) lt is = omega (arith, is)
 
 mutual
-  all_under : (t : Tree) (l : ℕ) (u : Tree) → IsUnder l t → LayersFall t → Contains (nodes t) u → IsUnder l u
+  all_under : (t : Tree) (l : ℕ) (u : Tree) → IsUnder l t → LayersFall t → Contains (nodes t) u
+      → IsUnder l u
   all_under empty l u under fall has = absurd (contains-nothing u has)
   all_under (node f m es) l u under fall has = ⊎_elim
       (λ (same : node f m es ≡ u). subst (IsUnder l) same under)
       (λ (rest : Contains (nodes_below es) u). under_weaker l m u under (under_in es m u fall rest))
       (contains-cases (node f m es) (nodes_below es) u has)
 
-  pub under_in : (es : Entries) (l : ℕ) (u : Tree) → LayersFallIn l es → Contains (nodes_below es) u → IsUnder l u
+  pub under_in : (es : Entries) (l : ℕ) (u : Tree) → LayersFallIn l es → Contains (nodes_below es) u
+      → IsUnder l u
   under_in (last child) l u fall has = all_under child l u fall.0 fall.1 has
   under_in (entry child key value rest) l u fall has = ⊎_elim
       (λ (first : Contains (nodes child) u). all_under child l u fall.0 fall.1 first)

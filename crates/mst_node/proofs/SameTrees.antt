@@ -44,7 +44,9 @@ mutual
       let top = both_left (same_format f g && (l == k)) (same_entries es fs) e in
       let format = format_from_same f g (both_left (same_format f g) (l == k) top) in
       let layer = same_number l k (both_right (same_format f g) (l == k) top) in
-      let entries = entries_from_same es fs (both_right (same_format f g && (l == k)) (same_entries es fs) e) in
+      let entries =
+      entries_from_same es fs (both_right (same_format f g && (l == k)) (same_entries es fs) e)
+      in
       λ i. node (format i) (layer i) (entries i)
 
   entries_from_same : (es fs : Entries) → same_entries es fs ≡ true → es ≡ fs
@@ -52,24 +54,32 @@ mutual
   entries_from_same (last c) (entry d j w fs) e = absurd (true≢false (sym e))
   entries_from_same (entry c k v es) (last d) e = absurd (true≢false (sym e))
   entries_from_same (entry c k v es) (entry d j w fs) e =
-      let three = both_left (same_tree c d && same_bytes k j && same_bytes v w) (same_entries es fs) e in
+      let three = both_left (same_tree c d && same_bytes k j && same_bytes v w) (same_entries es fs)
+      e in
       let two = both_left (same_tree c d && same_bytes k j) (same_bytes v w) three in
       let child = tree_from_same c d (both_left (same_tree c d) (same_bytes k j) two) in
       let key = same_from_test k j (both_right (same_tree c d) (same_bytes k j) two) in
-      let value = same_from_test v w (both_right (same_tree c d && same_bytes k j) (same_bytes v w) three) in
-      let rest = entries_from_same es fs (both_right (same_tree c d && same_bytes k j && same_bytes v w) (same_entries es fs) e) in
+      let value =
+      same_from_test v w (both_right (same_tree c d && same_bytes k j) (same_bytes v w) three)
+      in
+      let rest =
+      entries_from_same es fs
+      (both_right (same_tree c d && same_bytes k j && same_bytes v w) (same_entries es fs) e) in
       λ i. entry (child i) (key i) (value i) (rest i)
 
 mutual
   pub tree_itself : (t : Tree) → same_tree t t ≡ true
   tree_itself empty = refl
-  tree_itself (node f l es) = both (same_format f f && (l == l)) (same_entries es es) (both (same_format f f) (l == l) (format_itself f) (number_itself l)) (entries_itself es)
+  tree_itself (node f l es) = both (same_format f f && (l == l)) (same_entries es es)
+      (both (same_format f f) (l == l) (format_itself f) (number_itself l)) (entries_itself es)
 
   entries_itself : (es : Entries) → same_entries es es ≡ true
   entries_itself (last c) = tree_itself c
   entries_itself (entry c k v es) =
       both (same_tree c c && same_bytes k k && same_bytes v v) (same_entries es es)
-      (both (same_tree c c && same_bytes k k) (same_bytes v v) (both (same_tree c c) (same_bytes k k) (tree_itself c) (test_of_same k k refl)) (test_of_same v v refl))
+      (both (same_tree c c && same_bytes k k) (same_bytes v v)
+      (both (same_tree c c) (same_bytes k k) (tree_itself c) (test_of_same k k refl))
+      (test_of_same v v refl))
       (entries_itself es)
 
 pub same_from_tree : (t u : Tree) → t ≡ u → same_tree t u ≡ true

@@ -34,14 +34,21 @@ lt-Decides Less = (λ e. refl, λ e. refl)
 lt-Decides Equal = (λ e. absurd (cc), λ e. ap is_lt e)
 lt-Decides Greater = (λ e. absurd (cc), λ e. ap is_lt e)
 
-last-Decides : (last : Option (List ℕ)) (k : List ℕ) → Decides (option_map_or (λ b. is_lt (key_cmp b k)) last true) (IfSome last (λ b. key_cmp b k ≡ Less))
+last-Decides : (last : Option (List ℕ)) (k : List ℕ)
+    → Decides (option_map_or (λ b. is_lt (key_cmp b k)) last true)
+    (IfSome last (λ b. key_cmp b k ≡ Less))
 last-Decides None k = (λ e. tt, λ is. refl)
 last-Decides (Some b) k = lt-Decides (key_cmp b k)
 
-pub behind-Decides : (format : Format) (l : ℕ) (last : Option (List ℕ)) (k : List ℕ) → Decides (fits_behind format l last k) ((layer_in format k ≡ l) × IfSome last (λ b. key_cmp b k ≡ Less))
-behind-Decides format l last k = Decides-and (layer_in format k == l) (option_map_or (λ b. is_lt (key_cmp b k)) last true) (Decides-eqb (layer_in format k) l) (last-Decides last k)
+pub behind-Decides : (format : Format) (l : ℕ) (last : Option (List ℕ)) (k : List ℕ)
+    → Decides (fits_behind format l last k)
+    ((layer_in format k ≡ l) × IfSome last (λ b. key_cmp b k ≡ Less))
+behind-Decides format l last k =
+    Decides-and (layer_in format k == l) (option_map_or (λ b. is_lt (key_cmp b k)) last true)
+    (Decides-eqb (layer_in format k) l) (last-Decides last k)
 
-fits_ok : {A : Type 0} (b : Bool) (r : Option A) (y : A) → cond b r None ≡ Some y → (b ≡ true) × (r ≡ Some y)
+fits_ok : {A : Type 0} (b : Bool) (r : Option A) (y : A) → cond b r None ≡ Some y → (b ≡ true)
+    × (r ≡ Some y)
 fits_ok true r y h = (refl, h)
 fits_ok false r y h = absurd (cc)
 
@@ -52,39 +59,58 @@ passing k p [] = p
 passing k p (e ∷ es) = passing k (pass_at k p e) es
 
 -- what is scanned was read, and its keys fit
-scan-read : (format : Format) (l : ℕ) (k : List ℕ) (p : Passing) (n : ℕ) (bytes : List ℕ) (r : Passing × List ℕ) → scan_at format l k p n bytes ≡ Some r → (es : List FlatEntry) × (entries_at format n bytes ≡ Some (es, r.1)) × FitsFrom format p.last l es × (r.0 ≡ passing k p es)
+scan-read : (format : Format) (l : ℕ) (k : List ℕ) (p : Passing) (n : ℕ) (bytes : List ℕ)
+    (r : Passing × List ℕ) → scan_at format l k p n bytes ≡ Some r → (es : List FlatEntry)
+    × (entries_at format n bytes ≡ Some (es, r.1)) × FitsFrom format p.last l es
+    × (r.0 ≡ passing k p es)
 unfolding scan_at entries_at
 scan-read format l k p zero bytes r h =
-    let same = some_same (p, bytes) r h in
-    ([], ap (λ (q : Passing × List ℕ). Some ([], q.1)) same, tt, ap (λ (q : Passing × List ℕ). q.0) (sym same))
+    let same = some_same (p, bytes) r h in (
+      [],
+      ap (λ (q : Passing × List ℕ). Some ([], q.1)) same,
+      tt,
+      ap (λ (q : Passing × List ℕ). q.0)
+          (sym same),
+    )
 scan-read format l k p (suc n) bytes r h =
     let e = bind_ok (entry_at format bytes) _ r h in
-    let fit = fits_ok (fits_behind format l p.last e.0.0.key) (scan_at format l k (pass_at k p e.0.0) n e.0.1) r e.2 in
+    let fit = fits_ok (fits_behind format l p.last e.0.0.key)
+    (scan_at format l k (pass_at k p e.0.0) n e.0.1) r e.2 in
     let rest = scan-read format l k (pass_at k p e.0.0) n e.0.1 r fit.1 in
     let fits = (behind-Decides format l p.last e.0.0.key).0 fit.0 in
     let read : entries_at format (suc n) bytes ≡ Some (e.0.0 ∷ rest.0, r.1) =
-    ap (λ (q : Option (FlatEntry × List ℕ)). q >>= λ x. entries_at format n x.1 >>= λ es. Some (x.0 ∷ es.0, es.1)) e.1
+    ap (λ (q : Option (FlatEntry × List ℕ)). q >>= λ x. entries_at format n x.1 >>= λ es. Some
+    (x.0 ∷ es.0, es.1)) e.1
     ∙ ap (λ (q : Option (List FlatEntry × List ℕ)). q >>= λ es. Some (e.0.0 ∷ es.0, es.1)) rest.1 in
     (e.0.0 ∷ rest.0, read, (fits.0, fits.1, rest.2), rest.3)
 
 -- what is read with keys that fit is scanned
-read-scan : (format : Format) (l : ℕ) (k : List ℕ) (p : Passing) (n : ℕ) (bytes : List ℕ) (r : List FlatEntry × List ℕ) → entries_at format n bytes ≡ Some r → FitsFrom format p.last l r.0 → scan_at format l k p n bytes ≡ Some (passing k p r.0, r.1)
+read-scan : (format : Format) (l : ℕ) (k : List ℕ) (p : Passing) (n : ℕ) (bytes : List ℕ)
+    (r : List FlatEntry × List ℕ) → entries_at format n bytes ≡ Some r → FitsFrom format p.last l
+    r.0 → scan_at format l k p n bytes ≡ Some (passing k p r.0, r.1)
 unfolding scan_at entries_at
-read-scan format l k p zero bytes r h fits = ap (λ (q : List FlatEntry × List ℕ). Some (passing k p q.0, q.1)) (some_same ([], bytes) r h)
+read-scan format l k p zero bytes r h fits =
+    ap (λ (q : List FlatEntry × List ℕ). Some (passing k p q.0, q.1)) (some_same ([], bytes) r h)
 read-scan format l k p (suc n) bytes r h fits =
     let e = bind_ok (entry_at format bytes) _ r h in
     let more = bind_ok (entries_at format n e.0.1) _ r e.2 in
     let same : (e.0.0 ∷ more.0.0, more.0.1) ≡ r = some_same _ r more.2 in
-    let here : FitsFrom format p.last l (e.0.0 ∷ more.0.0) = subst (λ (q : List FlatEntry × List ℕ). FitsFrom format p.last l q.0) (sym same) fits in
-    let test : fits_behind format l p.last e.0.0.key ≡ true = (behind-Decides format l p.last e.0.0.key).1 (here.0, here.1) in
+    let here : FitsFrom format p.last l (e.0.0 ∷ more.0.0) =
+    subst (λ (q : List FlatEntry × List ℕ). FitsFrom format p.last l q.0) (sym same) fits in
+    let test : fits_behind format l p.last e.0.0.key ≡ true =
+    (behind-Decides format l p.last e.0.0.key).1 (here.0, here.1) in
     let rest = read-scan format l k (pass_at k p e.0.0) n e.0.1 more.0 more.1 here.2 in
-    ap (λ (q : Option (FlatEntry × List ℕ)). q >>= λ x. cond (fits_behind format l p.last x.0.key) (scan_at format l k (pass_at k p x.0) n x.1) None) e.1
+    ap (λ (q : Option (FlatEntry × List ℕ)). q >>= λ x. cond (fits_behind format l p.last x.0.key)
+    (scan_at format l k (pass_at k p x.0) n x.1) None) e.1
     ∙ ap (λ (t : Bool). cond t (scan_at format l k (pass_at k p e.0.0) n e.0.1) None) test
     ∙ rest
     ∙ ap (λ (q : List FlatEntry × List ℕ). Some (passing k p q.0, q.1)) same
 
 -- one more entry of a scan
-pub scan_more : (format : Format) (l : ℕ) (k : List ℕ) (p q : Passing) (n m : ℕ) (bytes : List ℕ) (e : FlatEntry × List ℕ) → n ≡ suc m → entry_at format bytes ≡ Some e → fits_behind format l p.last e.0.key ≡ true → q ≡ pass_at k p e.0 → scan_at format l k q m e.1 ≡ scan_at format l k p n bytes
+pub scan_more : (format : Format) (l : ℕ) (k : List ℕ) (p q : Passing) (n m : ℕ) (bytes : List ℕ)
+    (e : FlatEntry × List ℕ) → n ≡ suc m → entry_at format bytes ≡ Some e → fits_behind format l
+    p.last e.0.key ≡ true → q ≡ pass_at k p e.0 → scan_at format l k q m e.1 ≡ scan_at format l k p
+    n bytes
 unfolding scan_at
 scan_more format l k p q zero m bytes e h r fits is = absurd (omega (arith, h))
 scan_more format l k p q (suc n) m bytes e h r fits is =
@@ -92,46 +118,74 @@ scan_more format l k p q (suc n) m bytes e h r fits is =
     ap (λ (j : ℕ). scan_at format l k q j e.1) same
     ∙ ap (λ (s : Passing). scan_at format l k s n e.1) is
     ∙ sym (ap (λ (t : Bool). cond t (scan_at format l k (pass_at k p e.0) n e.1) None) fits)
-    ∙ sym (ap (λ (o : Option (FlatEntry × List ℕ)). o >>= λ x. cond (fits_behind format l p.last x.0.key) (scan_at format l k (pass_at k p x.0) n x.1) None) r)
+    ∙ sym (ap (λ (o : Option (FlatEntry × List ℕ)). o >>= λ x. cond
+    (fits_behind format l p.last x.0.key) (scan_at format l k (pass_at k p x.0) n x.1) None) r)
 
 -- a scan ends where an entry is not read, or does not fit
-pub scan_unread : (format : Format) (l : ℕ) (k : List ℕ) (p : Passing) (n : ℕ) (bytes : List ℕ) → 0 < n → entry_at format bytes ≡ None → scan_at format l k p n bytes ≡ None
+pub scan_unread : (format : Format) (l : ℕ) (k : List ℕ) (p : Passing) (n : ℕ) (bytes : List ℕ)
+    → 0 < n → entry_at format bytes ≡ None → scan_at format l k p n bytes ≡ None
 unfolding scan_at
 scan_unread format l k p zero bytes some r = absurd (omega arith)
-scan_unread format l k p (suc n) bytes some r = ap (λ (o : Option (FlatEntry × List ℕ)). o >>= λ x. cond (fits_behind format l p.last x.0.key) (scan_at format l k (pass_at k p x.0) n x.1) None) r
+scan_unread format l k p (suc n) bytes some r =
+    ap (λ (o : Option (FlatEntry × List ℕ)). o >>= λ x. cond (fits_behind format l p.last x.0.key)
+    (scan_at format l k (pass_at k p x.0) n x.1) None) r
 
-pub scan_unfit : (format : Format) (l : ℕ) (k : List ℕ) (p : Passing) (n : ℕ) (bytes : List ℕ) (e : FlatEntry × List ℕ) → 0 < n → entry_at format bytes ≡ Some e → fits_behind format l p.last e.0.key ≡ false → scan_at format l k p n bytes ≡ None
+pub scan_unfit : (format : Format) (l : ℕ) (k : List ℕ) (p : Passing) (n : ℕ) (bytes : List ℕ)
+    (e : FlatEntry × List ℕ) → 0 < n → entry_at format bytes ≡ Some e → fits_behind format l p.last
+    e.0.key ≡ false → scan_at format l k p n bytes ≡ None
 unfolding scan_at
 scan_unfit format l k p zero bytes e some r fits = absurd (omega arith)
 scan_unfit format l k p (suc n) bytes e some r fits =
-    ap (λ (o : Option (FlatEntry × List ℕ)). o >>= λ x. cond (fits_behind format l p.last x.0.key) (scan_at format l k (pass_at k p x.0) n x.1) None) r
+    ap (λ (o : Option (FlatEntry × List ℕ)). o >>= λ x. cond (fits_behind format l p.last x.0.key)
+    (scan_at format l k (pass_at k p x.0) n x.1) None) r
     ∙ ap (λ (t : Bool). cond t (scan_at format l k (pass_at k p e.0) n e.1) None) fits
 
-pub scan_end : (format : Format) (l : ℕ) (k : List ℕ) (p : Passing) (n : ℕ) (bytes : List ℕ) → n ≡ 0 → scan_at format l k p n bytes ≡ Some (p, bytes)
+pub scan_end : (format : Format) (l : ℕ) (k : List ℕ) (p : Passing) (n : ℕ) (bytes : List ℕ) → n ≡ 0
+    → scan_at format l k p n bytes ≡ Some (p, bytes)
 unfolding scan_at
 scan_end format l k p zero bytes none = refl
 scan_end format l k p (suc n) bytes none = absurd (omega (arith, none))
 
 -- ---- where the search ends
 
-passing-stopped : (k : List ℕ) (p : Passing) (s : Stopped) (es : List FlatEntry) → p.stop ≡ Some s → (passing k p es).stop ≡ Some s
+passing-stopped : (k : List ℕ) (p : Passing) (s : Stopped) (es : List FlatEntry) → p.stop ≡ Some s
+    → (passing k p es).stop ≡ Some s
 passing-stopped k p s [] h = h
-passing-stopped k p s (e ∷ es) h = passing-stopped k (pass_at k p e) s es (ap (λ (o : Option Stopped). stop_at o p.last e (key_cmp k e.key)) h)
+passing-stopped k p s (e ∷ es) h =
+    passing-stopped k (pass_at k p e) s es
+    (ap (λ (o : Option Stopped). stop_at o p.last e (key_cmp k e.key)) h)
 
 -- what the order to the next entry's key chooses
-abbrev chosen : List ℕ → Option (List ℕ) → Span → FlatEntry → List FlatEntry → Option (List ℕ) → Ordering → Place
-chosen k last span e es tail r = by_order r (Gap e.child (record { low = bound_or last span.low; high = Some e.key })) (Held e.held) (place_among k (Some e.key) span.high es tail)
+abbrev chosen : List ℕ → Option (List ℕ) → Span → FlatEntry → List FlatEntry → Option (List ℕ)
+    → Ordering → Place
+chosen k last span e es tail r =
+    by_order r (Gap e.child (record { low = bound_or last span.low; high = Some e.key }))
+    (Held e.held) (place_among k (Some e.key) span.high es tail)
 
-passing-place : (k : List ℕ) (p : Passing) (es : List FlatEntry) (span : Span) (tail : Option (List ℕ)) → p.stop ≡ None → place_by (passing k p es).stop (passing k p es).last span tail ≡ place_among k (bound_or p.last span.low) span.high es tail
+passing-place : (k : List ℕ) (p : Passing) (es : List FlatEntry) (span : Span)
+    (tail : Option (List ℕ)) → p.stop ≡ None → place_by (passing k p es).stop (passing k p es).last
+    span tail ≡ place_among k (bound_or p.last span.low) span.high es tail
 passing-place k p [] span tail none = ap (λ (o : Option Stopped). place_by o p.last span tail) none
-passing-place k p (e ∷ es) span tail none = go (key_cmp k e.key) refl (passing-place k (pass_at k p e) es span tail)
+passing-place k p (e ∷ es) span tail none =
+    go (key_cmp k e.key) refl (passing-place k (pass_at k p e) es span tail)
   where
     step : (r : Ordering) → key_cmp k e.key ≡ r → (pass_at k p e).stop ≡ stop_at None p.last e r
-    step r is = ap (λ (o : Option Stopped). stop_at o p.last e (key_cmp k e.key)) none ∙ ap (stop_at None p.last e) is
+    step r is = ap (λ (o : Option Stopped). stop_at o p.last e (key_cmp k e.key)) none
+        ∙ ap (stop_at None p.last e) is
 
-    go : (r : Ordering) → key_cmp k e.key ≡ r → ((pass_at k p e).stop ≡ None → place_by (passing k (pass_at k p e) es).stop (passing k (pass_at k p e) es).last span tail ≡ place_among k (Some e.key) span.high es tail) → place_by (passing k (pass_at k p e) es).stop (passing k (pass_at k p e) es).last span tail ≡ chosen k p.last span e es tail r
-    go Less is next = ap (λ (o : Option Stopped). place_by o (passing k (pass_at k p e) es).last span tail) (passing-stopped k (pass_at k p e) (record { low = p.last; entry = e; here = false }) es (step Less is))
-    go Equal is next = ap (λ (o : Option Stopped). place_by o (passing k (pass_at k p e) es).last span tail) (passing-stopped k (pass_at k p e) (record { low = p.last; entry = e; here = true }) es (step Equal is))
+    go : (r : Ordering) → key_cmp k e.key ≡ r
+        → ((pass_at k p e).stop ≡ None → place_by (passing k (pass_at k p e) es).stop
+        (passing k (pass_at k p e) es).last span tail ≡ place_among k (Some e.key) span.high es
+        tail) → place_by (passing k (pass_at k p e) es).stop (passing k (pass_at k p e) es).last
+        span tail ≡ chosen k p.last span e es tail r
+    go Less is next =
+        ap (λ (o : Option Stopped). place_by o (passing k (pass_at k p e) es).last span tail)
+        (passing-stopped k (pass_at k p e) (record { low = p.last; entry = e; here = false }) es
+        (step Less is))
+    go Equal is next =
+        ap (λ (o : Option Stopped). place_by o (passing k (pass_at k p e) es).last span tail)
+        (passing-stopped k (pass_at k p e) (record { low = p.last; entry = e; here = true }) es
+        (step Equal is))
     go Greater is next = next (step Greater is)
 
 -- ---- the first key and the last one
@@ -140,13 +194,16 @@ abbrev last_key : FlatEntry → List FlatEntry → List ℕ
 last_key e [] = e.key
 last_key e (f ∷ es) = last_key f es
 
-passing-last : (k : List ℕ) (p : Passing) (e : FlatEntry) (es : List FlatEntry) → (passing k p (e ∷ es)).last ≡ Some (last_key e es)
+passing-last : (k : List ℕ) (p : Passing) (e : FlatEntry) (es : List FlatEntry)
+    → (passing k p (e ∷ es)).last ≡ Some (last_key e es)
 passing-last k p e [] = refl
 passing-last k p e (f ∷ es) = passing-last k (pass_at k p e) f es
 
-passing-first : (k : List ℕ) (p : Passing) (b : List ℕ) (es : List FlatEntry) → p.first ≡ Some b → (passing k p es).first ≡ Some b
+passing-first : (k : List ℕ) (p : Passing) (b : List ℕ) (es : List FlatEntry) → p.first ≡ Some b
+    → (passing k p es).first ≡ Some b
 passing-first k p b [] h = h
-passing-first k p b (e ∷ es) h = passing-first k (pass_at k p e) b es (ap (λ (o : Option (List ℕ)). Some (unwrap_or o e.key)) h)
+passing-first k p b (e ∷ es) h =
+    passing-first k (pass_at k p e) b es (ap (λ (o : Option (List ℕ)). Some (unwrap_or o e.key)) h)
 
 -- ---- rising keys lie in a span where the first and the last one do
 
@@ -156,69 +213,99 @@ Above b es = AllByRecursion (λ x. key_cmp b x.key ≡ Less) es
 abbrev Below : List ℕ → List FlatEntry → Type 0
 Below b es = AllByRecursion (λ x. key_cmp x.key b ≡ Less) es
 
-all-above : (format : Format) (b : List ℕ) (l : ℕ) (e : FlatEntry) (es : List FlatEntry) → FitsFrom format (Some e.key) l es → key_cmp b e.key ≡ Less → Above b (e ∷ es)
+all-above : (format : Format) (b : List ℕ) (l : ℕ) (e : FlatEntry) (es : List FlatEntry)
+    → FitsFrom format (Some e.key) l es → key_cmp b e.key ≡ Less → Above b (e ∷ es)
 all-above format b l e [] fits less = (less, tt)
-all-above format b l e (f ∷ es) fits less = (less, all-above format b l f es fits.2 ((nat_list_cmp_total).trans b e.key f.key less fits.1))
+all-above format b l e (f ∷ es) fits less =
+    (less, all-above format b l f es fits.2 ((nat_list_cmp_total).trans b e.key f.key less fits.1))
 
-all-below : (format : Format) (b : List ℕ) (l : ℕ) (e : FlatEntry) (es : List FlatEntry) → FitsFrom format (Some e.key) l es → key_cmp (last_key e es) b ≡ Less → Below b (e ∷ es)
+all-below : (format : Format) (b : List ℕ) (l : ℕ) (e : FlatEntry) (es : List FlatEntry)
+    → FitsFrom format (Some e.key) l es → key_cmp (last_key e es) b ≡ Less → Below b (e ∷ es)
 all-below format b l e [] fits less = (less, tt)
 all-below format b l e (f ∷ es) fits less =
     let rest = all-below format b l f es fits.2 less in
     ((nat_list_cmp_total).trans e.key f.key b fits.1 rest.0, rest)
 
-last-below : (b : List ℕ) (e : FlatEntry) (es : List FlatEntry) → Below b (e ∷ es) → key_cmp (last_key e es) b ≡ Less
+last-below : (b : List ℕ) (e : FlatEntry) (es : List FlatEntry) → Below b (e ∷ es)
+    → key_cmp (last_key e es) b ≡ Less
 last-below b e [] all = all.0
 last-below b e (f ∷ es) all = last-below b f es all.1
 
 abbrev Between : Option (List ℕ) → Option (List ℕ) → List FlatEntry → Type 0
 Between low high es = AllByRecursion (λ x. IsBetween low high x.key) es
 
-between-both : (low high : Option (List ℕ)) (es : List FlatEntry) → IfSome low (λ b. Above b es) → IfSome high (λ b. Below b es) → Between low high es
+between-both : (low high : Option (List ℕ)) (es : List FlatEntry) → IfSome low (λ b. Above b es)
+    → IfSome high (λ b. Below b es) → Between low high es
 between-both low high [] a b = tt
-between-both None None (e ∷ es) a b = (record { above = tt; below = tt }, between-both None None es tt tt)
-between-both (Some x) None (e ∷ es) a b = (record { above = a.0; below = tt }, between-both (Some x) None es a.1 tt)
-between-both None (Some y) (e ∷ es) a b = (record { above = tt; below = b.0 }, between-both None (Some y) es tt b.1)
-between-both (Some x) (Some y) (e ∷ es) a b = (record { above = a.0; below = b.0 }, between-both (Some x) (Some y) es a.1 b.1)
+between-both None None (e ∷ es) a b =
+    (record { above = tt; below = tt }, between-both None None es tt tt)
+between-both (Some x) None (e ∷ es) a b =
+    (record { above = a.0; below = tt }, between-both (Some x) None es a.1 tt)
+between-both None (Some y) (e ∷ es) a b =
+    (record { above = tt; below = b.0 }, between-both None (Some y) es tt b.1)
+between-both (Some x) (Some y) (e ∷ es) a b =
+    (record { above = a.0; below = b.0 }, between-both (Some x) (Some y) es a.1 b.1)
 
-between-low : (low high : Option (List ℕ)) (es : List FlatEntry) → Between low high es → IfSome high (λ b. Below b es)
+between-low : (low high : Option (List ℕ)) (es : List FlatEntry) → Between low high es
+    → IfSome high (λ b. Below b es)
 between-low low None es all = tt
 between-low low (Some b) [] all = tt
 between-low low (Some b) (e ∷ es) all = (all.0.below, between-low low (Some b) es all.1)
 
-low-all : (format : Format) (low : Option (List ℕ)) (l : ℕ) (e : FlatEntry) (es : List FlatEntry) → FitsFrom format (Some e.key) l es → IfSome low (λ b. key_cmp b e.key ≡ Less) → IfSome low (λ b. Above b (e ∷ es))
+low-all : (format : Format) (low : Option (List ℕ)) (l : ℕ) (e : FlatEntry) (es : List FlatEntry)
+    → FitsFrom format (Some e.key) l es → IfSome low (λ b. key_cmp b e.key ≡ Less)
+    → IfSome low (λ b. Above b (e ∷ es))
 low-all format None l e es fits less = tt
 low-all format (Some b) l e es fits less = all-above format b l e es fits less
 
-high-all : (format : Format) (high : Option (List ℕ)) (l : ℕ) (e : FlatEntry) (es : List FlatEntry) → FitsFrom format (Some e.key) l es → IfSome high (λ b. key_cmp (last_key e es) b ≡ Less) → IfSome high (λ b. Below b (e ∷ es))
+high-all : (format : Format) (high : Option (List ℕ)) (l : ℕ) (e : FlatEntry) (es : List FlatEntry)
+    → FitsFrom format (Some e.key) l es → IfSome high (λ b. key_cmp (last_key e es) b ≡ Less)
+    → IfSome high (λ b. Below b (e ∷ es))
 high-all format None l e es fits less = tt
 high-all format (Some b) l e es fits less = all-below format b l e es fits less
 
-high-last : (high : Option (List ℕ)) (e : FlatEntry) (es : List FlatEntry) → IfSome high (λ b. Below b (e ∷ es)) → IfSome high (λ b. key_cmp (last_key e es) b ≡ Less)
+high-last : (high : Option (List ℕ)) (e : FlatEntry) (es : List FlatEntry)
+    → IfSome high (λ b. Below b (e ∷ es)) → IfSome high (λ b. key_cmp (last_key e es) b ≡ Less)
 high-last None e es all = tt
 high-last (Some b) e es all = last-below b e es all
 
-ends-within : (format : Format) (k : List ℕ) (span : Span) (l : ℕ) (e : FlatEntry) (es : List FlatEntry) → FitsFrom format None l (e ∷ es) → EndsLieIn span (passing k start (e ∷ es)) ↔ Between span.low span.high (e ∷ es)
+ends-within : (format : Format) (k : List ℕ) (span : Span) (l : ℕ) (e : FlatEntry)
+    (es : List FlatEntry) → FitsFrom format None l (e ∷ es)
+    → EndsLieIn span (passing k start (e ∷ es)) ↔ Between span.low span.high (e ∷ es)
 ends-within format k span l e es fits =
     let first = passing-first k (pass_at k start e) e.key es refl in
     let last = passing-last k start e es in
-    let A : Option (List ℕ) → Type 0 = λ o. IfSome o (λ j. IfSome span.low (λ b. key_cmp b j ≡ Less)) in
-    let B : Option (List ℕ) → Type 0 = λ o. IfSome o (λ j. IfSome span.high (λ b. key_cmp j b ≡ Less)) in (
-      λ ends. between-both span.low span.high (e ∷ es) (low-all format span.low l e es fits.2 (subst A first ends.above)) (high-all format span.high l e es fits.2 (subst B last ends.below)),
-      λ all. record { above = subst A (sym first) all.0.above; below = subst B (sym last) (high-last span.high e es (between-low span.low span.high (e ∷ es) all)) },
+    let A : Option (List ℕ) → Type 0 =
+    λ o. IfSome o (λ j. IfSome span.low (λ b. key_cmp b j ≡ Less)) in
+    let B : Option (List ℕ) → Type 0 =
+    λ o. IfSome o (λ j. IfSome span.high (λ b. key_cmp j b ≡ Less)) in (
+      λ ends. between-both span.low span.high (e ∷ es)
+          (low-all format span.low l e es fits.2 (subst A first ends.above))
+          (high-all format span.high l e es fits.2 (subst B last ends.below)),
+      λ all. record {
+        above = subst A (sym first) all.0.above;
+        below =
+            subst B (sym last)
+            (high-last span.high e es (between-low span.low span.high (e ∷ es) all));
+      },
     )
 
 -- ---- the whole text
 
 -- what was scanned is a node with keys that fit, and what it says of the key
-pub record Scanned (format : Format) (k text : List ℕ) (x : ℕ × Passing × Option (List ℕ)) : Type 0 where
-  pub node : FlatNode
-  pub read : node_at format text ≡ Some node
-  pub fit : KeysFit node
-  pub layer : x.0 ≡ node.layer
-  pub within : (span : Span) → EndsLieIn span x.1 ↔ LiesWithin span node
-  pub place : (span : Span) → place_by x.1.stop x.1.last span x.2 ≡ place_of k span node
+pub record Scanned (format : Format) (k text : List ℕ) (x : ℕ × Passing × Option (List ℕ)) : Type 0
+  where
+    pub node : FlatNode
+    pub read : node_at format text ≡ Some node
+    pub fit : KeysFit node
+    pub layer : x.0 ≡ node.layer
+    pub within : (span : Span) → EndsLieIn span x.1 ↔ LiesWithin span node
+    pub place : (span : Span) → place_by x.1.stop x.1.last span x.2 ≡ place_of k span node
 
-body-read : (format : Format) (l : ℕ) (k : List ℕ) (n : ℕ) (bytes : List ℕ) (b : Passing × Option (List ℕ)) → body_scan_at format l k n bytes ≡ Some b → (es : List FlatEntry) × (body_at format n bytes ≡ Some (es, b.1)) × FitsFrom format None l es × (b.0 ≡ passing k start es) × (length es ≡ n)
+body-read : (format : Format) (l : ℕ) (k : List ℕ) (n : ℕ) (bytes : List ℕ)
+    (b : Passing × Option (List ℕ)) → body_scan_at format l k n bytes ≡ Some b
+    → (es : List FlatEntry) × (body_at format n bytes ≡ Some (es, b.1)) × FitsFrom format None l es
+    × (b.0 ≡ passing k start es) × (length es ≡ n)
 unfolding body_scan_at body_at
 body-read format l k n bytes b h =
     let p = bind_ok (scan_at format l k start n bytes) _ b h in
@@ -226,32 +313,54 @@ body-read format l k n bytes b h =
     let t = bind_ok (child_at p.0.1) _ b p.2 in
     go p.0.0 p.0.1 r.0 r.1 r.2 r.3 t.0.0 t.0.1 t.1 t.2
   where
-    go : (p : Passing) (rest : List ℕ) (es : List FlatEntry) → entries_at format n bytes ≡ Some (es, rest) → FitsFrom format None l es → p ≡ passing k start es → (tail : Option (List ℕ)) (left : List ℕ) → child_at rest ≡ Some (tail, left) → whole ((p, tail), left) ≡ Some b → (es : List FlatEntry) × (body_at format n bytes ≡ Some (es, b.1)) × FitsFrom format None l es × (b.0 ≡ passing k start es) × (length es ≡ n)
+    go : (p : Passing) (rest : List ℕ) (es : List FlatEntry) → entries_at format n bytes ≡ Some
+        (es, rest) → FitsFrom format None l es → p ≡ passing k start es → (tail : Option (List ℕ))
+        (left : List ℕ) → child_at rest ≡ Some (tail, left) → whole ((p, tail), left) ≡ Some b
+        → (es : List FlatEntry) × (body_at format n bytes ≡ Some (es, b.1)) × FitsFrom format None l
+        es × (b.0 ≡ passing k start es) × (length es ≡ n)
     go p rest es h fits is tail (x ∷ left) c e = absurd (cc)
     go p rest es h fits is tail [] c e =
         let same = some_same (p, tail) b e in
         let read : body_at format n bytes ≡ Some (es, tail) =
-        ap (λ (q : Option (List FlatEntry × List ℕ)). q >>= λ x. child_at x.1 >>= λ t. whole ((x.0, t.0), t.1)) h
-        ∙ ap (λ (q : Option (Option (List ℕ) × List ℕ)). q >>= λ t. whole ((es, t.0), t.1)) c in
-        (es, read ∙ ap (λ (q : Passing × Option (List ℕ)). Some (es, q.1)) same, fits, ap (λ (q : Passing × Option (List ℕ)). q.0) (sym same) ∙ is, entries-count format n bytes (es, rest) h)
+        ap (λ (q : Option (List FlatEntry × List ℕ)). q >>= λ x. child_at x.1 >>= λ t. whole
+        ((x.0, t.0), t.1)) h
+        ∙ ap (λ (q : Option (Option (List ℕ) × List ℕ)). q >>= λ t. whole ((es, t.0), t.1)) c in (
+          es,
+          read ∙ ap (λ (q : Passing × Option (List ℕ)). Some (es, q.1)) same,
+          fits,
+          ap (λ (q : Passing × Option (List ℕ)). q.0) (sym same) ∙ is,
+          entries-count format n
+              bytes (es, rest) h,
+        )
 
-body-scan : (format : Format) (l : ℕ) (k : List ℕ) (n : ℕ) (bytes : List ℕ) (b : List FlatEntry × Option (List ℕ)) → body_at format n bytes ≡ Some b → FitsFrom format None l b.0 → body_scan_at format l k n bytes ≡ Some (passing k start b.0, b.1)
+body-scan : (format : Format) (l : ℕ) (k : List ℕ) (n : ℕ) (bytes : List ℕ)
+    (b : List FlatEntry × Option (List ℕ)) → body_at format n bytes ≡ Some b → FitsFrom format None
+    l b.0 → body_scan_at format l k n bytes ≡ Some (passing k start b.0, b.1)
 unfolding body_scan_at body_at
 body-scan format l k n bytes b h fits =
     let r = bind_ok (entries_at format n bytes) _ b h in
     let t = bind_ok (child_at r.0.1) _ b r.2 in
     go r.0.0 r.0.1 r.1 t.0.0 t.0.1 t.1 t.2
   where
-    go : (es : List FlatEntry) (rest : List ℕ) → entries_at format n bytes ≡ Some (es, rest) → (tail : Option (List ℕ)) (left : List ℕ) → child_at rest ≡ Some (tail, left) → whole ((es, tail), left) ≡ Some b → body_scan_at format l k n bytes ≡ Some (passing k start b.0, b.1)
+    go : (es : List FlatEntry) (rest : List ℕ) → entries_at format n bytes ≡ Some (es, rest)
+        → (tail : Option (List ℕ)) (left : List ℕ) → child_at rest ≡ Some (tail, left)
+        → whole ((es, tail), left) ≡ Some b → body_scan_at format l k n bytes ≡ Some
+        (passing k start b.0, b.1)
     go es rest h tail (x ∷ left) c e = absurd (cc)
     go es rest h tail [] c e =
         let same = some_same (es, tail) b e in
-        let here = subst (λ (q : List FlatEntry × Option (List ℕ)). FitsFrom format None l q.0) (sym same) fits in
-        ap (λ (q : Option (Passing × List ℕ)). q >>= λ x. child_at x.1 >>= λ t. whole ((x.0, t.0), t.1)) (read-scan format l k start n bytes (es, rest) h here)
-        ∙ ap (λ (q : Option (Option (List ℕ) × List ℕ)). q >>= λ t. whole ((passing k start es, t.0), t.1)) c
+        let here = subst (λ (q : List FlatEntry × Option (List ℕ)). FitsFrom format None l q.0)
+        (sym same) fits in
+        ap (λ (q : Option (Passing × List ℕ)). q >>= λ x. child_at x.1 >>= λ t. whole
+        ((x.0, t.0), t.1)) (read-scan format l k start n bytes (es, rest) h here)
+        ∙ ap (λ (q : Option (Option (List ℕ) × List ℕ)). q >>= λ t. whole
+        ((passing k start es, t.0), t.1)) c
         ∙ ap (λ (q : List FlatEntry × Option (List ℕ)). Some (passing k start q.0, q.1)) same
 
-scanned_of : (format : Format) (k text : List ℕ) (l : ℕ) (b : Passing × Option (List ℕ)) (es : List FlatEntry) → node_at format text ≡ Some (node_of format l (es, b.1)) → FitsFrom format None l es → b.0 ≡ passing k start es → 0 < length es → Scanned format k text (l, b.0, b.1)
+scanned_of : (format : Format) (k text : List ℕ) (l : ℕ) (b : Passing × Option (List ℕ))
+    (es : List FlatEntry) → node_at format text ≡ Some (node_of format l (es, b.1))
+    → FitsFrom format None l es → b.0 ≡ passing k start es → 0 < length es → Scanned format k text
+    (l, b.0, b.1)
 scanned_of format k text l b [] read fits is some = absurd (omega arith)
 scanned_of format k text l b (e ∷ es) read fits is some =
     record {
@@ -259,11 +368,15 @@ scanned_of format k text l b (e ∷ es) read fits is some =
       read = read;
       fit = (fits-all format l (e ∷ es, b.1)).1 fits;
       layer = refl;
-      within = λ span. subst (λ (p : Passing). EndsLieIn span p ↔ Between span.low span.high (e ∷ es)) (sym is) (ends-within format k span l e es fits);
-      place = λ span. ap (λ (p : Passing). place_by p.stop p.last span b.1) is ∙ passing-place k start (e ∷ es) span b.1 refl;
+      within =
+          λ span. subst (λ (p : Passing). EndsLieIn span p ↔ Between span.low span.high (e ∷ es))
+          (sym is) (ends-within format k span l e es fits);
+      place = λ span. ap (λ (p : Passing). place_by p.stop p.last span b.1) is
+          ∙ passing-place k start (e ∷ es) span b.1 refl;
     }
 
-pub text-scanned : (format : Format) (k text : List ℕ) (x : ℕ × Passing × Option (List ℕ)) → text_scan_at format k text ≡ Some x → Scanned format k text x
+pub text-scanned : (format : Format) (k text : List ℕ) (x : ℕ × Passing × Option (List ℕ))
+    → text_scan_at format k text ≡ Some x → Scanned format k text x
 unfolding text_scan_at node_at
 text-scanned format k [] x h = absurd (cc)
 text-scanned format k (v ∷ []) x h = absurd (cc)
@@ -271,22 +384,34 @@ text-scanned format k (v ∷ l ∷ []) x h = absurd (cc)
 text-scanned format k (v ∷ l ∷ g ∷ []) x h = absurd (cc)
 text-scanned format k (v ∷ l ∷ g ∷ c ∷ bytes) x h = go (v == version format) refl h
   where
-    go : (u : Bool) → (v == version format) ≡ u → cond u (cond (from_be_bytes w16 (g ∷ c ∷ []) == 0) None (body_scan_at format l k (from_be_bytes w16 (g ∷ c ∷ [])) bytes >>= λ b. Some (l, b.0, b.1))) None ≡ Some x → Scanned format k (v ∷ l ∷ g ∷ c ∷ bytes) x
+    go : (u : Bool) → (v == version format) ≡ u
+        → cond u (cond (from_be_bytes w16 (g ∷ c ∷ []) == 0) None
+        (body_scan_at format l k (from_be_bytes w16 (g ∷ c ∷ [])) bytes >>= λ b. Some
+        (l, b.0, b.1))) None ≡ Some x → Scanned format k (v ∷ l ∷ g ∷ c ∷ bytes) x
     go false e h = absurd (cc)
     go true e h =
         let count = from_be_bytes w16 (g ∷ c ∷ []) in
-        let some = guard_ok (count == 0) (body_scan_at format l k count bytes >>= λ b. Some (l, b.0, b.1)) x h in
+        let some =
+        guard_ok (count == 0) (body_scan_at format l k count bytes >>= λ b. Some (l, b.0, b.1))
+        x h in
         let b = bind_ok (body_scan_at format l k count bytes) (λ b. Some (l, b.0, b.1)) x some.1 in
         let r = body-read format l k count bytes b.0 b.1 in
         let more : 0 < count = grind (arith, nat_tests, some.0) in
         let read : node_at format (v ∷ l ∷ g ∷ c ∷ bytes) ≡ Some (node_of format l (r.0, b.0.1)) =
-        ap (λ (t : Bool). cond t (cond (count == 0) None (body_at format count bytes >>= λ y. Some (node_of format l y))) None) e
-        ∙ ap (λ (t : Bool). cond t None (body_at format count bytes >>= λ y. Some (node_of format l y))) some.0
-        ∙ ap (λ (o : Option (List FlatEntry × Option (List ℕ))). o >>= λ y. Some (node_of format l y)) r.1 in
-        subst (Scanned format k (v ∷ l ∷ g ∷ c ∷ bytes)) (some_same (l, b.0.0, b.0.1) x b.2) (scanned_of format k (v ∷ l ∷ g ∷ c ∷ bytes) l b.0 r.0 read r.2 r.3 (omega (arith, more, r.4)))
+        ap (λ (t : Bool). cond t
+        (cond (count == 0) None (body_at format count bytes >>= λ y. Some (node_of format l y)))
+        None) e
+        ∙ ap (λ (t : Bool). cond t None
+        (body_at format count bytes >>= λ y. Some (node_of format l y))) some.0
+        ∙ ap (λ (o : Option (List FlatEntry × Option (List ℕ))). o >>= λ y. Some
+        (node_of format l y)) r.1 in
+        subst (Scanned format k (v ∷ l ∷ g ∷ c ∷ bytes)) (some_same (l, b.0.0, b.0.1) x b.2)
+        (scanned_of format k (v ∷ l ∷ g ∷ c ∷ bytes) l b.0 r.0 read r.2 r.3
+        (omega (arith, more, r.4)))
 
 -- a node with keys that fit is scanned
-pub node-scanned : (format : Format) (k text : List ℕ) (n : FlatNode) → node_at format text ≡ Some n → KeysFit n → text_scan_at format k text ≡ None → ⊥
+pub node-scanned : (format : Format) (k text : List ℕ) (n : FlatNode) → node_at format text ≡ Some n
+    → KeysFit n → text_scan_at format k text ≡ None → ⊥
 unfolding text_scan_at node_at
 node-scanned format k [] n h fit none = absurd (cc)
 node-scanned format k (v ∷ []) n h fit none = absurd (cc)
@@ -294,15 +419,28 @@ node-scanned format k (v ∷ l ∷ []) n h fit none = absurd (cc)
 node-scanned format k (v ∷ l ∷ g ∷ []) n h fit none = absurd (cc)
 node-scanned format k (v ∷ l ∷ g ∷ c ∷ bytes) n h fit none = go (v == version format) refl h none
   where
-    go : (u : Bool) → (v == version format) ≡ u → cond u (cond (from_be_bytes w16 (g ∷ c ∷ []) == 0) None (body_at format (from_be_bytes w16 (g ∷ c ∷ [])) bytes >>= λ y. Some (node_of format l y))) None ≡ Some n → cond {A = Option (ℕ × Passing × Option (List ℕ))} u (cond {A = Option (ℕ × Passing × Option (List ℕ))} (from_be_bytes w16 (g ∷ c ∷ []) == 0) None (body_scan_at format l k (from_be_bytes w16 (g ∷ c ∷ [])) bytes >>= λ b. Some (l, b.0, b.1))) None ≡ None → ⊥
+    go : (u : Bool) → (v == version format) ≡ u
+        → cond u (cond (from_be_bytes w16 (g ∷ c ∷ []) == 0) None
+        (body_at format (from_be_bytes w16 (g ∷ c ∷ [])) bytes >>= λ y. Some (node_of format l y)))
+        None ≡ Some n → cond {A = Option (ℕ × Passing × Option (List ℕ))} u
+        (cond {A = Option (ℕ × Passing × Option (List ℕ))} (from_be_bytes w16 (g ∷ c ∷ []) == 0)
+        None (body_scan_at format l k (from_be_bytes w16 (g ∷ c ∷ [])) bytes >>= λ b. Some
+        (l, b.0, b.1))) None ≡ None → ⊥
     go false e h none = absurd (cc)
     go true e h none =
         let count = from_be_bytes w16 (g ∷ c ∷ []) in
-        let some = guard_ok (count == 0) (body_at format count bytes >>= λ y. Some (node_of format l y)) n h in
+        let some =
+        guard_ok (count == 0) (body_at format count bytes >>= λ y. Some (node_of format l y)) n
+        h in
         let b = bind_ok (body_at format count bytes) (λ y. Some (node_of format l y)) n some.1 in
-        let fits = (fits-all format l b.0).0 (subst KeysFit (sym (some_same (node_of format l b.0) n b.2)) fit) in
+        let fits =
+        (fits-all format l b.0).0
+        (subst KeysFit (sym (some_same (node_of format l b.0) n b.2)) fit) in
         let scan = body-scan format l k count bytes b.0 b.1 fits in
-        let scanned : cond {A = Option (ℕ × Passing × Option (List ℕ))} (count == 0) None (body_scan_at format l k count bytes >>= λ y. Some (l, y.0, y.1)) ≡ Some (l, passing k start b.0.0, b.0.1) =
-        ap (λ (t : Bool). cond t None (body_scan_at format l k count bytes >>= λ y. Some (l, y.0, y.1))) some.0
+        let scanned : cond {A = Option (ℕ × Passing × Option (List ℕ))} (count == 0) None
+        (body_scan_at format l k count bytes >>= λ y. Some (l, y.0, y.1)) ≡ Some
+        (l, passing k start b.0.0, b.0.1) =
+        ap (λ (t : Bool). cond t None
+        (body_scan_at format l k count bytes >>= λ y. Some (l, y.0, y.1))) some.0
         ∙ ap (λ (o : Option (Passing × Option (List ℕ))). o >>= λ y. Some (l, y.0, y.1)) scan in
         none-some _ _ none scanned

@@ -2,5 +2,15 @@
 use Rattle.std.proofs.Common.{◌≡◌, ℕ}
 use Rattle.mst_pin.specs.State.{State}
 
-pub same_state : (s t : State) → s.passes ≡ t.passes → s.current ≡ t.current → ((r x : ℕ) → s.rows r x ≡ t.rows r x) → ((p : ℕ) → s.pins p ≡ t.pins p) → s.due ≡ t.due → s ≡ t
-same_state s t passes current rows pins due = λ i. record { passes = passes i; current = current i; rows = λ r x. rows r x i; pins = λ p. pins p i; due = due i }
+pub same_state : (s t : State) → s.passes ≡ t.passes → s.current ≡ t.current
+    → ((r x : ℕ) → s.rows r x ≡ t.rows r x) → ((p : ℕ) → s.pins p ≡ t.pins p) → s.due ≡ t.due
+    → s ≡ t
+same_state s t passes current rows pins due =
+    λ i. record {
+      passes = passes i;
+      current = current i;
+      rows = λ r x. rows r x i;
+      pins =
+          λ p. pins p i;
+      due = due i;
+    }

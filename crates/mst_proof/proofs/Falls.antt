@@ -27,7 +27,8 @@ abbrev pub place : (format : Format) → List ℕ → Option (List ℕ) → Opti
 place format k low high es = place_among k low high (flat_entries format es) (tail_digest es)
 
 -- an entry holds the key with the map's value
-pub record Holding (format : Format) (k : List ℕ) (low high : Option (List ℕ)) (es : Entries) : Type 0 where
+pub record Holding (format : Format) (k : List ℕ) (low high : Option (List ℕ)) (es : Entries) : Type
+    0 where
   pub value : List ℕ
   pub placed : place format k low high es ≡ Held (held_of format value)
   pub looks : map_get (entries_pairs es) k ≡ Some value
@@ -36,7 +37,8 @@ pub record Holding (format : Format) (k : List ℕ) (low high : Option (List ℕ
   pub gap : gap_in k es ≡ empty
 
 -- the child in the key's gap has the pairs that decide
-pub record Gapped (format : Format) (k : List ℕ) (low high : Option (List ℕ)) (l : ℕ) (es : Entries) : Type 0 where
+pub record Gapped (format : Format) (k : List ℕ) (low high : Option (List ℕ)) (l : ℕ)
+    (es : Entries) : Type 0 where
   pub child : Tree
   pub span : Span
   pub placed : place format k low high es ≡ Gap (child_digest child) span
@@ -62,16 +64,28 @@ round : (xs : List Pair) (p : Pair) (ys : List Pair) → IsMap (xs ++ p ∷ ys) 
 round xs p ys is =
     let s = split xs p ys is.ascending in
     let limits = all-front (λ q. IsKey q.0 × IsValue q.1) xs (p ∷ ys) is.limits in
-    record { front = record { ascending = s.front; limits = limits.0 }; back = record { ascending = s.back; limits = limits.1.1 }; below = s.below; above = s.above }
+    record {
+      front = record { ascending = s.front; limits = limits.0 };
+      back =
+          record { ascending = s.back; limits = limits.1.1 };
+      below = s.below;
+      above = s.above;
+    }
 
 -- what the order of the key to the entry's key chooses
-abbrev chosen : (format : Format) → List ℕ → Option (List ℕ) → Option (List ℕ) → Tree → List ℕ → List ℕ → Entries → Ordering → Place
+abbrev chosen : (format : Format) → List ℕ → Option (List ℕ) → Option (List ℕ) → Tree → List ℕ
+    → List ℕ → Entries → Ordering → Place
 chosen format k low high child key value rest r =
-    by_order r (Gap (child_digest child) (record { low = low; high = Some key })) (Held (held_of format value)) (place format k (Some key) high rest)
+    by_order r (Gap (child_digest child) (record { low = low; high = Some key }))
+    (Held (held_of format value)) (place format k (Some key) high rest)
 
-falls_before : (format : Format) (k : List ℕ) (low high : Option (List ℕ)) (l : ℕ) (child : Tree) (key value : List ℕ) (rest : Entries) → IsMstEntries format l (entry child key value rest) → Round (pairs child) (key, value) (entries_pairs rest) → key_cmp k key ≡ Less → Gapped format k low high l (entry child key value rest)
+falls_before : (format : Format) (k : List ℕ) (low high : Option (List ℕ)) (l : ℕ) (child : Tree)
+    (key value : List ℕ) (rest : Entries) → IsMstEntries format l (entry child key value rest)
+    → Round (pairs child) (key, value) (entries_pairs rest) → key_cmp k key ≡ Less
+    → Gapped format k low high l (entry child key value rest)
 falls_before format k low high l child key value rest mst r e =
-    let above : AllAbove ((key, value) ∷ entries_pairs rest) k = (e, AllAbove-less (entries_pairs rest) k key e r.above) in
+    let above : AllAbove ((key, value) ∷ entries_pairs rest) k =
+    (e, AllAbove-less (entries_pairs rest) k key e r.above) in
     record {
       child = child;
       span = record { low = low; high = Some key };
@@ -88,33 +102,45 @@ falls_before format k low high l child key value rest mst r e =
       among = λ u has. Contains-append_left (nodes child) (nodes_below rest) u has;
     }
 
-falls_at : (format : Format) (k : List ℕ) (low high : Option (List ℕ)) (child : Tree) (key value : List ℕ) (rest : Entries) → Round (pairs child) (key, value) (entries_pairs rest) → key_cmp k key ≡ Equal → Holding format k low high (entry child key value rest)
+falls_at : (format : Format) (k : List ℕ) (low high : Option (List ℕ)) (child : Tree)
+    (key value : List ℕ) (rest : Entries) → Round (pairs child) (key, value) (entries_pairs rest)
+    → key_cmp k key ≡ Equal → Holding format k low high (entry child key value rest)
 falls_at format k low high child key value rest r e =
     let same : k ≡ key = same_from_equal k key e in
     let below : AllBelow (pairs child) k = subst (AllBelow (pairs child)) (sym same) r.below in
     record {
       value = value;
       placed = ap (chosen format k low high child key value rest) e;
-      looks = map_get-right (pairs child) ((key, value) ∷ entries_pairs rest) k below ∙ map_get-here (key, value) (entries_pairs rest) k (sym same);
+      looks = map_get-right (pairs child) ((key, value) ∷ entries_pairs rest) k below
+          ∙ map_get-here (key, value) (entries_pairs rest) k (sym same);
       entry = ap (λ (o : Ordering). by_order o None (Some value) (held_in k rest)) e;
       meets = ap (λ (o : Ordering). by_order o (nodes_met k child) [] (met_in_gap k rest)) e;
       gap = ap (λ (o : Ordering). by_order o child empty (gap_in k rest)) e;
     }
 
 -- behind the entry the map says of the key what the rest says
-looks_behind : (k : List ℕ) (child : Tree) (key value : List ℕ) (rest : Entries) → Round (pairs child) (key, value) (entries_pairs rest) → key_cmp k key ≡ Greater → map_get (entries_pairs (entry child key value rest)) k ≡ map_get (entries_pairs rest) k
+looks_behind : (k : List ℕ) (child : Tree) (key value : List ℕ) (rest : Entries)
+    → Round (pairs child) (key, value) (entries_pairs rest) → key_cmp k key ≡ Greater
+    → map_get (entries_pairs (entry child key value rest)) k ≡ map_get (entries_pairs rest) k
 looks_behind k child key value rest r e =
     let less = less_from_greater k key e in
-    map_get-right (pairs child) ((key, value) ∷ entries_pairs rest) k (AllBelow-less (pairs child) key k r.below less) ∙ map_get-past (key, value) (entries_pairs rest) k (other_from_less key k less)
+    map_get-right (pairs child) ((key, value) ∷ entries_pairs rest) k
+    (AllBelow-less (pairs child) key k r.below less) ∙ map_get-past (key, value)
+    (entries_pairs rest) k (other_from_less key k less)
 
-falls_behind : (format : Format) (k : List ℕ) (low high : Option (List ℕ)) (l : ℕ) (child : Tree) (key value : List ℕ) (rest : Entries) → Round (pairs child) (key, value) (entries_pairs rest) → key_cmp k key ≡ Greater → Holding format k (Some key) high rest ⊎ Gapped format k (Some key) high l rest → Holding format k low high (entry child key value rest) ⊎ Gapped format k low high l (entry child key value rest)
+falls_behind : (format : Format) (k : List ℕ) (low high : Option (List ℕ)) (l : ℕ) (child : Tree)
+    (key value : List ℕ) (rest : Entries) → Round (pairs child) (key, value) (entries_pairs rest)
+    → key_cmp k key ≡ Greater → Holding format k (Some key) high rest ⊎ Gapped format k (Some key)
+    high l rest → Holding format k low high (entry child key value rest) ⊎ Gapped format k low high
+    l (entry child key value rest)
 falls_behind format k low high l child key value rest r e (inl h) =
     inl (record {
       value = h.value;
       placed = ap (chosen format k low high child key value rest) e ∙ h.placed;
       looks = looks_behind k child key value rest r e ∙ h.looks;
       entry = ap (λ (o : Ordering). by_order o None (Some value) (held_in k rest)) e ∙ h.entry;
-      meets = ap (λ (o : Ordering). by_order o (nodes_met k child) [] (met_in_gap k rest)) e ∙ h.meets;
+      meets = ap (λ (o : Ordering). by_order o (nodes_met k child) [] (met_in_gap k rest)) e
+          ∙ h.meets;
       gap = ap (λ (o : Ordering). by_order o child empty (gap_in k rest)) e ∙ h.gap;
     })
 falls_behind format k low high l child key value rest r e (inr g) =
@@ -124,7 +150,8 @@ falls_behind format k low high l child key value rest r e (inr g) =
       placed = ap (chosen format k low high child key value rest) e ∙ g.placed;
       looks = looks_behind k child key value rest r e ∙ g.looks;
       entry = ap (λ (o : Ordering). by_order o None (Some value) (held_in k rest)) e ∙ g.entry;
-      meets = ap (λ (o : Ordering). by_order o (nodes_met k child) [] (met_in_gap k rest)) e ∙ g.meets;
+      meets = ap (λ (o : Ordering). by_order o (nodes_met k child) [] (met_in_gap k rest)) e
+          ∙ g.meets;
       gap = ap (λ (o : Ordering). by_order o child empty (gap_in k rest)) e ∙ g.gap;
       under = g.under;
       mst = g.mst;
@@ -134,7 +161,9 @@ falls_behind format k low high l child key value rest r e (inr g) =
       among = λ u has. Contains-append_right (nodes child) (nodes_below rest) u (g.among u has);
     })
 
-pub falls : (format : Format) (k : List ℕ) (low high : Option (List ℕ)) (l : ℕ) (es : Entries) → IsMstEntries format l es → IsMap (entries_pairs es) → Holding format k low high es ⊎ Gapped format k low high l es
+pub falls : (format : Format) (k : List ℕ) (low high : Option (List ℕ)) (l : ℕ) (es : Entries)
+    → IsMstEntries format l es → IsMap (entries_pairs es) → Holding format k low high es
+    ⊎ Gapped format k low high l es
 falls format k low high l (last child) mst is =
     inr (record {
       child = child;
@@ -155,7 +184,10 @@ falls format k low high l (entry child key value rest) mst is =
     let r = round (pairs child) (key, value) (entries_pairs rest) is in
     go (key_cmp k key) refl r (falls format k (Some key) high l rest mst.3 r.back)
   where
-    go : (o : Ordering) → key_cmp k key ≡ o → Round (pairs child) (key, value) (entries_pairs rest) → Holding format k (Some key) high rest ⊎ Gapped format k (Some key) high l rest → Holding format k low high (entry child key value rest) ⊎ Gapped format k low high l (entry child key value rest)
+    go : (o : Ordering) → key_cmp k key ≡ o → Round (pairs child) (key, value) (entries_pairs rest)
+        → Holding format k (Some key) high rest ⊎ Gapped format k (Some key) high l rest
+        → Holding format k low high (entry child key value rest) ⊎ Gapped format k low high l
+        (entry child key value rest)
     go Less e r later = inr (falls_before format k low high l child key value rest mst r e)
     go Equal e r later = inl (falls_at format k low high child key value rest r e)
     go Greater e r later = falls_behind format k low high l child key value rest r e later

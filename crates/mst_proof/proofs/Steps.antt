@@ -33,27 +33,35 @@ module _ (format : Format) (k text : List ℕ) (x : Expected) where
 
     pub step-other_digest : digests ≡ false → step_at format k x text ≡ Err OtherDigest
     unfolding step_at
-    step-other_digest d = ap (step_in_node k x text) is ∙ ap (λ (t : Bool). unless t OtherDigest (unless layers LayerNotBelow (unless keys KeyOutside place))) d
+    step-other_digest d = ap (step_in_node k x text) is
+        ∙ ap (λ (t : Bool). unless t OtherDigest
+        (unless layers LayerNotBelow (unless keys KeyOutside place))) d
 
-    pub step-not_below : digests ≡ true → layers ≡ false → step_at format k x text ≡ Err LayerNotBelow
+    pub step-not_below : digests ≡ true → layers ≡ false → step_at format k x text
+        ≡ Err LayerNotBelow
     unfolding step_at
     step-not_below d l =
         ap (step_in_node k x text) is
-        ∙ ap (λ (t : Bool). unless t OtherDigest (unless layers LayerNotBelow (unless keys KeyOutside place))) d
+        ∙ ap (λ (t : Bool). unless t OtherDigest
+        (unless layers LayerNotBelow (unless keys KeyOutside place))) d
         ∙ ap (λ (t : Bool). unless t LayerNotBelow (unless keys KeyOutside place)) l
 
-    pub step-outside : digests ≡ true → layers ≡ true → keys ≡ false → step_at format k x text ≡ Err KeyOutside
+    pub step-outside : digests ≡ true → layers ≡ true → keys ≡ false → step_at format k x text
+        ≡ Err KeyOutside
     unfolding step_at
     step-outside d l s =
         ap (step_in_node k x text) is
-        ∙ ap (λ (t : Bool). unless t OtherDigest (unless layers LayerNotBelow (unless keys KeyOutside place))) d
+        ∙ ap (λ (t : Bool). unless t OtherDigest
+        (unless layers LayerNotBelow (unless keys KeyOutside place))) d
         ∙ ap (λ (t : Bool). unless t LayerNotBelow (unless keys KeyOutside place)) l
         ∙ ap (λ (t : Bool). unless t KeyOutside place) s
 
-    pub step-passed : digests ≡ true → layers ≡ true → keys ≡ true → step_at format k x text ≡ Ok (step_of n.layer (place_of k x.span n))
+    pub step-passed : digests ≡ true → layers ≡ true → keys ≡ true → step_at format k x text ≡ Ok
+        (step_of n.layer (place_of k x.span n))
     unfolding step_at
     step-passed d l s =
         ap (step_in_node k x text) is
-        ∙ ap (λ (t : Bool). unless t OtherDigest (unless layers LayerNotBelow (unless keys KeyOutside place))) d
+        ∙ ap (λ (t : Bool). unless t OtherDigest
+        (unless layers LayerNotBelow (unless keys KeyOutside place))) d
         ∙ ap (λ (t : Bool). unless t LayerNotBelow (unless keys KeyOutside place)) l
         ∙ ap (λ (t : Bool). unless t KeyOutside place) s

@@ -31,7 +31,8 @@ Says (Onward next) ns a lead = lead next
 -- answer is none.
 abbrev pub Leads : List ℕ → Expected → List FlatNode → Option (List ℕ) → Type 0
 Leads k x [] a = ⊥
-Leads k x (n ∷ ns) a = IsExpected x n × Says (step_of n.layer (place_of k x.span n)) ns a (λ next. Leads k next ns a)
+Leads k x (n ∷ ns) a = IsExpected x n × Says (step_of n.layer (place_of k x.span n)) ns a
+    (λ next. Leads k next ns a)
 
 -- of no nodes the root is that of the empty map
 abbrev pub LeadsFrom : List ℕ → List ℕ → List FlatNode → Option (List ℕ) → Type 0

@@ -33,10 +33,16 @@ use Rattle.mst_proof.proofs.Sound.{has_first, has_later, has_mapped, sound}
 use Rattle.mst_proof.proofs.Complete.{complete}
 
 -- the tree of a map that has a root is a small one
-small_tree : (format : Format) (m : List Pair) (d : List ℕ) → HasRoot format m d → IsSmall format (tree format m)
+small_tree : (format : Format) (m : List Pair) (d : List ℕ) → HasRoot format m d
+    → IsSmall format (tree format m)
 small_tree format m d has =
     let same = sym (pairs_tree format m) in
-    record { mst = tree_mst format m; map = subst IsMap same has.map; few = omega (arith, ap length same, has.few) }
+    record {
+      mst = tree_mst format m;
+      map = subst IsMap same has.map;
+      few =
+          omega (arith, ap length same, has.few);
+    }
 
 -- ---- the map's proof
 
@@ -47,25 +53,33 @@ bytes-split (x ∷ xs) ys b = let rest = bytes-split xs ys b.1 in ((b.0, rest.0)
 -- the bytes of texts are those of what frames them
 texts_bytes : (ts : List (List ℕ)) → IsBytes (framed ts) → AllBytes ts
 texts_bytes [] b = tt
-texts_bytes (t ∷ ts) b = let parts = bytes-split t (framed ts) b.1.1.1.1 in (parts.0, texts_bytes ts parts.1)
+texts_bytes (t ∷ ts) b = let parts = bytes-split t (framed ts) b.1.1.1.1 in
+    (parts.0, texts_bytes ts parts.1)
 
 -- texts that lead from a map's root to its answer
-map_leads : (format : Format) (d k : List ℕ) (t : Tree) → d ≡ digest t → IsSmall format t → LiesBetween None None t → AllBytes (map text (nodes_met k t)) → Spells format (map text (nodes_met k t)) (λ ns. LeadsFrom d k ns (looked format (pairs t) k))
-map_leads format d k empty root small lies b = record { nodes = []; flat = tt; texts = refl; leads = (root, refl) }
+map_leads : (format : Format) (d k : List ℕ) (t : Tree) → d ≡ digest t → IsSmall format t
+    → LiesBetween None None t → AllBytes (map text (nodes_met k t))
+    → Spells format (map text (nodes_met k t)) (λ ns. LeadsFrom d k ns (looked format (pairs t) k))
+map_leads format d k empty root small lies b =
+    record { nodes = []; flat = tt; texts = refl; leads = (root, refl) }
 map_leads format d k (node f l es) root small lies b =
-    let s = complete format (suc l) k (first_expected d) (node f l es) (omega arith) small (record { digest = ap Some root; under = tt; lies = lies }) b in
+    let s = complete format (suc l) k (first_expected d) (node f l es) (omega arith) small
+    (record { digest = ap Some root; under = tt; lies = lies }) b in
     record { nodes = s.nodes; flat = s.flat; texts = s.texts; leads = some s.nodes s.leads }
   where
-    some : (ns : List FlatNode) → Leads k (first_expected d) ns (looked format (entries_pairs es) k) → LeadsFrom d k ns (looked format (entries_pairs es) k)
+    some : (ns : List FlatNode) → Leads k (first_expected d) ns (looked format (entries_pairs es) k)
+        → LeadsFrom d k ns (looked format (entries_pairs es) k)
     some [] l = absurd l
     some (n ∷ ns) l = l
 
 -- the values of a map are within their limits
-value_fits : (m : List Pair) (k v : List ℕ) → AllByRecursion (λ p. IsKey p.0 × IsValue p.1) m → map_get m k ≡ Some v → IsValue v
+value_fits : (m : List Pair) (k v : List ℕ) → AllByRecursion (λ p. IsKey p.0 × IsValue p.1) m
+    → map_get m k ≡ Some v → IsValue v
 value_fits [] k v limits e = absurd (cc)
 value_fits (p ∷ m) k v limits e = go (is_eq (key_cmp p.0 k)) e (value_fits m k v limits.1)
   where
-    go : (t : Bool) → cond t (Some p.1) (map_get m k) ≡ Some v → (map_get m k ≡ Some v → IsValue v) → IsValue v
+    go : (t : Bool) → cond t (Some p.1) (map_get m k) ≡ Some v → (map_get m k ≡ Some v → IsValue v)
+        → IsValue v
     go true e later = subst IsValue (some_same p.1 v e) limits.0.1
     go false e later = later e
 
@@ -77,21 +91,25 @@ is_answer Two m k map = go (map_get m k) refl
     go None e = tt
     go (Some v) e = value_fits m k v map.limits e
 
-pub proof_accepted : (format : Format) (m : List Pair) (d k proof : List ℕ) → IsBytes proof → HasRoot format m d → proof ≡ proof_text format m k → Accepted format d k proof (map_get m k)
+pub proof_accepted : (format : Format) (m : List Pair) (d k proof : List ℕ) → IsBytes proof
+    → HasRoot format m d → proof ≡ proof_text format m k → Accepted format d k proof (map_get m k)
 proof_accepted format m d k proof b has is =
     let t = tree format m in
     let ts = map text (nodes_met k t) in
     let bytes : IsBytes (proof_text format m k) = subst IsBytes is b in
     let all : AllBytes ts = texts_bytes ts (bytes-split (framed ts) _ bytes.1.1).0 in
-    let rise : IsAscending (pairs t) = subst IsAscending (sym (pairs_tree format m)) has.map.ascending in
-    let s = map_leads format d k t has.root (small_tree format m d has) (lies_between t None None rise (between_none (pairs t))) all in
+    let rise : IsAscending (pairs t) = subst IsAscending (sym (pairs_tree format m))
+    has.map.ascending in
+    let s = map_leads format d k t has.root (small_tree format m d has)
+    (lies_between t None None rise (between_none (pairs t))) all in
     let few : length ts < 256 = bytes.1.0 in
     record {
       nodes = s.nodes;
       flat = s.flat;
       few = subst (λ (n : ℕ). n < 256) (ap length s.texts ∙ length-map s.nodes spelling) few;
       frames = is ∙ ap (λ (us : List (List ℕ)). framing format us (map_get m k)) s.texts;
-      leads = subst (λ (p : List Pair). LeadsFrom d k s.nodes (looked format p k)) (pairs_tree format m) s.leads;
+      leads = subst (λ (p : List Pair). LeadsFrom d k s.nodes (looked format p k))
+          (pairs_tree format m) s.leads;
       fit = is_answer format m k has.map;
     }
 
@@ -101,20 +119,29 @@ proof_accepted format m d k proof b has is =
 abbrev pub named : List (List ℕ) → List (List ℕ) → Tree → List (List ℕ)
 named vs ts t = ts ++ (map text (nodes t) ++ [] ∷ vs)
 
-pub named_text : (vs ts : List (List ℕ)) (t : Tree) (u : List ℕ) → Contains ts u → Contains (named vs ts t) u
+pub named_text : (vs ts : List (List ℕ)) (t : Tree) (u : List ℕ) → Contains ts u
+    → Contains (named vs ts t) u
 named_text vs ts t u has = Contains-append_left ts (map text (nodes t) ++ [] ∷ vs) u has
 
-pub named_node : (vs ts : List (List ℕ)) (t u : Tree) → Contains (nodes t) u → Contains (named vs ts t) (text u)
-named_node vs ts t u has = Contains-append_right ts (map text (nodes t) ++ [] ∷ vs) (text u) (Contains-append_left (map text (nodes t)) ([] ∷ vs) (text u) (has_mapped text (nodes t) u has))
+pub named_node : (vs ts : List (List ℕ)) (t u : Tree) → Contains (nodes t) u
+    → Contains (named vs ts t) (text u)
+named_node vs ts t u has = Contains-append_right ts (map text (nodes t) ++ [] ∷ vs) (text u)
+    (Contains-append_left (map text (nodes t)) ([] ∷ vs) (text u) (has_mapped text (nodes t) u has))
 
 pub named_empty : (vs ts : List (List ℕ)) (t : Tree) → Contains (named vs ts t) []
-named_empty vs ts t = Contains-append_right ts (map text (nodes t) ++ [] ∷ vs) [] (Contains-append_right (map text (nodes t)) ([] ∷ vs) [] (has_first [] vs))
+named_empty vs ts t = Contains-append_right ts (map text (nodes t) ++ [] ∷ vs) []
+    (Contains-append_right (map text (nodes t)) ([] ∷ vs) [] (has_first [] vs))
 
-pub named_value : (vs ts : List (List ℕ)) (t : Tree) (v : List ℕ) → Contains vs v → Contains (named vs ts t) v
-named_value vs ts t v has = Contains-append_right ts (map text (nodes t) ++ [] ∷ vs) v (Contains-append_right (map text (nodes t)) ([] ∷ vs) v (has_later [] vs v has))
+pub named_value : (vs ts : List (List ℕ)) (t : Tree) (v : List ℕ) → Contains vs v
+    → Contains (named vs ts t) v
+named_value vs ts t v has = Contains-append_right ts (map text (nodes t) ++ [] ∷ vs) v
+    (Contains-append_right (map text (nodes t)) ([] ∷ vs) v (has_later [] vs v has))
 
 -- the answer is that of the tree, or the texts have a collision
-tree_answer : (format : Format) (vs : List (List ℕ)) (t : Tree) (d k : List ℕ) (ns : List FlatNode) (a : Option (List ℕ)) → AllFlat format ns → AllBytes (map spelling ns) → LeadsFrom d k ns a → IsSmall format t → d ≡ digest t → (a ≡ looked format (pairs t) k) ⊎ HasCollision (named vs (map spelling ns) t)
+tree_answer : (format : Format) (vs : List (List ℕ)) (t : Tree) (d k : List ℕ) (ns : List FlatNode)
+    (a : Option (List ℕ)) → AllFlat format ns → AllBytes (map spelling ns) → LeadsFrom d k ns a
+    → IsSmall format t → d ≡ digest t → (a ≡ looked format (pairs t) k)
+    ⊎ HasCollision (named vs (map spelling ns) t)
 tree_answer format vs empty d k [] a flats b l small root = inl l.1
 tree_answer format vs (node f m es) d k [] a flats b l small root =
     let t = node f m es in
@@ -122,11 +149,26 @@ tree_answer format vs (node f m es) d k [] a flats b l small root =
     inr ([], text t, named_empty vs [] t, named_node vs [] t t (has_first t (nodes_below es)), c)
 tree_answer format vs empty d k (n ∷ ns) a flats b l small root =
     let c : Collision (spelling n) [] = record { differ = λ e. cc (e); same = l.0.digest ∙ root } in
-    inr (spelling n, [], named_text vs (map spelling (n ∷ ns)) empty (spelling n) (has_first (spelling n) (map spelling ns)), named_empty vs (map spelling (n ∷ ns)) empty, c)
+    inr (
+      spelling n,
+      [],
+      named_text vs (map spelling (n ∷ ns)) empty (spelling n)
+          (has_first (spelling n) (map spelling ns)),
+      named_empty vs (map spelling (n ∷ ns)) empty,
+      c,
+    )
 tree_answer format vs (node f m es) d k (n ∷ ns) a flats b l small root =
-    elim (sound format (n ∷ ns) k (first_expected d) a (node f m es) flats b l small (ap Some root)) [
+    elim (sound format (n ∷ ns) k (first_expected d) a (node f m es) flats b l small
+    (ap Some root)) [
       | inl e ↦ inl e
-      | inr c ↦ inr (c.one, text c.other, named_text vs (map spelling (n ∷ ns)) (node f m es) c.one c.one_in, named_node vs (map spelling (n ∷ ns)) (node f m es) c.other c.other_in, c.collision)
+      | inr c ↦ inr (
+        c.one,
+        text c.other,
+        named_text vs (map spelling (n ∷ ns)) (node f m es) c.one
+            c.one_in,
+        named_node vs (map spelling (n ∷ ns)) (node f m es) c.other c.other_in,
+        c.collision,
+      )
     ]
 
 -- a value of the map
@@ -134,16 +176,24 @@ value_in : (m : List Pair) (k v : List ℕ) → map_get m k ≡ Some v → Conta
 value_in [] k v e = absurd (cc)
 value_in (p ∷ m) k v e = go (is_eq (key_cmp p.0 k)) e (value_in m k v)
   where
-    go : (t : Bool) → cond t (Some p.1) (map_get m k) ≡ Some v → (map_get m k ≡ Some v → Contains (map (λ p. p.1) m) v) → Contains (p.1 ∷ map (λ p. p.1) m) v
-    go true e later = subst (Contains (p.1 ∷ map (λ p. p.1) m)) (some_same p.1 v e) (has_first p.1 (map (λ p. p.1) m))
+    go : (t : Bool) → cond t (Some p.1) (map_get m k) ≡ Some v
+        → (map_get m k ≡ Some v → Contains (map (λ p. p.1) m) v) → Contains (p.1 ∷ map (λ p. p.1) m)
+        v
+    go true e later = subst (Contains (p.1 ∷ map (λ p. p.1) m)) (some_same p.1 v e)
+        (has_first p.1 (map (λ p. p.1) m))
     go false e later = has_later p.1 (map (λ p. p.1) m) v (later e)
 
 -- the value that is claimed, and the one that the map has, are named
-pub claimed_in : (proof : List ℕ) (t : Tree) (v : List ℕ) → value_of (frame_at Two proof) ≡ v ∷ [] → Contains (values_named Two proof t) v
-claimed_in proof t v claims = Contains-append_left (value_of (frame_at Two proof)) (map (λ p. p.1) (pairs t)) v (subst (λ (us : List (List ℕ)). Contains us v) (sym claims) (has_first v []))
+pub claimed_in : (proof : List ℕ) (t : Tree) (v : List ℕ) → value_of (frame_at Two proof) ≡ v ∷ []
+    → Contains (values_named Two proof t) v
+claimed_in proof t v claims = Contains-append_left (value_of (frame_at Two proof))
+    (map (λ p. p.1) (pairs t)) v
+    (subst (λ (us : List (List ℕ)). Contains us v) (sym claims) (has_first v []))
 
-pub value_among : (proof : List ℕ) (t : Tree) (k w : List ℕ) → map_get (pairs t) k ≡ Some w → Contains (values_named Two proof t) w
-value_among proof t k w is = Contains-append_right (value_of (frame_at Two proof)) (map (λ p. p.1) (pairs t)) w (value_in (pairs t) k w is)
+pub value_among : (proof : List ℕ) (t : Tree) (k w : List ℕ) → map_get (pairs t) k ≡ Some w
+    → Contains (values_named Two proof t) w
+value_among proof t k w is = Contains-append_right (value_of (frame_at Two proof))
+    (map (λ p. p.1) (pairs t)) w (value_in (pairs t) k w is)
 
 -- the values of two answers are a collision
 pub record AnswersCollide (a b : Option (List ℕ)) : Type 0 where
@@ -154,7 +204,8 @@ pub record AnswersCollide (a b : Option (List ℕ)) : Type 0 where
   pub collision : Collision one other
 
 -- two answers of which the same is held in format 2 are one, or their values collide
-pub one_answer : (a b : Option (List ℕ)) → held_answer Two a ≡ held_answer Two b → (a ≡ b) ⊎ AnswersCollide a b
+pub one_answer : (a b : Option (List ℕ)) → held_answer Two a ≡ held_answer Two b → (a ≡ b)
+    ⊎ AnswersCollide a b
 one_answer None None e = inl refl
 one_answer None (Some w) e = absurd (cc)
 one_answer (Some v) None e = absurd (cc)
@@ -163,22 +214,39 @@ one_answer (Some v) (Some w) e = at (bytes_eq v w) refl
     at : (b : Bool) → bytes_eq v w ≡ b → (Some v ≡ Some w) ⊎ AnswersCollide (Some v) (Some w)
     at true same = inl (ap Some ((bytes_eq-Decides v w).0 same))
     at false apart =
-        let c : Collision v w = record { differ = not_from_Decides (bytes_eq v w) (bytes_eq-Decides v w) apart; same = some_same (digest_of v) (digest_of w) e } in
+        let c : Collision v w =
+        record {
+          differ = not_from_Decides (bytes_eq v w) (bytes_eq-Decides v w) apart;
+          same =
+              some_same (digest_of v) (digest_of w) e;
+        } in
         inr (record { one = v; other = w; one_is = refl; other_is = refl; collision = c })
 
 -- an answer of which the map's is held is the map's, or the values of both collide
-held_same : (format : Format) (proof : List ℕ) (t : Tree) (ts : List (List ℕ)) (k : List ℕ) (a : Option (List ℕ)) → frame_at format proof ≡ Ok (ts, claim_of format a) → held_answer format a ≡ looked format (pairs t) k → (a ≡ map_get (pairs t) k) ⊎ HasCollision (named (values_named format proof t) ts t)
+held_same : (format : Format) (proof : List ℕ) (t : Tree) (ts : List (List ℕ)) (k : List ℕ)
+    (a : Option (List ℕ)) → frame_at format proof ≡ Ok (ts, claim_of format a)
+    → held_answer format a ≡ looked format (pairs t) k → (a ≡ map_get (pairs t) k)
+    ⊎ HasCollision (named (values_named format proof t) ts t)
 held_same One proof t ts k a frame e = inl (held_one a ∙ e ∙ sym (held_one (map_get (pairs t) k)))
 held_same Two proof t ts k a frame e =
     let vs = values_named Two proof t in
     elim (one_answer a (map_get (pairs t) k) e) [
       | inl same ↦ inl same
       | inr c ↦
-          let claims : value_of (frame_at Two proof) ≡ c.one ∷ [] = ap value_of frame ∙ ap (λ (x : Option (List ℕ)). claimed (claim_of Two x)) c.one_is in
-          inr (c.one, c.other, named_value vs ts t c.one (claimed_in proof t c.one claims), named_value vs ts t c.other (value_among proof t k c.other c.other_is), c.collision)
+          let claims : value_of (frame_at Two proof) ≡ c.one ∷ [] =
+          ap value_of frame ∙ ap (λ (x : Option (List ℕ)). claimed (claim_of Two x)) c.one_is in
+          inr (
+            c.one,
+            c.other,
+            named_value vs ts t c.one (claimed_in proof t c.one claims),
+            named_value vs ts t c.other (value_among proof t k c.other c.other_is),
+            c.collision,
+          )
     ]
 
-pub other_answer : (format : Format) (m : List Pair) (d k proof : List ℕ) (a : Option (List ℕ)) → IsBytes proof → HasRoot format m d → Accepted format d k proof a → a ≢ map_get m k → HasCollision (texts_named format proof (tree format m))
+pub other_answer : (format : Format) (m : List Pair) (d k proof : List ℕ) (a : Option (List ℕ))
+    → IsBytes proof → HasRoot format m d → Accepted format d k proof a → a ≢ map_get m k
+    → HasCollision (texts_named format proof (tree format m))
 other_answer format m d k proof a b has acc other =
     let t = tree format m in
     let ts = map spelling acc.nodes in
@@ -187,10 +255,13 @@ other_answer format m d k proof a b has acc other =
     let all : AllBytes ts = texts_bytes ts (bytes-split (framed ts) _ bytes.1.1).0 in
     let framed_so = frame_accepted format d k proof a acc in
     let frame : texts_of format proof ≡ ts = ap or_none framed_so in
-    let found : HasCollision (named vs ts t) → HasCollision (texts_named format proof t) = λ c. subst (λ (us : List (List ℕ)). HasCollision (named vs us t)) (sym frame) c in
-    elim (tree_answer format vs t d k acc.nodes (held_answer format a) acc.flat all acc.leads (small_tree format m d has) has.root) [
+    let found : HasCollision (named vs ts t) → HasCollision (texts_named format proof t) =
+    λ c. subst (λ (us : List (List ℕ)). HasCollision (named vs us t)) (sym frame) c in
+    elim (tree_answer format vs t d k acc.nodes (held_answer format a) acc.flat all acc.leads
+    (small_tree format m d has) has.root) [
       | inl e ↦ elim (held_same format proof t ts k a framed_so e) [
-        | inl same ↦ absurd (other (same ∙ ap (λ (p : List Pair). map_get p k) (pairs_tree format m)))
+        | inl same ↦ absurd
+            (other (same ∙ ap (λ (p : List Pair). map_get p k) (pairs_tree format m)))
         | inr c ↦ found c
       ]
       | inr c ↦ found c

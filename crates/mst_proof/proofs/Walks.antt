@@ -38,7 +38,8 @@ use Rattle.mst_proof.proofs.NoOther.{IsFree, no_other_digest, no_other_empty, no
 -- ---- two texts compared
 
 pub texts_differ : (u s w : List ℕ) → true ≡ not (bytes_eq u s) → s ≡ w → u ≢ w
-texts_differ u s w e is = λ same. not_from_Decides (bytes_eq u s) (bytes_eq-Decides u s) (no (bytes_eq u s) e) (same ∙ sym is)
+texts_differ u s w e is = λ same. not_from_Decides (bytes_eq u s) (bytes_eq-Decides u s)
+    (no (bytes_eq u s) e) (same ∙ sym is)
   where
     no : (b : Bool) → true ≡ not b → b ≡ false
     no true e = e
@@ -60,10 +61,12 @@ other_digest u w differ none = λ same. none (record { differ = differ; same = s
 empty_small : (format : Format) → IsSmall format empty
 empty_small format = record { mst = tt; map = IsMap-nil; few = omega arith }
 
-pub small_gap : (format : Format) (k : List ℕ) (t : Tree) → IsSmall format t → IsSmall format (gap_tree k t)
+pub small_gap : (format : Format) (k : List ℕ) (t : Tree) → IsSmall format t
+    → IsSmall format (gap_tree k t)
 small_gap format k empty small = empty_small format
 small_gap format k (node f l es) small =
-    let P : Format → Type 0 = λ g. IsSmall format (node g l es) → IsSmall format (gap_tree k (node g l es)) in
+    let P : Format → Type 0 = λ g. IsSmall format (node g l es)
+    → IsSmall format (gap_tree k (node g l es)) in
     subst P (sym small.mst.0) at small
   where
     at : IsSmall format (node format l es) → IsSmall format (gap_in k es)
@@ -73,37 +76,46 @@ small_gap format k (node f l es) small =
     ]
 
 -- the nodes below the gap are nodes of the tree
-pub gap_nodes : (format : Format) (k : List ℕ) (t : Tree) → IsSmall format t → (u : Tree) → Contains (nodes (gap_tree k t)) u → Contains (nodes t) u
+pub gap_nodes : (format : Format) (k : List ℕ) (t : Tree) → IsSmall format t → (u : Tree)
+    → Contains (nodes (gap_tree k t)) u → Contains (nodes t) u
 gap_nodes format k empty small u has = has
 gap_nodes format k (node f l es) small u has =
-    let P : Format → Type 0 = λ g. IsSmall format (node g l es) → Contains (nodes (node g l es)) u in
+    let P : Format → Type 0 = λ g. IsSmall format (node g l es) → Contains (nodes (node g l es)) u
+    in
     subst P (sym small.mst.0) at small
   where
     at : IsSmall format (node format l es) → Contains (nodes (node format l es)) u
     at small = elim (falls format k None None l es small.mst.2 small.map) [
       | inl h ↦ absurd (omega (arith, (subst (λ (c : Tree). Contains (nodes c) u) h.gap has).1))
-      | inr g ↦ has_later (node format l es) (nodes_below es) u (g.among u (subst (λ (c : Tree). Contains (nodes c) u) g.gap has))
+      | inr g ↦ has_later (node format l es) (nodes_below es) u
+          (g.among u (subst (λ (c : Tree). Contains (nodes c) u) g.gap has))
     ]
 
 -- a node of the program is the first of its tree's nodes
-pub has_itself : (format : Format) (A : Type 0) (n : Node A) → Contains (nodes (tree_of format n)) (tree_of format n)
-has_itself format A n = subst (λ (t : Tree). Contains (nodes t) t) (sym (tree_of_out A format n)) (has_first _ _)
+pub has_itself : (format : Format) (A : Type 0) (n : Node A) → Contains (nodes (tree_of format n))
+    (tree_of format n)
+has_itself format A n = subst (λ (t : Tree). Contains (nodes t) t) (sym (tree_of_out A format n))
+    (has_first _ _)
 
 -- the map below the gap's child says of the key what the tree's map says
-gap_looks : (format : Format) (k : List ℕ) (t : Tree) → IsSmall format t → gap_tree k t ≢ empty → map_get (pairs t) k ≡ map_get (pairs (gap_tree k t)) k
+gap_looks : (format : Format) (k : List ℕ) (t : Tree) → IsSmall format t → gap_tree k t ≢ empty
+    → map_get (pairs t) k ≡ map_get (pairs (gap_tree k t)) k
 gap_looks format k empty small some = refl
-gap_looks format k (node f l es) small some = elim (falls format k None None l es small.mst.2 small.map) [
-  | inl h ↦ absurd (some h.gap)
-  | inr g ↦ g.looks ∙ ap (λ (c : Tree). map_get (pairs c) k) (sym g.gap)
-]
+gap_looks format k (node f l es) small some =
+    elim (falls format k None None l es small.mst.2 small.map) [
+      | inl h ↦ absurd (some h.gap)
+      | inr g ↦ g.looks ∙ ap (λ (c : Tree). map_get (pairs c) k) (sym g.gap)
+    ]
 
 -- where the gap has no child, the entry decides the key
-gap_decides : (format : Format) (k : List ℕ) (t : Tree) → IsSmall format t → gap_tree k t ≡ empty → held_value k t ≡ map_get (pairs t) k
+gap_decides : (format : Format) (k : List ℕ) (t : Tree) → IsSmall format t → gap_tree k t ≡ empty
+    → held_value k t ≡ map_get (pairs t) k
 gap_decides format k empty small none = refl
-gap_decides format k (node f l es) small none = elim (falls format k None None l es small.mst.2 small.map) [
-  | inl h ↦ h.entry ∙ sym h.looks
-  | inr g ↦ g.entry ∙ ap (λ (c : Tree). map_get (pairs c) k) (sym none ∙ g.gap) ∙ sym g.looks
-]
+gap_decides format k (node f l es) small none =
+    elim (falls format k None None l es small.mst.2 small.map) [
+      | inl h ↦ h.entry ∙ sym h.looks
+      | inr g ↦ g.entry ∙ ap (λ (c : Tree). map_get (pairs c) k) (sym none ∙ g.gap) ∙ sym g.looks
+    ]
 
 -- a node of the program is no empty tree
 pub is_node : (format : Format) (A : Type 0) (n : Node A) → tree_of format n ≢ empty
@@ -111,114 +123,171 @@ is_node format A n e = absurd (cc (sym (tree_of_out A format n) ∙ e))
 
 -- ---- one step of the walk
 
-module _ (format : Format) (claim : Claim) {A E : Type 0} (r : Result (Option (Pair A)) E) (k u : List ℕ) (ts all : List (List ℕ)) (t : Tree) (is : all ≡ u ∷ ts) where
+module _ (format : Format) (claim : Claim) {A E : Type 0} (r : Result (Option (Pair A)) E)
+    (k u : List ℕ) (ts all : List (List ℕ)) (t : Tree) (is : all ≡ u ∷ ts) where
   abbrev ShowsNone : Result (Option (Pair A)) E → Type 0
   ShowsNone q = IfOk q (λ pair. IfNone pair (NoOther format claim t k all))
 
   abbrev FindsOne : Result (Option (Pair A)) E → Type 0
-  FindsOne q = IfOk q (λ pair. IfSome pair (λ p. CollidesBeside claim k all t p.one.items p.other.items))
+  FindsOne q =
+      IfOk q (λ pair. IfSome pair (λ p. CollidesBeside claim k all t p.one.items p.other.items))
 
   -- the text is not the node's, and no pair was found
-  pub none_here : (w : List ℕ) → IsBytes u → u ≢ w → w ≡ text t → IfOk r (λ pair. IfNone pair (Collision u w → ⊥)) → ShowsNone r
+  pub none_here : (w : List ℕ) → IsBytes u → u ≢ w → w ≡ text t
+      → IfOk r (λ pair. IfNone pair (Collision u w → ⊥)) → ShowsNone r
   none_here w b differ expected h = go r h
     where
-      go : (q : Result (Option (Pair A)) E) → IfOk q (λ pair. IfNone pair (Collision u w → ⊥)) → ShowsNone q
-      go (Ok None) h = subst (NoOther format claim t k) (sym is) (no_other_digest format claim k u ts t b (λ e. other_digest u w differ h (e ∙ ap digest_of (sym expected))))
+      go : (q : Result (Option (Pair A)) E) → IfOk q (λ pair. IfNone pair (Collision u w → ⊥))
+          → ShowsNone q
+      go (Ok None) h = subst (NoOther format claim t k) (sym is)
+          (no_other_digest format claim k u ts t b
+          (λ e. other_digest u w differ h (e ∙ ap digest_of (sym expected))))
       go (Ok (Some p)) h = tt
       go (Err e) h = tt
 
   -- the text is not the node's, and the pair of both was found
-  pub some_here : (w : List ℕ) → w ≡ text t → Contains (nodes t) t → IfOk r (λ pair. IfSome pair (λ p. (p.one.items ≡ u) × (p.other.items ≡ w) × Collision u w)) → FindsOne r
+  pub some_here : (w : List ℕ) → w ≡ text t → Contains (nodes t) t
+      → IfOk r (λ pair. IfSome pair (λ p. (p.one.items ≡ u) × (p.other.items ≡ w) × Collision u w))
+      → FindsOne r
   some_here w expected itself h = go r h
     where
-      go : (q : Result (Option (Pair A)) E) → IfOk q (λ pair. IfSome pair (λ p. (p.one.items ≡ u) × (p.other.items ≡ w) × Collision u w)) → FindsOne q
+      go : (q : Result (Option (Pair A)) E)
+          → IfOk q (λ pair. IfSome pair
+          (λ p. (p.one.items ≡ u) × (p.other.items ≡ w) × Collision u w)) → FindsOne q
       go (Ok None) h = tt
       go (Ok (Some p)) h =
           inl (record {
             at = t;
-            one_in = subst (λ (us : List (List ℕ)). Contains us p.one.items) (sym is) (subst (Contains (u ∷ ts)) (sym h.0) (has_first u ts));
+            one_in = subst (λ (us : List (List ℕ)). Contains us p.one.items) (sym is)
+                (subst (Contains (u ∷ ts)) (sym h.0) (has_first u ts));
             at_in = itself;
             other_is = h.1 ∙ expected;
-            collision = subst (λ (x : List ℕ). Collision x p.other.items) (sym h.0) (subst (Collision u) (sym h.1) h.2);
+            collision = subst (λ (x : List ℕ). Collision x p.other.items) (sym h.0)
+                (subst (Collision u) (sym h.1) h.2);
           })
       go (Err e) h = tt
 
   -- the text is the node's, and no pair was found below
-  pub none_below : (c : Tree) → c ≢ empty → IsBytes u → IsSmall format t → u ≡ text t → c ≡ gap_tree k t → IfOk r (λ pair. IfNone pair (NoOther format claim c k ts)) → ShowsNone r
+  pub none_below : (c : Tree) → c ≢ empty → IsBytes u → IsSmall format t → u ≡ text t
+      → c ≡ gap_tree k t → IfOk r (λ pair. IfNone pair (NoOther format claim c k ts)) → ShowsNone r
   none_below c some b small same gap h = go r h
     where
-      go : (q : Result (Option (Pair A)) E) → IfOk q (λ pair. IfNone pair (NoOther format claim c k ts)) → ShowsNone q
+      go : (q : Result (Option (Pair A)) E)
+          → IfOk q (λ pair. IfNone pair (NoOther format claim c k ts)) → ShowsNone q
       go (Ok None) h =
-          let below = subst (λ (x : Tree). (x ≢ empty) × NoOther format claim x k ts) gap (some, h) in
-          subst (NoOther format claim t k) (sym is) (no_other_same format claim k u ts t b small same (inr below))
+          let below = subst (λ (x : Tree). (x ≢ empty) × NoOther format claim x k ts) gap (some, h)
+          in
+          subst (NoOther format claim t k) (sym is)
+          (no_other_same format claim k u ts t b small same (inr below))
       go (Ok (Some p)) h = tt
       go (Err e) h = tt
 
   -- the text is the node's, and a pair was found below
-  pub some_below : (c : Tree) → c ≢ empty → IsSmall format t → c ≡ gap_tree k t → IfOk r (λ pair. IfSome pair (λ p. CollidesBeside claim k ts c p.one.items p.other.items)) → FindsOne r
+  pub some_below : (c : Tree) → c ≢ empty → IsSmall format t → c ≡ gap_tree k t
+      → IfOk r (λ pair. IfSome pair (λ p. CollidesBeside claim k ts c p.one.items p.other.items))
+      → FindsOne r
   some_below c some small gap h = go r h
     where
       looks : map_get (pairs c) k ≡ map_get (pairs t) k
-      looks = ap (λ (x : Tree). map_get (pairs x) k) gap ∙ sym (gap_looks format k t small (subst (λ (x : Tree). x ≢ empty) gap some))
+      looks = ap (λ (x : Tree). map_get (pairs x) k) gap
+          ∙ sym (gap_looks format k t small (subst (λ (x : Tree). x ≢ empty) gap some))
 
-      above : (p : Pair A) → CollidesBeside claim k ts c p.one.items p.other.items → CollidesBeside claim k all t p.one.items p.other.items
+      above : (p : Pair A) → CollidesBeside claim k ts c p.one.items p.other.items
+          → CollidesBeside claim k all t p.one.items p.other.items
       above p (inl h) =
           inl (record {
             at = h.at;
-            one_in = subst (λ (us : List (List ℕ)). Contains us p.one.items) (sym is) (has_later u ts p.one.items h.one_in);
-            at_in = gap_nodes format k t small h.at (subst (λ (x : Tree). Contains (nodes x) h.at) gap h.at_in);
+            one_in = subst (λ (us : List (List ℕ)). Contains us p.one.items) (sym is)
+                (has_later u ts p.one.items h.one_in);
+            at_in =
+                gap_nodes format k t small h.at
+                (subst (λ (x : Tree). Contains (nodes x) h.at) gap h.at_in);
             other_is = h.other_is;
             collision = h.collision;
           })
-      above p (inr v) = inr (record { claims = v.claims; other_is = sym looks ∙ v.other_is; collision = v.collision })
+      above p (inr v) =
+          inr (record {
+            claims = v.claims;
+            other_is = sym looks ∙ v.other_is;
+            collision =
+                v.collision;
+          })
 
-      go : (q : Result (Option (Pair A)) E) → IfOk q (λ pair. IfSome pair (λ p. CollidesBeside claim k ts c p.one.items p.other.items)) → FindsOne q
+      go : (q : Result (Option (Pair A)) E)
+          → IfOk q (λ pair. IfSome pair
+          (λ p. CollidesBeside claim k ts c p.one.items p.other.items)) → FindsOne q
       go (Ok None) h = tt
       go (Ok (Some p)) h = above p h
       go (Err e) h = tt
 
   -- the text is the node's and decides the key, or has no child for it, and the values are no pair
-  pub none_further : (value : Option (List ℕ)) → IsBytes u → IsSmall format t → u ≡ text t → empty ≡ gap_tree k t → value ≡ held_value k t → IfOk r (λ pair. IfNone pair (IsFree claim value)) → ShowsNone r
+  pub none_further : (value : Option (List ℕ)) → IsBytes u → IsSmall format t → u ≡ text t
+      → empty ≡ gap_tree k t → value ≡ held_value k t
+      → IfOk r (λ pair. IfNone pair (IsFree claim value)) → ShowsNone r
   none_further value b small same gap held h = go r h
     where
-      go : (q : Result (Option (Pair A)) E) → IfOk q (λ pair. IfNone pair (IsFree claim value)) → ShowsNone q
+      go : (q : Result (Option (Pair A)) E) → IfOk q (λ pair. IfNone pair (IsFree claim value))
+          → ShowsNone q
       go (Ok None) h =
           let free = subst (IsFree claim) (held ∙ gap_decides format k t small (sym gap)) h in
-          subst (NoOther format claim t k) (sym is) (no_other_same format claim k u ts t b small same (inl (sym gap, free)))
+          subst (NoOther format claim t k) (sym is)
+          (no_other_same format claim k u ts t b small same (inl (sym gap, free)))
       go (Ok (Some p)) h = tt
       go (Err e) h = tt
 
   -- the values are a pair
-  pub some_further : (value : Option (List ℕ)) → IsSmall format t → empty ≡ gap_tree k t → value ≡ held_value k t → IfOk r (λ pair. IfSome pair (λ p. ValuesCollide claim value p.one.items p.other.items)) → FindsOne r
+  pub some_further : (value : Option (List ℕ)) → IsSmall format t → empty ≡ gap_tree k t
+      → value ≡ held_value k t
+      → IfOk r (λ pair. IfSome pair (λ p. ValuesCollide claim value p.one.items p.other.items))
+      → FindsOne r
   some_further value small gap held h = go r h
     where
-      go : (q : Result (Option (Pair A)) E) → IfOk q (λ pair. IfSome pair (λ p. ValuesCollide claim value p.one.items p.other.items)) → FindsOne q
+      go : (q : Result (Option (Pair A)) E)
+          → IfOk q (λ pair. IfSome pair (λ p. ValuesCollide claim value p.one.items p.other.items))
+          → FindsOne q
       go (Ok None) h = tt
-      go (Ok (Some p)) h = inr (subst (λ (v : Option (List ℕ)). ValuesCollide claim v p.one.items p.other.items) (held ∙ gap_decides format k t small (sym gap)) h)
+      go (Ok (Some p)) h =
+          inr (subst (λ (v : Option (List ℕ)). ValuesCollide claim v p.one.items p.other.items)
+          (held ∙ gap_decides format k t small (sym gap)) h)
       go (Err e) h = tt
 
 -- ---- the whole proof beside the tree of a map
 
-pub small_of_map : (format : Format) (t : Tree) → (m : List KeyValue) × IsMap m × (length m ≤ 65535) × (t ≡ tree format m) → IsSmall format t
+pub small_of_map : (format : Format) (t : Tree) → (m : List KeyValue) × IsMap m × (length m ≤ 65535)
+    × (t ≡ tree format m) → IsSmall format t
 small_of_map format t has =
     let m = has.0 in
     let same : m ≡ pairs t = sym (ap pairs has.3 ∙ pairs_tree format m) in
-    record { mst = subst (IsMst format) (sym has.3) (tree_mst format m); map = subst IsMap same has.1; few = subst (λ (n : ℕ). n ≤ 65535) (ap length same) has.2 }
+    record {
+      mst = subst (IsMst format) (sym has.3) (tree_mst format m);
+      map =
+          subst IsMap same has.1;
+      few = subst (λ (n : ℕ). n ≤ 65535) (ap length same) has.2;
+    }
 
 abbrev ok_texts : List (List ℕ) → Claim → Result (List (List ℕ) × Claim) ProofFault
 ok_texts ts claim = Ok (ts, claim)
 
 -- a proof of these texts with this claim shows what they show
-shows_judged : (format : Format) (t : Tree) (k proof : List ℕ) (all : List (List ℕ)) (claim : Claim) → ok_texts all claim ≡ frame_at format proof → ((a : Option (List ℕ)) → (judgement format (digest t) k all >> settled format claim) ≡ Ok a → a ≡ map_get (pairs t) k) → ShowsNoOther format t k proof
+shows_judged : (format : Format) (t : Tree) (k proof : List ℕ) (all : List (List ℕ)) (claim : Claim)
+    → ok_texts all claim ≡ frame_at format proof
+    → ((a : Option (List ℕ)) → (judgement format (digest t) k all >> settled format claim) ≡ Ok a
+    → a ≡ map_get (pairs t) k) → ShowsNoOther format t k proof
 shows_judged format t k proof all claim frame h a e =
-    h a (ap (λ (r : Result (List (List ℕ) × Claim) ProofFault). r >> λ f. judgement format (digest t) k f.0 >> λ held. settled format f.1 held) frame ∙ e)
+    h a (ap (λ (r : Result (List (List ℕ) × Claim) ProofFault). r >> λ f. judgement format
+    (digest t) k f.0 >> λ held. settled format f.1 held) frame ∙ e)
 
-shows_some : (format : Format) (t : Tree) (k proof : List ℕ) (all : List (List ℕ)) (claim : Claim) → ok_texts all claim ≡ frame_at format proof → (length all ≡ 0 → ⊥) → NoOther format claim t k all → ShowsNoOther format t k proof
+shows_some : (format : Format) (t : Tree) (k proof : List ℕ) (all : List (List ℕ)) (claim : Claim)
+    → ok_texts all claim ≡ frame_at format proof → (length all ≡ 0 → ⊥) → NoOther format claim t k
+    all → ShowsNoOther format t k proof
 shows_some format t k proof [] claim frame some next = absurd (some refl)
-shows_some format t k proof (u ∷ ts) claim frame some next = shows_judged format t k proof (u ∷ ts) claim frame (λ a e. next (first_expected (digest t)) a refl e)
+shows_some format t k proof (u ∷ ts) claim frame some next =
+    shows_judged format t k proof (u ∷ ts) claim frame
+    (λ a e. next (first_expected (digest t)) a refl e)
 
 -- no text shows absence in the empty map
-unless_none : (b : Bool) (a : Option (List ℕ)) → unless b OtherDigest (Ok None) ≡ Ok a → (b ≡ true) × (a ≡ None)
+unless_none : (b : Bool) (a : Option (List ℕ)) → unless b OtherDigest (Ok None) ≡ Ok a → (b ≡ true)
+    × (a ≡ None)
 unless_none true a e = (refl, sym (ok_same None a e))
 unless_none false a e = absurd (cc)
 
@@ -227,21 +296,26 @@ none_held : (format : Format) (a : Option (List ℕ)) → held_answer format a �
 none_held format None e = refl
 none_held format (Some v) e = absurd (cc)
 
-shows_none : (format : Format) (t : Tree) (k proof : List ℕ) (claim : Claim) → ok_texts [] claim ≡ frame_at format proof → (Collision [] (text t) → ⊥) → ShowsNoOther format t k proof
+shows_none : (format : Format) (t : Tree) (k proof : List ℕ) (claim : Claim) → ok_texts [] claim
+    ≡ frame_at format proof → (Collision [] (text t) → ⊥) → ShowsNoOther format t k proof
 shows_none format t k proof claim frame none = shows_judged format t k proof [] claim frame (λ a e.
     let d = bind_done (judgement format (digest t) k []) _ a e in
     let absent = unless_none (bytes_eq (digest t) (digest_of [])) d.0 d.1 in
     let held = (settled_done format claim d.0 a d.2).1 in
-    at t none ((bytes_eq-Decides (digest t) (digest_of [])).0 absent.0) (none_held format a (sym held ∙ absent.1)))
+    at t none ((bytes_eq-Decides (digest t) (digest_of [])).0 absent.0)
+    (none_held format a (sym held ∙ absent.1)))
   where
-    at : {a : Option (List ℕ)} (t : Tree) → (Collision [] (text t) → ⊥) → digest t ≡ digest_of [] → a ≡ None → a ≡ map_get (pairs t) k
+    at : {a : Option (List ℕ)} (t : Tree) → (Collision [] (text t) → ⊥) → digest t ≡ digest_of []
+        → a ≡ None → a ≡ map_get (pairs t) k
     at empty none same e = e
     at (node f l es) none same e = absurd (none (record { differ = λ z. cc (z); same = sym same }))
 
 -- a text in the empty map's place
-empty_none : (format : Format) (claim : Claim) (k u : List ℕ) (ts : List (List ℕ)) → IsBytes u → (Collision u [] → ⊥) → NoOther format claim empty k (u ∷ ts)
+empty_none : (format : Format) (claim : Claim) (k u : List ℕ) (ts : List (List ℕ)) → IsBytes u
+    → (Collision u [] → ⊥) → NoOther format claim empty k (u ∷ ts)
 empty_none format claim k [] ts b none = no_other_empty format claim k ts empty
-empty_none format claim k (x ∷ u) ts b none = no_other_digest format claim k (x ∷ u) ts empty b (other_digest (x ∷ u) [] (λ z. cc (z)) none)
+empty_none format claim k (x ∷ u) ts b none = no_other_digest format claim k (x ∷ u) ts empty b
+    (other_digest (x ∷ u) [] (λ z. cc (z)) none)
 
 -- ---- which texts are named
 
@@ -249,8 +323,11 @@ module _ (format : Format) (proof : List ℕ) (t : Tree) where
   abbrev Names : List ℕ → Type 0
   Names u = Contains (texts_named format proof t) u
 
-  named_here : (all : List (List ℕ)) (claim : Claim) (u : List ℕ) → ok_texts all claim ≡ frame_at format proof → Contains all u → Names u
-  named_here all claim u frame has = named_text (values_named format proof t) (texts_of format proof) t u (subst (λ (us : List (List ℕ)). Contains us u) (ap or_none frame) has)
+  named_here : (all : List (List ℕ)) (claim : Claim) (u : List ℕ) → ok_texts all claim ≡ frame_at
+      format proof → Contains all u → Names u
+  named_here all claim u frame has = named_text (values_named format proof t)
+      (texts_of format proof) t u
+      (subst (λ (us : List (List ℕ)). Contains us u) (ap or_none frame) has)
 
   names_node : (u : Tree) → Contains (nodes t) u → Names (text u)
   names_node u has = named_node (values_named format proof t) (texts_of format proof) t u has
@@ -259,49 +336,68 @@ module _ (format : Format) (proof : List ℕ) (t : Tree) where
   names_empty = named_empty (values_named format proof t) (texts_of format proof) t
 
   -- the pair of two named texts
-  found_pair : {A : Type 0} (p : Pair A) (u w : List ℕ) → Names u → Names w → p.one.items ≡ u → p.other.items ≡ w → Collision u w → CollidesAmong (texts_named format proof t) p.one.items p.other.items
+  found_pair : {A : Type 0} (p : Pair A) (u w : List ℕ) → Names u → Names w → p.one.items ≡ u
+      → p.other.items ≡ w → Collision u w → CollidesAmong (texts_named format proof t) p.one.items
+      p.other.items
   found_pair p u w one other e f c =
       record {
         one_in = subst Names (sym e) one;
         other_in = subst Names (sym f) other;
-        collision = subst (λ (x : List ℕ). Collision x p.other.items) (sym e) (subst (Collision u) (sym f) c);
+        collision = subst (λ (x : List ℕ). Collision x p.other.items) (sym e)
+            (subst (Collision u) (sym f) c);
       }
 
 -- the values of a pair are named; in format 1 none is claimed
-values_pair : (format : Format) (proof k : List ℕ) (t : Tree) (all : List (List ℕ)) (claim : Claim) (one other : List ℕ) → ok_texts all claim ≡ frame_at format proof → ValuesCollide claim (map_get (pairs t) k) one other → CollidesAmong (texts_named format proof t) one other
-values_pair One proof k t all claim one other frame v = absurd (cc (nothing_claimed proof (all, claim) (sym frame) ∙ v.claims))
+values_pair : (format : Format) (proof k : List ℕ) (t : Tree) (all : List (List ℕ)) (claim : Claim)
+    (one other : List ℕ) → ok_texts all claim ≡ frame_at format proof → ValuesCollide claim
+    (map_get (pairs t) k) one other → CollidesAmong (texts_named format proof t) one other
+values_pair One proof k t all claim one other frame v =
+    absurd (cc (nothing_claimed proof (all, claim) (sym frame) ∙ v.claims))
 values_pair Two proof k t all claim one other frame v =
-    let claims : value_of (frame_at Two proof) ≡ one ∷ [] = ap value_of (sym frame) ∙ ap claimed v.claims in
+    let claims : value_of (frame_at Two proof) ≡ one ∷ [] =
+    ap value_of (sym frame) ∙ ap claimed v.claims in
     record {
-      one_in = named_value (values_named Two proof t) (texts_of Two proof) t one (claimed_in proof t one claims);
-      other_in = named_value (values_named Two proof t) (texts_of Two proof) t other (value_among proof t k other v.other_is);
+      one_in = named_value (values_named Two proof t) (texts_of Two proof) t one
+          (claimed_in proof t one claims);
+      other_in = named_value (values_named Two proof t) (texts_of Two proof) t other
+          (value_among proof t k other v.other_is);
       collision = v.collision;
     }
 
 -- ---- what is found
 
-module _ (format : Format) {A E : Type 0} (r : Result (Option (Pair A)) E) (k proof u w : List ℕ) (all : List (List ℕ)) (t : Tree) {claim : Claim} (frame : ok_texts all claim ≡ frame_at format proof) where
+module _ (format : Format) {A E : Type 0} (r : Result (Option (Pair A)) E) (k proof u w : List ℕ)
+    (all : List (List ℕ)) (t : Tree) {claim : Claim}
+    (frame : ok_texts all claim ≡ frame_at format proof) where
   abbrev Compared : Result (Option (Pair A)) E → Type 0
   Compared q = IfOk q (λ pair. IfNone pair (Collision u w → ⊥))
 
   abbrev Found : Result (Option (Pair A)) E → Type 0
-  Found q = IfOk q (λ pair. IfSome pair (λ p. (p.one.items ≡ u) × (p.other.items ≡ w) × Collision u w))
+  Found q =
+      IfOk q (λ pair. IfSome pair (λ p. (p.one.items ≡ u) × (p.other.items ≡ w) × Collision u w))
 
   abbrev Shows : Result (Option (Pair A)) E → Type 0
   Shows q = IfOk q (λ pair. IfNone pair (ShowsNoOther format t k proof))
 
   abbrev Finds : Result (Option (Pair A)) E → Type 0
-  Finds q = IfOk q (λ pair. IfSome pair (λ p. CollidesAmong (texts_named format proof t) p.one.items p.other.items))
+  Finds q =
+      IfOk q (λ pair. IfSome pair
+      (λ p. CollidesAmong (texts_named format proof t) p.one.items p.other.items))
 
   -- the map is empty, and there is a text
-  pub none_of_empty : (ts : List (List ℕ)) → t ≡ empty → all ≡ u ∷ ts → IsBytes u → w ≡ [] → Compared r → Shows r
+  pub none_of_empty : (ts : List (List ℕ)) → t ≡ empty → all ≡ u ∷ ts → IsBytes u → w ≡ []
+      → Compared r → Shows r
   none_of_empty ts is first b none h = go r h
     where
       go : (q : Result (Option (Pair A)) E) → Compared q → Shows q
       go (Ok None) h =
           let apart : Collision u [] → ⊥ = λ c. h (subst (Collision u) (sym none) c) in
-          let other : NoOther format claim t k all = subst (λ (x : Tree). NoOther format claim x k all) (sym is) (subst (NoOther format claim empty k) (sym first) (empty_none format claim k u ts b apart)) in
-          shows_some format t k proof all claim frame (λ z. omega (arith, z, ap (λ (us : List (List ℕ)). length us) first)) other
+          let other : NoOther format claim t k all =
+          subst (λ (x : Tree). NoOther format claim x k all) (sym is)
+          (subst (NoOther format claim empty k) (sym first)
+          (empty_none format claim k u ts b apart)) in
+          shows_some format t k proof all claim frame
+          (λ z. omega (arith, z, ap (λ (us : List (List ℕ)). length us) first)) other
       go (Ok (Some p)) h = tt
       go (Err e) h = tt
 
@@ -311,8 +407,11 @@ module _ (format : Format) {A E : Type 0} (r : Result (Option (Pair A)) E) (k pr
       go : (q : Result (Option (Pair A)) E) → Found q → Finds q
       go (Ok None) h = tt
       go (Ok (Some p)) h =
-          let one : Contains all u = subst (λ (us : List (List ℕ)). Contains us u) (sym first) (has_first u ts) in
-          found_pair format proof t p u w (named_here format proof t all claim u frame one) (subst (Contains (texts_named format proof t)) (sym none) (names_empty format proof t)) h.0 h.1 h.2
+          let one : Contains all u = subst (λ (us : List (List ℕ)). Contains us u) (sym first)
+          (has_first u ts) in
+          found_pair format proof t p u w (named_here format proof t all claim u frame one)
+          (subst (Contains (texts_named format proof t)) (sym none)
+          (names_empty format proof t)) h.0 h.1 h.2
       go (Err e) h = tt
 
   -- the map is not empty, and there is no text
@@ -324,7 +423,12 @@ module _ (format : Format) {A E : Type 0} (r : Result (Option (Pair A)) E) (k pr
       is_nil (x ∷ us) e = absurd (omega (arith, e))
 
       go : (q : Result (Option (Pair A)) E) → Compared q → Shows q
-      go (Ok None) h = shows_none format t k proof claim (subst (λ (us : List (List ℕ)). ok_texts us claim ≡ frame_at format proof) (is_nil all zero_is) frame) (λ c. h (subst (λ (x : List ℕ). Collision x w) (sym nothing) (subst (Collision []) (sym expected) c)))
+      go (Ok None) h =
+          shows_none format t k proof claim
+          (subst (λ (us : List (List ℕ)). ok_texts us claim ≡ frame_at format proof)
+          (is_nil all zero_is) frame)
+          (λ c. h (subst (λ (x : List ℕ). Collision x w) (sym nothing)
+          (subst (Collision []) (sym expected) c)))
       go (Ok (Some p)) h = tt
       go (Err e) h = tt
 
@@ -333,38 +437,64 @@ module _ (format : Format) {A E : Type 0} (r : Result (Option (Pair A)) E) (k pr
     where
       go : (q : Result (Option (Pair A)) E) → Found q → Finds q
       go (Ok None) h = tt
-      go (Ok (Some p)) h = found_pair format proof t p u w (subst (Contains (texts_named format proof t)) (sym nothing) (names_empty format proof t)) (subst (Contains (texts_named format proof t)) (sym expected) (names_node format proof t t itself)) h.0 h.1 h.2
+      go (Ok (Some p)) h =
+          found_pair format proof t p u w
+          (subst (Contains (texts_named format proof t)) (sym nothing) (names_empty format proof t))
+          (subst (Contains (texts_named format proof t)) (sym expected)
+          (names_node format proof t t itself)) h.0 h.1 h.2
       go (Err e) h = tt
 
-module _ (format : Format) (k proof : List ℕ) (all : List (List ℕ)) (t : Tree) {claim : Claim} (frame : ok_texts all claim ≡ frame_at format proof) where
+module _ (format : Format) (k proof : List ℕ) (all : List (List ℕ)) (t : Tree) {claim : Claim}
+    (frame : ok_texts all claim ≡ frame_at format proof) where
   -- the map is empty, and there is no text
   pub none_of_nothing : t ≡ empty → all ≡ [] → ShowsNoOther format t k proof
   none_of_nothing is nil =
-      shows_none format t k proof claim (subst (λ (us : List (List ℕ)). ok_texts us claim ≡ frame_at format proof) nil frame) (λ c. c.differ (ap text (sym is)))
+      shows_none format t k proof claim
+      (subst (λ (us : List (List ℕ)). ok_texts us claim ≡ frame_at format proof) nil frame)
+      (λ c. c.differ (ap text (sym is)))
 
-module _ (format : Format) {A E : Type 0} (r : Result (Option (Pair A)) E) (k proof : List ℕ) (all : List (List ℕ)) (t n : Tree) {claim : Claim} (frame : ok_texts all claim ≡ frame_at format proof) (is : t ≡ n) where
+module _ (format : Format) {A E : Type 0} (r : Result (Option (Pair A)) E) (k proof : List ℕ)
+    (all : List (List ℕ)) (t n : Tree) {claim : Claim}
+    (frame : ok_texts all claim ≡ frame_at format proof) (is : t ≡ n) where
   -- the texts were walked along
-  pub none_of_walk : (length all ≡ 0 → ⊥) → IfOk r (λ pair. IfNone pair (NoOther format claim n k all)) → IfOk r (λ pair. IfNone pair (ShowsNoOther format t k proof))
+  pub none_of_walk : (length all ≡ 0 → ⊥)
+      → IfOk r (λ pair. IfNone pair (NoOther format claim n k all))
+      → IfOk r (λ pair. IfNone pair (ShowsNoOther format t k proof))
   none_of_walk some h = go r h
     where
-      go : (q : Result (Option (Pair A)) E) → IfOk q (λ pair. IfNone pair (NoOther format claim n k all)) → IfOk q (λ pair. IfNone pair (ShowsNoOther format t k proof))
-      go (Ok None) h = shows_some format t k proof all claim frame some (subst (λ (x : Tree). NoOther format claim x k all) (sym is) h)
+      go : (q : Result (Option (Pair A)) E)
+          → IfOk q (λ pair. IfNone pair (NoOther format claim n k all))
+          → IfOk q (λ pair. IfNone pair (ShowsNoOther format t k proof))
+      go (Ok None) h = shows_some format t k proof all claim frame some
+          (subst (λ (x : Tree). NoOther format claim x k all) (sym is) h)
       go (Ok (Some p)) h = tt
       go (Err e) h = tt
 
-  pub some_of_walk : IfOk r (λ pair. IfSome pair (λ p. CollidesBeside claim k all n p.one.items p.other.items)) → IfOk r (λ pair. IfSome pair (λ p. CollidesAmong (texts_named format proof t) p.one.items p.other.items))
+  pub some_of_walk : IfOk r
+      (λ pair. IfSome pair (λ p. CollidesBeside claim k all n p.one.items p.other.items))
+      → IfOk r (λ pair. IfSome pair
+      (λ p. CollidesAmong (texts_named format proof t) p.one.items p.other.items))
   some_of_walk h = go r h
     where
-      named : (p : Pair A) → CollidesBeside claim k all n p.one.items p.other.items → CollidesAmong (texts_named format proof t) p.one.items p.other.items
+      named : (p : Pair A) → CollidesBeside claim k all n p.one.items p.other.items
+          → CollidesAmong (texts_named format proof t) p.one.items p.other.items
       named p (inl h) =
           record {
             one_in = named_here format proof t all claim p.one.items frame h.one_in;
-            other_in = subst (Contains (texts_named format proof t)) (sym h.other_is) (names_node format proof t h.at (subst (λ (x : Tree). Contains (nodes x) h.at) (sym is) h.at_in));
+            other_in = subst (Contains (texts_named format proof t)) (sym h.other_is)
+                (names_node format proof t h.at
+                (subst (λ (x : Tree). Contains (nodes x) h.at) (sym is) h.at_in));
             collision = h.collision;
           }
-      named p (inr v) = values_pair format proof k t all claim p.one.items p.other.items frame (subst (λ (x : Tree). ValuesCollide claim (map_get (pairs x) k) p.one.items p.other.items) (sym is) v)
+      named p (inr v) = values_pair format proof k t all claim p.one.items p.other.items frame
+          (subst (λ (x : Tree). ValuesCollide claim (map_get (pairs x) k) p.one.items p.other.items)
+          (sym is) v)
 
-      go : (q : Result (Option (Pair A)) E) → IfOk q (λ pair. IfSome pair (λ p. CollidesBeside claim k all n p.one.items p.other.items)) → IfOk q (λ pair. IfSome pair (λ p. CollidesAmong (texts_named format proof t) p.one.items p.other.items))
+      go : (q : Result (Option (Pair A)) E)
+          → IfOk q (λ pair. IfSome pair
+          (λ p. CollidesBeside claim k all n p.one.items p.other.items))
+          → IfOk q (λ pair. IfSome pair
+          (λ p. CollidesAmong (texts_named format proof t) p.one.items p.other.items))
       go (Ok None) h = tt
       go (Ok (Some p)) h = named p h
       go (Err e) h = tt

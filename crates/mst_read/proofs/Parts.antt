@@ -33,7 +33,8 @@ pub record Cuts (k : List ℕ) (whole rest : Chain) : Type 0 where
   pub part : rest_from k rest ≡ rest_from k whole
 
 -- a link of a row that is left is one
-link_left : {format : Format} {content : Content} {tail next done all : ℕ} {P : Chain → Type 0} (o : Onward format content tail next done all P) → done < all → 0 < next
+link_left : {format : Format} {content : Content} {tail next done all : ℕ} {P : Chain → Type 0}
+    (o : Onward format content tail next done all P) → done < all → 0 < next
 link_left {next = next} {done} {all} o lt = go o.rest o.first_is o.left
   where
     go : (c : Chain) → first_of c ≡ next → count_of c + done ≡ all → 0 < next
@@ -42,10 +43,14 @@ link_left {next = next} {done} {all} o lt = go o.rest o.first_is o.left
 
 -- the link of the tree in the gap, and the part behind it
 abbrev pub CutIs : List ℕ → ℕ → Chain → ℕ × HeadLinks → Type 0
-CutIs k layer whole found = found ≡ (link_of (gap_placed k whole), chain_links layer (rest_from k whole))
+CutIs k layer whole found =
+    found ≡ (link_of (gap_placed k whole), chain_links layer (rest_from k whole))
 
 -- the way from the first entry of the rest was asked for, while the rows are the same
-module _ {format : Format} {content : Content} {tail next done all : ℕ} (k : List ℕ) (layer : ℕ) (whole : Chain) (o : Onward format content tail next done all (Cuts k whole)) (lt : done < all) {after : Content} (same : after ≡ content) {w : Way} (answer : part_at (entry_way k) after (next - 1) ≡ Some w) where
+module _ {format : Format} {content : Content} {tail next done all : ℕ} (k : List ℕ) (layer : ℕ)
+    (whole : Chain) (o : Onward format content tail next done all (Cuts k whole)) (lt : done < all)
+    {after : Content} (same : after ≡ content) {w : Way}
+    (answer : part_at (entry_way k) after (next - 1) ≡ Some w) where
   abbrev e : EntryLinks
   e = (entry_left o lt).0
 
@@ -53,58 +58,86 @@ module _ {format : Format} {content : Content} {tail next done all : ℕ} (k : L
   here = at_cell o lt refl (entry_left o lt).1
 
   way : way_at k e.child e.next e.key ≡ w
-  way = way_is content (next - 1) k e w (entry_left o lt).1 (read_before same (entry_way k) (next - 1) answer)
+  way = way_is content (next - 1) k e w (entry_left o lt).1
+      (read_before same (entry_way k) (next - 1) answer)
 
   abbrev from_here : Chain
   from_here = cell (next - 1) here.child e.key here.value here.rest
 
-  links_here : {part : HeadLinks} → part ≡ record { layer = layer; count = all - done; first = next; tail = tail } → part ≡ chain_links layer from_here
+  links_here : {part : HeadLinks} → part ≡ record {
+    layer = layer;
+    count = all - done;
+    first =
+        next;
+    tail = tail;
+  } → part ≡ chain_links layer from_here
   links_here is =
       let first : next ≡ (next - 1) + 1 = omega (arith, link_left o lt) in
       let count : all - done ≡ count_of here.rest + 1 = omega (arith, here.left) in
       let last : tail ≡ tail_of here.rest = sym here.tail_is in
       is ∙ (λ i. record { layer = layer; count = count i; first = first i; tail = last i })
 
-  pub cut_before : {link : ℕ} {part : HeadLinks} → w ≡ Child link → part ≡ record { layer = layer; count = all - done; first = next; tail = tail } → CutIs k layer whole (link, part)
+  pub cut_before : {link : ℕ} {part : HeadLinks} → w ≡ Child link
+      → part ≡ record { layer = layer; count = all - done; first = next; tail = tail }
+      → CutIs k layer whole (link, part)
   cut_before {link} {part} is links =
       let less = to_child k e link (way ∙ is) in
       let compared : key_cmp k e.key ≡ Less = less.0 in
       let gap : here.child ≡ gap_placed k whole = rw compared at here.holds.gap in
       let rest : from_here ≡ rest_from k whole = rw compared at here.holds.part in
-      let one : link ≡ link_of (gap_placed k whole) = sym (here.child_is ∙ less.1) ∙ ap link_of gap in
-      let two : part ≡ chain_links layer (rest_from k whole) = links_here links ∙ ap (chain_links layer) rest in
+      let one : link ≡ link_of (gap_placed k whole) = sym (here.child_is ∙ less.1) ∙ ap link_of gap
+      in
+      let two : part ≡ chain_links layer (rest_from k whole) =
+      links_here links ∙ ap (chain_links layer) rest in
       λ i. (one i, two i)
 
-  pub cut_here : {part : HeadLinks} → w ≡ Here → part ≡ record { layer = layer; count = all - done; first = next; tail = tail } → CutIs k layer whole (0, part)
+  pub cut_here : {part : HeadLinks} → w ≡ Here
+      → part ≡ record { layer = layer; count = all - done; first = next; tail = tail }
+      → CutIs k layer whole (0, part)
   cut_here {part} is links =
       let compared : key_cmp k e.key ≡ Equal = is_here k e (way ∙ is) in
       let gap : none ≡ gap_placed k whole = rw compared at here.holds.gap in
       let rest : from_here ≡ rest_from k whole = rw compared at here.holds.part in
       let one : 0 ≡ link_of (gap_placed k whole) = ap link_of gap in
-      let two : part ≡ chain_links layer (rest_from k whole) = links_here links ∙ ap (chain_links layer) rest in
+      let two : part ≡ chain_links layer (rest_from k whole) =
+      links_here links ∙ ap (chain_links layer) rest in
       λ i. (one i, two i)
 
-  pub cut_past : {link : ℕ} → w ≡ Next link → Onward format content tail link (done + 1) all (Cuts k whole)
+  pub cut_past : {link : ℕ} → w ≡ Next link → Onward format content tail link (done + 1) all
+      (Cuts k whole)
   cut_past {link} is =
       let more = to_next k e link (way ∙ is) in
       let compared : key_cmp k e.key ≡ Greater = more.0 in
-      let rest : Cuts k whole here.rest = record { gap = rw compared at here.holds.gap; part = rw compared at here.holds.part } in
-      subst (λ (n : ℕ). Onward format content tail n (done + 1) all (Cuts k whole)) more.1 (further here (Cuts k whole) rest)
+      let rest : Cuts k whole here.rest =
+      record { gap = rw compared at here.holds.gap; part = rw compared at here.holds.part } in
+      subst (λ (n : ℕ). Onward format content tail n (done + 1) all (Cuts k whole)) more.1
+      (further here (Cuts k whole) rest)
 
 -- no entry is left
-pub cut_last : {format : Format} {content : Content} {tail next done all : ℕ} (k : List ℕ) (layer : ℕ) (whole : Chain) (o : Onward format content tail next done all (Cuts k whole)) → all ≡ done → {part : HeadLinks} → part ≡ record { layer = layer; count = 0; first = 0; tail = tail } → CutIs k layer whole (tail, part)
+pub cut_last : {format : Format} {content : Content} {tail next done all : ℕ} (k : List ℕ)
+    (layer : ℕ) (whole : Chain) (o : Onward format content tail next done all (Cuts k whole))
+    → all ≡ done → {part : HeadLinks} → part ≡ record {
+      layer = layer;
+      count = 0;
+      first = 0;
+      tail =
+          tail;
+    } → CutIs k layer whole (tail, part)
 cut_last {tail = tail} k layer whole o over {part} links =
     let a = at_end o over in
     let one : tail ≡ link_of (gap_placed k whole) = sym a.child_is ∙ ap link_of a.holds.gap in
     let last : tail ≡ link_of a.child = sym a.child_is in
-    let empty : part ≡ chain_links layer (end a.child) = links ∙ (λ i. record { layer = layer; count = 0; first = 0; tail = last i }) in
-    let two : part ≡ chain_links layer (rest_from k whole) = empty ∙ ap (chain_links layer) a.holds.part in
+    let empty : part ≡ chain_links layer (end a.child) =
+    links ∙ (λ i. record { layer = layer; count = 0; first = 0; tail = last i }) in
+    let two : part ≡ chain_links layer (rest_from k whole) =
+    empty ∙ ap (chain_links layer) a.holds.part in
     λ i. (one i, two i)
 
 -- ---- what the cut says of the pairs
 
 -- a tree, and a part of a node, with the pairs of a list that are not below the key
-record CutAt (format : Format) (content : Content) (layer : ℕ) (k : List ℕ) (gap : Placed) (rest : Chain) (whole : List Pair) : Type 0 where
+record CutAt (format : Format) (content : Content) (layer : ℕ) (k : List ℕ) (gap : Placed)
+    (rest : Chain) (whole : List Pair) : Type 0 where
   gap_rows : HasRows content (rows_of format gap)
   gap_under : IsUnder layer (tree_of format gap)
   gap_mst : IsMst format (tree_of format gap)
@@ -112,10 +145,15 @@ record CutAt (format : Format) (content : Content) (layer : ℕ) (k : List ℕ) 
   rest_rows : HasRows content (chain_rows format rest)
   rest_mst : IsMstEntries format layer (entries_of format rest)
   rest_rise : IsAscending (entries_pairs (entries_of format rest))
-  sum : (to : Option (List ℕ)) (limit : ℕ) (found : List Pair) → filled None to limit (filled (Some k) to limit found (pairs (tree_of format gap))) (past_gap format rest) ≡ filled (Some k) to limit found whole
+  sum : (to : Option (List ℕ)) (limit : ℕ) (found : List Pair) → filled None to limit
+      (filled (Some k) to limit found (pairs (tree_of format gap))) (past_gap format rest) ≡ filled
+      (Some k) to limit found whole
 
 module _ (format : Format) (content : Content) (layer : ℕ) (k : List ℕ) where
-  cut_at : (c : Chain) → HasRows content (chain_rows format c) → IsMstEntries format layer (entries_of format c) → IsAscending (entries_pairs (entries_of format c)) → CutAt format content layer k (gap_placed k c) (rest_from k c) (entries_pairs (entries_of format c))
+  cut_at : (c : Chain) → HasRows content (chain_rows format c) → IsMstEntries format layer
+      (entries_of format c) → IsAscending (entries_pairs (entries_of format c))
+      → CutAt format content layer k (gap_placed k c) (rest_from k c)
+      (entries_pairs (entries_of format c))
   cut_at (end p) rows mst rise = record {
     gap_rows = rows;
     gap_under = mst.0;
@@ -124,11 +162,13 @@ module _ (format : Format) (content : Content) (layer : ℕ) (k : List ℕ) wher
     rest_rows = rows;
     rest_mst = mst;
     rest_rise = rise;
-    sum = λ to limit found. filled-nothing None to limit (filled (Some k) to limit found (pairs (tree_of format p))) [] tt;
+    sum = λ to limit found. filled-nothing None to limit
+        (filled (Some k) to limit found (pairs (tree_of format p))) [] tt;
   }
   cut_at (cell at p key v c) rows mst rise =
       go (key_cmp k key) refl
-      (cut_at c (all-back _ (rows_of format p) (chain_rows format c) rows.1) mst.3 (IsAscending-back front ((key, v) ∷ back) rise).1)
+      (cut_at c (all-back _ (rows_of format p) (chain_rows format c) rows.1) mst.3
+      (IsAscending-back front ((key, v) ∷ back) rise).1)
     where
       front : List Pair
       front = pairs (tree_of format p)
@@ -139,7 +179,10 @@ module _ (format : Format) (content : Content) (layer : ℕ) (k : List ℕ) wher
       own : List Pair
       own = (key, v) ∷ []
 
-      go : (o : Ordering) → key_cmp k key ≡ o → CutAt format content layer k (gap_placed k c) (rest_from k c) back → CutAt format content layer k (by_order o p none (gap_placed k c)) (by_order o (cell at p key v c) (cell at p key v c) (rest_from k c)) (front ++ (key, v) ∷ back)
+      go : (o : Ordering) → key_cmp k key ≡ o → CutAt format content layer k (gap_placed k c)
+          (rest_from k c) back → CutAt format content layer k (by_order o p none (gap_placed k c))
+          (by_order o (cell at p key v c) (cell at p key v c) (rest_from k c))
+          (front ++ (key, v) ∷ back)
       go Less e further = record {
         gap_rows = all-front _ (rows_of format p) (chain_rows format c) rows.1;
         gap_under = mst.0;
@@ -149,7 +192,10 @@ module _ (format : Format) (content : Content) (layer : ℕ) (k : List ℕ) wher
         rest_mst = mst;
         rest_rise = rise;
         sum = λ to limit found.
-            sym (filled-unbound (Some k) to limit (filled (Some k) to limit found front) ((key, v) ∷ back) (all_from k key v back (from_less k key e) (IsAscending-back front ((key, v) ∷ back) rise).0))
+            sym (filled-unbound (Some k) to limit (filled (Some k) to limit found front)
+            ((key, v) ∷ back)
+            (all_from k key v back (from_less k key e)
+            (IsAscending-back front ((key, v) ∷ back) rise).0))
             ∙ sym (filled-append (Some k) to limit found front ((key, v) ∷ back));
       }
       go Equal e further =
@@ -163,9 +209,15 @@ module _ (format : Format) (content : Content) (layer : ℕ) (k : List ℕ) wher
             rest_mst = mst;
             rest_rise = rise;
             sum = λ to limit found.
-                let outside = none_from k key front to (IsAscending-below front back (key, v) rise) (inr (sym same)) in
-                ap (λ (l : List Pair). filled None to limit l ((key, v) ∷ back)) (filled-nothing (Some k) to limit found [] tt ∙ sym (filled-nothing (Some k) to limit found front outside))
-                ∙ sym (filled-unbound (Some k) to limit (filled (Some k) to limit found front) ((key, v) ∷ back) (all_from k key v back (from_same k key same) (IsAscending-back front ((key, v) ∷ back) rise).0))
+                let outside = none_from k key front to (IsAscending-below front back (key, v) rise)
+                (inr (sym same)) in
+                ap (λ (l : List Pair). filled None to limit l ((key, v) ∷ back))
+                (filled-nothing (Some k) to limit found [] tt
+                ∙ sym (filled-nothing (Some k) to limit found front outside))
+                ∙ sym (filled-unbound (Some k) to limit (filled (Some k) to limit found front)
+                ((key, v) ∷ back)
+                (all_from k key v back (from_same k key same)
+                (IsAscending-back front ((key, v) ∷ back) rise).0))
                 ∙ sym (filled-append (Some k) to limit found front ((key, v) ∷ back));
           }
       go Greater e further =
@@ -179,34 +231,58 @@ module _ (format : Format) (content : Content) (layer : ℕ) (k : List ℕ) wher
             rest_mst = further.rest_mst;
             rest_rise = further.rest_rise;
             sum = λ to limit found.
-                let outside = none_from k key front to (IsAscending-below front back (key, v) rise) (inl more) in
-                let alone = filled-nothing (Some k) to limit found own (outside-from (Some k) to limit key v (not_from_more k key more), tt) in
+                let outside = none_from k key front to (IsAscending-below front back (key, v) rise)
+                (inl more) in
+                let alone = filled-nothing (Some k) to limit found own
+                (outside-from (Some k) to limit key v (not_from_more k key more), tt) in
                 further.sum to limit found
                 ∙ ap (λ (l : List Pair). filled (Some k) to limit l back) (sym alone)
                 ∙ sym (filled-append (Some k) to limit found own back)
-                ∙ ap (λ (l : List Pair). filled (Some k) to limit l ((key, v) ∷ back)) (sym (filled-nothing (Some k) to limit found front outside))
+                ∙ ap (λ (l : List Pair). filled (Some k) to limit l ((key, v) ∷ back))
+                (sym (filled-nothing (Some k) to limit found front outside))
                 ∙ sym (filled-append (Some k) to limit found front ((key, v) ∷ back));
           }
 
 -- ---- the node behind a head that was read
 
-pub record Opened (format : Format) (content : Content) (links : HeadLinks) (p : Placed) : Type 0 where
-  pub chain : Chain
-  pub stands : PartStands format content links chain
-  pub same : entries_pairs (entries_of format chain) ≡ pairs (tree_of format p)
+pub record Opened (format : Format) (content : Content) (links : HeadLinks) (p : Placed) : Type 0
+  where
+    pub chain : Chain
+    pub stands : PartStands format content links chain
+    pub same : entries_pairs (entries_of format chain) ≡ pairs (tree_of format p)
 
-pub opened : {format : Format} {content : Content} {top : Option HeadLinks} {links : HeadLinks} {p : Placed} → top ≡ Some links → HeadStands format content top p → Opened format content links p
+pub opened : {format : Format} {content : Content} {top : Option HeadLinks} {links : HeadLinks}
+    {p : Placed} → top ≡ Some links → HeadStands format content top p → Opened format content links
+    p
 opened {format} {content} {top} {links} {p} some s =
     let P = λ (ps : List Pair). ps ≡ pairs (tree_of format p) in
-    let r : Reached format content top P = record { placed = p; head_is = s.head_is; rows = s.rows; mst = s.mst; rise = s.rise; holds = refl } in
+    let r : Reached format content top P =
+    record {
+      placed = p;
+      head_is = s.head_is;
+      rows = s.rows;
+      mst = s.mst;
+      rise = s.rise;
+      holds =
+          refl;
+    } in
     let d = inside r some in
-    record { chain = d.chain; stands = record { lies = d.lies; mst = d.mst; rise = d.rise }; same = d.holds }
+    record {
+      chain = d.chain;
+      stands = record { lies = d.lies; mst = d.mst; rise = d.rise };
+      same =
+          d.holds;
+    }
 
-pub lies_there : {format : Format} {content : Content} {top : Option HeadLinks} {links : HeadLinks} {p : Placed} → top ≡ Some links → HeadStands format content top p → ChainLies content links
+pub lies_there : {format : Format} {content : Content} {top : Option HeadLinks} {links : HeadLinks}
+    {p : Placed} → top ≡ Some links → HeadStands format content top p → ChainLies content links
 lies_there {format} some s = let o = opened some s in (format, o.chain, o.stands.lies)
 
 -- the node was cut
-module _ {format : Format} {content : Content} {top : Option HeadLinks} {links : HeadLinks} {p : Placed} (k : List ℕ) (some : top ≡ Some links) (s : HeadStands format content top p) {found : ℕ × HeadLinks} (read : (f : Format) (c : Chain) → LiesBehind f content links c → CutIs k links.layer c found) where
+module _ {format : Format} {content : Content} {top : Option HeadLinks} {links : HeadLinks}
+    {p : Placed} (k : List ℕ) (some : top ≡ Some links) (s : HeadStands format content top p)
+    {found : ℕ × HeadLinks} (read : (f : Format) (c : Chain) → LiesBehind f content links c
+    → CutIs k links.layer c found) where
   o : Opened format content links p
   o = opened some s
 
@@ -216,38 +292,55 @@ module _ {format : Format} {content : Content} {top : Option HeadLinks} {links :
   abbrev pub rest : Chain
   rest = rest_from k (opened some s).chain
 
-  cut : CutAt format content links.layer k gap rest (entries_pairs (entries_of format (opened some s).chain))
-  cut = cut_at format content links.layer k (opened some s).chain (opened some s).stands.lies.rows (opened some s).stands.mst (opened some s).stands.rise
+  cut : CutAt format content links.layer k gap rest
+      (entries_pairs (entries_of format (opened some s).chain))
+  cut = cut_at format content links.layer k (opened some s).chain (opened some s).stands.lies.rows
+      (opened some s).stands.mst (opened some s).stands.rise
 
   is : CutIs k links.layer (opened some s).chain found
   is = read format (opened some s).chain (opened some s).stands.lies
 
   pub gap_lies : {after : Content} → after ≡ content → Lies format after found.0 gap
-  gap_lies same = lies_still same (record { at = ap (λ (x : ℕ × HeadLinks). x.0) (sym is); rows = cut.gap_rows })
+  gap_lies same =
+      lies_still same
+      (record { at = ap (λ (x : ℕ × HeadLinks). x.0) (sym is); rows = cut.gap_rows })
 
   pub gap_there : {after : Content} → after ≡ content → TreeLies after found.0
   gap_there same = (format, gap, gap_lies same)
 
   -- the head of the tree in the gap was read, while the rows are the same
-  module _ {after : Content} {below : Option HeadLinks} (same : after ≡ content) (head_read : (f : Format) (q : Placed) → Lies f after found.0 q → below ≡ head_of q) where
+  module _ {after : Content} {below : Option HeadLinks} (same : after ≡ content)
+      (head_read : (f : Format) (q : Placed) → Lies f after found.0 q → below ≡ head_of q) where
     below_is : below ≡ head_of gap
     below_is = head_read format gap (gap_lies same)
 
     pub gap_stands : {later : Content} → later ≡ after → HeadStands format later below gap
-    gap_stands still = stands_still (still ∙ same) (record { head_is = sym below_is; rows = cut.gap_rows; mst = cut.gap_mst; rise = cut.gap_rise })
+    gap_stands still =
+        stands_still (still ∙ same)
+        (record {
+          head_is = sym below_is;
+          rows = cut.gap_rows;
+          mst = cut.gap_mst;
+          rise =
+              cut.gap_rise;
+        })
 
     pub gap_falls : depth below < depth top
-    gap_falls = omega (arith, depth_is some, falls format links.layer gap below cut.gap_under below_is)
+    gap_falls =
+        omega (arith, depth_is some, falls format links.layer gap below cut.gap_under below_is)
 
   pub rest_stands : {after : Content} → after ≡ content → PartStands format after found.1 rest
-  rest_stands {after} same = subst (λ (x : HeadLinks). PartStands format after x rest) (ap (λ (x : ℕ × HeadLinks). x.1) (sym is)) (part_still same (record {
-    lies = record { first = refl; tail = refl; count = refl; rows = cut.rest_rows };
-    mst = cut.rest_mst;
-    rise = cut.rest_rise;
-  }))
+  rest_stands {after} same = subst (λ (x : HeadLinks). PartStands format after x rest)
+      (ap (λ (x : ℕ × HeadLinks). x.1) (sym is)) (part_still same (record {
+        lies = record { first = refl; tail = refl; count = refl; rows = cut.rest_rows };
+        mst = cut.rest_mst;
+        rise = cut.rest_rise;
+      }))
 
   -- the tree in the gap is gathered, and then the part behind it
-  pub sums : (to : Option (List ℕ)) (limit : ℕ) (before next : List Pair) → next ≡ filled (Some k) to limit before (pairs (tree_of format gap)) → filled None to limit next (past_gap format rest) ≡ filled (Some k) to limit before (pairs (tree_of format p))
+  pub sums : (to : Option (List ℕ)) (limit : ℕ) (before next : List Pair) → next ≡ filled (Some k)
+      to limit before (pairs (tree_of format gap)) → filled None to limit next
+      (past_gap format rest) ≡ filled (Some k) to limit before (pairs (tree_of format p))
   sums to limit before next in_gap =
       ap (λ (l : List Pair). filled None to limit l (past_gap format rest)) in_gap
       ∙ cut.sum to limit before

@@ -11,11 +11,14 @@ use Rattle.mst_replay.specs.Line.{IsSpelt}
 use Rattle.mst_replay.specs.Replay.{Replays}
 use Rattle.mst_replay.specs.Reply.{reply_of}
 
-pub no_command : (s t : Option State) (line : List ℕ) (reply : Reply) → ((c : Command) → IsSpelt c line → ⊥) → Replays s line reply t → (reply ≡ FaultLine) × (t ≡ s)
+pub no_command : (s t : Option State) (line : List ℕ) (reply : Reply)
+    → ((c : Command) → IsSpelt c line → ⊥) → Replays s line reply t → (reply ≡ FaultLine) × (t ≡ s)
 no_command s t line reply none (inl (c, spelt, obeyed)) = absurd (none c spelt)
 no_command s t line reply none (inr (other, fault, same)) = (fault, same)
 
-pub before_the_core : (t : Option State) (line : List ℕ) (reply : Reply) → ((n : ℕ) → IsSpelt (Open n) line → ⊥) → Replays None line reply t → (reply ≡ FaultLine) × (t ≡ None)
+pub before_the_core : (t : Option State) (line : List ℕ) (reply : Reply)
+    → ((n : ℕ) → IsSpelt (Open n) line → ⊥) → Replays None line reply t → (reply ≡ FaultLine)
+    × (t ≡ None)
 before_the_core t line reply none (inl (Open n, spelt, obeyed)) = absurd (none n spelt)
 before_the_core t line reply none (inl (Take e, spelt, obeyed)) = (obeyed.0, obeyed.1)
 before_the_core t line reply none (inr (other, fault, same)) = (fault, same)
@@ -27,7 +30,8 @@ no_answer answer.Yes e = cc e
 no_answer answer.No e = cc e
 no_answer answer.Refused e = cc e
 
-pub fault_at_core : (s : State) (t : Option State) (line : List ℕ) → Replays (Some s) line FaultLine t → (c : Command) → IsSpelt c line → ⊥
+pub fault_at_core : (s : State) (t : Option State) (line : List ℕ) → Replays (Some s) line FaultLine
+    t → (c : Command) → IsSpelt c line → ⊥
 fault_at_core s t line (inl (Open n, spelt, obeyed)) = absurd (cc obeyed.0)
 fault_at_core s t line (inl (Take e, spelt, obeyed)) = absurd (no_answer obeyed.0 obeyed.3)
 fault_at_core s t line (inr (other, fault, same)) = other

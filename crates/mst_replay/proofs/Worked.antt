@@ -23,4 +23,14 @@ early = inl (Take Transfer, record { in_range = tt; is_text = refl }, (refl, ref
 
 -- a core of two passes has four records
 two_passes : Replays None (codes "passes 2") (Records 4) (Some (opening 2))
-two_passes = inl (Open 2, record { in_range = (omega arith, omega arith); is_text = ap (λ (digits : List ℕ). codes "passes " ++ digits) (sym (decimal_digit 2 (omega arith))) }, (refl, refl))
+two_passes =
+    inl (
+      Open 2,
+      record {
+        in_range = (omega arith, omega arith);
+        is_text =
+            ap (λ (digits : List ℕ). codes "passes " ++ digits)
+            (sym (decimal_digit 2 (omega arith)));
+      },
+      (refl, refl),
+    )

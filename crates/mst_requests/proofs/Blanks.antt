@@ -5,8 +5,10 @@ use Rattle.mst_lines.specs.Lines.{IsWithout}
 use Rattle.mst_requests.specs.Grammar.{fields_of}
 
 -- the fields of a line that was cut at its first blank
-pub fields_cut : (first rest line : List ℕ) → IsWithout 32 first → line ≡ first ++ 32 ∷ rest → fields_of line ≡ first ∷ fields_of rest
-fields_cut first rest line none is = ap fields_of is ∙ slice_split_at (λ b. b == 32) first 32 rest none refl
+pub fields_cut : (first rest line : List ℕ) → IsWithout 32 first → line ≡ first ++ 32 ∷ rest
+    → fields_of line ≡ first ∷ fields_of rest
+fields_cut first rest line none is = ap fields_of is ∙ slice_split_at (λ b. b == 32) first 32 rest
+    none refl
 
 pub fields_one : (line : List ℕ) → IsWithout 32 line → fields_of line ≡ line ∷ []
 fields_one line none = slice_split_none (λ b. b == 32) line none

@@ -22,7 +22,8 @@ lone_mine p is (suc k) d l = absurd (omega arith)
 
 first_stores : (s : StoreId) (n : ℕ) → All (λ p. p.store ≡ s) (first_passes s n)
 first_stores s zero k d l = absurd (omega arith)
-first_stores s (suc n) k d l = All-append (λ (p : Known). p.store ≡ s) (first_passes s n) (new_pass s (suc n) ∷ []) (first_stores s n) (lone s (new_pass s (suc n)) refl) k d l
+first_stores s (suc n) k d l = All-append (λ (p : Known). p.store ≡ s) (first_passes s n)
+    (new_pass s (suc n) ∷ []) (first_stores s n) (lone s (new_pass s (suc n)) refl) k d l
 
 pub numbers-append : (ps qs : List Known) → numbers (ps ++ qs) ≡ numbers ps ++ numbers qs
 numbers-append [] qs = refl
@@ -30,13 +31,18 @@ numbers-append (p ∷ ps) qs = ap (λ (l : List ℕ). p.number ∷ l) (numbers-a
 
 first_numbers : (s : StoreId) (n k : ℕ) → 0 < k → k ≤ n → Contains (numbers (first_passes s n)) k
 first_numbers s zero k low high = absurd (omega arith)
-first_numbers s (suc n) k low high = subst (λ (l : List ℕ). Contains l k) (sym (numbers-append (first_passes s n) (new_pass s (suc n) ∷ []))) (dite (ℕ_discrete k (suc n))
-    (λ (is : k ≡ suc n). Contains-append_right (numbers (first_passes s n)) (suc n ∷ []) k (0, omega arith, sym is))
-    (λ (other : k ≢ suc n). Contains-append_left (numbers (first_passes s n)) (suc n ∷ []) k (first_numbers s n k low (omega (arith, other)))))
+first_numbers s (suc n) k low high =
+    subst (λ (l : List ℕ). Contains l k)
+    (sym (numbers-append (first_passes s n) (new_pass s (suc n) ∷ []))) (dite (ℕ_discrete k (suc n))
+    (λ (is : k ≡ suc n). Contains-append_right (numbers (first_passes s n)) (suc n ∷ []) k
+    (0, omega arith, sym is))
+    (λ (other : k ≢ suc n). Contains-append_left (numbers (first_passes s n)) (suc n ∷ []) k
+    (first_numbers s n k low (omega (arith, other)))))
 
 first_mine : (s : StoreId) (n : ℕ) → All (λ p. p.mine ≡ []) (first_passes s n)
 first_mine s zero k d l = absurd (omega arith)
-first_mine s (suc n) k d l = All-append (λ (p : Known). p.mine ≡ []) (first_passes s n) (new_pass s (suc n) ∷ []) (first_mine s n) (lone_mine (new_pass s (suc n)) refl) k d l
+first_mine s (suc n) k d l = All-append (λ (p : Known). p.mine ≡ []) (first_passes s n)
+    (new_pass s (suc n) ∷ []) (first_mine s n) (lone_mine (new_pass s (suc n)) refl) k d l
 
 -- passes that were dealt have done nothing
 pub none_done : (s : StoreId) → All (λ p. p.mine ≡ []) (new_passes s)
@@ -53,23 +59,33 @@ pub all_passes : (s : StoreId) (r : Roster) → AreAllOf s (everyone r) → AreA
 all_passes s r w = record { store = s; of_one = w.of_one; complete = w.complete }
 
 -- in another order
-pub all_moved : (s : StoreId) (ps qs : List Known) → IsPermutation ps qs → AreAllOf s ps → AreAllOf s qs
+pub all_moved : (s : StoreId) (ps qs : List Known) → IsPermutation ps qs → AreAllOf s ps
+    → AreAllOf s qs
 all_moved s ps qs moved w = record {
   of_one = All-permutation (λ (p : Known). p.store ≡ s) ps qs moved w.of_one;
-  complete = λ n low high. Contains-permutation (numbers ps) (numbers qs) n (IsPermutation-map (λ (p : Known). p.number) ps qs moved) (w.complete n low high);
+  complete = λ n low high. Contains-permutation (numbers ps) (numbers qs) n
+      (IsPermutation-map (λ (p : Known). p.number) ps qs moved) (w.complete n low high);
 }
 
 -- one of them did something
-first_changed : (s : StoreId) (p q : Known) (os : List Known) → IsSamePass p q → AreAllOf s (p ∷ os) → AreAllOf s (q ∷ os)
+first_changed : (s : StoreId) (p q : Known) (os : List Known) → IsSamePass p q → AreAllOf s (p ∷ os)
+    → AreAllOf s (q ∷ os)
 first_changed s p q os same w = record {
-  of_one = All-cons (λ (x : Known). x.store ≡ s) q os (same.0 ∙ All-head (λ (x : Known). x.store ≡ s) p os w.of_one) (All-tail (λ (x : Known). x.store ≡ s) p os w.of_one);
-  complete = λ n low high. subst (λ (k : ℕ). Contains (k ∷ numbers os) n) (sym same.1) (w.complete n low high);
+  of_one = All-cons (λ (x : Known). x.store ≡ s) q os
+      (same.0 ∙ All-head (λ (x : Known). x.store ≡ s) p os w.of_one)
+      (All-tail (λ (x : Known). x.store ≡ s) p os w.of_one);
+  complete = λ n low high. subst (λ (k : ℕ). Contains (k ∷ numbers os) n) (sym same.1)
+      (w.complete n low high);
 }
 
-pub all_changed : (s : StoreId) (ps qs os : List Known) (p q : Known) → IsPermutation ps (p ∷ os) → IsPermutation qs (q ∷ os) → IsSamePass p q → AreAllOf s ps → AreAllOf s qs
-all_changed s ps qs os p q from to same w = all_moved s (q ∷ os) qs (IsPermutation-sym qs (q ∷ os) to) (first_changed s p q os same (all_moved s ps (p ∷ os) from w))
+pub all_changed : (s : StoreId) (ps qs os : List Known) (p q : Known) → IsPermutation ps (p ∷ os)
+    → IsPermutation qs (q ∷ os) → IsSamePass p q → AreAllOf s ps → AreAllOf s qs
+all_changed s ps qs os p q from to same w =
+    all_moved s (q ∷ os) qs (IsPermutation-sym qs (q ∷ os) to)
+    (first_changed s p q os same (all_moved s ps (p ∷ os) from w))
 
-pub seen_numbers : (log : History) (ps : List Known) → numbers (map (having_seen log) ps) ≡ numbers ps
+pub seen_numbers : (log : History) (ps : List Known) → numbers (map (having_seen log) ps) ≡ numbers
+    ps
 seen_numbers log [] = refl
 seen_numbers log (p ∷ ps) = ap (λ (l : List ℕ). p.number ∷ l) (seen_numbers log ps)
 
@@ -77,22 +93,35 @@ pub asked_numbers : (n : ℕ) (ps : List Known) → numbers (map (having_asked n
 asked_numbers n [] = refl
 asked_numbers n (p ∷ ps) = ap (λ (l : List ℕ). p.number ∷ l) (asked_numbers n ps)
 
-pub settled_numbers : (ps hs qs ks : List Known) → (t : Settled ps hs qs ks) → numbers (qs ++ ks) ≡ numbers (ps ++ hs)
-settled_numbers ps hs qs ks t = numbers-append qs ks ∙ ap (λ (l : List ℕ). l ++ numbers ks) (ap numbers t.now ∙ seen_numbers t.log ps)
-    ∙ ap (λ (l : List ℕ). numbers ps ++ l) (ap numbers t.still ∙ asked_numbers 3 hs) ∙ sym (numbers-append ps hs)
+pub settled_numbers : (ps hs qs ks : List Known) → (t : Settled ps hs qs ks) → numbers (qs ++ ks)
+    ≡ numbers (ps ++ hs)
+settled_numbers ps hs qs ks t = numbers-append qs ks ∙ ap (λ (l : List ℕ). l ++ numbers ks)
+    (ap numbers t.now ∙ seen_numbers t.log ps)
+    ∙ ap (λ (l : List ℕ). numbers ps ++ l) (ap numbers t.still ∙ asked_numbers 3 hs)
+    ∙ sym (numbers-append ps hs)
 
 -- they settled
-pub all_settled : (s : StoreId) (r t : Roster) → Settled r.free r.held t.free t.held → AreAllOf s (everyone r) → AreAllOf s (everyone t)
+pub all_settled : (s : StoreId) (r t : Roster) → Settled r.free r.held t.free t.held
+    → AreAllOf s (everyone r) → AreAllOf s (everyone t)
 all_settled s r t st w = record {
   of_one = All-append (λ (p : Known). p.store ≡ s) t.free t.held
-      (subst (All (λ p. p.store ≡ s)) (sym st.now) (All-map (λ (p : Known). p.store ≡ s) (having_seen st.log) r.free (front_of (λ (p : Known). p.store ≡ s) r.free r.held w.of_one)))
-      (subst (All (λ p. p.store ≡ s)) (sym st.still) (All-map (λ (p : Known). p.store ≡ s) (having_asked 3) r.held (back_of (λ (p : Known). p.store ≡ s) r.free r.held w.of_one)));
-  complete = λ n low high. subst (λ (l : List ℕ). Contains l n) (sym (settled_numbers r.free r.held t.free t.held st)) (w.complete n low high);
+      (subst (All (λ p. p.store ≡ s)) (sym st.now)
+      (All-map (λ (p : Known). p.store ≡ s) (having_seen st.log) r.free
+      (front_of (λ (p : Known). p.store ≡ s) r.free r.held w.of_one)))
+      (subst (All (λ p. p.store ≡ s)) (sym st.still)
+      (All-map (λ (p : Known). p.store ≡ s) (having_asked 3) r.held
+      (back_of (λ (p : Known). p.store ≡ s) r.free r.held w.of_one)));
+  complete = λ n low high. subst (λ (l : List ℕ). Contains l n)
+      (sym (settled_numbers r.free r.held t.free t.held st)) (w.complete n low high);
 }
 
 -- where no one of them pins a version
-pub all_free : (s : StoreId) (r : Roster) → r.held ≡ [] → AreAllOf s (everyone r) → AreAllOf s r.free
-all_free s r none w = subst (AreAllOf s) (ap (λ (l : List Known). r.free ++ l) none ∙ append-nil r.free) w
+pub all_free : (s : StoreId) (r : Roster) → r.held ≡ [] → AreAllOf s (everyone r)
+    → AreAllOf s r.free
+all_free s r none w =
+    subst (AreAllOf s) (ap (λ (l : List Known). r.free ++ l) none ∙ append-nil r.free) w
 
-pub all_free_again : (s : StoreId) (r : Roster) → r.held ≡ [] → AreAllOf s r.free → AreAllOf s (everyone r)
-all_free_again s r none w = subst (AreAllOf s) (sym (ap (λ (l : List Known). r.free ++ l) none ∙ append-nil r.free)) w
+pub all_free_again : (s : StoreId) (r : Roster) → r.held ≡ [] → AreAllOf s r.free
+    → AreAllOf s (everyone r)
+all_free_again s r none w =
+    subst (AreAllOf s) (sym (ap (λ (l : List Known). r.free ++ l) none ∙ append-nil r.free)) w

@@ -18,10 +18,12 @@ use Rattle.mst_script.proofs.AllOf.{numbers-append, asked_numbers}
 abbrev pub pinned_now : ℕ → Option ℕ → (ℕ → Option ℕ) → ℕ → Option ℕ
 pinned_now n version pinned k = cond (k == n) version (pinned k)
 
-pub now_there : (n k : ℕ) (version : Option ℕ) (pinned : ℕ → Option ℕ) → k ≡ n → pinned_now n version pinned k ≡ version
+pub now_there : (n k : ℕ) (version : Option ℕ) (pinned : ℕ → Option ℕ) → k ≡ n
+    → pinned_now n version pinned k ≡ version
 now_there n k version pinned is = ap (λ (b : Bool). cond b version (pinned k)) (eq-eqb k n is)
 
-pub now_other : (n k : ℕ) (version : Option ℕ) (pinned : ℕ → Option ℕ) → k ≢ n → pinned_now n version pinned k ≡ pinned k
+pub now_other : (n k : ℕ) (version : Option ℕ) (pinned : ℕ → Option ℕ) → k ≢ n
+    → pinned_now n version pinned k ≡ pinned k
 now_other n k version pinned other = ap (λ (b : Bool). cond b version (pinned k)) (ne_eqb k n other)
 
 -- how many of the passes have this number
@@ -51,16 +53,21 @@ times_last n k ns = sum_by_push (λ (j : ℕ). cond (j == n) 1 0) ns k
 
 nowhere_times : (n : ℕ) (ps : List Known) → IsNowhere ps n → times n (numbers ps) ≡ 0
 nowhere_times n [] a = refl
-nowhere_times n (p ∷ ps) a = times_other n p.number (numbers ps) (All-head (λ (x : Known). x.number ≢ n) p ps a) ∙ nowhere_times n ps (All-tail (λ (x : Known). x.number ≢ n) p ps a)
+nowhere_times n (p ∷ ps) a =
+    times_other n p.number (numbers ps) (All-head (λ (x : Known). x.number ≢ n) p ps a)
+    ∙ nowhere_times n ps (All-tail (λ (x : Known). x.number ≢ n) p ps a)
 
 times_nowhere : (n : ℕ) (ps : List Known) → times n (numbers ps) ≡ 0 → IsNowhere ps n
 times_nowhere n [] e = All-nil (λ (x : Known). x.number ≢ n)
 times_nowhere n (p ∷ ps) e = dite (ℕ_discrete p.number n)
     (λ (is : p.number ≡ n). absurd (omega (arith, e, times_own n p.number (numbers ps) is)))
-    (λ (other : p.number ≢ n). All-cons (λ (x : Known). x.number ≢ n) p ps other (times_nowhere n ps (sym (times_other n p.number (numbers ps) other) ∙ e)))
+    (λ (other : p.number ≢ n). All-cons (λ (x : Known). x.number ≢ n) p ps other
+    (times_nowhere n ps (sym (times_other n p.number (numbers ps) other) ∙ e)))
 
-times_moved : (n : ℕ) (ps qs : List Known) → IsPermutation ps qs → times n (numbers qs) ≡ times n (numbers ps)
-times_moved n ps qs moved = sum_by-IsPermutation (λ (j : ℕ). cond (j == n) 1 0) (numbers ps) (numbers qs) (IsPermutation-map (λ (p : Known). p.number) ps qs moved)
+times_moved : (n : ℕ) (ps qs : List Known) → IsPermutation ps qs → times n (numbers qs) ≡ times n
+    (numbers ps)
+times_moved n ps qs moved = sum_by-IsPermutation (λ (j : ℕ). cond (j == n) 1 0) (numbers ps)
+    (numbers qs) (IsPermutation-map (λ (p : Known). p.number) ps qs moved)
 
 -- ---- nothing is pinned
 
@@ -76,72 +83,117 @@ knows_none held none = subst (KnowsPins (λ n. None)) (sym none) (record {
 
 nowhere_before : (n : ℕ) (ps : List Known) → IsNowhere (map (having_asked 3) ps) n → IsNowhere ps n
 nowhere_before n [] a = All-nil (λ (x : Known). x.number ≢ n)
-nowhere_before n (p ∷ ps) a = All-cons (λ (x : Known). x.number ≢ n) p ps (All-head (λ (x : Known). x.number ≢ n) (having_asked 3 p) (map (having_asked 3) ps) a)
-    (nowhere_before n ps (All-tail (λ (x : Known). x.number ≢ n) (having_asked 3 p) (map (having_asked 3) ps) a))
+nowhere_before n (p ∷ ps) a = All-cons (λ (x : Known). x.number ≢ n) p ps
+    (All-head (λ (x : Known). x.number ≢ n) (having_asked 3 p) (map (having_asked 3) ps) a)
+    (nowhere_before n ps
+    (All-tail (λ (x : Known). x.number ≢ n) (having_asked 3 p) (map (having_asked 3) ps) a))
 
-pub knows_asked : (pinned : ℕ → Option ℕ) (held now : List Known) → now ≡ map (having_asked 3) held → KnowsPins pinned held → KnowsPins pinned now
+pub knows_asked : (pinned : ℕ → Option ℕ) (held now : List Known) → now ≡ map (having_asked 3) held
+    → KnowsPins pinned held → KnowsPins pinned now
 knows_asked pinned held now is k = subst (KnowsPins pinned) (sym is) (record {
   own = All-map SawItself (having_asked 3) held k.own;
-  pins = All-map (λ (p : Known). pinned p.number ≡ Some (length p.seen)) (having_asked 3) held k.pins;
+  pins = All-map (λ (p : Known). pinned p.number ≡ Some (length p.seen)) (having_asked 3) held
+      k.pins;
   others = λ n a. k.others n (nowhere_before n held a);
   once = λ n. subst (λ (ns : List ℕ). times n ns ≤ 1) (sym (asked_numbers 3 held)) (k.once n);
 })
 
 -- ---- a pass pinned a version
 
-pub knows_pin : (pinned : ℕ → Option ℕ) (held : List Known) (n : ℕ) (q : Known) → KnowsPins pinned held → IsNowhere held n → q.number ≡ n → SawItself q →
+pub knows_pin : (pinned : ℕ → Option ℕ) (held : List Known) (n : ℕ) (q : Known)
+    → KnowsPins pinned held → IsNowhere held n → q.number ≡ n → SawItself q →
     KnowsPins (pinned_now n (Some (length q.seen)) pinned) (held ++ q ∷ [])
-knows_pin pinned held n q k nowhere number itself = let now = pinned_now n (Some (length q.seen)) pinned in record {
-  own = All-push SawItself held q k.own itself;
-  pins = All-push (λ (p : Known). now p.number ≡ Some (length p.seen)) held q
-      (λ i d l. now_other n (get_or held i d).number (Some (length q.seen)) pinned (nowhere i d l) ∙ k.pins i d l)
-      (now_there n q.number (Some (length q.seen)) pinned number);
-  others = λ j a. other_pins j a;
-  once = λ j. once_again j;
-}
+knows_pin pinned held n q k nowhere number itself = let now =
+    pinned_now n (Some (length q.seen)) pinned in record {
+      own = All-push SawItself held q k.own itself;
+      pins = All-push (λ (p : Known). now p.number ≡ Some (length p.seen)) held q
+          (λ i d l. now_other n (get_or held i d).number (Some (length q.seen)) pinned
+          (nowhere i d l)
+          ∙ k.pins i d l)
+          (now_there n q.number (Some (length q.seen)) pinned number);
+      others = λ j a. other_pins j a;
+      once = λ j. once_again j;
+    }
   where
     front_nowhere : (j : ℕ) → IsNowhere (held ++ q ∷ []) j → IsNowhere held j
     front_nowhere j a = front_of (λ (x : Known). x.number ≢ j) held (q ∷ []) a
 
     back_other : (j : ℕ) → IsNowhere (held ++ q ∷ []) j → q.number ≢ j
-    back_other j a = All-head (λ (x : Known). x.number ≢ j) q [] (back_of (λ (x : Known). x.number ≢ j) held (q ∷ []) a)
+    back_other j a = All-head (λ (x : Known). x.number ≢ j) q []
+        (back_of (λ (x : Known). x.number ≢ j) held (q ∷ []) a)
 
-    other_pins : (j : ℕ) → IsNowhere (held ++ q ∷ []) j → pinned_now n (Some (length q.seen)) pinned j ≡ None
-    other_pins j a = now_other n j (Some (length q.seen)) pinned (λ e. back_other j a (number ∙ sym e)) ∙ k.others j (front_nowhere j a)
+    other_pins : (j : ℕ) → IsNowhere (held ++ q ∷ []) j → pinned_now n (Some (length q.seen)) pinned
+        j ≡ None
+    other_pins j a = now_other n j (Some (length q.seen)) pinned
+        (λ e. back_other j a (number ∙ sym e)) ∙ k.others j (front_nowhere j a)
 
-    last_is : (j : ℕ) → times j (numbers (held ++ q ∷ [])) ≡ times j (numbers held) + flag (q.number == j)
+    last_is : (j : ℕ) → times j (numbers (held ++ q ∷ [])) ≡ times j (numbers held) + flag
+        (q.number == j)
     last_is j = ap (times j) (numbers-append held (q ∷ [])) ∙ times_last j q.number (numbers held)
 
     once_again : (j : ℕ) → times j (numbers (held ++ q ∷ [])) ≤ 1
     once_again j = dite (ℕ_discrete q.number j)
-        (λ (is : q.number ≡ j). omega (arith, last_is j, one_there q.number j is, nowhere_times j held (subst (IsNowhere held) (sym number ∙ is) nowhere)))
+        (λ (is : q.number ≡ j). omega (
+          arith,
+          last_is j,
+          one_there q.number j is,
+          nowhere_times j held
+              (subst (IsNowhere held) (sym number ∙ is) nowhere),
+        ))
         (λ (other : q.number ≢ j). omega (arith, last_is j, none_there q.number j other, k.once j))
 
 -- ---- a pass ended its pin
 
-pub knows_unpin : (pinned : ℕ → Option ℕ) (held rest : List Known) (p : Known) → KnowsPins pinned held → IsPermutation held (p ∷ rest) → KnowsPins (pinned_now p.number None pinned) rest
+pub knows_unpin : (pinned : ℕ → Option ℕ) (held rest : List Known) (p : Known)
+    → KnowsPins pinned held → IsPermutation held (p ∷ rest)
+    → KnowsPins (pinned_now p.number None pinned) rest
 knows_unpin pinned held rest p k moved = record {
   own = All-tail SawItself p rest (All-permutation SawItself held (p ∷ rest) moved k.own);
-  pins = λ i d l. now_other p.number (get_or rest i d).number None pinned (alone i d l) ∙ others_pin i d l;
+  pins = λ i d l. now_other p.number (get_or rest i d).number None pinned (alone i d l)
+      ∙ others_pin i d l;
   others = λ j a. other_pins j a;
   once = λ j. fewer j;
 }
   where
     alone : IsNowhere rest p.number
-    alone = times_nowhere p.number rest (omega (arith, k.once p.number, times_moved p.number held (p ∷ rest) moved, times_own p.number p.number (numbers rest) refl))
+    alone =
+        times_nowhere p.number rest
+        (omega (
+          arith,
+          k.once p.number,
+          times_moved p.number held (p ∷ rest) moved,
+          times_own p.number p.number (numbers rest) refl,
+        ))
 
     others_pin : All (λ (x : Known). pinned x.number ≡ Some (length x.seen)) rest
-    others_pin = All-tail (λ (x : Known). pinned x.number ≡ Some (length x.seen)) p rest (All-permutation (λ (x : Known). pinned x.number ≡ Some (length x.seen)) held (p ∷ rest) moved k.pins)
+    others_pin = All-tail (λ (x : Known). pinned x.number ≡ Some (length x.seen)) p rest
+        (All-permutation (λ (x : Known). pinned x.number ≡ Some (length x.seen)) held (p ∷ rest)
+        moved k.pins)
 
     held_nowhere : (j : ℕ) → IsNowhere rest j → j ≢ p.number → IsNowhere held j
-    held_nowhere j a other = All-permutation (λ (x : Known). x.number ≢ j) (p ∷ rest) held (IsPermutation-sym held (p ∷ rest) moved) (All-cons (λ (x : Known). x.number ≢ j) p rest (λ e. other (sym e)) a)
+    held_nowhere j a other = All-permutation (λ (x : Known). x.number ≢ j) (p ∷ rest) held
+        (IsPermutation-sym held (p ∷ rest) moved)
+        (All-cons (λ (x : Known). x.number ≢ j) p rest (λ e. other (sym e)) a)
 
     other_pins : (j : ℕ) → IsNowhere rest j → pinned_now p.number None pinned j ≡ None
     other_pins j a = dite (ℕ_discrete j p.number)
         (λ (is : j ≡ p.number). now_there p.number j None pinned is)
-        (λ (other : j ≢ p.number). now_other p.number j None pinned other ∙ k.others j (held_nowhere j a other))
+        (λ (other : j ≢ p.number). now_other p.number j None pinned other
+        ∙ k.others j (held_nowhere j a other))
 
     fewer : (j : ℕ) → times j (numbers rest) ≤ 1
     fewer j = dite (ℕ_discrete p.number j)
-        (λ (is : p.number ≡ j). omega (arith, k.once j, times_moved j held (p ∷ rest) moved, times_own j p.number (numbers rest) is))
-        (λ (other : p.number ≢ j). omega (arith, k.once j, times_moved j held (p ∷ rest) moved, times_other j p.number (numbers rest) other))
+        (λ (is : p.number ≡ j). omega (
+          arith,
+          k.once j,
+          times_moved j held (p ∷ rest) moved,
+          times_own j p.number
+              (numbers rest) is,
+        ))
+        (λ (other : p.number ≢ j). omega (
+          arith,
+          k.once j,
+          times_moved j held (p ∷ rest) moved,
+          times_other j p.number
+              (numbers rest) other,
+        ))

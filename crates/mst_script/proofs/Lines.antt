@@ -8,10 +8,12 @@ use Rattle.std.proofs.lemmas.List.Sorted.{IsPermutation-refl, IsPermutation-cons
 
 -- what holds of all of two lists
 pub front_of : {X : Type 0} (P : X → Type 0) (xs ys : List X) → All P (xs ++ ys) → All P xs
-front_of P xs ys a = λ k d l. subst P (get_or-append xs ys d k l) (a k d (omega (arith, l, length-append xs ys)))
+front_of P xs ys a = λ k d l. subst P (get_or-append xs ys d k l)
+    (a k d (omega (arith, l, length-append xs ys)))
 
 pub back_of : {X : Type 0} (P : X → Type 0) (xs ys : List X) → All P (xs ++ ys) → All P ys
-back_of P xs ys a = λ k d l. subst P (get_or-append-add xs ys k d) (a (length xs + k) d (omega (arith, l, length-append xs ys)))
+back_of P xs ys a = λ k d l. subst P (get_or-append-add xs ys k d)
+    (a (length xs + k) d (omega (arith, l, length-append xs ys)))
 
 -- ---- one of a list, and the others
 
@@ -20,28 +22,42 @@ front_two : {X : Type 0} (x y : X) (os : List X) → IsPermutation (x ∷ y ∷ 
 front_two x y os = IsPermutation-middle (x ∷ []) y os
 
 -- the others are the same whichever stands at this place
-pub others_at : {X : Type 0} (xs : List X) (i : ℕ) (p q : X) → i < length xs → get_or xs i p ≡ p → (os : List X) × IsPermutation xs (p ∷ os) × IsPermutation (set xs i q) (q ∷ os)
+pub others_at : {X : Type 0} (xs : List X) (i : ℕ) (p q : X) → i < length xs → get_or xs i p ≡ p
+    → (os : List X) × IsPermutation xs (p ∷ os) × IsPermutation (set xs i q) (q ∷ os)
 others_at [] i p q l is = absurd (omega arith)
-others_at {X} (x ∷ xs) zero p q l is = (xs, subst (λ (y : X). IsPermutation (x ∷ xs) (y ∷ xs)) is (IsPermutation-refl (x ∷ xs)), IsPermutation-refl (q ∷ xs))
+others_at {X} (x ∷ xs) zero p q l is = (
+  xs,
+  subst (λ (y : X). IsPermutation (x ∷ xs) (y ∷ xs)) is (IsPermutation-refl (x ∷ xs)),
+  IsPermutation-refl (q ∷ xs),
+)
 others_at (x ∷ xs) (suc i) p q l is =
     let r = others_at xs i p q (omega arith) is in (
       x ∷ r.0,
-      IsPermutation-trans (x ∷ xs) (x ∷ p ∷ r.0) (p ∷ x ∷ r.0) (IsPermutation-cons x xs (p ∷ r.0) r.1) (front_two x p r.0),
-      IsPermutation-trans (x ∷ set xs i q) (x ∷ q ∷ r.0) (q ∷ x ∷ r.0) (IsPermutation-cons x (set xs i q) (q ∷ r.0) r.2) (front_two x q r.0),
+      IsPermutation-trans (x ∷ xs) (x ∷ p ∷ r.0) (p ∷ x ∷ r.0)
+          (IsPermutation-cons x xs (p ∷ r.0) r.1) (front_two x p r.0),
+      IsPermutation-trans (x ∷ set xs i q) (x ∷ q ∷ r.0) (q ∷ x ∷ r.0)
+          (IsPermutation-cons x (set xs i q) (q ∷ r.0) r.2) (front_two x q r.0),
     )
 
 -- one was taken out of the first list and put, changed, behind the second
-pub moved_back : {X : Type 0} (xs ys rest : List X) (p : X) → IsPermutation xs (p ∷ rest) → IsPermutation (xs ++ ys) (p ∷ (rest ++ ys))
+pub moved_back : {X : Type 0} (xs ys rest : List X) (p : X) → IsPermutation xs (p ∷ rest)
+    → IsPermutation (xs ++ ys) (p ∷ (rest ++ ys))
 moved_back xs ys rest p out = IsPermutation-append_left ys xs (p ∷ rest) out
 
-pub now_back : {X : Type 0} (rest ys : List X) (q : X) → IsPermutation (rest ++ (ys ++ q ∷ [])) (q ∷ (rest ++ ys))
-now_back rest ys q = IsPermutation-trans (rest ++ (ys ++ q ∷ [])) (rest ++ (q ∷ ys)) (q ∷ (rest ++ ys))
+pub now_back : {X : Type 0} (rest ys : List X) (q : X) → IsPermutation (rest ++ (ys ++ q ∷ []))
+    (q ∷ (rest ++ ys))
+now_back rest ys q = IsPermutation-trans (rest ++ (ys ++ q ∷ [])) (rest ++ (q ∷ ys))
+    (q ∷ (rest ++ ys))
     (IsPermutation-append_right rest (ys ++ q ∷ []) (q ∷ ys) (IsPermutation-to_front ys q))
     (IsPermutation-middle rest q ys)
 
 -- one was taken out of the second list and put behind the first
-pub moved_front : {X : Type 0} (xs ys rest : List X) (p : X) → IsPermutation ys (p ∷ rest) → IsPermutation (xs ++ ys) (p ∷ (xs ++ rest))
-moved_front xs ys rest p out = IsPermutation-trans (xs ++ ys) (xs ++ (p ∷ rest)) (p ∷ (xs ++ rest)) (IsPermutation-append_right xs ys (p ∷ rest) out) (IsPermutation-middle xs p rest)
+pub moved_front : {X : Type 0} (xs ys rest : List X) (p : X) → IsPermutation ys (p ∷ rest)
+    → IsPermutation (xs ++ ys) (p ∷ (xs ++ rest))
+moved_front xs ys rest p out = IsPermutation-trans (xs ++ ys) (xs ++ (p ∷ rest)) (p ∷ (xs ++ rest))
+    (IsPermutation-append_right xs ys (p ∷ rest) out) (IsPermutation-middle xs p rest)
 
-pub now_front : {X : Type 0} (xs rest : List X) (p : X) → IsPermutation ((xs ++ p ∷ []) ++ rest) (p ∷ (xs ++ rest))
-now_front xs rest p = IsPermutation-append_left rest (xs ++ p ∷ []) (p ∷ xs) (IsPermutation-to_front xs p)
+pub now_front : {X : Type 0} (xs rest : List X) (p : X) → IsPermutation ((xs ++ p ∷ []) ++ rest)
+    (p ∷ (xs ++ rest))
+now_front xs rest p = IsPermutation-append_left rest (xs ++ p ∷ []) (p ∷ xs)
+    (IsPermutation-to_front xs p)

@@ -20,48 +20,80 @@ use Rattle.mst_store.specs.Settling.{AreAllPasses, IsOfOne, IsBeside, GoesOn}
 use Rattle.mst_key.proofs.HistoryLaws.{IsPrefix-chain, events_of-between}
 
 -- what holds below a place and at it holds below the next
-pub one_more : {X : Type 0} (P : X → Type 0) (xs : List X) (i : ℕ) (x : X) → i < length xs → ((k : ℕ) (d : X) → k < i → P (get_or xs k d)) → P (get_or xs i x) → (k : ℕ) (d : X) → k < i + 1 → P (get_or xs k d)
+pub one_more : {X : Type 0} (P : X → Type 0) (xs : List X) (i : ℕ) (x : X) → i < length xs
+    → ((k : ℕ) (d : X) → k < i → P (get_or xs k d)) → P (get_or xs i x) → (k : ℕ) (d : X)
+    → k < i + 1 → P (get_or xs k d)
 one_more P xs i x l below here k d m = dite (ℕ_discrete k i)
-    (λ (is : k ≡ i). subst (λ (j : ℕ). P (get_or xs j d)) (sym is) (subst P (get_or_default xs i x d l) here))
+    (λ (is : k ≡ i). subst (λ (j : ℕ). P (get_or xs j d)) (sym is)
+    (subst P (get_or_default xs i x d l) here))
     (λ (other : k ≢ i). below k d (omega (arith, other)))
 
 -- ---- the way there
 
 pub goes_on : (m n o : Seat) → GoesOn m n → GoesOn n o → GoesOn m o
-goes_on m n o g h = record { courier = h.courier; passes_is = h.passes_is ∙ g.passes_is; later = IsPrefix-chain m.0.seen n.0.seen o.0.seen g.later h.later }
+goes_on m n o g h = record {
+  courier = h.courier;
+  passes_is = h.passes_is ∙ g.passes_is;
+  later =
+      IsPrefix-chain m.0.seen n.0.seen o.0.seen g.later h.later;
+}
 
 -- what stands beside a courier stands beside it when it has gone on
-pub beside_on : (t u : TableId) (m n : Seat) (ps : List Known) → u ≡ t → n.0.passes ≡ m.0.passes → All (IsBeside t m.0.passes) ps → All (IsBeside u n.0.passes) ps
-beside_on t u m n ps table passes = All-weaker (IsBeside t m.0.passes) (IsBeside u n.0.passes) (λ p b. record { table_is = b.table_is ∙ sym table; passes_is = b.passes_is ∙ sym passes }) ps
+pub beside_on : (t u : TableId) (m n : Seat) (ps : List Known) → u ≡ t → n.0.passes ≡ m.0.passes
+    → All (IsBeside t m.0.passes) ps → All (IsBeside u n.0.passes) ps
+beside_on t u m n ps table passes = All-weaker (IsBeside t m.0.passes) (IsBeside u n.0.passes)
+    (λ p b. record { table_is = b.table_is ∙ sym table; passes_is = b.passes_is ∙ sym passes }) ps
 
 -- what it had heard it has heard when it has gone on
-pub later_on : (m n : Seat) (ps : List Known) → GoesOn m n → All (λ p. IsPrefix p.seen m.0.seen) ps → All (λ p. IsPrefix p.seen n.0.seen) ps
-later_on m n ps on = All-weaker (λ (p : Known). IsPrefix p.seen m.0.seen) (λ (p : Known). IsPrefix p.seen n.0.seen) (λ p b. IsPrefix-chain p.seen m.0.seen n.0.seen b on.later) ps
+pub later_on : (m n : Seat) (ps : List Known) → GoesOn m n → All (λ p. IsPrefix p.seen m.0.seen) ps
+    → All (λ p. IsPrefix p.seen n.0.seen) ps
+later_on m n ps on = All-weaker (λ (p : Known). IsPrefix p.seen m.0.seen)
+    (λ (p : Known). IsPrefix p.seen n.0.seen)
+    (λ p b. IsPrefix-chain p.seen m.0.seen n.0.seen b on.later) ps
 
 -- what was done to each leaves what its number, its store and its history say
-pub asked_beside : (t : TableId) (n k : ℕ) (ps : List Known) → All (IsBeside t n) ps → All (IsBeside t n) (map (having_asked k) ps)
+pub asked_beside : (t : TableId) (n k : ℕ) (ps : List Known) → All (IsBeside t n) ps
+    → All (IsBeside t n) (map (having_asked k) ps)
 asked_beside t n k ps a = All-map (IsBeside t n) (having_asked k) ps
-    (All-weaker (IsBeside t n) (λ (p : Known). IsBeside t n (having_asked k p)) (λ p b. record { table_is = b.table_is; passes_is = b.passes_is }) ps a)
+    (All-weaker (IsBeside t n) (λ (p : Known). IsBeside t n (having_asked k p))
+    (λ p b. record { table_is = b.table_is; passes_is = b.passes_is }) ps a)
 
 -- what holds of each when it was done to each holds of each before, where that is the same
-pub all_before : {X Y : Type 0} (P : Y → Type 0) (f : X → Y) (xs : List X) → All P (map f xs) → All (λ x. P (f x)) xs
+pub all_before : {X Y : Type 0} (P : Y → Type 0) (f : X → Y) (xs : List X) → All P (map f xs)
+    → All (λ x. P (f x)) xs
 all_before P f [] a k d l = absurd (omega arith)
 all_before P f (x ∷ xs) a zero d l = a 0 (f x) (omega arith)
-all_before P f (x ∷ xs) a (suc k) d l = all_before P f xs (λ j e m. a (suc j) e (omega arith)) k d (omega arith)
+all_before P f (x ∷ xs) a (suc k) d l = all_before P f xs (λ j e m. a (suc j) e (omega arith)) k d
+    (omega arith)
 
 -- to ask once and then twice is to ask three times
-pub asked_thrice : (ps : List Known) → map (having_asked 2) (map (having_asked 1) ps) ≡ map (having_asked 3) ps
+pub asked_thrice : (ps : List Known) → map (having_asked 2) (map (having_asked 1) ps) ≡ map
+    (having_asked 3) ps
 asked_thrice [] = refl
 asked_thrice (p ∷ ps) = let n : (p.asked + 1) + 2 ≡ p.asked + 3 = omega arith in
-    ap (λ (k : ℕ). record p { asked = k } ∷ map (having_asked 2) (map (having_asked 1) ps)) n ∙ ap (λ (l : List Known). having_asked 3 p ∷ l) (asked_thrice ps)
+    ap (λ (k : ℕ). record p { asked = k } ∷ map (having_asked 2) (map (having_asked 1) ps)) n
+    ∙ ap (λ (l : List Known). having_asked 3 p ∷ l) (asked_thrice ps)
 
 -- ---- pinned passes
 
-still : (at : PinnedRoot) (v : View) (h told : History) (n : ℕ) → HasPinned at v → HasPinned at (record v { seen = h; told = told; asked = n })
-still at v h told n p = record { pin = p.pin; there = p.there; low = p.low; version = p.version; stands = p.stands; digest = p.digest; number = p.number }
+still : (at : PinnedRoot) (v : View) (h told : History) (n : ℕ) → HasPinned at v
+    → HasPinned at (record v { seen = h; told = told; asked = n })
+still at v h told n p =
+    record {
+      pin = p.pin;
+      there = p.there;
+      low = p.low;
+      version = p.version;
+      stands =
+          p.stands;
+      digest = p.digest;
+      number = p.number;
+    }
 
 -- a pinned pass that looks and hears pins what it pinned
-pub pinned_still : (number passes rows : ℕ) (at : PinnedRoot) (s t : Seated) (h told : History) (n : ℕ) → t.me ≡ (record s.me.0 { seen = h; told = told; asked = n }, s.me.1) → IsPinning number passes rows at s → IsPinning number passes rows at t
+pub pinned_still : (number passes rows : ℕ) (at : PinnedRoot) (s t : Seated) (h told : History)
+    (n : ℕ) → t.me ≡ (record s.me.0 { seen = h; told = told; asked = n }, s.me.1)
+    → IsPinning number passes rows at s → IsPinning number passes rows at t
 pinned_still number passes rows at s t h told n is p = record {
   pinned = subst (λ (m : Seat). HasPinned at m.0) (sym is) (still at s.me.0 h told n p.pinned);
   pin = subst (λ (m : Seat). IsPinned number at.pinned m) (sym is) p.pin;
@@ -80,30 +112,41 @@ pinned_still number passes rows at s t h told n is p = record {
 -- A pass was told of a history that begins with what it had seen, and sees it now. The whole
 -- history, which was found then, has no event of the pass that was not there before; so the one
 -- between has none either
-pub told_own : (m : Seat) {n o : Seat} (note : View) → n ≡ (having_heard m.0 note, m.1) → SeesTold n o → IsPrefix m.0.seen note.seen → events_of m.0.number m.0.seen ≡ m.0.mine
+pub told_own : (m : Seat) {n o : Seat} (note : View) → n ≡ (having_heard m.0 note, m.1)
+    → SeesTold n o → IsPrefix m.0.seen note.seen → events_of m.0.number m.0.seen ≡ m.0.mine
     → events_of m.0.number note.seen ≡ m.0.mine
 told_own m {n} {o} note heard sees later own =
-    let whole : IsPrefix note.seen sees.log = subst (λ (z : Seat). IsPrefix z.0.told sees.log) heard sees.finds.told in
-    let high : events_of m.0.number sees.log ≡ m.0.mine = subst (λ (z : Seat). events_of z.0.number sees.log ≡ z.0.mine) heard sees.finds.own in
+    let whole : IsPrefix note.seen sees.log = subst (λ (z : Seat). IsPrefix z.0.told sees.log) heard
+    sees.finds.told in
+    let high : events_of m.0.number sees.log ≡ m.0.mine =
+    subst (λ (z : Seat). events_of z.0.number sees.log ≡ z.0.mine) heard sees.finds.own in
     events_of-between m.0.number m.0.mine m.0.seen note.seen sees.log later whole own high
 
 -- the first elements are changed, and the rest is as it was
-pub changed_at : {X : Type 0} (f : X → X) (xs : List X) (i : ℕ) (d : X) → get_or (map f (take i xs) ++ drop i xs) i d ≡ get_or xs i d
+pub changed_at : {X : Type 0} (f : X → X) (xs : List X) (i : ℕ) (d : X)
+    → get_or (map f (take i xs) ++ drop i xs) i d ≡ get_or xs i d
 changed_at f [] zero d = refl
 changed_at f [] (suc i) d = refl
 changed_at f (x ∷ xs) zero d = refl
 changed_at f (x ∷ xs) (suc i) d = changed_at f xs i d
 
-changed_more : {X : Type 0} (f : X → X) (xs : List X) (i : ℕ) (d : X) → i < length xs → set (map f (take i xs) ++ drop i xs) i (f (get_or xs i d)) ≡ map f (take (suc i) xs) ++ drop (suc i) xs
+changed_more : {X : Type 0} (f : X → X) (xs : List X) (i : ℕ) (d : X) → i < length xs
+    → set (map f (take i xs) ++ drop i xs) i (f (get_or xs i d)) ≡ map f (take (suc i) xs) ++ drop
+    (suc i) xs
 changed_more f [] i d l = absurd (omega arith)
 changed_more f (x ∷ xs) zero d l = refl
 changed_more f (x ∷ xs) (suc i) d l = ap (λ zs. f x ∷ zs) (changed_more f xs i d (omega arith))
 
-pub changed_next : {X : Type 0} (f : X → X) (xs : List X) (i : ℕ) (d : X) → i < length xs → set (map f (take i xs) ++ drop i xs) i (f (get_or xs i d)) ≡ map f (take (i + 1) xs) ++ drop (i + 1) xs
-changed_next f xs i d l = changed_more f xs i d l ∙ ap (λ (j : ℕ). map f (take j xs) ++ drop j xs) (sym (add-one i))
+pub changed_next : {X : Type 0} (f : X → X) (xs : List X) (i : ℕ) (d : X) → i < length xs
+    → set (map f (take i xs) ++ drop i xs) i (f (get_or xs i d)) ≡ map f (take (i + 1) xs) ++ drop
+    (i + 1) xs
+changed_next f xs i d l = changed_more f xs i d l ∙ ap (λ (j : ℕ). map f (take j xs) ++ drop j xs)
+    (sym (add-one i))
 
 -- ---- all passes of the store
 
 -- a history of passes of the store has no events but theirs
-pub all_alone : (ps : List Known) (passes : ℕ) (log : History) (w : AreAllPasses ps) → passes ≡ w.store.passes → IsOfPasses passes log → All (IsOfOne ps) log
-all_alone ps passes log w same = All-weaker (λ (e : Event). (0 < e.pass) × (e.pass ≤ passes)) (IsOfOne ps) (λ e b. w.complete e.pass b.0 (subst (λ (n : ℕ). e.pass ≤ n) same b.1)) log
+pub all_alone : (ps : List Known) (passes : ℕ) (log : History) (w : AreAllPasses ps)
+    → passes ≡ w.store.passes → IsOfPasses passes log → All (IsOfOne ps) log
+all_alone ps passes log w same = All-weaker (λ (e : Event). (0 < e.pass) × (e.pass ≤ passes))
+    (IsOfOne ps) (λ e b. w.complete e.pass b.0 (subst (λ (n : ℕ). e.pass ≤ n) same b.1)) log

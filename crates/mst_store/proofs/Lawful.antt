@@ -21,37 +21,61 @@ IsOf n e = (0 < e.pass) × (e.pass ≤ n)
 -- where there is one pass, all events are its own
 pub own_all : (log : History) → IsOfPasses 1 log → events_of 1 log ≡ log
 own_all [] all = refl
-own_all (e ∷ es) all = let b = All-head (IsOf 1) e es all in let pos = b.0 in let low = b.1 in let is : e.pass ≡ 1 = omega arith in
-    ap (λ (t : Bool). cond t (e ∷ events_of 1 es) (events_of 1 es)) (eq-eqb e.pass 1 is) ∙ ap (λ (l : History). e ∷ l) (own_all es (All-tail (IsOf 1) e es all))
+own_all (e ∷ es) all = let b = All-head (IsOf 1) e es all in let pos = b.0 in let low =
+    b.1 in let is : e.pass ≡ 1 = omega arith in
+    ap (λ (t : Bool). cond t (e ∷ events_of 1 es) (events_of 1 es)) (eq-eqb e.pass 1 is)
+    ∙ ap (λ (l : History). e ∷ l) (own_all es (All-tail (IsOf 1) e es all))
 
 -- an event is one more of its pass, and none of another
-one_more : (p : ℕ) (e : Event) (es : History) → e.pass ≡ p → length (events_of p (e ∷ es)) ≡ suc (length (events_of p es))
-one_more p e es is = ap (λ (t : Bool). length (cond t (e ∷ events_of p es) (events_of p es))) (eq-eqb e.pass p is)
+one_more : (p : ℕ) (e : Event) (es : History) → e.pass ≡ p → length (events_of p (e ∷ es)) ≡ suc
+    (length (events_of p es))
+one_more p e es is = ap (λ (t : Bool). length (cond t (e ∷ events_of p es) (events_of p es)))
+    (eq-eqb e.pass p is)
 
-none_more : (p : ℕ) (e : Event) (es : History) → e.pass ≢ p → length (events_of p (e ∷ es)) ≡ length (events_of p es)
-none_more p e es other = ap (λ (t : Bool). length (cond t (e ∷ events_of p es) (events_of p es))) (ne_eqb e.pass p other)
+none_more : (p : ℕ) (e : Event) (es : History) → e.pass ≢ p → length (events_of p (e ∷ es)) ≡ length
+    (events_of p es)
+none_more p e es other = ap (λ (t : Bool). length (cond t (e ∷ events_of p es) (events_of p es)))
+    (ne_eqb e.pass p other)
 
 -- where there are two passes, each event is of the one or of the other
-two_count : (log : History) → IsOfPasses 2 log → length log ≡ length (events_of 1 log) + length (events_of 2 log)
+two_count : (log : History) → IsOfPasses 2 log → length log ≡ length (events_of 1 log) + length
+    (events_of 2 log)
 two_count [] all = refl
-two_count (e ∷ es) all = let b = All-head (IsOf 2) e es all in let pos = b.0 in let low = b.1 in let behind = two_count es (All-tail (IsOf 2) e es all) in dite (ℕ_discrete e.pass 1)
-    (λ is. let first = one_more 1 e es is in let second = none_more 2 e es (λ f. omega (arith, is, f)) in let all_of : suc (length es) ≡ length (events_of 1 (e ∷ es)) + length (events_of 2 (e ∷ es)) = omega (arith, behind, first, second) in all_of)
-    (λ not. let is : e.pass ≡ 2 = omega (arith, pos, low, not) in let first = none_more 1 e es not in let second = one_more 2 e es is in
-    let all_of : suc (length es) ≡ length (events_of 1 (e ∷ es)) + length (events_of 2 (e ∷ es)) = omega (arith, behind, first, second) in all_of)
+two_count (e ∷ es) all = let b = All-head (IsOf 2) e es all in let pos = b.0 in let low =
+    b.1 in let behind = two_count es (All-tail (IsOf 2) e es all) in dite (ℕ_discrete e.pass 1)
+    (λ is. let first = one_more 1 e es is in let second =
+    none_more 2 e es (λ f. omega (arith, is, f)) in let all_of : suc (length es) ≡ length
+    (events_of 1 (e ∷ es)) + length (events_of 2 (e ∷ es)) =
+    omega (arith, behind, first, second) in all_of)
+    (λ not. let is : e.pass ≡ 2 = omega (arith, pos, low, not) in let first =
+    none_more 1 e es not in let second = one_more 2 e es is in
+    let all_of : suc (length es) ≡ length (events_of 1 (e ∷ es)) + length (events_of 2 (e ∷ es)) =
+    omega (arith, behind, first, second) in all_of)
 
 -- what passes have seen that met
-pub met_one : (p q m n : Known) → Met p q m n → (m.seen ≡ n.seen) × IsPrefix p.seen m.seen × IsPrefix q.seen m.seen
-met_one p q m n h = let one : m.seen ≡ h.log = ap (λ (z : Known). z.seen) h.now.0 in let other : n.seen ≡ h.log = ap (λ (z : Known). z.seen) h.now.1 in
-    (one ∙ sym other, subst (λ (l : History). IsPrefix p.seen l) (sym one) h.later.0, subst (λ (l : History). IsPrefix q.seen l) (sym one) h.later.1)
+pub met_one : (p q m n : Known) → Met p q m n → (m.seen ≡ n.seen) × IsPrefix p.seen m.seen
+    × IsPrefix q.seen m.seen
+met_one p q m n h = let one : m.seen ≡ h.log = ap (λ (z : Known). z.seen) h.now.0 in
+    let other : n.seen ≡ h.log = ap (λ (z : Known). z.seen) h.now.1 in (
+      one ∙ sym other,
+      subst (λ (l : History). IsPrefix p.seen l) (sym one) h.later.0,
+      subst (λ (l : History). IsPrefix q.seen l) (sym one) h.later.1,
+    )
 
 pub met_either : (p q m n : Known) → Met p q m n → IsPrefix p.seen q.seen ⊎ IsPrefix q.seen p.seen
 met_either p q m n h = IsPrefix-compare p.seen q.seen h.log h.later.0 h.later.1
 
-pub met_two : (p q m n : Known) → Met p q m n → p.store.passes ≡ 2 → p.number ≡ 1 → q.number ≡ 2 → length m.seen ≡ length p.mine + length q.mine
-met_two p q m n h two first second = let count = two_count h.log (subst (λ (k : ℕ). IsOfPasses k h.log) two h.alone) in
+pub met_two : (p q m n : Known) → Met p q m n → p.store.passes ≡ 2 → p.number ≡ 1 → q.number ≡ 2
+    → length m.seen ≡ length p.mine + length q.mine
+met_two p q m n h two first second = let count =
+    two_count h.log (subst (λ (k : ℕ). IsOfPasses k h.log) two h.alone) in
     let seen : length m.seen ≡ length h.log = ap (λ (z : Known). length z.seen) h.now.0 in
-    let one : length (events_of 1 h.log) ≡ length p.mine = ap (λ (k : ℕ). length (events_of k h.log)) (sym first) ∙ ap (λ (l : History). length l) h.own.0 in
-    let other : length (events_of 2 h.log) ≡ length q.mine = ap (λ (k : ℕ). length (events_of k h.log)) (sym second) ∙ ap (λ (l : History). length l) h.own.1 in
+    let one : length (events_of 1 h.log) ≡ length p.mine =
+    ap (λ (k : ℕ). length (events_of k h.log)) (sym first) ∙ ap (λ (l : History). length l)
+    h.own.0 in
+    let other : length (events_of 2 h.log) ≡ length q.mine =
+    ap (λ (k : ℕ). length (events_of k h.log)) (sym second) ∙ ap (λ (l : History). length l)
+    h.own.1 in
     omega (arith, count, seen, one, other)
 
 -- the greatest of one layer
@@ -59,6 +83,10 @@ greatest_one : (l : ℕ) → l ≡ max l 0
 greatest_one l = grind arith
 
 -- the tree of a map of one pair is one node
-pub lone_tree : (format : Format) (k v : List ℕ) → tree format ((k, v) ∷ []) ≡ node format (max (layer_in format k) 0) (entry empty k v (last empty))
+pub lone_tree : (format : Format) (k v : List ℕ) → tree format ((k, v) ∷ []) ≡ node format
+    (max (layer_in format k) 0) (entry empty k v (last empty))
 unfolding tree tree_within entries_of
-lone_tree format k v = ap (λ (t : Bool). node format (max (layer_in format k) 0) (if t then entry empty k v (last empty) else last empty)) (eq-eqb (layer_in format k) (max (layer_in format k) 0) (greatest_one (layer_in format k)))
+lone_tree format k v =
+    ap (λ (t : Bool). node format (max (layer_in format k) 0)
+    (if t then entry empty k v (last empty) else last empty))
+    (eq-eqb (layer_in format k) (max (layer_in format k) 0) (greatest_one (layer_in format k)))

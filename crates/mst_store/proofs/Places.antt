@@ -23,28 +23,39 @@ reached_inside lives v x is = go (slice_get lives x) refl is
     go None e i = cc
     go (Some life) e i = slice_get_within lives x life e
 
-module _ (first : Format) (R n : ℕ) (ws : List ℕ) (log : History) (d : DeskState) (r : ℕ) (place : History) (used : List ℕ) (rows_is : length d.lives ≡ R) (s : Standing (stored first) R n ws log d r place used) (v : ℕ) (is : v ≡ version_of d r) where
+module _ (first : Format) (R n : ℕ) (ws : List ℕ) (log : History) (d : DeskState) (r : ℕ)
+    (place : History) (used : List ℕ) (rows_is : length d.lives ≡ R)
+    (s : Standing (stored first) R n ws log d r place used) (v : ℕ) (is : v ≡ version_of d r) where
   number : v ≡ length place
   number = is ∙ s.filed
 
   taken : take v log ≡ place
-  taken = ap (take v) s.begins.1 ∙ ap (λ (k : ℕ). take k (place ++ s.begins.0)) number ∙ take-append-le (length place) place s.begins.0 (omega arith) ∙ take_all (length place) place (omega arith)
+  taken = ap (take v) s.begins.1 ∙ ap (λ (k : ℕ). take k (place ++ s.begins.0)) number
+      ∙ take-append-le (length place) place s.begins.0 (omega arith) ∙ take_all (length place) place
+      (omega arith)
 
   inside : v ≤ length log
-  inside = let long : length log ≡ length (place ++ s.begins.0) = ap (λ (l : History). length l) s.begins.1 in omega (arith, long, length-append place s.begins.0, number)
+  inside = let long : length log ≡ length (place ++ s.begins.0) =
+      ap (λ (l : History). length l) s.begins.1 in
+      omega (arith, long, length-append place s.begins.0, number)
 
   reached_used : (x : ℕ) → reaches d.lives v x ≡ true → In x used
-  reached_used x e = let lt = reached_inside d.lives v x e in s.exactly x (omega (arith, lt, rows_is)) (subst (λ (k : ℕ). reaches d.lives k x ≡ true) number e)
+  reached_used x e = let lt = reached_inside d.lives v x e in
+      s.exactly x (omega (arith, lt, rows_is))
+      (subst (λ (k : ℕ). reaches d.lives k x ≡ true) number e)
 
   used_reached : (x : ℕ) → In x used → reaches d.lives v x ≡ true
-  used_reached x within = subst (λ (k : ℕ). reaches d.lives k x ≡ true) (sym number) (s.reached x within)
+  used_reached x within = subst (λ (k : ℕ). reaches d.lives k x ≡ true) (sym number)
+      (s.reached x within)
 
   pub place_of : (v ≤ length log) × HasPlace first d.lives log v
   place_of = let u = s.aged.0.0 in (
     inside,
     record {
       placed = u.tree.placed;
-      is = subst (λ (g : History). tree_of (format_after first g) u.tree.placed ≡ tree (format_after first g) (after g)) (sym taken) u.tree.is;
+      is =
+          subst (λ (g : History). tree_of (format_after first g) u.tree.placed ≡ tree
+          (format_after first g) (after g)) (sym taken) u.tree.is;
       once = u.tree.once;
       rows = λ x. (
         (λ e. subst (In x) (sym s.aged.0.1) (reached_used x e)),

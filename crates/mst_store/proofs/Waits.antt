@@ -8,8 +8,14 @@ use Rattle.mst_store.specs.Waiting.{HasTried, WroteAfter, RefusesAfter, as_tried
 
 -- before the first
 pub not_tried : (p : Known) → HasTried p p
-not_tried p = let none : p.asked ≡ p.asked + 0 = omega arith in let none_missed : p.missed ≡ p.missed + 0 = omega arith in
-    record { tries = 0; vain = λ alone. refl; now = ap (λ (n : ℕ). record p { asked = n }) none ∙ ap (λ (n : ℕ). record p { asked = p.asked + 0; missed = n }) none_missed }
+not_tried p = let none : p.asked ≡ p.asked + 0 = omega arith in let none_missed : p.missed
+    ≡ p.missed + 0 = omega arith in
+    record {
+      tries = 0;
+      vain = λ alone. refl;
+      now = ap (λ (n : ℕ). record p { asked = n }) none
+          ∙ ap (λ (n : ℕ). record p { asked = p.asked + 0; missed = n }) none_missed;
+    }
 
 -- one more
 pub tried_again : (p q r : Known) → HasTried p q → FindsBusy q r → HasTried p r
@@ -20,17 +26,32 @@ tried_again p q r had busy =
     let others : 1 < q.store.passes = busy.1 in record {
       tries = had.tries + 1;
       vain = λ alone. absurd (omega (arith, same, others, alone));
-      now = busy.0 ∙ ap (λ (s : Known). having_missed 1 s) had.now ∙ ap (λ (n : ℕ). record p { asked = n; missed = p.missed + had.tries + 1 }) more
+      now = busy.0 ∙ ap (λ (s : Known). having_missed 1 s) had.now
+          ∙ ap (λ (n : ℕ). record p { asked = n; missed = p.missed + had.tries + 1 }) more
           ∙ ap (λ (n : ℕ). record p { asked = p.asked + (had.tries + 1); missed = n }) more_missed;
     }
 
 -- one that wrote
-pub wrote_then : (change : Change) (p q : Known) (answered : Reply) (r : Known) → HasTried p q → Wrote (made_by q change) q answered r → WroteAfter (made_by p change) p answered r
-wrote_then change p q answered r had wrote = record { tries = had.tries; vain = had.vain; wrote = subst (λ (s : Known). Wrote (made_by s change) s answered r) had.now wrote }
+pub wrote_then : (change : Change) (p q : Known) (answered : Reply) (r : Known) → HasTried p q
+    → Wrote (made_by q change) q answered r → WroteAfter (made_by p change) p answered r
+wrote_then change p q answered r had wrote =
+    record {
+      tries = had.tries;
+      vain = had.vain;
+      wrote =
+          subst (λ (s : Known). Wrote (made_by s change) s answered r) had.now wrote;
+    }
 
 -- one that was refused
-pub refused_then : (fault : ChangeFault) (change : Change) (p q r : Known) → HasTried p q → Refuses (as_tried fault) change q r → RefusesAfter fault change p r
-refused_then fault change p q r had refused = record { tries = had.tries; vain = had.vain; refused = subst (λ (s : Known). Refuses (as_tried fault) change s r) had.now refused }
+pub refused_then : (fault : ChangeFault) (change : Change) (p q r : Known) → HasTried p q
+    → Refuses (as_tried fault) change q r → RefusesAfter fault change p r
+refused_then fault change p q r had refused =
+    record {
+      tries = had.tries;
+      vain = had.vain;
+      refused =
+          subst (λ (s : Known). Refuses (as_tried fault) change s r) had.now refused;
+    }
 
 -- all four, for a loop of tries
 pub ruleset all_tries = (not_tried, tried_again, wrote_then, refused_then)

@@ -28,18 +28,21 @@ IsYoung s s1 r = (b : ℕ) × (slice_get s1.lives r ≡ Some (Born b)) × (b ≤
 -- what a change of rows comes to, of the rows that stand afterwards
 pub record Changes (s s1 : State) (after : List ℕ) : Type 0 where
   pub young : (r : ℕ) → In r after → IsYoung s s1 r
-  pub there : (r : ℕ) (life : Life) → slice_get s1.lives r ≡ Some life → (old : Life) × (slice_get s.lives r ≡ Some old)
+  pub there : (r : ℕ) (life : Life) → slice_get s1.lives r ≡ Some life → (old : Life)
+      × (slice_get s.lives r ≡ Some old)
   pub versions : SameVersions s s1
 
 -- ---- a put or a remove
 
-cases : (P : Type 0) (a b : ℕ) → ((0 < b) × (a ≡ 0) → P) → ((0 < a) × (b ≡ 0) → P) → ((0 < a) ↔ (0 < b) → P) → P
+cases : (P : Type 0) (a b : ℕ) → ((0 < b) × (a ≡ 0) → P) → ((0 < a) × (b ≡ 0) → P)
+    → ((0 < a) ↔ (0 < b) → P) → P
 cases P zero zero new old both = both (λ h. h, λ h. h)
 cases P zero (suc b) new old both = new (omega arith, refl)
 cases P (suc a) zero new old both = old (omega arith, refl)
 cases P (suc a) (suc b) new old both = both (λ h. omega arith, λ h. omega arith)
 
-module _ (s s1 : State) (before after : List ℕ) (taken : AreTaken s s1 before after) (killed : AreKilled s s1 before after) (others : OthersLive s s1 before after) where
+module _ (s s1 : State) (before after : List ℕ) (taken : AreTaken s s1 before after)
+    (killed : AreKilled s s1 before after) (others : OthersLive s s1 before after) where
   young_of : AreOld s before → (r : ℕ) → In r after → IsYoung s s1 r
   young_of old r i =
       cases (IsYoung s s1 r) (times r before) (times r after)
@@ -47,7 +50,8 @@ module _ (s s1 : State) (before after : List ℕ) (taken : AreTaken s s1 before 
       (λ only. absurd (omega (arith, i, only.1)))
       (λ both. let was = old r (both.1 i) in (was.0, others r both ∙ was.1, omega (arith, was.2)))
 
-  there_of : (r : ℕ) (life : Life) → slice_get s1.lives r ≡ Some life → (old : Life) × (slice_get s.lives r ≡ Some old)
+  there_of : (r : ℕ) (life : Life) → slice_get s1.lives r ≡ Some life → (old : Life)
+      × (slice_get s.lives r ≡ Some old)
   there_of r life is =
       cases ((old : Life) × (slice_get s.lives r ≡ Some old)) (times r before) (times r after)
       (λ only. (Free, ((taken r).1 only).0))
@@ -79,44 +83,71 @@ changes_taken s s1 rows moves = record {
 
 -- ---- and is published
 
-module _ (s s1 s2 : State) (after : List ℕ) (change : Changes s s1 after) (is : IsPublished s1 s2) where
-  life_after : (r : ℕ) → slice_get s2.lives r ≡ option_map (swept_life is.live) (slice_get s1.lives r)
-  life_after r = ap (λ (l : List Life). slice_get l r) is.lives ∙ slice_get-map (swept_life is.live) s1.lives r
+module _ (s s1 s2 : State) (after : List ℕ) (change : Changes s s1 after) (is : IsPublished s1 s2)
+  where
+    life_after : (r : ℕ) → slice_get s2.lives r ≡ option_map (swept_life is.live)
+        (slice_get s1.lives r)
+    life_after r = ap (λ (l : List Life). slice_get l r) is.lives ∙ slice_get-map
+        (swept_life is.live)
+        s1.lives r
 
-  pub old_after : AreOld s2 after
-  old_after r i =
-      let young = change.young r i in
-      let v : next s1 ≡ next s = omega (arith, ap (λ (l : List ℕ). slice_index l s1.current) change.versions.1, ap (λ (c : ℕ). slice_index s.versions c) change.versions.0) in
-      (young.0, life_after r ∙ ap (option_map (swept_life is.live)) young.1, omega (arith, young.2, is.version, v))
+    pub old_after : AreOld s2 after
+    old_after r i =
+        let young = change.young r i in
+        let v : next s1 ≡ next s =
+        omega (
+          arith,
+          ap (λ (l : List ℕ). slice_index l s1.current) change.versions.1,
+          ap (λ (c : ℕ). slice_index s.versions c) change.versions.0,
+        ) in (
+          young.0,
+          life_after r ∙ ap (option_map (swept_life is.live)) young.1,
+          omega (arith, young.2, is.version, v),
+        )
 
-  pub within_after : (rows : ℕ) → AreWithin s rows → AreWithin s2 rows
-  within_after rows within r life has =
-      by_get (slice_get s1.lives r) _
-      (λ x e. let was = change.there r x e in within r was.0 was.1)
-      (λ none. absurd (let no = life_after r ∙ ap (option_map (swept_life is.live)) none in cc))
+    pub within_after : (rows : ℕ) → AreWithin s rows → AreWithin s2 rows
+    within_after rows within r life has =
+        by_get (slice_get s1.lives r) _
+        (λ x e. let was = change.there r x e in within r was.0 was.1)
+        (λ none. absurd (let no = life_after r ∙ ap (option_map (swept_life is.live)) none in cc))
 
-pub ready_after : (places places1 : List (Option Row)) (s s1 s2 : State) (at : Root) (m : List Pair) (stands : Stands One (listed places1) at m) → Changes s s1 (numbers stands) → IsPublished s1 s2 → AreWithin s (length places) → ◌≡◌ {A = ℕ → Bool} (λ r. nat_lt r (length places1)) (λ r. nat_lt r (length places)) → IsReady places1 s2 at
+pub ready_after : (places places1 : List (Option Row)) (s s1 s2 : State) (at : Root) (m : List Pair)
+    (stands : Stands One (listed places1) at m) → Changes s s1 (numbers stands) → IsPublished s1 s2
+    → AreWithin s (length places) → ◌≡◌ {A = ℕ → Bool} (λ r. nat_lt r (length places1))
+    (λ r. nat_lt r (length places)) → IsReady places1 s2 at
 ready_after places places1 s s1 s2 at m stands change is within blank = record {
   stands = (m, stands, old_after s s1 s2 (numbers stands) change is);
-  within = λ r life has. subst (λ (b : ℕ → Bool). IsTrue (b r)) (sym blank) (within_after s s1 s2 (numbers stands) change is (length places) within r life has);
+  within = λ r life has. subst (λ (b : ℕ → Bool). IsTrue (b r)) (sym blank)
+      (within_after s s1 s2 (numbers stands) change is (length places) within r life has);
   records = is.records;
   current = is.current;
 }
 
-pub published : (s s1 s2 : State) (other : ℕ) (live : List ℕ) → s1 ≡ record s { current = other; versions = slice_set s.versions other (next s) } → s2 ≡ record s1 { lives = map (swept_life live) s1.lives } → length s.versions ≡ 2 → other < 2 → IsPublished s s2
+pub published : (s s1 s2 : State) (other : ℕ) (live : List ℕ)
+    → s1 ≡ record s { current = other; versions = slice_set s.versions other (next s) }
+    → s2 ≡ record s1 { lives = map (swept_life live) s1.lives } → length s.versions ≡ 2 → other < 2
+    → IsPublished s s2
 published s s1 s2 other live s1_is s2_is two low = record {
-  version = ap (λ (q : State). version q) s2_is ∙ ap (λ (q : State). version q) s1_is ∙ get_or-set_same s.versions other (next s) 0 (omega (arith, two, low));
-  records = ap (λ (q : State). length q.versions) s2_is ∙ ap (λ (q : State). length q.versions) s1_is ∙ length-set s.versions other (next s) ∙ two;
-  current = subst (λ (n : ℕ). n < 2) (sym (ap (λ (q : State). q.current) s2_is ∙ ap (λ (q : State). q.current) s1_is)) low;
+  version = ap (λ (q : State). version q) s2_is ∙ ap (λ (q : State). version q) s1_is
+      ∙ get_or-set_same s.versions other (next s) 0 (omega (arith, two, low));
+  records = ap (λ (q : State). length q.versions) s2_is ∙ ap (λ (q : State). length q.versions)
+      s1_is ∙ length-set s.versions other (next s) ∙ two;
+  current =
+      subst (λ (n : ℕ). n < 2)
+      (sym (ap (λ (q : State). q.current) s2_is ∙ ap (λ (q : State). q.current) s1_is)) low;
   live = live;
-  lives = ap (λ (q : State). q.lives) s2_is ∙ ap (λ (q : State). map (swept_life live) q.lives) s1_is;
+  lives = ap (λ (q : State). q.lives) s2_is ∙ ap (λ (q : State). map (swept_life live) q.lives)
+      s1_is;
 }
 
 -- all rows of a new desk may be written
-pub within_new : (s : State) (places : List (Option Row)) (rows : ℕ) → s.lives ≡ replicate rows Free → places ≡ replicate rows None → AreWithin s (length places)
+pub within_new : (s : State) (places : List (Option Row)) (rows : ℕ) → s.lives ≡ replicate rows Free
+    → places ≡ replicate rows None → AreWithin s (length places)
 within_new s places rows lives is r life has =
     let less : r < length s.lives = slice_get_within s.lives r life has in
-    let lengths : length s.lives ≡ length places = ap (λ (l : List Life). length l) lives ∙ length-replicate rows Free ∙ sym (ap (λ (l : List (Option Row)). length l) is ∙ length-replicate rows None) in
+    let lengths : length s.lives ≡ length places = ap (λ (l : List Life). length l) lives
+    ∙ length-replicate rows Free
+    ∙ sym (ap (λ (l : List (Option Row)). length l) is ∙ length-replicate rows None) in
     let within : r < length places = omega (arith, less, lengths) in
     grind (arith, nat_tests)
 
@@ -126,7 +157,9 @@ pub record IsPrefix (s : State) : Type 0 where
   pub current : s.current < 2
   pub more : next s ≤ last_version
 
-pub begins : (s s1 : State) (size : ℕ) (rows : List ℕ) → s ≡ record { current = 0; versions = replicate 2 0; lives = replicate size Free } → Takes s s1 rows → IsPrefix s1
+pub begins : (s s1 : State) (size : ℕ) (rows : List ℕ)
+    → s ≡ record { current = 0; versions = replicate 2 0; lives = replicate size Free }
+    → Takes s s1 rows → IsPrefix s1
 begins s s1 size rows is takes =
     let now = ap (λ (q : State). q.current) takes.born ∙ ap (λ (q : State). q.current) is in
     let versions = ap (λ (q : State). q.versions) takes.born ∙ ap (λ (q : State). q.versions) is in
@@ -137,5 +170,10 @@ begins s s1 size rows is takes =
       more = subst (λ (n : ℕ). n ≤ last_version) (sym first) (omega arith);
     }
 
-pub lives_of : (s : State) (size : ℕ) → s ≡ record { current = 0; versions = replicate 2 0; lives = replicate size Free } → s.lives ≡ replicate size Free
+pub lives_of : (s : State) (size : ℕ) → s ≡ record {
+  current = 0;
+  versions = replicate 2 0;
+  lives =
+      replicate size Free;
+} → s.lives ≡ replicate size Free
 lives_of s size is = ap (λ (q : State). q.lives) is

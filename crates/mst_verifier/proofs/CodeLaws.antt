@@ -81,17 +81,29 @@ fault_is fault other e =
 
 -- ---- what a text fails, by the number
 
-module _ (format : TreeFormat) (d text : List ℕ) (upper : Option ℕ) (low high : Option (List ℕ)) where
-  pub grammar : (fault : ProofFault) → fault_code fault ≡ negsuc 13 → FailsBy format d upper low high text fault → InGrammar format text → ⊥
-  grammar fault e fails = subst (FailsBy format d upper low high text) (fault_is fault NoNode e) fails
+module _ (format : TreeFormat) (d text : List ℕ) (upper : Option ℕ) (low high : Option (List ℕ))
+  where
+    pub grammar : (fault : ProofFault) → fault_code fault ≡ negsuc 13 → FailsBy format d upper low
+        high text fault → InGrammar format text → ⊥
+    grammar fault e fails = subst (FailsBy format d upper low high text) (fault_is fault NoNode e)
+        fails
 
-  pub digest : (fault : ProofFault) → fault_code fault ≡ negsuc 14 → FailsBy format d upper low high text fault → digest_of text ≢ d
-  digest fault e fails = (subst (FailsBy format d upper low high text) (fault_is fault OtherDigest e) fails).1
+    pub digest : (fault : ProofFault) → fault_code fault ≡ negsuc 14 → FailsBy format d upper low
+        high
+        text fault → digest_of text ≢ d
+    digest fault e fails =
+        (subst (FailsBy format d upper low high text) (fault_is fault OtherDigest e) fails).1
 
-  pub layer : (fault : ProofFault) → fault_code fault ≡ negsuc 15 → FailsBy format d upper low high text fault →
-      (n : FlatNode) × Spells format text n × (IfSome upper (λ u. n.layer < u) → ⊥)
-  layer fault e fails = let x = subst (FailsBy format d upper low high text) (fault_is fault LayerNotBelow e) fails in (x.0, x.1, x.3)
+    pub layer : (fault : ProofFault) → fault_code fault ≡ negsuc 15 → FailsBy format d upper low
+        high
+        text fault →
+        (n : FlatNode) × Spells format text n × (IfSome upper (λ u. n.layer < u) → ⊥)
+    layer fault e fails = let x = subst (FailsBy format d upper low high text)
+        (fault_is fault LayerNotBelow e) fails in (x.0, x.1, x.3)
 
-  pub keys : (fault : ProofFault) → fault_code fault ≡ negsuc 16 → FailsBy format d upper low high text fault →
-      (n : FlatNode) × Spells format text n × IfSome upper (λ u. n.layer < u) × (AllByRecursion (λ e. IsBetween low high e.key) n.entries → ⊥)
-  keys fault e fails = let x = subst (FailsBy format d upper low high text) (fault_is fault KeyOutside e) fails in (x.0, x.1, x.3, x.4)
+    pub keys : (fault : ProofFault) → fault_code fault ≡ negsuc 16 → FailsBy format d upper low high
+        text fault →
+        (n : FlatNode) × Spells format text n × IfSome upper (λ u. n.layer < u)
+        × (AllByRecursion (λ e. IsBetween low high e.key) n.entries → ⊥)
+    keys fault e fails = let x = subst (FailsBy format d upper low high text)
+        (fault_is fault KeyOutside e) fails in (x.0, x.1, x.3, x.4)

@@ -43,7 +43,8 @@ refused r z is e =
 
 -- ---- an answer tells itself alone
 
-value_in : (b : Bool) (room v w : List ℕ) → (if b then negsuc 1 else pos (length v)) ≡ pos (length w) → take (length w) (if b then room else v ++ drop (length v) room) ≡ w → v ≡ w
+value_in : (b : Bool) (room v w : List ℕ) → (if b then negsuc 1 else pos (length v)) ≡ pos
+    (length w) → take (length w) (if b then room else v ++ drop (length v) room) ≡ w → v ≡ w
 value_in true room v w e s = absurd (cc)
 value_in false room v w e s =
     let same : length v ≡ length w = cc in
@@ -58,11 +59,14 @@ no_absence : (b : Bool) (n : ℕ) → is_absence (if b then negsuc 1 else pos n)
 no_absence true n = refl
 no_absence false n = refl
 
-told : (room : List ℕ) (x : Result (Option (List ℕ)) Refusal) (a : Option (List ℕ)) → Tells (code_of (length room) x) (room_after room x) a → x ≡ Ok a
+told : (room : List ℕ) (x : Result (Option (List ℕ)) Refusal) (a : Option (List ℕ))
+    → Tells (code_of (length room) x) (room_after room x) a → x ≡ Ok a
 told room (Ok (Some v)) None t =
-    let both : false ≡ true = sym (no_absence (nat_lt (length room) (length v)) (length v)) ∙ ap is_absence t in
+    let both : false ≡ true = sym (no_absence (nat_lt (length room) (length v)) (length v))
+    ∙ ap is_absence t in
     absurd (cc both)
-told room (Ok (Some v)) (Some w) t = ap (λ (u : List ℕ). Ok (Some u)) (value_in (nat_lt (length room) (length v)) room v w t.0 t.1)
+told room (Ok (Some v)) (Some w) t =
+    ap (λ (u : List ℕ). Ok (Some u)) (value_in (nat_lt (length room) (length v)) room v w t.0 t.1)
 told room (Ok None) None t = refl
 told room (Ok None) (Some w) t = absurd (cc t.0)
 told room (Err r) None t = absurd (refused r (negsuc 0) refl t)
@@ -70,21 +74,29 @@ told room (Err r) (Some w) t = absurd (refused r (pos (length w)) refl t.0)
 
 -- ---- from the question to the verdict
 
-of_tests : (c d : Bool) (v : Result (Option (List ℕ)) ProofFault) (a : Option (List ℕ)) → (if c then (if d then with_refusal v else Err Key) else Err Root) ≡ Ok a → v ≡ Ok a
+of_tests : (c d : Bool) (v : Result (Option (List ℕ)) ProofFault) (a : Option (List ℕ))
+    → (if c then (if d then with_refusal v else Err Key) else Err Root) ≡ Ok a → v ≡ Ok a
 of_tests true true (Ok x) a e = let same : x ≡ a = cc in ap (λ (y : Option (List ℕ)). Ok y) same
 of_tests true true (Err f) a e = absurd (cc)
 of_tests true false v a e = absurd (cc)
 of_tests false d v a e = absurd (cc)
 
-of_format : (format : TreeFormat) (root key proof : List ℕ) (a : Option (List ℕ)) → answer_in (Some format) root key proof ≡ Ok a → verdict format root key proof ≡ Ok a
-of_format format root key proof a e = of_tests (length root == 32) (nat_le 1 (length key) && nat_le (length key) 32) (verdict format root key proof) a e
+of_format : (format : TreeFormat) (root key proof : List ℕ) (a : Option (List ℕ))
+    → answer_in (Some format) root key proof ≡ Ok a → verdict format root key proof ≡ Ok a
+of_format format root key proof a e =
+    of_tests (length root == 32) (nat_le 1 (length key) && nat_le (length key) 32)
+    (verdict format root key proof) a e
 
-of_named : (named : Option TreeFormat) (root key proof : List ℕ) (a : Option (List ℕ)) → answer_in named root key proof ≡ Ok a → (f : TreeFormat) × (named ≡ Some f) × (verdict f root key proof ≡ Ok a)
+of_named : (named : Option TreeFormat) (root key proof : List ℕ) (a : Option (List ℕ))
+    → answer_in named root key proof ≡ Ok a → (f : TreeFormat) × (named ≡ Some f)
+    × (verdict f root key proof ≡ Ok a)
 of_named None root key proof a e = absurd (cc)
 of_named (Some f) root key proof a e = (f, refl, of_format f root key proof a e)
 
 -- what is told is an answer to the question
-answer_told : (number : ℕ) (root key proof room after : List ℕ) (code : ℤ) (a : Option (List ℕ)) → code ≡ code_of (length room) (answer_of number root key proof) → after ≡ room_after room (answer_of number root key proof) → Tells code after a → answer_of number root key proof ≡ Ok a
+answer_told : (number : ℕ) (root key proof room after : List ℕ) (code : ℤ) (a : Option (List ℕ))
+    → code ≡ code_of (length room) (answer_of number root key proof) → after ≡ room_after room
+    (answer_of number root key proof) → Tells code after a → answer_of number root key proof ≡ Ok a
 answer_told number root key proof room after code a is left t =
     let x = answer_of number root key proof in
     let at_code = subst (λ (z : ℤ). Tells z after a) is t in
@@ -92,32 +104,54 @@ answer_told number root key proof room after code a is left t =
     told room x a at_room
 
 -- what is told is the verdict's answer, in the format that has the number
-pub format_told : (number : ℕ) (root key proof room after : List ℕ) (code : ℤ) (a : Option (List ℕ)) → code ≡ code_of (length room) (answer_of number root key proof) → after ≡ room_after room (answer_of number root key proof) → Tells code after a → (f : TreeFormat) × (format_named number ≡ Some f) × (verdict f root key proof ≡ Ok a)
-format_told number root key proof room after code a is left t = of_named (format_named number) root key proof a (answer_told number root key proof room after code a is left t)
+pub format_told : (number : ℕ) (root key proof room after : List ℕ) (code : ℤ) (a : Option (List ℕ))
+    → code ≡ code_of (length room) (answer_of number root key proof) → after ≡ room_after room
+    (answer_of number root key proof) → Tells code after a → (f : TreeFormat)
+    × (format_named number ≡ Some f) × (verdict f root key proof ≡ Ok a)
+format_told number root key proof room after code a is left t =
+    of_named (format_named number) root key proof a
+    (answer_told number root key proof room after code a is left t)
 
 -- the same for a format that is known to have the number
-pub verdict_told : (number : ℕ) (format : TreeFormat) (root key proof room after : List ℕ) (code : ℤ) (a : Option (List ℕ)) → format_named number ≡ Some format → code ≡ code_of (length room) (answer_of number root key proof) → after ≡ room_after room (answer_of number root key proof) → Tells code after a → verdict format root key proof ≡ Ok a
+pub verdict_told : (number : ℕ) (format : TreeFormat) (root key proof room after : List ℕ)
+    (code : ℤ) (a : Option (List ℕ)) → format_named number ≡ Some format
+    → code ≡ code_of (length room) (answer_of number root key proof) → after ≡ room_after room
+    (answer_of number root key proof) → Tells code after a → verdict format root key proof ≡ Ok a
 verdict_told number format root key proof room after code a named is left t =
-    let at_number : answer_of number root key proof ≡ Ok a = answer_told number root key proof room after code a is left t in
-    of_format format root key proof a (ap (λ (n : Option TreeFormat). answer_in n root key proof) (sym named) ∙ at_number)
+    let at_number : answer_of number root key proof ≡ Ok a =
+    answer_told number root key proof room after code a is left t in
+    of_format format root key proof a
+    (ap (λ (n : Option TreeFormat). answer_in n root key proof) (sym named) ∙ at_number)
 
 -- ---- and back
 
-answered : (format : TreeFormat) (root key proof : List ℕ) → length root ≡ 32 → IsKey key → answer_in (Some format) root key proof ≡ with_refusal (verdict format root key proof)
+answered : (format : TreeFormat) (root key proof : List ℕ) → length root ≡ 32 → IsKey key
+    → answer_in (Some format) root key proof ≡ with_refusal (verdict format root key proof)
 answered format root key proof digest fits = search (tests, rules)
 
-value_told : (b : Bool) (room v : List ℕ) → b ≡ false → Tells (if b then negsuc 1 else pos (length v)) (if b then room else v ++ drop (length v) room) (Some v)
+value_told : (b : Bool) (room v : List ℕ) → b ≡ false
+    → Tells (if b then negsuc 1 else pos (length v)) (if b then room else v ++ drop (length v) room)
+    (Some v)
 value_told true room v e = absurd (cc)
 value_told false room v e = (refl, take_at v (drop (length v) room) (length v) refl)
 
-tells : (room : List ℕ) (a : Option (List ℕ)) → IfSome a (λ v. length v ≤ length room) → Tells (code_of (length room) (Ok a)) (room_after room (Ok a)) a
+tells : (room : List ℕ) (a : Option (List ℕ)) → IfSome a (λ v. length v ≤ length room)
+    → Tells (code_of (length room) (Ok a)) (room_after room (Ok a)) a
 tells room None fits = refl
-tells room (Some v) fits = value_told (nat_lt (length room) (length v)) room v (search (tests, rules))
+tells room (Some v) fits = value_told (nat_lt (length room) (length v)) room v
+    (search (tests, rules))
 
 -- the verdict's answer is told, where it fits
-pub tells_verdict : (number : ℕ) (format : TreeFormat) (root key proof room after : List ℕ) (code : ℤ) (a : Option (List ℕ)) → format_named number ≡ Some format → length root ≡ 32 → IsKey key → IfSome a (λ v. length v ≤ length room) → code ≡ code_of (length room) (answer_of number root key proof) → after ≡ room_after room (answer_of number root key proof) → verdict format root key proof ≡ Ok a → Tells code after a
+pub tells_verdict : (number : ℕ) (format : TreeFormat) (root key proof room after : List ℕ)
+    (code : ℤ) (a : Option (List ℕ)) → format_named number ≡ Some format → length root ≡ 32
+    → IsKey key → IfSome a (λ v. length v ≤ length room) → code ≡ code_of (length room)
+    (answer_of number root key proof) → after ≡ room_after room (answer_of number root key proof)
+    → verdict format root key proof ≡ Ok a → Tells code after a
 tells_verdict number format root key proof room after code a named digest key_fits fits is left v =
-    let at_format : answer_of number root key proof ≡ answer_in (Some format) root key proof = ap (λ (n : Option TreeFormat). answer_in n root key proof) named in
-    let x : answer_of number root key proof ≡ Ok a = at_format ∙ answered format root key proof digest key_fits ∙ ap with_refusal v in
-    let at_code = subst (λ (z : ℤ). Tells z (room_after room (Ok a)) a) (sym (is ∙ ap (code_of (length room)) x)) (tells room a fits) in
+    let at_format : answer_of number root key proof ≡ answer_in (Some format) root key proof =
+    ap (λ (n : Option TreeFormat). answer_in n root key proof) named in
+    let x : answer_of number root key proof ≡ Ok a =
+    at_format ∙ answered format root key proof digest key_fits ∙ ap with_refusal v in
+    let at_code = subst (λ (z : ℤ). Tells z (room_after room (Ok a)) a)
+    (sym (is ∙ ap (code_of (length room)) x)) (tells room a fits) in
     subst (λ (r : List ℕ). Tells code r a) (sym (left ∙ ap (room_after room) x)) at_code

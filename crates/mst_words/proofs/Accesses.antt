@@ -39,18 +39,26 @@ gone : (o : Option ℕ) → is_none o ≡ true → o ≡ None
 gone None h = refl
 gone (Some r) h = absurd (let c : false ≡ true = h in cc)
 
-pub readable : (v : View) (x k : ℕ) → may_read v x ≡ true → k < row_words → IsReadable v (row_word x k)
-readable v x k may lt = let a = both (nat_lt x v.rows) (v.turn || (is_some v.pin && list_any (eqb x) v.pinned_rows)) may in ⊎_elim
+pub readable : (v : View) (x k : ℕ) → may_read v x ≡ true → k < row_words
+    → IsReadable v (row_word x k)
+readable v x k may lt = let a =
+    both (nat_lt x v.rows) (v.turn || (is_some v.pin && list_any (eqb x) v.pinned_rows)) may in
+    ⊎_elim
     (λ (on : v.turn ≡ true). inl (on, omega arith))
-    (λ (pinned : (is_some v.pin && list_any (eqb x) v.pinned_rows) ≡ true). let b = both (is_some v.pin) (list_any (eqb x) v.pinned_rows) pinned in let p = there v.pin b.0 in inr (inr (p.0, x, k, p.1, any_times x v.pinned_rows b.1, lt, refl)))
+    (λ (pinned : (is_some v.pin && list_any (eqb x) v.pinned_rows) ≡ true). let b =
+    both (is_some v.pin) (list_any (eqb x) v.pinned_rows) pinned in let p = there v.pin b.0 in
+    inr (inr (p.0, x, k, p.1, any_times x v.pinned_rows b.1, lt, refl)))
     (either_of v.turn (is_some v.pin && list_any (eqb x) v.pinned_rows) a.1)
 
 pub inside : (v : View) (x : ℕ) → may_read v x ≡ true → x < v.rows
-inside v x may = let a = (both (nat_lt x v.rows) (v.turn || (is_some v.pin && list_any (eqb x) v.pinned_rows)) may).0 in ltb-true x v.rows a
+inside v x may = let a =
+    (both (nat_lt x v.rows) (v.turn || (is_some v.pin && list_any (eqb x) v.pinned_rows)) may).0 in
+    ltb-true x v.rows a
 
 each_below : (n : ℕ) (p : ℕ → Bool) (r : ℕ) → all_below n p ≡ true → r < n → p r ≡ true
 each_below zero p r all lt = absurd (omega arith)
-each_below (suc n) p r all lt = let a = both (p n) (all_below n p) all in dite (ℕ_discrete r n) (λ is. ap p is ∙ a.0) (λ other. each_below n p r a.1 (omega arith))
+each_below (suc n) p r all lt = let a = both (p n) (all_below n p) all in
+    dite (ℕ_discrete r n) (λ is. ap p is ∙ a.0) (λ other. each_below n p r a.1 (omega arith))
 
 -- what a blank row is, read off the parts of its definition
 pub record Blank (v : View) (x : ℕ) : Type 0 where
@@ -62,10 +70,17 @@ pub record Blank (v : View) (x : ℕ) : Type 0 where
   pub unreached : is_unreached v x ≡ true
 
 pub blank_parts : (v : View) (x : ℕ) → is_blank v x ≡ true → Blank v x
-blank_parts v x h = let a = both (nat_lt (row_word x 15) (length v.known_words) && nat_lt x v.rows && v.turn && is_none v.pin && is_none v.due) (is_unreached v x) h in
-    let b = both (nat_lt (row_word x 15) (length v.known_words) && nat_lt x v.rows && v.turn && is_none v.pin) (is_none v.due) a.0 in
-    let c = both (nat_lt (row_word x 15) (length v.known_words) && nat_lt x v.rows && v.turn) (is_none v.pin) b.0 in
-    let d = both (nat_lt (row_word x 15) (length v.known_words) && nat_lt x v.rows) v.turn c.0 in let e = both (nat_lt (row_word x 15) (length v.known_words)) (nat_lt x v.rows) d.0 in record {
+blank_parts v x h = let a =
+    both (nat_lt (row_word x 15) (length v.known_words) && nat_lt x v.rows && v.turn && is_none
+    v.pin && is_none v.due) (is_unreached v x) h in
+    let b =
+    both (nat_lt (row_word x 15) (length v.known_words) && nat_lt x v.rows && v.turn && is_none
+    v.pin) (is_none v.due) a.0 in
+    let c = both (nat_lt (row_word x 15) (length v.known_words) && nat_lt x v.rows && v.turn)
+    (is_none v.pin) b.0 in
+    let d = both (nat_lt (row_word x 15) (length v.known_words) && nat_lt x v.rows) v.turn c.0 in
+    let e = both (nat_lt (row_word x 15) (length v.known_words)) (nat_lt x v.rows) d.0 in
+    record {
       known = ltb-true (row_word x 15) (length v.known_words) e.0;
       inside = ltb-true x v.rows e.1;
       on = d.1;
@@ -76,89 +91,149 @@ blank_parts v x h = let a = both (nat_lt (row_word x 15) (length v.known_words) 
 
 -- the holder of the turn may read a blank row
 pub blank_may : (v : View) (x : ℕ) → is_blank v x ≡ true → may_read v x ≡ true
-blank_may v x h = let b = blank_parts v x h in ap (λ (t : Bool). t && (v.turn || (is_some v.pin && list_any (eqb x) v.pinned_rows))) (lt-ltb x v.rows b.inside) ∙ ap (λ (t : Bool). t || (is_some v.pin && list_any (eqb x) v.pinned_rows)) b.on
+blank_may v x h = let b = blank_parts v x h in
+    ap (λ (t : Bool). t && (v.turn || (is_some v.pin && list_any (eqb x) v.pinned_rows)))
+    (lt-ltb x v.rows b.inside)
+    ∙ ap (λ (t : Bool). t || (is_some v.pin && list_any (eqb x) v.pinned_rows)) b.on
 
 pub blank_row : (v : View) (x : ℕ) → is_blank v x ≡ true → IsBlank (stored v.format) v x
 blank_row v x h = let b = blank_parts v x h in (
   b.inside,
-  (λ r small kept reached. ⊎_elim (λ (found : list_any (eqb r) v.drained ≡ true). kept (any_times r v.drained found))
-      (λ (none_reaches : not (lives.reaches v.desk.lives (version_of v.desk r) x) ≡ true). let c : not true ≡ true = sym (ap not reached) ∙ none_reaches in absurd (let d : false ≡ true = c in cc))
-      (either_of (list_any (eqb r) v.drained) (not (lives.reaches v.desk.lives (version_of v.desk r) x)) (each_below (v.passes + 2) (λ r. list_any (eqb r) v.drained || not (lives.reaches v.desk.lives (version_of v.desk r) x)) r b.unreached small))),
+  (λ r small kept reached. ⊎_elim
+      (λ (found : list_any (eqb r) v.drained ≡ true). kept (any_times r v.drained found))
+      (λ (none_reaches : not (lives.reaches v.desk.lives (version_of v.desk r) x) ≡ true). let c :
+      not true ≡ true = sym (ap not reached) ∙ none_reaches in
+      absurd (let d : false ≡ true = c in cc))
+      (either_of (list_any (eqb r) v.drained)
+      (not (lives.reaches v.desk.lives (version_of v.desk r) x))
+      (each_below (v.passes + 2)
+      (λ r. list_any (eqb r) v.drained || not
+      (lives.reaches v.desk.lives (version_of v.desk r) x)) r b.unreached small))),
 )
 
-pub writable : (v : View) (x k : ℕ) → is_blank v x ≡ true → k < row_words → IsWritable (stored v.format) v (row_word x k)
+pub writable : (v : View) (x k : ℕ) → is_blank v x ≡ true → k < row_words
+    → IsWritable (stored v.format) v (row_word x k)
 writable v x k h lt = inl (x, k, blank_row v x h, lt, refl)
 
 -- a row whose sixteen words were stored
 pub record Stored (x n : ℕ) (words old new : List ℕ) : Type 0 where
   pub long : length new ≡ length old
   pub so_far : (k : ℕ) → k < n → records.row new x k ≡ get_or words k 0
-  pub others : (i : ℕ) → ((k : ℕ) → k < row_words → i ≢ row_word x k) → get_or new i 0 ≡ get_or old i 0
+  pub others : (i : ℕ) → ((k : ℕ) → k < row_words → i ≢ row_word x k) → get_or new i 0 ≡ get_or old
+      i 0
 
 pub stored_none : (x : ℕ) (words old : List ℕ) → Stored x 0 words old old
-stored_none x words old = record { long = refl; so_far = λ k l. absurd (omega arith); others = λ i _. refl }
+stored_none x words old = record {
+  long = refl;
+  so_far = λ k l. absurd (omega arith);
+  others =
+      λ i _. refl;
+}
 
-pub stored_more : (x n : ℕ) (words old new : List ℕ) → Stored x n words old new → n < row_words → x * 16 + 294 ≤ length old → (value : ℕ) → value ≡ get_or words n 0
+pub stored_more : (x n : ℕ) (words old new : List ℕ) → Stored x n words old new → n < row_words
+    → x * 16 + 294 ≤ length old → (value : ℕ) → value ≡ get_or words n 0
     → Stored x (n + 1) words old (set new (row_word x n) value)
 stored_more x n words old new s lt wide value is = let long = s.long in record {
   long = length-set new (row_word x n) value ∙ s.long;
   so_far = λ k l. dite (ℕ_discrete k n)
-      (λ same. ap (λ (j : ℕ). get_or (set new (row_word x n) value) (row_word x j) 0) same ∙ get_or-set_same new (row_word x n) value 0 (omega arith) ∙ is ∙ ap (λ (j : ℕ). get_or words j 0) (sym same))
-      (λ other. get_or-set_other new (row_word x n) (row_word x k) value 0 (λ e. other (omega arith)) ∙ s.so_far k (omega arith));
+      (λ same. ap (λ (j : ℕ). get_or (set new (row_word x n) value) (row_word x j) 0) same
+      ∙ get_or-set_same new (row_word x n) value 0 (omega arith) ∙ is
+      ∙ ap (λ (j : ℕ). get_or words j 0) (sym same))
+      (λ other. get_or-set_other new (row_word x n) (row_word x k) value 0
+      (λ e. other (omega arith)) ∙ s.so_far k (omega arith));
   others = λ i away. get_or-set_other new (row_word x n) i value 0 (away n lt) ∙ s.others i away;
 }
 
 -- the rows are as before but for the one that was written
-pub written : (v : View) (x : ℕ) (value : Row) (words held : List ℕ) → is_blank v x ≡ true → length words ≡ 16 → row_in words ≡ Some value → Stored x 16 words v.known_words held → Writes (content_of v) (content_of (record v { known_words = held })) x value
+pub written : (v : View) (x : ℕ) (value : Row) (words held : List ℕ) → is_blank v x ≡ true
+    → length words ≡ 16 → row_in words ≡ Some value → Stored x 16 words v.known_words held
+    → Writes (content_of v) (content_of (record v { known_words = held })) x value
 written v x value words held blank long spelt s = let b = blank_parts v x blank in record {
   here = may (record v { known_words = held }) x b.inside b.on ∙ ap row_in (sym all) ∙ spelt;
   others = λ k other. ap (λ (o : Option Row). if may_read v k then o else None) (elsewhere k other);
 }
   where
-    may : (w : View) (k : ℕ) → k < w.rows → w.turn ≡ true → content_of w k ≡ rows_in (records.row w.known_words) k
-    may w k lt on = ap (λ (t : Bool). if (t && (w.turn || (is_some w.pin && list_any (eqb k) w.pinned_rows))) then rows_in (records.row w.known_words) k else None) (lt-ltb k w.rows lt)
-        ∙ ap (λ (t : Bool). if (t || (is_some w.pin && list_any (eqb k) w.pinned_rows)) then rows_in (records.row w.known_words) k else None) on
+    may : (w : View) (k : ℕ) → k < w.rows → w.turn ≡ true → content_of w k ≡ rows_in
+        (records.row w.known_words) k
+    may w k lt on =
+        ap (λ (t : Bool). if (t && (w.turn || (is_some w.pin && list_any (eqb k) w.pinned_rows)))
+        then rows_in (records.row w.known_words) k else None) (lt-ltb k w.rows lt)
+        ∙ ap (λ (t : Bool). if (t || (is_some w.pin && list_any (eqb k) w.pinned_rows)) then rows_in
+        (records.row w.known_words) k else None) on
 
     all : words ≡ map (records.row held x) (range_with_len 0 16)
     all = fill_by_all (records.row held x) words 16 0 long (λ k lt. sym (s.so_far k (omega arith)))
 
-    same_word : (k j : ℕ) → k ≢ x → j < row_words → records.row held k j ≡ records.row v.known_words k j
+    same_word : (k j : ℕ) → k ≢ x → j < row_words → records.row held k j ≡ records.row v.known_words
+        k j
     same_word k j other lt = s.others (row_word k j) (λ i l e. other (omega arith))
 
-    elsewhere : (k : ℕ) → k ≢ x → rows_in (records.row held) k ≡ rows_in (records.row v.known_words) k
-    elsewhere k other = same_row (records.row v.known_words) (records.row held) k (λ j lt. same_word k j other lt)
+    elsewhere : (k : ℕ) → k ≢ x → rows_in (records.row held) k ≡ rows_in (records.row v.known_words)
+        k
+    elsewhere k other = same_row (records.row v.known_words) (records.row held) k
+        (λ j lt. same_word k j other lt)
 
 -- a list that is known index by index, from some number on
-pub fill_from : (f : ℕ → ℕ) (xs : List ℕ) (a n : ℕ) → length xs ≡ n → ((k : ℕ) → k < n → get_or xs k 0 ≡ f (a + k)) → xs ≡ map f (range_with_len a n)
-fill_from f xs a n long h = ext_get_or 0 xs (map f (range_with_len a n)) (long ∙ sym (length-map-range_with_len f a n)) (λ k lt. h k (omega arith) ∙ sym (get_or-map-range_with_len f a n k (a + k) 0 (omega arith) refl))
+pub fill_from : (f : ℕ → ℕ) (xs : List ℕ) (a n : ℕ) → length xs ≡ n
+    → ((k : ℕ) → k < n → get_or xs k 0 ≡ f (a + k)) → xs ≡ map f (range_with_len a n)
+fill_from f xs a n long h = ext_get_or 0 xs (map f (range_with_len a n))
+    (long ∙ sym (length-map-range_with_len f a n))
+    (λ k lt. h k (omega arith)
+    ∙ sym (get_or-map-range_with_len f a n k (a + k) 0 (omega arith) refl))
 
 -- what is blank depends on no word, but on how many are known
-pub blank_stays : (v w : View) → w ≡ record v { known_words = w.known_words } → length w.known_words ≡ length v.known_words → is_blank w ≡ is_blank v
-blank_stays v w same long = ap is_blank same ∙ ap {B = ℕ → Bool} (λ (n : ℕ) (x : ℕ). nat_lt (row_word x 15) n && nat_lt x v.rows && v.turn && is_none v.pin && is_none v.due && is_unreached v x) long
+pub blank_stays : (v w : View) → w ≡ record v { known_words = w.known_words } → length w.known_words
+    ≡ length v.known_words → is_blank w ≡ is_blank v
+blank_stays v w same long =
+    ap is_blank same ∙ ap {B = ℕ → Bool}
+    (λ (n : ℕ) (x : ℕ). nat_lt (row_word x 15) n && nat_lt x v.rows && v.turn && is_none v.pin
+    && is_none v.due && is_unreached v x) long
 
 -- a list that is known index by index below some number
-pub same_front : (n : ℕ) (xs ys : List ℕ) → n ≤ length xs → length ys ≡ length xs → ((i : ℕ) → i < n → get_or ys i 0 ≡ get_or xs i 0) → take n ys ≡ take n xs
-same_front n xs ys le long h = let a = length-take-le n xs le in let b = length-take-le n ys (omega (arith, le, long)) in ext_get_or 0 (take n ys) (take n xs) (b ∙ sym a)
-    (λ i lt. let small : i < n = omega (arith, lt, b) in get_or-take n ys i 0 small ∙ h i small ∙ sym (get_or-take n xs i 0 small))
+pub same_front : (n : ℕ) (xs ys : List ℕ) → n ≤ length xs → length ys ≡ length xs
+    → ((i : ℕ) → i < n → get_or ys i 0 ≡ get_or xs i 0) → take n ys ≡ take n xs
+same_front n xs ys le long h = let a = length-take-le n xs le in let b =
+    length-take-le n ys (omega (arith, le, long)) in ext_get_or 0 (take n ys) (take n xs)
+    (b ∙ sym a)
+    (λ i lt. let small : i < n = omega (arith, lt, b) in get_or-take n ys i 0 small ∙ h i small
+    ∙ sym (get_or-take n xs i 0 small))
 
 -- what the seat is beside its rows depends on no word of a row
-pub beside_stays : (s t : Seated) (x : ℕ) (words : List ℕ) → t ≡ with_words t.me.0.known_words s → first_row ≤ length s.me.0.known_words → Stored x 16 words s.me.0.known_words t.me.0.known_words → beside t ≡ beside s
+pub beside_stays : (s t : Seated) (x : ℕ) (words : List ℕ) → t ≡ with_words t.me.0.known_words s
+    → first_row ≤ length s.me.0.known_words → Stored x 16 words s.me.0.known_words
+    t.me.0.known_words → beside t ≡ beside s
 beside_stays s t x words same wide stored =
     let held = t.me.0.known_words in
-    let front : take first_row held ≡ take first_row s.me.0.known_words = same_front first_row s.me.0.known_words held wide stored.long (λ i lt. stored.others i (λ k l is. omega (arith, lt, is))) in
+    let front : take first_row held ≡ take first_row s.me.0.known_words =
+    same_front first_row s.me.0.known_words held wide stored.long
+    (λ i lt. stored.others i (λ k l is. omega (arith, lt, is))) in
     ap beside same
     ∙ ap (λ (f : List ℕ). record { seat = with_words [] s; front = f; long = length held }) front
-    ∙ ap (λ (n : ℕ). record { seat = with_words [] s; front = take first_row s.me.0.known_words; long = n }) stored.long
+    ∙ ap (λ (n : ℕ). record {
+      seat = with_words [] s;
+      front = take first_row s.me.0.known_words;
+      long = n;
+    }) stored.long
 
 -- the words of an entry that may be read spell it with other links, once these are put in
-its_row : (b : Bool) (o : Option Row) (row : Row) → (if b then o else None) ≡ Some row → o ≡ Some row
+its_row : (b : Bool) (o : Option Row) (row : Row) → (if b then o else None) ≡ Some row
+    → o ≡ Some row
 its_row true o row is = is
 its_row false o row is = cc
 
-pub entry_copied : (v : View) (from child next : ℕ) (words : List ℕ) (P : Row → Type 0) → IsSome (part_at entry_links (content_of v) from) → words ≡ map (records.row v.known_words from) (range_with_len 0 16) → child ≤ 65535 → next ≤ 65535
-    → ((value : Row) → row_in (set (set words 1 child) 2 next) ≡ Some value → P value) → IfSome (content_of v from) (λ entry. P (relinked child next entry))
+pub entry_copied : (v : View) (from child next : ℕ) (words : List ℕ) (P : Row → Type 0)
+    → IsSome (part_at entry_links (content_of v) from)
+    → words ≡ map (records.row v.known_words from) (range_with_len 0 16) → child ≤ 65535
+    → next ≤ 65535
+    → ((value : Row) → row_in (set (set words 1 child) 2 next) ≡ Some value → P value)
+    → IfSome (content_of v from) (λ entry. P (relinked child next entry))
 entry_copied v from child next words P some loaded low small each = go (content_of v from) refl some
   where
-    go : (o : Option Row) → content_of v from ≡ o → IsSome (option_and_then entry_links o) → IfSome o (λ entry. P (relinked child next entry))
+    go : (o : Option Row) → content_of v from ≡ o → IsSome (option_and_then entry_links o)
+        → IfSome o (λ entry. P (relinked child next entry))
     go None is some = tt
-    go (Some row) is some = each (relinked child next row) (relinked_words words row child next (ap row_in loaded ∙ its_row (may_read v from) (rows_in (records.row v.known_words) from) row is) some low small)
+    go (Some row) is some =
+        each (relinked child next row)
+        (relinked_words words row child next
+        (ap row_in loaded ∙ its_row (may_read v from) (rows_in (records.row v.known_words) from) row
+        is) some low small)

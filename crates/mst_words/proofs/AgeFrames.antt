@@ -13,7 +13,11 @@ use Rattle.mst_path.proofs.lemmas.versions.AgeSteps.{all_contained, top_inside}
 
 -- two desks say of these rows that the same versions reach them, up to the last of the history
 abbrev pub SameAges : List Life → List Life → History → List ℕ → Type 0
-SameAges lives lives' h rows = (x v : ℕ) → In x rows → v ≤ length h → reaches lives' v x ≡ reaches lives v x
+SameAges lives lives' h rows = (x v : ℕ) → In x rows → v ≤ length h → reaches lives' v x ≡ reaches
+    lives v x
 
-pub ages_to : (first : Format) (lives lives' : List Life) (h : History) (p : Placed) → SameAges lives lives' h (used p) → HasAges first lives h p → HasAges first lives' h p
-ages_to first lives lives' h p same ages = all_contained (HasAge first lives' h) (placed_nodes p) (λ q has r v i le. same r v (top_inside p q has r i) le ∙ contains-all (HasAge first lives h) (placed_nodes p) q ages has r v i le)
+pub ages_to : (first : Format) (lives lives' : List Life) (h : History) (p : Placed)
+    → SameAges lives lives' h (used p) → HasAges first lives h p → HasAges first lives' h p
+ages_to first lives lives' h p same ages = all_contained (HasAge first lives' h) (placed_nodes p)
+    (λ q has r v i le. same r v (top_inside p q has r i) le ∙ contains-all (HasAge first lives h)
+    (placed_nodes p) q ages has r v i le)

@@ -13,21 +13,26 @@ use Rattle.mst_words.specs.Records.{row}
 use Rattle.mst_words.specs.Stored.{rows_in}
 use Rattle.mst_words.specs.Access.{may_read, content_of}
 
-spelt_head : (words : List ℕ) (h : HeadLinks) → option_and_then head_links (row_in words) ≡ Some h → IsHead h
+spelt_head : (words : List ℕ) (h : HeadLinks) → option_and_then head_links (row_in words) ≡ Some h
+    → IsHead h
 spelt_head words h is = go (row_in words) refl is
   where
     go : (o : Option Row) → row_in words ≡ o → option_and_then head_links o ≡ Some h → IsHead h
     go None e is = absurd (let no : None ≡ Some h = is in cc)
     go (Some (Entry child next key value)) e is = absurd (let no : None ≡ Some h = is in cc)
     go (Some (Head layer count first tail digest)) e is =
-        let limits : IsRow (Head layer count first tail digest) = (words_of_row words (Head layer count first tail digest) e).0 in
-        let some : Some (record { layer = layer; count = count; first = first; tail = tail }) ≡ Some h = is in
+        let limits : IsRow (Head layer count first tail digest) =
+        (words_of_row words (Head layer count first tail digest) e).0 in
+        let some : Some (record { layer = layer; count = count; first = first; tail = tail }) ≡ Some
+        h = is in
         let fields : record { layer = layer; count = count; first = first; tail = tail } ≡ h = cc in
         subst IsHead fields limits
 
-pub head_within : (v : View) (x : ℕ) (h : HeadLinks) → part_at head_links (content_of v) x ≡ Some h → IsHead h
+pub head_within : (v : View) (x : ℕ) (h : HeadLinks) → part_at head_links (content_of v) x ≡ Some h
+    → IsHead h
 head_within v x h is = go (may_read v x) is
   where
-    go : (b : Bool) → option_and_then head_links (if b then rows_in (row v.known_words) x else None) ≡ Some h → IsHead h
+    go : (b : Bool) → option_and_then head_links (if b then rows_in (row v.known_words) x else None)
+        ≡ Some h → IsHead h
     go true is = spelt_head _ h is
     go false is = absurd (let no : None ≡ Some h = is in cc)

@@ -16,7 +16,8 @@ pub in_later : (x y : ℕ) (ys : List ℕ) → In x ys → In x (y ∷ ys)
 in_later x y ys i = omega (arith, i)
 
 pub in_cases : (x y : ℕ) (ys : List ℕ) → In x (y ∷ ys) → (x ≡ y) ⊎ In x ys
-in_cases x y ys i = ⊎_elim (λ (here : In x (y ∷ [])). inl (one_row x y here)) (λ (t : In x ys). inr t) (in_either x (y ∷ []) ys i)
+in_cases x y ys i = ⊎_elim (λ (here : In x (y ∷ [])). inl (one_row x y here))
+    (λ (t : In x ys). inr t) (in_either x (y ∷ []) ys i)
 
 -- what holds of each number of the list
 pub each : (P : ℕ → Type 0) (xs : List ℕ) → ((x : ℕ) → In x xs → P x) → AllByRecursion P xs
@@ -25,8 +26,10 @@ each P (x ∷ xs) all = (all x (in_first x x xs refl), each P xs (λ y i. all y 
 
 pub contained : (x : ℕ) (xs : List ℕ) → In x xs → Contains xs x
 contained x [] i = absurd (in_nothing x i)
-contained x (y ∷ ys) i = ⊎_elim (λ (is : x ≡ y). contains-first y ys x (sym is)) (λ (t : In x ys). contains-later y ys x (contained x ys t)) (in_cases x y ys i)
+contained x (y ∷ ys) i = ⊎_elim (λ (is : x ≡ y). contains-first y ys x (sym is))
+    (λ (t : In x ys). contains-later y ys x (contained x ys t)) (in_cases x y ys i)
 
 pub within : (x : ℕ) (xs : List ℕ) → Contains xs x → In x xs
 within x [] has = absurd (contains-nothing x has)
-within x (y ∷ ys) has = ⊎_elim (λ (is : y ≡ x). in_first x y ys (sym is)) (λ (later : Contains ys x). in_later x y ys (within x ys later)) (contains-cases y ys x has)
+within x (y ∷ ys) has = ⊎_elim (λ (is : y ≡ x). in_first x y ys (sym is))
+    (λ (later : Contains ys x). in_later x y ys (within x ys later)) (contains-cases y ys x has)

@@ -58,7 +58,8 @@ fresh = fresh_desk 4 2
 
 -- the words of record 0 from its digest on, and those of record 1, whose version is 1
 abbrev records : List ℕ
-records = let a : ℕ = word_from (digest_of []) 0 in let b : ℕ = word_from (digest_of []) 8 in let c : ℕ = word_from (digest_of []) 16 in let d : ℕ = word_from (digest_of []) 24 in
+records = let a : ℕ = word_from (digest_of []) 0 in let b : ℕ = word_from (digest_of []) 8 in
+    let c : ℕ = word_from (digest_of []) 16 in let d : ℕ = word_from (digest_of []) 24 in
     a ∷ b ∷ c ∷ d ∷ 1 ∷ 1 ∷ 0 ∷ a ∷ b ∷ c ∷ d ∷ 1 ∷ replicate 292 0
 
 abbrev pub words : List ℕ
@@ -72,7 +73,8 @@ zeros_first (suc n) rest (suc i) l = zeros_first n rest i (omega (arith, l))
 front : (i : ℕ) → i < 38 → get_or words i 0 ≡ 0
 front = zeros_first 38 records
 
-digest : bytes_in (word_from (digest_of []) 0 ∷ word_from (digest_of []) 8 ∷ word_from (digest_of []) 16 ∷ word_from (digest_of []) 24 ∷ []) ≡ digest_of []
+digest : bytes_in (word_from (digest_of []) 0 ∷ word_from (digest_of []) 8 ∷ word_from
+    (digest_of []) 16 ∷ word_from (digest_of []) 24 ∷ []) ≡ digest_of []
 digest = let s = sha256_digest [] in digest_back (digest_of []) s.size s.bytes
 
 -- ---- a new table, and two passes dealt
@@ -81,7 +83,9 @@ abbrev pub begun : Table
 begun = opening words (Some fresh ∷ []) (dealer 4 2 One 1)
 
 pub begun_ruled : Ruled T 4 2 begun
-begun_ruled = opens T framed 4 2 words (Some fresh) (desk_state fresh) refl (λ i l. front i (omega (arith, l))) (omega arith) (fresh_is_desk 4 2) refl (fresh_standing One 4 2 words front digest refl)
+begun_ruled = opens T framed 4 2 words (Some fresh) (desk_state fresh) refl
+    (λ i l. front i (omega (arith, l))) (omega arith) (fresh_is_desk 4 2) refl
+    (fresh_standing One 4 2 words front digest refl)
 
 abbrev pub pass : ℕ → View
 pass p = idle 4 2 One p 0
@@ -90,15 +94,19 @@ abbrev pub at : List ℕ → List View → Table
 at ws vs = record { words = ws; homes = some (Some fresh) ∷ []; views = vs }
 
 pub one_dealt : Ruled T 4 2 (at words (dealer 4 2 One 2 ∷ pass 1 ∷ []))
-one_dealt = deal_splits T framed 4 2 0 (dealer 4 2 One 1) refl refl (omega arith) (omega arith) begun begun_ruled refl
+one_dealt = deal_splits T framed 4 2 0 (dealer 4 2 One 1) refl refl (omega arith) (omega arith)
+    begun begun_ruled refl
 
 pub dealt : Ruled T 4 2 (at words (dealer 4 2 One 3 ∷ pass 1 ∷ pass 2 ∷ []))
-dealt = deal_splits T framed 4 2 0 (dealer 4 2 One 2) refl refl (omega arith) (omega arith) (at words (dealer 4 2 One 2 ∷ pass 1 ∷ [])) one_dealt refl
+dealt = deal_splits T framed 4 2 0 (dealer 4 2 One 2) refl refl (omega arith) (omega arith)
+    (at words (dealer 4 2 One 2 ∷ pass 1 ∷ [])) one_dealt refl
 
 -- while no seat has seen an event, there is none
-pub none_seen : (s : Table) (v w x : View) → s.views ≡ v ∷ w ∷ x ∷ [] → v.seen ≡ [] → w.seen ≡ [] → x.seen ≡ [] → (a : Ruled T 4 2 s) → a.parts.log ≡ []
+pub none_seen : (s : Table) (v w x : View) → s.views ≡ v ∷ w ∷ x ∷ [] → v.seen ≡ [] → w.seen ≡ []
+    → x.seen ≡ [] → (a : Ruled T 4 2 s) → a.parts.log ≡ []
 none_seen s v w x is first second third a = ⊎_elim (λ none_there. none_there)
-    (λ (t : (i : ℕ) × (u : View) × SeatAt s.views i u × (u.seen ≡ a.parts.log)). sym t.3 ∙ each t.0 t.1 (subst (λ (l : List View). SeatAt l t.0 t.1) is t.2)) a.seen.whole
+    (λ (t : (i : ℕ) × (u : View) × SeatAt s.views i u × (u.seen ≡ a.parts.log)). sym t.3
+    ∙ each t.0 t.1 (subst (λ (l : List View). SeatAt l t.0 t.1) is t.2)) a.seen.whole
   where
     each : (i : ℕ) (u : View) → SeatAt (v ∷ w ∷ x ∷ []) i u → u.seen ≡ []
     each zero u e = ap (λ (z : View). z.seen) (sym (some-injective v u e)) ∙ first
@@ -112,28 +120,67 @@ abbrev pub used : List ℕ
 used = dealt.parts.used dealt.parts.cur
 
 abbrev pub reader : View
-reader = record (pass 1) { pin = Some 0; pinned_history = []; pinned_rows = used; known_words = words; asked = 1 }
+reader = record (pass 1) {
+  pin = Some 0;
+  pinned_history = [];
+  pinned_rows = used;
+  known_words =
+      words;
+  asked = 1;
+}
 
 pub cur_is : dealt.parts.cur ≡ 0
-cur_is = let c : 0 ≡ dealt.parts.cur * masks + dealt.parts.mask = dealt.parts.pins.current in omega (arith, c)
+cur_is = let c : 0 ≡ dealt.parts.cur * masks + dealt.parts.mask = dealt.parts.pins.current in
+    omega (arith, c)
 
 pub pinned : Ruled T 4 2 (at (set words 1 1) (dealer 4 2 One 3 ∷ reader ∷ pass 2 ∷ []))
-pinned = ruled T framed 4 2 _ (subst (λ (x : ℕ × History). Parts T 4 2 (at (set words 1 1) (dealer 4 2 One 3 ∷ record (pass 1) { pin = Some x.0; pinned_history = x.1; pinned_rows = used; known_words = words; asked = 1 } ∷ pass 2 ∷ [])))
-    (λ i. (cur_is i, none_seen (at words (dealer 4 2 One 3 ∷ pass 1 ∷ pass 2 ∷ [])) (dealer 4 2 One 3) (pass 1) (pass 2) refl refl refl refl dealt i))
-    (pinned_now T framed 4 2 (at words (dealer 4 2 One 3 ∷ pass 1 ∷ pass 2 ∷ [])) dealt.parts 1 1 0 [] (pass 1) refl refl refl refl refl))
+pinned =
+    ruled T framed 4 2 _
+    (subst (λ (x : ℕ × History). Parts T 4 2
+    (at (set words 1 1)
+    (dealer 4 2 One 3 ∷ record (pass 1) {
+      pin = Some x.0;
+      pinned_history = x.1;
+      pinned_rows =
+          used;
+      known_words = words;
+      asked = 1;
+    } ∷ pass 2 ∷ [])))
+    (λ i. (
+      cur_is i,
+      none_seen (at words (dealer 4 2 One 3 ∷ pass 1 ∷ pass 2 ∷ []))
+          (dealer 4 2 One 3) (pass 1) (pass 2) refl refl refl refl dealt i,
+    ))
+    (pinned_now T framed 4 2 (at words (dealer 4 2 One 3 ∷ pass 1 ∷ pass 2 ∷ [])) dealt.parts 1 1 0
+    [] (pass 1) refl refl refl refl refl))
 
 -- ---- pass 2 takes the turn
 
 pub desk_is : pinned.parts.desk ≡ desk_state fresh
 desk_is = let t = pinned.parts.turn.free refl in
-    let home : Some fresh ≡ t.0 = some-injective (Some fresh) t.0 (some-injective (some (Some fresh)) (some t.0) (ap (λ (l : List (mathlib.Core.Option.Option (Option lives.State))). get_elem? l 0) t.1)) in
+    let home : Some fresh ≡ t.0 =
+    some-injective (Some fresh) t.0
+    (some-injective (some (Some fresh)) (some t.0)
+    (ap (λ (l : List (mathlib.Core.Option.Option (Option lives.State))). get_elem? l 0) t.1)) in
     ap desk_state (sym (same_Some fresh (state_of pinned.parts.desk) (home ∙ t.2.there)))
 
 abbrev pub held : List ℕ
 held = set words 1 1
 
 abbrev holding : History → DeskState → View
-holding log d = record (pass 2) { seen = log; known_words = held; turn = true; desk = d; due = None; mask = 0; drained = []; blocked = []; noted = None; asked = 1 }
+holding log d = record (pass 2) {
+  seen = log;
+  known_words = held;
+  turn = true;
+  desk = d;
+  due =
+      None;
+  mask = 0;
+  drained = [];
+  blocked = [];
+  noted = None;
+  asked = 1;
+}
 
 -- a ruled table of these words and views, with something in its slot or nothing
 pub record Ready (ws : List ℕ) (vs : List View) : Type 0 where
@@ -146,18 +193,44 @@ writer = holding [] (desk_state fresh)
 pub turn_taken : Ready (set held 0 2) (dealer 4 2 One 3 ∷ reader ∷ writer ∷ [])
 turn_taken = record {
   homes = none ∷ [];
-  rule = ruled T framed 4 2 _ (subst (λ (x : History × DeskState). Parts T 4 2 record { words = set held 0 2; homes = none ∷ []; views = dealer 4 2 One 3 ∷ reader ∷ holding x.0 x.1 ∷ [] })
-      (λ i. (none_seen (at held (dealer 4 2 One 3 ∷ reader ∷ pass 2 ∷ [])) (dealer 4 2 One 3) reader (pass 2) refl refl refl refl pinned i, desk_is i))
-      (taken T framed 4 2 (at held (dealer 4 2 One 3 ∷ reader ∷ pass 2 ∷ [])) pinned.parts 2 2 (pass 2) refl refl (omega arith) refl (Some fresh) refl (pinned.parts.turn.free refl).3 refl));
+  rule =
+      ruled T framed 4 2 _
+      (subst (λ (x : History × DeskState). Parts T 4 2 record {
+        words = set held 0 2;
+        homes =
+            none ∷ [];
+        views = dealer 4 2 One 3 ∷ reader ∷ holding x.0 x.1 ∷ [];
+      })
+      (λ i. (
+        none_seen (at held (dealer 4 2 One 3 ∷ reader ∷ pass 2 ∷ [])) (dealer 4 2 One 3) reader
+            (pass 2) refl refl refl refl pinned i,
+        desk_is i,
+      ))
+      (taken T framed 4 2 (at held (dealer 4 2 One 3 ∷ reader ∷ pass 2 ∷ [])) pinned.parts 2 2
+      (pass 2) refl refl (omega arith) refl (Some fresh) refl (pinned.parts.turn.free refl).3
+      refl));
 }
 
 -- a step leads from one such table to the next
-next : (ws : List ℕ) (vs : List View) → Ready ws vs → (id i : ℕ) (me : Mine) (f : ℕ → ℕ) (told : ℕ → ℕ → Mine → Type 0) → ((slots : ℕ) → Allows (Ruled T 4 2) slots id me i f (told slots)) → SeatAt vs id me.0
-    → get_or ws i 0 < 18446744073709551616 → (w : View) → ((slots : ℕ) (m : Mine) → told slots (get_or ws i 0) m → m.0 ≡ w) → Ready (set ws i (f (get_or ws i 0))) (set vs id w)
-next ws vs h id i me f told allows here small w is = let t = allows (length h.homes) (record { words = ws; homes = h.homes; views = vs }) h.rule refl here small in record {
-  homes = homes_after h.homes me.1 t.1;
-  rule = subst (λ (u : View). Ruled T 4 2 record { words = set ws i (f (get_or ws i 0)); homes = homes_after h.homes me.1 t.1; views = set vs id u }) (is (length h.homes) (t.0, carried_after me.1 t.1) t.4) t.3;
-}
+next : (ws : List ℕ) (vs : List View) → Ready ws vs → (id i : ℕ) (me : Mine) (f : ℕ → ℕ)
+    (told : ℕ → ℕ → Mine → Type 0)
+    → ((slots : ℕ) → Allows (Ruled T 4 2) slots id me i f (told slots)) → SeatAt vs id me.0
+    → get_or ws i 0 < 18446744073709551616 → (w : View)
+    → ((slots : ℕ) (m : Mine) → told slots (get_or ws i 0) m → m.0 ≡ w)
+    → Ready (set ws i (f (get_or ws i 0))) (set vs id w)
+next ws vs h id i me f told allows here small w is = let t =
+    allows (length h.homes) (record { words = ws; homes = h.homes; views = vs }) h.rule refl here
+    small in record {
+      homes = homes_after h.homes me.1 t.1;
+      rule =
+          subst (λ (u : View). Ruled T 4 2 record {
+            words = set ws i (f (get_or ws i 0));
+            homes =
+                homes_after h.homes me.1 t.1;
+            views = set vs id u;
+          })
+          (is (length h.homes) (t.0, carried_after me.1 t.1) t.4) t.3;
+    }
 
 -- ---- it finds record 1 drained
 
@@ -168,9 +241,12 @@ abbrev pub asked : View
 asked = record writer { drained = 1 ∷ []; asked = 2 }
 
 pub found : Ready (set (set held 0 2) 3 0) (dealer 4 2 One 3 ∷ reader ∷ asked ∷ [])
-found = next (set held 0 2) (dealer 4 2 One 3 ∷ reader ∷ writer ∷ []) turn_taken 2 3 (writer, slot) (λ n. n) (λ slots. asks T (step slots 3 0 0 none) (writer, slot))
-    (λ slots. asks_allows T framed 4 2 slots 2 1 (writer, slot) (refl, refl, refl) (omega arith) (λ e. omega (arith, e)) (λ i. in_nothing 1 i)) refl (lit< tt) asked
-    (λ slots m t. let one : t.0 ≡ 1 = (let e = t.1 in omega (arith, e)) in ap (λ (z : Mine). z.0) (t.2 refl) ∙ ap (λ (y : ℕ). record writer { drained = y ∷ []; asked = 2 }) one)
+found = next (set held 0 2) (dealer 4 2 One 3 ∷ reader ∷ writer ∷ []) turn_taken 2 3 (writer, slot)
+    (λ n. n) (λ slots. asks T (step slots 3 0 0 none) (writer, slot))
+    (λ slots. asks_allows T framed 4 2 slots 2 1 (writer, slot) (refl, refl, refl) (omega arith)
+    (λ e. omega (arith, e)) (λ i. in_nothing 1 i)) refl (lit< tt) asked
+    (λ slots m t. let one : t.0 ≡ 1 = (let e = t.1 in omega (arith, e)) in ap (λ (z : Mine). z.0)
+    (t.2 refl) ∙ ap (λ (y : ℕ). record writer { drained = y ∷ []; asked = 2 }) one)
 
 -- ---- and publishes it
 
@@ -209,10 +285,30 @@ stands = record {
 }
 
 agrees : (r : ℕ) → r < 4 → (In r (1 ∷ []) → ⊥) → Agrees T (desk_state fresh) later r
-agrees zero l other = record { version = refl; reached = λ x h. h; exactly = λ x h. h; ages = λ x v l h. ((λ is. is), (λ is. is)) }
+agrees zero l other = record {
+  version = refl;
+  reached = λ x h. h;
+  exactly = λ x h. h;
+  ages =
+      λ x v l h. ((λ is. is), (λ is. is));
+}
 agrees (suc zero) l other = absurd (other (in_first 1 1 [] refl))
-agrees (suc (suc zero)) l other = record { version = refl; reached = λ x h. h; exactly = λ x h. h; ages = λ x v l h. ((λ is. is), (λ is. is)) }
-agrees (suc (suc (suc zero))) l other = record { version = refl; reached = λ x h. h; exactly = λ x h. h; ages = λ x v l h. ((λ is. is), (λ is. is)) }
+agrees (suc (suc zero)) l other =
+    record {
+      version = refl;
+      reached = λ x h. h;
+      exactly = λ x h. h;
+      ages =
+          λ x v l h. ((λ is. is), (λ is. is));
+    }
+agrees (suc (suc (suc zero))) l other =
+    record {
+      version = refl;
+      reached = λ x h. h;
+      exactly = λ x h. h;
+      ages =
+          λ x v l h. ((λ is. is), (λ is. is));
+    }
 agrees (suc (suc (suc (suc r)))) l other = absurd (omega (arith, l))
 
 ready : IsReady T 1 event later [] asked
@@ -229,12 +325,29 @@ ready = record {
 }
 
 abbrev pub publisher : ℕ → View
-publisher mask = record asked { seen = event ∷ []; mine = event ∷ []; due = Some 0; mask = mask; drained = []; blocked = []; noted = None; desk = later; asked = 3 }
+publisher mask = record asked {
+  seen = event ∷ [];
+  mine = event ∷ [];
+  due = Some 0;
+  mask =
+      mask;
+  drained = [];
+  blocked = [];
+  noted = None;
+  desk = later;
+  asked = 3;
+}
 
-pub published : Ready (set (set (set held 0 2) 3 0) 1 masks) (dealer 4 2 One 3 ∷ reader ∷ publisher 1 ∷ [])
-published = next (set (set held 0 2) 3 0) (dealer 4 2 One 3 ∷ reader ∷ asked ∷ []) found 2 1 (asked, slot) (λ n. masks) (λ slots. publishes event later (step slots 1 masks 0 none) (asked, slot))
-    (λ slots. publishes_allows T framed 4 2 slots 2 masks 1 event later [] (asked, slot) ready refl) refl (lit< tt) (publisher 1)
-    (λ slots m t. let one : t.1.mask ≡ 1 = (let e : 1 ≡ 0 * masks + t.1.mask = t.1.returned in omega (arith, e)) in ap (λ (z : Mine). z.0) t.1.is ∙ ap publisher one)
+pub published : Ready (set (set (set held 0 2) 3 0) 1 masks)
+    (dealer 4 2 One 3 ∷ reader ∷ publisher 1 ∷ [])
+published = next (set (set held 0 2) 3 0) (dealer 4 2 One 3 ∷ reader ∷ asked ∷ []) found 2 1
+    (asked, slot) (λ n. masks)
+    (λ slots. publishes event later (step slots 1 masks 0 none) (asked, slot))
+    (λ slots. publishes_allows T framed 4 2 slots 2 masks 1 event later [] (asked, slot) ready refl)
+    refl (lit< tt) (publisher 1)
+    (λ slots m t. let one : t.1.mask ≡ 1 =
+    (let e : 1 ≡ 0 * masks + t.1.mask = t.1.returned in omega (arith, e)) in
+    ap (λ (z : Mine). z.0) t.1.is ∙ ap publisher one)
 
 -- ---- and moves the pin of pass 1, whose bit is the first, to record 0
 
@@ -245,8 +358,11 @@ abbrev pub after_views : List View
 after_views = dealer 4 2 One 3 ∷ reader ∷ record (publisher 1) { due = None } ∷ []
 
 pub moved : Ready after_words after_views
-moved = next (set (set (set held 0 2) 3 0) 1 masks) (dealer 4 2 One 3 ∷ reader ∷ publisher 1 ∷ []) published 2 2 (publisher 1, slot) (λ n. bit_xor n 1) (λ slots. transfers (step slots 2 1 0 none) (publisher 1, slot))
-    (λ slots. transfers_allows T framed 4 2 slots 2 0 1 (publisher 1, slot) refl refl refl) refl (lit< tt) (record (publisher 1) { due = None })
+moved = next (set (set (set held 0 2) 3 0) 1 masks) (dealer 4 2 One 3 ∷ reader ∷ publisher 1 ∷ [])
+    published 2 2 (publisher 1, slot) (λ n. bit_xor n 1)
+    (λ slots. transfers (step slots 2 1 0 none) (publisher 1, slot))
+    (λ slots. transfers_allows T framed 4 2 slots 2 0 1 (publisher 1, slot) refl refl refl) refl
+    (lit< tt) (record (publisher 1) { due = None })
     (λ slots m t. ap (λ (z : Mine). z.0) t.1)
 
 -- the history is the one event, record 1 is current, and record 0 has the pin

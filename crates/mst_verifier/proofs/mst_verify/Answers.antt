@@ -11,24 +11,33 @@ returns-clause-accepted c = λ a told.
     let b = bytes-at c.args.proof.now (λ i. omega (arith, c.type_inv.proof i)) in
     let fits_code : SFits w32 c.tell.result = search rules in
     let is = to_z-of_z fits_code ∙ c.tell.ensures.code in
-    let t = format_told c.args.format c.args.root.now c.args.key.now c.args.proof.now c.args.room.now _ _ a is c.tell.ensures.room told in
-    (t.0, t.1, accepted_nodewise t.0 c.args.root.now c.args.key.now c.args.proof.now a (accepted t.0 c.args.root.now c.args.key.now c.args.proof.now a b t.2))
+    let t = format_told c.args.format c.args.root.now c.args.key.now c.args.proof.now
+    c.args.room.now _ _ a is c.tell.ensures.room told in (
+      t.0,
+      t.1,
+      accepted_nodewise t.0 c.args.root.now c.args.key.now c.args.proof.now a
+          (accepted t.0 c.args.root.now c.args.key.now c.args.proof.now a b t.2),
+    )
 
 pub returns-clause-complete : goal.returns-clause-complete
 returns-clause-complete c = λ f m named digest key has proof fits.
     let b = bytes-at c.args.proof.now (λ i. omega (arith, c.type_inv.proof i)) in
     let fits_code : SFits w32 c.tell.result = search rules in
     let is = to_z-of_z fits_code ∙ c.tell.ensures.code in
-    let v = accepts f c.args.root.now c.args.key.now c.args.proof.now _ (proof_accepted f m c.args.root.now c.args.key.now c.args.proof.now b has proof) in
-    tells_verdict c.args.format f c.args.root.now c.args.key.now c.args.proof.now c.args.room.now _ _ _ named digest key fits is c.tell.ensures.room v
+    let v = accepts f c.args.root.now c.args.key.now c.args.proof.now _
+    (proof_accepted f m c.args.root.now c.args.key.now c.args.proof.now b has proof) in
+    tells_verdict c.args.format f c.args.root.now c.args.key.now c.args.proof.now c.args.room.now _
+    _ _ named digest key fits is c.tell.ensures.room v
 
 pub returns-clause-sound : goal.returns-clause-sound
 returns-clause-sound c = λ f m a named has told other.
     let b = bytes-at c.args.proof.now (λ i. omega (arith, c.type_inv.proof i)) in
     let fits_code : SFits w32 c.tell.result = search rules in
     let is = to_z-of_z fits_code ∙ c.tell.ensures.code in
-    let v = verdict_told c.args.format f c.args.root.now c.args.key.now c.args.proof.now c.args.room.now _ _ a named is c.tell.ensures.room told in
-    other_answer f m c.args.root.now c.args.key.now c.args.proof.now a b has (accepted f c.args.root.now c.args.key.now c.args.proof.now a b v) other
+    let v = verdict_told c.args.format f c.args.root.now c.args.key.now c.args.proof.now
+    c.args.room.now _ _ a named is c.tell.ensures.room told in
+    other_answer f m c.args.root.now c.args.key.now c.args.proof.now a b has
+    (accepted f c.args.root.now c.args.key.now c.args.proof.now a b v) other
 
 pub returns-clause-code : goal.returns-clause-code
 returns-clause-code c = search rules

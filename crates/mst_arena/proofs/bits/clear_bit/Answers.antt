@@ -13,7 +13,8 @@ returns-clause-written c =
     let w = slice_index words (c.args.index / 64) in
     record {
       len = length-set words (c.args.index / 64) _;
-      here = bit_written words (c.args.index / 64) _ c.args.index (omega (arith, c.requires.there)) refl
+      here = bit_written words (c.args.index / 64) _ c.args.index (omega (arith, c.requires.there))
+          refl
           ∙ bit_at_clear_same w64 w (c.args.index % 64) (omega arith);
       others = other_bits words c.args.index _ (omega (arith, c.requires.there))
           (λ k lt apart. bit_at_clear_other w64 w (c.args.index % 64) (omega arith) k lt apart);

@@ -14,7 +14,8 @@ returns c =
     record {
       written = record {
         len = length-set words (c.args.index / 64) _;
-        here = bit_written words (c.args.index / 64) _ c.args.index (omega (arith, c.requires.there)) refl
+        here = bit_written words (c.args.index / 64) _ c.args.index
+            (omega (arith, c.requires.there)) refl
             ∙ bit_at_set_same w64 w (c.args.index % 64) (omega arith);
         others = other_bits words c.args.index _ (omega (arith, c.requires.there))
             (λ k lt apart. bit_at_set_other w64 w (c.args.index % 64) (omega arith) k apart);

@@ -7,25 +7,43 @@ use Rattle.mst_arena.proofs.laws.standing_laws.Goals as goal
 
 pub returns-clause-one : goal.returns-clause-one
 returns-clause-one c f content at m n s t =
-    let same : s.tree.placed ≡ t.tree.placed = one_placed f content s.tree.placed t.tree.placed (s.tree.at ∙ sym t.tree.at) s.tree.rows t.tree.rows in
+    let same : s.tree.placed ≡ t.tree.placed = one_placed f content s.tree.placed t.tree.placed
+    (s.tree.at ∙ sym t.tree.at) s.tree.rows t.tree.rows in
     let trees : tree f m ≡ tree f n = sym s.tree.is ∙ ap (tree_of f) same ∙ t.tree.is in
     sym (pairs_tree f m) ∙ ap pairs trees ∙ pairs_tree f n
 
 pub returns-clause-one_placing : goal.returns-clause-one_placing
-returns-clause-one_placing c f content link t u s r = one_placed f content s.placed r.placed (s.at ∙ sym r.at) s.rows r.rows
+returns-clause-one_placing c f content link t u s r =
+    one_placed f content s.placed r.placed (s.at ∙ sym r.at) s.rows r.rows
 
 pub returns-clause-frame : goal.returns-clause-frame
 returns-clause-frame c f old new at m s same = record {
   map = s.map;
   digest = s.digest;
-  tree = record { placed = s.tree.placed; at = s.tree.at; is = s.tree.is; rows = placed_frame f old new s.tree.placed same s.tree.rows; once = s.tree.once };
+  tree = record {
+    placed = s.tree.placed;
+    at = s.tree.at;
+    is = s.tree.is;
+    rows =
+        placed_frame f old new s.tree.placed same s.tree.rows;
+    once = s.tree.once;
+  };
 }
 
 pub returns-clause-write : goal.returns-clause-write
 returns-clause-write c f old new row value at m s w not = record {
   map = s.map;
   digest = s.digest;
-  tree = record { placed = s.tree.placed; at = s.tree.at; is = s.tree.is; rows = placed_frame f old new s.tree.placed (same_of_write old new row value w (used s.tree.placed) not) s.tree.rows; once = s.tree.once };
+  tree = record {
+    placed = s.tree.placed;
+    at = s.tree.at;
+    is = s.tree.is;
+    rows =
+        placed_frame f old new s.tree.placed
+        (same_of_write old new row value w (used s.tree.placed) not) s.tree.rows;
+    once =
+        s.tree.once;
+  };
 }
 
 pub returns-clause-join : goal.returns-clause-join

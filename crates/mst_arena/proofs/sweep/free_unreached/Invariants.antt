@@ -6,7 +6,8 @@ use Rattle.mst_arena.proofs.sweep.free_unreached.Given as goal
 abbrev pub invariant-loop-row : goal.invariant-loop-row
 invariant-loop-row g l = record {
   sweeping : Sweeping l.live l.fn.lives l.lives l.free l.dead.items l.held.items;
-  older : l.older ≡ true → AllReached (take (length l.live - 1) l.live) l.fn.lives l.initial.held.items → AllReached (take (length l.live - 1) l.live) l.lives l.held.items;
+  older : l.older ≡ true → AllReached (take (length l.live - 1) l.live) l.fn.lives
+      l.initial.held.items → AllReached (take (length l.live - 1) l.live) l.lives l.held.items;
   room : length l.lives ≤ vec_capacity l.held;
   held_cap : vec_capacity l.held ≡ vec_capacity l.initial.held;
   dead_cap : vec_capacity l.dead ≡ vec_capacity l.initial.dead;

@@ -8,17 +8,27 @@ use Rattle.mst_arena.proofs.sweep.is_reached.Goals as goal
 pub returns-then-first-live : goal.returns-then-first-live
 returns-then-first-live c =
     let rises = c.requires.rising c.if-not-rising.false in
-    let point = IsPartitionPoint-from_clause (λ v. nat_lt v c.args.birth) c.args.live.now c.partition_point-first.result c.partition_point-first.ensures.partitioned (IsPartitionedBy-ltb (λ v. v) c.args.live.now c.args.birth rises) (λ a r f' k. search (rules, of_calls)) in
-    let some : nat_lt c.partition_point-first.result (length c.args.live.now) ≡ true = grind (arith, nat_tests, c.if-first-live.true) in
-    let e = first_decides c.args.birth c.args.death c.args.live.now c.partition_point-first.result rises c.partition_point-first.ensures.bound point in
+    let point = IsPartitionPoint-from_clause (λ v. nat_lt v c.args.birth) c.args.live.now
+    c.partition_point-first.result c.partition_point-first.ensures.partitioned
+    (IsPartitionedBy-ltb (λ v. v) c.args.live.now c.args.birth rises)
+    (λ a r f' k. search (rules, of_calls)) in
+    let some : nat_lt c.partition_point-first.result (length c.args.live.now) ≡ true =
+    grind (arith, nat_tests, c.if-first-live.true) in
+    let e = first_decides c.args.birth c.args.death c.args.live.now c.partition_point-first.result
+    rises c.partition_point-first.ensures.bound point in
     record { reached = rw some at e }
 
 pub returns-else-first-live : goal.returns-else-first-live
 returns-else-first-live c =
     let rises = c.requires.rising c.if-not-rising.false in
-    let point = IsPartitionPoint-from_clause (λ v. nat_lt v c.args.birth) c.args.live.now c.partition_point-first.result c.partition_point-first.ensures.partitioned (IsPartitionedBy-ltb (λ v. v) c.args.live.now c.args.birth rises) (λ a r f' k. search (rules, of_calls)) in
-    let none : nat_lt c.partition_point-first.result (length c.args.live.now) ≡ false = grind (arith, nat_tests, c.if-first-live.false) in
-    let e = first_decides c.args.birth c.args.death c.args.live.now c.partition_point-first.result rises c.partition_point-first.ensures.bound point in
+    let point = IsPartitionPoint-from_clause (λ v. nat_lt v c.args.birth) c.args.live.now
+    c.partition_point-first.result c.partition_point-first.ensures.partitioned
+    (IsPartitionedBy-ltb (λ v. v) c.args.live.now c.args.birth rises)
+    (λ a r f' k. search (rules, of_calls)) in
+    let none : nat_lt c.partition_point-first.result (length c.args.live.now) ≡ false =
+    grind (arith, nat_tests, c.if-first-live.false) in
+    let e = first_decides c.args.birth c.args.death c.args.live.now c.partition_point-first.result
+    rises c.partition_point-first.ensures.bound point in
     record { reached = none ∙ (rw none at e) }
 
 pub any-requires-clause-can : goal.any-requires-clause-can

@@ -5,7 +5,15 @@ use Rattle.mst_arena.proofs.sweep.look_again.Goals as goal
 
 pub returns-then-not-are_older-clause-times : goal.returns-then-not-are_older-clause-times
 returns-then-not-are_older-clause-times g c = λ r.
-    omega (arith, c.move_all.ensures.times r, ap (times r) c.move_all.ensures.empty, times-append r c.move_all.new.to.items c.move_all.new.from.items, times-append r c.args.dead.now.items c.args.held.now.items)
+    omega (
+      arith,
+      c.move_all.ensures.times r,
+      ap (times r) c.move_all.ensures.empty,
+      times-append r
+          c.move_all.new.to.items c.move_all.new.from.items,
+      times-append r c.args.dead.now.items
+          c.args.held.now.items,
+    )
 
 pub move_all-requires : goal.move_all-requires
 move_all-requires g c = search rules

@@ -4,7 +4,8 @@ use Rattle.mst_arena.proofs.Spelling.{from_exact}
 use Rattle.mst_arena.proofs.words.candidate.Goals as goal
 
 pub returns-in_default : goal.returns-in_default
-returns-in_default c = record { exact = from_exact c.args.words.now None (λ row is has e. search rules) }
+returns-in_default c =
+    record { exact = from_exact c.args.words.now None (λ row is has e. search rules) }
 
 pub bounds-words-0 : goal.bounds-words-0
 bounds-words-0 c = search rules

@@ -7,5 +7,10 @@ use Rattle.mst_arena.proofs.words.digest_words.Goals as goal
 
 pub returns-clause-bytes : goal.returns-clause-bytes
 unfolding word_from
-returns-clause-bytes c = rw c.word_from.ensures.word (rw c.word_from-2.ensures.word (rw c.word_from-3.ensures.word (rw c.word_from-4.ensures.word
-    (ap (λ (n : ℕ). map (byte_of_words (packed 4 c.args.digest.now)) (range_with_len 0 n)) (sym c.told-digest) ∙ bytes_back 4 c.args.digest.now (bytes-at c.args.digest.now (λ i. omega (arith, c.fits-digest i))) (omega (arith, c.told-digest))))))
+returns-clause-bytes c =
+    rw c.word_from.ensures.word
+    (rw c.word_from-2.ensures.word (rw c.word_from-3.ensures.word (rw c.word_from-4.ensures.word
+    (ap (λ (n : ℕ). map (byte_of_words (packed 4 c.args.digest.now)) (range_with_len 0 n))
+    (sym c.told-digest) ∙ bytes_back 4 c.args.digest.now
+    (bytes-at c.args.digest.now (λ i. omega (arith, c.fits-digest i)))
+    (omega (arith, c.told-digest))))))

@@ -3,7 +3,8 @@ use Rattle.mst_arena.proofs.Spelling.{bytes-at}
 use Rattle.mst_arena.proofs.words.head_words.Goals as goal
 
 pub returns-clause-bytes : goal.returns-clause-bytes
-returns-clause-bytes c = (c.told-digest, bytes-at c.args.digest.now (λ i. omega (arith, c.fits-digest i)))
+returns-clause-bytes c =
+    (c.told-digest, bytes-at c.args.digest.now (λ i. omega (arith, c.fits-digest i)))
 
 pub bounds-digest_words-0 : goal.bounds-digest_words-0
 bounds-digest_words-0 c = search rules

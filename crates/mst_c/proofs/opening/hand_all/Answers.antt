@@ -10,19 +10,26 @@ use Rattle.mst_c.proofs.opening.hand_all.Goals as goal
 pub loop-pass-preserved : goal.loop-pass-preserved
 loop-pass-preserved c =
     let was = c.loop-pass.invariant in let at : ℕ = c.loop-pass.at in
-    let first : (d : Known) → get_or c.args.passes.items at d ≡ c.in-Some.pass = (λ d. let h = was.1 0 d in grind rules) in (
+    let first : (d : Known) → get_or c.args.passes.items at d ≡ c.in-Some.pass =
+    (λ d. let h = was.1 0 d in grind rules) in (
       search rules,
       (λ k d below. let h = was.1 (k + 1) d in grind rules),
       elim c.if-all.branch [
         | then-all w ↦
-            let set : c.if-all.hands ≡ slice_set c.loop-pass.hands at w.hand_out-all.new.hand = search rules in
+            let set : c.if-all.hands ≡ slice_set c.loop-pass.hands at w.hand_out-all.new.hand =
+            search rules in
             let within : at < length c.loop-pass.hands = search rules in
             (λ yes k d h below.
             let given : w.hand_out-all.new.hand.held ≡ Some (Free c.in-Some.pass) = search rules in
             let all : c.loop-pass.all ≡ true = search rules in
-            below_more (λ i. (get_or c.if-all.hands i h).held ≡ Some (Free (get_or c.args.passes.items i d))) at
-            (λ i low. ap (λ (hs : _). (get_or hs i h).held) set ∙ ap (λ (x : Hand). x.held) (get_or-set_other c.loop-pass.hands at i w.hand_out-all.new.hand h (λ z. omega (arith, z, low))) ∙ was.2 all i d h low)
-            (ap (λ (hs : _). (get_or hs at h).held) set ∙ ap (λ (x : Hand). x.held) (get_or-set_same c.loop-pass.hands at w.hand_out-all.new.hand h within) ∙ given ∙ ap (λ (p : Known). Some (Free p)) (sym (first d)))
+            below_more (λ i. (get_or c.if-all.hands i h).held ≡ Some
+            (Free (get_or c.args.passes.items i d))) at
+            (λ i low. ap (λ (hs : _). (get_or hs i h).held) set ∙ ap (λ (x : Hand). x.held)
+            (get_or-set_other c.loop-pass.hands at i w.hand_out-all.new.hand h
+            (λ z. omega (arith, z, low))) ∙ was.2 all i d h low)
+            (ap (λ (hs : _). (get_or hs at h).held) set ∙ ap (λ (x : Hand). x.held)
+            (get_or-set_same c.loop-pass.hands at w.hand_out-all.new.hand h within) ∙ given
+            ∙ ap (λ (p : Known). Some (Free p)) (sym (first d)))
             k below)
         | else-all w ↦ (λ yes k d h below. search rules)
       ],
@@ -31,19 +38,26 @@ loop-pass-preserved c =
 pub loop-pass-preserved-then-if-drop : goal.loop-pass-preserved-then-if-drop
 loop-pass-preserved-then-if-drop c =
     let was = c.loop-pass.invariant in let at : ℕ = c.loop-pass.at in
-    let first : (d : Known) → get_or c.args.passes.items at d ≡ c.in-Some.pass = (λ d. let h = was.1 0 d in grind rules) in (
+    let first : (d : Known) → get_or c.args.passes.items at d ≡ c.in-Some.pass =
+    (λ d. let h = was.1 0 d in grind rules) in (
       search rules,
       (λ k d below. let h = was.1 (k + 1) d in grind rules),
       elim c.if-all.branch [
         | then-all w ↦
-            let set : c.if-all.hands ≡ slice_set c.loop-pass.hands at w.hand_out-all.new.hand = search rules in
+            let set : c.if-all.hands ≡ slice_set c.loop-pass.hands at w.hand_out-all.new.hand =
+            search rules in
             let within : at < length c.loop-pass.hands = search rules in
             (λ yes k d h below.
             let given : w.hand_out-all.new.hand.held ≡ Some (Free c.in-Some.pass) = search rules in
             let all : c.loop-pass.all ≡ true = search rules in
-            below_more (λ i. (get_or c.if-all.hands i h).held ≡ Some (Free (get_or c.args.passes.items i d))) at
-            (λ i low. ap (λ (hs : _). (get_or hs i h).held) set ∙ ap (λ (x : Hand). x.held) (get_or-set_other c.loop-pass.hands at i w.hand_out-all.new.hand h (λ z. omega (arith, z, low))) ∙ was.2 all i d h low)
-            (ap (λ (hs : _). (get_or hs at h).held) set ∙ ap (λ (x : Hand). x.held) (get_or-set_same c.loop-pass.hands at w.hand_out-all.new.hand h within) ∙ given ∙ ap (λ (p : Known). Some (Free p)) (sym (first d)))
+            below_more (λ i. (get_or c.if-all.hands i h).held ≡ Some
+            (Free (get_or c.args.passes.items i d))) at
+            (λ i low. ap (λ (hs : _). (get_or hs i h).held) set ∙ ap (λ (x : Hand). x.held)
+            (get_or-set_other c.loop-pass.hands at i w.hand_out-all.new.hand h
+            (λ z. omega (arith, z, low))) ∙ was.2 all i d h low)
+            (ap (λ (hs : _). (get_or hs at h).held) set ∙ ap (λ (x : Hand). x.held)
+            (get_or-set_same c.loop-pass.hands at w.hand_out-all.new.hand h within) ∙ given
+            ∙ ap (λ (p : Known). Some (Free p)) (sym (first d)))
             k below)
         | else-all w ↦ (λ yes k d h below. search rules)
       ],

@@ -9,5 +9,7 @@ use Rattle.mst_c.proofs.opening.hand_all.Given as goal
 abbrev pub invariant-loop-pass : goal.invariant-loop-pass
 invariant-loop-pass l =
     (l.at + into_iter_len l.pass-iterator ≡ vec_len l.fn.passes)
-    × ((k : ℕ) (d : Known) → k < into_iter_len l.pass-iterator → get_or (into_iter_items l.pass-iterator) k d ≡ get_or l.fn.passes.items (l.at + k) d)
-    × (l.all ≡ true → (k : ℕ) (d : Known) (h : Hand) → k < l.at → (get_or l.hands k h).held ≡ Some (Free (get_or l.fn.passes.items k d)))
+    × ((k : ℕ) (d : Known) → k < into_iter_len l.pass-iterator
+    → get_or (into_iter_items l.pass-iterator) k d ≡ get_or l.fn.passes.items (l.at + k) d)
+    × (l.all ≡ true → (k : ℕ) (d : Known) (h : Hand) → k < l.at → (get_or l.hands k h).held ≡ Some
+    (Free (get_or l.fn.passes.items k d)))

@@ -32,5 +32,6 @@ returns-then-hand_all-clause-opened c =
       hands,
       (λ k h below.
           c.hand_all.ensures.all c.if-hand_all.true k none h (omega (arith, below, count, hands))
-          ∙ ap (λ (p : Known). Some (Free p)) (dealt_at store passes.items k none dealt (omega (arith, below, hands)))),
+          ∙ ap (λ (p : Known). Some (Free p))
+          (dealt_at store passes.items k none dealt (omega (arith, below, hands)))),
     ))

@@ -12,7 +12,8 @@ pub returns-clause-search_trees : goal.returns-clause-search_trees
 returns-clause-search_trees c format t k mst = (below_mst t format k mst, above_mst t format k mst)
 
 pub returns-clause-layers : goal.returns-clause-layers
-returns-clause-layers c format t k l mst under = (below_under t format k l mst under, above_under t format k l mst under)
+returns-clause-layers c format t k l mst under =
+    (below_under t format k l mst under, above_under t format k l mst under)
 
 pub returns-clause-all_below : goal.returns-clause-all_below
 returns-clause-all_below c format t k mst rise none e = below_whole t format k rise mst none e

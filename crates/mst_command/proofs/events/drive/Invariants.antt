@@ -8,7 +8,8 @@ abbrev pub invariant-loop-sink : goal.invariant-loop-sink
 invariant-loop-sink g l = record {
   source_failures : g.S.Source.failures l.source ≡ g.S.Source.failures l.fn.source;
   sink_failures : g.W.Sink.failures l.sink ≡ g.W.Sink.failures l.fn.sink;
-  reached : Reached g.S.Source.gives g.W.Sink.takes Recalls l.fn.source l.fn.sink l.fn.replay l.reader l.source l.sink l.pending l.replay;
+  reached : Reached g.S.Source.gives g.W.Sink.takes Recalls l.fn.source l.fn.sink l.fn.replay
+      l.reader l.source l.sink l.pending l.replay;
 }
 
 abbrev pub decreases-loop-sink : goal.decreases-loop-sink

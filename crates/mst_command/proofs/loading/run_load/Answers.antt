@@ -13,7 +13,8 @@ returns-then-not-is_load_size-clause-steady g c = search rules
 pub returns-then-not-is_load_size-clause-device : goal.returns-then-not-is_load_size-clause-device
 returns-then-not-is_load_size-clause-device g c = search rules
 
-pub returns-then-not-is_load_size-clause-unwritten : goal.returns-then-not-is_load_size-clause-unwritten
+pub returns-then-not-is_load_size-clause-unwritten :
+    goal.returns-then-not-is_load_size-clause-unwritten
 returns-then-not-is_load_size-clause-unwritten g c = search rules
 
 pub returns-then-not-is_load_size-clause-ends : goal.returns-then-not-is_load_size-clause-ends

@@ -5,14 +5,22 @@ use Rattle.mst_command.proofs.PlainWords.{found}
 use Rattle.mst_command.proofs.plain.size_in.Goals as goal
 
 pub returns-in_err-rows-clause-only : goal.returns-in_err-rows-clause-only
-returns-in_err-rows-clause-only c = λ size is. absurd (none-some size.rows (sym c.in_err-rows.was ∙ c.number.ensures.only size.rows is.rows_fit is.rows))
+returns-in_err-rows-clause-only c =
+    λ size is. absurd
+    (none-some size.rows
+    (sym c.in_err-rows.was ∙ c.number.ensures.only size.rows is.rows_fit is.rows))
 
 pub returns-in_err-passes-clause-only : goal.returns-in_err-passes-clause-only
-returns-in_err-passes-clause-only c = λ size is. absurd (none-some size.passes (sym c.in_err-passes.was ∙ c.number-2.ensures.only size.passes is.passes_fit is.passes))
+returns-in_err-passes-clause-only c =
+    λ size is. absurd
+    (none-some size.passes
+    (sym c.in_err-passes.was ∙ c.number-2.ensures.only size.passes is.passes_fit is.passes))
 
 pub returns-clause-only : goal.returns-clause-only
-returns-clause-only c = λ size is. found c.number.result c.number-2.result c.in_ok-rows.rows c.in_ok-passes.passes size c.in_ok-rows.was c.in_ok-passes.was
-    (c.number.ensures.only size.rows is.rows_fit is.rows) (c.number-2.ensures.only size.passes is.passes_fit is.passes)
+returns-clause-only c = λ size is. found c.number.result c.number-2.result c.in_ok-rows.rows
+    c.in_ok-passes.passes size c.in_ok-rows.was c.in_ok-passes.was
+    (c.number.ensures.only size.rows is.rows_fit is.rows)
+    (c.number-2.ensures.only size.passes is.passes_fit is.passes)
 
 pub returns-in_err-rows-clause-some : goal.returns-in_err-rows-clause-some
 returns-in_err-rows-clause-some c = search rules

@@ -4,11 +4,14 @@ use Rattle.mst_command.proofs.Fresh.{fresh_run, fresh_stop}
 use Rattle.mst_command.proofs.programs.run_script.Goals as goal
 
 pub run-requires-clause-whole : goal.run-requires-clause-whole
-run-requires-clause-whole g c = all_of c.in-Ok.opened.0 c.in-Ok-deal.passes.items c.in-Ok-deal.ensures.ok
+run-requires-clause-whole g c = all_of c.in-Ok.opened.0 c.in-Ok-deal.passes.items
+    c.in-Ok-deal.ensures.ok
 
 pub returns-in-Ok-run-clause-ran : goal.returns-in-Ok-run-clause-ran
 returns-in-Ok-run-clause-ran g c =
-    fresh_run g.S.Source.gives g.W.Sink.takes c.args.shape c.in-Ok.opened.0 c.args.source.now c.run.new.source c.args.out.now c.run.new.sink c.in-Ok-deal.passes.items c.run.new.passes.items
+    fresh_run g.S.Source.gives g.W.Sink.takes c.args.shape c.in-Ok.opened.0 c.args.source.now
+    c.run.new.source c.args.out.now c.run.new.sink c.in-Ok-deal.passes.items
+    c.run.new.passes.items
     c.in-Ok.ensures.limits c.in-Ok.ensures.store c.in-Ok-deal.ensures.ok c.in-Ok-run.ensures.ok
 
 pub returns-in-Err-Shape-clause-ran : goal.returns-in-Err-Shape-clause-ran
@@ -181,8 +184,11 @@ returns-clause-shape g c = search rules
 
 pub returns-in-Err-Device-clause-stopped : goal.returns-in-Err-Device-clause-stopped
 returns-in-Err-Device-clause-stopped g c = λ is.
-    fresh_stop g.S.Source.gives g.W.Sink.takes g.W.Sink.failures c.args.shape c.in-Ok.opened.0 c.args.source.now c.run.new.source c.args.out.now c.run.new.sink c.in-Ok-deal.passes.items c.run.new.passes.items
-    c.in-Ok.ensures.limits c.in-Ok.ensures.store c.in-Ok-deal.ensures.ok (c.run.ensures.stopped (search rules))
+    fresh_stop g.S.Source.gives g.W.Sink.takes g.W.Sink.failures c.args.shape c.in-Ok.opened.0
+    c.args.source.now c.run.new.source c.args.out.now c.run.new.sink c.in-Ok-deal.passes.items
+    c.run.new.passes.items
+    c.in-Ok.ensures.limits c.in-Ok.ensures.store c.in-Ok-deal.ensures.ok
+    (c.run.ensures.stopped (search rules))
 
 pub returns-in-Err-Shape-clause-stopped : goal.returns-in-Err-Shape-clause-stopped
 returns-in-Err-Shape-clause-stopped g c = search rules

@@ -41,7 +41,9 @@ pub returns-clause-put_adds : goal.returns-clause-put_adds
 returns-clause-put_adds c front back k v below above = put-between _ front back k refl below above v
 
 pub returns-clause-put_replaces : goal.returns-clause-put_replaces
-returns-clause-put_replaces c front back k v w below above = put-at _ front back k k w refl (key_cmp-itself k) below above v
+returns-clause-put_replaces c front back k v w below above =
+    put-at _ front back k k w refl (key_cmp-itself k) below above v
 
 pub returns-clause-remove_takes : goal.returns-clause-remove_takes
-returns-clause-remove_takes c front back k w below above = remove-at _ front back k k w refl (key_cmp-itself k) below above
+returns-clause-remove_takes c front back k w below above =
+    remove-at _ front back k k w refl (key_cmp-itself k) below above

@@ -11,8 +11,11 @@ returns c =
     let front : c.split_at.result.0.now ≡ take place bytes = search rules in
     let back : c.split_at-2.result.1.now ≡ drop (place + 1) bytes = search rules in
     let within : place < length bytes = omega arith in (
-      subst (IsWithout c.args.at) (sym front) (none_before bytes c.args.at place (omega arith) c.in_ok-place.ensures.0.before),
-      joined bytes c.args.at place within c.in_ok-place.ensures.1 ∙ ap (λ (l : List ℕ). l ++ c.args.at ∷ drop (place + 1) bytes) (sym front) ∙ ap (λ (l : List ℕ). c.split_at.result.0.now ++ c.args.at ∷ l) (sym back),
+      subst (IsWithout c.args.at) (sym front)
+          (none_before bytes c.args.at place (omega arith) c.in_ok-place.ensures.0.before),
+      joined bytes c.args.at place within c.in_ok-place.ensures.1
+          ∙ ap (λ (l : List ℕ). l ++ c.args.at ∷ drop (place + 1) bytes) (sym front)
+          ∙ ap (λ (l : List ℕ). c.split_at.result.0.now ++ c.args.at ∷ l) (sym back),
     )
 
 pub returns-in_err-place : goal.returns-in_err-place

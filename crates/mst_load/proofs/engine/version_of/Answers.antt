@@ -11,7 +11,8 @@ pub settle-requires : goal.settle-requires
 settle-requires g c =
     let os = c.args.others.items in
     let q = c.pin-pinned.result in
-    let all : AreAllPasses (os ++ q ∷ []) = all_with os c.args.pass q c.pin-pinned.ensures.looks.same c.requires.whole in
+    let all : AreAllPasses (os ++ q ∷ []) =
+    all_with os c.args.pass q c.pin-pinned.ensures.looks.same c.requires.whole in
     let items : c.as_mut_slice.result.now ≡ os ++ q ∷ [] = search rules in
     record { whole = none_held c.as_mut_slice.result.now (subst AreAllPasses (sym items) all) }
 
@@ -23,8 +24,10 @@ returns g c =
     let q = c.pin-pinned.result in
     let looks = c.pin-pinned.ensures.looks in
     let items : c.as_mut_slice.result.now ≡ os ++ q ∷ [] = search rules in
-    let settled = subst (λ (l : List Known). Settled l [] c.settle.new.free c.settle.new.held) items c.settle.ensures.settled in
-    let seen : q.seen ≡ p.seen = pinned_same os c.settle.new.free c.settle.new.held p q looks c.requires.seen settled in
+    let settled = subst (λ (l : List Known). Settled l [] c.settle.new.free c.settle.new.held) items
+    c.settle.ensures.settled in
+    let seen : q.seen ≡ p.seen = pinned_same os c.settle.new.free c.settle.new.held p q looks
+    c.requires.seen settled in
     let events : c.version-events.result ≡ length q.seen = search rules in
     let digest : c.root-root.result ≡ root (format_seen q) (after q.seen) = search rules in record {
       events = events ∙ ap (λ (h : History). length h) seen;

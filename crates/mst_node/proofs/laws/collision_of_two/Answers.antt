@@ -12,4 +12,7 @@ pub returns-clause-alone : goal.returns-clause-alone
 returns-clause-alone c text has = has.4.differ (sym (only has.0 has.2) ∙ only has.1 has.3)
   where
     only : (one : List ℕ) → Contains (text ∷ []) one → text ≡ one
-    only one is = ⊎_elim (λ (same : text ≡ one). same) (λ (rest : Contains [] one). absurd (contains-nothing one rest)) (contains-cases text [] one is)
+    only one is =
+        ⊎_elim (λ (same : text ≡ one). same)
+        (λ (rest : Contains [] one). absurd (contains-nothing one rest))
+        (contains-cases text [] one is)

@@ -13,12 +13,18 @@ use Rattle.mst_node.proofs.making.+subtree.Goals.{then-layers-i+in_ok-child+in_o
 
 pub returns-then-is_empty : goal.returns-then-is_empty
 returns-then-is_empty g t c =
-    record { tree = sym (tree-no_pairs c.args.format c.args.pairs.now (grind (arith, nat_tests, c.if-is_empty.ensures))) }
+    record {
+      tree =
+          sym (tree-no_pairs c.args.format c.args.pairs.now
+          (grind (arith, nat_tests, c.if-is_empty.ensures)));
+    }
 
 pub loop-i-init : goal.loop-i-init
 loop-i-init g t c =
     let some : 0 < length c.args.pairs.now = grind (arith, nat_tests, c.if-is_empty.ensures) in
-    let top : c.greatest_of-top.result ≡ greatest (map (λ p. layer_in c.args.format p.0) c.args.pairs.now) = c.greatest_of-top.ensures.greatest ∙ ap greatest c.requires.layers in
+    let top : c.greatest_of-top.result ≡ greatest
+    (map (λ p. layer_in c.args.format p.0) c.args.pairs.now) =
+    c.greatest_of-top.ensures.greatest ∙ ap greatest c.requires.layers in
     record {
       gap = omega arith;
       entries = rw c.new-entries.ensures.items;
@@ -26,31 +32,50 @@ loop-i-init g t c =
     }
 
 pub subtree-requires : goal.subtree-requires
-subtree-requires g t c κs within =
-    (grind (arith, common_steps), (search rules, layers-part (layer_in c.args.format) c.args.pairs.now c.args.layers.now c.loop-i.start c.loop-i.i c.requires.layers))
+subtree-requires g t c κs within = (
+  grind (arith, common_steps),
+  (
+    search rules,
+    layers-part (layer_in c.args.format) c.args.pairs.now c.args.layers.now
+        c.loop-i.start c.loop-i.i c.requires.layers,
+  ),
+)
 
 pub loop-i-preserved : goal.loop-i-preserved
 loop-i-preserved g t c =
     let m = c.args.pairs.now in
     let x = c.index-pairs-i.result in
     let within : c.loop-i.i < length m = omega arith in
-    let place = layer-at (layer_in c.args.format) m c.args.layers.now c.loop-i.i x c.requires.layers within c.index-pairs-i.is in
+    let place = layer-at (layer_in c.args.format) m c.args.layers.now c.loop-i.i x c.requires.layers
+    within c.index-pairs-i.is in
     elim c.if-layers-i.branch [
       | then-layers-i+in_ok-child+in_ok-push w ↦
-          let at : layer_in c.args.format x.0 ≡ c.greatest_of-top.result = sym place ∙ w.if-layers-i.true in
+          let at : layer_in c.args.format x.0 ≡ c.greatest_of-top.result =
+          sym place ∙ w.if-layers-i.true in
           let entry_is : Tree → TreeEntry = λ t. record { child = t; key = x.0; value = x.1 } in
-          let is : tree_entry c.args.format w.entry_of.result ≡ entry_is (tree c.args.format (slice_range m c.loop-i.start c.loop-i.i)) = w.entry_of.ensures.entry c.args.format ∙ ap entry_is w.in_ok-child.ensures.tree in
+          let is : tree_entry c.args.format w.entry_of.result ≡ entry_is
+          (tree c.args.format (slice_range m c.loop-i.start c.loop-i.i)) =
+          w.entry_of.ensures.entry c.args.format ∙ ap entry_is w.in_ok-child.ensures.tree in
           record {
             gap = omega (arith, w.start-is);
-            entries = rw (w.start-is, w.entries-is, w.in_ok-push.ensures.items, map-append) (step_at c.args.format m x c.loop-i.start c.loop-i.i _ (map (tree_entry c.args.format) c.loop-i.entries.items) (tree_entry c.args.format w.entry_of.result) _ within c.index-pairs-i.is at is c.loop-i.invariant.entries);
+            entries = rw (w.start-is, w.entries-is, w.in_ok-push.ensures.items, map-append)
+                (step_at c.args.format m x c.loop-i.start c.loop-i.i _
+                (map (tree_entry c.args.format) c.loop-i.entries.items)
+                (tree_entry c.args.format w.entry_of.result) _ within c.index-pairs-i.is at
+                is c.loop-i.invariant.entries);
             some = λ z. absurd (omega (arith, z, w.start-is));
           }
       | else-layers-i w ↦
-          let other : layer_in c.args.format x.0 ≢ c.greatest_of-top.result = λ e. w.if-layers-i.false (place ∙ e) in
+          let other : layer_in c.args.format x.0 ≢ c.greatest_of-top.result =
+          λ e. w.if-layers-i.false (place ∙ e) in
           record {
             gap = omega (arith, w.start-is);
-            entries = rw (w.start-is, w.entries-is) (step_other c.args.format m x c.loop-i.start c.loop-i.i _ _ _ c.loop-i.invariant.gap within c.index-pairs-i.is other c.loop-i.invariant.entries);
-            some = λ z. some_other c.args.format m x c.loop-i.i _ within c.index-pairs-i.is other (c.loop-i.invariant.some (sym w.start-is ∙ z));
+            entries =
+                rw (w.start-is, w.entries-is)
+                (step_other c.args.format m x c.loop-i.start c.loop-i.i _ _ _ c.loop-i.invariant.gap
+                within c.index-pairs-i.is other c.loop-i.invariant.entries);
+            some = λ z. some_other c.args.format m x c.loop-i.i _ within c.index-pairs-i.is other
+                (c.loop-i.invariant.some (sym w.start-is ∙ z));
           }
     ]
 
@@ -61,8 +86,10 @@ subtree-requires-2 g t c κs within =
       grind (arith, common_steps),
       (
         search rules,
-        ap (λ (n : ℕ). slice_range c.args.layers.now start n) (layers-length (layer_in c.args.format) m c.args.layers.now c.requires.layers)
-            ∙ layers-part (layer_in c.args.format) m c.args.layers.now start (length m) c.requires.layers,
+        ap (λ (n : ℕ). slice_range c.args.layers.now start n)
+            (layers-length (layer_in c.args.format) m c.args.layers.now c.requires.layers)
+            ∙ layers-part (layer_in c.args.format) m c.args.layers.now start (length m)
+            c.requires.layers,
       ),
     )
 
@@ -73,12 +100,17 @@ returns g t c =
     let end : c.loop-i.i ≡ length m = omega arith in
     let xs = map (tree_entry c.args.format) c.loop-i.entries.items in
     let l = c.greatest_of-top.result in
-    let top : l ≡ greatest (map (λ p. layer_in c.args.format p.0) m) = c.greatest_of-top.ensures.greatest ∙ ap greatest c.requires.layers in
+    let top : l ≡ greatest (map (λ p. layer_in c.args.format p.0) m) =
+    c.greatest_of-top.ensures.greatest ∙ ap greatest c.requires.layers in
     record {
       tree = c.in_ok-node_of.ensures.tree c.args.format
-          ∙ ap (λ (t : Tree). node c.args.format l (with_entries xs (last t))) c.in_ok-tail.ensures.tree
-          ∙ ap (node c.args.format l) (last_gap c.args.format m c.loop-i.start c.loop-i.i l xs _ end c.loop-i.invariant.entries)
-          ∙ ap (λ (k : ℕ). node c.args.format k (entries_of (layer_in c.args.format) (tree c.args.format) k [] m)) top
+          ∙ ap (λ (t : Tree). node c.args.format l (with_entries xs (last t)))
+          c.in_ok-tail.ensures.tree
+          ∙ ap (node c.args.format l)
+          (last_gap c.args.format m c.loop-i.start c.loop-i.i l xs _ end
+          c.loop-i.invariant.entries)
+          ∙ ap (λ (k : ℕ). node c.args.format k
+          (entries_of (layer_in c.args.format) (tree c.args.format) k [] m)) top
           ∙ sym (tree_some c.args.format m some);
     }
 

@@ -13,6 +13,8 @@ decreases-subtree g l = length l.pairs.now
 abbrev pub invariant-loop-i : goal.invariant-loop-i
 invariant-loop-i g l = record {
   gap : l.start ≤ l.i;
-  entries : with_entries (map (tree_entry l.format) l.entries.items) (entries_of (layer_in l.format) (tree l.format) l.top (slice_range l.pairs l.start l.i) (drop l.i l.pairs)) ≡ entries_of (layer_in l.format) (tree l.format) l.top [] l.pairs;
+  entries : with_entries (map (tree_entry l.format) l.entries.items)
+      (entries_of (layer_in l.format) (tree l.format) l.top (slice_range l.pairs l.start l.i)
+      (drop l.i l.pairs)) ≡ entries_of (layer_in l.format) (tree l.format) l.top [] l.pairs;
   some : l.start ≡ 0 → Has (layer_in l.format) l.top (drop l.i l.pairs);
 }

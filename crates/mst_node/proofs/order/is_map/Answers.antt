@@ -15,8 +15,10 @@ loop-pair-preserved c =
     let m = c.args.pairs.now in
     let i = c.loop-pair.pair-index in
     let x = c.pair-item.result in
-    let more : take (i + 1) m ≡ take i m ++ x ∷ [] = take_more m i x c.loop-pair-test.true ∙ ap (λ (y : Pair). take i m ++ y ∷ []) (sym c.pair-item.is) in
-    subst (AllByRecursion Fits) (sym more) (all-push Fits (take i m) x c.loop-pair.invariant c.within_limits.ensures.limits)
+    let more : take (i + 1) m ≡ take i m ++ x ∷ [] = take_more m i x c.loop-pair-test.true
+    ∙ ap (λ (y : Pair). take i m ++ y ∷ []) (sym c.pair-item.is) in
+    subst (AllByRecursion Fits) (sym more)
+    (all-push Fits (take i m) x c.loop-pair.invariant c.within_limits.ensures.limits)
 
 pub returns : goal.returns
 returns c =
@@ -25,7 +27,11 @@ returns c =
     let all : take c.loop-pair.pair-index m ≡ m = ap (λ (i : ℕ). take i m) end ∙ take-length m in
     record {
       map = (
-        λ rising. record { ascending = c.ascending.ensures.rising.0 rising; limits = subst (AllByRecursion Fits) all c.loop-pair.invariant },
+        λ rising. record {
+          ascending = c.ascending.ensures.rising.0 rising;
+          limits =
+              subst (AllByRecursion Fits) all c.loop-pair.invariant;
+        },
         λ map. c.ascending.ensures.rising.1 map.ascending,
       );
     }

@@ -4,4 +4,5 @@ use Rattle.mst_node.proofs.reading.behind.Given as goal
 
 -- what lies behind the entries to come lies behind all
 abbrev pub invariant-loop : goal.invariant-loop
-invariant-loop l = behind_at l.format (l.count - l.counter) l.rest ≡ behind_at l.format l.count l.bytes
+invariant-loop l = behind_at l.format (l.count - l.counter) l.rest ≡ behind_at l.format l.count
+    l.bytes

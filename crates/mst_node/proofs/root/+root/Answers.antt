@@ -11,15 +11,30 @@ use Rattle.mst_node.proofs.root.+root.Goals as goal
 use Rattle.mst_node.proofs.root.+root.Goals.{digest_of-then-layer-top, digest_of-else-layer-top}
 
 pub digest_of-overflow_cast-top : goal.digest_of-overflow_cast-top
-digest_of-overflow_cast-top t c = omega (arith, c.requires.few, c.requires.top.count, at_layer-le (layer_in c.args.format) c.args.top.layer c.args.pairs.now)
+digest_of-overflow_cast-top t c =
+    omega (
+      arith,
+      c.requires.few,
+      c.requires.top.count,
+      at_layer-le (layer_in c.args.format)
+          c.args.top.layer c.args.pairs.now,
+    )
 
 pub digest_of-loop-i-init : goal.digest_of-loop-i-init
 digest_of-loop-i-init t c =
     record {
       within = omega arith;
-      some = λ _. rw c.requires.top.layer (has_some (layer_in c.args.format) c.args.pairs.now c.requires.some);
+      some =
+          λ _. rw c.requires.top.layer
+          (has_some (layer_in c.args.format) c.args.pairs.now c.requires.some);
       gap_top = c.none-gap.ensures.top c.args.format;
-      fed = (heading c.args.format c.args.top.layer c.args.top.count, c.heading.ensures.heading [] c.new-hasher.ensures, sym (text_some c.args.format c.args.pairs.now c.args.top.layer c.args.top.count c.requires.some c.requires.top.layer c.requires.top.count));
+      fed = (
+        heading c.args.format c.args.top.layer c.args.top.count,
+        c.heading.ensures.heading
+            [] c.new-hasher.ensures,
+        sym (text_some c.args.format c.args.pairs.now c.args.top.layer c.args.top.count
+            c.requires.some c.requires.top.layer c.requires.top.count),
+      );
     }
 
 pub digest_of-with-gap-requires : goal.digest_of-with-gap-requires
@@ -27,7 +42,19 @@ digest_of-with-gap-requires t c =
     let start = c.loop-i.start in
     let i = c.loop-i.i in
     let rest = drop start c.args.pairs.now in
-    record { few = omega (arith, c.requires.few, c.loop-i.invariant.gap_top.count, at_layer-le (layer_in c.args.format) c.loop-i.gap.layer (take (i - start) rest), length-take (i - start) rest, length-drop start c.args.pairs.now) }
+    record {
+      few =
+          omega (
+            arith,
+            c.requires.few,
+            c.loop-i.invariant.gap_top.count,
+            at_layer-le
+                (layer_in c.args.format) c.loop-i.gap.layer (take (i - start) rest),
+            length-take (i - start)
+                rest,
+            length-drop start c.args.pairs.now,
+          );
+    }
 
 pub digest_of-loop-i-preserved : goal.digest_of-loop-i-preserved
 digest_of-loop-i-preserved t c =
@@ -39,21 +66,50 @@ digest_of-loop-i-preserved t c =
     let front = c.loop-i.invariant.fed.0 in
     elim c.if-layer-top.branch [
       | digest_of-then-layer-top w ↦
-          let at : layer_in c.args.format x.0 ≡ c.args.top.layer = sym c.layer_in-layer.ensures.layer ∙ w.if-layer-top.true in
+          let at : layer_in c.args.format x.0 ≡ c.args.top.layer =
+          sym c.layer_in-layer.ensures.layer ∙ w.if-layer-top.true in
           let held = w.entry.ensures.entry front c.loop-i.invariant.fed.1 in
           record {
             within = omega (arith, w.start-is);
             some = λ z. absurd (omega (arith, z, w.start-is));
-            gap_top = rw (w.start-is, w.gap-is, gap_none m (i + 1)) (w.none-gap-then-layer-top.ensures.top c.args.format);
-            fed = rw (w.start-is, w.hasher-is) (_, held, text_at c.args.format m x start i c.args.top.layer front _ w.gap_digest-child.result _ _ within c.index-pairs-i.is at w.gap_digest-child.ensures.digest (ap counted w.bytes.ensures.bytes) (ap (λ v. held_text c.args.format (held_of c.args.format v)) w.bytes-then-layer-top.ensures.bytes) c.loop-i.invariant.fed.2);
+            gap_top = rw (w.start-is, w.gap-is, gap_none m (i + 1))
+                (w.none-gap-then-layer-top.ensures.top c.args.format);
+            fed =
+                rw (w.start-is, w.hasher-is) (
+                  _,
+                  held,
+                  text_at c.args.format m x start i c.args.top.layer front _
+                      w.gap_digest-child.result _ _ within c.index-pairs-i.is at
+                      w.gap_digest-child.ensures.digest (ap counted w.bytes.ensures.bytes)
+                      (ap (λ v. held_text c.args.format (held_of c.args.format v))
+                      w.bytes-then-layer-top.ensures.bytes) c.loop-i.invariant.fed.2,
+                );
           }
       | digest_of-else-layer-top w ↦
-          let other : layer_in c.args.format x.0 ≢ c.args.top.layer = λ e. w.if-layer-top.false (c.layer_in-layer.ensures.layer ∙ e) in
+          let other : layer_in c.args.format x.0 ≢ c.args.top.layer =
+          λ e. w.if-layer-top.false (c.layer_in-layer.ensures.layer ∙ e) in
           record {
             within = omega (arith, w.start-is);
-            some = λ z. some_other c.args.format m x i _ within c.index-pairs-i.is other (c.loop-i.invariant.some (sym w.start-is ∙ z));
-            gap_top = rw (w.start-is, w.gap-is, gap_more m start i x c.loop-i.invariant.within within c.index-pairs-i.is) (w.with-gap.ensures.top c.args.format (slice_range m start i) x c.loop-i.invariant.gap_top (sym c.layer_in-layer.ensures.layer));
-            fed = rw (w.start-is, w.hasher-is) (front, c.loop-i.invariant.fed.1, text_other c.args.format m x start i c.args.top.layer front _ c.loop-i.invariant.within within c.index-pairs-i.is other c.loop-i.invariant.fed.2);
+            some = λ z. some_other c.args.format m x i _ within c.index-pairs-i.is other
+                (c.loop-i.invariant.some (sym w.start-is ∙ z));
+            gap_top =
+                rw (
+                  w.start-is,
+                  w.gap-is,
+                  gap_more m start i x c.loop-i.invariant.within within
+                      c.index-pairs-i.is,
+                )
+                (w.with-gap.ensures.top c.args.format (slice_range m start i) x
+                c.loop-i.invariant.gap_top (sym c.layer_in-layer.ensures.layer));
+            fed =
+                rw (w.start-is, w.hasher-is) (
+                  front,
+                  c.loop-i.invariant.fed.1,
+                  text_other c.args.format m x start i
+                      c.args.top.layer front _ c.loop-i.invariant.within within c.index-pairs-i.is
+                      other
+                      c.loop-i.invariant.fed.2,
+                );
           }
     ]
 
@@ -63,7 +119,12 @@ digest_of-returns t c =
     let end : c.loop-i.i ≡ length m = omega arith in
     let front = c.loop-i.invariant.fed.0 in
     let sum = c.finalize.ensures _ (c.child.ensures.child front c.loop-i.invariant.fed.1) in
-    record { digest = sum ∙ ap sha256 (text_end c.args.format m c.loop-i.start c.loop-i.i c.args.top.layer front _ c.gap_digest.result end c.gap_digest.ensures.digest c.loop-i.invariant.fed.2) }
+    record {
+      digest =
+          sum ∙ ap sha256 (text_end c.args.format m c.loop-i.start c.loop-i.i c.args.top.layer front
+          _
+          c.gap_digest.result end c.gap_digest.ensures.digest c.loop-i.invariant.fed.2);
+    }
 
 pub gap_digest-returns-then-is_empty : goal.gap_digest-returns-then-is_empty
 gap_digest-returns-then-is_empty t c =
@@ -73,4 +134,7 @@ gap_digest-returns-then-is_empty t c =
 pub gap_digest-returns-else-is_empty : goal.gap_digest-returns-else-is_empty
 gap_digest-returns-else-is_empty t c =
     let some : 0 < length c.args.pairs.now = grind (arith, nat_tests, c.if-is_empty.ensures) in
-    record { digest = ap (λ (d : List ℕ). Some d) c.digest_of.ensures.digest ∙ sym (child_digest_some c.args.format c.args.pairs.now some) }
+    record {
+      digest = ap (λ (d : List ℕ). Some d) c.digest_of.ensures.digest
+          ∙ sym (child_digest_some c.args.format c.args.pairs.now some);
+    }

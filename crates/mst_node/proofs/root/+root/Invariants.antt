@@ -22,5 +22,8 @@ invariant-digest_of-loop-i l = record {
   within : l.start ≤ l.i;
   some : l.start ≡ 0 → Has (layer_in l.format) l.top.layer (drop l.i l.pairs);
   gap_top : IsTop l.format (slice_range l.pairs l.start l.i) l.gap;
-  fed : (front : List ℕ) × Holds256 l.hasher front × (front ++ entries_text l.format (entries_of (layer_in l.format) (tree l.format) l.top.layer (slice_range l.pairs l.start l.i) (drop l.i l.pairs)) ≡ text (tree l.format l.pairs));
+  fed : (front : List ℕ) × Holds256 l.hasher front
+      × (front ++ entries_text l.format
+      (entries_of (layer_in l.format) (tree l.format) l.top.layer (slice_range l.pairs l.start l.i)
+      (drop l.i l.pairs)) ≡ text (tree l.format l.pairs));
 }

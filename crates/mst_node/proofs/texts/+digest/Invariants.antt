@@ -10,4 +10,6 @@ use Rattle.mst_node.proofs.texts.+digest.Given as goal
 abbrev pub invariant-node_digest-loop-entry : goal.invariant-node_digest-loop-entry
 invariant-node_digest-loop-entry g l =
     let n = out-Node g.row.A.Denot l.node in
-    Holds256 l.hasher (heading l.format n.layer (length n.entries.items) ++ flat_map (text_of_entry l.format) (take l.entry-index n.entries.items))
+    Holds256 l.hasher
+    (heading l.format n.layer (length n.entries.items) ++ flat_map (text_of_entry l.format)
+    (take l.entry-index n.entries.items))

@@ -10,4 +10,5 @@ use Rattle.mst_node.proofs.texts.text_in.Given as goal
 abbrev pub invariant-loop-entry : goal.invariant-loop-entry
 invariant-loop-entry g l =
     let n = out-Node g.row.A.Denot l.node in
-    IfSome l.out (λ bytes. bytes ≡ heading l.format n.layer (length n.entries.items) ++ flat_map (text_of_entry l.format) (take l.entry-index n.entries.items))
+    IfSome l.out (λ bytes. bytes ≡ heading l.format n.layer (length n.entries.items) ++ flat_map
+    (text_of_entry l.format) (take l.entry-index n.entries.items))

@@ -15,8 +15,10 @@ returns-clause-moves g c =
     let t = ahead c.copy.new.self.next in
     let taken = moves_takes a b t c.copy.ensures.takes in
     let old : IsOld b c.args.row = old_stays a b t [] taken c.args.row c.requires.old refl in
-    let killed = subst (λ (s : State). Moves b s [] (c.args.row ∷ [])) (sym c.kill.ensures.dead) (moves_kill b c.args.row old.0 old.1 old.2) in
-    subst (λ (ns : List ℕ). Moves a c.kill.new.self ns (c.args.row ∷ [])) (append-nil t) (moves_then a b c.kill.new.self t [] [] (c.args.row ∷ []) taken killed)
+    let killed = subst (λ (s : State). Moves b s [] (c.args.row ∷ [])) (sym c.kill.ensures.dead)
+    (moves_kill b c.args.row old.0 old.1 old.2) in
+    subst (λ (ns : List ℕ). Moves a c.kill.new.self ns (c.args.row ∷ [])) (append-nil t)
+    (moves_then a b c.kill.new.self t [] [] (c.args.row ∷ []) taken killed)
 
 pub copy-requires-clause-writer : goal.copy-requires-clause-writer
 copy-requires-clause-writer g c = search rules
@@ -49,7 +51,8 @@ pub returns-clause-writer : goal.returns-clause-writer
 returns-clause-writer g c = search rules
 
 pub returns-clause-written : goal.returns-clause-written
-returns-clause-written g c format es p r v next has_value w root has out = c.copy.ensures.written format es p r v next has_value w root has out
+returns-clause-written g c format es p r v next has_value w root has out =
+    c.copy.ensures.written format es p r v next has_value w root has out
 
 pub returns-clause-node : goal.returns-clause-node
 returns-clause-node g c = search rules

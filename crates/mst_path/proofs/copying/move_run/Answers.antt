@@ -28,45 +28,79 @@ loop-init g c = record {
 
 -- ---- the next entry
 
-module _ (g : Over) (c : goal.In-loop g) (format : Format) (k : Copying format c.args.writer.now (g.R.Rows.content c.args.rows.now) c.args.desk.now c.args.from c.args.count) where
-  next : Next format k c.loop.counter c.loop.writer (g.R.Rows.content c.loop.rows) c.loop.desk c.loop.link (c.loop.invariant.progress format k)
+module _ (g : Over) (c : goal.In-loop g) (format : Format)
+    (k : Copying format c.args.writer.now (g.R.Rows.content c.args.rows.now) c.args.desk.now
+    c.args.from c.args.count) where
+  next : Next format k c.loop.counter c.loop.writer (g.R.Rows.content c.loop.rows) c.loop.desk
+      c.loop.link (c.loop.invariant.progress format k)
   next = some_left format k (c.loop.invariant.progress format k) c.loop-test.true
 
 pub overflow_sub-row : goal.overflow_sub-row
 overflow_sub-row g c =
     let format = c.requires.copying.0 in
-    omega (arith, link_is format c.requires.copying.1 (next g (goal.at.overflow_sub-row g c).In-loop format c.requires.copying.1))
+    omega (
+      arith,
+      link_is format c.requires.copying.1
+          (next g (goal.at.overflow_sub-row g c).In-loop format c.requires.copying.1),
+    )
 
 pub entry-entry-requires : goal.entry-entry-requires
 entry-entry-requires g c =
     let format = c.requires.copying.0 in
-    record { there = links_there _ _ _ _ _ (row_there format c.requires.copying.1 (next g (goal.at.entry-entry-requires g c).In-loop format c.requires.copying.1)) }
+    record {
+      there =
+          links_there _ _ _ _ _
+          (row_there format c.requires.copying.1
+          (next g (goal.at.entry-entry-requires g c).In-loop format c.requires.copying.1));
+    }
 
 -- ---- it is read
 
-module _ (g : Over) (c : goal.After-entry-entry g) (format : Format) (k : Copying format c.args.writer.now (g.R.Rows.content c.args.rows.now) c.args.desk.now c.args.from c.args.count) (n : Next format k c.loop.counter c.loop.writer (g.R.Rows.content c.loop.rows) c.loop.desk c.loop.link (c.loop.invariant.progress format k)) where
-  links : (c.entry-entry.result.child ≡ link_of n.entry.child) × (c.entry-entry.result.next ≡ link_from k.behind n.more) × (c.entry-entry.result.key ≡ n.entry.key)
-  links = links_are _ c.entry-entry.result _ _ _ _ (row_there format k n) c.entry-entry.ensures.value
+module _ (g : Over) (c : goal.After-entry-entry g) (format : Format)
+    (k : Copying format c.args.writer.now (g.R.Rows.content c.args.rows.now) c.args.desk.now
+    c.args.from c.args.count)
+    (n : Next format k c.loop.counter c.loop.writer (g.R.Rows.content c.loop.rows) c.loop.desk
+    c.loop.link (c.loop.invariant.progress format k)) where
+  links : (c.entry-entry.result.child ≡ link_of n.entry.child)
+      × (c.entry-entry.result.next ≡ link_from k.behind n.more)
+      × (c.entry-entry.result.key ≡ n.entry.key)
+  links = links_are _ c.entry-entry.result _ _ _ _ (row_there format k n)
+      c.entry-entry.ensures.value
 
   child_there : HasRows (g.R.Rows.content c.entry-entry.new.self) (rows_of format n.entry.child)
-  child_there = subst (λ (x : Content). HasRows x (rows_of format n.entry.child)) (sym (ap g.R.Rows.content c.entry-entry.ensures.same)) (next_run format k n).gaps.0.rows
+  child_there = subst (λ (x : Content). HasRows x (rows_of format n.entry.child))
+      (sym (ap g.R.Rows.content c.entry-entry.ensures.same)) (next_run format k n).gaps.0.rows
 
 pub root_at-child-requires : goal.root_at-child-requires
 root_at-child-requires g c =
     let format = c.requires.copying.0 in
     let at = goal.at.root_at-child-requires g c in
     let n = next g at.In-loop format c.requires.copying.1 in
-    record { stands = (format, n.entry.child, sym (links g at.After-entry-entry format c.requires.copying.1 n).0, child_there g at.After-entry-entry format c.requires.copying.1 n) }
+    record {
+      stands = (
+        format,
+        n.entry.child,
+        sym (links g at.After-entry-entry format c.requires.copying.1 n).0,
+        child_there g at.After-entry-entry format c.requires.copying.1 n,
+      );
+    }
 
-module _ (g : Over) (c : goal.After-root_at-child g) (format : Format) (k : Copying format c.args.writer.now (g.R.Rows.content c.args.rows.now) c.args.desk.now c.args.from c.args.count) (n : Next format k c.loop.counter c.loop.writer (g.R.Rows.content c.loop.rows) c.loop.desk c.loop.link (c.loop.invariant.progress format k)) where
-  child_root : c.entry-entry.result.child ≡ link_of n.entry.child → HasRows (g.R.Rows.content c.entry-entry.new.self) (rows_of format n.entry.child) → IsRootOf format n.entry.child c.root_at-child.result
+module _ (g : Over) (c : goal.After-root_at-child g) (format : Format)
+    (k : Copying format c.args.writer.now (g.R.Rows.content c.args.rows.now) c.args.desk.now
+    c.args.from c.args.count)
+    (n : Next format k c.loop.counter c.loop.writer (g.R.Rows.content c.loop.rows) c.loop.desk
+    c.loop.link (c.loop.invariant.progress format k)) where
+  child_root : c.entry-entry.result.child ≡ link_of n.entry.child
+      → HasRows (g.R.Rows.content c.entry-entry.new.self) (rows_of format n.entry.child)
+      → IsRootOf format n.entry.child c.root_at-child.result
   child_root link there = c.root_at-child.ensures.root format n.entry.child (sym link) there
 
 pub move_entry-requires-clause-writer : goal.move_entry-requires-clause-writer
 move_entry-requires-clause-writer g c = c.loop.invariant.writer
 
 pub move_entry-requires-clause-some : goal.move_entry-requires-clause-some
-move_entry-requires-clause-some g c = omega (arith, c.loop.invariant.left, c.requires.left, c.loop-test.true)
+move_entry-requires-clause-some g c =
+    omega (arith, c.loop.invariant.left, c.requires.left, c.loop-test.true)
 
 pub move_entry-requires-clause-room : goal.move_entry-requires-clause-room
 move_entry-requires-clause-room g c = λ more. omega (arith, c.loop.invariant.room, more)
@@ -75,7 +109,10 @@ pub move_entry-requires-clause-few : goal.move_entry-requires-clause-few
 move_entry-requires-clause-few g c = c.loop.invariant.few
 
 pub move_entry-requires-clause-blank : goal.move_entry-requires-clause-blank
-move_entry-requires-clause-blank g c = subst (λ (b : ℕ → Bool). IfSome c.loop.writer.next (λ r. IsTrue (b r))) (sym (ap g.R.Rows.blank (c.root_at-child.ensures.same ∙ c.entry-entry.ensures.same))) c.loop.invariant.next
+move_entry-requires-clause-blank g c =
+    subst (λ (b : ℕ → Bool). IfSome c.loop.writer.next (λ r. IsTrue (b r)))
+    (sym (ap g.R.Rows.blank (c.root_at-child.ensures.same ∙ c.entry-entry.ensures.same)))
+    c.loop.invariant.next
 
 pub move_entry-requires-clause-child : goal.move_entry-requires-clause-child
 move_entry-requires-clause-child g c =
@@ -83,51 +120,94 @@ move_entry-requires-clause-child g c =
     let k = c.requires.copying.1 in
     let at = goal.at.move_entry-requires-clause-child g c in
     let child = next g at.In-loop format k in
-    let root = child_root g at.After-root_at-child format k child (links g at.After-entry-entry format k child).0 (child_there g at.After-entry-entry format k child) in
-    omega (arith, root.link, small_link c.loop.desk child.entry.child (λ r i. old_alive c.loop.desk r ((next_run format k child).gaps.0.old r i)) c.loop.invariant.few)
+    let root = child_root g at.After-root_at-child format k child
+    (links g at.After-entry-entry format k child).0
+    (child_there g at.After-entry-entry format k child) in
+    omega (
+      arith,
+      root.link,
+      small_link c.loop.desk child.entry.child
+          (λ r i. old_alive c.loop.desk r ((next_run format k child).gaps.0.old r i))
+          c.loop.invariant.few,
+    )
 
 pub move_entry-requires-clause-old : goal.move_entry-requires-clause-old
 move_entry-requires-clause-old g c =
     let format = c.requires.copying.0 in
-    row_old format c.requires.copying.1 (next g (goal.at.move_entry-requires-clause-old g c).In-loop format c.requires.copying.1)
+    row_old format c.requires.copying.1
+    (next g (goal.at.move_entry-requires-clause-old g c).In-loop format c.requires.copying.1)
 
 pub loop-preserved : goal.loop-preserved
 loop-preserved g c =
     let same = c.root_at-child.ensures.same ∙ c.entry-entry.ensures.same in
-    let content : g.R.Rows.content c.root_at-child.new.rows ≡ g.R.Rows.content c.loop.rows = ap g.R.Rows.content same in
+    let content : g.R.Rows.content c.root_at-child.new.rows ≡ g.R.Rows.content c.loop.rows =
+    ap g.R.Rows.content same in
     let moves = c.move_entry.ensures.moves in
-    let blank : g.R.Rows.blank c.move_entry.new.rows ≡ g.R.Rows.blank c.loop.rows = c.move_entry.ensures.blank ∙ ap g.R.Rows.blank same in
+    let blank : g.R.Rows.blank c.move_entry.new.rows ≡ g.R.Rows.blank c.loop.rows =
+    c.move_entry.ensures.blank ∙ ap g.R.Rows.blank same in
     record {
       writer = c.move_entry.ensures.writer;
       left = omega (arith, c.move_entry.ensures.node.2, c.loop.invariant.left);
-      node = (c.move_entry.ensures.node.0 ∙ c.loop.invariant.node.0, c.move_entry.ensures.node.1 ∙ c.loop.invariant.node.1, c.move_entry.ensures.node.3 ∙ c.loop.invariant.node.2);
-      room = omega (arith, moves.room, c.move_entry.ensures.node.2, c.loop.invariant.room, one_ahead c.move_entry.new.writer.next);
+      node = (
+        c.move_entry.ensures.node.0 ∙ c.loop.invariant.node.0,
+        c.move_entry.ensures.node.1
+            ∙ c.loop.invariant.node.1,
+        c.move_entry.ensures.node.3 ∙ c.loop.invariant.node.2,
+      );
+      room =
+          omega (
+            arith,
+            moves.room,
+            c.move_entry.ensures.node.2,
+            c.loop.invariant.room,
+            one_ahead c.move_entry.new.writer.next,
+          );
       few = omega (arith, moves.rows, c.loop.invariant.few);
       same = blank ∙ c.loop.invariant.same;
       kept = c.move_entry.ensures.kept ∙ ap g.R.Rows.kept same ∙ c.loop.invariant.kept;
-      next = subst (λ (b : ℕ → Bool). IfSome c.move_entry.new.writer.next (λ r. IsTrue (b r))) (sym blank)
-          (blank_ahead c.move_entry.new.writer (g.R.Rows.blank c.loop.rows) (blank_taken c.loop.desk c.move_entry.new.desk (ahead c.move_entry.new.writer.next) _ moves (g.R.Rows.blank c.loop.rows) c.loop.invariant.free));
-      free = subst (FreeIsBlank c.move_entry.new.desk.lives) (sym blank) (blank_free c.loop.desk c.move_entry.new.desk (ahead c.move_entry.new.writer.next) _ moves (g.R.Rows.blank c.loop.rows) c.loop.invariant.free);
+      next = subst (λ (b : ℕ → Bool). IfSome c.move_entry.new.writer.next (λ r. IsTrue (b r)))
+          (sym blank)
+          (blank_ahead c.move_entry.new.writer (g.R.Rows.blank c.loop.rows)
+          (blank_taken c.loop.desk c.move_entry.new.desk (ahead c.move_entry.new.writer.next) _
+          moves (g.R.Rows.blank c.loop.rows) c.loop.invariant.free));
+      free = subst (FreeIsBlank c.move_entry.new.desk.lives) (sym blank)
+          (blank_free c.loop.desk c.move_entry.new.desk (ahead c.move_entry.new.writer.next) _ moves
+          (g.R.Rows.blank c.loop.rows) c.loop.invariant.free);
       progress = λ format k.
           let at = goal.at.loop-preserved g c in
           let n = next g at.In-loop format k in
           let read = links g at.After-entry-entry format k n in
-          let root = child_root g at.After-root_at-child format k n read.0 (child_there g at.After-entry-entry format k n) in
-          let row = next_some c.loop.writer.next c.loop.writer.left c.loop.invariant.writer.reserved (omega (arith, c.loop.invariant.left, c.requires.left, c.loop-test.true)) in
+          let root = child_root g at.After-root_at-child format k n read.0
+          (child_there g at.After-entry-entry format k n) in
+          let row = next_some c.loop.writer.next c.loop.writer.left c.loop.invariant.writer.reserved
+          (omega (arith, c.loop.invariant.left, c.requires.left, c.loop-test.true)) in
           let before = (c.loop.invariant.progress format k).copied in
           let child = (next_run format k n).gaps.0 in
           let ws = k.ws ++ before.copies in
-          let written = c.move_entry.ensures.written format ws n.entry.child row.0 n.entry.value row.1
-          (value_there _ _ _ _ _ (ap (λ (x : Content). x (c.loop.link - 1)) content ∙ row_there format k n))
-          (subst (λ (x : Content). IsWritten format c.loop.writer x ws) (sym content) before.going.written)
+          let written = c.move_entry.ensures.written format ws n.entry.child row.0 n.entry.value
+          row.1
+          (value_there _ _ _ _ _
+          (ap (λ (x : Content). x (c.loop.link - 1)) content ∙ row_there format k n))
+          (subst (λ (x : Content). IsWritten format c.loop.writer x ws) (sym content)
+          before.going.written)
           root
-          (subst (λ (x : Content). HasRows x (rows_of format n.entry.child)) (sym content) child.rows)
-          (row_out format c.loop.writer (g.R.Rows.content c.loop.rows) c.loop.desk ws n.entry.child row.0 before.going row.1 child.old) in
-          let stepped = steps format k n c.move_entry.new.writer (g.R.Rows.content c.move_entry.new.rows) c.move_entry.new.desk row.0 row.1
-          (subst (λ (r : ℕ). Moves c.loop.desk c.move_entry.new.desk (ahead c.move_entry.new.writer.next) (r ∷ [])) (link_less format k n) moves)
-          (subst (λ (x : Content). KeepsBut (ahead c.loop.writer.next) x (g.R.Rows.content c.move_entry.new.rows)) content c.move_entry.ensures.keeps)
-          (subst (λ (key : List ℕ). IsWritten format c.move_entry.new.writer (g.R.Rows.content c.move_entry.new.rows) (ws ++ record { at = row.0; child = n.entry.child; key = key; value = n.entry.value } ∷ [])) read.2 written) in
-          subst (λ (l : ℕ). Progress format k (c.loop.counter + 1) c.move_entry.new.writer (g.R.Rows.content c.move_entry.new.rows) c.move_entry.new.desk l) (sym read.1) stepped;
+          (subst (λ (x : Content). HasRows x (rows_of format n.entry.child)) (sym content)
+          child.rows)
+          (row_out format c.loop.writer (g.R.Rows.content c.loop.rows) c.loop.desk ws n.entry.child
+          row.0 before.going row.1 child.old) in
+          let stepped = steps format k n c.move_entry.new.writer
+          (g.R.Rows.content c.move_entry.new.rows) c.move_entry.new.desk row.0 row.1
+          (subst (λ (r : ℕ). Moves c.loop.desk c.move_entry.new.desk
+          (ahead c.move_entry.new.writer.next) (r ∷ [])) (link_less format k n) moves)
+          (subst (λ (x : Content). KeepsBut (ahead c.loop.writer.next) x
+          (g.R.Rows.content c.move_entry.new.rows)) content c.move_entry.ensures.keeps)
+          (subst (λ (key : List ℕ). IsWritten format c.move_entry.new.writer
+          (g.R.Rows.content c.move_entry.new.rows)
+          (ws ++ record { at = row.0; child = n.entry.child; key = key; value = n.entry.value }
+          ∷ [])) read.2 written) in
+          subst (λ (l : ℕ). Progress format k (c.loop.counter + 1) c.move_entry.new.writer
+          (g.R.Rows.content c.move_entry.new.rows) c.move_entry.new.desk l) (sym read.1)
+          stepped;
     }
 
 -- ---- all are copied
@@ -136,10 +216,16 @@ pub returns-clause-writer : goal.returns-clause-writer
 returns-clause-writer g c = c.loop.invariant.writer
 
 pub returns-clause-copied : goal.returns-clause-copied
-returns-clause-copied g c = λ format k. ends format k (c.loop.invariant.progress format k) (omega (arith, c.loop-test.false, c.loop.auto.counter-end))
+returns-clause-copied g c = λ format k. ends format k (c.loop.invariant.progress format k)
+    (omega (arith, c.loop-test.false, c.loop.auto.counter-end))
 
 pub returns-clause-node : goal.returns-clause-node
-returns-clause-node g c = (c.loop.invariant.node.0, c.loop.invariant.node.1, omega (arith, c.loop.invariant.left, c.loop-test.false, c.loop.auto.counter-end), c.loop.invariant.node.2)
+returns-clause-node g c = (
+  c.loop.invariant.node.0,
+  c.loop.invariant.node.1,
+  omega (arith, c.loop.invariant.left, c.loop-test.false, c.loop.auto.counter-end),
+  c.loop.invariant.node.2,
+)
 
 pub returns-clause-blank : goal.returns-clause-blank
 returns-clause-blank g c = c.loop.invariant.same
@@ -154,4 +240,7 @@ pub move_entry-requires-clause-value : goal.move_entry-requires-clause-value
 move_entry-requires-clause-value g c = search rules
 
 pub move_entry-requires-clause-entry : goal.move_entry-requires-clause-entry
-move_entry-requires-clause-entry g c = subst (λ (x : Content). part_at entry_links x (c.loop.link - 1) ≡ Some c.entry-entry.result) (sym (ap g.R.Rows.content (c.root_at-child.ensures.same ∙ c.entry-entry.ensures.same))) c.entry-entry.ensures.value
+move_entry-requires-clause-entry g c =
+    subst (λ (x : Content). part_at entry_links x (c.loop.link - 1) ≡ Some c.entry-entry.result)
+    (sym (ap g.R.Rows.content (c.root_at-child.ensures.same ∙ c.entry-entry.ensures.same)))
+    c.entry-entry.ensures.value

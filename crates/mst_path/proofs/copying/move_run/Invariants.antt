@@ -11,12 +11,15 @@ abbrev pub invariant-loop : goal.invariant-loop
 invariant-loop g l = record {
   writer : IsWriter l.writer;
   left : l.writer.left + l.counter ≡ l.fn.writer.left;
-  node : (l.writer.layer ≡ l.fn.writer.layer) × (l.writer.count ≡ l.fn.writer.count) × (l.writer.head ≡ l.fn.writer.head);
+  node : (l.writer.layer ≡ l.fn.writer.layer) × (l.writer.count ≡ l.fn.writer.count)
+      × (l.writer.head ≡ l.fn.writer.head);
   room : l.writer.left ≤ free_count l.desk.lives + 1;
   few : length l.desk.lives ≤ 65535;
   same : g.R.Rows.blank l.rows ≡ g.R.Rows.blank l.fn.rows;
   kept : g.R.Rows.kept l.rows ≡ g.R.Rows.kept l.fn.rows;
   next : IfSome l.writer.next (λ r. IsTrue (g.R.Rows.blank l.rows r));
   free : FreeIsBlank l.desk.lives (g.R.Rows.blank l.rows);
-  progress : (format : Format) (k : Copying format l.fn.writer (g.R.Rows.content l.fn.rows) l.fn.desk l.fn.from l.fn.count) → Progress format k l.counter l.writer (g.R.Rows.content l.rows) l.desk l.link;
+  progress : (format : Format)
+      (k : Copying format l.fn.writer (g.R.Rows.content l.fn.rows) l.fn.desk l.fn.from l.fn.count)
+      → Progress format k l.counter l.writer (g.R.Rows.content l.rows) l.desk l.link;
 }

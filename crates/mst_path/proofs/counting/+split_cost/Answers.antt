@@ -18,7 +18,16 @@ use Rattle.mst_path.proofs.counting.+split_cost.Goals as goal
 pub top_step-requires : goal.top_step-requires
 top_step-requires g t c =
     let format = c.requires.tree.0 in
-    record { tree = (format, c.requires.tree.1, search_of format (g.R.Rows.content c.args.rows.now) c.requires.tree.1 c.args.link c.args.key.now c.requires.tree.2); some = positive c.args.link c.if-link-eq0.false }
+    record {
+      tree = (
+        format,
+        c.requires.tree.1,
+        search_of format (g.R.Rows.content c.args.rows.now)
+            c.requires.tree.1 c.args.link c.args.key.now c.requires.tree.2,
+      );
+      some =
+          positive c.args.link c.if-link-eq0.false;
+    }
 
 pub unreachable-requires : goal.unreachable-requires
 unreachable-requires g t c =
@@ -26,14 +35,24 @@ unreachable-requires g t c =
     let C = g.R.Rows.content c.args.rows.now in
     let s = c.requires.tree.1 in
     let z = search_of format C s c.args.link c.args.key.now c.requires.tree.2 in
-    let here : OpensEntry format C s c.args.link z c.args.key.now c.in_default.field-0 = subst (IsOpened format C s c.args.link z c.args.key.now) c.in_default.is (c.top_step.ensures.opened format s z) in
+    let here : OpensEntry format C s c.args.link z c.args.key.now c.in_default.field-0 =
+    subst (IsOpened format C s c.args.link z c.args.key.now) c.in_default.is
+    (c.top_step.ensures.opened format s z) in
     no_entry format C s c.args.link c.args.key.now c.requires.tree.2 c.in_default.field-0 here
 
 -- ---- the key falls into a gap
 
-module _ (g : Over) (n : ℕ) (c : goal.In-Down g n) (format : Format) (s : State) (z : ToSplit format (g.R.Rows.content c.args.rows.now) s c.args.link c.args.key.now) where
-  opened : OpensGap format (g.R.Rows.content c.args.rows.now) s c.args.link (search_of format (g.R.Rows.content c.args.rows.now) s c.args.link c.args.key.now z) c.args.key.now c.in-Down.child c.in-Down.frame
-  opened = subst (IsOpened format (g.R.Rows.content c.args.rows.now) s c.args.link (search_of format (g.R.Rows.content c.args.rows.now) s c.args.link c.args.key.now z) c.args.key.now) c.in-Down.is (c.top_step.ensures.opened format s (search_of format (g.R.Rows.content c.args.rows.now) s c.args.link c.args.key.now z))
+module _ (g : Over) (n : ℕ) (c : goal.In-Down g n) (format : Format) (s : State)
+    (z : ToSplit format (g.R.Rows.content c.args.rows.now) s c.args.link c.args.key.now) where
+  opened : OpensGap format (g.R.Rows.content c.args.rows.now) s c.args.link
+      (search_of format (g.R.Rows.content c.args.rows.now) s c.args.link c.args.key.now z)
+      c.args.key.now c.in-Down.child c.in-Down.frame
+  opened =
+      subst (IsOpened format (g.R.Rows.content c.args.rows.now) s c.args.link
+      (search_of format (g.R.Rows.content c.args.rows.now) s c.args.link c.args.key.now z)
+      c.args.key.now) c.in-Down.is
+      (c.top_step.ensures.opened format s
+      (search_of format (g.R.Rows.content c.args.rows.now) s c.args.link c.args.key.now z))
 
 pub split_cost-inner-requires : goal.split_cost-inner-requires
 split_cost-inner-requires g t c κs within =
@@ -43,61 +62,157 @@ split_cost-inner-requires g t c κs within =
     let z = c.requires.tree.2 in
     let o = opened g t (goal.at.split_cost-inner-requires g t c).In-Down format s z in
     let same = ap g.R.Rows.content c.top_step.ensures.same in
-    let less = split_falls format C s c.args.link c.args.key.now z c.in-Down.child c.in-Down.frame o in
-    let falls = subst (λ (x : Content). height_at x c.in-Down.child < height_at C c.args.link) (sym same) less in (
+    let less = split_falls format C s c.args.link c.args.key.now z c.in-Down.child c.in-Down.frame o
+    in
+    let falls = subst (λ (x : Content). height_at x c.in-Down.child < height_at C c.args.link)
+    (sym same) less in (
       omega (arith, c.decreases, falls),
-      (search rules, subst (λ (x : Content). (f : Format) × (q : State) × (y : ToSplit f x q c.in-Down.child c.args.key.now) × (split_rows c.args.key.now (tree_of f y.tree.placed) ≤ 4294967295)) (sym same) (format, s, split_inner format C s c.args.link c.args.key.now z c.in-Down.child c.in-Down.frame o, omega (arith, c.requires.tree.3, rows_are format C s c.args.link c.args.key.now z c.in-Down.child c.in-Down.frame o))),
+      (
+        search rules,
+        subst (λ (x : Content). (f : Format) × (q : State)
+            × (y : ToSplit f x q c.in-Down.child c.args.key.now)
+            × (split_rows c.args.key.now (tree_of f y.tree.placed) ≤ 4294967295)) (sym same) (
+              format,
+              s,
+              split_inner format C s c.args.link c.args.key.now z c.in-Down.child
+                  c.in-Down.frame o,
+              omega (
+                arith,
+                c.requires.tree.3,
+                rows_are format C s c.args.link c.args.key.now z
+                    c.in-Down.child c.in-Down.frame o,
+              ),
+            ),
+      ),
     )
 
 -- ---- what the gap costs is known
 
-module _ (g : Over) (n : ℕ) (c : goal.After-is_no_side-none_above g n) (format : Format) (s : State) (z : ToSplit format (g.R.Rows.content c.args.rows.now) s c.args.link c.args.key.now) (o : OpensGap format (g.R.Rows.content c.args.rows.now) s c.args.link (search_of format (g.R.Rows.content c.args.rows.now) s c.args.link c.args.key.now z) c.args.key.now c.in-Down.child c.in-Down.frame) where
+module _ (g : Over) (n : ℕ) (c : goal.After-is_no_side-none_above g n) (format : Format) (s : State)
+    (z : ToSplit format (g.R.Rows.content c.args.rows.now) s c.args.link c.args.key.now)
+    (o : OpensGap format (g.R.Rows.content c.args.rows.now) s c.args.link
+    (search_of format (g.R.Rows.content c.args.rows.now) s c.args.link c.args.key.now z)
+    c.args.key.now c.in-Down.child c.in-Down.frame) where
   abbrev inner : ToSplit format (g.R.Rows.content c.args.rows.now) s c.in-Down.child c.args.key.now
-  inner = split_inner format (g.R.Rows.content c.args.rows.now) s c.args.link c.args.key.now z c.in-Down.child c.in-Down.frame o
+  inner = split_inner format (g.R.Rows.content c.args.rows.now) s c.args.link c.args.key.now z
+      c.in-Down.child c.in-Down.frame o
 
-  none_below : c.is_no_side-none_below.result ≡ is_empty (below c.args.key.now (tree_of format z.tree.placed))
+  none_below : c.is_no_side-none_below.result ≡ is_empty
+      (below c.args.key.now (tree_of format z.tree.placed))
   none_below =
-      let inside = subst (λ (x : Content). (q : State) (y : ToSplit format x q c.in-Down.child c.args.key.now) → c.split_cost-inner.result.none_below ≡ is_empty (below c.args.key.now (tree_of format y.tree.placed))) (ap g.R.Rows.content c.top_step.ensures.same) (c.split_cost-inner.ensures.below format) s inner in
-      c.is_no_side-none_below.ensures.none ∙ ap (λ (b : Bool). (c.in-Down.frame.front.count == 0) && b) inside ∙ sym (below_is format (g.R.Rows.content c.args.rows.now) s c.args.link c.args.key.now z c.in-Down.child c.in-Down.frame o)
+      let inside =
+      subst (λ (x : Content). (q : State)
+      (y : ToSplit format x q c.in-Down.child c.args.key.now)
+      → c.split_cost-inner.result.none_below ≡ is_empty
+      (below c.args.key.now (tree_of format y.tree.placed)))
+      (ap g.R.Rows.content c.top_step.ensures.same) (c.split_cost-inner.ensures.below format) s
+      inner in
+      c.is_no_side-none_below.ensures.none
+      ∙ ap (λ (b : Bool). (c.in-Down.frame.front.count == 0) && b) inside
+      ∙ sym (below_is format (g.R.Rows.content c.args.rows.now) s c.args.link c.args.key.now z
+      c.in-Down.child c.in-Down.frame o)
 
-  none_above : c.is_no_side-none_above.result ≡ is_empty (above c.args.key.now (tree_of format z.tree.placed))
+  none_above : c.is_no_side-none_above.result ≡ is_empty
+      (above c.args.key.now (tree_of format z.tree.placed))
   none_above =
-      let inside = subst (λ (x : Content). (q : State) (y : ToSplit format x q c.in-Down.child c.args.key.now) → c.split_cost-inner.result.none_above ≡ is_empty (above c.args.key.now (tree_of format y.tree.placed))) (ap g.R.Rows.content c.top_step.ensures.same) (c.split_cost-inner.ensures.above format) s inner in
-      c.is_no_side-none_above.ensures.none ∙ ap (λ (b : Bool). (c.in-Down.frame.back.count == 0) && b) inside ∙ sym (above_is format (g.R.Rows.content c.args.rows.now) s c.args.link c.args.key.now z c.in-Down.child c.in-Down.frame o)
+      let inside =
+      subst (λ (x : Content). (q : State)
+      (y : ToSplit format x q c.in-Down.child c.args.key.now)
+      → c.split_cost-inner.result.none_above ≡ is_empty
+      (above c.args.key.now (tree_of format y.tree.placed)))
+      (ap g.R.Rows.content c.top_step.ensures.same) (c.split_cost-inner.ensures.above format) s
+      inner in
+      c.is_no_side-none_above.ensures.none
+      ∙ ap (λ (b : Bool). (c.in-Down.frame.back.count == 0) && b) inside
+      ∙ sym (above_is format (g.R.Rows.content c.args.rows.now) s c.args.link c.args.key.now z
+      c.in-Down.child c.in-Down.frame o)
 
-  counted : side_rows c.in-Down.frame.front.count c.is_no_side-none_above.result + side_rows c.in-Down.frame.back.count c.is_no_side-none_below.result + c.split_cost-inner.result.rows ≡ split_rows c.args.key.now (tree_of format z.tree.placed)
+  counted : side_rows c.in-Down.frame.front.count c.is_no_side-none_above.result + side_rows
+      c.in-Down.frame.back.count c.is_no_side-none_below.result + c.split_cost-inner.result.rows
+      ≡ split_rows c.args.key.now (tree_of format z.tree.placed)
   counted =
-      let rows = subst (λ (x : Content). (q : State) (y : ToSplit format x q c.in-Down.child c.args.key.now) → c.split_cost-inner.result.rows ≡ split_rows c.args.key.now (tree_of format y.tree.placed)) (ap g.R.Rows.content c.top_step.ensures.same) (c.split_cost-inner.ensures.rows format) s inner in
-      omega (arith, rows, rows_counted format (g.R.Rows.content c.args.rows.now) s c.args.link c.args.key.now z c.in-Down.child c.in-Down.frame o c.is_no_side-none_below.result c.is_no_side-none_above.result none_below none_above)
+      let rows =
+      subst (λ (x : Content). (q : State)
+      (y : ToSplit format x q c.in-Down.child c.args.key.now) → c.split_cost-inner.result.rows
+      ≡ split_rows c.args.key.now (tree_of format y.tree.placed))
+      (ap g.R.Rows.content c.top_step.ensures.same) (c.split_cost-inner.ensures.rows format) s
+      inner in
+      omega (
+        arith,
+        rows,
+        rows_counted format (g.R.Rows.content c.args.rows.now) s c.args.link
+            c.args.key.now z c.in-Down.child c.in-Down.frame o c.is_no_side-none_below.result
+            c.is_no_side-none_above.result none_below none_above,
+      )
 
 pub side_cost-lower-requires : goal.side_cost-lower-requires
 side_cost-lower-requires g t c =
     let format = c.requires.tree.0 in
     let at = goal.at.side_cost-lower-requires g t c in
-    record { few = omega (arith, c.requires.tree.3, counted g t at.After-is_no_side-none_above format c.requires.tree.1 c.requires.tree.2 (opened g t at.In-Down format c.requires.tree.1 c.requires.tree.2)) }
+    record {
+      few =
+          omega (
+            arith,
+            c.requires.tree.3,
+            counted g t at.After-is_no_side-none_above format
+                c.requires.tree.1 c.requires.tree.2
+                (opened g t at.In-Down format c.requires.tree.1 c.requires.tree.2),
+          );
+    }
 
 pub side_cost-upper-requires : goal.side_cost-upper-requires
 side_cost-upper-requires g t c =
     let format = c.requires.tree.0 in
     let at = goal.at.side_cost-upper-requires g t c in
-    record { few = omega (arith, c.requires.tree.3, counted g t at.After-is_no_side-none_above format c.requires.tree.1 c.requires.tree.2 (opened g t at.In-Down format c.requires.tree.1 c.requires.tree.2)) }
+    record {
+      few =
+          omega (
+            arith,
+            c.requires.tree.3,
+            counted g t at.After-is_no_side-none_above format
+                c.requires.tree.1 c.requires.tree.2
+                (opened g t at.In-Down format c.requires.tree.1 c.requires.tree.2),
+          );
+    }
 
 pub overflow_add-result : goal.overflow_add-result
 overflow_add-result g t c =
     let format = c.requires.tree.0 in
     let at = goal.at.overflow_add-result g t c in
-    omega (arith, c.requires.tree.3, counted g t at.After-is_no_side-none_above format c.requires.tree.1 c.requires.tree.2 (opened g t at.In-Down format c.requires.tree.1 c.requires.tree.2), c.side_cost-lower.ensures.rows, c.side_cost-upper.ensures.rows)
+    omega (
+      arith,
+      c.requires.tree.3,
+      counted g t at.After-is_no_side-none_above format
+          c.requires.tree.1 c.requires.tree.2
+          (opened g t at.In-Down format c.requires.tree.1 c.requires.tree.2),
+      c.side_cost-lower.ensures.rows,
+      c.side_cost-upper.ensures.rows,
+    )
 
 pub overflow_add-result-2 : goal.overflow_add-result-2
 overflow_add-result-2 g t c =
     let format = c.requires.tree.0 in
     let at = goal.at.overflow_add-result-2 g t c in
-    omega (arith, c.requires.tree.3, counted g t at.After-is_no_side-none_above format c.requires.tree.1 c.requires.tree.2 (opened g t at.In-Down format c.requires.tree.1 c.requires.tree.2), c.side_cost-lower.ensures.rows, c.side_cost-upper.ensures.rows)
+    omega (
+      arith,
+      c.requires.tree.3,
+      counted g t at.After-is_no_side-none_above format
+          c.requires.tree.1 c.requires.tree.2
+          (opened g t at.In-Down format c.requires.tree.1 c.requires.tree.2),
+      c.side_cost-lower.ensures.rows,
+      c.side_cost-upper.ensures.rows,
+    )
 
 pub returns-clause-rows : goal.returns-clause-rows
 returns-clause-rows g t c = λ format s z.
     let at = goal.at.returns-clause-rows g t c in
-    omega (arith, counted g t at.After-is_no_side-none_above format s z (opened g t at.In-Down format s z), c.side_cost-lower.ensures.rows, c.side_cost-upper.ensures.rows)
+    omega (
+      arith,
+      counted g t at.After-is_no_side-none_above format s z
+          (opened g t at.In-Down format s z),
+      c.side_cost-lower.ensures.rows,
+      c.side_cost-upper.ensures.rows,
+    )
 
 pub returns-clause-below : goal.returns-clause-below
 returns-clause-below g t c = λ format s z.
@@ -113,12 +228,15 @@ returns-clause-above g t c = λ format s z.
 
 pub returns-then-link-eq0-clause-rows : goal.returns-then-link-eq0-clause-rows
 returns-then-link-eq0-clause-rows g t c = λ format s z.
-    sym (none_rows format (g.R.Rows.content c.args.rows.now) s c.args.link c.args.key.now z c.if-link-eq0.true)
+    sym (none_rows format (g.R.Rows.content c.args.rows.now) s c.args.link c.args.key.now z
+    c.if-link-eq0.true)
 
 pub returns-then-link-eq0-clause-below : goal.returns-then-link-eq0-clause-below
 returns-then-link-eq0-clause-below g t c = λ format s z.
-    sym (no_below format (g.R.Rows.content c.args.rows.now) s c.args.link c.args.key.now z c.if-link-eq0.true)
+    sym (no_below format (g.R.Rows.content c.args.rows.now) s c.args.link c.args.key.now z
+    c.if-link-eq0.true)
 
 pub returns-then-link-eq0-clause-above : goal.returns-then-link-eq0-clause-above
 returns-then-link-eq0-clause-above g t c = λ format s z.
-    sym (no_above format (g.R.Rows.content c.args.rows.now) s c.args.link c.args.key.now z c.if-link-eq0.true)
+    sym (no_above format (g.R.Rows.content c.args.rows.now) s c.args.link c.args.key.now z
+    c.if-link-eq0.true)

@@ -13,5 +13,7 @@ decreases-fell_at g l = height_at (g.R.Rows.content l.rows.now) l.link
 abbrev pub invariant-loop : goal.invariant-loop
 invariant-loop g l = record {
   same : l.rows ≡ l.fn.rows;
-  felling : (t : ToFell (g.R.Rows.content l.fn.rows) l.fn.desk l.fn.link) → Felling t.format (g.R.Rows.content l.fn.rows) l.fn.desk l.desk l.head.layer (used t.placed) l.head.tail l.next l.counter l.head.count;
+  felling : (t : ToFell (g.R.Rows.content l.fn.rows) l.fn.desk l.fn.link) → Felling t.format
+      (g.R.Rows.content l.fn.rows) l.fn.desk l.desk l.head.layer (used t.placed) l.head.tail l.next
+      l.counter l.head.count;
 }

@@ -24,8 +24,17 @@ cut_at-requires g t c =
     let s = c.requires.tree.1 in
     let z = c.requires.tree.2 in
     let some = positive c.args.link c.if-link-eq0.false in
-    let o = top format content s c.args.link z c.args.key.now c.head-head.result some c.head-head.ensures.value in
-    record { lies = subst (λ (x : Content). (es : List PlacedEntry) × EntriesLie x c.head-head.result es) (sym (ap g.R.Rows.content c.head-head.ensures.same)) (o.entries, lies format content s c.args.link z c.args.key.now c.head-head.result some c.head-head.ensures.value) }
+    let o = top format content s c.args.link z c.args.key.now c.head-head.result some
+    c.head-head.ensures.value in
+    record {
+      lies =
+          subst (λ (x : Content). (es : List PlacedEntry) × EntriesLie x c.head-head.result es)
+          (sym (ap g.R.Rows.content c.head-head.ensures.same)) (
+            o.entries,
+            lies format content s c.args.link z c.args.key.now c.head-head.result some
+                c.head-head.ensures.value,
+          );
+    }
 
 -- ---- the key falls into a gap
 
@@ -33,10 +42,17 @@ module _ (g : Over) (n : ℕ) (c : goal.In-Gap g n) where
   gap_rows : g.R.Rows.content c.cut_at.new.rows ≡ g.R.Rows.content c.args.rows.now
   gap_rows = ap g.R.Rows.content (c.cut_at.ensures.same ∙ c.head-head.ensures.same)
 
-  below : (format : Format) (s : State) (z : SearchTree format (g.R.Rows.content c.args.rows.now) s c.args.link) → IsAscending (pairs (tree_of format z.placed)) → FindsBelow format (g.R.Rows.content c.args.rows.now) s c.args.link z c.args.key.now c.in-Gap.child
+  below : (format : Format) (s : State)
+      (z : SearchTree format (g.R.Rows.content c.args.rows.now) s c.args.link)
+      → IsAscending (pairs (tree_of format z.placed)) → FindsBelow format
+      (g.R.Rows.content c.args.rows.now) s c.args.link z c.args.key.now c.in-Gap.child
   below format s z rise =
-      finds_below format (g.R.Rows.content c.args.rows.now) s c.args.link z c.args.key.now c.head-head.result (positive c.args.link c.if-link-eq0.false) c.head-head.ensures.value rise c.in-Gap.front c.in-Gap.back c.in-Gap.child
-      (cut_top format (g.R.Rows.content c.args.rows.now) s c.args.link z c.args.key.now c.head-head.result (positive c.args.link c.if-link-eq0.false) c.head-head.ensures.value (ap g.R.Rows.content c.head-head.ensures.same) (c.cut_at.ensures.cut format) c.in-Gap.is)
+      finds_below format (g.R.Rows.content c.args.rows.now) s c.args.link z c.args.key.now
+      c.head-head.result (positive c.args.link c.if-link-eq0.false) c.head-head.ensures.value
+      rise c.in-Gap.front c.in-Gap.back c.in-Gap.child
+      (cut_top format (g.R.Rows.content c.args.rows.now) s c.args.link z c.args.key.now
+      c.head-head.result (positive c.args.link c.if-link-eq0.false) c.head-head.ensures.value
+      (ap g.R.Rows.content c.head-head.ensures.same) (c.cut_at.ensures.cut format) c.in-Gap.is)
 
 pub find-requires : goal.find-requires
 find-requires g t c κs within =
@@ -44,16 +60,27 @@ find-requires g t c κs within =
     let at = (goal.at.find-requires g t c).In-Gap in
     let lower = below g t at format c.requires.tree.1 c.requires.tree.2 c.requires.tree.3 in
     let same = gap_rows g t at in
-    let falls = subst (λ (x : Content). height_at x c.in-Gap.child < height_at (g.R.Rows.content c.args.rows.now) c.args.link) (sym same) lower.falls in (
+    let falls =
+    subst (λ (x : Content). height_at x c.in-Gap.child < height_at
+    (g.R.Rows.content c.args.rows.now) c.args.link) (sym same) lower.falls in (
       omega (arith, c.decreases, falls),
-      (search rules, subst (λ (x : Content). (f : Format) × (q : State) × (y : SearchTree f x q c.in-Gap.child) × IsAscending (pairs (tree_of f y.placed))) (sym same) (format, c.requires.tree.1, lower.inner, lower.rise)),
+      (
+        search rules,
+        subst (λ (x : Content). (f : Format) × (q : State) × (y : SearchTree f x q c.in-Gap.child)
+            × IsAscending (pairs (tree_of f y.placed))) (sym same)
+            (format, c.requires.tree.1, lower.inner, lower.rise),
+      ),
     )
 
 pub returns-in-Gap-clause-found : goal.returns-in-Gap-clause-found
 returns-in-Gap-clause-found g t c = λ format s z rise.
     let at = (goal.at.returns-in-Gap-clause-found g t c).In-Gap in
     let lower = below g t at format s z rise in
-    let found = subst (λ (x : Content). (q : State) (y : SearchTree format x q c.in-Gap.child) → IsAscending (pairs (tree_of format y.placed)) → c.find.result ≡ map_get (pairs (tree_of format y.placed)) c.args.key.now) (gap_rows g t at) (c.find.ensures.found format) s lower.inner lower.rise in
+    let found =
+    subst (λ (x : Content). (q : State) (y : SearchTree format x q c.in-Gap.child)
+    → IsAscending (pairs (tree_of format y.placed)) → c.find.result ≡ map_get
+    (pairs (tree_of format y.placed)) c.args.key.now) (gap_rows g t at)
+    (c.find.ensures.found format) s lower.inner lower.rise in
     found ∙ sym lower.same
 
 -- ---- the key's entry is held
@@ -62,21 +89,34 @@ module _ (g : Over) (n : ℕ) (c : goal.In-Held g n) where
   held_rows : g.R.Rows.content c.cut_at.new.rows ≡ g.R.Rows.content c.args.rows.now
   held_rows = ap g.R.Rows.content (c.cut_at.ensures.same ∙ c.head-head.ensures.same)
 
-  here : (format : Format) (s : State) (z : SearchTree format (g.R.Rows.content c.args.rows.now) s c.args.link) → IsAscending (pairs (tree_of format z.placed)) → FindsHere format (g.R.Rows.content c.args.rows.now) s c.args.link z c.args.key.now c.in-Held.row
+  here : (format : Format) (s : State)
+      (z : SearchTree format (g.R.Rows.content c.args.rows.now) s c.args.link)
+      → IsAscending (pairs (tree_of format z.placed)) → FindsHere format
+      (g.R.Rows.content c.args.rows.now) s c.args.link z c.args.key.now c.in-Held.row
   here format s z rise =
-      finds_here format (g.R.Rows.content c.args.rows.now) s c.args.link z c.args.key.now c.head-head.result (positive c.args.link c.if-link-eq0.false) c.head-head.ensures.value rise c.in-Held.front c.in-Held.back c.in-Held.row c.in-Held.child
-      (cut_top format (g.R.Rows.content c.args.rows.now) s c.args.link z c.args.key.now c.head-head.result (positive c.args.link c.if-link-eq0.false) c.head-head.ensures.value (ap g.R.Rows.content c.head-head.ensures.same) (c.cut_at.ensures.cut format) c.in-Held.is)
+      finds_here format (g.R.Rows.content c.args.rows.now) s c.args.link z c.args.key.now
+      c.head-head.result (positive c.args.link c.if-link-eq0.false) c.head-head.ensures.value
+      rise c.in-Held.front c.in-Held.back c.in-Held.row c.in-Held.child
+      (cut_top format (g.R.Rows.content c.args.rows.now) s c.args.link z c.args.key.now
+      c.head-head.result (positive c.args.link c.if-link-eq0.false) c.head-head.ensures.value
+      (ap g.R.Rows.content c.head-head.ensures.same) (c.cut_at.ensures.cut format) c.in-Held.is)
 
 pub value-requires : goal.value-requires
 value-requires g t c =
     let format = c.requires.tree.0 in
     let at = (goal.at.value-requires g t c).In-Held in
     let found = here g t at format c.requires.tree.1 c.requires.tree.2 c.requires.tree.3 in
-    record { there = subst (λ (x : Content). IsSome (part_at entry_value x c.in-Held.row)) (sym (held_rows g t at)) (some_value (g.R.Rows.content c.args.rows.now) c.in-Held.row found.value found.there) }
+    record {
+      there = subst (λ (x : Content). IsSome (part_at entry_value x c.in-Held.row))
+          (sym (held_rows g t at))
+          (some_value (g.R.Rows.content c.args.rows.now) c.in-Held.row found.value found.there);
+    }
 
 pub returns-in-Held-clause-found : goal.returns-in-Held-clause-found
 returns-in-Held-clause-found g t c = λ format s z rise.
     let at = (goal.at.returns-in-Held-clause-found g t c).In-Held in
     let found = here g t at format s z rise in
-    let read : part_at entry_value (g.R.Rows.content c.args.rows.now) c.in-Held.row ≡ Some c.value.result = ap (λ (x : Content). part_at entry_value x c.in-Held.row) (sym (held_rows g t at)) ∙ c.value.ensures.value in
+    let read : part_at entry_value (g.R.Rows.content c.args.rows.now) c.in-Held.row ≡ Some
+    c.value.result = ap (λ (x : Content). part_at entry_value x c.in-Held.row)
+    (sym (held_rows g t at)) ∙ c.value.ensures.value in
     sym read ∙ found.there ∙ sym found.same

@@ -16,16 +16,30 @@ use Rattle.mst_path.proofs.insertion.put.Goals as goal
 
 pub find-old-requires : goal.find-old-requires
 find-old-requires g c =
-    record { tree = (c.args.format, c.args.desk.now, search_at c.args.format (g.R.Rows.content c.args.rows.now) c.args.desk.now c.args.root.now c.requires.stands.0 c.requires.stands.1 c.requires.stands.2, rises c.args.format (g.R.Rows.content c.args.rows.now) c.args.root.now c.requires.stands.0 c.requires.stands.1) }
+    record {
+      tree = (
+        c.args.format,
+        c.args.desk.now,
+        search_at c.args.format (g.R.Rows.content c.args.rows.now)
+            c.args.desk.now c.args.root.now c.requires.stands.0 c.requires.stands.1
+            c.requires.stands.2,
+        rises c.args.format (g.R.Rows.content c.args.rows.now) c.args.root.now c.requires.stands.0
+            c.requires.stands.1,
+      );
+    }
 
 -- ---- the value that the key had
 
 module _ (g : Over) (c : goal.After-find-old g) where
-  found : (m : List Pair) → Stands c.args.format (g.R.Rows.content c.args.rows.now) c.args.root.now m → map_get m c.args.key.now ≡ c.find-old.result
-  found = says c.args.format (g.R.Rows.content c.args.rows.now) c.args.desk.now c.args.root.now c.args.key.now c.requires.stands c.find-old.result (rw c.new-sought.ensures.key at (c.find-old.ensures.found c.args.format))
+  found : (m : List Pair) → Stands c.args.format (g.R.Rows.content c.args.rows.now) c.args.root.now
+      m → map_get m c.args.key.now ≡ c.find-old.result
+  found = says c.args.format (g.R.Rows.content c.args.rows.now) c.args.desk.now c.args.root.now
+      c.args.key.now c.requires.stands c.find-old.result
+      (rw c.new-sought.ensures.key at (c.find-old.ensures.found c.args.format))
 
 pub returns-then-is_same-clause-value : goal.returns-then-is_same-clause-value
-returns-then-is_same-clause-value g c m st = sym (found g (goal.at.returns-then-is_same-clause-value g c).After-find-old m st)
+returns-then-is_same-clause-value g c m st =
+    sym (found g (goal.at.returns-then-is_same-clause-value g c).After-find-old m st)
 
 pub returns-clause-value : goal.returns-clause-value
 returns-clause-value g c m st = sym (found g (goal.at.returns-clause-value g c).After-find-old m st)
@@ -33,82 +47,176 @@ returns-clause-value g c m st = sym (found g (goal.at.returns-clause-value g c).
 pub returns-clause-same_value : goal.returns-clause-same_value
 returns-clause-same_value g c m st same =
     let had = found g (goal.at.returns-clause-same_value g c).After-find-old m st in
-    absurd (true≢false (sym (ap (λ o. is_same o c.args.value.now) (sym had ∙ same) ∙ same_found c.args.value.now) ∙ sym c.is_same.ensures.same ∙ c.if-is_same.false))
+    absurd (true≢false
+    (sym (ap (λ o. is_same o c.args.value.now) (sym had ∙ same) ∙ same_found c.args.value.now)
+    ∙ sym c.is_same.ensures.same ∙ c.if-is_same.false))
 
 -- ---- the key has this value
 
-module _ (g : Over) (c : goal.After-find-old g) (same : is_same c.find-old.result c.args.value.now ≡ true) where
-  nothing : AfterPut c.args.format (g.R.Rows.content c.args.rows.now) (g.R.Rows.content c.find-old.new.rows) c.args.desk.now c.args.desk.now c.args.root.now c.args.root.now c.args.key.now c.args.value.now
+module _ (g : Over) (c : goal.After-find-old g)
+    (same : is_same c.find-old.result c.args.value.now ≡ true) where
+  nothing : AfterPut c.args.format (g.R.Rows.content c.args.rows.now)
+      (g.R.Rows.content c.find-old.new.rows) c.args.desk.now c.args.desk.now c.args.root.now
+      c.args.root.now c.args.key.now c.args.value.now
   nothing =
-      subst (λ (x : Content). AfterPut c.args.format (g.R.Rows.content c.args.rows.now) x c.args.desk.now c.args.desk.now c.args.root.now c.args.root.now c.args.key.now c.args.value.now) (sym (ap g.R.Rows.content c.find-old.ensures.same))
-      (after_same c.args.format (g.R.Rows.content c.args.rows.now) c.args.desk.now c.args.root.now c.args.key.now c.args.value.now c.within_limits.ensures.key c.within_limits.ensures.value c.requires.stands c.find-old.result (found g c) same)
+      subst (λ (x : Content). AfterPut c.args.format (g.R.Rows.content c.args.rows.now) x
+      c.args.desk.now c.args.desk.now c.args.root.now c.args.root.now c.args.key.now
+      c.args.value.now) (sym (ap g.R.Rows.content c.find-old.ensures.same))
+      (after_same c.args.format (g.R.Rows.content c.args.rows.now) c.args.desk.now c.args.root.now
+      c.args.key.now c.args.value.now c.within_limits.ensures.key c.within_limits.ensures.value
+      c.requires.stands c.find-old.result (found g c) same)
 
 pub returns-then-is_same-clause-stands : goal.returns-then-is_same-clause-stands
-returns-then-is_same-clause-stands g c = (nothing g (goal.at.returns-then-is_same-clause-stands g c).After-find-old (sym c.is_same.ensures.same ∙ c.if-is_same.true)).stands
+returns-then-is_same-clause-stands g c =
+    (nothing g (goal.at.returns-then-is_same-clause-stands g c).After-find-old
+    (sym c.is_same.ensures.same ∙ c.if-is_same.true)).stands
 
 pub returns-then-is_same-clause-cost : goal.returns-then-is_same-clause-cost
-returns-then-is_same-clause-cost g c = (nothing g (goal.at.returns-then-is_same-clause-cost g c).After-find-old (sym c.is_same.ensures.same ∙ c.if-is_same.true)).counted
+returns-then-is_same-clause-cost g c =
+    (nothing g (goal.at.returns-then-is_same-clause-cost g c).After-find-old
+    (sym c.is_same.ensures.same ∙ c.if-is_same.true)).counted
 
 pub returns-then-is_same-clause-changes : goal.returns-then-is_same-clause-changes
-returns-then-is_same-clause-changes g c = (nothing g (goal.at.returns-then-is_same-clause-changes g c).After-find-old (sym c.is_same.ensures.same ∙ c.if-is_same.true)).changes
+returns-then-is_same-clause-changes g c =
+    (nothing g (goal.at.returns-then-is_same-clause-changes g c).After-find-old
+    (sym c.is_same.ensures.same ∙ c.if-is_same.true)).changes
 
 pub returns-then-is_same-clause-made : goal.returns-then-is_same-clause-made
-returns-then-is_same-clause-made g c = (nothing g (goal.at.returns-then-is_same-clause-made g c).After-find-old (sym c.is_same.ensures.same ∙ c.if-is_same.true)).made
+returns-then-is_same-clause-made g c =
+    (nothing g (goal.at.returns-then-is_same-clause-made g c).After-find-old
+    (sym c.is_same.ensures.same ∙ c.if-is_same.true)).made
 
 -- ---- the room
 
 pub put_cost-requires : goal.put_cost-requires
 put_cost-requires g c =
     let one = c.requires.stands in
-    let few = few_new c.args.format (g.R.Rows.content c.args.rows.now) c.args.desk.now c.args.root.now one.0 one.1 c.args.key.now c.args.value.now one.2 c.layer_in-layer.result c.free-free.ensures.few in
-    record { tree = rw (sym c.new-sought.ensures.key) at (subst (λ (x : Content). (f : Format) × (q : State) × (t : RisingTree f x q c.args.root.now.link) × (w : List ℕ) × (pair_rows f t c.layer_in-layer.result c.args.key.now w ≤ 4294967295) × (c.layer_in-layer.result ≡ layer_in f c.args.key.now)) (sym (ap g.R.Rows.content c.find-old.ensures.same)) (c.args.format, c.args.desk.now, rising_at c.args.format (g.R.Rows.content c.args.rows.now) c.args.desk.now c.args.root.now one.0 one.1 c.args.key.now c.args.value.now one.2, c.args.value.now, omega (arith, few), c.layer_in-layer.ensures.layer)) }
+    let few = few_new c.args.format (g.R.Rows.content c.args.rows.now) c.args.desk.now
+    c.args.root.now one.0 one.1 c.args.key.now c.args.value.now one.2 c.layer_in-layer.result
+    c.free-free.ensures.few in
+    record {
+      tree =
+          rw (sym c.new-sought.ensures.key) at
+          (subst (λ (x : Content). (f : Format) × (q : State)
+          × (t : RisingTree f x q c.args.root.now.link) × (w : List ℕ)
+          × (pair_rows f t c.layer_in-layer.result c.args.key.now w ≤ 4294967295)
+          × (c.layer_in-layer.result ≡ layer_in f c.args.key.now))
+          (sym (ap g.R.Rows.content c.find-old.ensures.same)) (
+            c.args.format,
+            c.args.desk.now,
+            rising_at c.args.format (g.R.Rows.content c.args.rows.now)
+                c.args.desk.now c.args.root.now one.0 one.1 c.args.key.now c.args.value.now one.2,
+            c.args.value.now,
+            omega (arith, few),
+            c.layer_in-layer.ensures.layer,
+          ));
+    }
 
-module _ (g : Over) (c : goal.After-put_cost g) (m : List Pair) (st : Stands c.args.format (g.R.Rows.content c.args.rows.now) c.args.root.now m) (old : AreOld c.args.desk.now (numbers st)) where
-  abbrev tree : RisingTree c.args.format (g.R.Rows.content c.args.rows.now) c.args.desk.now c.args.root.now.link
-  tree = rising_at c.args.format (g.R.Rows.content c.args.rows.now) c.args.desk.now c.args.root.now m st c.args.key.now c.args.value.now old
+module _ (g : Over) (c : goal.After-put_cost g) (m : List Pair)
+    (st : Stands c.args.format (g.R.Rows.content c.args.rows.now) c.args.root.now m)
+    (old : AreOld c.args.desk.now (numbers st)) where
+  abbrev tree : RisingTree c.args.format (g.R.Rows.content c.args.rows.now) c.args.desk.now
+      c.args.root.now.link
+  tree = rising_at c.args.format (g.R.Rows.content c.args.rows.now) c.args.desk.now c.args.root.now
+      m st c.args.key.now c.args.value.now old
 
-  counted : c.put_cost.result ≡ pair_rows c.args.format tree c.layer_in-layer.result c.args.key.now c.args.value.now
-  counted = subst (λ (x : Content). (q : State) (t : RisingTree c.args.format x q c.args.root.now.link) (w : List ℕ) → c.layer_in-layer.result ≡ layer_in c.args.format c.args.key.now → c.put_cost.result ≡ pair_rows c.args.format t c.layer_in-layer.result c.args.key.now w) (ap g.R.Rows.content c.find-old.ensures.same) (rw c.new-sought.ensures.key at (c.put_cost.ensures.cost c.args.format)) c.args.desk.now tree c.args.value.now c.layer_in-layer.ensures.layer
+  counted : c.put_cost.result ≡ pair_rows c.args.format tree c.layer_in-layer.result c.args.key.now
+      c.args.value.now
+  counted =
+      subst (λ (x : Content). (q : State) (t : RisingTree c.args.format x q c.args.root.now.link)
+      (w : List ℕ) → c.layer_in-layer.result ≡ layer_in c.args.format c.args.key.now
+      → c.put_cost.result ≡ pair_rows c.args.format t c.layer_in-layer.result c.args.key.now w)
+      (ap g.R.Rows.content c.find-old.ensures.same)
+      (rw c.new-sought.ensures.key at (c.put_cost.ensures.cost c.args.format)) c.args.desk.now tree
+      c.args.value.now c.layer_in-layer.ensures.layer
 
 pub returns-then-put_cost-free-clause-no_room :
     goal.returns-then-put_cost-free-clause-no_room
 returns-then-put_cost-free-clause-no_room g c m st =
     let at = goal.at.returns-then-put_cost-free-clause-no_room g c in
-    let old = any_old c.args.format (g.R.Rows.content c.args.rows.now) c.args.desk.now c.args.root.now c.requires.stands m st in
-    let layer = ap (λ (n : ℕ). pair_rows c.args.format (tree g at.After-put_cost m st old) n c.args.key.now c.args.value.now) c.layer_in-layer.ensures.layer in
-    let cost = cost_other c.args.format (g.R.Rows.content c.args.rows.now) c.args.desk.now c.args.root.now m st c.args.key.now c.args.value.now c.find-old.result (found g at.After-find-old m st) (sym c.is_same.ensures.same ∙ c.if-is_same.false) in
-    omega (arith, counted g at.After-put_cost m st old, layer, cost, c.free-free.ensures.count, c.if-put_cost-free.true)
+    let old = any_old c.args.format (g.R.Rows.content c.args.rows.now) c.args.desk.now
+    c.args.root.now c.requires.stands m st in
+    let layer =
+    ap (λ (n : ℕ). pair_rows c.args.format (tree g at.After-put_cost m st old) n c.args.key.now
+    c.args.value.now) c.layer_in-layer.ensures.layer in
+    let cost = cost_other c.args.format (g.R.Rows.content c.args.rows.now) c.args.desk.now
+    c.args.root.now m st c.args.key.now c.args.value.now c.find-old.result
+    (found g at.After-find-old m st) (sym c.is_same.ensures.same ∙ c.if-is_same.false) in
+    omega (
+      arith,
+      counted g at.After-put_cost m st old,
+      layer,
+      cost,
+      c.free-free.ensures.count,
+      c.if-put_cost-free.true,
+    )
 
 pub put_at-new-requires-clause-tree : goal.put_at-new-requires-clause-tree
 put_at-new-requires-clause-tree g c =
     let at = (goal.at.put_at-new-requires-clause-tree g c).After-put_cost in
-    rw (sym c.new-sought.ensures.key) at (subst (λ (x : Content). (t : RisingTree c.args.format x c.args.desk.now c.args.root.now.link) × (pair_rows c.args.format t c.layer_in-layer.result c.args.key.now c.args.value.now ≤ free_count c.args.desk.now.lives)) (sym (ap g.R.Rows.content (c.put_cost.ensures.same ∙ c.find-old.ensures.same))) (tree g at c.requires.stands.0 c.requires.stands.1 c.requires.stands.2, omega (arith, counted g at c.requires.stands.0 c.requires.stands.1 c.requires.stands.2, c.free-free.ensures.count, c.if-put_cost-free.false)))
+    rw (sym c.new-sought.ensures.key) at
+    (subst (λ (x : Content).
+    (t : RisingTree c.args.format x c.args.desk.now c.args.root.now.link)
+    × (pair_rows c.args.format t c.layer_in-layer.result c.args.key.now c.args.value.now
+    ≤ free_count c.args.desk.now.lives))
+    (sym (ap g.R.Rows.content (c.put_cost.ensures.same ∙ c.find-old.ensures.same))) (
+      tree g at c.requires.stands.0 c.requires.stands.1 c.requires.stands.2,
+      omega (
+        arith,
+        counted g at c.requires.stands.0 c.requires.stands.1 c.requires.stands.2,
+        c.free-free.ensures.count,
+        c.if-put_cost-free.false,
+      ),
+    ))
 
 -- ---- the pair is put
 
-module _ (g : Over) (c : goal.After-put_at-new g) (had : (m : List Pair) → Stands c.args.format (g.R.Rows.content c.args.rows.now) c.args.root.now m → map_get m c.args.key.now ≡ c.find-old.result) where
-  inserted : AfterPut c.args.format (g.R.Rows.content c.args.rows.now) (g.R.Rows.content c.put_at-new.new.rows) c.args.desk.now c.put_at-new.new.desk c.args.root.now c.put_at-new.result c.args.key.now c.args.value.now
+module _ (g : Over) (c : goal.After-put_at-new g)
+    (had : (m : List Pair) → Stands c.args.format (g.R.Rows.content c.args.rows.now) c.args.root.now
+    m → map_get m c.args.key.now ≡ c.find-old.result) where
+  inserted : AfterPut c.args.format (g.R.Rows.content c.args.rows.now)
+      (g.R.Rows.content c.put_at-new.new.rows) c.args.desk.now c.put_at-new.new.desk c.args.root.now
+      c.put_at-new.result c.args.key.now c.args.value.now
   inserted =
-      let done = subst (λ (x : Content). (t : RisingTree c.args.format x c.args.desk.now c.args.root.now.link) → Grown c.args.format x (g.R.Rows.content c.put_at-new.new.rows) c.args.desk.now c.put_at-new.new.desk (with_pair c.args.format t c.layer_in-layer.result c.args.key.now c.args.value.now) c.put_at-new.result (in_rising c.args.format t) (pair_rows c.args.format t c.layer_in-layer.result c.args.key.now c.args.value.now)) (ap g.R.Rows.content (c.put_cost.ensures.same ∙ c.find-old.ensures.same)) (rw c.new-sought.ensures.key at c.put_at-new.ensures.put) in
-      after_other c.args.format (g.R.Rows.content c.args.rows.now) c.args.desk.now c.args.root.now c.args.key.now c.args.value.now c.within_limits.ensures.key c.within_limits.ensures.value c.requires.stands c.find-old.result had (g.R.Rows.content c.put_at-new.new.rows) c.put_at-new.new.desk c.put_at-new.result c.layer_in-layer.result c.layer_in-layer.ensures.layer (sym c.is_same.ensures.same ∙ c.if-is_same.false) done
+      let done =
+      subst (λ (x : Content).
+      (t : RisingTree c.args.format x c.args.desk.now c.args.root.now.link)
+      → Grown c.args.format x (g.R.Rows.content c.put_at-new.new.rows) c.args.desk.now
+      c.put_at-new.new.desk
+      (with_pair c.args.format t c.layer_in-layer.result c.args.key.now c.args.value.now)
+      c.put_at-new.result (in_rising c.args.format t)
+      (pair_rows c.args.format t c.layer_in-layer.result c.args.key.now c.args.value.now))
+      (ap g.R.Rows.content (c.put_cost.ensures.same ∙ c.find-old.ensures.same))
+      (rw c.new-sought.ensures.key at c.put_at-new.ensures.put) in
+      after_other c.args.format (g.R.Rows.content c.args.rows.now) c.args.desk.now c.args.root.now
+      c.args.key.now c.args.value.now c.within_limits.ensures.key c.within_limits.ensures.value
+      c.requires.stands c.find-old.result had (g.R.Rows.content c.put_at-new.new.rows)
+      c.put_at-new.new.desk c.put_at-new.result c.layer_in-layer.result
+      c.layer_in-layer.ensures.layer (sym c.is_same.ensures.same ∙ c.if-is_same.false) done
 
 pub returns-clause-stands : goal.returns-clause-stands
-returns-clause-stands g c = (inserted g c (found g (goal.at.returns-clause-stands g c).After-find-old)).stands
+returns-clause-stands g c =
+    (inserted g c (found g (goal.at.returns-clause-stands g c).After-find-old)).stands
 
 pub returns-clause-written : goal.returns-clause-written
-returns-clause-written g c = (inserted g c (found g (goal.at.returns-clause-written g c).After-find-old)).written
+returns-clause-written g c =
+    (inserted g c (found g (goal.at.returns-clause-written g c).After-find-old)).written
 
 pub returns-clause-cost : goal.returns-clause-cost
-returns-clause-cost g c = (inserted g c (found g (goal.at.returns-clause-cost g c).After-find-old)).counted
+returns-clause-cost g c =
+    (inserted g c (found g (goal.at.returns-clause-cost g c).After-find-old)).counted
 
 pub returns-clause-changes : goal.returns-clause-changes
-returns-clause-changes g c = (inserted g c (found g (goal.at.returns-clause-changes g c).After-find-old)).changes
+returns-clause-changes g c =
+    (inserted g c (found g (goal.at.returns-clause-changes g c).After-find-old)).changes
 
 pub returns-clause-versions : goal.returns-clause-versions
-returns-clause-versions g c = (inserted g c (found g (goal.at.returns-clause-versions g c).After-find-old)).versions
+returns-clause-versions g c =
+    (inserted g c (found g (goal.at.returns-clause-versions g c).After-find-old)).versions
 
 pub returns-clause-made : goal.returns-clause-made
-returns-clause-made g c = (inserted g c (found g (goal.at.returns-clause-made g c).After-find-old)).made
+returns-clause-made g c =
+    (inserted g c (found g (goal.at.returns-clause-made g c).After-find-old)).made
 
 -- ---- what a search finds
 

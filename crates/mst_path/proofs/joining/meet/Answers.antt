@@ -14,52 +14,96 @@ pub head-high-requires : goal.head-high-requires
 head-high-requires g c =
     let format = c.requires.trees.0 in
     let t = c.requires.trees.2 in
-    record { there = subst (λ (x : Content). IsSome (part_at head_links x (c.args.right - 1))) (sym (ap g.R.Rows.content c.head-low.ensures.same)) (head_there format (g.R.Rows.content c.args.rows.now) t.b c.args.right t.b_at c.requires.right t.b_piece.rows) }
+    record {
+      there = subst (λ (x : Content). IsSome (part_at head_links x (c.args.right - 1)))
+          (sym (ap g.R.Rows.content c.head-low.ensures.same))
+          (head_there format (g.R.Rows.content c.args.rows.now) t.b c.args.right t.b_at
+          c.requires.right t.b_piece.rows);
+    }
 
 -- ---- both heads are read
 
 module _ (g : Over) (c : goal.After-head-high g) where
-  high_read : part_at head_links (g.R.Rows.content c.args.rows.now) (c.args.right - 1) ≡ Some c.head-high.result
-  high_read = subst (λ (x : Content). part_at head_links x (c.args.right - 1) ≡ Some c.head-high.result) (ap g.R.Rows.content c.head-low.ensures.same) c.head-high.ensures.value
+  high_read : part_at head_links (g.R.Rows.content c.args.rows.now) (c.args.right - 1) ≡ Some
+      c.head-high.result
+  high_read =
+      subst (λ (x : Content). part_at head_links x (c.args.right - 1) ≡ Some c.head-high.result)
+      (ap g.R.Rows.content c.head-low.ensures.same) c.head-high.ensures.value
 
-  high_opened : (format : Format) (s : State) (t : TwoTrees format (g.R.Rows.content c.args.rows.now) s c.args.left c.args.right) → Opened format (g.R.Rows.content c.args.rows.now) s t.b (c.args.right - 1) c.head-high.result
-  high_opened format s t = b_node format (g.R.Rows.content c.args.rows.now) s c.args.left c.args.right t c.head-low.result c.head-high.result c.requires.left c.requires.right c.head-low.ensures.value high_read
+  high_opened : (format : Format) (s : State)
+      (t : TwoTrees format (g.R.Rows.content c.args.rows.now) s c.args.left c.args.right)
+      → Opened format (g.R.Rows.content c.args.rows.now) s t.b (c.args.right - 1) c.head-high.result
+  high_opened format s t = b_node format (g.R.Rows.content c.args.rows.now) s c.args.left
+      c.args.right t c.head-low.result c.head-high.result c.requires.left c.requires.right
+      c.head-low.ensures.value high_read
 
 pub returns-then-high-low-clause-met : goal.returns-then-high-low-clause-met
 returns-then-high-low-clause-met g c = λ format s t.
-    subst (Met format (g.R.Rows.content c.args.rows.now) s c.args.left c.args.right t) (sym c.higher.ensures.is)
-    (met_higher format (g.R.Rows.content c.args.rows.now) s c.args.left c.args.right t c.head-low.result c.head-high.result c.requires.left c.requires.right c.head-low.ensures.value (high_read g (goal.at.returns-then-high-low-clause-met g c).After-head-high) c.if-high-low.true)
+    subst (Met format (g.R.Rows.content c.args.rows.now) s c.args.left c.args.right t)
+    (sym c.higher.ensures.is)
+    (met_higher format (g.R.Rows.content c.args.rows.now) s c.args.left c.args.right t
+    c.head-low.result c.head-high.result c.requires.left c.requires.right
+    c.head-low.ensures.value
+    (high_read g (goal.at.returns-then-high-low-clause-met g c).After-head-high)
+    c.if-high-low.true)
 
 pub overflow_sub-high : goal.overflow_sub-high
 overflow_sub-high g c =
     let format = c.requires.trees.0 in
-    let opened = high_opened g (goal.at.overflow_sub-high g c).After-head-high format c.requires.trees.1 c.requires.trees.2 in
-    omega (arith, first_some format (g.R.Rows.content c.args.rows.now) c.requires.trees.1 c.requires.trees.2.b (c.args.right - 1) c.head-high.result opened c.requires.trees.2.b_search)
+    let opened = high_opened g (goal.at.overflow_sub-high g c).After-head-high format
+    c.requires.trees.1 c.requires.trees.2 in
+    omega (
+      arith,
+      first_some format (g.R.Rows.content c.args.rows.now) c.requires.trees.1
+          c.requires.trees.2.b (c.args.right - 1) c.head-high.result opened
+          c.requires.trees.2.b_search,
+    )
 
 pub entry-first-requires : goal.entry-first-requires
 entry-first-requires g c =
     let format = c.requires.trees.0 in
-    let opened = high_opened g (goal.at.entry-first-requires g c).After-head-high format c.requires.trees.1 c.requires.trees.2 in
-    let there = first_there format (g.R.Rows.content c.args.rows.now) c.requires.trees.1 c.requires.trees.2.b (c.args.right - 1) c.head-high.result opened c.requires.trees.2.b_search in
-    record { there = subst (λ (x : Content). IsSome (part_at entry_links x (c.head-high.result.first - 1))) (sym (ap g.R.Rows.content (c.head-high.ensures.same ∙ c.head-low.ensures.same))) there }
+    let opened = high_opened g (goal.at.entry-first-requires g c).After-head-high format
+    c.requires.trees.1 c.requires.trees.2 in
+    let there = first_there format (g.R.Rows.content c.args.rows.now) c.requires.trees.1
+    c.requires.trees.2.b (c.args.right - 1) c.head-high.result opened
+    c.requires.trees.2.b_search in
+    record {
+      there =
+          subst (λ (x : Content). IsSome (part_at entry_links x (c.head-high.result.first - 1)))
+          (sym (ap g.R.Rows.content (c.head-high.ensures.same ∙ c.head-low.ensures.same))) there;
+    }
 
 -- ---- the first entry of the right node is read
 
 module _ (g : Over) (c : goal.After-entry-first g) where
-  first_read : part_at entry_links (g.R.Rows.content c.args.rows.now) (c.head-high.result.first - 1) ≡ Some c.entry-first.result
-  first_read = subst (λ (x : Content). part_at entry_links x (c.head-high.result.first - 1) ≡ Some c.entry-first.result) (ap g.R.Rows.content (c.head-high.ensures.same ∙ c.head-low.ensures.same)) c.entry-first.ensures.value
+  first_read : part_at entry_links (g.R.Rows.content c.args.rows.now) (c.head-high.result.first - 1)
+      ≡ Some c.entry-first.result
+  first_read =
+      subst (λ (x : Content). part_at entry_links x (c.head-high.result.first - 1) ≡ Some
+      c.entry-first.result)
+      (ap g.R.Rows.content (c.head-high.ensures.same ∙ c.head-low.ensures.same))
+      c.entry-first.ensures.value
 
 pub returns-then-low-high-clause-met : goal.returns-then-low-high-clause-met
 returns-then-low-high-clause-met g c = λ format s t.
     let at = goal.at.returns-then-low-high-clause-met g c in
-    subst (Met format (g.R.Rows.content c.args.rows.now) s c.args.left c.args.right t) (sym c.lower.ensures.is)
-    (met_lower format (g.R.Rows.content c.args.rows.now) s c.args.left c.args.right t c.head-low.result c.head-high.result c.requires.left c.requires.right c.head-low.ensures.value (high_read g at.After-head-high) c.entry-first.result (first_read g at.After-entry-first) c.if-low-high.true)
+    subst (Met format (g.R.Rows.content c.args.rows.now) s c.args.left c.args.right t)
+    (sym c.lower.ensures.is)
+    (met_lower format (g.R.Rows.content c.args.rows.now) s c.args.left c.args.right t
+    c.head-low.result c.head-high.result c.requires.left c.requires.right
+    c.head-low.ensures.value (high_read g at.After-head-high) c.entry-first.result
+    (first_read g at.After-entry-first) c.if-low-high.true)
 
 pub returns-clause-met : goal.returns-clause-met
 returns-clause-met g c = λ format s t.
     let at = goal.at.returns-clause-met g c in
-    subst (Met format (g.R.Rows.content c.args.rows.now) s c.args.left c.args.right t) (sym c.level.ensures.is)
-    (met_level format (g.R.Rows.content c.args.rows.now) s c.args.left c.args.right t c.head-low.result c.head-high.result c.requires.left c.requires.right c.head-low.ensures.value (high_read g at.After-head-high) c.entry-first.result (first_read g at.After-entry-first) (omega (arith, c.if-high-low.false, c.if-low-high.false)))
+    subst (Met format (g.R.Rows.content c.args.rows.now) s c.args.left c.args.right t)
+    (sym c.level.ensures.is)
+    (met_level format (g.R.Rows.content c.args.rows.now) s c.args.left c.args.right t
+    c.head-low.result c.head-high.result c.requires.left c.requires.right
+    c.head-low.ensures.value (high_read g at.After-head-high) c.entry-first.result
+    (first_read g at.After-entry-first)
+    (omega (arith, c.if-high-low.false, c.if-low-high.false)))
 
 -- ---- what a search finds
 

@@ -9,7 +9,8 @@ pub returns-clause-tree : goal.returns-clause-tree
 returns-clause-tree c f m few = record { few = few; is = refl }
 
 pub returns-clause-stands : goal.returns-clause-stands
-returns-clause-stands c f content s at m settled has = (m, has.stands, reached_old s (numbers has.stands) settled has.rows)
+returns-clause-stands c f content s at m settled has =
+    (m, has.stands, reached_old s (numbers has.stands) settled has.rows)
 
 pub returns-clause-numbers : goal.returns-clause-numbers
 returns-clause-numbers c kept xs ys is v =

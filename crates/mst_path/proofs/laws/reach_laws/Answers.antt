@@ -13,14 +13,18 @@ pub returns-clause-older : goal.returns-clause-older
 returns-clause-older c old new before after into change = reached.older old new before after change
 
 pub returns-clause-number : goal.returns-clause-number
-returns-clause-number c old new before after into change there = reached.version_after old new before after change into there
+returns-clause-number c old new before after into change there =
+    reached.version_after old new before after change into there
 
 pub returns-clause-newest : goal.returns-clause-newest
 returns-clause-newest c old new before after into change there settled exact =
-    subst (λ (v : ℕ). ReachesExactly new.lives v after) (sym (reached.version_after old new before after change into there)) (reached.newest old new before after change settled exact)
+    subst (λ (v : ℕ). ReachesExactly new.lives v after)
+    (sym (reached.version_after old new before after change into there))
+    (reached.newest old new before after change settled exact)
 
 pub returns-clause-settled : goal.returns-clause-settled
-returns-clause-settled c old new before after into change there settled = reached.settled_after old new before after change into there settled
+returns-clause-settled c old new before after into change there settled =
+    reached.settled_after old new before after change into there settled
 
 pub returns-clause-rows : goal.returns-clause-rows
 returns-clause-rows c old new before after change = as_many old new before after change
@@ -29,7 +33,8 @@ pub returns-clause-planted : goal.returns-clause-planted
 returns-clause-planted c old new rows takes = reached.planted old new rows takes
 
 pub returns-clause-felled : goal.returns-clause-felled
-returns-clause-felled c old mid new before after takes fells = changes old new after before (moved old mid new after before takes fells)
+returns-clause-felled c old mid new before after takes fells =
+    changes old new after before (moved old mid new after before takes fells)
 
 pub returns-clause-old : goal.returns-clause-old
 returns-clause-old c s rows settled exact = reached.reached_old s rows settled exact
@@ -44,9 +49,11 @@ pub returns-clause-free : goal.returns-clause-free
 returns-clause-free c s live r settled now there = reached.free_swept s live r settled now there
 
 pub returns-clause-count : goal.returns-clause-count
-returns-clause-count c s live rows settled now once together = count_swept s live rows settled now once together
+returns-clause-count c s live rows settled now once together =
+    count_swept s live rows settled now once together
 
 pub returns-clause-count_alone : goal.returns-clause-count_alone
 returns-clause-count_alone c s rows settled once exact =
     let same : eqb (version s) (version s) ≡ true = grind (arith, nat_tests) in
-    count_swept s (version s ∷ []) rows settled (omega (arith, ap bit same)) once (alone s.lives (version s) rows exact)
+    count_swept s (version s ∷ []) rows settled (omega (arith, ap bit same)) once
+    (alone s.lives (version s) rows exact)

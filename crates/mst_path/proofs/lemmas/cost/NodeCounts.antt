@@ -11,4 +11,11 @@ mutual
 
   count_below : (es : Entries) → entries_node_count es ≡ length (entries_subtrees es)
   count_below (last child) = count_nodes child
-  count_below (entry child key value rest) = omega (arith, count_nodes child, count_below rest, length-append (subtrees child) (entries_subtrees rest))
+  count_below (entry child key value rest) =
+      omega (
+        arith,
+        count_nodes child,
+        count_below rest,
+        length-append (subtrees child)
+            (entries_subtrees rest),
+      )

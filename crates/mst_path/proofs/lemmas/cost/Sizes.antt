@@ -28,9 +28,17 @@ mutual
   size_used format none = refl
   size_used format (head at l chain) = omega (arith, chain_size format chain)
 
-  pub chain_size : (format : Format) (c : Chain) → length (chain_used c) ≡ entries_size (entries_of format c)
+  pub chain_size : (format : Format) (c : Chain) → length (chain_used c) ≡ entries_size
+      (entries_of format c)
   chain_size format (end child) = size_used format child
-  chain_size format (cell at child key value rest) = omega (arith, size_used format child, chain_size format rest, length-append (used child) (chain_used rest))
+  chain_size format (cell at child key value rest) =
+      omega (
+        arith,
+        size_used format child,
+        chain_size format rest,
+        length-append (used child)
+            (chain_used rest),
+      )
 
 -- ---- the entries of a node, and the tree before or behind them
 
@@ -52,23 +60,32 @@ abbrev Takes : ℕ → (Tree → ℕ) → Type 0
 Takes m inner = (b : Tree) → inner b ≤ m + size b
 
 mutual
-  join_node_le : (b : Tree) (n l m : ℕ) (inner : Tree → ℕ) → Takes m inner → join_node_rows n l inner b ≤ n + 1 + m + size b
+  join_node_le : (b : Tree) (n l m : ℕ) (inner : Tree → ℕ) → Takes m inner
+      → join_node_rows n l inner b ≤ n + 1 + m + size b
   join_node_le empty n l m inner most = omega arith
   join_node_le (node g j fs) n l m inner most =
       at_layer (λ r. r ≤ n + 1 + m + (entries_size fs + 1)) j l
-      (n + 1 + inner (node g j fs)) (n + entry_count fs + 1 + inner (first_child fs)) (entry_count fs + 1 + join_first_rows n l inner fs)
+      (n + 1 + inner (node g j fs)) (n + entry_count fs + 1 + inner (first_child fs))
+      (entry_count fs + 1 + join_first_rows n l inner fs)
       (λ less. omega (arith, most (node g j fs)))
       (λ same. omega (arith, most (first_child fs), with_first_size fs))
       (λ more. omega (arith, join_first_le fs n l m inner most, with_first_size fs))
 
-  join_first_le : (fs : Entries) (n l m : ℕ) (inner : Tree → ℕ) → Takes m inner → join_first_rows n l inner fs ≤ n + 1 + m + size (first_child fs)
+  join_first_le : (fs : Entries) (n l m : ℕ) (inner : Tree → ℕ) → Takes m inner
+      → join_first_rows n l inner fs ≤ n + 1 + m + size (first_child fs)
   join_first_le (last child) n l m inner most = join_node_le child n l m inner most
   join_first_le (entry child key value rest) n l m inner most = join_node_le child n l m inner most
 
 mutual
   join_le : (a b : Tree) → join_rows a b ≤ size a + size b
   join_le empty b = omega arith
-  join_le (node g l es) b = omega (arith, join_node_le b (entry_count es) l (size (last_child es)) (join_last_rows es) (join_last_le es), with_last es)
+  join_le (node g l es) b =
+      omega (
+        arith,
+        join_node_le b (entry_count es) l (size (last_child es)) (join_last_rows es)
+            (join_last_le es),
+        with_last es,
+      )
 
   join_last_le : (es : Entries) (b : Tree) → join_last_rows es b ≤ size (last_child es) + size b
   join_last_le (last child) b = join_le child b
@@ -79,15 +96,28 @@ mutual
 mutual
   pub remove_le : (t : Tree) (k : List ℕ) → remove_rows t k ≤ size t
   remove_le empty k = omega arith
-  remove_le (node g l es) k = omega (arith, side_le (entry_count (entries_remove es k)) false, entries_remove_le es k)
+  remove_le (node g l es) k =
+      omega (arith, side_le (entry_count (entries_remove es k)) false, entries_remove_le es k)
 
   -- the entries that are left, and the rows below
-  entries_remove_le : (es : Entries) (k : List ℕ) → entry_count (entries_remove es k) + entries_remove_rows es k ≤ entries_size es
+  entries_remove_le : (es : Entries) (k : List ℕ) → entry_count (entries_remove es k)
+      + entries_remove_rows es k ≤ entries_size es
   entries_remove_le (last child) k = omega (arith, remove_le child k)
   entries_remove_le (entry child key value rest) k =
-      at_order (λ r. entry_count (by_order r (entry (tree_remove child k) key value rest) (with_first (join child (first_child rest)) rest) (entry child key value (entries_remove rest k))) + by_order r (remove_rows child k) (join_rows child (first_child rest)) (entries_remove_rows rest k) ≤ size child + 1 + entries_size rest) k key
+      at_order (λ r. entry_count
+      (by_order r (entry (tree_remove child k) key value rest)
+      (with_first (join child (first_child rest)) rest)
+      (entry child key value (entries_remove rest k))) + by_order r (remove_rows child k)
+      (join_rows child (first_child rest)) (entries_remove_rows rest k) ≤ size child + 1
+      + entries_size rest) k key
       (λ less. omega (arith, remove_le child k, counted rest))
-      (λ same. omega (arith, join_le child (first_child rest), with_first_count rest (join child (first_child rest)), with_first_size rest))
+      (λ same. omega (
+        arith,
+        join_le child (first_child rest),
+        with_first_count rest
+            (join child (first_child rest)),
+        with_first_size rest,
+      ))
       (λ more. omega (arith, entries_remove_le rest k))
 
 -- ---- split and put
@@ -96,13 +126,20 @@ mutual
   split_le : (t : Tree) (k : List ℕ) → split_rows k t ≤ 2 * size t
   split_le empty k = omega arith
   split_le (node g l es) k =
-      omega (arith, side_le (entry_count (entries_below k es)) (is_empty (above k (node g l es))), side_le (entry_count (entries_above k es)) (is_empty (below k (node g l es))), split_count es k, gap_le es k)
+      omega (
+        arith,
+        side_le (entry_count (entries_below k es)) (is_empty (above k (node g l es))),
+        side_le (entry_count (entries_above k es)) (is_empty (below k (node g l es))),
+        split_count es k,
+        gap_le es k,
+      )
 
   -- the entries, and the rows below
   gap_le : (es : Entries) (k : List ℕ) → entry_count es + gap_rows k es ≤ 2 * entries_size es
   gap_le (last child) k = omega (arith, split_le child k)
   gap_le (entry child key value rest) k =
-      at_order (λ r. entry_count rest + 1 + by_order r (split_rows k child) 0 (gap_rows k rest) ≤ 2 * (size child + 1 + entries_size rest)) k key
+      at_order (λ r. entry_count rest + 1 + by_order r (split_rows k child) 0 (gap_rows k rest)
+      ≤ 2 * (size child + 1 + entries_size rest)) k key
       (λ less. omega (arith, split_le child k, counted rest))
       (λ same. omega (arith, counted rest))
       (λ more. omega (arith, gap_le rest k))
@@ -110,22 +147,31 @@ mutual
 among_le : (es : Entries) (k v : List ℕ) → put_among_rows k v es ≤ 2 * entries_size es + 2
 among_le es k v =
     let low = entries_below k es in
-    omega (arith, seam_count low (entry (last_child low) k v (entries_above k es)), split_count es k, gap_le es k)
+    omega (
+      arith,
+      seam_count low (entry (last_child low) k v (entries_above k es)),
+      split_count es
+          k,
+      gap_le es k,
+    )
 
 mutual
   pub put_le : (t : Tree) (l : ℕ) (k v : List ℕ) → put_rows l k v t ≤ 2 * size t + 2
   put_le empty l k v = omega arith
   put_le (node g j es) l k v =
       at_layer (λ r. r ≤ 2 * (entries_size es + 1) + 2) j l
-      (put_among_rows k v (last (node g j es))) (put_among_rows k v es) (entry_count es + 1 + put_gap_rows l k v es)
+      (put_among_rows k v (last (node g j es))) (put_among_rows k v es)
+      (entry_count es + 1 + put_gap_rows l k v es)
       (λ less. omega (arith, among_le (last (node g j es)) k v))
       (λ same. omega (arith, among_le es k v))
       (λ more. omega (arith, put_gap_le es l k v))
 
-  put_gap_le : (es : Entries) (l : ℕ) (k v : List ℕ) → entry_count es + put_gap_rows l k v es ≤ 2 * entries_size es + 2
+  put_gap_le : (es : Entries) (l : ℕ) (k v : List ℕ) → entry_count es + put_gap_rows l k v es
+      ≤ 2 * entries_size es + 2
   put_gap_le (last child) l k v = omega (arith, put_le child l k v)
   put_gap_le (entry child key value rest) l k v =
-      at_order (λ r. entry_count rest + 1 + by_order r (put_rows l k v child) 0 (put_gap_rows l k v rest) ≤ 2 * (size child + 1 + entries_size rest) + 2) k key
+      at_order (λ r. entry_count rest + 1 + by_order r (put_rows l k v child) 0
+      (put_gap_rows l k v rest) ≤ 2 * (size child + 1 + entries_size rest) + 2) k key
       (λ less. omega (arith, put_le child l k v, counted rest))
       (λ same. omega (arith, counted rest))
       (λ more. omega (arith, put_gap_le rest l k v))

@@ -30,48 +30,75 @@ use Rattle.mst_path.proofs.lemmas.rows.Copies.{at_self, kept_at, all_in, new_not
 
 -- ---- one more entry, with any tree before it
 
-module _ (format : Format) (w w' : NodeWriter) (c c' : Content) (s s' : State) (ws : List PlacedEntry) (r : ℕ) (child : Placed) (key value : List ℕ) (killed : List ℕ) (going : Going format w c s ws) (is : w.next ≡ Some r) (moves : Moves s s' (ahead w'.next) killed) (child_alive : (x : ℕ) → In x (used child) → IsAlive s x) (child_made : IsMade s child) (once : (x : ℕ) → times x (ahead w.next) + times x (entries_used ws) + times x (used child) ≤ 1) (spared : (x : ℕ) → In x killed → times x (ahead w.next) + times x (entries_used ws) + times x (used child) ≡ 0) where
+module _ (format : Format) (w w' : NodeWriter) (c c' : Content) (s s' : State)
+    (ws : List PlacedEntry) (r : ℕ) (child : Placed) (key value : List ℕ) (killed : List ℕ)
+    (going : Going format w c s ws) (is : w.next ≡ Some r)
+    (moves : Moves s s' (ahead w'.next) killed)
+    (child_alive : (x : ℕ) → In x (used child) → IsAlive s x) (child_made : IsMade s child)
+    (once : (x : ℕ) → times x (ahead w.next) + times x (entries_used ws) + times x (used child) ≤ 1)
+    (spared : (x : ℕ) → In x killed → times x (ahead w.next) + times x (entries_used ws) + times x
+    (used child) ≡ 0) where
   row_there : (x : ℕ) → times x (ahead w.next) ≡ bit (eqb x r) + 0
   row_there x = ap (λ (o : Option ℕ). times x (ahead o)) is
 
-  pub used_more : (x : ℕ) → times x (entries_used (ws ++ record { at = r; child = child; key = key; value = value } ∷ [])) ≡ times x (ahead w.next) + times x (entries_used ws) + times x (used child)
+  pub used_more : (x : ℕ)
+      → times x (entries_used (ws ++ record { at = r; child = child; key = key; value = value }
+      ∷ [])) ≡ times x (ahead w.next) + times x (entries_used ws) + times x (used child)
   used_more x =
       let e : PlacedEntry = record { at = r; child = child; key = key; value = value } in
-      let push : times x (entries_used (ws ++ e ∷ [])) ≡ times x (entries_used ws) + (bit (eqb x r) + times x (used child)) = ap (times x) (entries_used-push ws e) ∙ times-append x (entries_used ws) (r ∷ used child) in
+      let push : times x (entries_used (ws ++ e ∷ [])) ≡ times x (entries_used ws)
+      + (bit (eqb x r) + times x (used child)) = ap (times x) (entries_used-push ws e)
+      ∙ times-append x (entries_used ws) (r ∷ used child) in
       omega (arith, push, row_there x)
 
-  alive_before : (x : ℕ) → 0 < times x (ahead w.next) + times x (entries_used ws) + times x (used child) → IsAlive s x
+  alive_before : (x : ℕ) → 0 < times x (ahead w.next) + times x (entries_used ws) + times x
+      (used child) → IsAlive s x
   alive_before x some = go (times x (ahead w.next)) refl (times x (entries_used ws)) refl
     where
-      go : (n : ℕ) → times x (ahead w.next) ≡ n → (m : ℕ) → times x (entries_used ws) ≡ m → IsAlive s x
+      go : (n : ℕ) → times x (ahead w.next) ≡ n → (m : ℕ) → times x (entries_used ws) ≡ m
+          → IsAlive s x
       go (suc n) e m f = new_alive s x (going.new x (omega (arith, e)))
       go zero e (suc m) f = going.alive x (omega (arith, f))
       go zero e zero f = child_alive x (omega (arith, some, e, f))
 
   same_next : next s' ≡ next s
-  same_next = let v : version s' ≡ version s = rw (moves.current, moves.versions) in ap (λ (n : ℕ). n + 1) v
+  same_next = let v : version s' ≡ version s = rw (moves.current, moves.versions) in
+      ap (λ (n : ℕ). n + 1) v
 
-  pub going_more : IsWritten format w' c' (ws ++ record { at = r; child = child; key = key; value = value } ∷ []) → Going format w' c' s' (ws ++ record { at = r; child = child; key = key; value = value } ∷ [])
+  pub going_more : IsWritten format w' c'
+      (ws ++ record { at = r; child = child; key = key; value = value } ∷ [])
+      → Going format w' c' s' (ws ++ record { at = r; child = child; key = key; value = value }
+      ∷ [])
   going_more written = record {
     written = written;
     once = λ x. go x (times x (ahead w'.next)) refl;
-    alive = λ x i. alive_stays s s' (ahead w'.next) killed moves x (alive_before x (omega (arith, i, used_more x))) (not_in x killed (λ k. absurd (omega (arith, spared x k, i, used_more x))));
-    made = made-append s' ws (record { at = r; child = child; key = key; value = value } ∷ []) (entries_stay s s' (ahead w'.next) killed moves ws (λ x i. not_in x killed (λ k. absurd (omega (arith, spared x k, i)))) going.made) (
-      new_stays s s' (ahead w'.next) killed moves r (going.new r (omega (arith, row_there r, at_self r))) (not_in r killed (λ k. absurd (omega (arith, spared r k, row_there r, at_self r)))),
-      made_stays s s' (ahead w'.next) killed moves child (λ x i. not_in x killed (λ k. absurd (omega (arith, spared x k, i)))) child_made,
-      tt,
-    );
+    alive = λ x i. alive_stays s s' (ahead w'.next) killed moves x
+        (alive_before x (omega (arith, i, used_more x)))
+        (not_in x killed (λ k. absurd (omega (arith, spared x k, i, used_more x))));
+    made = made-append s' ws (record { at = r; child = child; key = key; value = value } ∷ [])
+        (entries_stay s s' (ahead w'.next) killed moves ws
+        (λ x i. not_in x killed (λ k. absurd (omega (arith, spared x k, i)))) going.made) (
+          new_stays s s' (ahead w'.next) killed moves r
+              (going.new r (omega (arith, row_there r, at_self r)))
+              (not_in r killed (λ k. absurd (omega (arith, spared r k, row_there r, at_self r)))),
+          made_stays s s' (ahead w'.next) killed moves child
+              (λ x i. not_in x killed (λ k. absurd (omega (arith, spared x k, i)))) child_made,
+          tt,
+        );
     new = λ x i. moves.born x i ∙ ap (λ (v : ℕ). Some (Born v)) (sym same_next);
   }
     where
       e : PlacedEntry
       e = record { at = r; child = child; key = key; value = value }
 
-      go : (x n : ℕ) → times x (ahead w'.next) ≡ n → times x (ahead w'.next) + times x (entries_used (ws ++ record { at = r; child = child; key = key; value = value } ∷ [])) ≤ 1
+      go : (x n : ℕ) → times x (ahead w'.next) ≡ n → times x (ahead w'.next) + times x
+          (entries_used (ws ++ record { at = r; child = child; key = key; value = value } ∷ [])) ≤ 1
       go x zero none = omega (arith, none, used_more x, once x)
       go x (suc n) some =
           let free = moves.free x (omega (arith, some)) in
-          let out : times x (ahead w.next) + times x (entries_used ws) + times x (used child) ≡ 0 = zero_of (times x (ahead w.next) + times x (entries_used ws) + times x (used child)) (λ i. let a = (alive_before x i).1 in cc) in
+          let out : times x (ahead w.next) + times x (entries_used ws) + times x (used child) ≡ 0 =
+          zero_of (times x (ahead w.next) + times x (entries_used ws) + times x (used child))
+          (λ i. let a = (alive_before x i).1 in cc) in
           omega (arith, moves.once x, used_more x, out)
         where
           zero_of : (n : ℕ) → (0 < n → ⊥) → n ≡ 0
@@ -80,10 +107,12 @@ module _ (format : Format) (w w' : NodeWriter) (c c' : Content) (s s' : State) (
 
 -- ---- trees and their entries
 
-pub cells-append : (format : Format) (es fs : List PlacedEntry) → cells_of format (es ++ fs) ≡ cells_of format es ++ cells_of format fs
+pub cells-append : (format : Format) (es fs : List PlacedEntry) → cells_of format (es ++ fs)
+    ≡ cells_of format es ++ cells_of format fs
 cells-append format es fs = map-append (cell_of format) es fs
 
-pub copies_cells : (format : Format) (copies es : List PlacedEntry) → AreCopies copies es → cells_of format copies ≡ cells_of format es
+pub copies_cells : (format : Format) (copies es : List PlacedEntry) → AreCopies copies es
+    → cells_of format copies ≡ cells_of format es
 copies_cells format [] [] same = refl
 copies_cells format [] (e ∷ es) same = absurd same
 copies_cells format (c ∷ cs) [] same = absurd same
@@ -92,24 +121,34 @@ copies_cells format (c ∷ cs) (e ∷ es) same =
     let rest = copies_cells format cs es same.3 in
     cc
 
-pub chain_entries : (format : Format) (es : List PlacedEntry) (tail : Placed) → entries_of format (chain_of es tail) ≡ entries_to format es tail
+pub chain_entries : (format : Format) (es : List PlacedEntry) (tail : Placed) → entries_of format
+    (chain_of es tail) ≡ entries_to format es tail
 chain_entries format [] tail = refl
-chain_entries format (e ∷ es) tail = ap (λ (fs : Entries). entry (tree_of format e.child) e.key e.value fs) (chain_entries format es tail)
+chain_entries format (e ∷ es) tail =
+    ap (λ (fs : Entries). entry (tree_of format e.child) e.key e.value fs)
+    (chain_entries format es tail)
 
-pub entries-front : (es : List TreeEntry) (fs : List TreeEntry) (more : Entries) → with_entries (es ++ fs) more ≡ with_entries es (with_entries fs more)
+pub entries-front : (es : List TreeEntry) (fs : List TreeEntry) (more : Entries)
+    → with_entries (es ++ fs) more ≡ with_entries es (with_entries fs more)
 entries-front [] fs more = refl
-entries-front (e ∷ es) fs more = ap (λ (x : Entries). entry e.child e.key e.value x) (entries-front es fs more)
+entries-front (e ∷ es) fs more = ap (λ (x : Entries). entry e.child e.key e.value x)
+    (entries-front es fs more)
 
 -- ---- the head is written
 
-module _ (format : Format) (w : NodeWriter) (c c' : Content) (s : State) (es : List PlacedEntry) (tail : Placed) (going : Going format w c s es) (tail_piece : Piece format c s tail) (head_new : IsNew s w.head) where
+module _ (format : Format) (w : NodeWriter) (c c' : Content) (s : State) (es : List PlacedEntry)
+    (tail : Placed) (going : Going format w c s es) (tail_piece : Piece format c s tail)
+    (head_new : IsNew s w.head) where
   placed : Placed
   placed = head w.head w.layer (chain_of es tail)
 
-  pub all_used : (x : ℕ) → times x (used (head w.head w.layer (chain_of es tail))) ≡ times x (w.head ∷ []) + times x (entries_used es) + times x (used tail)
-  all_used x = omega (arith, ap (times x) (used_chain es tail), times-append x (entries_used es) (used tail))
+  pub all_used : (x : ℕ) → times x (used (head w.head w.layer (chain_of es tail))) ≡ times x
+      (w.head ∷ []) + times x (entries_used es) + times x (used tail)
+  all_used x =
+      omega (arith, ap (times x) (used_chain es tail), times-append x (entries_used es) (used tail))
 
-  pub head_piece : HasRows c' (rows_of format (head w.head w.layer (chain_of es tail))) → Piece format c' s (head w.head w.layer (chain_of es tail))
+  pub head_piece : HasRows c' (rows_of format (head w.head w.layer (chain_of es tail)))
+      → Piece format c' s (head w.head w.layer (chain_of es tail))
   head_piece rows = record {
     rows = rows;
     made = inr (head_new, made_chain s es tail going.made tail_piece.made);
@@ -117,68 +156,126 @@ module _ (format : Format) (w : NodeWriter) (c c' : Content) (s : State) (es : L
 
 -- ---- rows in lists of entries
 
-pub used_entries : (x : ℕ) (es : List PlacedEntry) → times x (entries_used es) ≡ times x (own es) + times x (gaps_used es)
+pub used_entries : (x : ℕ) (es : List PlacedEntry) → times x (entries_used es) ≡ times x (own es)
+    + times x (gaps_used es)
 used_entries x [] = omega arith
-used_entries x (e ∷ es) = omega (arith, used_entries x es, times-append x (used e.child) (entries_used es), times-append x (used e.child) (gaps_used es))
+used_entries x (e ∷ es) =
+    omega (
+      arith,
+      used_entries x es,
+      times-append x (used e.child) (entries_used es),
+      times-append x
+          (used e.child) (gaps_used es),
+    )
 
-pub entries_used-append : (x : ℕ) (es fs : List PlacedEntry) → times x (entries_used (es ++ fs)) ≡ times x (entries_used es) + times x (entries_used fs)
+pub entries_used-append : (x : ℕ) (es fs : List PlacedEntry) → times x (entries_used (es ++ fs))
+    ≡ times x (entries_used es) + times x (entries_used fs)
 entries_used-append x [] fs = omega arith
-entries_used-append x (e ∷ es) fs = omega (arith, entries_used-append x es fs, times-append x (used e.child) (entries_used (es ++ fs)), times-append x (used e.child) (entries_used es))
+entries_used-append x (e ∷ es) fs =
+    omega (
+      arith,
+      entries_used-append x es fs,
+      times-append x (used e.child)
+          (entries_used (es ++ fs)),
+      times-append x (used e.child) (entries_used es),
+    )
 
-pub copies_gaps : (x : ℕ) (copies es : List PlacedEntry) → AreCopies copies es → times x (gaps_used copies) ≡ times x (gaps_used es)
+pub copies_gaps : (x : ℕ) (copies es : List PlacedEntry) → AreCopies copies es
+    → times x (gaps_used copies) ≡ times x (gaps_used es)
 copies_gaps x [] [] same = refl
 copies_gaps x [] (e ∷ es) same = absurd same
 copies_gaps x (c ∷ cs) [] same = absurd same
 copies_gaps x (c ∷ cs) (e ∷ es) same =
-    let here : times x (used c.child) ≡ times x (used e.child) = ap (λ (p : Placed). times x (used p)) same.0 in
-    omega (arith, here, copies_gaps x cs es same.3, times-append x (used c.child) (gaps_used cs), times-append x (used e.child) (gaps_used es))
+    let here : times x (used c.child) ≡ times x (used e.child) =
+    ap (λ (p : Placed). times x (used p)) same.0 in
+    omega (
+      arith,
+      here,
+      copies_gaps x cs es same.3,
+      times-append x (used c.child) (gaps_used cs),
+      times-append x (used e.child) (gaps_used es),
+    )
 
-pub none_ahead : (o : Option ℕ) (left : ℕ) → IsAhead o left → left ≡ 0 → (x : ℕ) → times x (ahead o) ≡ 0
+pub none_ahead : (o : Option ℕ) (left : ℕ) → IsAhead o left → left ≡ 0 → (x : ℕ) → times x (ahead o)
+    ≡ 0
 none_ahead None left ahead all x = refl
 none_ahead (Some r) left ahead all x = absurd (omega (arith, ahead, all))
 
-no_entries : (es : List PlacedEntry) (tail : Placed) → length es ≡ 0 → HasTail es tail → (es ≡ []) × (tail ≡ no_tree)
+no_entries : (es : List PlacedEntry) (tail : Placed) → length es ≡ 0 → HasTail es tail → (es ≡ [])
+    × (tail ≡ no_tree)
 no_entries [] tail len has = (refl, has)
 no_entries (e ∷ es) tail len has = absurd (omega (arith, len))
 
 -- ---- no entries at the back
 
-module _ (format : Format) (w : NodeWriter) (c c' : Content) (s : State) (parts : Parts) (r : Rest format w c s parts) (at : Root) where
-  pub at_seam : IsWriter w → w.left ≡ parts.back.count → parts.back.count ≡ 0 → IsRootOf format (head w.head w.layer (chain_of r.ws r.seam)) at → HasRows c' (rows_of format (head w.head w.layer (chain_of r.ws r.seam))) → KeepsBut (w.head ∷ []) c c' → Finished format w c c' s s parts r at
+module _ (format : Format) (w : NodeWriter) (c c' : Content) (s : State) (parts : Parts)
+    (r : Rest format w c s parts) (at : Root) where
+  pub at_seam : IsWriter w → w.left ≡ parts.back.count → parts.back.count ≡ 0 → IsRootOf format
+      (head w.head w.layer (chain_of r.ws r.seam)) at
+      → HasRows c' (rows_of format (head w.head w.layer (chain_of r.ws r.seam)))
+      → KeepsBut (w.head ∷ []) c c' → Finished format w c c' s s parts r at
   at_seam writer left zero_count root rows keeps =
-      let nothing = no_entries r.back r.tail (r.back_run.counted ∙ zero_count) r.back_run.tail_none in
+      let nothing = no_entries r.back r.tail (r.back_run.counted ∙ zero_count) r.back_run.tail_none
+      in
       let ahead_none = none_ahead w.next w.left writer.reserved (left ∙ zero_count) in
-      let behind : with_first (tree_of format r.seam) (entries_to format r.back r.tail) ≡ last (tree_of format r.seam) = ap (λ (es : List PlacedEntry). with_first (tree_of format r.seam) (entries_to format es r.tail)) nothing.0 in
+      let behind : with_first (tree_of format r.seam) (entries_to format r.back r.tail) ≡ last
+      (tree_of format r.seam) =
+      ap (λ (es : List PlacedEntry). with_first (tree_of format r.seam)
+      (entries_to format es r.tail)) nothing.0 in
       record {
         placed = head w.head w.layer (chain_of r.ws r.seam);
-        is = ap (λ (fs : Entries). node format w.layer fs) (chain_entries format r.ws r.seam ∙ ap (with_entries (cells_of format r.ws)) (sym behind));
+        is = ap (λ (fs : Entries). node format w.layer fs)
+            (chain_entries format r.ws r.seam ∙ ap (with_entries (cells_of format r.ws))
+            (sym behind));
         root = root;
         piece = head_piece format w c c' s r.ws r.seam r.going r.seam_piece r.head_new rows;
         taken = [];
-        moves = subst (λ (es : List PlacedEntry). Moves s s [] (own es)) (sym nothing.0) (moves_none s);
+        moves = subst (λ (es : List PlacedEntry). Moves s s [] (own es)) (sym nothing.0)
+            (moves_none s);
         keeps = λ x out. keeps x (out.0, tt);
-        rows = λ x. omega (arith, all_used format w c c' s r.ws r.seam r.going r.seam_piece r.head_new x, ahead_none x, ap (λ (es : List PlacedEntry). times x (gaps_used (others es))) nothing.0, ap (λ (p : Placed). times x (used p)) nothing.1);
+        rows =
+            λ x. omega (
+              arith,
+              all_used format w c c' s r.ws r.seam r.going r.seam_piece r.head_new
+                  x,
+              ahead_none x,
+              ap (λ (es : List PlacedEntry). times x (gaps_used (others es)))
+                  nothing.0,
+              ap (λ (p : Placed). times x (used p)) nothing.1,
+            );
         counted = omega (arith, left, zero_count);
       }
 
-pub head_out : (format : Format) (w : NodeWriter) (c : Content) (s : State) (parts : Parts) (r : Rest format w c s parts) → IsOut w.head (entries_used r.ws ++ used r.seam)
-head_out format w c s parts r = out_of_times w.head (entries_used r.ws ++ used r.seam) (omega (arith, r.once w.head, at_self w.head, times-append w.head (entries_used r.ws) (used r.seam)))
+pub head_out : (format : Format) (w : NodeWriter) (c : Content) (s : State) (parts : Parts)
+    (r : Rest format w c s parts) → IsOut w.head (entries_used r.ws ++ used r.seam)
+head_out format w c s parts r = out_of_times w.head (entries_used r.ws ++ used r.seam)
+    (omega (
+      arith,
+      r.once w.head,
+      at_self w.head,
+      times-append w.head (entries_used r.ws)
+          (used r.seam),
+    ))
 
 -- ---- the first entry at the back
 
-pub record FirstBack (format : Format) (w : NodeWriter) (c : Content) (s : State) (parts : Parts) (r : Rest format w c s parts) : Type 0 where
+pub record FirstBack (format : Format) (w : NodeWriter) (c : Content) (s : State) (parts : Parts)
+    (r : Rest format w c s parts) : Type 0 where
   pub entry : PlacedEntry
   pub more : List PlacedEntry
   pub is : r.back ≡ entry ∷ more
   pub run : BackRun format c s parts.back.first parts.back.count parts.tail (entry ∷ more) r.tail
   pub link : parts.back.first - 1 ≡ entry.at
-  pub row : c (parts.back.first - 1) ≡ Some (EntryRow (link_of entry.child) (link_from 0 more) entry.key entry.value)
+  pub row : c (parts.back.first - 1) ≡ Some
+      (EntryRow (link_of entry.child) (link_from 0 more) entry.key entry.value)
   pub old : IsOld s (parts.back.first - 1)
 
-pub first_back : (format : Format) (w : NodeWriter) (c : Content) (s : State) (parts : Parts) (r : Rest format w c s parts) → 0 < parts.back.count → FirstBack format w c s parts r
+pub first_back : (format : Format) (w : NodeWriter) (c : Content) (s : State) (parts : Parts)
+    (r : Rest format w c s parts) → 0 < parts.back.count → FirstBack format w c s parts r
 first_back format w c s parts r some = go r.back refl r.back_run
   where
-    go : (es : List PlacedEntry) → r.back ≡ es → BackRun format c s parts.back.first parts.back.count parts.tail es r.tail → FirstBack format w c s parts r
+    go : (es : List PlacedEntry) → r.back ≡ es → BackRun format c s parts.back.first
+        parts.back.count parts.tail es r.tail → FirstBack format w c s parts r
     go [] is run = absurd (omega (arith, some, run.counted))
     go (e ∷ more) is run =
         let link : parts.back.first - 1 ≡ e.at = omega (arith, run.begins) in
@@ -192,40 +289,64 @@ first_back format w c s parts r some = go r.back refl r.back_run
           old = subst (IsOld s) (sym link) (run.old e.at (omega (arith, at_self e.at)));
         }
 
--- The first entry at the back is written behind the seam, in the new row, and its old row is killed;
--- the entries behind it are at the link.
-pub record Seamed (format : Format) (w w1 : NodeWriter) (c c1 : Content) (s s1 : State) (parts : Parts) (r : Rest format w c s parts) (link : ℕ) : Type 0 where
+-- The first entry at the back is written behind the seam, in the new row, and its old row is
+-- killed; the entries behind it are at the link.
+pub record Seamed (format : Format) (w w1 : NodeWriter) (c c1 : Content) (s s1 : State)
+    (parts : Parts) (r : Rest format w c s parts) (link : ℕ) : Type 0 where
   pub back : FirstBack format w c s parts r
   pub row : ℕ
   pub next_is : w.next ≡ Some row
   pub moves : Moves s s1 (ahead w1.next) (back.entry.at ∷ [])
   pub keeps : KeepsBut (ahead w.next) c c1
-  pub written : IsWritten format w1 c1 (r.ws ++ record { at = row; child = r.seam; key = back.entry.key; value = back.entry.value } ∷ [])
+  pub written : IsWritten format w1 c1
+      (r.ws ++ record { at = row; child = r.seam; key = back.entry.key; value = back.entry.value }
+      ∷ [])
   pub begins : link ≡ link_from 0 back.more
 
-module _ (format : Format) {w w1 : NodeWriter} {c c1 : Content} {s s1 : State} {parts : Parts} {r : Rest format w c s parts} {link : ℕ} (m : Seamed format w w1 c c1 s s1 parts r link) where
+module _ (format : Format) {w w1 : NodeWriter} {c c1 : Content} {s s1 : State} {parts : Parts}
+    {r : Rest format w c s parts} {link : ℕ} (m : Seamed format w w1 c c1 s s1 parts r link) where
   -- the entries that are written then
   abbrev pub with_seam : List PlacedEntry
-  with_seam = r.ws ++ record { at = m.row; child = r.seam; key = m.back.entry.key; value = m.back.entry.value } ∷ []
+  with_seam = r.ws ++ record {
+    at = m.row;
+    child = r.seam;
+    key = m.back.entry.key;
+    value =
+        m.back.entry.value;
+  } ∷ []
 
-  pub all_once : (x : ℕ) → times x (w.head ∷ []) + times x (ahead w.next) + times x (entries_used r.ws) + times x (used r.seam) + times x (own (m.back.entry ∷ m.back.more)) + times x (gaps_used m.back.more) + times x (used r.tail) ≤ 1
-  all_once = subst (λ (es : List PlacedEntry). (x : ℕ) → times x (w.head ∷ []) + times x (ahead w.next) + times x (entries_used r.ws) + times x (used r.seam) + times x (own es) + times x (gaps_used (others es)) + times x (used r.tail) ≤ 1) m.back.is r.once
+  pub all_once : (x : ℕ) → times x (w.head ∷ []) + times x (ahead w.next) + times x
+      (entries_used r.ws) + times x (used r.seam) + times x (own (m.back.entry ∷ m.back.more))
+      + times x (gaps_used m.back.more) + times x (used r.tail) ≤ 1
+  all_once =
+      subst (λ (es : List PlacedEntry). (x : ℕ) → times x (w.head ∷ []) + times x (ahead w.next)
+      + times x (entries_used r.ws) + times x (used r.seam) + times x (own es) + times x
+      (gaps_used (others es)) + times x (used r.tail) ≤ 1) m.back.is r.once
 
-  seam_once : (x : ℕ) → times x (ahead w.next) + times x (entries_used r.ws) + times x (used r.seam) ≤ 1
+  seam_once : (x : ℕ) → times x (ahead w.next) + times x (entries_used r.ws) + times x (used r.seam)
+      ≤ 1
   seam_once x = omega (arith, all_once x)
 
-  seam_spared : (x : ℕ) → In x (m.back.entry.at ∷ []) → times x (ahead w.next) + times x (entries_used r.ws) + times x (used r.seam) ≡ 0
+  seam_spared : (x : ℕ) → In x (m.back.entry.at ∷ []) → times x (ahead w.next) + times x
+      (entries_used r.ws) + times x (used r.seam) ≡ 0
   seam_spared x i = omega (arith, all_once x, i)
 
   pub going_seam : Going format w1 c1 s1 with_seam
-  going_seam = going_more format w w1 c c1 s s1 r.ws m.row r.seam m.back.entry.key m.back.entry.value (m.back.entry.at ∷ []) r.going m.next_is m.moves (piece_alive format r.seam_piece) r.seam_piece.made seam_once seam_spared m.written
+  going_seam = going_more format w w1 c c1 s s1 r.ws m.row r.seam m.back.entry.key
+      m.back.entry.value (m.back.entry.at ∷ []) r.going m.next_is m.moves
+      (piece_alive format r.seam_piece) r.seam_piece.made seam_once seam_spared m.written
 
-  pub seam_used : (x : ℕ) → times x (entries_used with_seam) ≡ times x (ahead w.next) + times x (entries_used r.ws) + times x (used r.seam)
-  seam_used = used_more format w w1 c c1 s s1 r.ws m.row r.seam m.back.entry.key m.back.entry.value (m.back.entry.at ∷ []) r.going m.next_is m.moves (piece_alive format r.seam_piece) r.seam_piece.made seam_once seam_spared
+  pub seam_used : (x : ℕ) → times x (entries_used with_seam) ≡ times x (ahead w.next) + times x
+      (entries_used r.ws) + times x (used r.seam)
+  seam_used = used_more format w w1 c c1 s s1 r.ws m.row r.seam m.back.entry.key m.back.entry.value
+      (m.back.entry.at ∷ []) r.going m.next_is m.moves (piece_alive format r.seam_piece)
+      r.seam_piece.made seam_once seam_spared
 
   -- an old row was not written
   pub old_kept : (x : ℕ) → IsOld s x → c1 x ≡ c x
-  old_kept x old = kept_at c c1 (ahead w.next) x m.keeps (not_in x (ahead w.next) (λ i. new_not_old s x (r.going.new x i) old))
+  old_kept x old =
+      kept_at c c1 (ahead w.next) x m.keeps
+      (not_in x (ahead w.next) (λ i. new_not_old s x (r.going.new x i) old))
 
   unfoldable pub back_copying : (n : ℕ) → n + 1 ≡ parts.back.count → Copying format w1 c1 s1 link n
   back_copying n less = record {
@@ -235,26 +356,34 @@ module _ (format : Format) {w w1 : NodeWriter} {c c1 : Content} {s s1 : State} {
     run = record {
       counted = omega (arith, m.back.run.counted, less);
       begins = sym m.begins;
-      rows = own_frame c c1 0 m.back.more (λ x i. old_kept x (m.back.run.old x (omega (arith, i)))) m.back.run.rows.1;
-      old = λ x i. old_stays s s1 (ahead w1.next) (m.back.entry.at ∷ []) m.moves x (m.back.run.old x (omega (arith, i))) (omega (arith, i, all_once x));
+      rows = own_frame c c1 0 m.back.more (λ x i. old_kept x (m.back.run.old x (omega (arith, i))))
+          m.back.run.rows.1;
+      old = λ x i. old_stays s s1 (ahead w1.next) (m.back.entry.at ∷ []) m.moves x
+          (m.back.run.old x (omega (arith, i))) (omega (arith, i, all_once x));
       gaps = gaps_frame format c c1 s s1 m.back.more
           (λ x i. old_kept x (gaps_old format c s x m.back.more m.back.run.gaps i))
-          (λ x i old. old_stays s s1 (ahead w1.next) (m.back.entry.at ∷ []) m.moves x old (omega (arith, i, all_once x)))
+          (λ x i old. old_stays s s1 (ahead w1.next) (m.back.entry.at ∷ []) m.moves x old
+          (omega (arith, i, all_once x)))
           m.back.run.gaps;
     };
     going = going_seam;
     once = λ x. omega (arith, seam_used x, all_once x);
   }
 
-  module _ {w2 : NodeWriter} {c2 : Content} {s2 : State} (copied : Copied format w1 w2 c1 c2 s1 s2 with_seam m.back.more) (same_head : w2.head ≡ w.head) (same_layer : w2.layer ≡ w.layer) (all : (x : ℕ) → times x (ahead w2.next) ≡ 0) where
+  module _ {w2 : NodeWriter} {c2 : Content} {s2 : State}
+      (copied : Copied format w1 w2 c1 c2 s1 s2 with_seam m.back.more)
+      (same_head : w2.head ≡ w.head) (same_layer : w2.layer ≡ w.layer)
+      (all : (x : ℕ) → times x (ahead w2.next) ≡ 0) where
     abbrev entries : List PlacedEntry
     entries = with_seam ++ copied.copies
 
     -- a row that was alive at first was not taken
-    alive_untaken : (x : ℕ) → IsAlive s x → times x (m.back.entry.at ∷ []) ≡ 0 → (times x (ahead w1.next) ≡ 0) × (times x copied.taken ≡ 0)
+    alive_untaken : (x : ℕ) → IsAlive s x → times x (m.back.entry.at ∷ []) ≡ 0
+        → (times x (ahead w1.next) ≡ 0) × (times x copied.taken ≡ 0)
     alive_untaken x alive out = (
       alive_out s s1 (ahead w1.next) (m.back.entry.at ∷ []) m.moves x alive,
-      alive_out s1 s2 copied.taken (own m.back.more) copied.moves x (alive_stays s s1 (ahead w1.next) (m.back.entry.at ∷ []) m.moves x alive out),
+      alive_out s1 s2 copied.taken (own m.back.more) copied.moves x
+          (alive_stays s s1 (ahead w1.next) (m.back.entry.at ∷ []) m.moves x alive out),
     )
 
     pub tail_stays : OldPiece format c2 s2 r.tail
@@ -263,11 +392,15 @@ module _ (format : Format) {w w1 : NodeWriter} {c c1 : Content} {s s1 : State} {
           let old = m.back.run.tail_piece.old x i in
           let out : times x (m.back.entry.at ∷ []) ≡ 0 = omega (arith, i, all_once x) in
           let untaken = alive_untaken x (old_alive s x old) out in
-          kept_at c1 c2 (ahead w1.next ++ copied.taken) x copied.keeps (omega (arith, times-append x (ahead w1.next) copied.taken, untaken.0, untaken.1)) ∙ old_kept x old)) m.back.run.tail_piece.rows;
+          kept_at c1 c2 (ahead w1.next ++ copied.taken) x copied.keeps
+          (omega (arith, times-append x (ahead w1.next) copied.taken, untaken.0, untaken.1))
+          ∙ old_kept x old)) m.back.run.tail_piece.rows;
       old = λ x i.
           let old = m.back.run.tail_piece.old x i in
-          let first = old_stays s s1 (ahead w1.next) (m.back.entry.at ∷ []) m.moves x old (omega (arith, i, all_once x)) in
-          old_stays s1 s2 copied.taken (own m.back.more) copied.moves x first (omega (arith, i, all_once x));
+          let first = old_stays s s1 (ahead w1.next) (m.back.entry.at ∷ []) m.moves x old
+          (omega (arith, i, all_once x)) in
+          old_stays s1 s2 copied.taken (own m.back.more) copied.moves x first
+          (omega (arith, i, all_once x));
     }
 
     pub tail_piece : Piece format c2 s2 r.tail
@@ -278,57 +411,151 @@ module _ (format : Format) {w w1 : NodeWriter} {c c1 : Content} {s s1 : State} {
 
     pub head_new : IsNew s2 w2.head
     head_new =
-        let first = new_stays s s1 (ahead w1.next) (m.back.entry.at ∷ []) m.moves w.head r.head_new (omega (arith, all_once w.head, head_here)) in
-        subst (IsNew s2) (sym same_head) (new_stays s1 s2 copied.taken (own m.back.more) copied.moves w.head first (omega (arith, all_once w.head, head_here)))
+        let first = new_stays s s1 (ahead w1.next) (m.back.entry.at ∷ []) m.moves w.head r.head_new
+        (omega (arith, all_once w.head, head_here)) in
+        subst (IsNew s2) (sym same_head)
+        (new_stays s1 s2 copied.taken (own m.back.more) copied.moves w.head first
+        (omega (arith, all_once w.head, head_here)))
 
-    pub entries_are : (x : ℕ) → times x (entries_used (with_seam ++ copied.copies)) ≡ times x (ahead w.next) + times x (entries_used r.ws) + times x (used r.seam) + times x (own copied.copies) + times x (gaps_used m.back.more)
-    entries_are x = omega (arith, entries_used-append x with_seam copied.copies, seam_used x, used_entries x copied.copies, copies_gaps x copied.copies m.back.more copied.same)
+    pub entries_are : (x : ℕ) → times x (entries_used (with_seam ++ copied.copies)) ≡ times x
+        (ahead w.next) + times x (entries_used r.ws) + times x (used r.seam) + times x
+        (own copied.copies) + times x (gaps_used m.back.more)
+    entries_are x =
+        omega (
+          arith,
+          entries_used-append x with_seam copied.copies,
+          seam_used x,
+          used_entries x
+              copied.copies,
+          copies_gaps x copied.copies m.back.more copied.same,
+        )
 
     pub back_head_out : IsOut w2.head (entries_used (with_seam ++ copied.copies) ++ used r.tail)
     back_head_out =
-        let untaken = alive_untaken w.head (new_alive s w.head r.head_new) (omega (arith, all_once w.head, head_here)) in
-        subst (λ (h : ℕ). IsOut h (entries_used (with_seam ++ copied.copies) ++ used r.tail)) (sym same_head)
-        (out_of_times w.head _ (omega (arith, times-append w.head (entries_used (with_seam ++ copied.copies)) (used r.tail), entries_are w.head, all_once w.head, head_here, copied.rows w.head, untaken.0, untaken.1)))
+        let untaken = alive_untaken w.head (new_alive s w.head r.head_new)
+        (omega (arith, all_once w.head, head_here)) in
+        subst (λ (h : ℕ). IsOut h (entries_used (with_seam ++ copied.copies) ++ used r.tail))
+        (sym same_head)
+        (out_of_times w.head _
+        (omega (
+          arith,
+          times-append w.head (entries_used (with_seam ++ copied.copies))
+              (used r.tail),
+          entries_are w.head,
+          all_once w.head,
+          head_here,
+          copied.rows w.head,
+          untaken.0,
+          untaken.1,
+        )))
 
     module _ (c3 : Content) (at : Root) where
-      pub with_back : IsRootOf format (head w2.head w2.layer (chain_of (with_seam ++ copied.copies) r.tail)) at → HasRows c3 (rows_of format (head w2.head w2.layer (chain_of (with_seam ++ copied.copies) r.tail))) → KeepsBut (w2.head ∷ []) c2 c3 → w.left ≡ parts.back.count → length (ahead w.next) ≡ 1 → length (ahead w2.next) ≡ 0 → Finished format w c c3 s s2 parts r at
+      pub with_back : IsRootOf format
+          (head w2.head w2.layer (chain_of (with_seam ++ copied.copies) r.tail)) at
+          → HasRows c3
+          (rows_of format (head w2.head w2.layer (chain_of (with_seam ++ copied.copies) r.tail)))
+          → KeepsBut (w2.head ∷ []) c2 c3 → w.left ≡ parts.back.count → length (ahead w.next) ≡ 1
+          → length (ahead w2.next) ≡ 0 → Finished format w c c3 s s2 parts r at
       with_back root rows keeps3 left one none = record {
         placed = head w2.head w2.layer (chain_of entries r.tail);
         is =
-            let here : entries_of format (chain_of entries r.tail) ≡ with_entries (cells_of format r.ws) (with_first (tree_of format r.seam) (entries_to format (m.back.entry ∷ m.back.more) r.tail)) =
+            let here : entries_of format (chain_of entries r.tail) ≡ with_entries
+            (cells_of format r.ws)
+            (with_first (tree_of format r.seam)
+            (entries_to format (m.back.entry ∷ m.back.more) r.tail)) =
             chain_entries format entries r.tail
-            ∙ ap (λ (cs : List TreeEntry). with_entries cs (last (tree_of format r.tail))) (cells-append format with_seam copied.copies ∙ ap (λ (cs : List TreeEntry). cells_of format with_seam ++ cs) (copies_cells format copied.copies m.back.more copied.same))
-            ∙ entries-front (cells_of format with_seam) (cells_of format m.back.more) (last (tree_of format r.tail))
-            ∙ ap (λ (cs : List TreeEntry). with_entries cs (entries_to format m.back.more r.tail)) (cells-append format r.ws (record { at = m.row; child = r.seam; key = m.back.entry.key; value = m.back.entry.value } ∷ []))
-            ∙ entries-front (cells_of format r.ws) (cells_of format (record { at = m.row; child = r.seam; key = m.back.entry.key; value = m.back.entry.value } ∷ [])) (entries_to format m.back.more r.tail) in
+            ∙ ap (λ (cs : List TreeEntry). with_entries cs (last (tree_of format r.tail)))
+            (cells-append format with_seam copied.copies
+            ∙ ap (λ (cs : List TreeEntry). cells_of format with_seam ++ cs)
+            (copies_cells format copied.copies m.back.more copied.same))
+            ∙ entries-front (cells_of format with_seam) (cells_of format m.back.more)
+            (last (tree_of format r.tail))
+            ∙ ap (λ (cs : List TreeEntry). with_entries cs (entries_to format m.back.more r.tail))
+            (cells-append format r.ws
+            (record {
+              at = m.row;
+              child = r.seam;
+              key = m.back.entry.key;
+              value =
+                  m.back.entry.value;
+            } ∷ []))
+            ∙ entries-front (cells_of format r.ws)
+            (cells_of format
+            (record {
+              at = m.row;
+              child = r.seam;
+              key = m.back.entry.key;
+              value =
+                  m.back.entry.value;
+            } ∷ [])) (entries_to format m.back.more r.tail) in
             ap (λ (l : ℕ). node format l (entries_of format (chain_of entries r.tail))) same_layer
-            ∙ ap (λ (fs : Entries). node format w.layer fs) (here ∙ ap (λ (es : List PlacedEntry). with_entries (cells_of format r.ws) (with_first (tree_of format r.seam) (entries_to format es r.tail))) (sym m.back.is));
+            ∙ ap (λ (fs : Entries). node format w.layer fs)
+            (here ∙ ap (λ (es : List PlacedEntry). with_entries (cells_of format r.ws)
+            (with_first (tree_of format r.seam) (entries_to format es r.tail)))
+            (sym m.back.is));
         root = root;
         piece = head_piece format w2 c2 c3 s2 entries r.tail copied.going tail_piece head_new rows;
         taken = ahead w1.next ++ copied.taken;
-        moves = subst (λ (es : List PlacedEntry). Moves s s2 (ahead w1.next ++ copied.taken) (own es)) (sym m.back.is) (moves_then s s1 s2 (ahead w1.next) (m.back.entry.at ∷ []) copied.taken (own m.back.more) m.moves copied.moves);
+        moves =
+            subst (λ (es : List PlacedEntry). Moves s s2 (ahead w1.next ++ copied.taken) (own es))
+            (sym m.back.is) (moves_then s s1 s2 (ahead w1.next) (m.back.entry.at ∷ []) copied.taken
+            (own m.back.more) m.moves copied.moves);
         keeps = λ x out.
-            let zero_times = times_of_out x (w.head ∷ ahead w.next ++ (ahead w1.next ++ copied.taken)) out in
+            let zero_times =
+            times_of_out x (w.head ∷ ahead w.next ++ (ahead w1.next ++ copied.taken)) out in
             let a = times-append x (ahead w.next) (ahead w1.next ++ copied.taken) in
             let b = times-append x (ahead w1.next) copied.taken in
-            keeps3 x (out_of_times x (w2.head ∷ []) (omega (arith, zero_times, ap (λ (h : ℕ). times x (h ∷ [])) same_head)))
-            ∙ copied.keeps x (out_of_times x (ahead w1.next ++ copied.taken) (omega (arith, zero_times, a)))
+            keeps3 x (out_of_times x (w2.head ∷ [])
+            (omega (arith, zero_times, ap (λ (h : ℕ). times x (h ∷ [])) same_head)))
+            ∙ copied.keeps x
+            (out_of_times x (ahead w1.next ++ copied.taken) (omega (arith, zero_times, a)))
             ∙ m.keeps x (out_of_times x (ahead w.next) (omega (arith, zero_times, a)));
-        rows = λ x. omega (arith, all_used format w2 c2 c3 s2 entries r.tail copied.going tail_piece head_new x, ap (λ (h : ℕ). times x (h ∷ [])) same_head, entries_are x, copied.rows x, all x, times-append x (ahead w1.next) copied.taken, ap (λ (es : List PlacedEntry). times x (gaps_used (others es))) m.back.is);
-        counted = omega (arith, length-append (ahead w1.next) copied.taken, copied.counted, m.back.run.counted, left, none);
+        rows =
+            λ x. omega (
+              arith,
+              all_used format w2 c2 c3 s2 entries r.tail copied.going tail_piece
+                  head_new x,
+              ap (λ (h : ℕ). times x (h ∷ [])) same_head,
+              entries_are x,
+              copied.rows x,
+              all x,
+              times-append x (ahead w1.next) copied.taken,
+              ap (λ (es : List PlacedEntry). times x (gaps_used (others es))) m.back.is,
+            );
+        counted =
+            omega (
+              arith,
+              length-append (ahead w1.next) copied.taken,
+              copied.counted,
+              m.back.run.counted,
+              left,
+              none,
+            );
       }
 
 -- the new row is none of those that are written, nor of the seam
-pub seam_out : (format : Format) (w : NodeWriter) (c : Content) (s : State) (parts : Parts) (r : Rest format w c s parts) (r0 : ℕ) → w.next ≡ Some r0 → IsOut r0 (entries_used r.ws ++ used r.seam)
+pub seam_out : (format : Format) (w : NodeWriter) (c : Content) (s : State) (parts : Parts)
+    (r : Rest format w c s parts) (r0 : ℕ) → w.next ≡ Some r0
+    → IsOut r0 (entries_used r.ws ++ used r.seam)
 seam_out format w c s parts r r0 is =
-    let one : times r0 (ahead w.next) ≡ bit (eqb r0 r0) + 0 = ap (λ (o : Option ℕ). times r0 (ahead o)) is in
-    out_of_times r0 (entries_used r.ws ++ used r.seam) (omega (arith, r.once r0, one, at_self r0, times-append r0 (entries_used r.ws) (used r.seam)))
+    let one : times r0 (ahead w.next) ≡ bit (eqb r0 r0) + 0 =
+    ap (λ (o : Option ℕ). times r0 (ahead o)) is in
+    out_of_times r0 (entries_used r.ws ++ used r.seam)
+    (omega (
+      arith,
+      r.once r0,
+      one,
+      at_self r0,
+      times-append r0 (entries_used r.ws)
+          (used r.seam),
+    ))
 
 pub no_length : (o : Option ℕ) (left : ℕ) → IsAhead o left → left ≡ 0 → length (ahead o) ≡ 0
 no_length None left ahead all = refl
 no_length (Some r) left ahead all = absurd (omega (arith, ahead, all))
 
-pub ahead_length : (o : Option ℕ) (left : ℕ) → IsAhead o left → (length (ahead o) ≤ 1) × (0 < left → length (ahead o) ≡ 1) × (left ≡ 0 → length (ahead o) ≡ 0)
+pub ahead_length : (o : Option ℕ) (left : ℕ) → IsAhead o left → (length (ahead o) ≤ 1)
+    × (0 < left → length (ahead o) ≡ 1) × (left ≡ 0 → length (ahead o) ≡ 0)
 ahead_length None left is = (omega arith, λ some. absurd (omega (arith, is, some)), λ all. refl)
 ahead_length (Some r) left is = (omega arith, λ some. refl, λ all. absurd (omega (arith, is, all)))
 

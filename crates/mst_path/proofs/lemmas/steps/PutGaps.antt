@@ -30,7 +30,8 @@ under_height l empty low = tt
 under_height l (node g j es) low = omega (arith, low)
 
 -- a tree that has a node stands at a link
-pub some_link : (format : Format) (p : Placed) (link l : ℕ) → link_of p ≡ link → l < height (tree_of format p) → 0 < link
+pub some_link : (format : Format) (p : Placed) (link l : ℕ) → link_of p ≡ link
+    → l < height (tree_of format p) → 0 < link
 some_link format no_tree link l at high = absurd (omega (arith, high))
 some_link format (tree_head i j chain) link l at high = omega (arith, at)
 
@@ -40,26 +41,41 @@ own_first (entry child key value rest) = refl
 
 -- ---- all keys are of lower layers
 
-pub put_top : (format : Format) (u : Tree) (l : ℕ) (k v : List ℕ) → height u ≤ l → put_at format l k v u ≡ node format l (entry (below k u) k v (last (above k u)))
+pub put_top : (format : Format) (u : Tree) (l : ℕ) (k v : List ℕ) → height u ≤ l
+    → put_at format l k v u ≡ node format l (entry (below k u) k v (last (above k u)))
 put_top format empty l k v low = refl
 put_top format (node g j es) l k v low = put_lower format g l j k v es (omega (arith, low))
 
-pub put_top_rows : (format : Format) (u : Tree) (l : ℕ) (k v : List ℕ) → height u ≤ l → put_rows l k v u ≡ 2 + split_rows k u
+pub put_top_rows : (format : Format) (u : Tree) (l : ℕ) (k v : List ℕ) → height u ≤ l
+    → put_rows l k v u ≡ 2 + split_rows k u
 put_top_rows format empty l k v low = refl
-put_top_rows format (node g j es) l k v low = put_rows_lower format g l j k v es (omega (arith, low))
+put_top_rows format (node g j es) l k v low =
+    put_rows_lower format g l j k v es (omega (arith, low))
 
-module _ (format : Format) (c : Content) (s : State) (link : ℕ) (t : RisingTree format c s link) (l : ℕ) (k : List ℕ) (l_is : l ≡ layer_in format k) where
+module _ (format : Format) (c : Content) (s : State) (link : ℕ) (t : RisingTree format c s link)
+    (l : ℕ) (k : List ℕ) (l_is : l ≡ layer_in format k) where
   abbrev pub whole_split : height (tree_of format t.tree.placed) ≤ l → ToSplit format c s link k
   whole_split low = record {
-    tree = record { placed = t.tree.placed; at = t.tree.at; piece = t.tree.piece; once = t.tree.once };
+    tree = record {
+      placed = t.tree.placed;
+      at = t.tree.at;
+      piece = t.tree.piece;
+      once =
+          t.tree.once;
+    };
     mst = t.tree.search;
     rises = t.rises;
-    under = under_height (layer_in format k) (tree_of format t.tree.placed) (omega (arith, low, l_is));
+    under = under_height (layer_in format k) (tree_of format t.tree.placed)
+        (omega (arith, low, l_is));
   }
 
-  rises_inside : (j : ℕ) (es : Entries) → tree_of format t.tree.placed ≡ node format j es → (front : List TreeEntry) (back : Entries) → es ≡ with_entries front back → IsAscending (pairs (first_child back))
+  rises_inside : (j : ℕ) (es : Entries) → tree_of format t.tree.placed ≡ node format j es
+      → (front : List TreeEntry) (back : Entries) → es ≡ with_entries front back
+      → IsAscending (pairs (first_child back))
   rises_inside j es top front back whole =
-      gap_rises format j back front (subst (λ (e : Entries). IsAscending (entries_pairs e)) whole (subst (λ (u : Tree). IsAscending (pairs u)) top t.rises))
+      gap_rises format j back front
+      (subst (λ (e : Entries). IsAscending (entries_pairs e)) whole
+      (subst (λ (u : Tree). IsAscending (pairs u)) top t.rises))
 
   -- ---- the key falls into a gap
 
@@ -71,7 +87,8 @@ module _ (format : Format) (c : Content) (s : State) (link : ℕ) (t : RisingTre
     inside = tree_of format o.inner.placed
 
     inner_rises : IsAscending (pairs inside)
-    inner_rises = subst (λ (u : Tree). IsAscending (pairs u)) o.first (rises_inside frame.layer o.entries o.top cells o.behind o.gap.whole)
+    inner_rises = subst (λ (u : Tree). IsAscending (pairs u)) o.first
+        (rises_inside frame.layer o.entries o.top cells o.behind o.gap.whole)
 
     tall : height (tree_of format t.tree.placed) ≡ frame.layer + 1
     tall = ap height o.top
@@ -83,26 +100,47 @@ module _ (format : Format) (c : Content) (s : State) (link : ℕ) (t : RisingTre
         more zero zero le differ = absurd (differ refl)
         more zero (suc b) le differ = omega arith
         more (suc a) zero le differ = absurd (omega (arith, le))
-        more (suc a) (suc b) le differ = omega (arith, more a b (omega (arith, le)) (λ e. differ (ap suc e)))
+        more (suc a) (suc b) le differ =
+            omega (arith, more a b (omega (arith, le)) (λ e. differ (ap suc e)))
 
-    some_round : (u : Tree) → 0 < entry_count (with_entries cells (with_first u (entries_to format o.framed.back o.framed.tail)))
+    some_round : (u : Tree) → 0 < entry_count
+        (with_entries cells (with_first u (entries_to format o.framed.back o.framed.tail)))
     some_round u =
-        omega (arith, with_entries_count cells (with_first u (entries_to format o.framed.back o.framed.tail)), ap entry_count (o.same u), with_first_count o.behind u, gap_count k o.entries cells o.behind o.gap, o.some)
+        omega (
+          arith,
+          with_entries_count cells
+              (with_first u (entries_to format o.framed.back o.framed.tail)),
+          ap entry_count
+              (o.same u),
+          with_first_count o.behind u,
+          gap_count k o.entries cells o.behind o.gap,
+          o.some,
+        )
 
-    pub puts_down : l < height (tree_of format t.tree.placed) → (frame.layer ≡ l → ⊥) → PutsDown format c s link t l k child frame
+    pub puts_down : l < height (tree_of format t.tree.placed) → (frame.layer ≡ l → ⊥)
+        → PutsDown format c s link t l k child frame
     puts_down high other = record {
       inner = record { tree = o.inner; rises = inner_rises };
       framed = o.framed;
       is = λ v.
           ap (put_at format l k v) o.top
-          ∙ put_higher k o.entries cells o.behind o.gap format format l frame.layer v (higher high other)
-          ∙ ap (λ (u : Tree). node format frame.layer (with_entries cells (with_first (put_at format l k v u) o.behind))) o.first
-          ∙ ap (λ (e : Entries). node format frame.layer (with_entries cells e)) (o.same (put_at format l k v inside))
-          ∙ sym (node_of_some format frame.layer (with_entries cells (with_first (put_at format l k v inside) (entries_to format o.framed.back o.framed.tail))) (some_round (put_at format l k v inside)));
+          ∙ put_higher k o.entries cells o.behind o.gap format format l frame.layer v
+          (higher high other)
+          ∙ ap (λ (u : Tree). node format frame.layer
+          (with_entries cells (with_first (put_at format l k v u) o.behind))) o.first
+          ∙ ap (λ (e : Entries). node format frame.layer (with_entries cells e))
+          (o.same (put_at format l k v inside))
+          ∙ sym (node_of_some format frame.layer
+          (with_entries cells
+          (with_first (put_at format l k v inside)
+          (entries_to format o.framed.back o.framed.tail)))
+          (some_round (put_at format l k v inside)));
       rows = λ v.
-          let all = ap (put_rows l k v) o.top ∙ put_rows_higher k o.entries cells o.behind o.gap format l frame.layer v (higher high other) in
+          let all = ap (put_rows l k v) o.top ∙ put_rows_higher k o.entries cells o.behind o.gap
+          format l frame.layer v (higher high other) in
           let inner = ap (put_rows l k v) o.first in
-          let frames = side_some (frame.front.count + frame.back.count) (omega (arith, o.some, o.counted)) in
+          let frames = side_some (frame.front.count + frame.back.count)
+          (omega (arith, o.some, o.counted)) in
           omega (arith, all, inner, frames, o.counted);
       given = o.given;
       falls = o.falls;
@@ -112,7 +150,13 @@ module _ (format : Format) (c : Content) (s : State) (link : ℕ) (t : RisingTre
     pub puts_between : frame.layer ≡ l → PutsBetween format c s link t l k child frame
     puts_between level = record {
       inner = record {
-        tree = record { placed = o.inner.placed; at = o.inner.at; piece = o.inner.piece; once = o.inner.once };
+        tree = record {
+          placed = o.inner.placed;
+          at = o.inner.at;
+          piece = o.inner.piece;
+          once =
+              o.inner.once;
+        };
         mst = o.inner.search;
         rises = inner_rises;
         under = under_height (layer_in format k) inside (omega (arith, o.falls, tall, level, l_is));
@@ -121,11 +165,19 @@ module _ (format : Format) (c : Content) (s : State) (link : ℕ) (t : RisingTre
       is = λ v.
           ap (put_at format l k v) (o.top ∙ ap (λ (n : ℕ). node format n o.entries) level)
           ∙ put_level k o.entries cells o.behind o.gap format format l v
-          ∙ ap (λ (u : Tree). node format l (with_entries cells (entry (below k u) k v (with_first (above k u) o.behind)))) o.first
-          ∙ ap (λ (e : Entries). node format l (with_entries cells (entry (below k inside) k v e))) (o.same (above k inside))
-          ∙ ap (λ (n : ℕ). node format n (with_entries cells (entry (below k inside) k v (with_first (above k inside) (entries_to format o.framed.back o.framed.tail))))) (sym level);
+          ∙ ap (λ (u : Tree). node format l
+          (with_entries cells (entry (below k u) k v (with_first (above k u) o.behind))))
+          o.first
+          ∙ ap (λ (e : Entries). node format l (with_entries cells (entry (below k inside) k v e)))
+          (o.same (above k inside))
+          ∙ ap (λ (n : ℕ). node format n
+          (with_entries cells
+          (entry (below k inside) k v
+          (with_first (above k inside) (entries_to format o.framed.back o.framed.tail)))))
+          (sym level);
       rows = λ v.
-          let all = ap (put_rows l k v) (o.top ∙ ap (λ (n : ℕ). node format n o.entries) level) ∙ put_rows_level k o.entries cells o.behind o.gap format l v in
+          let all = ap (put_rows l k v) (o.top ∙ ap (λ (n : ℕ). node format n o.entries) level)
+          ∙ put_rows_level k o.entries cells o.behind o.gap format l v in
           omega (arith, all, ap (split_rows k) o.first, o.counted);
       given = o.given;
       low = o.low;
@@ -139,8 +191,10 @@ module _ (format : Format) (c : Content) (s : State) (link : ℕ) (t : RisingTre
 
     level : m.frame.layer ≡ l
     level =
-        let search : IsMst format (node format m.frame.layer o.entries) = subst (IsMst format) o.top t.tree.search in
-        sym (entry_layer format m.frame.layer (tree_of format o.inner.a) k o.value o.behind before (subst (IsMstEntries format m.frame.layer) o.at.whole search.2)) ∙ sym l_is
+        let search : IsMst format (node format m.frame.layer o.entries) =
+        subst (IsMst format) o.top t.tree.search in
+        sym (entry_layer format m.frame.layer (tree_of format o.inner.a) k o.value o.behind before
+        (subst (IsMstEntries format m.frame.layer) o.at.whole search.2)) ∙ sym l_is
 
     pub puts_anew : PutsAnew format c s link t l k m
     puts_anew = record {
@@ -148,17 +202,36 @@ module _ (format : Format) (c : Content) (s : State) (link : ℕ) (t : RisingTre
       framed = o.framed;
       is = λ v.
           ap (put_at format l k v) (o.top ∙ ap (λ (n : ℕ). node format n o.entries) level)
-          ∙ put_value k o.entries before (tree_of format o.inner.a) o.value o.behind o.at format format l v
-          ∙ ap (λ (e : Entries). node format l (with_entries before (entry (tree_of format o.inner.a) k v e))) (sym (own_first o.behind) ∙ ap (λ (u : Tree). with_first u o.behind) o.first ∙ o.same (tree_of format o.inner.b))
-          ∙ ap (λ (n : ℕ). node format n (with_entries before (entry (tree_of format o.inner.a) k v (with_first (tree_of format o.inner.b) (entries_to format o.framed.back o.framed.tail))))) (sym level);
+          ∙ put_value k o.entries before (tree_of format o.inner.a) o.value o.behind o.at format
+          format l v
+          ∙ ap (λ (e : Entries). node format l
+          (with_entries before (entry (tree_of format o.inner.a) k v e)))
+          (sym (own_first o.behind) ∙ ap (λ (u : Tree). with_first u o.behind) o.first
+          ∙ o.same (tree_of format o.inner.b))
+          ∙ ap (λ (n : ℕ). node format n
+          (with_entries before
+          (entry (tree_of format o.inner.a) k v
+          (with_first (tree_of format o.inner.b)
+          (entries_to format o.framed.back o.framed.tail))))) (sym level);
       rows = λ v.
-          let all = ap (put_rows l k v) (o.top ∙ ap (λ (n : ℕ). node format n o.entries) level) ∙ put_rows_value k o.entries before (tree_of format o.inner.a) o.value o.behind o.at format l v in
+          let all = ap (put_rows l k v) (o.top ∙ ap (λ (n : ℕ). node format n o.entries) level)
+          ∙ put_rows_value k o.entries before (tree_of format o.inner.a) o.value o.behind o.at
+          format l v in
           omega (arith, all, o.counted);
       given = o.given;
       low = o.low;
     }
 
 -- a step down is a step to less
-pub falls_at : (format : Format) (c : Content) (s : State) (link : ℕ) (t : RisingTree format c s link) (l : ℕ) (k : List ℕ) (child : ℕ) (frame : Frame) → PutsDown format c s link t l k child frame → height_at c child < height_at c link
+pub falls_at : (format : Format) (c : Content) (s : State) (link : ℕ)
+    (t : RisingTree format c s link) (l : ℕ) (k : List ℕ) (child : ℕ) (frame : Frame)
+    → PutsDown format c s link t l k child frame → height_at c child < height_at c link
 falls_at format c s link t l k child frame down =
-    omega (arith, down.falls, height_there format c down.inner.tree.placed child down.inner.tree.at down.inner.tree.piece.rows, height_there format c t.tree.placed link t.tree.at t.tree.piece.rows)
+    omega (
+      arith,
+      down.falls,
+      height_there format c down.inner.tree.placed child down.inner.tree.at
+          down.inner.tree.piece.rows,
+      height_there format c t.tree.placed link t.tree.at
+          t.tree.piece.rows,
+    )

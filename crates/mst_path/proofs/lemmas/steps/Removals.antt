@@ -32,169 +32,346 @@ use Rattle.mst_path.proofs.lemmas.trees.Opening.{Opened, opened, count_to}
 use Rattle.mst_path.proofs.lemmas.trees.Meetings.{each_in, both_alive, node_search, tall, low_layer}
 use Rattle.mst_path.proofs.lemmas.trees.Parting.{back_rows, back_gaps, own_both, gaps_both, front_run, back_old, Behind, behind, back_search}
 
-module _ (format : Format) (c : Content) (s : State) (link : ℕ) (t : SearchTree format c s link) (k : List ℕ) (h : HeadLinks) (some : 0 < link) (read : part_at head_links c (link - 1) ≡ Some h) where
-  abbrev pub top : Opened format c s t.placed (link - 1) h
-  top = opened format c s t.placed link h t.at some t.piece read
+module _ (format : Format) (c : Content) (s : State) (link : ℕ) (t : SearchTree format c s link)
+    (k : List ℕ) (h : HeadLinks) (some : 0 < link) (read : part_at head_links c (link - 1) ≡ Some h)
+  where
+    abbrev pub top : Opened format c s t.placed (link - 1) h
+    top = opened format c s t.placed link h t.at some t.piece read
 
-  abbrev pub all : Entries
-  all = entries_to format top.entries top.tail
+    abbrev pub all : Entries
+    all = entries_to format top.entries top.tail
 
-  module _ (front back : RunOf) (child tail_link : ℕ) (cut : CutGap format k top.entries top.tail front child back) (tail_is : tail_link ≡ tail_behind back.count h.tail) where
-    gap_run : Run format c s h.first h.count 0 (cut.before ++ cut.behind)
-    gap_run = subst (Run format c s h.first h.count 0) cut.whole top.run
+    module _ (front back : RunOf) (child tail_link : ℕ)
+        (cut : CutGap format k top.entries top.tail front child back)
+        (tail_is : tail_link ≡ tail_behind back.count h.tail) where
+      gap_run : Run format c s h.first h.count 0 (cut.before ++ cut.behind)
+      gap_run = subst (Run format c s h.first h.count 0) cut.whole top.run
 
-    pub gap_behind : Behind format c s h.layer back.first back.count h.tail cut.behind top.tail
-    gap_behind = behind format c s h.layer back.first back.count h.tail cut.behind top.tail cut.back_is.counted cut.back_is.begins
-        (back_rows c cut.before cut.behind gap_run.rows) (back_old format c s h.first h.count cut.before cut.behind gap_run) (back_gaps (OldPiece format c s) cut.before cut.behind gap_run.gaps)
-        top.tail_at top.tail_piece
-        (back_search format h.layer cut.before (entries_to format cut.behind top.tail) (subst (IsMstEntries format h.layer) cut.gap.whole (node_search format c s t.placed (link - 1) h top t.search).2))
+      pub gap_behind : Behind format c s h.layer back.first back.count h.tail cut.behind top.tail
+      gap_behind = behind format c s h.layer back.first back.count h.tail cut.behind top.tail
+          cut.back_is.counted cut.back_is.begins
+          (back_rows c cut.before cut.behind gap_run.rows)
+          (back_old format c s h.first h.count cut.before cut.behind gap_run)
+          (back_gaps (OldPiece format c s) cut.before cut.behind gap_run.gaps)
+          top.tail_at top.tail_piece
+          (back_search format h.layer cut.before (entries_to format cut.behind top.tail)
+          (subst (IsMstEntries format h.layer) cut.gap.whole
+          (node_search format c s t.placed (link - 1) h top t.search).2))
 
-    pub gap_used : (x : ℕ) → times x (used t.placed) ≡ bit (eqb x (link - 1)) + times x (own cut.before) + times x (own cut.behind) + times x (gaps_used cut.before) + times x (used (gap_before cut.behind top.tail)) + times x (gaps_used (others cut.behind)) + times x (used gap_behind.kept)
-    gap_used x = omega (arith, top.used_is x, ap (λ (l : List PlacedEntry). times x (own l)) cut.whole, own_both x cut.before cut.behind, ap (λ (l : List PlacedEntry). times x (gaps_used l)) cut.whole, gaps_both x cut.before cut.behind, gap_behind.counts x)
+      pub gap_used : (x : ℕ) → times x (used t.placed) ≡ bit (eqb x (link - 1)) + times x
+          (own cut.before) + times x (own cut.behind) + times x (gaps_used cut.before) + times x
+          (used (gap_before cut.behind top.tail)) + times x (gaps_used (others cut.behind)) + times
+          x
+          (used gap_behind.kept)
+      gap_used x =
+          omega (
+            arith,
+            top.used_is x,
+            ap (λ (l : List PlacedEntry). times x (own l)) cut.whole,
+            own_both x cut.before cut.behind,
+            ap (λ (l : List PlacedEntry). times x (gaps_used l))
+                cut.whole,
+            gaps_both x cut.before cut.behind,
+            gap_behind.counts x,
+          )
 
-    gap_counts : entry_count all ≡ front.count + back.count
-    gap_counts = omega (arith, count_to format top.entries top.tail, ap (λ (l : List PlacedEntry). length l) cut.whole, length-append cut.before cut.behind, cut.front_is.counted, cut.back_is.counted)
+      gap_counts : entry_count all ≡ front.count + back.count
+      gap_counts =
+          omega (
+            arith,
+            count_to format top.entries top.tail,
+            ap (λ (l : List PlacedEntry). length l)
+                cut.whole,
+            length-append cut.before cut.behind,
+            cut.front_is.counted,
+            cut.back_is.counted,
+          )
 
-    abbrev gap_inner : SearchTree format c s child
-    gap_inner = record {
-      placed = gap_before cut.behind top.tail;
-      at = cut.child_at;
-      piece = gap_behind.gap_piece;
-      search = gap_behind.gap_search;
-      once = λ x. omega (arith, t.once x, gap_used x);
-    }
+      abbrev gap_inner : SearchTree format c s child
+      gap_inner = record {
+        placed = gap_before cut.behind top.tail;
+        at = cut.child_at;
+        piece = gap_behind.gap_piece;
+        search = gap_behind.gap_search;
+        once = λ x. omega (arith, t.once x, gap_used x);
+      }
 
-    abbrev gap_framed : Framed format c s (record { layer = h.layer; front = front; back = back; tail = tail_link; head = link - 1; other = None }) (in_tree format gap_inner)
-    gap_framed = record {
-      front = cut.before;
-      behind = link_from 0 cut.behind;
-      front_run = front_run format c s h.first h.count cut.before cut.behind gap_run front.first front.count (link_from 0 cut.behind) cut.front_is.counted cut.front_is.begins refl;
-      back = cut.behind;
-      tail = gap_behind.kept;
-      back_run = subst (λ (n : ℕ). BackRun format c s back.first back.count n cut.behind gap_behind.kept) (sym tail_is) gap_behind.back_run;
-      goes = each_in (IsOld s) ((link - 1) ∷ []) (top.head_old, tt);
-      alive = λ x i. old_alive s x (gap_behind.gap_piece.old x i);
-      once = λ x. omega (arith, t.once x, gap_used x);
-    }
+      abbrev gap_framed : Framed format c s
+          (record {
+            layer = h.layer;
+            front = front;
+            back = back;
+            tail = tail_link;
+            head =
+                link - 1;
+            other = None;
+          }) (in_tree format gap_inner)
+      gap_framed = record {
+        front = cut.before;
+        behind = link_from 0 cut.behind;
+        front_run = front_run format c s h.first h.count cut.before cut.behind gap_run front.first
+            front.count (link_from 0 cut.behind) cut.front_is.counted cut.front_is.begins refl;
+        back = cut.behind;
+        tail = gap_behind.kept;
+        back_run =
+            subst (λ (n : ℕ). BackRun format c s back.first back.count n cut.behind gap_behind.kept)
+            (sym tail_is) gap_behind.back_run;
+        goes = each_in (IsOld s) ((link - 1) ∷ []) (top.head_old, tt);
+        alive = λ x i. old_alive s x (gap_behind.gap_piece.old x i);
+        once = λ x. omega (arith, t.once x, gap_used x);
+      }
 
-    pub steps_down : StepsDown format c s link t k child (record { layer = h.layer; front = front; back = back; tail = tail_link; head = link - 1; other = None })
-    steps_down = record {
-      inner = gap_inner;
-      framed = gap_framed;
-      is =
-          ap (λ u. tree_remove u k) top.tree
-          ∙ remove_step k all (cells_of format cut.before) (entries_to format cut.behind top.tail) cut.gap format h.layer
-          ∙ ap (λ u. node_of format h.layer (with_entries (cells_of format cut.before) (with_first (tree_remove u k) (entries_to format cut.behind top.tail)))) gap_behind.first
-          ∙ ap (λ v. node_of format h.layer (with_entries (cells_of format cut.before) v)) (gap_behind.same (tree_remove (tree_of format (gap_before cut.behind top.tail)) k));
-      rows =
-          let all_rows = ap (λ u. remove_rows u k) top.tree
-          ∙ remove_rows_step k all (cells_of format cut.before) (entries_to format cut.behind top.tail) cut.gap format h.layer
-          ∙ ap (λ n. side_rows n false + remove_rows (first_child (entries_to format cut.behind top.tail)) k) gap_counts
-          ∙ ap (λ u. side_rows (front.count + back.count) false + remove_rows u k) gap_behind.first in
-          omega (arith, all_rows);
-      given = λ x. omega (arith, gap_used x);
-      falls = omega (arith, gap_behind.gap_low, tall format c s t.placed (link - 1) h top t.search);
-      low = low_layer format c s t.placed (link - 1) h top t.search;
-    }
+      pub steps_down : StepsDown format c s link t k child
+          (record {
+            layer = h.layer;
+            front = front;
+            back = back;
+            tail = tail_link;
+            head =
+                link - 1;
+            other = None;
+          })
+      steps_down = record {
+        inner = gap_inner;
+        framed = gap_framed;
+        is =
+            ap (λ u. tree_remove u k) top.tree
+            ∙ remove_step k all (cells_of format cut.before) (entries_to format cut.behind top.tail)
+            cut.gap format h.layer
+            ∙ ap (λ u. node_of format h.layer
+            (with_entries (cells_of format cut.before)
+            (with_first (tree_remove u k) (entries_to format cut.behind top.tail))))
+            gap_behind.first
+            ∙ ap (λ v. node_of format h.layer (with_entries (cells_of format cut.before) v))
+            (gap_behind.same (tree_remove (tree_of format (gap_before cut.behind top.tail)) k));
+        rows =
+            let all_rows = ap (λ u. remove_rows u k) top.tree
+            ∙ remove_rows_step k all (cells_of format cut.before)
+            (entries_to format cut.behind top.tail) cut.gap format h.layer
+            ∙ ap (λ n. side_rows n false + remove_rows
+            (first_child (entries_to format cut.behind top.tail)) k) gap_counts
+            ∙ ap (λ u. side_rows (front.count + back.count) false + remove_rows u k)
+            gap_behind.first
+            in
+            omega (arith, all_rows);
+        given = λ x. omega (arith, gap_used x);
+        falls =
+            omega (arith, gap_behind.gap_low, tall format c s t.placed (link - 1) h top t.search);
+        low = low_layer format c s t.placed (link - 1) h top t.search;
+      }
 
-    pub opens_gap : OpensGap format c s link t k child (record { layer = h.layer; front = front; back = back; tail = tail_link; head = link - 1; other = None })
-    opens_gap = record {
-      inner = gap_inner;
-      framed = gap_framed;
-      entries = all;
-      behind = entries_to format cut.behind top.tail;
-      top = top.tree;
-      gap = cut.gap;
-      first = gap_behind.first;
-      same = gap_behind.same;
-      counted = gap_counts;
-      some = (node_search format c s t.placed (link - 1) h top t.search).1;
-      given = λ x. omega (arith, gap_used x);
-      falls = omega (arith, gap_behind.gap_low, tall format c s t.placed (link - 1) h top t.search);
-      low = low_layer format c s t.placed (link - 1) h top t.search;
-    }
+      pub opens_gap : OpensGap format c s link t k child
+          (record {
+            layer = h.layer;
+            front = front;
+            back = back;
+            tail = tail_link;
+            head =
+                link - 1;
+            other = None;
+          })
+      opens_gap = record {
+        inner = gap_inner;
+        framed = gap_framed;
+        entries = all;
+        behind = entries_to format cut.behind top.tail;
+        top = top.tree;
+        gap = cut.gap;
+        first = gap_behind.first;
+        same = gap_behind.same;
+        counted = gap_counts;
+        some = (node_search format c s t.placed (link - 1) h top t.search).1;
+        given = λ x. omega (arith, gap_used x);
+        falls =
+            omega (arith, gap_behind.gap_low, tall format c s t.placed (link - 1) h top t.search);
+        low = low_layer format c s t.placed (link - 1) h top t.search;
+      }
 
-  module _ (front back : RunOf) (row child right tail_link : ℕ) (cut : CutHeld format k top.entries top.tail front row child back) (right_is : link_of (gap_before cut.behind top.tail) ≡ right) (tail_is : tail_link ≡ tail_behind back.count h.tail) where
-    held_run : Run format c s h.first h.count 0 (cut.before ++ cut.here ∷ cut.behind)
-    held_run = subst (Run format c s h.first h.count 0) cut.whole top.run
+    module _ (front back : RunOf) (row child right tail_link : ℕ)
+        (cut : CutHeld format k top.entries top.tail front row child back)
+        (right_is : link_of (gap_before cut.behind top.tail) ≡ right)
+        (tail_is : tail_link ≡ tail_behind back.count h.tail) where
+      held_run : Run format c s h.first h.count 0 (cut.before ++ cut.here ∷ cut.behind)
+      held_run = subst (Run format c s h.first h.count 0) cut.whole top.run
 
-    held_search : IsMstEntries format h.layer (entry (tree_of format cut.here.child) k cut.here.value (entries_to format cut.behind top.tail))
-    held_search = back_search format h.layer cut.before (entry (tree_of format cut.here.child) k cut.here.value (entries_to format cut.behind top.tail)) (subst (IsMstEntries format h.layer) cut.at.whole (node_search format c s t.placed (link - 1) h top t.search).2)
+      held_search : IsMstEntries format h.layer
+          (entry (tree_of format cut.here.child) k cut.here.value
+          (entries_to format cut.behind top.tail))
+      held_search =
+          back_search format h.layer cut.before
+          (entry (tree_of format cut.here.child) k cut.here.value
+          (entries_to format cut.behind top.tail))
+          (subst (IsMstEntries format h.layer) cut.at.whole
+          (node_search format c s t.placed (link - 1) h top t.search).2)
 
-    held_gaps : EachGap (OldPiece format c s) (cut.here ∷ cut.behind)
-    held_gaps = back_gaps (OldPiece format c s) cut.before (cut.here ∷ cut.behind) held_run.gaps
+      held_gaps : EachGap (OldPiece format c s) (cut.here ∷ cut.behind)
+      held_gaps = back_gaps (OldPiece format c s) cut.before (cut.here ∷ cut.behind) held_run.gaps
 
-    held_behind : Behind format c s h.layer back.first back.count h.tail cut.behind top.tail
-    held_behind = behind format c s h.layer back.first back.count h.tail cut.behind top.tail cut.back_is.counted cut.back_is.begins
-        (back_rows c cut.before (cut.here ∷ cut.behind) held_run.rows).1 (λ r i. back_old format c s h.first h.count cut.before (cut.here ∷ cut.behind) held_run r (omega (arith, i))) held_gaps.1
-        top.tail_at top.tail_piece held_search.3
+      held_behind : Behind format c s h.layer back.first back.count h.tail cut.behind top.tail
+      held_behind = behind format c s h.layer back.first back.count h.tail cut.behind top.tail
+          cut.back_is.counted cut.back_is.begins
+          (back_rows c cut.before (cut.here ∷ cut.behind) held_run.rows).1
+          (λ r i. back_old format c s h.first h.count cut.before (cut.here ∷ cut.behind) held_run
+          r (omega (arith, i))) held_gaps.1
+          top.tail_at top.tail_piece held_search.3
 
-    held_used : (x : ℕ) → times x (used t.placed) ≡ bit (eqb x (link - 1)) + times x (own cut.before) + bit (eqb x row) + times x (own cut.behind) + times x (gaps_used cut.before) + times x (used cut.here.child) + times x (used (gap_before cut.behind top.tail)) + times x (gaps_used (others cut.behind)) + times x (used held_behind.kept)
-    held_used x = omega (arith, top.used_is x, ap (λ (l : List PlacedEntry). times x (own l)) cut.whole, own_both x cut.before (cut.here ∷ cut.behind), ap (λ (l : List PlacedEntry). times x (gaps_used l)) cut.whole, gaps_both x cut.before (cut.here ∷ cut.behind), times-append x (used cut.here.child) (gaps_used cut.behind), held_behind.counts x, ap (λ (n : ℕ). bit (eqb x n)) cut.row_is)
+      held_used : (x : ℕ) → times x (used t.placed) ≡ bit (eqb x (link - 1)) + times x
+          (own cut.before) + bit (eqb x row) + times x (own cut.behind) + times x
+          (gaps_used cut.before) + times x (used cut.here.child) + times x
+          (used (gap_before cut.behind top.tail)) + times x (gaps_used (others cut.behind)) + times
+          x
+          (used held_behind.kept)
+      held_used x =
+          omega (
+            arith,
+            top.used_is x,
+            ap (λ (l : List PlacedEntry). times x (own l)) cut.whole,
+            own_both x cut.before (cut.here ∷ cut.behind),
+            ap (λ (l : List PlacedEntry). times x (gaps_used l)) cut.whole,
+            gaps_both x cut.before
+                (cut.here ∷ cut.behind),
+            times-append x (used cut.here.child) (gaps_used cut.behind),
+            held_behind.counts x,
+            ap (λ (n : ℕ). bit (eqb x n)) cut.row_is,
+          )
 
-    held_counts : length (cells_of format cut.before) + entry_count (entries_to format cut.behind top.tail) ≡ front.count + back.count
-    held_counts = omega (arith, length-map {B = TreeEntry} cut.before (cell_of format), cut.front_is.counted, held_behind.count_is)
+      held_counts : length (cells_of format cut.before) + entry_count
+          (entries_to format cut.behind top.tail) ≡ front.count + back.count
+      held_counts =
+          omega (
+            arith,
+            length-map {B = TreeEntry} cut.before (cell_of format),
+            cut.front_is.counted,
+            held_behind.count_is,
+          )
 
-    held_old : IsOld s row
-    held_old = subst (IsOld s) cut.row_is (held_run.old cut.here.at (omega (arith, own_both cut.here.at cut.before (cut.here ∷ cut.behind), at_self cut.here.at)))
+      held_old : IsOld s row
+      held_old =
+          subst (IsOld s) cut.row_is
+          (held_run.old cut.here.at
+          (omega (
+            arith,
+            own_both cut.here.at cut.before (cut.here ∷ cut.behind),
+            at_self cut.here.at,
+          )))
 
-    abbrev held_inner : TwoTrees format c s child right
-    held_inner = record {
-      a = cut.here.child;
-      b = gap_before cut.behind top.tail;
-      a_at = cut.child_at;
-      b_at = right_is;
-      a_piece = held_gaps.0;
-      b_piece = held_behind.gap_piece;
-      a_search = held_search.1;
-      b_search = held_behind.gap_search;
-      once = λ x. omega (arith, t.once x, held_used x);
-    }
+      abbrev held_inner : TwoTrees format c s child right
+      held_inner = record {
+        a = cut.here.child;
+        b = gap_before cut.behind top.tail;
+        a_at = cut.child_at;
+        b_at = right_is;
+        a_piece = held_gaps.0;
+        b_piece = held_behind.gap_piece;
+        a_search = held_search.1;
+        b_search = held_behind.gap_search;
+        once = λ x. omega (arith, t.once x, held_used x);
+      }
 
-    abbrev held_framed : Framed format c s (record { layer = h.layer; front = front; back = back; tail = tail_link; head = link - 1; other = Some row }) (in_both format held_inner)
-    held_framed = record {
-      front = cut.before;
-      behind = row + 1;
-      front_run = front_run format c s h.first h.count cut.before (cut.here ∷ cut.behind) held_run front.first front.count (row + 1) cut.front_is.counted cut.front_is.begins (ap (λ (n : ℕ). n + 1) (sym cut.row_is));
-      back = cut.behind;
-      tail = held_behind.kept;
-      back_run = subst (λ (n : ℕ). BackRun format c s back.first back.count n cut.behind held_behind.kept) (sym tail_is) held_behind.back_run;
-      goes = each_in (IsOld s) ((link - 1) ∷ row ∷ []) (top.head_old, (held_old, tt));
-      alive = both_alive format c s cut.here.child (gap_before cut.behind top.tail) held_gaps.0 held_behind.gap_piece;
-      once = λ x. omega (arith, t.once x, held_used x);
-    }
+      abbrev held_framed : Framed format c s
+          (record {
+            layer = h.layer;
+            front = front;
+            back = back;
+            tail = tail_link;
+            head =
+                link - 1;
+            other = Some row;
+          }) (in_both format held_inner)
+      held_framed = record {
+        front = cut.before;
+        behind = row + 1;
+        front_run = front_run format c s h.first h.count cut.before (cut.here ∷ cut.behind) held_run
+            front.first front.count (row + 1) cut.front_is.counted cut.front_is.begins
+            (ap (λ (n : ℕ). n + 1) (sym cut.row_is));
+        back = cut.behind;
+        tail = held_behind.kept;
+        back_run =
+            subst (λ (n : ℕ). BackRun format c s back.first back.count n cut.behind
+            held_behind.kept)
+            (sym tail_is) held_behind.back_run;
+        goes = each_in (IsOld s) ((link - 1) ∷ row ∷ []) (top.head_old, (held_old, tt));
+        alive = both_alive format c s cut.here.child (gap_before cut.behind top.tail) held_gaps.0
+            held_behind.gap_piece;
+        once = λ x. omega (arith, t.once x, held_used x);
+      }
 
-    pub steps_here : StepsHere format c s link t k (record { left = child; right = right; frame = record { layer = h.layer; front = front; back = back; tail = tail_link; head = link - 1; other = Some row } })
-    steps_here = record {
-      inner = held_inner;
-      framed = held_framed;
-      is =
-          ap (λ u. tree_remove u k) top.tree
-          ∙ remove_here k all (cells_of format cut.before) (tree_of format cut.here.child) cut.here.value (entries_to format cut.behind top.tail) cut.at format h.layer
-          ∙ ap (λ u. node_of format h.layer (with_entries (cells_of format cut.before) (with_first (join (tree_of format cut.here.child) u) (entries_to format cut.behind top.tail)))) held_behind.first
-          ∙ ap (λ v. node_of format h.layer (with_entries (cells_of format cut.before) v)) (held_behind.same (join (tree_of format cut.here.child) (tree_of format (gap_before cut.behind top.tail))));
-      rows =
-          let all_rows = ap (λ u. remove_rows u k) top.tree
-          ∙ remove_rows_here k all (cells_of format cut.before) (tree_of format cut.here.child) cut.here.value (entries_to format cut.behind top.tail) cut.at format h.layer
-          ∙ ap (λ n. side_rows n false + join_rows (tree_of format cut.here.child) (first_child (entries_to format cut.behind top.tail))) held_counts
-          ∙ ap (λ u. side_rows (front.count + back.count) false + join_rows (tree_of format cut.here.child) u) held_behind.first in
-          omega (arith, all_rows);
-      given = λ x. omega (arith, held_used x);
-      low = low_layer format c s t.placed (link - 1) h top t.search;
-    }
+      pub steps_here : StepsHere format c s link t k
+          (record {
+            left = child;
+            right = right;
+            frame =
+                record {
+                  layer = h.layer;
+                  front = front;
+                  back = back;
+                  tail = tail_link;
+                  head =
+                      link - 1;
+                  other = Some row;
+                };
+          })
+      steps_here = record {
+        inner = held_inner;
+        framed = held_framed;
+        is =
+            ap (λ u. tree_remove u k) top.tree
+            ∙ remove_here k all (cells_of format cut.before) (tree_of format cut.here.child)
+            cut.here.value (entries_to format cut.behind top.tail) cut.at format h.layer
+            ∙ ap (λ u. node_of format h.layer
+            (with_entries (cells_of format cut.before)
+            (with_first (join (tree_of format cut.here.child) u)
+            (entries_to format cut.behind top.tail)))) held_behind.first
+            ∙ ap (λ v. node_of format h.layer (with_entries (cells_of format cut.before) v))
+            (held_behind.same
+            (join (tree_of format cut.here.child)
+            (tree_of format (gap_before cut.behind top.tail))));
+        rows =
+            let all_rows = ap (λ u. remove_rows u k) top.tree
+            ∙ remove_rows_here k all (cells_of format cut.before) (tree_of format cut.here.child)
+            cut.here.value (entries_to format cut.behind top.tail) cut.at format h.layer
+            ∙ ap (λ n. side_rows n false + join_rows (tree_of format cut.here.child)
+            (first_child (entries_to format cut.behind top.tail))) held_counts
+            ∙ ap (λ u. side_rows (front.count + back.count) false + join_rows
+            (tree_of format cut.here.child) u) held_behind.first in
+            omega (arith, all_rows);
+        given = λ x. omega (arith, held_used x);
+        low = low_layer format c s t.placed (link - 1) h top t.search;
+      }
 
-    pub opens_entry : OpensEntry format c s link t k (record { left = child; right = right; frame = record { layer = h.layer; front = front; back = back; tail = tail_link; head = link - 1; other = Some row } })
-    opens_entry = record {
-      inner = held_inner;
-      framed = held_framed;
-      value = cut.here.value;
-      entries = all;
-      behind = entries_to format cut.behind top.tail;
-      top = top.tree;
-      at = cut.at;
-      first = held_behind.first;
-      same = held_behind.same;
-      counted = ap entry_count cut.at.whole ∙ omega (arith, with_entries_count (cells_of format cut.before) (entry (tree_of format cut.here.child) k cut.here.value (entries_to format cut.behind top.tail)), held_counts);
-      given = λ x. omega (arith, held_used x);
-      low = low_layer format c s t.placed (link - 1) h top t.search;
-    }
+      pub opens_entry : OpensEntry format c s link t k
+          (record {
+            left = child;
+            right = right;
+            frame =
+                record {
+                  layer = h.layer;
+                  front = front;
+                  back = back;
+                  tail = tail_link;
+                  head =
+                      link - 1;
+                  other = Some row;
+                };
+          })
+      opens_entry = record {
+        inner = held_inner;
+        framed = held_framed;
+        value = cut.here.value;
+        entries = all;
+        behind = entries_to format cut.behind top.tail;
+        top = top.tree;
+        at = cut.at;
+        first = held_behind.first;
+        same = held_behind.same;
+        counted = ap entry_count cut.at.whole
+            ∙ omega (
+              arith,
+              with_entries_count (cells_of format cut.before)
+                  (entry (tree_of format cut.here.child) k cut.here.value
+                  (entries_to format cut.behind top.tail)),
+              held_counts,
+            );
+        given = λ x. omega (arith, held_used x);
+        low = low_layer format c s t.placed (link - 1) h top t.search;
+      }

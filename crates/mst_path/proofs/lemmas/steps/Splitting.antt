@@ -38,22 +38,30 @@ use Rattle.mst_path.proofs.lemmas.steps.Steps.{Step, step_split, step_then, run_
 use Rattle.mst_path.proofs.lemmas.trees.Opened.{Opened, opened, Round, around, last_of, first_gap, with_first_last, gap_round, gap_round_sum, gap_old_piece}
 use Rattle.mst_path.proofs.lemmas.trees.Heights.{height, height_at, child_height, gap_mst, gap_rises, entry_layer}
 
-pub empty_link : (format : Format) (p : Placed) (at : Root) → IsRootOf format p at → is_empty (tree_of format p) ≡ (at.link == 0)
-empty_link format none at root = let is : (at.link == 0) ≡ true = let l = root.link in grind (arith, nat_tests) in sym is
-empty_link format (head i l chain) at root = let is : (at.link == 0) ≡ false = let l = root.link in grind (arith, nat_tests) in sym is
+pub empty_link : (format : Format) (p : Placed) (at : Root) → IsRootOf format p at
+    → is_empty (tree_of format p) ≡ (at.link == 0)
+empty_link format none at root = let is : (at.link == 0) ≡ true = let l =
+    root.link in grind (arith, nat_tests) in sym is
+empty_link format (head i l chain) at root = let is : (at.link == 0) ≡ false = let l =
+    root.link in grind (arith, nat_tests) in sym is
 
 pub positive : (n : ℕ) → (n ≡ 0 → ⊥) → 0 < n
 positive zero never = absurd (never refl)
 positive (suc n) never = omega arith
 
-entries_count : (format : Format) (es : List PlacedEntry) (tail : Placed) → entry_count (entries_to format es tail) ≡ length es
-entries_count format es tail = with_entries_count (cells_of format es) (last (tree_of format tail)) ∙ omega (arith, length-map {B = TreeEntry} es (cell_of format))
+entries_count : (format : Format) (es : List PlacedEntry) (tail : Placed)
+    → entry_count (entries_to format es tail) ≡ length es
+entries_count format es tail = with_entries_count (cells_of format es) (last (tree_of format tail))
+    ∙ omega (arith, length-map {B = TreeEntry} es (cell_of format))
 
-pub no_front : (cs : List TreeEntry) (t : Tree) → ((length cs == 0) && is_empty (first_child (with_entries cs (last t)))) ≡ ((length cs == 0) && is_empty t)
+pub no_front : (cs : List TreeEntry) (t : Tree)
+    → ((length cs == 0) && is_empty (first_child (with_entries cs (last t))))
+    ≡ ((length cs == 0) && is_empty t)
 no_front [] t = refl
 no_front (x ∷ cs) t =
     let more : (length (x ∷ cs) == 0) ≡ false = grind (arith, nat_tests) in
-    ap (λ (b : Bool). b && is_empty (first_child (with_entries (x ∷ cs) (last t)))) more ∙ sym (ap (λ (b : Bool). b && is_empty t) more)
+    ap (λ (b : Bool). b && is_empty (first_child (with_entries (x ∷ cs) (last t)))) more
+    ∙ sym (ap (λ (b : Bool). b && is_empty t) more)
 
 empty_is : (t : Tree) → is_empty t ≡ true → t ≡ empty
 empty_is empty e = refl
@@ -77,15 +85,22 @@ pub and_right : (a b : Bool) → (a && b) ≡ true → b ≡ true
 and_right true b e = e
 and_right false b e = absurd cc
 
-last_link : (es : List PlacedEntry) (tail : Placed) (n : ℕ) → length es ≡ n → link_of (last_of es tail) ≡ tail_behind n (link_of tail)
+last_link : (es : List PlacedEntry) (tail : Placed) (n : ℕ) → length es ≡ n
+    → link_of (last_of es tail) ≡ tail_behind n (link_of tail)
 last_link [] tail n e = ap (λ (m : ℕ). tail_behind m (link_of tail)) e
 last_link (x ∷ es) tail n e = ap (λ (m : ℕ). tail_behind m (link_of tail)) e
 
 -- the empty tree
-pub split_none : (format : Format) (c : Content) (s : State) (link : ℕ) (k : List ℕ) (left right : Root) → link ≡ 0 → IsRootOf format none left → IsRootOf format none right → (t : ToSplit format c s link k) → Split format c c s s (below k (tree_of format t.tree.placed)) (above k (tree_of format t.tree.placed)) left right (λ x. times x (used t.tree.placed)) (split_rows k (tree_of format t.tree.placed))
+pub split_none : (format : Format) (c : Content) (s : State) (link : ℕ) (k : List ℕ)
+    (left right : Root) → link ≡ 0 → IsRootOf format none left → IsRootOf format none right
+    → (t : ToSplit format c s link k) → Split format c c s s
+    (below k (tree_of format t.tree.placed)) (above k (tree_of format t.tree.placed)) left right
+    (λ x. times x (used t.tree.placed)) (split_rows k (tree_of format t.tree.placed))
 split_none format c s link k left right zero_is l r t = go t.tree.placed (t.tree.at ∙ zero_is)
   where
-    go : (p : Placed) → link_of p ≡ 0 → Split format c c s s (below k (tree_of format p)) (above k (tree_of format p)) left right (λ x. times x (used p)) (split_rows k (tree_of format p))
+    go : (p : Placed) → link_of p ≡ 0 → Split format c c s s (below k (tree_of format p))
+        (above k (tree_of format p)) left right (λ x. times x (used p))
+        (split_rows k (tree_of format p))
     go none is = record {
       lower = none;
       upper = none;
@@ -105,26 +120,49 @@ split_none format c s link k left right zero_is l r t = go t.tree.placed (t.tree
     go (head at l chain) is = absurd (omega (arith, is))
 
 -- a tree that is to be split, with a head that was read
-pub record AtHead (format : Format) (c : Content) (s : State) (link : ℕ) (k : List ℕ) (h : HeadLinks) : Type 0 where
+pub record AtHead (format : Format) (c : Content) (s : State) (link : ℕ) (k : List ℕ)
+    (h : HeadLinks) : Type 0 where
   pub tree : ToSplit format c s link k
   pub some : link ≡ 0 → ⊥
   pub read : part_at head_links c (link - 1) ≡ Some h
 
-module _ (format : Format) {c : Content} {s : State} {link : ℕ} {k : List ℕ} {h : HeadLinks} (here : AtHead format c s link k h) where
+module _ (format : Format) {c : Content} {s : State} {link : ℕ} {k : List ℕ} {h : HeadLinks}
+    (here : AtHead format c s link k h) where
   abbrev pub o : Opened format c s link here.tree.tree.placed
   o = opened format c s link here.tree.tree (positive link here.some)
 
   pub at_is : link - 1 ≡ o.at
   at_is = omega (arith, o.link_is)
 
-  head_is : record { layer = o.layer; count = length o.es; first = link_from 0 o.es; tail = link_of o.tail } ≡ h
-  head_is = let e : Some (record { layer = o.layer; count = length o.es; first = link_from 0 o.es; tail = link_of o.tail }) ≡ Some h = sym o.links ∙ ap (λ (n : ℕ). part_at head_links c n) (sym at_is) ∙ here.read in cc
+  head_is : record {
+    layer = o.layer;
+    count = length o.es;
+    first = link_from 0 o.es;
+    tail =
+        link_of o.tail;
+  } ≡ h
+  head_is =
+      let e : Some
+      (record {
+        layer = o.layer;
+        count = length o.es;
+        first = link_from 0 o.es;
+        tail =
+            link_of o.tail;
+      }) ≡ Some h = sym o.links ∙ ap (λ (n : ℕ). part_at head_links c n) (sym at_is)
+      ∙ here.read in cc
 
   pub layer_is : o.layer ≡ h.layer
   layer_is = ap (λ (x : HeadLinks). x.layer) head_is
 
   lies_behind : EntriesLie c h o.es
-  lies_behind = record { first = ap (λ (x : HeadLinks). x.first) head_is; count = ap (λ (x : HeadLinks). x.count) head_is; rows = o.rows }
+  lies_behind =
+      record {
+        first = ap (λ (x : HeadLinks). x.first) head_is;
+        count =
+            ap (λ (x : HeadLinks). x.count) head_is;
+        rows = o.rows;
+      }
 
   -- the same behind reads that leave the rows
   pub lies_in : (c' : Content) → c' ≡ c → EntriesLie c' h o.es
@@ -140,51 +178,102 @@ module _ (format : Format) {c : Content} {s : State} {link : ℕ} {k : List ℕ}
   under = subst (IsUnder (layer_in format k)) o.tree_is here.tree.under
 
   pub layer_low : h.layer ≤ 128
-  layer_low = omega (arith, layer_of_entries format o.layer (entries_to format o.es o.tail) mst.1 mst.2, layer_is)
+  layer_low =
+      omega (
+        arith,
+        layer_of_entries format o.layer (entries_to format o.es o.tail) mst.1 mst.2,
+        layer_is,
+      )
 
   -- the key has no entry
-  pub not_held : (front : Entries_at) (row child : ℕ) (back : Entries_at) → CutHeld format k o.es o.tail front row child back → ⊥
+  pub not_held : (front : Entries_at) (row child : ℕ) (back : Entries_at) → CutHeld format k o.es
+      o.tail front row child back → ⊥
   not_held front row child back held =
-      let entries : IsMstEntries format o.layer (with_entries (cells_of format held.before) (entry (tree_of format held.here.child) k held.here.value (entries_to format held.behind o.tail))) = subst (IsMstEntries format o.layer) held.at.whole mst.2 in
-      absurd (omega (arith, under, entry_layer format o.layer (tree_of format held.here.child) k held.here.value (entries_to format held.behind o.tail) (cells_of format held.before) entries))
+      let entries : IsMstEntries format o.layer
+      (with_entries (cells_of format held.before)
+      (entry (tree_of format held.here.child) k held.here.value
+      (entries_to format held.behind o.tail))) =
+      subst (IsMstEntries format o.layer) held.at.whole mst.2 in
+      absurd (omega (
+        arith,
+        under,
+        entry_layer format o.layer (tree_of format held.here.child) k
+            held.here.value (entries_to format held.behind o.tail) (cells_of format held.before)
+            entries,
+      ))
 
-  pub gap_of : {c' : Content} → c' ≡ c → {found : Cut} → ((es : List PlacedEntry) (tail : Placed) → EntriesLie c' h es → link_of tail ≡ h.tail → IsCut format k es tail found) → {front back : Entries_at} {child : ℕ} → found ≡ Gap front child back → CutGap format k o.es o.tail front child back
-  gap_of {c' = c'} same made is = subst (IsCut format k o.es o.tail) is (made o.es o.tail (lies_in c' same) tail_behind_is)
+  pub gap_of : {c' : Content} → c' ≡ c → {found : Cut}
+      → ((es : List PlacedEntry) (tail : Placed) → EntriesLie c' h es → link_of tail ≡ h.tail
+      → IsCut format k es tail found) → {front back : Entries_at} {child : ℕ}
+      → found ≡ Gap front child back → CutGap format k o.es o.tail front child back
+  gap_of {c' = c'} same made is =
+      subst (IsCut format k o.es o.tail) is (made o.es o.tail (lies_in c' same) tail_behind_is)
 
-  module _ {front back : Entries_at} {child : ℕ} (cut : CutGap format k o.es o.tail front child back) where
+  module _ {front back : Entries_at} {child : ℕ}
+      (cut : CutGap format k o.es o.tail front child back) where
     abbrev pub in_gap : Placed
     in_gap = gap_before cut.behind o.tail
 
     pub first_is : first_child (entries_to format cut.behind o.tail) ≡ tree_of format in_gap
     first_is = first_gap format cut.behind o.tail
 
-    pub sum : (x : ℕ) → times x (used here.tree.tree.placed) ≡ around o.at cut.before cut.behind (last_of cut.behind o.tail) x + times x (used in_gap)
+    pub sum : (x : ℕ) → times x (used here.tree.tree.placed) ≡ around o.at cut.before cut.behind
+        (last_of cut.behind o.tail) x + times x (used in_gap)
     sum = gap_round_sum format c s link here.tree.tree.placed o cut.before cut.behind cut.whole
 
     pub gap_is : IsUnder o.layer (tree_of format in_gap) × IsMst format (tree_of format in_gap)
-    gap_is = subst (λ (u : Tree). IsUnder o.layer u × IsMst format u) first_is (gap_mst format o.layer (entries_to format cut.behind o.tail) (cells_of format cut.before) (subst (IsMstEntries format o.layer) cut.gap.whole mst.2))
+    gap_is = subst (λ (u : Tree). IsUnder o.layer u × IsMst format u) first_is
+        (gap_mst format o.layer (entries_to format cut.behind o.tail) (cells_of format cut.before)
+        (subst (IsMstEntries format o.layer) cut.gap.whole mst.2))
 
     abbrev pub gap_to_split : ToSplit format c s child k
     gap_to_split = record {
-      tree = record { placed = in_gap; at = cut.child_at; piece = gap_old_piece format c s link here.tree.tree.placed o cut.before cut.behind cut.whole; once = λ x. omega (arith, sum x, here.tree.tree.once x) };
+      tree =
+          record {
+            placed = in_gap;
+            at = cut.child_at;
+            piece =
+                gap_old_piece format c s link here.tree.tree.placed o cut.before cut.behind
+                cut.whole;
+            once = λ x. omega (arith, sum x, here.tree.tree.once x);
+          };
       mst = gap_is.1;
-      rises = subst (λ (u : Tree). IsAscending (pairs u)) first_is (gap_rises format o.layer (entries_to format cut.behind o.tail) (cells_of format cut.before) (subst (λ (es : Entries). IsAscending (entries_pairs es)) cut.gap.whole (subst (λ (u : Tree). IsAscending (pairs u)) o.tree_is here.tree.rises)));
-      under = under_weaker o.layer (layer_in format k) (tree_of format in_gap) (omega (arith, under)) gap_is.0;
+      rises = subst (λ (u : Tree). IsAscending (pairs u)) first_is
+          (gap_rises format o.layer (entries_to format cut.behind o.tail)
+          (cells_of format cut.before)
+          (subst (λ (es : Entries). IsAscending (entries_pairs es)) cut.gap.whole
+          (subst (λ (u : Tree). IsAscending (pairs u)) o.tree_is here.tree.rises)));
+      under = under_weaker o.layer (layer_in format k) (tree_of format in_gap)
+          (omega (arith, under)) gap_is.0;
     }
 
     pub gap_falls : height c child < height c link
     gap_falls =
-        let top = height_at c o.at (record { layer = o.layer; count = length o.es; first = link_from 0 o.es; tail = link_of o.tail }) link o.link_is o.links in
+        let top =
+        height_at c o.at
+        (record {
+          layer = o.layer;
+          count = length o.es;
+          first = link_from 0 o.es;
+          tail =
+              link_of o.tail;
+        }) link o.link_is o.links in
         let low = child_height format c o.layer in_gap (gap_to_split.tree.piece.rows) gap_is.0 in
         omega (arith, top, low, ap (height c) cut.child_at)
 
-    pub below_is : below k (tree_of format here.tree.tree.placed) ≡ node_of format o.layer (with_entries (cells_of format cut.before) (last (below k (tree_of format in_gap))))
-    below_is = ap (below k) o.tree_is ∙ below_step k (entries_to format o.es o.tail) (cells_of format cut.before) (entries_to format cut.behind o.tail) cut.gap format o.layer
-        ∙ ap (λ (u : Tree). node_of format o.layer (with_entries (cells_of format cut.before) (last (below k u)))) first_is
+    pub below_is : below k (tree_of format here.tree.tree.placed) ≡ node_of format o.layer
+        (with_entries (cells_of format cut.before) (last (below k (tree_of format in_gap))))
+    below_is = ap (below k) o.tree_is ∙ below_step k (entries_to format o.es o.tail)
+        (cells_of format cut.before) (entries_to format cut.behind o.tail) cut.gap format o.layer
+        ∙ ap (λ (u : Tree). node_of format o.layer
+        (with_entries (cells_of format cut.before) (last (below k u)))) first_is
 
-    pub above_is : above k (tree_of format here.tree.tree.placed) ≡ node_of format o.layer (with_first (above k (tree_of format in_gap)) (entries_to format cut.behind o.tail))
-    above_is = ap (above k) o.tree_is ∙ above_step k (entries_to format o.es o.tail) (cells_of format cut.before) (entries_to format cut.behind o.tail) cut.gap format o.layer
-        ∙ ap (λ (u : Tree). node_of format o.layer (with_first (above k u) (entries_to format cut.behind o.tail))) first_is
+    pub above_is : above k (tree_of format here.tree.tree.placed) ≡ node_of format o.layer
+        (with_first (above k (tree_of format in_gap)) (entries_to format cut.behind o.tail))
+    above_is = ap (above k) o.tree_is ∙ above_step k (entries_to format o.es o.tail)
+        (cells_of format cut.before) (entries_to format cut.behind o.tail) cut.gap format o.layer
+        ∙ ap (λ (u : Tree). node_of format o.layer
+        (with_first (above k u) (entries_to format cut.behind o.tail))) first_is
 
     front_count : length (cells_of format cut.before) ≡ front.count
     front_count = length-map {B = TreeEntry} cut.before (cell_of format) ∙ cut.front_is.counted
@@ -192,63 +281,127 @@ module _ (format : Format) {c : Content} {s : State} {link : ℕ} {k : List ℕ}
     back_count : entry_count (entries_to format cut.behind o.tail) ≡ back.count
     back_count = entries_count format cut.behind o.tail ∙ cut.back_is.counted
 
-    pub above_empty : is_empty (above k (tree_of format here.tree.tree.placed)) ≡ ((back.count == 0) && is_empty (above k (tree_of format in_gap)))
-    above_empty = ap (λ (u : Tree). is_empty (above k u)) o.tree_is ∙ none_above k (entries_to format o.es o.tail) (cells_of format cut.before) (entries_to format cut.behind o.tail) cut.gap format o.layer
-        ∙ ap (λ n. (n == 0) && is_empty (above k (first_child (entries_to format cut.behind o.tail)))) back_count ∙ ap (λ (u : Tree). (back.count == 0) && is_empty (above k u)) first_is
+    pub above_empty : is_empty (above k (tree_of format here.tree.tree.placed))
+        ≡ ((back.count == 0) && is_empty (above k (tree_of format in_gap)))
+    above_empty = ap (λ (u : Tree). is_empty (above k u)) o.tree_is
+        ∙ none_above k (entries_to format o.es o.tail) (cells_of format cut.before)
+        (entries_to format cut.behind o.tail) cut.gap format o.layer
+        ∙ ap (λ n. (n == 0) && is_empty
+        (above k (first_child (entries_to format cut.behind o.tail)))) back_count
+        ∙ ap (λ (u : Tree). (back.count == 0) && is_empty (above k u)) first_is
 
-    pub below_empty : is_empty (below k (tree_of format here.tree.tree.placed)) ≡ ((front.count == 0) && is_empty (below k (tree_of format in_gap)))
-    below_empty = ap (λ (u : Tree). is_empty (below k u)) o.tree_is ∙ none_below k (entries_to format o.es o.tail) (cells_of format cut.before) (entries_to format cut.behind o.tail) cut.gap format o.layer
-        ∙ no_front (cells_of format cut.before) (below k (first_child (entries_to format cut.behind o.tail)))
-        ∙ ap (λ n. (n == 0) && is_empty (below k (first_child (entries_to format cut.behind o.tail)))) front_count ∙ ap (λ (u : Tree). (front.count == 0) && is_empty (below k u)) first_is
+    pub below_empty : is_empty (below k (tree_of format here.tree.tree.placed))
+        ≡ ((front.count == 0) && is_empty (below k (tree_of format in_gap)))
+    below_empty = ap (λ (u : Tree). is_empty (below k u)) o.tree_is
+        ∙ none_below k (entries_to format o.es o.tail) (cells_of format cut.before)
+        (entries_to format cut.behind o.tail) cut.gap format o.layer
+        ∙ no_front (cells_of format cut.before)
+        (below k (first_child (entries_to format cut.behind o.tail)))
+        ∙ ap (λ n. (n == 0) && is_empty
+        (below k (first_child (entries_to format cut.behind o.tail)))) front_count
+        ∙ ap (λ (u : Tree). (front.count == 0) && is_empty (below k u)) first_is
 
-    pub rows_is : split_rows k (tree_of format here.tree.tree.placed) ≡ side_rows front.count (is_empty (above k (tree_of format here.tree.tree.placed))) + side_rows back.count (is_empty (below k (tree_of format here.tree.tree.placed))) + split_rows k (tree_of format in_gap)
+    pub rows_is : split_rows k (tree_of format here.tree.tree.placed) ≡ side_rows front.count
+        (is_empty (above k (tree_of format here.tree.tree.placed))) + side_rows back.count
+        (is_empty (below k (tree_of format here.tree.tree.placed))) + split_rows k
+        (tree_of format in_gap)
     rows_is =
         let es = entries_to format o.es o.tail in
         let n = node format o.layer es in
-        let step = split_rows_step k es (cells_of format cut.before) (entries_to format cut.behind o.tail) cut.gap format o.layer in
-        let a : side_rows (length (cells_of format cut.before)) (is_empty (above k n)) ≡ side_rows front.count (is_empty (above k (tree_of format here.tree.tree.placed))) = ap (λ m. side_rows m (is_empty (above k n))) front_count ∙ ap (λ (u : Tree). side_rows front.count (is_empty (above k u))) (sym o.tree_is) in
-        let b : side_rows (entry_count (entries_to format cut.behind o.tail)) (is_empty (below k n)) ≡ side_rows back.count (is_empty (below k (tree_of format here.tree.tree.placed))) = ap (λ m. side_rows m (is_empty (below k n))) back_count ∙ ap (λ (u : Tree). side_rows back.count (is_empty (below k u))) (sym o.tree_is) in
-        let d : split_rows k (first_child (entries_to format cut.behind o.tail)) ≡ split_rows k (tree_of format in_gap) = ap (split_rows k) first_is in
-        let whole : split_rows k (tree_of format here.tree.tree.placed) ≡ split_rows k n = ap (split_rows k) o.tree_is in
+        let step = split_rows_step k es (cells_of format cut.before)
+        (entries_to format cut.behind o.tail) cut.gap format o.layer in
+        let a : side_rows (length (cells_of format cut.before)) (is_empty (above k n)) ≡ side_rows
+        front.count (is_empty (above k (tree_of format here.tree.tree.placed))) =
+        ap (λ m. side_rows m (is_empty (above k n))) front_count
+        ∙ ap (λ (u : Tree). side_rows front.count (is_empty (above k u))) (sym o.tree_is) in
+        let b : side_rows (entry_count (entries_to format cut.behind o.tail)) (is_empty (below k n))
+        ≡ side_rows back.count (is_empty (below k (tree_of format here.tree.tree.placed))) =
+        ap (λ m. side_rows m (is_empty (below k n))) back_count
+        ∙ ap (λ (u : Tree). side_rows back.count (is_empty (below k u))) (sym o.tree_is) in
+        let d : split_rows k (first_child (entries_to format cut.behind o.tail)) ≡ split_rows k
+        (tree_of format in_gap) = ap (split_rows k) first_is in
+        let whole : split_rows k (tree_of format here.tree.tree.placed) ≡ split_rows k n =
+        ap (split_rows k) o.tree_is in
         omega (arith, step, a, b, d, whole)
 
-    pub gap_room : split_rows k (tree_of format in_gap) ≤ split_rows k (tree_of format here.tree.tree.placed)
+    pub gap_room : split_rows k (tree_of format in_gap) ≤ split_rows k
+        (tree_of format here.tree.tree.placed)
     gap_room = omega (arith, rows_is)
 
-    module _ {c1 : Content} {s1 : State} {lower upper : Root} {n : ℕ} (r : Split format c c1 s s1 (below k (tree_of format in_gap)) (above k (tree_of format in_gap)) lower upper (λ x. times x (used in_gap)) n) where
+    module _ {c1 : Content} {s1 : State} {lower upper : Root} {n : ℕ}
+        (r : Split format c c1 s s1 (below k (tree_of format in_gap))
+        (above k (tree_of format in_gap)) lower upper (λ x. times x (used in_gap)) n) where
       -- whether all is on one side
-      pub all_below : is_empty (above k (tree_of format here.tree.tree.placed)) ≡ ((back.count == 0) && (upper.link == 0))
-      all_below = above_empty ∙ ap (λ (b : Bool). (back.count == 0) && b) (ap is_empty (sym r.upper_is) ∙ empty_link format r.upper upper r.upper_root)
+      pub all_below : is_empty (above k (tree_of format here.tree.tree.placed))
+          ≡ ((back.count == 0) && (upper.link == 0))
+      all_below = above_empty ∙ ap (λ (b : Bool). (back.count == 0) && b)
+          (ap is_empty (sym r.upper_is) ∙ empty_link format r.upper upper r.upper_root)
 
-      pub all_above : is_empty (below k (tree_of format here.tree.tree.placed)) ≡ ((front.count == 0) && (lower.link == 0))
-      all_above = below_empty ∙ ap (λ (b : Bool). (front.count == 0) && b) (ap is_empty (sym r.lower_is) ∙ empty_link format r.lower lower r.lower_root)
+      pub all_above : is_empty (below k (tree_of format here.tree.tree.placed))
+          ≡ ((front.count == 0) && (lower.link == 0))
+      all_above = below_empty ∙ ap (λ (b : Bool). (front.count == 0) && b)
+          (ap is_empty (sym r.lower_is) ∙ empty_link format r.lower lower r.lower_root)
 
-      abbrev pub inner : Step c c1 s s1 (λ x. times x (used in_gap)) (λ x. times x (used r.lower) + times x (used r.upper)) n
-      inner = step_split format c c1 s s1 (below k (tree_of format in_gap)) (above k (tree_of format in_gap)) lower upper (λ x. times x (used in_gap)) n r
+      abbrev pub inner : Step c c1 s s1 (λ x. times x (used in_gap))
+          (λ x. times x (used r.lower) + times x (used r.upper)) n
+      inner = step_split format c c1 s s1 (below k (tree_of format in_gap))
+          (above k (tree_of format in_gap)) lower upper (λ x. times x (used in_gap)) n r
 
-      pub round_apart : (x : ℕ) → around o.at cut.before cut.behind (last_of cut.behind o.tail) x + times x (used in_gap) ≤ 1
+      pub round_apart : (x : ℕ) → around o.at cut.before cut.behind (last_of cut.behind o.tail) x
+          + times x (used in_gap) ≤ 1
       round_apart x = omega (arith, sum x, here.tree.tree.once x)
 
-      round_alive : (x : ℕ) → 0 < around o.at cut.before cut.behind (last_of cut.behind o.tail) x + times x (used in_gap) → IsAlive s x
+      round_alive : (x : ℕ) → 0 < around o.at cut.before cut.behind (last_of cut.behind o.tail) x
+          + times x (used in_gap) → IsAlive s x
       round_alive x i = old_alive s x (here.tree.tree.piece.old x (omega (arith, i, sum x)))
 
-      pub apart_now : (x : ℕ) → around o.at cut.before cut.behind (last_of cut.behind o.tail) x + (times x (used r.lower) + times x (used r.upper)) ≤ 1
-      apart_now = apart_after format c c1 s s1 (λ x. times x (used in_gap)) (λ x. times x (used r.lower) + times x (used r.upper)) n inner (around o.at cut.before cut.behind (last_of cut.behind o.tail)) round_apart round_alive
+      pub apart_now : (x : ℕ) → around o.at cut.before cut.behind (last_of cut.behind o.tail) x
+          + (times x (used r.lower) + times x (used r.upper)) ≤ 1
+      apart_now = apart_after format c c1 s s1 (λ x. times x (used in_gap))
+          (λ x. times x (used r.lower) + times x (used r.upper)) n inner
+          (around o.at cut.before cut.behind (last_of cut.behind o.tail)) round_apart round_alive
 
-      module _ {none_l none_r : Entries_at} {tail_link : ℕ} (none_l_is : none_l ≡ record { first = 0; count = 0 }) (none_r_is : none_r ≡ record { first = 0; count = 0 }) (tail_at : tail_link ≡ tail_behind back.count h.tail) where
+      module _ {none_l none_r : Entries_at} {tail_link : ℕ}
+          (none_l_is : none_l ≡ record { first = 0; count = 0 })
+          (none_r_is : none_r ≡ record { first = 0; count = 0 })
+          (tail_at : tail_link ≡ tail_behind back.count h.tail) where
         tail_is : link_of (last_of cut.behind o.tail) ≡ tail_link
-        tail_is = last_link cut.behind o.tail back.count cut.back_is.counted ∙ ap (tail_behind back.count) tail_behind_is ∙ sym tail_at
+        tail_is = last_link cut.behind o.tail back.count cut.back_is.counted
+            ∙ ap (tail_behind back.count) tail_behind_is ∙ sym tail_at
 
-        pub round : Round format c s o.at front back tail_link cut.before cut.behind (last_of cut.behind o.tail)
-        round = gap_round format c s link here.tree.tree.placed o cut.before cut.behind cut.whole here.tree.tree.piece.old front back tail_link cut.front_is cut.back_is tail_is
+        pub round : Round format c s o.at front back tail_link cut.before cut.behind
+            (last_of cut.behind o.tail)
+        round = gap_round format c s link here.tree.tree.placed o cut.before cut.behind cut.whole
+            here.tree.tree.piece.old front back tail_link cut.front_is cut.back_is tail_is
 
-        abbrev pub both : BothStand format c1 s1 (link - 1) (record { layer = h.layer; front = front; seam = lower; back = none_l; tail = 0 }) (record { layer = h.layer; front = none_r; seam = upper; back = back; tail = tail_link })
+        abbrev pub both : BothStand format c1 s1 (link - 1)
+            (record { layer = h.layer; front = front; seam = lower; back = none_l; tail = 0 })
+            (record {
+              layer = h.layer;
+              front = none_r;
+              seam = upper;
+              back = back;
+              tail =
+                  tail_link;
+            })
         both = record {
-          head_old = subst (IsOld s1) (sym at_is) (old_after format c c1 s s1 (λ x. times x (used in_gap)) (λ x. times x (used r.lower) + times x (used r.upper)) n inner o.at o.head_old (omega (arith, round_apart o.at, Rattle.mst_path.proofs.lemmas.rows.Copies.at_self o.at)));
+          head_old =
+              subst (IsOld s1) (sym at_is)
+              (old_after format c c1 s s1 (λ x. times x (used in_gap))
+              (λ x. times x (used r.lower) + times x (used r.upper)) n inner o.at o.head_old
+              (omega (
+                arith,
+                round_apart o.at,
+                Rattle.mst_path.proofs.lemmas.rows.Copies.at_self
+                    o.at,
+              )));
           lower = record {
             front = cut.before;
             behind = link_from 0 cut.behind;
-            front_run = run_after format c c1 s s1 (λ x. times x (used in_gap)) (λ x. times x (used r.lower) + times x (used r.upper)) n inner front.first front.count (link_from 0 cut.behind) cut.before (λ x. omega (arith, round_apart x)) round.front_run;
+            front_run = run_after format c c1 s s1 (λ x. times x (used in_gap))
+                (λ x. times x (used r.lower) + times x (used r.upper)) n inner front.first
+                front.count (link_from 0 cut.behind) cut.before (λ x. omega (arith, round_apart x))
+                round.front_run;
             seam = r.lower;
             seam_at = r.lower_root;
             seam_piece = r.lower_piece;
@@ -281,34 +434,71 @@ module _ (format : Format) {c : Content} {s : State} {link : ℕ} {k : List ℕ}
             seam_piece = r.upper_piece;
             back = cut.behind;
             tail = last_of cut.behind o.tail;
-            back_run = back_after format c c1 s s1 (λ x. times x (used in_gap)) (λ x. times x (used r.lower) + times x (used r.upper)) n inner back.first back.count tail_link cut.behind (last_of cut.behind o.tail) (λ x. omega (arith, round_apart x)) round.back_run;
+            back_run = back_after format c c1 s s1 (λ x. times x (used in_gap))
+                (λ x. times x (used r.lower) + times x (used r.upper)) n inner back.first back.count
+                tail_link cut.behind (last_of cut.behind o.tail) (λ x. omega (arith, round_apart x))
+                round.back_run;
             once = λ x. omega (arith, apart_now x);
           };
           once = λ x. omega (arith, apart_now x, ap (λ (m : ℕ). times x (m ∷ [])) at_is);
         }
 
         pub lower_side : side_of format both.lower ≡ below k (tree_of format here.tree.tree.placed)
-        lower_side = ap (λ (u : Tree). node_of format h.layer (with_entries (cells_of format cut.before) (last u))) r.lower_is ∙ ap (λ (m : ℕ). node_of format m (with_entries (cells_of format cut.before) (last (below k (tree_of format in_gap))))) (sym layer_is) ∙ sym below_is
+        lower_side =
+            ap (λ (u : Tree). node_of format h.layer
+            (with_entries (cells_of format cut.before) (last u))) r.lower_is
+            ∙ ap (λ (m : ℕ). node_of format m
+            (with_entries (cells_of format cut.before) (last (below k (tree_of format in_gap)))))
+            (sym layer_is) ∙ sym below_is
 
         pub upper_side : side_of format both.upper ≡ above k (tree_of format here.tree.tree.placed)
-        upper_side = ap (λ (u : Tree). node_of format h.layer (with_first u (entries_to format cut.behind (last_of cut.behind o.tail)))) r.upper_is
-            ∙ ap (node_of format h.layer) (with_first_last format cut.behind o.tail (above k (tree_of format in_gap)))
-            ∙ ap (λ (m : ℕ). node_of format m (with_first (above k (tree_of format in_gap)) (entries_to format cut.behind o.tail))) (sym layer_is) ∙ sym above_is
+        upper_side =
+            ap (λ (u : Tree). node_of format h.layer
+            (with_first u (entries_to format cut.behind (last_of cut.behind o.tail)))) r.upper_is
+            ∙ ap (node_of format h.layer)
+            (with_first_last format cut.behind o.tail (above k (tree_of format in_gap)))
+            ∙ ap (λ (m : ℕ). node_of format m
+            (with_first (above k (tree_of format in_gap))
+            (entries_to format cut.behind o.tail))) (sym layer_is) ∙ sym above_is
 
-        module _ (not_below : ((back.count == 0) && (upper.link == 0)) ≡ false) (not_above : ((front.count == 0) && (lower.link == 0)) ≡ false) where
-          pub count_is : side_rows (front.count + none_l.count) false + side_rows (none_r.count + back.count) false + split_rows k (tree_of format in_gap) ≡ split_rows k (tree_of format here.tree.tree.placed)
+        module _ (not_below : ((back.count == 0) && (upper.link == 0)) ≡ false)
+            (not_above : ((front.count == 0) && (lower.link == 0)) ≡ false) where
+          pub count_is : side_rows (front.count + none_l.count) false + side_rows
+              (none_r.count + back.count) false + split_rows k (tree_of format in_gap) ≡ split_rows
+              k (tree_of format here.tree.tree.placed)
           count_is =
-              let a : side_rows (front.count + none_l.count) false ≡ side_rows front.count (is_empty (above k (tree_of format here.tree.tree.placed))) = ap (λ m. side_rows m false) (omega (arith, ap (λ (e : Entries_at). e.count) none_l_is)) ∙ ap (side_rows front.count) (sym (all_below ∙ not_below)) in
-              let b : side_rows (none_r.count + back.count) false ≡ side_rows back.count (is_empty (below k (tree_of format here.tree.tree.placed))) = ap (λ m. side_rows m false) (omega (arith, ap (λ (e : Entries_at). e.count) none_r_is)) ∙ ap (side_rows back.count) (sym (all_above ∙ not_above)) in
+              let a : side_rows (front.count + none_l.count) false ≡ side_rows front.count
+              (is_empty (above k (tree_of format here.tree.tree.placed))) =
+              ap (λ m. side_rows m false)
+              (omega (arith, ap (λ (e : Entries_at). e.count) none_l_is))
+              ∙ ap (side_rows front.count) (sym (all_below ∙ not_below)) in
+              let b : side_rows (none_r.count + back.count) false ≡ side_rows back.count
+              (is_empty (below k (tree_of format here.tree.tree.placed))) =
+              ap (λ m. side_rows m false)
+              (omega (arith, ap (λ (e : Entries_at). e.count) none_r_is))
+              ∙ ap (side_rows back.count) (sym (all_above ∙ not_above)) in
               omega (arith, a, b, rows_is)
 
-          pub split_made : n ≡ split_rows k (tree_of format in_gap) → (c2 : Content) (s2 : State) (left right : Root)
-              → Split format c1 c2 s1 s2 (side_of format both.lower) (side_of format both.upper) left right (in_both format both) (side_rows (front.count + none_l.count) false + side_rows (none_r.count + back.count) false)
-              → Split format c c2 s s2 (below k (tree_of format here.tree.tree.placed)) (above k (tree_of format here.tree.tree.placed)) left right (λ x. times x (used here.tree.tree.placed)) (split_rows k (tree_of format here.tree.tree.placed))
+          pub split_made : n ≡ split_rows k (tree_of format in_gap) → (c2 : Content) (s2 : State)
+              (left right : Root)
+              → Split format c1 c2 s1 s2 (side_of format both.lower) (side_of format both.upper)
+              left right (in_both format both)
+              (side_rows (front.count + none_l.count) false + side_rows
+              (none_r.count + back.count) false)
+              → Split format c c2 s s2 (below k (tree_of format here.tree.tree.placed))
+              (above k (tree_of format here.tree.tree.placed)) left right
+              (λ x. times x (used here.tree.tree.placed))
+              (split_rows k (tree_of format here.tree.tree.placed))
           split_made n_is c2 s2 left right m =
-              let count = side_rows (front.count + none_l.count) false + side_rows (none_r.count + back.count) false in
-              let outer = step_split format c1 c2 s1 s2 (side_of format both.lower) (side_of format both.upper) left right (in_both format both) count m in
-              let whole = step_then c c1 c2 s s1 s2 (λ x. times x (used in_gap)) (in_both format both) (λ x. times x (used r.lower) + times x (used r.upper)) (λ x. times x (used m.lower) + times x (used m.upper)) (λ x. times x (used here.tree.tree.placed)) (λ x. times x (used m.lower) + times x (used m.upper)) n count inner outer
+              let count = side_rows (front.count + none_l.count) false + side_rows
+              (none_r.count + back.count) false in
+              let outer = step_split format c1 c2 s1 s2 (side_of format both.lower)
+              (side_of format both.upper) left right (in_both format both) count m in
+              let whole = step_then c c1 c2 s s1 s2 (λ x. times x (used in_gap))
+              (in_both format both) (λ x. times x (used r.lower) + times x (used r.upper))
+              (λ x. times x (used m.lower) + times x (used m.upper))
+              (λ x. times x (used here.tree.tree.placed))
+              (λ x. times x (used m.lower) + times x (used m.upper)) n count inner outer
               (λ x. omega (arith, sum x, ap (λ (i : ℕ). times x (i ∷ [])) at_is)) in
               record {
                 lower = m.lower;
@@ -329,30 +519,57 @@ module _ (format : Format) {c : Content} {s : State} {link : ℕ} {k : List ℕ}
 
       module _ (still : s1 ≡ s) (n_is : n ≡ split_rows k (tree_of format in_gap)) where
         nothing_taken : split_rows k (tree_of format in_gap) ≡ 0
-        nothing_taken = omega (arith, r.counted, r.moves.room, ap (λ (u : State). free_count u.lives) still, n_is)
+        nothing_taken =
+            omega (
+              arith,
+              r.counted,
+              r.moves.room,
+              ap (λ (u : State). free_count u.lives) still,
+              n_is,
+            )
 
         base_piece : Piece format c s here.tree.tree.placed
-        base_piece = record { rows = here.tree.tree.piece.rows; made = made_old s here.tree.tree.placed here.tree.tree.piece.old }
+        base_piece =
+            record {
+              rows = here.tree.tree.piece.rows;
+              made =
+                  made_old s here.tree.tree.placed here.tree.tree.piece.old;
+            }
 
         no_piece : Piece format c s none
         no_piece = record { rows = tt; made = tt }
 
         lacks : map_get (pairs (tree_of format here.tree.tree.placed)) k ≡ None
-        lacks = absent_under (tree_of format here.tree.tree.placed) format k (layer_in format k) here.tree.mst here.tree.under refl
+        lacks = absent_under (tree_of format here.tree.tree.placed) format k (layer_in format k)
+            here.tree.mst here.tree.under refl
 
         -- the tree is all below the key
-        pub shared_made_below : is_empty (above k (tree_of format here.tree.tree.placed)) ≡ true → (c2 : Content) → c2 ≡ c → (left right : Root) → IsRootOf format here.tree.tree.placed left → IsRootOf format none right
-            → Split format c c2 s s1 (below k (tree_of format here.tree.tree.placed)) (above k (tree_of format here.tree.tree.placed)) left right (λ x. times x (used here.tree.tree.placed)) (split_rows k (tree_of format here.tree.tree.placed))
+        pub shared_made_below : is_empty (above k (tree_of format here.tree.tree.placed)) ≡ true
+            → (c2 : Content) → c2 ≡ c → (left right : Root) → IsRootOf format here.tree.tree.placed
+            left → IsRootOf format none right
+            → Split format c c2 s s1 (below k (tree_of format here.tree.tree.placed))
+            (above k (tree_of format here.tree.tree.placed)) left right
+            (λ x. times x (used here.tree.tree.placed))
+            (split_rows k (tree_of format here.tree.tree.placed))
         shared_made_below e c2 c_is left right l_root r_root =
             let p = here.tree.tree.placed in
-            let no_back : (back.count == 0) ≡ true = and_left (back.count == 0) (is_empty (above k (tree_of format in_gap))) (sym above_empty ∙ e) in
-            let zero_front : side_rows front.count (is_empty (above k (tree_of format p))) ≡ 0 = ap (side_rows front.count) e ∙ side_whole front.count in
-            let zero_back = side_nothing back.count (is_empty (below k (tree_of format p))) no_back in
-            let gone : above k (tree_of format p) ≡ empty = empty_is (above k (tree_of format p)) e in
-            let base : Split format c c s s (below k (tree_of format p)) (above k (tree_of format p)) left right (λ x. times x (used p)) (split_rows k (tree_of format p)) = record {
+            let no_back : (back.count == 0) ≡ true =
+            and_left (back.count == 0) (is_empty (above k (tree_of format in_gap)))
+            (sym above_empty ∙ e) in
+            let zero_front : side_rows front.count (is_empty (above k (tree_of format p))) ≡ 0 =
+            ap (side_rows front.count) e ∙ side_whole front.count in
+            let zero_back = side_nothing back.count (is_empty (below k (tree_of format p))) no_back
+            in
+            let gone : above k (tree_of format p) ≡ empty = empty_is (above k (tree_of format p)) e
+            in
+            let base : Split format c c s s (below k (tree_of format p))
+            (above k (tree_of format p)) left right (λ x. times x (used p))
+            (split_rows k (tree_of format p)) = record {
               lower = p;
               upper = none;
-              lower_is = sym (below_whole (tree_of format p) format k here.tree.rises here.tree.mst lacks gone);
+              lower_is =
+                  sym (below_whole (tree_of format p) format k here.tree.rises here.tree.mst lacks
+                  gone);
               upper_is = sym gone;
               lower_root = l_root;
               upper_root = r_root;
@@ -365,23 +582,41 @@ module _ (format : Format) {c : Content} {s : State} {link : ℕ} {k : List ℕ}
               rows = λ x. omega arith;
               counted = omega (arith, rows_is, zero_front, zero_back, nothing_taken);
             } in
-            subst (λ (x : Content). Split format c x s s1 (below k (tree_of format p)) (above k (tree_of format p)) left right (λ x. times x (used p)) (split_rows k (tree_of format p))) (sym c_is)
-            (subst (λ (u : State). Split format c c s u (below k (tree_of format p)) (above k (tree_of format p)) left right (λ x. times x (used p)) (split_rows k (tree_of format p))) (sym still) base)
+            subst (λ (x : Content). Split format c x s s1 (below k (tree_of format p))
+            (above k (tree_of format p)) left right (λ x. times x (used p))
+            (split_rows k (tree_of format p))) (sym c_is)
+            (subst (λ (u : State). Split format c c s u (below k (tree_of format p))
+            (above k (tree_of format p)) left right (λ x. times x (used p))
+            (split_rows k (tree_of format p))) (sym still) base)
 
         -- the tree is all above the key
-        pub shared_made_above : is_empty (below k (tree_of format here.tree.tree.placed)) ≡ true → (c2 : Content) → c2 ≡ c → (left right : Root) → IsRootOf format none left → IsRootOf format here.tree.tree.placed right
-            → Split format c c2 s s1 (below k (tree_of format here.tree.tree.placed)) (above k (tree_of format here.tree.tree.placed)) left right (λ x. times x (used here.tree.tree.placed)) (split_rows k (tree_of format here.tree.tree.placed))
+        pub shared_made_above : is_empty (below k (tree_of format here.tree.tree.placed)) ≡ true
+            → (c2 : Content) → c2 ≡ c → (left right : Root) → IsRootOf format none left
+            → IsRootOf format here.tree.tree.placed right
+            → Split format c c2 s s1 (below k (tree_of format here.tree.tree.placed))
+            (above k (tree_of format here.tree.tree.placed)) left right
+            (λ x. times x (used here.tree.tree.placed))
+            (split_rows k (tree_of format here.tree.tree.placed))
         shared_made_above e c2 c_is left right l_root r_root =
             let p = here.tree.tree.placed in
-            let no_front_run : (front.count == 0) ≡ true = and_left (front.count == 0) (is_empty (below k (tree_of format in_gap))) (sym below_empty ∙ e) in
-            let zero_back : side_rows back.count (is_empty (below k (tree_of format p))) ≡ 0 = ap (side_rows back.count) e ∙ side_whole back.count in
-            let zero_front = side_nothing front.count (is_empty (above k (tree_of format p))) no_front_run in
-            let gone : below k (tree_of format p) ≡ empty = empty_is (below k (tree_of format p)) e in
-            let base : Split format c c s s (below k (tree_of format p)) (above k (tree_of format p)) left right (λ x. times x (used p)) (split_rows k (tree_of format p)) = record {
+            let no_front_run : (front.count == 0) ≡ true =
+            and_left (front.count == 0) (is_empty (below k (tree_of format in_gap)))
+            (sym below_empty ∙ e) in
+            let zero_back : side_rows back.count (is_empty (below k (tree_of format p))) ≡ 0 =
+            ap (side_rows back.count) e ∙ side_whole back.count in
+            let zero_front = side_nothing front.count (is_empty (above k (tree_of format p)))
+            no_front_run in
+            let gone : below k (tree_of format p) ≡ empty = empty_is (below k (tree_of format p)) e
+            in
+            let base : Split format c c s s (below k (tree_of format p))
+            (above k (tree_of format p)) left right (λ x. times x (used p))
+            (split_rows k (tree_of format p)) = record {
               lower = none;
               upper = p;
               lower_is = sym gone;
-              upper_is = sym (above_whole (tree_of format p) format k here.tree.rises here.tree.mst lacks gone);
+              upper_is =
+                  sym (above_whole (tree_of format p) format k here.tree.rises here.tree.mst lacks
+                  gone);
               lower_root = l_root;
               upper_root = r_root;
               lower_piece = no_piece;
@@ -393,5 +628,9 @@ module _ (format : Format) {c : Content} {s : State} {link : ℕ} {k : List ℕ}
               rows = λ x. omega arith;
               counted = omega (arith, rows_is, zero_front, zero_back, nothing_taken);
             } in
-            subst (λ (x : Content). Split format c x s s1 (below k (tree_of format p)) (above k (tree_of format p)) left right (λ x. times x (used p)) (split_rows k (tree_of format p))) (sym c_is)
-            (subst (λ (u : State). Split format c c s u (below k (tree_of format p)) (above k (tree_of format p)) left right (λ x. times x (used p)) (split_rows k (tree_of format p))) (sym still) base)
+            subst (λ (x : Content). Split format c x s s1 (below k (tree_of format p))
+            (above k (tree_of format p)) left right (λ x. times x (used p))
+            (split_rows k (tree_of format p))) (sym c_is)
+            (subst (λ (u : State). Split format c c s u (below k (tree_of format p))
+            (above k (tree_of format p)) left right (λ x. times x (used p))
+            (split_rows k (tree_of format p))) (sym still) base)

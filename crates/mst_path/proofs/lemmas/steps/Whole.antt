@@ -27,7 +27,8 @@ use Rattle.mst_path.proofs.lemmas.steps.Finishing.{used_entries, used_more, goin
 
 -- ---- what stands stays
 
-pub gap_rows_old : (format : Format) (c : Content) (s : State) (x : ℕ) (es : List PlacedEntry) → EachGap (OldPiece format c s) es → In x (gaps_used es) → IsOld s x
+pub gap_rows_old : (format : Format) (c : Content) (s : State) (x : ℕ) (es : List PlacedEntry)
+    → EachGap (OldPiece format c s) es → In x (gaps_used es) → IsOld s x
 gap_rows_old format c s x [] each i = absurd (omega arith)
 gap_rows_old format c s x (y ∷ es) each i = elim (in_either x (used y.child) (gaps_used es) i) [
   | inl k ↦ each.0.old x k
@@ -35,38 +36,57 @@ gap_rows_old format c s x (y ∷ es) each i = elim (in_either x (used y.child) (
 ]
 
 -- what a step neither kills nor writes
-module _ (format : Format) (c c' : Content) (s s' : State) (t k ks : List ℕ) (m : Moves s s' t k) (keeps : KeepsBut ks c c') (unwritten : (x : ℕ) → IsAlive s x → times x ks ≡ 0) where
+module _ (format : Format) (c c' : Content) (s s' : State) (t k ks : List ℕ) (m : Moves s s' t k)
+    (keeps : KeepsBut ks c c') (unwritten : (x : ℕ) → IsAlive s x → times x ks ≡ 0) where
   kept_row : (x : ℕ) → IsAlive s x → c' x ≡ c x
   kept_row x alive = kept_at c c' ks x keeps (unwritten x alive)
 
-  pub piece_later : (p : Placed) → ((x : ℕ) → In x (used p) → times x k ≡ 0) → Piece format c s p → Piece format c' s' p
+  pub piece_later : (p : Placed) → ((x : ℕ) → In x (used p) → times x k ≡ 0) → Piece format c s p
+      → Piece format c' s' p
   piece_later p out piece = record {
-    rows = placed_frame format c c' p (all_in (used p) (λ x i. kept_row x (piece_alive format piece x i))) piece.rows;
+    rows =
+        placed_frame format c c' p
+        (all_in (used p) (λ x i. kept_row x (piece_alive format piece x i))) piece.rows;
     made = made_stays s s' t k m p out piece.made;
   }
 
-  pub old_piece_later : (p : Placed) → ((x : ℕ) → In x (used p) → times x k ≡ 0) → OldPiece format c s p → OldPiece format c' s' p
+  pub old_piece_later : (p : Placed) → ((x : ℕ) → In x (used p) → times x k ≡ 0)
+      → OldPiece format c s p → OldPiece format c' s' p
   old_piece_later p out piece = record {
-    rows = placed_frame format c c' p (all_in (used p) (λ x i. kept_row x (old_alive s x (piece.old x i)))) piece.rows;
+    rows =
+        placed_frame format c c' p
+        (all_in (used p) (λ x i. kept_row x (old_alive s x (piece.old x i)))) piece.rows;
     old = λ x i. old_stays s s' t k m x (piece.old x i) (out x i);
   }
 
-  pub run_later : (link count behind : ℕ) (es : List PlacedEntry) → ((x : ℕ) → In x (own es) → times x k ≡ 0) → ((x : ℕ) → In x (gaps_used es) → times x k ≡ 0) → Run format c s link count behind es → Run format c' s' link count behind es
+  pub run_later : (link count behind : ℕ) (es : List PlacedEntry)
+      → ((x : ℕ) → In x (own es) → times x k ≡ 0) → ((x : ℕ) → In x (gaps_used es) → times x k ≡ 0)
+      → Run format c s link count behind es → Run format c' s' link count behind es
   run_later link count behind es out gaps_out run = record {
     counted = run.counted;
     begins = run.begins;
     rows = own_frame c c' behind es (λ x i. kept_row x (old_alive s x (run.old x i))) run.rows;
     old = λ x i. old_stays s s' t k m x (run.old x i) (out x i);
-    gaps = gaps_frame format c c' s s' es (λ x i. kept_row x (old_alive s x (gap_rows_old format c s x es run.gaps i))) (λ x i old. old_stays s s' t k m x old (gaps_out x i)) run.gaps;
+    gaps =
+        gaps_frame format c c' s s' es
+        (λ x i. kept_row x (old_alive s x (gap_rows_old format c s x es run.gaps i)))
+        (λ x i old. old_stays s s' t k m x old (gaps_out x i)) run.gaps;
   }
 
-  pub back_later : (link count tail_link : ℕ) (es : List PlacedEntry) (tail : Placed) → ((x : ℕ) → In x (own es) → times x k ≡ 0) → ((x : ℕ) → In x (gaps_used (others es)) → times x k ≡ 0) → ((x : ℕ) → In x (used tail) → times x k ≡ 0) → BackRun format c s link count tail_link es tail → BackRun format c' s' link count tail_link es tail
+  pub back_later : (link count tail_link : ℕ) (es : List PlacedEntry) (tail : Placed)
+      → ((x : ℕ) → In x (own es) → times x k ≡ 0)
+      → ((x : ℕ) → In x (gaps_used (others es)) → times x k ≡ 0)
+      → ((x : ℕ) → In x (used tail) → times x k ≡ 0) → BackRun format c s link count tail_link es
+      tail → BackRun format c' s' link count tail_link es tail
   back_later link count tail_link es tail out gaps_out tail_out run = record {
     counted = run.counted;
     begins = run.begins;
     rows = own_frame c c' 0 es (λ x i. kept_row x (old_alive s x (run.old x i))) run.rows;
     old = λ x i. old_stays s s' t k m x (run.old x i) (out x i);
-    gaps = gaps_frame format c c' s s' (others es) (λ x i. kept_row x (old_alive s x (gap_rows_old format c s x (others es) run.gaps i))) (λ x i old. old_stays s s' t k m x old (gaps_out x i)) run.gaps;
+    gaps =
+        gaps_frame format c c' s s' (others es)
+        (λ x i. kept_row x (old_alive s x (gap_rows_old format c s x (others es) run.gaps i)))
+        (λ x i old. old_stays s s' t k m x old (gaps_out x i)) run.gaps;
     tail_at = run.tail_at;
     tail_piece = old_piece_later tail tail_out run.tail_piece;
     tail_none = run.tail_none;
@@ -79,12 +99,17 @@ pub record Begun (format : Format) (w : NodeWriter) (c : Content) (s s1 : State)
   pub moves : Moves s s1 (w.head ∷ ahead w.next) []
   pub written : IsWritten format w c []
 
-pub begun_by : (format : Format) {w : NodeWriter} {s s1 : State} → Takes s s1 (w.head ∷ ahead w.next) → ((c : Content) → IsWritten format w c []) → (c : Content) → Begun format w c s s1
-begun_by format {w = w} {s = s} {s1 = s1} takes written c = record { moves = moves_takes s s1 (w.head ∷ ahead w.next) takes; written = written c }
+pub begun_by : (format : Format) {w : NodeWriter} {s s1 : State}
+    → Takes s s1 (w.head ∷ ahead w.next) → ((c : Content) → IsWritten format w c []) → (c : Content)
+    → Begun format w c s s1
+begun_by format {w = w} {s = s} {s1 = s1} takes written c =
+    record { moves = moves_takes s s1 (w.head ∷ ahead w.next) takes; written = written c }
 
-module _ (format : Format) {w : NodeWriter} {c : Content} {s s1 : State} {parts : Parts} (p : PartsStand format c s parts) (begun : Begun format w c s s1) where
+module _ (format : Format) {w : NodeWriter} {c : Content} {s s1 : State} {parts : Parts}
+    (p : PartsStand format c s parts) (begun : Begun format w c s s1) where
   begin_next : next s1 ≡ next s
-  begin_next = let v : version s1 ≡ version s = rw (begun.moves.current, begun.moves.versions) in ap (λ (n : ℕ). n + 1) v
+  begin_next = let v : version s1 ≡ version s = rw (begun.moves.current, begun.moves.versions) in
+      ap (λ (n : ℕ). n + 1) v
 
   pub begin_new : (x : ℕ) → In x (w.head ∷ ahead w.next) → IsNew s1 x
   begin_new x i = begun.moves.born x i ∙ ap (λ (v : ℕ). Some (Born v)) (sym begin_next)
@@ -103,108 +128,251 @@ module _ (format : Format) {w : NodeWriter} {c : Content} {s s1 : State} {parts 
     behind = p.behind;
     es = p.front;
     ws = [];
-    run = run_later format c c s s1 (w.head ∷ ahead w.next) [] [] begun.moves (λ x out. refl) (λ x alive. refl) parts.front.first parts.front.count p.behind p.front (λ x i. refl) (λ x i. refl) p.front_run;
+    run = run_later format c c s s1 (w.head ∷ ahead w.next) [] [] begun.moves (λ x out. refl)
+        (λ x alive. refl) parts.front.first parts.front.count p.behind p.front (λ x i. refl)
+        (λ x i. refl) p.front_run;
     going = begins_going;
     once = λ x. omega (arith, p.once x);
   }
 
   -- a row of a part is alive
   pub part_alive : (x : ℕ) → 0 < in_parts format p x → IsAlive s x
-  part_alive x some = go (times x (own p.front)) refl (times x (gaps_used p.front)) refl (times x (used p.seam)) refl (times x (own p.back)) refl (times x (gaps_used (others p.back))) refl
+  part_alive x some = go (times x (own p.front)) refl (times x (gaps_used p.front)) refl
+      (times x (used p.seam)) refl (times x (own p.back)) refl (times x (gaps_used (others p.back)))
+      refl
     where
-      go : (a : ℕ) → times x (own p.front) ≡ a → (b : ℕ) → times x (gaps_used p.front) ≡ b → (d : ℕ) → times x (used p.seam) ≡ d → (e : ℕ) → times x (own p.back) ≡ e → (f : ℕ) → times x (gaps_used (others p.back)) ≡ f → IsAlive s x
+      go : (a : ℕ) → times x (own p.front) ≡ a → (b : ℕ) → times x (gaps_used p.front) ≡ b → (d : ℕ)
+          → times x (used p.seam) ≡ d → (e : ℕ) → times x (own p.back) ≡ e → (f : ℕ)
+          → times x (gaps_used (others p.back)) ≡ f → IsAlive s x
       go (suc a) ae b be d de e ee f fe = old_alive s x (p.front_run.old x (omega (arith, ae)))
-      go zero ae (suc b) be d de e ee f fe = old_alive s x (gap_rows_old format c s x p.front p.front_run.gaps (omega (arith, be)))
-      go zero ae zero be (suc d) de e ee f fe = piece_alive format p.seam_piece x (omega (arith, de))
-      go zero ae zero be zero de (suc e) ee f fe = old_alive s x (p.back_run.old x (omega (arith, ee)))
-      go zero ae zero be zero de zero ee (suc f) fe = old_alive s x (gap_rows_old format c s x (others p.back) p.back_run.gaps (omega (arith, fe)))
-      go zero ae zero be zero de zero ee zero fe = old_alive s x (p.back_run.tail_piece.old x (omega (arith, some, ae, be, de, ee, fe)))
+      go zero ae (suc b) be d de e ee f fe =
+          old_alive s x (gap_rows_old format c s x p.front p.front_run.gaps (omega (arith, be)))
+      go zero ae zero be (suc d) de e ee f fe =
+          piece_alive format p.seam_piece x (omega (arith, de))
+      go zero ae zero be zero de (suc e) ee f fe =
+          old_alive s x (p.back_run.old x (omega (arith, ee)))
+      go zero ae zero be zero de zero ee (suc f) fe =
+          old_alive s x
+          (gap_rows_old format c s x (others p.back) p.back_run.gaps (omega (arith, fe)))
+      go zero ae zero be zero de zero ee zero fe =
+          old_alive s x (p.back_run.tail_piece.old x (omega (arith, some, ae, be, de, ee, fe)))
 
-  module _ {w2 : NodeWriter} {c2 : Content} {s2 : State} (copied : Copied format w w2 c c2 s1 s2 [] p.front) (same_head : w2.head ≡ w.head) where
+  module _ {w2 : NodeWriter} {c2 : Content} {s2 : State}
+      (copied : Copied format w w2 c c2 s1 s2 [] p.front) (same_head : w2.head ≡ w.head) where
     -- the rows that are taken up to here
     pub all_taken : Moves s s2 ((w.head ∷ ahead w.next) ++ copied.taken) ([] ++ own p.front)
-    all_taken = moves_then s s1 s2 (w.head ∷ ahead w.next) [] copied.taken (own p.front) begun.moves copied.moves
+    all_taken = moves_then s s1 s2 (w.head ∷ ahead w.next) [] copied.taken (own p.front) begun.moves
+        copied.moves
 
-    pub taken_times : (x : ℕ) → times x ((w.head ∷ ahead w.next) ++ copied.taken) ≡ times x (w.head ∷ []) + times x (ahead w.next) + times x copied.taken
+    pub taken_times : (x : ℕ) → times x ((w.head ∷ ahead w.next) ++ copied.taken) ≡ times x
+        (w.head ∷ []) + times x (ahead w.next) + times x copied.taken
     taken_times x = omega (arith, times-append x (w.head ∷ ahead w.next) copied.taken)
 
     pub unwritten : (x : ℕ) → IsAlive s x → times x (ahead w.next ++ copied.taken) ≡ 0
-    unwritten x alive = omega (arith, alive_out s s2 ((w.head ∷ ahead w.next) ++ copied.taken) ([] ++ own p.front) all_taken x alive, taken_times x, times-append x (ahead w.next) copied.taken)
+    unwritten x alive =
+        omega (
+          arith,
+          alive_out s s2 ((w.head ∷ ahead w.next) ++ copied.taken) ([] ++ own p.front)
+              all_taken x alive,
+          taken_times x,
+          times-append x (ahead w.next) copied.taken,
+        )
 
-    pub front_used : (x : ℕ) → times x (entries_used copied.copies) ≡ times x (own copied.copies) + times x (gaps_used p.front)
-    front_used x = omega (arith, used_entries x copied.copies, copies_gaps x copied.copies p.front copied.same)
+    pub front_used : (x : ℕ) → times x (entries_used copied.copies) ≡ times x (own copied.copies)
+        + times x (gaps_used p.front)
+    front_used x =
+        omega (arith, used_entries x copied.copies, copies_gaps x copied.copies p.front copied.same)
 
-    pub front_once : (x : ℕ) → times x (w2.head ∷ []) + times x (ahead w2.next) + times x (entries_used copied.copies) + times x (used p.seam) + times x (own p.back) + times x (gaps_used (others p.back)) + times x (used p.tail) ≤ 1
+    pub front_once : (x : ℕ) → times x (w2.head ∷ []) + times x (ahead w2.next) + times x
+        (entries_used copied.copies) + times x (used p.seam) + times x (own p.back) + times x
+        (gaps_used (others p.back)) + times x (used p.tail) ≤ 1
     front_once x = go (in_parts format p x) refl
       where
         heads : times x (w2.head ∷ []) ≡ times x (w.head ∷ [])
         heads = ap (λ (h : ℕ). times x (h ∷ [])) same_head
 
-        go : (n : ℕ) → in_parts format p x ≡ n → times x (w2.head ∷ []) + times x (ahead w2.next) + times x (entries_used copied.copies) + times x (used p.seam) + times x (own p.back) + times x (gaps_used (others p.back)) + times x (used p.tail) ≤ 1
-        go zero none_in = omega (arith, none_in, heads, front_used x, copied.rows x, taken_times x, all_taken.once x)
+        go : (n : ℕ) → in_parts format p x ≡ n → times x (w2.head ∷ []) + times x (ahead w2.next)
+            + times x (entries_used copied.copies) + times x (used p.seam) + times x (own p.back)
+            + times x (gaps_used (others p.back)) + times x (used p.tail) ≤ 1
+        go zero none_in =
+            omega (
+              arith,
+              none_in,
+              heads,
+              front_used x,
+              copied.rows x,
+              taken_times x,
+              all_taken.once
+                  x,
+            )
         go (suc n) some =
             let alive = part_alive x (omega (arith, some)) in
-            let untaken = alive_out s s2 ((w.head ∷ ahead w.next) ++ copied.taken) ([] ++ own p.front) all_taken x alive in
+            let untaken = alive_out s s2 ((w.head ∷ ahead w.next) ++ copied.taken)
+            ([] ++ own p.front) all_taken x alive in
             omega (arith, heads, front_used x, copied.rows x, taken_times x, untaken, p.once x)
 
     unfoldable pub front_rest : Rest format w2 c2 s2 parts
     front_rest = record {
       ws = copied.copies;
       going = copied.going;
-      head_new = subst (IsNew s2) (sym same_head) (new_stays s1 s2 copied.taken (own p.front) copied.moves w.head (begin_new w.head head_in) (not_in w.head (own p.front) (λ i. new_not_old s1 w.head (begin_new w.head head_in) (old_stays s s1 (w.head ∷ ahead w.next) [] begun.moves w.head (p.front_run.old w.head i) refl))));
+      head_new =
+          subst (IsNew s2) (sym same_head)
+          (new_stays s1 s2 copied.taken (own p.front) copied.moves w.head (begin_new w.head head_in)
+          (not_in w.head (own p.front)
+          (λ i. new_not_old s1 w.head (begin_new w.head head_in)
+          (old_stays s s1 (w.head ∷ ahead w.next) [] begun.moves w.head (p.front_run.old w.head i)
+          refl))));
       seam = p.seam;
       seam_at = p.seam_at;
-      seam_piece = piece_later format c c2 s s2 ((w.head ∷ ahead w.next) ++ copied.taken) ([] ++ own p.front) (ahead w.next ++ copied.taken) all_taken copied.keeps unwritten p.seam (λ x i. omega (arith, i, p.once x)) p.seam_piece;
+      seam_piece = piece_later format c c2 s s2 ((w.head ∷ ahead w.next) ++ copied.taken)
+          ([] ++ own p.front) (ahead w.next ++ copied.taken) all_taken copied.keeps unwritten p.seam
+          (λ x i. omega (arith, i, p.once x)) p.seam_piece;
       back = p.back;
       tail = p.tail;
-      back_run = back_later format c c2 s s2 ((w.head ∷ ahead w.next) ++ copied.taken) ([] ++ own p.front) (ahead w.next ++ copied.taken) all_taken copied.keeps unwritten parts.back.first parts.back.count parts.tail p.back p.tail (λ x i. omega (arith, i, p.once x)) (λ x i. omega (arith, i, p.once x)) (λ x i. omega (arith, i, p.once x)) p.back_run;
+      back_run = back_later format c c2 s s2 ((w.head ∷ ahead w.next) ++ copied.taken)
+          ([] ++ own p.front) (ahead w.next ++ copied.taken) all_taken copied.keeps unwritten
+          parts.back.first parts.back.count parts.tail p.back p.tail
+          (λ x i. omega (arith, i, p.once x)) (λ x i. omega (arith, i, p.once x))
+          (λ x i. omega (arith, i, p.once x)) p.back_run;
       once = front_once;
     }
       where
         head_in : In w.head (w.head ∷ ahead w.next)
         head_in = omega (arith, at_self w.head)
 
-    module _ {c3 : Content} {s3 : State} {at : Root} (f : Finished format w2 c2 c3 s2 s3 parts front_rest at) where
-      pub made : w2.layer ≡ parts.layer → w2.left ≡ parts.back.count → length (ahead w.next) ≡ 1 → length (ahead w2.next) ≡ min 1 w2.left → Grown format c c3 s s3 (node format parts.layer (with_entries (cells_of format p.front) (with_first (tree_of format p.seam) (entries_to format p.back p.tail)))) at (in_parts format p) (parts.front.count + parts.back.count + 1)
+    module _ {c3 : Content} {s3 : State} {at : Root}
+        (f : Finished format w2 c2 c3 s2 s3 parts front_rest at) where
+      pub made : w2.layer ≡ parts.layer → w2.left ≡ parts.back.count → length (ahead w.next) ≡ 1
+          → length (ahead w2.next) ≡ min 1 w2.left → Grown format c c3 s s3
+          (node format parts.layer
+          (with_entries (cells_of format p.front)
+          (with_first (tree_of format p.seam) (entries_to format p.back p.tail)))) at
+          (in_parts format p) (parts.front.count + parts.back.count + 1)
       unfolding front_rest
       made layer left one some = record {
         placed = f.placed;
-        is = f.is ∙ ap (λ (l : ℕ). node format l (with_entries (cells_of format copied.copies) (with_first (tree_of format p.seam) (entries_to format p.back p.tail)))) layer
-            ∙ ap (λ (cs : List TreeEntry). node format parts.layer (with_entries cs (with_first (tree_of format p.seam) (entries_to format p.back p.tail)))) (copies_cells format copied.copies p.front copied.same);
+        is =
+            f.is ∙ ap (λ (l : ℕ). node format l
+            (with_entries (cells_of format copied.copies)
+            (with_first (tree_of format p.seam) (entries_to format p.back p.tail)))) layer
+            ∙ ap (λ (cs : List TreeEntry). node format parts.layer
+            (with_entries cs
+            (with_first (tree_of format p.seam) (entries_to format p.back p.tail))))
+            (copies_cells format copied.copies p.front copied.same);
         root = f.root;
         piece = f.piece;
         taken = ((w.head ∷ ahead w.next) ++ copied.taken) ++ f.taken;
         killed = ([] ++ own p.front) ++ own p.back;
-        moves = moves_then s s2 s3 ((w.head ∷ ahead w.next) ++ copied.taken) ([] ++ own p.front) f.taken (own p.back) all_taken f.moves;
+        moves = moves_then s s2 s3 ((w.head ∷ ahead w.next) ++ copied.taken) ([] ++ own p.front)
+            f.taken (own p.back) all_taken f.moves;
         keeps = λ x out.
-            let none_in = times_of_out x (((w.head ∷ ahead w.next) ++ copied.taken) ++ f.taken) out in
+            let none_in = times_of_out x (((w.head ∷ ahead w.next) ++ copied.taken) ++ f.taken) out
+            in
             let a = times-append x ((w.head ∷ ahead w.next) ++ copied.taken) f.taken in
-            let heads : times x (w2.head ∷ []) ≡ times x (w.head ∷ []) = ap (λ (h : ℕ). times x (h ∷ [])) same_head in
-            f.keeps x (out_of_times x (w2.head ∷ ahead w2.next ++ f.taken) (omega (arith, none_in, a, taken_times x, heads, copied.rows x, times-append x (ahead w2.next) f.taken)))
-            ∙ copied.keeps x (out_of_times x (ahead w.next ++ copied.taken) (omega (arith, none_in, a, taken_times x, times-append x (ahead w.next) copied.taken)));
+            let heads : times x (w2.head ∷ []) ≡ times x (w.head ∷ []) =
+            ap (λ (h : ℕ). times x (h ∷ [])) same_head in
+            f.keeps x (out_of_times x (w2.head ∷ ahead w2.next ++ f.taken)
+            (omega (
+              arith,
+              none_in,
+              a,
+              taken_times x,
+              heads,
+              copied.rows x,
+              times-append x
+                  (ahead w2.next) f.taken,
+            )))
+            ∙ copied.keeps x
+            (out_of_times x (ahead w.next ++ copied.taken)
+            (omega (
+              arith,
+              none_in,
+              a,
+              taken_times x,
+              times-append x (ahead w.next)
+                  copied.taken,
+            )));
         rows = λ x.
-            let heads : times x (w2.head ∷ []) ≡ times x (w.head ∷ []) = ap (λ (h : ℕ). times x (h ∷ [])) same_head in
-            omega (arith, f.rows x, heads, front_used x, copied.rows x, taken_times x, times-append x ((w.head ∷ ahead w.next) ++ copied.taken) f.taken, times-append x (own p.front) (own p.back));
-        counted = omega (arith, length-append ((w.head ∷ ahead w.next) ++ copied.taken) f.taken, length-append (w.head ∷ ahead w.next) copied.taken, one, some, copied.counted, f.counted, left, p.front_run.counted);
+            let heads : times x (w2.head ∷ []) ≡ times x (w.head ∷ []) =
+            ap (λ (h : ℕ). times x (h ∷ [])) same_head in
+            omega (
+              arith,
+              f.rows x,
+              heads,
+              front_used x,
+              copied.rows x,
+              taken_times x,
+              times-append x ((w.head ∷ ahead w.next) ++ copied.taken) f.taken,
+              times-append x
+                  (own p.front) (own p.back),
+            );
+        counted =
+            omega (
+              arith,
+              length-append ((w.head ∷ ahead w.next) ++ copied.taken) f.taken,
+              length-append (w.head ∷ ahead w.next) copied.taken,
+              one,
+              some,
+              copied.counted,
+              f.counted,
+              left,
+              p.front_run.counted,
+            );
       }
 
     -- the tree of a new entry stays, and the row for that entry is none of those that are written
-    pub child_later : {child : Placed} → Piece format c s child → ((x : ℕ) → in_parts format p x + times x (used child) ≤ 1) → Piece format c2 s2 child
-    child_later {child = child} piece apart = piece_later format c c2 s s2 ((w.head ∷ ahead w.next) ++ copied.taken) ([] ++ own p.front) (ahead w.next ++ copied.taken) all_taken copied.keeps unwritten child (λ x i. omega (arith, i, apart x)) piece
+    pub child_later : {child : Placed} → Piece format c s child
+        → ((x : ℕ) → in_parts format p x + times x (used child) ≤ 1) → Piece format c2 s2 child
+    child_later {child = child} piece apart =
+        piece_later format c c2 s s2 ((w.head ∷ ahead w.next) ++ copied.taken) ([] ++ own p.front)
+        (ahead w.next ++ copied.taken) all_taken copied.keeps unwritten child
+        (λ x i. omega (arith, i, apart x)) piece
 
-    pub with_out : {child : Placed} {r2 : ℕ} → w2.next ≡ Some r2 → Piece format c s child → ((x : ℕ) → in_parts format p x + times x (used child) ≤ 1) → IsOut r2 (entries_used copied.copies ++ used child)
+    pub with_out : {child : Placed} {r2 : ℕ} → w2.next ≡ Some r2 → Piece format c s child
+        → ((x : ℕ) → in_parts format p x + times x (used child) ≤ 1)
+        → IsOut r2 (entries_used copied.copies ++ used child)
     with_out {child = child} {r2 = r2} next2 piece apart =
-        let row : times r2 (ahead w2.next) ≡ bit (eqb r2 r2) + 0 = ap (λ (o : Option ℕ). times r2 (ahead o)) next2 in
-        let none_of : times r2 (used child) ≡ 0 = not_in r2 (used child) (λ i. let untaken = alive_out s s2 ((w.head ∷ ahead w.next) ++ copied.taken) ([] ++ own p.front) all_taken r2 (piece_alive format piece r2 i) in absurd (omega (arith, untaken, taken_times r2, copied.rows r2, row, at_self r2))) in
-        out_of_times r2 (entries_used copied.copies ++ used child) (omega (arith, times-append r2 (entries_used copied.copies) (used child), copied.going.once r2, row, at_self r2, none_of))
+        let row : times r2 (ahead w2.next) ≡ bit (eqb r2 r2) + 0 =
+        ap (λ (o : Option ℕ). times r2 (ahead o)) next2 in
+        let none_of : times r2 (used child) ≡ 0 =
+        not_in r2 (used child)
+        (λ i. let untaken = alive_out s s2 ((w.head ∷ ahead w.next) ++ copied.taken)
+        ([] ++ own p.front) all_taken r2 (piece_alive format piece r2 i) in
+        absurd (omega (arith, untaken, taken_times r2, copied.rows r2, row, at_self r2))) in
+        out_of_times r2 (entries_used copied.copies ++ used child)
+        (omega (
+          arith,
+          times-append r2 (entries_used copied.copies) (used child),
+          copied.going.once r2,
+          row,
+          at_self r2,
+          none_of,
+        ))
 
     -- ---- with a new entry behind the front
-    module _ {child : Placed} (key value : List ℕ) {r2 : ℕ} (next2 : w2.next ≡ Some r2) (child_piece : Piece format c s child) (apart : (x : ℕ) → in_parts format p x + times x (used child) ≤ 1) {w3 : NodeWriter} {c3 : Content} {s3 : State} (moves3 : Moves s2 s3 (ahead w3.next) []) (keeps3 : KeepsBut (ahead w2.next) c2 c3) (written3 : IsWritten format w3 c3 (copied.copies ++ record { at = r2; child = child; key = key; value = value } ∷ [])) (head3 : w3.head ≡ w2.head) where
-      pub all_three : Moves s s3 (((w.head ∷ ahead w.next) ++ copied.taken) ++ ahead w3.next) (([] ++ own p.front) ++ [])
-      all_three = moves_then s s2 s3 ((w.head ∷ ahead w.next) ++ copied.taken) ([] ++ own p.front) (ahead w3.next) [] all_taken moves3
+    module _ {child : Placed} (key value : List ℕ) {r2 : ℕ} (next2 : w2.next ≡ Some r2)
+        (child_piece : Piece format c s child)
+        (apart : (x : ℕ) → in_parts format p x + times x (used child) ≤ 1) {w3 : NodeWriter}
+        {c3 : Content} {s3 : State} (moves3 : Moves s2 s3 (ahead w3.next) [])
+        (keeps3 : KeepsBut (ahead w2.next) c2 c3)
+        (written3 : IsWritten format w3 c3
+        (copied.copies ++ record { at = r2; child = child; key = key; value = value } ∷ []))
+        (head3 : w3.head ≡ w2.head) where
+      pub all_three : Moves s s3 (((w.head ∷ ahead w.next) ++ copied.taken) ++ ahead w3.next)
+          (([] ++ own p.front) ++ [])
+      all_three = moves_then s s2 s3 ((w.head ∷ ahead w.next) ++ copied.taken) ([] ++ own p.front)
+          (ahead w3.next) [] all_taken moves3
 
-      pub three_times : (x : ℕ) → times x (((w.head ∷ ahead w.next) ++ copied.taken) ++ ahead w3.next) ≡ times x (w.head ∷ []) + times x (ahead w.next) + times x copied.taken + times x (ahead w3.next)
-      three_times x = omega (arith, taken_times x, times-append x ((w.head ∷ ahead w.next) ++ copied.taken) (ahead w3.next))
+      pub three_times : (x : ℕ)
+          → times x (((w.head ∷ ahead w.next) ++ copied.taken) ++ ahead w3.next) ≡ times x
+          (w.head ∷ []) + times x (ahead w.next) + times x copied.taken + times x (ahead w3.next)
+      three_times x =
+          omega (
+            arith,
+            taken_times x,
+            times-append x ((w.head ∷ ahead w.next) ++ copied.taken)
+                (ahead w3.next),
+          )
 
       -- a row of a part, or of the new entry's tree, is alive
       either_alive : (x : ℕ) → 0 < in_parts format p x + times x (used child) → IsAlive s x
@@ -217,42 +385,89 @@ module _ (format : Format) {w : NodeWriter} {c : Content} {s s1 : State} {parts 
       pub keeps_three : KeepsBut (ahead w.next ++ copied.taken) c c3
       keeps_three x out =
           let none_in = times_of_out x (ahead w.next ++ copied.taken) out in
-          keeps3 x (out_of_times x (ahead w2.next) (omega (arith, none_in, times-append x (ahead w.next) copied.taken, copied.rows x))) ∙ copied.keeps x out
+          keeps3 x (out_of_times x (ahead w2.next)
+          (omega (arith, none_in, times-append x (ahead w.next) copied.taken, copied.rows x)))
+          ∙ copied.keeps x out
 
       pub unwritten_three : (x : ℕ) → IsAlive s x → times x (ahead w.next ++ copied.taken) ≡ 0
       unwritten_three = unwritten
 
       pub child_two : Piece format c2 s2 child
-      child_two = piece_later format c c2 s s2 ((w.head ∷ ahead w.next) ++ copied.taken) ([] ++ own p.front) (ahead w.next ++ copied.taken) all_taken copied.keeps unwritten child (λ x i. omega (arith, i, apart x)) child_piece
+      child_two = piece_later format c c2 s s2 ((w.head ∷ ahead w.next) ++ copied.taken)
+          ([] ++ own p.front) (ahead w.next ++ copied.taken) all_taken copied.keeps unwritten child
+          (λ x i. omega (arith, i, apart x)) child_piece
 
-      pub with_once : (x : ℕ) → times x (ahead w2.next) + times x (entries_used copied.copies) + times x (used child) ≤ 1
+      pub with_once : (x : ℕ) → times x (ahead w2.next) + times x (entries_used copied.copies)
+          + times x (used child) ≤ 1
       with_once x = go (in_parts format p x + times x (used child)) refl
         where
-          go : (n : ℕ) → in_parts format p x + times x (used child) ≡ n → times x (ahead w2.next) + times x (entries_used copied.copies) + times x (used child) ≤ 1
-          go zero none_in = omega (arith, none_in, front_used x, copied.rows x, taken_times x, all_taken.once x)
+          go : (n : ℕ) → in_parts format p x + times x (used child) ≡ n → times x (ahead w2.next)
+              + times x (entries_used copied.copies) + times x (used child) ≤ 1
+          go zero none_in =
+              omega (arith, none_in, front_used x, copied.rows x, taken_times x, all_taken.once x)
           go (suc n) some =
-              let untaken = alive_out s s2 ((w.head ∷ ahead w.next) ++ copied.taken) ([] ++ own p.front) all_taken x (either_alive x (omega (arith, some))) in
+              let untaken = alive_out s s2 ((w.head ∷ ahead w.next) ++ copied.taken)
+              ([] ++ own p.front) all_taken x (either_alive x (omega (arith, some))) in
               omega (arith, front_used x, copied.rows x, taken_times x, untaken, apart x)
 
-      pub going_three : Going format w3 c3 s3 (copied.copies ++ record { at = r2; child = child; key = key; value = value } ∷ [])
-      going_three = going_more format w2 w3 c2 c3 s2 s3 copied.copies r2 child key value [] copied.going next2 moves3 (piece_alive format child_two) child_two.made with_once (λ x i. absurd (omega (arith, i))) written3
+      pub going_three : Going format w3 c3 s3
+          (copied.copies ++ record { at = r2; child = child; key = key; value = value } ∷ [])
+      going_three = going_more format w2 w3 c2 c3 s2 s3 copied.copies r2 child key value
+          [] copied.going next2 moves3 (piece_alive format child_two) child_two.made with_once
+          (λ x i. absurd (omega (arith, i))) written3
 
-      pub used_three : (x : ℕ) → times x (entries_used (copied.copies ++ record { at = r2; child = child; key = key; value = value } ∷ [])) ≡ times x (ahead w2.next) + times x (entries_used copied.copies) + times x (used child)
-      used_three = used_more format w2 w3 c2 c3 s2 s3 copied.copies r2 child key value [] copied.going next2 moves3 (piece_alive format child_two) child_two.made with_once (λ x i. absurd (omega (arith, i)))
+      pub used_three : (x : ℕ)
+          → times x (entries_used
+          (copied.copies ++ record { at = r2; child = child; key = key; value = value } ∷ []))
+          ≡ times x (ahead w2.next) + times x (entries_used copied.copies) + times x (used child)
+      used_three = used_more format w2 w3 c2 c3 s2 s3 copied.copies r2 child key value
+          [] copied.going next2 moves3 (piece_alive format child_two) child_two.made with_once
+          (λ x i. absurd (omega (arith, i)))
 
       pub heads_three : (x : ℕ) → times x (w3.head ∷ []) ≡ times x (w.head ∷ [])
       heads_three x = ap (λ (h : ℕ). times x (h ∷ [])) (head3 ∙ same_head)
 
-      pub three_once : (x : ℕ) → times x (w3.head ∷ []) + times x (ahead w3.next) + times x (entries_used (copied.copies ++ record { at = r2; child = child; key = key; value = value } ∷ [])) + times x (used p.seam) + times x (own p.back) + times x (gaps_used (others p.back)) + times x (used p.tail) ≤ 1
+      pub three_once : (x : ℕ) → times x (w3.head ∷ []) + times x (ahead w3.next) + times x
+          (entries_used
+          (copied.copies ++ record { at = r2; child = child; key = key; value = value } ∷ []))
+          + times x (used p.seam) + times x (own p.back) + times x (gaps_used (others p.back))
+          + times x (used p.tail) ≤ 1
       three_once x = go (in_parts format p x + times x (used child)) refl
         where
-          go : (n : ℕ) → in_parts format p x + times x (used child) ≡ n → times x (w3.head ∷ []) + times x (ahead w3.next) + times x (entries_used (copied.copies ++ record { at = r2; child = child; key = key; value = value } ∷ [])) + times x (used p.seam) + times x (own p.back) + times x (gaps_used (others p.back)) + times x (used p.tail) ≤ 1
-          go zero none_in = omega (arith, none_in, heads_three x, used_three x, front_used x, copied.rows x, three_times x, all_three.once x)
+          go : (n : ℕ) → in_parts format p x + times x (used child) ≡ n → times x (w3.head ∷ [])
+              + times x (ahead w3.next) + times x
+              (entries_used
+              (copied.copies ++ record { at = r2; child = child; key = key; value = value } ∷ []))
+              + times x (used p.seam) + times x (own p.back) + times x (gaps_used (others p.back))
+              + times x (used p.tail) ≤ 1
+          go zero none_in =
+              omega (
+                arith,
+                none_in,
+                heads_three x,
+                used_three x,
+                front_used x,
+                copied.rows x,
+                three_times x,
+                all_three.once x,
+              )
           go (suc n) some =
-              let untaken = alive_out s s3 (((w.head ∷ ahead w.next) ++ copied.taken) ++ ahead w3.next) (([] ++ own p.front) ++ []) all_three x (either_alive x (omega (arith, some))) in
-              omega (arith, heads_three x, used_three x, front_used x, copied.rows x, three_times x, untaken, apart x)
+              let untaken =
+              alive_out s s3 (((w.head ∷ ahead w.next) ++ copied.taken) ++ ahead w3.next)
+              (([] ++ own p.front) ++ []) all_three x (either_alive x (omega (arith, some))) in
+              omega (
+                arith,
+                heads_three x,
+                used_three x,
+                front_used x,
+                copied.rows x,
+                three_times x,
+                untaken,
+                apart x,
+              )
 
-      killed_out : (x : ℕ) → times x ([] ++ own p.front) ≡ 0 → times x (([] ++ own p.front) ++ []) ≡ 0
+      killed_out : (x : ℕ) → times x ([] ++ own p.front) ≡ 0 → times x (([] ++ own p.front) ++ [])
+          ≡ 0
       killed_out x e = omega (arith, e, times-append x ([] ++ own p.front) [])
 
       unfoldable pub rest_three : Rest format w3 c3 s3 parts
@@ -260,36 +475,123 @@ module _ (format : Format) {w : NodeWriter} {c : Content} {s s1 : State} {parts 
       rest_three = record {
         ws = copied.copies ++ record { at = r2; child = child; key = key; value = value } ∷ [];
         going = going_three;
-        head_new = subst (IsNew s3) (sym head3) (new_stays s2 s3 (ahead w3.next) [] moves3 w2.head front_rest.head_new refl);
+        head_new =
+            subst (IsNew s3) (sym head3)
+            (new_stays s2 s3 (ahead w3.next) [] moves3 w2.head front_rest.head_new refl);
         seam = p.seam;
         seam_at = p.seam_at;
-        seam_piece = piece_later format c c3 s s3 (((w.head ∷ ahead w.next) ++ copied.taken) ++ ahead w3.next) (([] ++ own p.front) ++ []) (ahead w.next ++ copied.taken) all_three keeps_three unwritten_three p.seam (λ x i. omega (arith, i, p.once x, times-append x ([] ++ own p.front) [])) p.seam_piece;
+        seam_piece =
+            piece_later format c c3 s s3
+            (((w.head ∷ ahead w.next) ++ copied.taken) ++ ahead w3.next) (([] ++ own p.front) ++ [])
+            (ahead w.next ++ copied.taken) all_three keeps_three unwritten_three p.seam
+            (λ x i. omega (arith, i, p.once x, times-append x ([] ++ own p.front) [])) p.seam_piece;
         back = p.back;
         tail = p.tail;
-        back_run = back_later format c c3 s s3 (((w.head ∷ ahead w.next) ++ copied.taken) ++ ahead w3.next) (([] ++ own p.front) ++ []) (ahead w.next ++ copied.taken) all_three keeps_three unwritten_three parts.back.first parts.back.count parts.tail p.back p.tail (λ x i. omega (arith, i, p.once x, times-append x ([] ++ own p.front) [])) (λ x i. omega (arith, i, p.once x, times-append x ([] ++ own p.front) [])) (λ x i. omega (arith, i, p.once x, times-append x ([] ++ own p.front) [])) p.back_run;
+        back_run =
+            back_later format c c3 s s3 (((w.head ∷ ahead w.next) ++ copied.taken) ++ ahead w3.next)
+            (([] ++ own p.front) ++ []) (ahead w.next ++ copied.taken) all_three keeps_three
+            unwritten_three parts.back.first parts.back.count parts.tail p.back p.tail
+            (λ x i. omega (arith, i, p.once x, times-append x ([] ++ own p.front) []))
+            (λ x i. omega (arith, i, p.once x, times-append x ([] ++ own p.front) []))
+            (λ x i. omega (arith, i, p.once x, times-append x ([] ++ own p.front) [])) p.back_run;
         once = three_once;
       }
 
-      module _ {c4 : Content} {s4 : State} {at : Root} (f : Finished format w3 c3 c4 s3 s4 parts rest_three at) where
-        pub made_with : w3.layer ≡ parts.layer → w3.left ≡ parts.back.count → length (ahead w.next) ≡ 1 → length (ahead w2.next) ≡ 1 → length (ahead w3.next) ≡ min 1 w3.left → Grown format c c4 s s4 (node format parts.layer (with_entries (cells_of format p.front) (entry (tree_of format child) key value (with_first (tree_of format p.seam) (entries_to format p.back p.tail))))) at (λ x. in_parts format p x + times x (used child)) (parts.front.count + parts.back.count + 2)
+      module _ {c4 : Content} {s4 : State} {at : Root}
+          (f : Finished format w3 c3 c4 s3 s4 parts rest_three at) where
+        pub made_with : w3.layer ≡ parts.layer → w3.left ≡ parts.back.count → length (ahead w.next)
+            ≡ 1 → length (ahead w2.next) ≡ 1 → length (ahead w3.next) ≡ min 1 w3.left
+            → Grown format c c4 s s4
+            (node format parts.layer
+            (with_entries (cells_of format p.front)
+            (entry (tree_of format child) key value
+            (with_first (tree_of format p.seam) (entries_to format p.back p.tail))))) at
+            (λ x. in_parts format p x + times x (used child))
+            (parts.front.count + parts.back.count + 2)
         unfolding rest_three
         made_with layer left one two some = record {
           placed = f.placed;
-          is = f.is ∙ ap (λ (l : ℕ). node format l (with_entries (cells_of format (copied.copies ++ record { at = r2; child = child; key = key; value = value } ∷ [])) (with_first (tree_of format p.seam) (entries_to format p.back p.tail)))) layer
+          is =
+              f.is ∙ ap (λ (l : ℕ). node format l
+              (with_entries
+              (cells_of format
+              (copied.copies ++ record { at = r2; child = child; key = key; value = value } ∷ []))
+              (with_first (tree_of format p.seam) (entries_to format p.back p.tail)))) layer
               ∙ ap (λ (fs : Entries). node format parts.layer fs)
-              (ap (λ (cs : List TreeEntry). with_entries cs (with_first (tree_of format p.seam) (entries_to format p.back p.tail))) (cells-append format copied.copies (record { at = r2; child = child; key = key; value = value } ∷ []))
-              ∙ entries-front (cells_of format copied.copies) (cells_of format (record { at = r2; child = child; key = key; value = value } ∷ [])) (with_first (tree_of format p.seam) (entries_to format p.back p.tail))
-              ∙ ap (λ (cs : List TreeEntry). with_entries cs (entry (tree_of format child) key value (with_first (tree_of format p.seam) (entries_to format p.back p.tail)))) (copies_cells format copied.copies p.front copied.same));
+              (ap (λ (cs : List TreeEntry). with_entries cs
+              (with_first (tree_of format p.seam) (entries_to format p.back p.tail)))
+              (cells-append format copied.copies
+              (record { at = r2; child = child; key = key; value = value } ∷ []))
+              ∙ entries-front (cells_of format copied.copies)
+              (cells_of format
+              (record { at = r2; child = child; key = key; value = value } ∷ []))
+              (with_first (tree_of format p.seam) (entries_to format p.back p.tail))
+              ∙ ap (λ (cs : List TreeEntry). with_entries cs
+              (entry (tree_of format child) key value
+              (with_first (tree_of format p.seam) (entries_to format p.back p.tail))))
+              (copies_cells format copied.copies p.front copied.same));
           root = f.root;
           piece = f.piece;
           taken = (((w.head ∷ ahead w.next) ++ copied.taken) ++ ahead w3.next) ++ f.taken;
           killed = (([] ++ own p.front) ++ []) ++ own p.back;
-          moves = moves_then s s3 s4 (((w.head ∷ ahead w.next) ++ copied.taken) ++ ahead w3.next) (([] ++ own p.front) ++ []) f.taken (own p.back) all_three f.moves;
+          moves = moves_then s s3 s4 (((w.head ∷ ahead w.next) ++ copied.taken) ++ ahead w3.next)
+              (([] ++ own p.front) ++ []) f.taken (own p.back) all_three f.moves;
           keeps = λ x out.
-              let none_in = times_of_out x ((((w.head ∷ ahead w.next) ++ copied.taken) ++ ahead w3.next) ++ f.taken) out in
-              let a = times-append x (((w.head ∷ ahead w.next) ++ copied.taken) ++ ahead w3.next) f.taken in
-              f.keeps x (out_of_times x (w3.head ∷ ahead w3.next ++ f.taken) (omega (arith, none_in, a, three_times x, heads_three x, times-append x (ahead w3.next) f.taken)))
-              ∙ keeps_three x (out_of_times x (ahead w.next ++ copied.taken) (omega (arith, none_in, a, three_times x, times-append x (ahead w.next) copied.taken)));
-          rows = λ x. omega (arith, f.rows x, heads_three x, used_three x, front_used x, copied.rows x, three_times x, times-append x (((w.head ∷ ahead w.next) ++ copied.taken) ++ ahead w3.next) f.taken, times-append x (([] ++ own p.front) ++ []) (own p.back), times-append x ([] ++ own p.front) []);
-          counted = omega (arith, length-append (((w.head ∷ ahead w.next) ++ copied.taken) ++ ahead w3.next) f.taken, length-append ((w.head ∷ ahead w.next) ++ copied.taken) (ahead w3.next), length-append (w.head ∷ ahead w.next) copied.taken, one, two, some, copied.counted, f.counted, left, p.front_run.counted);
+              let none_in =
+              times_of_out x
+              ((((w.head ∷ ahead w.next) ++ copied.taken) ++ ahead w3.next) ++ f.taken) out in
+              let a = times-append x (((w.head ∷ ahead w.next) ++ copied.taken) ++ ahead w3.next)
+              f.taken in
+              f.keeps x (out_of_times x (w3.head ∷ ahead w3.next ++ f.taken)
+              (omega (
+                arith,
+                none_in,
+                a,
+                three_times x,
+                heads_three x,
+                times-append x
+                    (ahead w3.next) f.taken,
+              )))
+              ∙ keeps_three x
+              (out_of_times x (ahead w.next ++ copied.taken)
+              (omega (
+                arith,
+                none_in,
+                a,
+                three_times x,
+                times-append x (ahead w.next)
+                    copied.taken,
+              )));
+          rows =
+              λ x. omega (
+                arith,
+                f.rows x,
+                heads_three x,
+                used_three x,
+                front_used x,
+                copied.rows x,
+                three_times x,
+                times-append x
+                    (((w.head ∷ ahead w.next) ++ copied.taken) ++ ahead w3.next) f.taken,
+                times-append x
+                    (([] ++ own p.front) ++ []) (own p.back),
+                times-append x ([] ++ own p.front) [],
+              );
+          counted =
+              omega (
+                arith,
+                length-append
+                    (((w.head ∷ ahead w.next) ++ copied.taken) ++ ahead w3.next) f.taken,
+                length-append
+                    ((w.head ∷ ahead w.next) ++ copied.taken) (ahead w3.next),
+                length-append
+                    (w.head ∷ ahead w.next) copied.taken,
+                one,
+                two,
+                some,
+                copied.counted,
+                f.counted,
+                left,
+                p.front_run.counted,
+              );
         }

@@ -22,38 +22,58 @@ depth (Some links) = links.layer + 1
 abbrev pub height : Content → ℕ → ℕ
 height c link = cond (link == 0) 0 (depth (part_at head_links c (link - 1)))
 
-pub height_at : (c : Content) (at : ℕ) (links : HeadLinks) (link : ℕ) → link ≡ at + 1 → part_at head_links c at ≡ Some links → height c link ≡ links.layer + 1
+pub height_at : (c : Content) (at : ℕ) (links : HeadLinks) (link : ℕ) → link ≡ at + 1
+    → part_at head_links c at ≡ Some links → height c link ≡ links.layer + 1
 height_at c at links link is row =
     let some : (link == 0) ≡ false = grind (arith, nat_tests) in
     let less : link - 1 ≡ at = omega (arith, is) in
-    ap (λ (b : Bool). cond b 0 (depth (part_at head_links c (link - 1)))) some ∙ ap (λ (n : ℕ). depth (part_at head_links c n)) less ∙ ap depth row
+    ap (λ (b : Bool). cond b 0 (depth (part_at head_links c (link - 1)))) some
+    ∙ ap (λ (n : ℕ). depth (part_at head_links c n)) less ∙ ap depth row
 
-pub child_height : (format : Format) (c : Content) (l : ℕ) (p : Placed) → HasRows c (rows_of format p) → IsUnder l (tree_of format p) → height c (link_of p) < l + 1
+pub child_height : (format : Format) (c : Content) (l : ℕ) (p : Placed)
+    → HasRows c (rows_of format p) → IsUnder l (tree_of format p) → height c (link_of p) < l + 1
 child_height format c l none has under = omega arith
 child_height format c l (head at j chain) has under =
-    let h = height_at c at (record { layer = j; count = Rattle.mst_arena.specs.Standing.count_of chain; first = Rattle.mst_arena.specs.Standing.first_of chain; tail = Rattle.mst_arena.specs.Standing.tail_of chain }) (at + 1) refl (ap (Rattle.std.specs.Prelude.option_and_then head_links) has.0) in
+    let h =
+    height_at c at
+    (record {
+      layer = j;
+      count = Rattle.mst_arena.specs.Standing.count_of chain;
+      first =
+          Rattle.mst_arena.specs.Standing.first_of chain;
+      tail =
+          Rattle.mst_arena.specs.Standing.tail_of chain;
+    }) (at + 1) refl
+    (ap (Rattle.std.specs.Prelude.option_and_then head_links) has.0) in
     omega (arith, h, under)
 
 -- ---- the tree in a gap
 
 module _ (format : Format) (l : ℕ) (es : Entries) where
-  pub gap_mst : (front : List TreeEntry) → IsMstEntries format l (with_entries front es) → IsUnder l (first_child es) × IsMst format (first_child es)
+  pub gap_mst : (front : List TreeEntry) → IsMstEntries format l (with_entries front es)
+      → IsUnder l (first_child es) × IsMst format (first_child es)
   gap_mst [] mst = here es mst
     where
-      here : (fs : Entries) → IsMstEntries format l fs → IsUnder l (first_child fs) × IsMst format (first_child fs)
+      here : (fs : Entries) → IsMstEntries format l fs → IsUnder l (first_child fs)
+          × IsMst format (first_child fs)
       here (last child) mst = (mst.0, mst.1)
       here (entry child key value rest) mst = (mst.0, mst.1)
   gap_mst (f ∷ front) mst = gap_mst front mst.3
 
-  pub gap_rises : (front : List TreeEntry) → IsAscending (entries_pairs (with_entries front es)) → IsAscending (pairs (first_child es))
+  pub gap_rises : (front : List TreeEntry) → IsAscending (entries_pairs (with_entries front es))
+      → IsAscending (pairs (first_child es))
   gap_rises [] rise = here es rise
     where
       here : (fs : Entries) → IsAscending (entries_pairs fs) → IsAscending (pairs (first_child fs))
       here (last child) rise = rise
       here (entry child key value rest) rise = child_rises child key value rest rise
-  gap_rises (f ∷ front) rise = gap_rises front (rest_rises f.child f.key f.value (with_entries front es) rise)
+  gap_rises (f ∷ front) rise =
+      gap_rises front (rest_rises f.child f.key f.value (with_entries front es) rise)
 
 -- an entry of a node has the node's layer
-pub entry_layer : (format : Format) (l : ℕ) (child : Tree) (key value : List ℕ) (rest : Entries) (front : List TreeEntry) → IsMstEntries format l (with_entries front (entry child key value rest)) → layer_in format key ≡ l
+pub entry_layer : (format : Format) (l : ℕ) (child : Tree) (key value : List ℕ) (rest : Entries)
+    (front : List TreeEntry) → IsMstEntries format l
+    (with_entries front (entry child key value rest)) → layer_in format key ≡ l
 entry_layer format l child key value rest [] mst = mst.2
-entry_layer format l child key value rest (f ∷ front) mst = entry_layer format l child key value rest front mst.3
+entry_layer format l child key value rest (f ∷ front) mst =
+    entry_layer format l child key value rest front mst.3

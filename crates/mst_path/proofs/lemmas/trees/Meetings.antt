@@ -44,19 +44,22 @@ each_in P (x ∷ xs) all r i = go (eqb r x) refl (λ more. each_in P xs all.1 r 
 
 -- ---- nodes with entries
 
-pub node_of_some : (format : Format) (l : ℕ) (es : Entries) → 0 < entry_count es → node_of format l es ≡ node format l es
+pub node_of_some : (format : Format) (l : ℕ) (es : Entries) → 0 < entry_count es
+    → node_of format l es ≡ node format l es
 node_of_some format l (last child) h = absurd (omega (arith, h))
 node_of_some format l (entry child key value rest) h = refl
 
 pub side_some : (k : ℕ) → 0 < k → side_rows k false ≡ k + 1
 side_some zero h = absurd (omega (arith, h))
-side_some (suc k) h = let e : (suc k == 0) ≡ false = grind (arith, nat_tests) in ap (λ (b : Bool). if b || false then 0 else suc k + 1) e
+side_some (suc k) h = let e : (suc k == 0) ≡ false = grind (arith, nat_tests) in
+    ap (λ (b : Bool). if b || false then 0 else suc k + 1) e
 
 pub height_under : (l : ℕ) (t : Tree) → IsUnder l t → height t ≤ l
 height_under l empty under = omega arith
 height_under l (node g k es) under = omega (arith, under)
 
-pub gaps_others : (P : Placed → Type 0) (es : List PlacedEntry) → EachGap P es → EachGap P (others es)
+pub gaps_others : (P : Placed → Type 0) (es : List PlacedEntry) → EachGap P es
+    → EachGap P (others es)
 gaps_others P [] each = tt
 gaps_others P (e ∷ es) each = each.1
 
@@ -64,7 +67,10 @@ pub has_tail : (es : List PlacedEntry) (tail : Placed) → 0 < length es → Has
 has_tail [] tail some = absurd (omega (arith, some))
 has_tail (e ∷ es) tail some = tt
 
-pub back_of_run : (format : Format) (c : Content) (s : State) (link count : ℕ) (es : List PlacedEntry) → Run format c s link count 0 es → 0 < length es → (tail_link : ℕ) (tail : Placed) → link_of tail ≡ tail_link → OldPiece format c s tail → BackRun format c s link count tail_link es tail
+pub back_of_run : (format : Format) (c : Content) (s : State) (link count : ℕ)
+    (es : List PlacedEntry) → Run format c s link count 0 es → 0 < length es → (tail_link : ℕ)
+    (tail : Placed) → link_of tail ≡ tail_link → OldPiece format c s tail → BackRun format c s link
+    count tail_link es tail
 back_of_run format c s link count es run some tail_link tail at piece = record {
   counted = run.counted;
   begins = run.begins;
@@ -89,14 +95,22 @@ no_back format c s = record {
 }
 
 pub no_front : (format : Format) (c : Content) (s : State) → Run format c s 0 0 0 []
-no_front format c s = record { counted = refl; begins = refl; rows = tt; old = λ r i. absurd (omega (arith, i)); gaps = tt }
+no_front format c s =
+    record {
+      counted = refl;
+      begins = refl;
+      rows = tt;
+      old = λ r i. absurd (omega (arith, i));
+      gaps = tt;
+    }
 
 pub some_of : (a b : ℕ) → 0 < a + b → (0 < a) ⊎ (0 < b)
 some_of zero b h = inr (omega (arith, h))
 some_of (suc a) b h = inl (omega arith)
 
 -- what is in two old trees is alive
-pub both_alive : (format : Format) (c : Content) (s : State) (p q : Placed) → OldPiece format c s p → OldPiece format c s q → (r : ℕ) → 0 < times r (used p) + times r (used q) → IsAlive s r
+pub both_alive : (format : Format) (c : Content) (s : State) (p q : Placed) → OldPiece format c s p
+    → OldPiece format c s q → (r : ℕ) → 0 < times r (used p) + times r (used q) → IsAlive s r
 both_alive format c s p q a b r i = elim (some_of (times r (used p)) (times r (used q)) i) [
   | inl k ↦ old_alive s r (a.old r k)
   | inr k ↦ old_alive s r (b.old r k)
@@ -104,11 +118,13 @@ both_alive format c s p q a b r i = elim (some_of (times r (used p)) (times r (u
 
 -- ---- a search tree's node that is opened
 
-module _ (format : Format) (c : Content) (s : State) (p : Placed) (row : ℕ) (h : HeadLinks) (o : Opened format c s p row h) (search : IsMst format (tree_of format p)) where
+module _ (format : Format) (c : Content) (s : State) (p : Placed) (row : ℕ) (h : HeadLinks)
+    (o : Opened format c s p row h) (search : IsMst format (tree_of format p)) where
   abbrev pub entries : Entries
   entries = entries_to format o.entries o.tail
 
-  pub node_search : (format ≡ format) × (0 < entry_count entries) × IsMstEntries format h.layer entries
+  pub node_search : (format ≡ format) × (0 < entry_count entries) × IsMstEntries format h.layer
+      entries
   node_search = subst (IsMst format) o.tree search
 
   pub some_entries : 0 < length o.entries
@@ -121,10 +137,13 @@ module _ (format : Format) (c : Content) (s : State) (p : Placed) (row : ℕ) (h
   tall = ap height o.tree
 
   pub tail_search : IsMst format (tree_of format o.tail)
-  tail_search = subst (IsMst format) (last_to format o.entries o.tail) (last_mst entries format h.layer node_search.2).1
+  tail_search = subst (IsMst format) (last_to format o.entries o.tail)
+      (last_mst entries format h.layer node_search.2).1
 
   pub tail_low : height (tree_of format o.tail) ≤ h.layer
-  tail_low = height_under h.layer (tree_of format o.tail) (subst (IsUnder h.layer) (last_to format o.entries o.tail) (last_mst entries format h.layer node_search.2).0)
+  tail_low = height_under h.layer (tree_of format o.tail)
+      (subst (IsUnder h.layer) (last_to format o.entries o.tail)
+      (last_mst entries format h.layer node_search.2).0)
 
   pub first : First o.entries
   first = first_of_some o.entries some_entries
@@ -136,7 +155,8 @@ module _ (format : Format) (c : Content) (s : State) (p : Placed) (row : ℕ) (h
   first_search = subst (IsMst format) first_is (first_mst entries format h.layer node_search.2).1
 
   pub first_low : height (tree_of format first.entry.child) ≤ h.layer
-  first_low = height_under h.layer (tree_of format first.entry.child) (subst (IsUnder h.layer) first_is (first_mst entries format h.layer node_search.2).0)
+  first_low = height_under h.layer (tree_of format first.entry.child)
+      (subst (IsUnder h.layer) first_is (first_mst entries format h.layer node_search.2).0)
 
   first_run : Run format c s h.first h.count 0 (first.entry ∷ first.more)
   first_run = subst (Run format c s h.first h.count 0) first.is o.run
@@ -144,11 +164,17 @@ module _ (format : Format) (c : Content) (s : State) (p : Placed) (row : ℕ) (h
   pub first_piece : OldPiece format c s first.entry.child
   first_piece = first_run.gaps.0
 
-  pub first_gap : (x : ℕ) → times x (gaps_used o.entries) ≡ times x (used first.entry.child) + times x (gaps_used (others o.entries))
-  first_gap x = ap (λ (l : List PlacedEntry). times x (gaps_used l)) first.is ∙ times-append x (used first.entry.child) (gaps_used first.more) ∙ ap (λ (l : List PlacedEntry). times x (used first.entry.child) + times x (gaps_used (others l))) (sym first.is)
+  pub first_gap : (x : ℕ) → times x (gaps_used o.entries) ≡ times x (used first.entry.child) + times
+      x (gaps_used (others o.entries))
+  first_gap x = ap (λ (l : List PlacedEntry). times x (gaps_used l)) first.is ∙ times-append x
+      (used first.entry.child) (gaps_used first.more)
+      ∙ ap (λ (l : List PlacedEntry). times x (used first.entry.child) + times x
+      (gaps_used (others l))) (sym first.is)
 
-  first_row : c (h.first - 1) ≡ Some (Entry (link_of first.entry.child) (link_from 0 first.more) first.entry.key first.entry.value)
-  first_row = let same : h.first - 1 ≡ first.entry.at = omega (arith, first_run.begins) in ap c same ∙ first_run.rows.0
+  first_row : c (h.first - 1) ≡ Some
+      (Entry (link_of first.entry.child) (link_from 0 first.more) first.entry.key first.entry.value)
+  first_row = let same : h.first - 1 ≡ first.entry.at = omega (arith, first_run.begins) in ap c same
+      ∙ first_run.rows.0
 
   pub first_some : 0 < h.first
   first_some = omega (arith, first_run.begins)
@@ -156,12 +182,16 @@ module _ (format : Format) (c : Content) (s : State) (p : Placed) (row : ℕ) (h
   pub first_there : IsSome (part_at entry_links c (h.first - 1))
   first_there = links_there (c (h.first - 1)) _ _ _ _ first_row
 
-  pub first_link : (l : EntryLinks) → part_at entry_links c (h.first - 1) ≡ Some l → l.child ≡ link_of first.entry.child
+  pub first_link : (l : EntryLinks) → part_at entry_links c (h.first - 1) ≡ Some l
+      → l.child ≡ link_of first.entry.child
   first_link l read = (links_are (c (h.first - 1)) l _ _ _ _ first_row read).0
 
 -- ---- the two nodes
 
-module _ (format : Format) (c : Content) (s : State) (left right : ℕ) (t : TwoTrees format c s left right) (low high : HeadLinks) (some_left : 0 < left) (some_right : 0 < right) (read_low : part_at head_links c (left - 1) ≡ Some low) (read_high : part_at head_links c (right - 1) ≡ Some high) where
+module _ (format : Format) (c : Content) (s : State) (left right : ℕ)
+    (t : TwoTrees format c s left right) (low high : HeadLinks) (some_left : 0 < left)
+    (some_right : 0 < right) (read_low : part_at head_links c (left - 1) ≡ Some low)
+    (read_high : part_at head_links c (right - 1) ≡ Some high) where
   abbrev pub a_node : Opened format c s t.a (left - 1) low
   a_node = opened format c s t.a left low t.a_at some_left t.a_piece read_low
 
@@ -208,19 +238,49 @@ module _ (format : Format) (c : Content) (s : State) (left right : ℕ) (t : Two
         ap (λ u. join u (tree_of format t.b)) a_node.tree
         ∙ ap (λ u. join (node format low.layer a_entries) u) b_node.tree
         ∙ join_higher format format low.layer high.layer a_entries b_entries less
-        ∙ ap (λ u. node format low.layer (with_entries (cells a_entries) (last (join (last_child a_entries) u)))) (sym b_node.tree)
-        ∙ ap (λ l. node format low.layer (with_entries l (last (join (last_child a_entries) (tree_of format t.b))))) (cells_to format a_node.entries a_node.tail)
-        ∙ ap (λ u. node format low.layer (with_entries (cells_of format a_node.entries) (last (join u (tree_of format t.b))))) (last_to format a_node.entries a_node.tail)
-        ∙ sym (node_of_some format low.layer (with_entries (cells_of format a_node.entries) (last (join (tree_of format a_node.tail) (tree_of format t.b)))) (omega (arith, with_entries_count (cells_of format a_node.entries) (last (join (tree_of format a_node.tail) (tree_of format t.b))), length-map {B = TreeEntry} a_node.entries (cell_of format), a_some)));
+        ∙ ap (λ u. node format low.layer
+        (with_entries (cells a_entries) (last (join (last_child a_entries) u))))
+        (sym b_node.tree)
+        ∙ ap (λ l. node format low.layer
+        (with_entries l (last (join (last_child a_entries) (tree_of format t.b)))))
+        (cells_to format a_node.entries a_node.tail)
+        ∙ ap (λ u. node format low.layer
+        (with_entries (cells_of format a_node.entries) (last (join u (tree_of format t.b)))))
+        (last_to format a_node.entries a_node.tail)
+        ∙ sym (node_of_some format low.layer
+        (with_entries (cells_of format a_node.entries)
+        (last (join (tree_of format a_node.tail) (tree_of format t.b))))
+        (omega (
+          arith,
+          with_entries_count (cells_of format a_node.entries)
+              (last (join (tree_of format a_node.tail) (tree_of format t.b))),
+          length-map
+              {B = TreeEntry} a_node.entries (cell_of format),
+          a_some,
+        )));
     rows =
         let all = ap (λ u. join_rows u (tree_of format t.b)) a_node.tree
         ∙ ap (λ u. join_rows (node format low.layer a_entries) u) b_node.tree
         ∙ join_rows_higher format format low.layer high.layer a_entries b_entries less
         ∙ ap (λ u. entry_count a_entries + 1 + join_rows (last_child a_entries) u) (sym b_node.tree)
-        ∙ ap (λ u. entry_count a_entries + 1 + join_rows u (tree_of format t.b)) (last_to format a_node.entries a_node.tail) in
-        omega (arith, all, count_to format a_node.entries a_node.tail, a_node.run.counted, side_some (low.count + 0) (omega (arith, a_some, a_node.run.counted)));
+        ∙ ap (λ u. entry_count a_entries + 1 + join_rows u (tree_of format t.b))
+        (last_to format a_node.entries a_node.tail) in
+        omega (
+          arith,
+          all,
+          count_to format a_node.entries a_node.tail,
+          a_node.run.counted,
+          side_some
+              (low.count + 0) (omega (arith, a_some, a_node.run.counted)),
+        );
     given = λ x. omega (arith, a_node.used_is x);
-    falls = omega (arith, tall format c s t.a (left - 1) low a_node t.a_search, tail_low format c s t.a (left - 1) low a_node t.a_search);
+    falls =
+        omega (
+          arith,
+          tall format c s t.a (left - 1) low a_node t.a_search,
+          tail_low format c s t.a
+              (left - 1) low a_node t.a_search,
+        );
     low = low_layer format c s t.a (left - 1) low a_node t.a_search;
   }
 
@@ -234,16 +294,19 @@ module _ (format : Format) (c : Content) (s : State) (left right : ℕ) (t : Two
     abbrev child_piece : OldPiece format c s b_first.entry.child
     child_piece = first_piece format c s t.b (right - 1) high b_node t.b_search
 
-    abbrev child_gap : (x : ℕ) → times x (gaps_used b_node.entries) ≡ times x (used b_first.entry.child) + times x (gaps_used (others b_node.entries))
+    abbrev child_gap : (x : ℕ) → times x (gaps_used b_node.entries) ≡ times x
+        (used b_first.entry.child) + times x (gaps_used (others b_node.entries))
     child_gap = first_gap format c s t.b (right - 1) high b_node t.b_search
 
     abbrev child_is : first_child b_entries ≡ tree_of format b_first.entry.child
     child_is = first_is format c s t.b (right - 1) high b_node t.b_search
 
     abbrev b_back : BackRun format c s high.first high.count high.tail b_node.entries b_node.tail
-    b_back = back_of_run format c s high.first high.count b_node.entries b_node.run b_some high.tail b_node.tail b_node.tail_at b_node.tail_piece
+    b_back = back_of_run format c s high.first high.count b_node.entries b_node.run b_some high.tail
+        b_node.tail b_node.tail_at b_node.tail_piece
 
-    pub met_lower : low.layer < high.layer → Met format c s left right t (below_right left right high links.child)
+    pub met_lower : low.layer < high.layer → Met format c s left right t
+        (below_right left right high links.child)
     met_lower less = record {
       inner = record {
         a = t.a;
@@ -271,22 +334,47 @@ module _ (format : Format) (c : Content) (s : State) (left right : ℕ) (t : Two
           ap (λ u. join u (tree_of format t.b)) a_node.tree
           ∙ ap (λ u. join (node format low.layer a_entries) u) b_node.tree
           ∙ join_lower format format low.layer high.layer a_entries b_entries less
-          ∙ ap (λ u. node format high.layer (with_first (join u (first_child b_entries)) b_entries)) (sym a_node.tree)
-          ∙ ap (λ u. node format high.layer (with_first (join (tree_of format t.a) u) b_entries)) child_is
-          ∙ sym (node_of_some format high.layer (with_first (join (tree_of format t.a) (tree_of format b_first.entry.child)) b_entries) (omega (arith, with_first_count b_entries (join (tree_of format t.a) (tree_of format b_first.entry.child)), count_to format b_node.entries b_node.tail, b_some)));
+          ∙ ap (λ u. node format high.layer (with_first (join u (first_child b_entries)) b_entries))
+          (sym a_node.tree)
+          ∙ ap (λ u. node format high.layer (with_first (join (tree_of format t.a) u) b_entries))
+          child_is
+          ∙ sym (node_of_some format high.layer
+          (with_first (join (tree_of format t.a) (tree_of format b_first.entry.child))
+          b_entries) (omega (
+            arith,
+            with_first_count b_entries
+                (join (tree_of format t.a) (tree_of format b_first.entry.child)),
+            count_to format
+                b_node.entries b_node.tail,
+            b_some,
+          )));
       rows =
           let all = ap (λ u. join_rows u (tree_of format t.b)) a_node.tree
           ∙ ap (λ u. join_rows (node format low.layer a_entries) u) b_node.tree
           ∙ join_rows_lower format format low.layer high.layer a_entries b_entries less
-          ∙ ap (λ u. entry_count b_entries + 1 + join_rows u (first_child b_entries)) (sym a_node.tree)
+          ∙ ap (λ u. entry_count b_entries + 1 + join_rows u (first_child b_entries))
+          (sym a_node.tree)
           ∙ ap (λ u. entry_count b_entries + 1 + join_rows (tree_of format t.a) u) child_is in
-          omega (arith, all, count_to format b_node.entries b_node.tail, b_node.run.counted, side_some (0 + high.count) (omega (arith, b_some, b_node.run.counted)));
+          omega (
+            arith,
+            all,
+            count_to format b_node.entries b_node.tail,
+            b_node.run.counted,
+            side_some (0 + high.count) (omega (arith, b_some, b_node.run.counted)),
+          );
       given = λ x. omega (arith, b_node.used_is x, child_gap x);
-      falls = omega (arith, tall format c s t.b (right - 1) high b_node t.b_search, first_low format c s t.b (right - 1) high b_node t.b_search);
+      falls =
+          omega (
+            arith,
+            tall format c s t.b (right - 1) high b_node t.b_search,
+            first_low format c s
+                t.b (right - 1) high b_node t.b_search,
+          );
       low = low_layer format c s t.b (right - 1) high b_node t.b_search;
     }
 
-    pub met_level : low.layer ≡ high.layer → Met format c s left right t (beside_right left right low high links.child)
+    pub met_level : low.layer ≡ high.layer → Met format c s left right t
+        (beside_right left right low high links.child)
     met_level same = record {
       inner = record {
         a = a_node.tail;
@@ -306,7 +394,8 @@ module _ (format : Format) (c : Content) (s : State) (left right : ℕ) (t : Two
         back = b_node.entries;
         tail = b_node.tail;
         back_run = b_back;
-        goes = each_in (IsOld s) ((left - 1) ∷ (right - 1) ∷ []) (a_node.head_old, (b_node.head_old, tt));
+        goes = each_in (IsOld s) ((left - 1) ∷ (right - 1) ∷ [])
+            (a_node.head_old, (b_node.head_old, tt));
         alive = both_alive format c s a_node.tail b_first.entry.child a_node.tail_piece child_piece;
         once = λ x. omega (arith, t.once x, a_node.used_is x, b_node.used_is x, child_gap x);
       };
@@ -314,19 +403,57 @@ module _ (format : Format) (c : Content) (s : State) (left right : ℕ) (t : Two
           ap (λ u. join u (tree_of format t.b)) a_node.tree
           ∙ ap (λ u. join (node format low.layer a_entries) u) b_tree
           ∙ join_level format format low.layer a_entries b_entries
-          ∙ ap (λ l. node format low.layer (with_entries l (with_first (join (last_child a_entries) (first_child b_entries)) b_entries))) (cells_to format a_node.entries a_node.tail)
-          ∙ ap (λ u. node format low.layer (with_entries (cells_of format a_node.entries) (with_first (join u (first_child b_entries)) b_entries))) (last_to format a_node.entries a_node.tail)
-          ∙ ap (λ u. node format low.layer (with_entries (cells_of format a_node.entries) (with_first (join (tree_of format a_node.tail) u) b_entries))) child_is
-          ∙ sym (node_of_some format low.layer (with_entries (cells_of format a_node.entries) (with_first (join (tree_of format a_node.tail) (tree_of format b_first.entry.child)) b_entries)) (omega (arith, with_entries_count (cells_of format a_node.entries) (with_first (join (tree_of format a_node.tail) (tree_of format b_first.entry.child)) b_entries), length-map {B = TreeEntry} a_node.entries (cell_of format), a_some)));
+          ∙ ap (λ l. node format low.layer
+          (with_entries l
+          (with_first (join (last_child a_entries) (first_child b_entries)) b_entries)))
+          (cells_to format a_node.entries a_node.tail)
+          ∙ ap (λ u. node format low.layer
+          (with_entries (cells_of format a_node.entries)
+          (with_first (join u (first_child b_entries)) b_entries)))
+          (last_to format a_node.entries a_node.tail)
+          ∙ ap (λ u. node format low.layer
+          (with_entries (cells_of format a_node.entries)
+          (with_first (join (tree_of format a_node.tail) u) b_entries))) child_is
+          ∙ sym (node_of_some format low.layer
+          (with_entries (cells_of format a_node.entries)
+          (with_first (join (tree_of format a_node.tail) (tree_of format b_first.entry.child))
+          b_entries)) (omega (
+            arith,
+            with_entries_count (cells_of format a_node.entries)
+                (with_first (join (tree_of format a_node.tail) (tree_of format b_first.entry.child))
+                b_entries),
+            length-map {B = TreeEntry} a_node.entries (cell_of format),
+            a_some,
+          )));
       rows =
           let all = ap (λ u. join_rows u (tree_of format t.b)) a_node.tree
           ∙ ap (λ u. join_rows (node format low.layer a_entries) u) b_tree
           ∙ join_rows_level format format low.layer a_entries b_entries
-          ∙ ap (λ u. entry_count a_entries + entry_count b_entries + 1 + join_rows u (first_child b_entries)) (last_to format a_node.entries a_node.tail)
-          ∙ ap (λ u. entry_count a_entries + entry_count b_entries + 1 + join_rows (tree_of format a_node.tail) u) child_is in
-          omega (arith, all, count_to format a_node.entries a_node.tail, a_node.run.counted, count_to format b_node.entries b_node.tail, b_node.run.counted, side_some (low.count + high.count) (omega (arith, a_some, a_node.run.counted)));
+          ∙ ap (λ u. entry_count a_entries + entry_count b_entries + 1 + join_rows u
+          (first_child b_entries)) (last_to format a_node.entries a_node.tail)
+          ∙ ap (λ u. entry_count a_entries + entry_count b_entries + 1 + join_rows
+          (tree_of format a_node.tail) u) child_is in
+          omega (
+            arith,
+            all,
+            count_to format a_node.entries a_node.tail,
+            a_node.run.counted,
+            count_to format b_node.entries b_node.tail,
+            b_node.run.counted,
+            side_some
+                (low.count + high.count) (omega (arith, a_some, a_node.run.counted)),
+          );
       given = λ x. omega (arith, a_node.used_is x, b_node.used_is x, child_gap x);
-      falls = omega (arith, tall format c s t.a (left - 1) low a_node t.a_search, tail_low format c s t.a (left - 1) low a_node t.a_search, tall format c s t.b (right - 1) high b_node t.b_search, first_low format c s t.b (right - 1) high b_node t.b_search);
+      falls =
+          omega (
+            arith,
+            tall format c s t.a (left - 1) low a_node t.a_search,
+            tail_low format c s
+                t.a (left - 1) low a_node t.a_search,
+            tall format c s t.b (right - 1) high b_node
+                t.b_search,
+            first_low format c s t.b (right - 1) high b_node t.b_search,
+          );
       low = low_layer format c s t.a (left - 1) low a_node t.a_search;
     }
       where
@@ -335,10 +462,12 @@ module _ (format : Format) (c : Content) (s : State) (left right : ℕ) (t : Two
 
 -- ---- how high the trees are
 
-pub height_there : (format : Format) (c : Content) (p : Placed) (link : ℕ) → link_of p ≡ link → HasRows c (rows_of format p) → height_at c link ≡ height (tree_of format p)
+pub height_there : (format : Format) (c : Content) (p : Placed) (link : ℕ) → link_of p ≡ link
+    → HasRows c (rows_of format p) → height_at c link ≡ height (tree_of format p)
 height_there format c no_tree zero at has = refl
 height_there format c no_tree (suc row) at has = absurd (omega (arith, at))
 height_there format c (tree_head i l chain) zero at has = absurd (omega (arith, at))
 height_there format c (tree_head i l chain) (suc row) at has =
     let same : row ≡ i = omega (arith, at) in
-    ap (λ (o : Option Row). option_map_or (λ h. h.layer + 1) (option_and_then head_links o) 0) (ap c same ∙ has.0)
+    ap (λ (o : Option Row). option_map_or (λ h. h.layer + 1) (option_and_then head_links o) 0)
+    (ap c same ∙ has.0)

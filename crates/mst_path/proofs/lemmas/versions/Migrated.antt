@@ -52,7 +52,8 @@ module _ (old new : State) (taken killed : List ℕ) (m : Moves old new taken ki
       (λ is. let j = was_killed r is in (j, not_in r taken (λ i. apart r i j))),
       (λ only. m.dies r only.0),
     );
-    others = λ r both. m.others r (not_in r taken (λ i. apart r i (both.1 i))) (not_in r killed (λ j. apart r (both.0 j) j));
+    others = λ r both. m.others r (not_in r taken (λ i. apart r i (both.1 i)))
+        (not_in r killed (λ j. apart r (both.0 j) j));
     versions = (m.current, m.versions);
   }
 
@@ -62,17 +63,22 @@ module _ (old new : State) (taken killed : List ℕ) (m : Moves old new taken ki
       m.born r i ∙ ap (λ (n : ℕ). Some (Born (n + 1))) (sym v)
 
 -- planted, and then the old one felled
-pub moved : (old mid new : State) (taken killed : List ℕ) → Takes old mid taken → Moves mid new [] killed → Moves old new taken killed
+pub moved : (old mid new : State) (taken killed : List ℕ) → Takes old mid taken
+    → Moves mid new [] killed → Moves old new taken killed
 moved old mid new taken killed takes fells =
-    subst (λ (l : List ℕ). Moves old new l killed) (append-nil taken) (moves_then old mid new taken [] [] killed (moves_takes old mid taken takes) fells)
+    subst (λ (l : List ℕ). Moves old new l killed) (append-nil taken)
+    (moves_then old mid new taken [] [] killed (moves_takes old mid taken takes) fells)
 
 -- ---- trees of two formats share no subtree
 
-none_either : (p : Tree → Bool) (xs ys : List Tree) → list_any p xs ≡ false → list_any p ys ≡ false → list_any p (xs ++ ys) ≡ false
+none_either : (p : Tree → Bool) (xs ys : List Tree) → list_any p xs ≡ false → list_any p ys ≡ false
+    → list_any p (xs ++ ys) ≡ false
 none_either p [] ys a b = b
 none_either p (x ∷ xs) ys a b = go (p x) a (λ c. none_either p xs ys c b)
   where
-    go : (t : Bool) → (t || list_any p xs) ≡ false → (list_any p xs ≡ false → list_any p (xs ++ ys) ≡ false) → (t || list_any p (xs ++ ys)) ≡ false
+    go : (t : Bool) → (t || list_any p xs) ≡ false
+        → (list_any p xs ≡ false → list_any p (xs ++ ys) ≡ false) → (t || list_any p (xs ++ ys))
+        ≡ false
     go true c more = absurd (true≢false c)
     go false c more = more c
 
@@ -83,34 +89,45 @@ module _ (f g : Format) (other : same_format g f ≡ false) (l : ℕ) (es : Entr
   mutual
     none_in : (p : Placed) → list_any (same_tree (node g l es)) (subtrees (tree_of f p)) ≡ false
     none_in none = refl
-    none_in (head at k chain) = ap (λ (b : Bool). b || list_any (same_tree (node g l es)) (entries_subtrees (entries_of f chain))) (not_same k (entries_of f chain)) ∙ none_below chain
+    none_in (head at k chain) =
+        ap (λ (b : Bool). b || list_any (same_tree (node g l es))
+        (entries_subtrees (entries_of f chain))) (not_same k (entries_of f chain))
+        ∙ none_below chain
 
-    none_below : (chain : Chain) → list_any (same_tree (node g l es)) (entries_subtrees (entries_of f chain)) ≡ false
+    none_below : (chain : Chain) → list_any (same_tree (node g l es))
+        (entries_subtrees (entries_of f chain)) ≡ false
     none_below (end child) = none_in child
-    none_below (cell at child key value rest) = none_either (same_tree (node g l es)) (subtrees (tree_of f child)) (entries_subtrees (entries_of f rest)) (none_in child) (none_below rest)
+    none_below (cell at child key value rest) =
+        none_either (same_tree (node g l es)) (subtrees (tree_of f child))
+        (entries_subtrees (entries_of f rest)) (none_in child) (none_below rest)
 
 -- ---- so all nodes of the new tree are aged
 
 mutual
   no_empty : (q : Placed) → Contains (placed_nodes q) none → ⊥
   no_empty none has = contains-nothing none has
-  no_empty (head at layer chain) has = elim (contains-cases (head at layer chain) (chain_nodes chain) none has) [
-    | inl same ↦ cc
-    | inr later ↦ no_empty_below chain later
-  ]
+  no_empty (head at layer chain) has =
+      elim (contains-cases (head at layer chain) (chain_nodes chain) none has) [
+        | inl same ↦ cc
+        | inr later ↦ no_empty_below chain later
+      ]
 
   no_empty_below : (c : Chain) → Contains (chain_nodes c) none → ⊥
   no_empty_below (end child) has = no_empty child has
-  no_empty_below (cell at child key value rest) has = elim (Contains-append_cases (placed_nodes child) (chain_nodes rest) none has) [
-    | inl k ↦ no_empty child k
-    | inr k ↦ no_empty_below rest k
-  ]
+  no_empty_below (cell at child key value rest) has =
+      elim (Contains-append_cases (placed_nodes child) (chain_nodes rest) none has) [
+        | inl k ↦ no_empty child k
+        | inr k ↦ no_empty_below rest k
+      ]
 
-heads : (P : Placed → Type 0) (w : Placed) → ((at layer : ℕ) (chain : Chain) → Contains (placed_nodes w) (head at layer chain) → P (head at layer chain)) → (p : Placed) → Contains (placed_nodes w) p → P p
+heads : (P : Placed → Type 0) (w : Placed)
+    → ((at layer : ℕ) (chain : Chain) → Contains (placed_nodes w) (head at layer chain)
+    → P (head at layer chain)) → (p : Placed) → Contains (placed_nodes w) p → P p
 heads P w each none has = absurd (no_empty w has)
 heads P w each (head at layer chain) has = each at layer chain has
 
-pub all_new : (f g : Format) → same_format g f ≡ false → (old new : State) (o w : Placed) → Moves old new (used w) (used o) → AllByRecursion (IsAged f g new o) (placed_nodes w)
+pub all_new : (f g : Format) → same_format g f ≡ false → (old new : State) (o w : Placed)
+    → Moves old new (used w) (used o) → AllByRecursion (IsAged f g new o) (placed_nodes w)
 all_new f g other old new o w m =
     all_contained (IsAged f g new o) (placed_nodes w)
     (heads (IsAged f g new o) w (λ at layer chain has. inr (

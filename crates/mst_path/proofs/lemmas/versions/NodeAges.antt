@@ -32,50 +32,97 @@ module _ (format : Format) where
   -- ---- the node at a row
 
   abbrev NodeAt : Content → List Placed → ℕ → Type 0
-  NodeAt content ps x = (p : Placed) × Contains ps p × (link_of p ≡ x + 1) × HasRows content (rows_of format p)
+  NodeAt content ps x = (p : Placed) × Contains ps p × (link_of p ≡ x + 1) × HasRows content
+      (rows_of format p)
 
   mutual
-    node_at : (content : Content) (q : Placed) → HasRows content (rows_of format q) → (x : ℕ) → In x (used q) → (l n f t : ℕ) (d : List ℕ) → content x ≡ Some (Head l n f t d) → NodeAt content (placed_nodes q) x
+    node_at : (content : Content) (q : Placed) → HasRows content (rows_of format q) → (x : ℕ)
+        → In x (used q) → (l n f t : ℕ) (d : List ℕ) → content x ≡ Some (Head l n f t d)
+        → NodeAt content (placed_nodes q) x
     node_at content none has x i l n f t d row = absurd (omega (arith, i))
-    node_at content (head at layer chain) has x i l n f t d row = go (eqb x at) refl i (λ j. chain_node_at content chain has.1 x j l n f t d row)
+    node_at content (head at layer chain) has x i l n f t d row =
+        go (eqb x at) refl i (λ j. chain_node_at content chain has.1 x j l n f t d row)
       where
-        go : (b : Bool) → eqb x at ≡ b → 0 < bit b + times x (chain_used chain) → (In x (chain_used chain) → NodeAt content (chain_nodes chain) x) → NodeAt content (head at layer chain ∷ chain_nodes chain) x
+        go : (b : Bool) → eqb x at ≡ b → 0 < bit b + times x (chain_used chain)
+            → (In x (chain_used chain) → NodeAt content (chain_nodes chain) x)
+            → NodeAt content (head at layer chain ∷ chain_nodes chain) x
         go true e j more =
-            let same : x ≡ at = grind (arith, nat_tests, e) in
-            (head at layer chain, contains-first (head at layer chain) (chain_nodes chain) (head at layer chain) refl, omega (arith, same), has)
+            let same : x ≡ at = grind (arith, nat_tests, e) in (
+              head at layer chain,
+              contains-first (head at layer chain) (chain_nodes chain)
+                  (head at layer chain) refl,
+              omega (arith, same),
+              has,
+            )
         go false e j more =
             let r = more (omega (arith, j)) in
             (r.0, contains-later (head at layer chain) (chain_nodes chain) r.0 r.1, r.2, r.3)
 
-    chain_node_at : (content : Content) (chain : Chain) → HasRows content (chain_rows format chain) → (x : ℕ) → In x (chain_used chain) → (l n f t : ℕ) (d : List ℕ) → content x ≡ Some (Head l n f t d) → NodeAt content (chain_nodes chain) x
-    chain_node_at content (end child) has x i l n f t d row = node_at content child has x i l n f t d row
-    chain_node_at content (cell at child key value rest) has x i l n f t d row = go (eqb x at) refl i
-        (λ j. node_at content child (all-front _ (rows_of format child) (chain_rows format rest) has.1) x j l n f t d row)
-        (λ j. chain_node_at content rest (all-back _ (rows_of format child) (chain_rows format rest) has.1) x j l n f t d row)
+    chain_node_at : (content : Content) (chain : Chain) → HasRows content (chain_rows format chain)
+        → (x : ℕ) → In x (chain_used chain) → (l n f t : ℕ) (d : List ℕ) → content x ≡ Some
+        (Head l n f t d) → NodeAt content (chain_nodes chain) x
+    chain_node_at content (end child) has x i l n f t d row =
+        node_at content child has x i l n f t d row
+    chain_node_at content (cell at child key value rest) has x i l n f t d row =
+        go (eqb x at) refl i
+        (λ j. node_at content child
+        (all-front _ (rows_of format child) (chain_rows format rest) has.1) x j l n f t d row)
+        (λ j. chain_node_at content rest
+        (all-back _ (rows_of format child) (chain_rows format rest) has.1) x j l n f t d row)
       where
-        go : (b : Bool) → eqb x at ≡ b → 0 < bit b + times x (used child ++ chain_used rest) → (In x (used child) → NodeAt content (placed_nodes child) x) → (In x (chain_used rest) → NodeAt content (chain_nodes rest) x) → NodeAt content (placed_nodes child ++ chain_nodes rest) x
-        go true e j first more = let same : x ≡ at = grind (arith, nat_tests, e) in let here = ap content same in let entry = has.0 in absurd cc
-        go false e j first more = elim (in_either x (used child) (chain_used rest) (omega (arith, j))) [
-          | inl k ↦ let r = first k in (r.0, Contains-append_left (placed_nodes child) (chain_nodes rest) r.0 r.1, r.2, r.3)
-          | inr k ↦ let r = more k in (r.0, Contains-append_right (placed_nodes child) (chain_nodes rest) r.0 r.1, r.2, r.3)
-        ]
+        go : (b : Bool) → eqb x at ≡ b → 0 < bit b + times x (used child ++ chain_used rest)
+            → (In x (used child) → NodeAt content (placed_nodes child) x)
+            → (In x (chain_used rest) → NodeAt content (chain_nodes rest) x)
+            → NodeAt content (placed_nodes child ++ chain_nodes rest) x
+        go true e j first more = let same : x ≡ at = grind (arith, nat_tests, e) in let here =
+            ap content same in let entry = has.0 in absurd cc
+        go false e j first more =
+            elim (in_either x (used child) (chain_used rest) (omega (arith, j))) [
+              | inl k ↦ let r =
+                  first k in (
+                    r.0,
+                    Contains-append_left (placed_nodes child) (chain_nodes rest) r.0 r.1,
+                    r.2,
+                    r.3,
+                  )
+              | inr k ↦ let r =
+                  more k in (
+                    r.0,
+                    Contains-append_right (placed_nodes child) (chain_nodes rest) r.0 r.1,
+                    r.2,
+                    r.3,
+                  )
+            ]
 
   -- ---- the tree of a node stands in the whole tree
 
   mutual
-    pub node_in : (q p : Placed) → Contains (placed_nodes q) p → InTree (tree_of format p) (tree_of format q)
+    pub node_in : (q p : Placed) → Contains (placed_nodes q) p → InTree (tree_of format p)
+        (tree_of format q)
     node_in none p has = absurd (contains-nothing p has)
-    node_in (head at layer chain) p has = go (contains-cases (head at layer chain) (chain_nodes chain) p has) (λ k. chain_node_in chain p k)
+    node_in (head at layer chain) p has =
+        go (contains-cases (head at layer chain) (chain_nodes chain) p has)
+        (λ k. chain_node_in chain p k)
       where
-        go : (head at layer chain ≡ p) ⊎ Contains (chain_nodes chain) p → (Contains (chain_nodes chain) p → InEntries (tree_of format p) (entries_of format chain)) → InTree (tree_of format p) (tree_of format (head at layer chain))
+        go : (head at layer chain ≡ p) ⊎ Contains (chain_nodes chain) p
+            → (Contains (chain_nodes chain) p → InEntries (tree_of format p)
+            (entries_of format chain)) → InTree (tree_of format p)
+            (tree_of format (head at layer chain))
         go (inl same) more = inl (ap (tree_of format) (sym same))
         go (inr later) more = inr (more later)
 
-    chain_node_in : (chain : Chain) (p : Placed) → Contains (chain_nodes chain) p → InEntries (tree_of format p) (entries_of format chain)
+    chain_node_in : (chain : Chain) (p : Placed) → Contains (chain_nodes chain) p
+        → InEntries (tree_of format p) (entries_of format chain)
     chain_node_in (end child) p has = node_in child p has
-    chain_node_in (cell at child key value rest) p has = go (Contains-append_cases (placed_nodes child) (chain_nodes rest) p has) (λ k. node_in child p k) (λ k. chain_node_in rest p k)
+    chain_node_in (cell at child key value rest) p has =
+        go (Contains-append_cases (placed_nodes child) (chain_nodes rest) p has)
+        (λ k. node_in child p k) (λ k. chain_node_in rest p k)
       where
-        go : Contains (placed_nodes child) p ⊎ Contains (chain_nodes rest) p → (Contains (placed_nodes child) p → InTree (tree_of format p) (tree_of format child)) → (Contains (chain_nodes rest) p → InEntries (tree_of format p) (entries_of format rest)) → InTree (tree_of format p) (tree_of format child) ⊎ InEntries (tree_of format p) (entries_of format rest)
+        go : Contains (placed_nodes child) p ⊎ Contains (chain_nodes rest) p
+            → (Contains (placed_nodes child) p → InTree (tree_of format p) (tree_of format child))
+            → (Contains (chain_nodes rest) p → InEntries (tree_of format p)
+            (entries_of format rest)) → InTree (tree_of format p) (tree_of format child)
+            ⊎ InEntries (tree_of format p) (entries_of format rest)
         go (inl k) first more = inl (first k)
         go (inr k) first more = inr (more k)
 
@@ -89,12 +136,14 @@ module _ (format : Format) where
   over-append f [] qs = omega arith
   over-append f (p ∷ ps) qs = omega (arith, over-append f ps qs)
 
-  over_le : (f g : Placed → ℕ) (ps : List Placed) → AllByRecursion (λ p. g p ≤ f p) ps → over g ps ≤ over f ps
+  over_le : (f g : Placed → ℕ) (ps : List Placed) → AllByRecursion (λ p. g p ≤ f p) ps
+      → over g ps ≤ over f ps
   over_le f g [] all = omega arith
   over_le f g (p ∷ ps) all = omega (arith, all.0, over_le f g ps all.1)
 
   -- what is nowhere less, and not less in sum, is everywhere the same
-  squeezed : (f g : Placed → ℕ) (ps : List Placed) → AllByRecursion (λ p. g p ≤ f p) ps → over f ps ≤ over g ps → AllByRecursion (λ p. f p ≡ g p) ps
+  squeezed : (f g : Placed → ℕ) (ps : List Placed) → AllByRecursion (λ p. g p ≤ f p) ps
+      → over f ps ≤ over g ps → AllByRecursion (λ p. f p ≡ g p) ps
   squeezed f g [] all le = tt
   squeezed f g (p ∷ ps) all le =
       let rest = over_le f g ps all.1 in
@@ -110,11 +159,20 @@ module _ (format : Format) where
       fresh_over none = refl
       fresh_over (head at layer chain) = omega (arith, fresh_over_chain chain)
 
-      fresh_over_chain : (chain : Chain) → fresh_in old (entries_of format chain) ≡ over new_rows_of (chain_nodes chain)
+      fresh_over_chain : (chain : Chain) → fresh_in old (entries_of format chain) ≡ over new_rows_of
+          (chain_nodes chain)
       fresh_over_chain (end child) = fresh_over child
-      fresh_over_chain (cell at child key value rest) = omega (arith, fresh_over child, fresh_over_chain rest, over-append new_rows_of (placed_nodes child) (chain_nodes rest))
+      fresh_over_chain (cell at child key value rest) =
+          omega (
+            arith,
+            fresh_over child,
+            fresh_over_chain rest,
+            over-append new_rows_of
+                (placed_nodes child) (chain_nodes rest),
+          )
 
-  pub own_length : (chain : Chain) → length (chain_own chain) ≡ entry_count (entries_of format chain)
+  pub own_length : (chain : Chain) → length (chain_own chain) ≡ entry_count
+      (entries_of format chain)
   own_length (end child) = refl
   own_length (cell at child key value rest) = omega (arith, own_length rest)
 
@@ -132,7 +190,8 @@ module _ (format : Format) where
     passing_length [] = refl
     passing_length (x ∷ xs) = go (test x) (passing_length xs)
       where
-        go : (b : Bool) → length (filter test xs) ≡ passing xs → length (cond b (x ∷ filter test xs) (filter test xs)) ≡ bit b + passing xs
+        go : (b : Bool) → length (filter test xs) ≡ passing xs
+            → length (cond b (x ∷ filter test xs) (filter test xs)) ≡ bit b + passing xs
         go true e = omega (arith, e)
         go false e = omega (arith, e)
 
@@ -143,40 +202,60 @@ module _ (format : Format) where
         omega (arith, here, all_passing xs (λ r i. all r (omega (arith, i))))
 
     mutual
-      passing_over : (p : Placed) → passing (used p) ≡ over (λ q. passing (top_rows q)) (placed_nodes p)
+      passing_over : (p : Placed) → passing (used p) ≡ over (λ q. passing (top_rows q))
+          (placed_nodes p)
       passing_over none = refl
       passing_over (head at layer chain) = omega (arith, passing_over_chain chain)
 
-      passing_over_chain : (chain : Chain) → passing (chain_used chain) ≡ passing (chain_own chain) + over (λ q. passing (top_rows q)) (chain_nodes chain)
+      passing_over_chain : (chain : Chain) → passing (chain_used chain) ≡ passing (chain_own chain)
+          + over (λ q. passing (top_rows q)) (chain_nodes chain)
       passing_over_chain (end child) = omega (arith, passing_over child)
       passing_over_chain (cell at child key value rest) =
-          omega (arith, passing_over child, passing_over_chain rest, passing-append (used child) (chain_used rest), over-append (λ q. passing (top_rows q)) (placed_nodes child) (chain_nodes rest))
+          omega (
+            arith,
+            passing_over child,
+            passing_over_chain rest,
+            passing-append (used child)
+                (chain_used rest),
+            over-append (λ q. passing (top_rows q)) (placed_nodes child)
+                (chain_nodes rest),
+          )
 
   -- ---- a change
 
-  own_new : (s : State) (chain : Chain) → IsMadeChain s chain → (r : ℕ) → In r (chain_own chain) → IsNew s r
+  own_new : (s : State) (chain : Chain) → IsMadeChain s chain → (r : ℕ) → In r (chain_own chain)
+      → IsNew s r
   own_new s (end child) made r i = absurd (omega (arith, i))
-  own_new s (cell at child key value rest) made r i = go (eqb r at) refl i (λ j. own_new s rest made.2 r j)
+  own_new s (cell at child key value rest) made r i =
+      go (eqb r at) refl i (λ j. own_new s rest made.2 r j)
     where
-      go : (b : Bool) → eqb r at ≡ b → 0 < bit b + times r (chain_own rest) → (In r (chain_own rest) → IsNew s r) → IsNew s r
-      go true e j more = let same : r ≡ at = grind (arith, nat_tests, e) in subst (IsNew s) (sym same) made.0
+      go : (b : Bool) → eqb r at ≡ b → 0 < bit b + times r (chain_own rest)
+          → (In r (chain_own rest) → IsNew s r) → IsNew s r
+      go true e j more = let same : r ≡ at = grind (arith, nat_tests, e) in
+          subst (IsNew s) (sym same) made.0
       go false e j more = more (omega (arith, j))
 
-  top_new : (s : State) (at layer : ℕ) (chain : Chain) → IsNew s at → IsMadeChain s chain → (r : ℕ) → In r (top_rows (head at layer chain)) → IsNew s r
+  top_new : (s : State) (at layer : ℕ) (chain : Chain) → IsNew s at → IsMadeChain s chain → (r : ℕ)
+      → In r (top_rows (head at layer chain)) → IsNew s r
   top_new s at layer chain new made r i = go (eqb r at) refl i
     where
       go : (b : Bool) → eqb r at ≡ b → 0 < bit b + times r (chain_own chain) → IsNew s r
-      go true e j = let same : r ≡ at = grind (arith, nat_tests, e) in subst (IsNew s) (sym same) new
+      go true e j = let same : r ≡ at = grind (arith, nat_tests, e) in subst (IsNew s) (sym same)
+          new
       go false e j = own_new s chain made r (omega (arith, j))
 
-  module _ (before after : Content) (old new : State) (o w : Placed) (stood : HasRows before (rows_of format o)) (change : Changes old new (used o) (used w)) (written : OnlyFreeWritten old before after) (are_old : AreOld old (used o)) where
+  module _ (before after : Content) (old new : State) (o w : Placed)
+      (stood : HasRows before (rows_of format o)) (change : Changes old new (used o) (used w))
+      (written : OnlyFreeWritten old before after) (are_old : AreOld old (used o)) where
     same_version : version new ≡ version old
     same_version = rw (change.versions.0, change.versions.1)
 
     -- a row that is old was a row of the old tree, and stays as it was
     was_there : (r : ℕ) → In r (used w) → IsOld new r → In r (used o)
     was_there r i is = by_place old new (used o) (used w) change r _
-        (λ only. let born = ((change.taken r).1 only).1 in let also = is.1 in let same : is.0 ≡ next old = cc in absurd (omega (arith, same, is.2, same_version)))
+        (λ only. let born = ((change.taken r).1 only).1 in let also =
+        is.1 in let same : is.0 ≡ next old =
+        cc in absurd (omega (arith, same, is.2, same_version)))
         (λ only. absurd (omega (arith, i, only.1)))
         (λ both. both.1 i)
 
@@ -190,7 +269,8 @@ module _ (format : Format) where
         (λ only. let dead = ((change.killed r).1 only).3 in let born = is in absurd cc)
         (λ both. go (times r (used o)) refl both)
       where
-        go : (n : ℕ) → times r (used o) ≡ n → (In r (used o) → In r (used w)) × (In r (used w) → In r (used o)) → n ≡ 0
+        go : (n : ℕ) → times r (used o) ≡ n → (In r (used o) → In r (used w))
+            × (In r (used w) → In r (used o)) → n ≡ 0
         go zero e both = refl
         go (suc n) e both =
             let was = are_old r (omega (arith, e)) in
@@ -200,45 +280,80 @@ module _ (format : Format) where
             absurd (omega (arith, same, was.2, same_version))
 
     -- a tree on old rows stood on them before
-    module _ (p : Placed) (has : HasRows after (rows_of format p)) (inside : (r : ℕ) → In r (used p) → In r (used w)) (olds : (r : ℕ) → In r (used p) → IsOld new r) where
+    module _ (p : Placed) (has : HasRows after (rows_of format p))
+        (inside : (r : ℕ) → In r (used p) → In r (used w))
+        (olds : (r : ℕ) → In r (used p) → IsOld new r) where
       had_rows : HasRows before (rows_of format p)
-      had_rows = placed_frame format after before p (all_in (used p) (λ r i. sym (row_kept r (was_there r (inside r i) (olds r i))))) has
+      had_rows =
+          placed_frame format after before p
+          (all_in (used p) (λ r i. sym (row_kept r (was_there r (inside r i) (olds r i))))) has
 
-    old_node : (at layer : ℕ) (chain : Chain) → HasRows after (rows_of format (head at layer chain)) → ((r : ℕ) → In r (used (head at layer chain)) → In r (used w)) → ((r : ℕ) → In r (used (head at layer chain)) → IsOld new r) → Contains (placed_nodes o) (head at layer chain)
+    old_node : (at layer : ℕ) (chain : Chain) → HasRows after (rows_of format (head at layer chain))
+        → ((r : ℕ) → In r (used (head at layer chain)) → In r (used w))
+        → ((r : ℕ) → In r (used (head at layer chain)) → IsOld new r) → Contains (placed_nodes o)
+        (head at layer chain)
     old_node at layer chain has inside olds =
         let p = head at layer chain in
         let had = had_rows p has inside olds in
         let here : In at (used p) = omega (arith, at_self at) in
-        let found = node_at before o stood at (was_there at (inside at here) (olds at here)) _ _ _ _ _ had.0 in
-        subst (Contains (placed_nodes o)) (one_placed format before found.0 p found.2 found.3 had) found.1
+        let found = node_at before o stood at (was_there at (inside at here) (olds at here)) _ _ _ _
+        _ had.0 in
+        subst (Contains (placed_nodes o)) (one_placed format before found.0 p found.2 found.3 had)
+        found.1
 
     abbrev StoodOrNew : Placed → Type 0
     StoodOrNew p = Contains (placed_nodes o) p ⊎ ((r : ℕ) → In r (top_rows p) → IsNew new r)
 
     mutual
-      all_stood : (p : Placed) → HasRows after (rows_of format p) → ((r : ℕ) → In r (used p) → In r (used w)) → ((r : ℕ) → In r (used p) → IsOld new r) → AllByRecursion StoodOrNew (placed_nodes p)
+      all_stood : (p : Placed) → HasRows after (rows_of format p)
+          → ((r : ℕ) → In r (used p) → In r (used w)) → ((r : ℕ) → In r (used p) → IsOld new r)
+          → AllByRecursion StoodOrNew (placed_nodes p)
       all_stood none has inside olds = tt
-      all_stood (head at layer chain) has inside olds = (inl (old_node at layer chain has inside olds), all_stood_below chain has.1 (λ r i. inside r (omega (arith, i))) (λ r i. olds r (omega (arith, i))))
+      all_stood (head at layer chain) has inside olds = (
+        inl (old_node at layer chain has inside olds),
+        all_stood_below chain has.1
+            (λ r i. inside r (omega (arith, i))) (λ r i. olds r (omega (arith, i))),
+      )
 
-      all_stood_below : (chain : Chain) → HasRows after (chain_rows format chain) → ((r : ℕ) → In r (chain_used chain) → In r (used w)) → ((r : ℕ) → In r (chain_used chain) → IsOld new r) → AllByRecursion StoodOrNew (chain_nodes chain)
+      all_stood_below : (chain : Chain) → HasRows after (chain_rows format chain)
+          → ((r : ℕ) → In r (chain_used chain) → In r (used w))
+          → ((r : ℕ) → In r (chain_used chain) → IsOld new r) → AllByRecursion StoodOrNew
+          (chain_nodes chain)
       all_stood_below (end child) has inside olds = all_stood child has inside olds
       all_stood_below (cell at child key value rest) has inside olds =
           all-append StoodOrNew (placed_nodes child) (chain_nodes rest)
-          (all_stood child (all-front _ (rows_of format child) (chain_rows format rest) has.1) (λ r i. inside r (omega (arith, i, times-append r (used child) (chain_used rest)))) (λ r i. olds r (omega (arith, i, times-append r (used child) (chain_used rest)))))
-          (all_stood_below rest (all-back _ (rows_of format child) (chain_rows format rest) has.1) (λ r i. inside r (omega (arith, i, times-append r (used child) (chain_used rest)))) (λ r i. olds r (omega (arith, i, times-append r (used child) (chain_used rest)))))
+          (all_stood child (all-front _ (rows_of format child) (chain_rows format rest) has.1)
+          (λ r i. inside r (omega (arith, i, times-append r (used child) (chain_used rest))))
+          (λ r i. olds r (omega (arith, i, times-append r (used child) (chain_used rest)))))
+          (all_stood_below rest (all-back _ (rows_of format child) (chain_rows format rest) has.1)
+          (λ r i. inside r (omega (arith, i, times-append r (used child) (chain_used rest))))
+          (λ r i. olds r (omega (arith, i, times-append r (used child) (chain_used rest)))))
 
     mutual
-      each : (p : Placed) → HasRows after (rows_of format p) → ((r : ℕ) → In r (used p) → In r (used w)) → IsMade new p → AllByRecursion StoodOrNew (placed_nodes p)
+      each : (p : Placed) → HasRows after (rows_of format p)
+          → ((r : ℕ) → In r (used p) → In r (used w)) → IsMade new p → AllByRecursion StoodOrNew
+          (placed_nodes p)
       each none has inside made = tt
-      each (head at layer chain) has inside (inl olds) = all_stood (head at layer chain) has inside olds
-      each (head at layer chain) has inside (inr news) = (inr (top_new new at layer chain news.0 news.1), each_below chain has.1 (λ r i. inside r (omega (arith, i))) news.1)
+      each (head at layer chain) has inside (inl olds) =
+          all_stood (head at layer chain) has inside olds
+      each (head at layer chain) has inside (inr news) = (
+        inr (top_new new at layer chain news.0 news.1),
+        each_below chain has.1
+            (λ r i. inside r (omega (arith, i))) news.1,
+      )
 
-      each_below : (chain : Chain) → HasRows after (chain_rows format chain) → ((r : ℕ) → In r (chain_used chain) → In r (used w)) → IsMadeChain new chain → AllByRecursion StoodOrNew (chain_nodes chain)
+      each_below : (chain : Chain) → HasRows after (chain_rows format chain)
+          → ((r : ℕ) → In r (chain_used chain) → In r (used w)) → IsMadeChain new chain
+          → AllByRecursion StoodOrNew (chain_nodes chain)
       each_below (end child) has inside made = each child has inside made
       each_below (cell at child key value rest) has inside made =
           all-append StoodOrNew (placed_nodes child) (chain_nodes rest)
-          (each child (all-front _ (rows_of format child) (chain_rows format rest) has.1) (λ r i. inside r (omega (arith, i, times-append r (used child) (chain_used rest)))) made.1)
-          (each_below rest (all-back _ (rows_of format child) (chain_rows format rest) has.1) (λ r i. inside r (omega (arith, i, times-append r (used child) (chain_used rest)))) made.2)
+          (each child (all-front _ (rows_of format child) (chain_rows format rest) has.1)
+          (λ r i. inside r (omega (arith, i, times-append r (used child) (chain_used rest))))
+          made.1)
+          (each_below rest (all-back _ (rows_of format child) (chain_rows format rest) has.1)
+          (λ r i. inside r (omega (arith, i, times-append r (used child) (chain_used rest))))
+          made.2)
 
     -- ---- the rows that were taken are those of the trees that did not stand before
 
@@ -248,36 +363,53 @@ module _ (format : Format) where
     free_before : (r : ℕ) → times r (used o) ≡ 0 → was_free r ≡ true
     free_before r e = grind (arith, nat_tests, e)
 
-    node_rows : (p : Placed) → StoodOrNew p → length (top_rows p) ≡ top_entries (tree_of format p) + 1 → new_rows_of (tree_of format o) p ≤ passing was_free (top_rows p)
+    node_rows : (p : Placed) → StoodOrNew p → length (top_rows p) ≡ top_entries (tree_of format p)
+        + 1 → new_rows_of (tree_of format o) p ≤ passing was_free (top_rows p)
     node_rows p (inl stands) rows =
         let is = is_old (tree_of format p) (tree_of format o) (node_in o p stands) in
-        let zero_rows : new_rows_of (tree_of format o) p ≡ 0 = ap (λ (b : Bool). cond b 0 (top_entries (tree_of format p) + 1)) is in
+        let zero_rows : new_rows_of (tree_of format o) p ≡ 0 =
+        ap (λ (b : Bool). cond b 0 (top_entries (tree_of format p) + 1)) is in
         omega (arith, zero_rows)
     node_rows p (inr news) rows =
-        let all = all_passing was_free (top_rows p) (λ r i. free_before r (not_there r (news r i))) in
-        let le : new_rows_of (tree_of format o) p ≤ top_entries (tree_of format p) + 1 = go (is_subtree (tree_of format p) (tree_of format o)) in
+        let all = all_passing was_free (top_rows p) (λ r i. free_before r (not_there r (news r i)))
+        in
+        let le : new_rows_of (tree_of format o) p ≤ top_entries (tree_of format p) + 1 =
+        go (is_subtree (tree_of format p) (tree_of format o)) in
         omega (arith, all, rows, le)
       where
-        go : (b : Bool) → cond b 0 (top_entries (tree_of format p) + 1) ≤ top_entries (tree_of format p) + 1
+        go : (b : Bool) → cond b 0 (top_entries (tree_of format p) + 1) ≤ top_entries
+            (tree_of format p) + 1
         go true = omega arith
         go false = omega arith
 
     mutual
-      rows_le : (p : Placed) → AllByRecursion StoodOrNew (placed_nodes p) → AllByRecursion (λ q. new_rows_of (tree_of format o) q ≤ passing was_free (top_rows q)) (placed_nodes p)
+      rows_le : (p : Placed) → AllByRecursion StoodOrNew (placed_nodes p)
+          → AllByRecursion (λ q. new_rows_of (tree_of format o) q ≤ passing was_free (top_rows q))
+          (placed_nodes p)
       rows_le none all = tt
-      rows_le (head at layer chain) all = (node_rows (head at layer chain) all.0 (omega (arith, own_length chain)), rows_le_below chain all.1)
+      rows_le (head at layer chain) all = (
+        node_rows (head at layer chain) all.0 (omega (arith, own_length chain)),
+        rows_le_below
+            chain all.1,
+      )
 
-      rows_le_below : (chain : Chain) → AllByRecursion StoodOrNew (chain_nodes chain) → AllByRecursion (λ q. new_rows_of (tree_of format o) q ≤ passing was_free (top_rows q)) (chain_nodes chain)
+      rows_le_below : (chain : Chain) → AllByRecursion StoodOrNew (chain_nodes chain)
+          → AllByRecursion (λ q. new_rows_of (tree_of format o) q ≤ passing was_free (top_rows q))
+          (chain_nodes chain)
       rows_le_below (end child) all = rows_le child all
       rows_le_below (cell at child key value rest) all =
-          all-append _ (placed_nodes child) (chain_nodes rest) (rows_le child (all-front _ (placed_nodes child) (chain_nodes rest) all)) (rows_le_below rest (all-back _ (placed_nodes child) (chain_nodes rest) all))
+          all-append _ (placed_nodes child) (chain_nodes rest)
+          (rows_le child (all-front _ (placed_nodes child) (chain_nodes rest) all))
+          (rows_le_below rest (all-back _ (placed_nodes child) (chain_nodes rest) all))
 
     abbrev Aged : Placed → Type 0
     Aged p = IsAged format format new o p
 
-    node_aged : (p : Placed) → StoodOrNew p → passing was_free (top_rows p) ≡ new_rows_of (tree_of format o) p → 0 < length (top_rows p) → Aged p
+    node_aged : (p : Placed) → StoodOrNew p → passing was_free (top_rows p) ≡ new_rows_of
+        (tree_of format o) p → 0 < length (top_rows p) → Aged p
     node_aged p (inl stands) same some = inl (refl, stands)
-    node_aged p (inr news) same some = inr (news, go (is_subtree (tree_of format p) (tree_of format o)) refl)
+    node_aged p (inr news) same some =
+        inr (news, go (is_subtree (tree_of format p) (tree_of format o)) refl)
       where
         all : passing was_free (top_rows p) ≡ length (top_rows p)
         all = all_passing was_free (top_rows p) (λ r i. free_before r (not_there r (news r i)))
@@ -285,24 +417,50 @@ module _ (format : Format) where
         go : (b : Bool) → is_subtree (tree_of format p) (tree_of format o) ≡ b → b ≡ false
         go false e = refl
         go true e =
-            let zero_rows : new_rows_of (tree_of format o) p ≡ 0 = ap (λ (b : Bool). cond b 0 (top_entries (tree_of format p) + 1)) e in
+            let zero_rows : new_rows_of (tree_of format o) p ≡ 0 =
+            ap (λ (b : Bool). cond b 0 (top_entries (tree_of format p) + 1)) e in
             absurd (omega (arith, all, same, zero_rows, some))
 
     mutual
-      aged_all : (p : Placed) → AllByRecursion StoodOrNew (placed_nodes p) → AllByRecursion (λ q. passing was_free (top_rows q) ≡ new_rows_of (tree_of format o) q) (placed_nodes p) → AllByRecursion Aged (placed_nodes p)
+      aged_all : (p : Placed) → AllByRecursion StoodOrNew (placed_nodes p)
+          → AllByRecursion (λ q. passing was_free (top_rows q) ≡ new_rows_of (tree_of format o) q)
+          (placed_nodes p) → AllByRecursion Aged (placed_nodes p)
       aged_all none all same = tt
-      aged_all (head at layer chain) all same = (node_aged (head at layer chain) all.0 same.0 (omega arith), aged_below chain all.1 same.1)
+      aged_all (head at layer chain) all same = (
+        node_aged (head at layer chain) all.0 same.0 (omega arith),
+        aged_below chain all.1
+            same.1,
+      )
 
-      aged_below : (chain : Chain) → AllByRecursion StoodOrNew (chain_nodes chain) → AllByRecursion (λ q. passing was_free (top_rows q) ≡ new_rows_of (tree_of format o) q) (chain_nodes chain) → AllByRecursion Aged (chain_nodes chain)
+      aged_below : (chain : Chain) → AllByRecursion StoodOrNew (chain_nodes chain)
+          → AllByRecursion (λ q. passing was_free (top_rows q) ≡ new_rows_of (tree_of format o) q)
+          (chain_nodes chain) → AllByRecursion Aged (chain_nodes chain)
       aged_below (end child) all same = aged_all child all same
       aged_below (cell at child key value rest) all same =
           all-append Aged (placed_nodes child) (chain_nodes rest)
-          (aged_all child (all-front _ (placed_nodes child) (chain_nodes rest) all) (all-front _ (placed_nodes child) (chain_nodes rest) same))
-          (aged_below rest (all-back _ (placed_nodes child) (chain_nodes rest) all) (all-back _ (placed_nodes child) (chain_nodes rest) same))
+          (aged_all child (all-front _ (placed_nodes child) (chain_nodes rest) all)
+          (all-front _ (placed_nodes child) (chain_nodes rest) same))
+          (aged_below rest (all-back _ (placed_nodes child) (chain_nodes rest) all)
+          (all-back _ (placed_nodes child) (chain_nodes rest) same))
 
-    pub aged : HasRows after (rows_of format w) → IsMade new w → ((r : ℕ) → times r (used w) ≤ 1) → free_count new.lives + new_rows (tree_of format o) (tree_of format w) ≡ free_count old.lives → AllByRecursion Aged (placed_nodes w)
+    pub aged : HasRows after (rows_of format w) → IsMade new w → ((r : ℕ) → times r (used w) ≤ 1)
+        → free_count new.lives + new_rows (tree_of format o) (tree_of format w) ≡ free_count
+        old.lives → AllByRecursion Aged (placed_nodes w)
     aged has made once count =
         let all = each w has (λ r i. i) made in
         let taken = count_change old new (used o) (used w) change once in
-        let sums : over (λ q. passing was_free (top_rows q)) (placed_nodes w) ≤ over (new_rows_of (tree_of format o)) (placed_nodes w) = omega (arith, taken, count, passing_length was_free (used w), passing_over was_free w, new_rows_fresh (tree_of format w) (tree_of format o), fresh_over (tree_of format o) w) in
-        aged_all w all (squeezed (λ q. passing was_free (top_rows q)) (new_rows_of (tree_of format o)) (placed_nodes w) (rows_le w all) sums)
+        let sums : over (λ q. passing was_free (top_rows q)) (placed_nodes w) ≤ over
+        (new_rows_of (tree_of format o)) (placed_nodes w) =
+        omega (
+          arith,
+          taken,
+          count,
+          passing_length was_free (used w),
+          passing_over was_free w,
+          new_rows_fresh (tree_of format w) (tree_of format o),
+          fresh_over (tree_of format o) w,
+        )
+        in
+        aged_all w all
+        (squeezed (λ q. passing was_free (top_rows q)) (new_rows_of (tree_of format o))
+        (placed_nodes w) (rows_le w all) sums)

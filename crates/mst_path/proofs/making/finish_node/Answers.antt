@@ -8,11 +8,20 @@ pub finish-requires-clause-tail : goal.finish-requires-clause-tail
 finish-requires-clause-tail g c =
     let format = c.requires.rest.0 in
     let r = c.requires.rest.1 in
-    omega (arith, r.seam_at.link, small_link c.args.desk.now r.seam (piece_alive format r.seam_piece) c.requires.few)
+    omega (
+      arith,
+      r.seam_at.link,
+      small_link c.args.desk.now r.seam
+          (piece_alive format r.seam_piece) c.requires.few,
+    )
 
 pub returns-then-parts-eq0-clause-finished : goal.returns-then-parts-eq0-clause-finished
 returns-then-parts-eq0-clause-finished g c = λ format r.
-    at_seam format c.args.writer (g.R.Rows.content c.args.rows.now) (g.R.Rows.content c.finish.new.rows) c.args.desk.now c.args.parts.now r c.finish.result c.requires.writer c.requires.left c.if-parts-eq0.true
+    at_seam format c.args.writer (g.R.Rows.content c.args.rows.now)
+    (g.R.Rows.content c.finish.new.rows) c.args.desk.now c.args.parts.now r c.finish.result
+    c.requires.writer c.requires.left c.if-parts-eq0.true
     (c.finish.ensures.root format r.ws r.seam r.going.written r.seam_at)
-    (c.finish.ensures.stands format r.ws r.seam r.going.written r.seam_at r.seam_piece.rows (head_out format c.args.writer (g.R.Rows.content c.args.rows.now) c.args.desk.now c.args.parts.now r))
+    (c.finish.ensures.stands format r.ws r.seam r.going.written r.seam_at r.seam_piece.rows
+    (head_out format c.args.writer (g.R.Rows.content c.args.rows.now) c.args.desk.now
+    c.args.parts.now r))
     c.finish.ensures.keeps

@@ -13,66 +13,116 @@ use Rattle.mst_path.proofs.making.make_node.Goals as goal
 -- ---- the node is begun
 
 module _ (g : Over) (c : goal.After-begin-writer g) where
-  begun : Begun c.args.format c.begin-writer.result (g.R.Rows.content c.args.rows.now) c.args.desk.now c.begin-writer.new.desk
-  begun = begun_by c.args.format c.begin-writer.ensures.takes c.begin-writer.ensures.written (g.R.Rows.content c.args.rows.now)
+  begun : Begun c.args.format c.begin-writer.result (g.R.Rows.content c.args.rows.now)
+      c.args.desk.now c.begin-writer.new.desk
+  begun = begun_by c.args.format c.begin-writer.ensures.takes c.begin-writer.ensures.written
+      (g.R.Rows.content c.args.rows.now)
 
   one_ahead : length (ahead c.begin-writer.result.next) ≡ 1
-  one_ahead = (ahead_length c.begin-writer.result.next c.begin-writer.result.left c.begin-writer.ensures.writer.reserved).1 (omega (arith, c.begin-writer.ensures.node, c.requires.some))
+  one_ahead =
+      (ahead_length c.begin-writer.result.next c.begin-writer.result.left
+      c.begin-writer.ensures.writer.reserved).1
+      (omega (arith, c.begin-writer.ensures.node, c.requires.some))
 
   blank_begun : FreeIsBlank c.begin-writer.new.desk.lives (g.R.Rows.blank c.args.rows.now)
-  blank_begun = blank_free c.args.desk.now c.begin-writer.new.desk (c.begin-writer.result.head ∷ ahead c.begin-writer.result.next) [] begun.moves (g.R.Rows.blank c.args.rows.now) c.requires.free
+  blank_begun = blank_free c.args.desk.now c.begin-writer.new.desk
+      (c.begin-writer.result.head ∷ ahead c.begin-writer.result.next) [] begun.moves
+      (g.R.Rows.blank c.args.rows.now) c.requires.free
 
 pub move_run-requires-clause-copying : goal.move_run-requires-clause-copying
-move_run-requires-clause-copying g c = (c.args.format, begins_copying c.args.format c.requires.parts (begun g (goal.at.move_run-requires-clause-copying g c).After-begin-writer))
+move_run-requires-clause-copying g c = (
+  c.args.format,
+  begins_copying c.args.format c.requires.parts
+      (begun g (goal.at.move_run-requires-clause-copying g c).After-begin-writer),
+)
 
 pub move_run-requires-clause-room : goal.move_run-requires-clause-room
 move_run-requires-clause-room g c =
     let at = (goal.at.move_run-requires-clause-room g c).After-begin-writer in
-    omega (arith, (begun g at).moves.room, one_ahead g at, c.begin-writer.ensures.node, c.requires.room)
+    omega (
+      arith,
+      (begun g at).moves.room,
+      one_ahead g at,
+      c.begin-writer.ensures.node,
+      c.requires.room,
+    )
 
 pub move_run-requires-clause-free : goal.move_run-requires-clause-free
-move_run-requires-clause-free g c = blank_begun g (goal.at.move_run-requires-clause-free g c).After-begin-writer
+move_run-requires-clause-free g c =
+    blank_begun g (goal.at.move_run-requires-clause-free g c).After-begin-writer
 
 -- ---- the front is copied
 
-module _ (g : Over) (c : goal.After-move_run g) (p : PartsStand c.args.format (g.R.Rows.content c.args.rows.now) c.args.desk.now c.args.parts.now) (b : Begun c.args.format c.begin-writer.result (g.R.Rows.content c.args.rows.now) c.args.desk.now c.begin-writer.new.desk) where
-  copied : Copied c.args.format c.begin-writer.result c.move_run.new.writer (g.R.Rows.content c.args.rows.now) (g.R.Rows.content c.move_run.new.rows) c.begin-writer.new.desk c.move_run.new.desk [] p.front
+module _ (g : Over) (c : goal.After-move_run g)
+    (p : PartsStand c.args.format (g.R.Rows.content c.args.rows.now) c.args.desk.now
+    c.args.parts.now)
+    (b : Begun c.args.format c.begin-writer.result (g.R.Rows.content c.args.rows.now)
+    c.args.desk.now c.begin-writer.new.desk) where
+  copied : Copied c.args.format c.begin-writer.result c.move_run.new.writer
+      (g.R.Rows.content c.args.rows.now) (g.R.Rows.content c.move_run.new.rows)
+      c.begin-writer.new.desk c.move_run.new.desk [] p.front
   unfolding begins_copying
   copied = (c.move_run.ensures.copied c.args.format (begins_copying c.args.format p b)).1
 
 pub finish_node-requires-clause-rest : goal.finish_node-requires-clause-rest
 finish_node-requires-clause-rest g c =
     let at = goal.at.finish_node-requires-clause-rest g c in
-    let b = begun g at.After-begin-writer in
-    (c.args.format, front_rest c.args.format c.requires.parts b (copied g at.After-move_run c.requires.parts b) c.move_run.ensures.node.3)
+    let b = begun g at.After-begin-writer in (
+      c.args.format,
+      front_rest c.args.format c.requires.parts b
+          (copied g at.After-move_run c.requires.parts b) c.move_run.ensures.node.3,
+    )
 
 pub finish_node-requires-clause-room : goal.finish_node-requires-clause-room
 finish_node-requires-clause-room g c =
     let at = goal.at.finish_node-requires-clause-room g c in
     let b = begun g at.After-begin-writer in
     let k = copied g at.After-move_run c.requires.parts b in
-    let few_ahead = (ahead_length c.move_run.new.writer.next c.move_run.new.writer.left c.move_run.ensures.writer.reserved).0 in
-    omega (arith, b.moves.room, one_ahead g at.After-begin-writer, c.begin-writer.ensures.node, c.requires.room, k.moves.room, k.counted, c.requires.parts.front_run.counted, few_ahead, c.move_run.ensures.node.2)
+    let few_ahead =
+    (ahead_length c.move_run.new.writer.next c.move_run.new.writer.left
+    c.move_run.ensures.writer.reserved).0 in
+    omega (
+      arith,
+      b.moves.room,
+      one_ahead g at.After-begin-writer,
+      c.begin-writer.ensures.node,
+      c.requires.room,
+      k.moves.room,
+      k.counted,
+      c.requires.parts.front_run.counted,
+      few_ahead,
+      c.move_run.ensures.node.2,
+    )
 
 pub finish_node-requires-clause-few : goal.finish_node-requires-clause-few
 finish_node-requires-clause-few g c =
     let at = goal.at.finish_node-requires-clause-few g c in
     let b = begun g at.After-begin-writer in
-    omega (arith, b.moves.rows, (copied g at.After-move_run c.requires.parts b).moves.rows, c.requires.few)
+    omega (
+      arith,
+      b.moves.rows,
+      (copied g at.After-move_run c.requires.parts b).moves.rows,
+      c.requires.few,
+    )
 
 pub finish_node-requires-clause-free : goal.finish_node-requires-clause-free
 finish_node-requires-clause-free g c =
     let at = goal.at.finish_node-requires-clause-free g c in
     let k = copied g at.After-move_run c.requires.parts (begun g at.After-begin-writer) in
-    subst (FreeIsBlank c.move_run.new.desk.lives) (sym c.move_run.ensures.blank) (blank_free c.begin-writer.new.desk c.move_run.new.desk k.taken _ k.moves (g.R.Rows.blank c.args.rows.now) (blank_begun g at.After-begin-writer))
+    subst (FreeIsBlank c.move_run.new.desk.lives) (sym c.move_run.ensures.blank)
+    (blank_free c.begin-writer.new.desk c.move_run.new.desk k.taken _ k.moves
+    (g.R.Rows.blank c.args.rows.now) (blank_begun g at.After-begin-writer))
 
 pub returns-clause-made : goal.returns-clause-made
 returns-clause-made g c = λ p.
     let at = goal.at.returns-clause-made g c in
     let b = begun g at.After-begin-writer in
     let k = copied g at.After-move_run p b in
-    made c.args.format p b k c.move_run.ensures.node.3 (c.finish_node.ensures.finished c.args.format (front_rest c.args.format p b k c.move_run.ensures.node.3))
+    made c.args.format p b k c.move_run.ensures.node.3
+    (c.finish_node.ensures.finished c.args.format
+    (front_rest c.args.format p b k c.move_run.ensures.node.3))
     (c.move_run.ensures.node.0 ∙ c.begin-writer.ensures.node.0)
     (omega (arith, c.move_run.ensures.node.2, c.begin-writer.ensures.node.2))
     (one_ahead g at.After-begin-writer)
-    (ahead_min c.move_run.new.writer.next c.move_run.new.writer.left c.move_run.ensures.writer.reserved)
+    (ahead_min c.move_run.new.writer.next c.move_run.new.writer.left
+    c.move_run.ensures.writer.reserved)

@@ -17,15 +17,22 @@ split-requires-clause-tree g c = (c.requires.gap.0, omega (arith, c.requires.gap
 
 -- ---- the tree in the gap is split
 
-module _ (g : Over) (c : goal.After-split g) (t : ToSplit c.args.format (g.R.Rows.content c.args.rows.now) c.args.desk.now c.args.child c.args.key.now) (f : Framed c.args.format (g.R.Rows.content c.args.rows.now) c.args.desk.now c.args.frame.now (λ x. times x (used t.tree.placed))) where
+module _ (g : Over) (c : goal.After-split g)
+    (t : ToSplit c.args.format (g.R.Rows.content c.args.rows.now) c.args.desk.now c.args.child
+    c.args.key.now) (f : Framed c.args.format (g.R.Rows.content c.args.rows.now) c.args.desk.now
+    c.args.frame.now (λ x. times x (used t.tree.placed))) where
   alive : (x : ℕ) → 0 < times x (used t.tree.placed) → IsAlive c.args.desk.now x
   alive x i = old_alive c.args.desk.now x (t.tree.piece.old x i)
 
-  abbrev sides : TwoStand c.args.format (g.R.Rows.content c.split.new.rows) c.split.new.desk c.split.result.0 c.split.result.1
-  sides = two c.args.format _ _ _ _ _ _ _ _ t.tree.placed _ t.tree.once alive (c.split.ensures.split t) c.args.frame.now f
+  abbrev sides : TwoStand c.args.format (g.R.Rows.content c.split.new.rows) c.split.new.desk
+      c.split.result.0 c.split.result.1
+  sides = two c.args.format _ _ _ _ _ _ _ _ t.tree.placed _ t.tree.once alive
+      (c.split.ensures.split t) c.args.frame.now f
 
-  abbrev framed : Framed c.args.format (g.R.Rows.content c.split.new.rows) c.split.new.desk c.args.frame.now (in_two c.args.format sides)
-  framed = level_frame c.args.format _ _ _ _ _ _ _ _ t.tree.placed _ t.tree.once alive (c.split.ensures.split t) c.args.frame.now f
+  abbrev framed : Framed c.args.format (g.R.Rows.content c.split.new.rows) c.split.new.desk
+      c.args.frame.now (in_two c.args.format sides)
+  framed = level_frame c.args.format _ _ _ _ _ _ _ _ t.tree.placed _ t.tree.once alive
+      (c.split.ensures.split t) c.args.frame.now f
 
 pub close_with-requires-clause-frame : goal.close_with-requires-clause-frame
 close_with-requires-clause-frame g c =
@@ -38,13 +45,18 @@ close_with-requires-clause-room g c =
     omega (arith, c.requires.gap.2, r.moves.room, r.counted)
 
 pub close_with-requires-clause-few : goal.close_with-requires-clause-few
-close_with-requires-clause-few g c = omega (arith, c.requires.few, (c.split.ensures.split c.requires.gap.0).moves.rows)
+close_with-requires-clause-few g c =
+    omega (arith, c.requires.few, (c.split.ensures.split c.requires.gap.0).moves.rows)
 
 pub close_with-requires-clause-free : goal.close_with-requires-clause-free
 close_with-requires-clause-free g c =
-    subst (FreeIsBlank c.split.new.desk.lives) (sym c.split.ensures.blank) (blank_free _ _ _ _ (c.split.ensures.split c.requires.gap.0).moves (g.R.Rows.blank c.args.rows.now) c.requires.free)
+    subst (FreeIsBlank c.split.new.desk.lives) (sym c.split.ensures.blank)
+    (blank_free _ _ _ _ (c.split.ensures.split c.requires.gap.0).moves
+    (g.R.Rows.blank c.args.rows.now) c.requires.free)
 
 pub returns-clause-made : goal.returns-clause-made
 returns-clause-made g c = λ t f.
     let at = (goal.at.returns-clause-made g c).After-split in
-    rw c.key.ensures.key at (level_made c.args.format _ _ _ _ _ _ _ _ t.tree.placed _ t.tree.once (alive g at t f) (c.split.ensures.split t) c.args.frame.now f _ _ _ _ _ (c.close_with.ensures.made (sides g at t f) (framed g at t f)))
+    rw c.key.ensures.key at (level_made c.args.format _ _ _ _ _ _ _ _ t.tree.placed _ t.tree.once
+    (alive g at t f) (c.split.ensures.split t) c.args.frame.now f _ _ _ _ _
+    (c.close_with.ensures.made (sides g at t f) (framed g at t f)))

@@ -15,19 +15,34 @@ use Rattle.mst_path.proofs.removal.remove.Goals as goal
 
 pub find-requires : goal.find-requires
 find-requires g c =
-    record { tree = (c.args.format, c.args.desk.now, search_at c.args.format (g.R.Rows.content c.args.rows.now) c.args.desk.now c.args.root.now c.requires.stands.0 c.requires.stands.1 c.requires.stands.2, rises c.args.format (g.R.Rows.content c.args.rows.now) c.args.root.now c.requires.stands.0 c.requires.stands.1) }
+    record {
+      tree = (
+        c.args.format,
+        c.args.desk.now,
+        search_at c.args.format (g.R.Rows.content c.args.rows.now)
+            c.args.desk.now c.args.root.now c.requires.stands.0 c.requires.stands.1
+            c.requires.stands.2,
+        rises c.args.format (g.R.Rows.content c.args.rows.now) c.args.root.now c.requires.stands.0
+            c.requires.stands.1,
+      );
+    }
 
 -- ---- the value that the key had
 
 module _ (g : Over) (c : goal.After-find g) where
-  found : (m : List Pair) → Stands c.args.format (g.R.Rows.content c.args.rows.now) c.args.root.now m → map_get m c.args.key.now ≡ c.find.result
-  found = says c.args.format (g.R.Rows.content c.args.rows.now) c.args.desk.now c.args.root.now c.args.key.now c.requires.stands c.find.result (rw c.new-sought.ensures.key at (c.find.ensures.found c.args.format))
+  found : (m : List Pair) → Stands c.args.format (g.R.Rows.content c.args.rows.now) c.args.root.now
+      m → map_get m c.args.key.now ≡ c.find.result
+  found = says c.args.format (g.R.Rows.content c.args.rows.now) c.args.desk.now c.args.root.now
+      c.args.key.now c.requires.stands c.find.result
+      (rw c.new-sought.ensures.key at (c.find.ensures.found c.args.format))
 
 pub returns-in_default-clause-value : goal.returns-in_default-clause-value
-returns-in_default-clause-value g c m st = sym (found g (goal.at.returns-in_default-clause-value g c).After-find m st ∙ c.in_default.is)
+returns-in_default-clause-value g c m st =
+    sym (found g (goal.at.returns-in_default-clause-value g c).After-find m st ∙ c.in_default.is)
 
 pub returns-clause-value : goal.returns-clause-value
-returns-clause-value g c m st = sym (found g (goal.at.returns-clause-value g c).After-find m st ∙ c.in-Some.is)
+returns-clause-value g c m st =
+    sym (found g (goal.at.returns-clause-value g c).After-find m st ∙ c.in-Some.is)
 
 pub returns-clause-absent : goal.returns-clause-absent
 returns-clause-absent g c m st none =
@@ -37,73 +52,144 @@ returns-clause-absent g c m st none =
 -- ---- the key has no value
 
 module _ (g : Over) (c : goal.After-find g) (none : c.find.result ≡ None) where
-  nothing : AfterRemove c.args.format (g.R.Rows.content c.args.rows.now) (g.R.Rows.content c.find.new.rows) c.args.desk.now c.args.desk.now c.args.root.now c.args.root.now c.args.key.now
+  nothing : AfterRemove c.args.format (g.R.Rows.content c.args.rows.now)
+      (g.R.Rows.content c.find.new.rows) c.args.desk.now c.args.desk.now c.args.root.now
+      c.args.root.now c.args.key.now
   nothing =
-      subst (λ (x : Content). AfterRemove c.args.format (g.R.Rows.content c.args.rows.now) x c.args.desk.now c.args.desk.now c.args.root.now c.args.root.now c.args.key.now) (sym (ap g.R.Rows.content c.find.ensures.same))
-      (after_none c.args.format (g.R.Rows.content c.args.rows.now) c.args.desk.now c.args.root.now c.args.key.now c.requires.stands (λ m st. found g c m st ∙ none))
+      subst (λ (x : Content). AfterRemove c.args.format (g.R.Rows.content c.args.rows.now) x
+      c.args.desk.now c.args.desk.now c.args.root.now c.args.root.now c.args.key.now)
+      (sym (ap g.R.Rows.content c.find.ensures.same))
+      (after_none c.args.format (g.R.Rows.content c.args.rows.now) c.args.desk.now c.args.root.now
+      c.args.key.now c.requires.stands (λ m st. found g c m st ∙ none))
 
 pub returns-in_default-clause-stands : goal.returns-in_default-clause-stands
-returns-in_default-clause-stands g c = (nothing g (goal.at.returns-in_default-clause-stands g c).After-find c.in_default.is).stands
+returns-in_default-clause-stands g c =
+    (nothing g (goal.at.returns-in_default-clause-stands g c).After-find c.in_default.is).stands
 
 pub returns-in_default-clause-cost : goal.returns-in_default-clause-cost
-returns-in_default-clause-cost g c = (nothing g (goal.at.returns-in_default-clause-cost g c).After-find c.in_default.is).counted
+returns-in_default-clause-cost g c =
+    (nothing g (goal.at.returns-in_default-clause-cost g c).After-find c.in_default.is).counted
 
 pub returns-in_default-clause-changes : goal.returns-in_default-clause-changes
-returns-in_default-clause-changes g c = (nothing g (goal.at.returns-in_default-clause-changes g c).After-find c.in_default.is).changes
+returns-in_default-clause-changes g c =
+    (nothing g (goal.at.returns-in_default-clause-changes g c).After-find c.in_default.is).changes
 
 pub returns-in_default-clause-made : goal.returns-in_default-clause-made
-returns-in_default-clause-made g c = (nothing g (goal.at.returns-in_default-clause-made g c).After-find c.in_default.is).made
+returns-in_default-clause-made g c =
+    (nothing g (goal.at.returns-in_default-clause-made g c).After-find c.in_default.is).made
 
 -- ---- the room
 
 pub remove_cost-requires : goal.remove_cost-requires
 remove_cost-requires g c =
     let one = c.requires.stands in
-    let few = few_new c.args.format (g.R.Rows.content c.args.rows.now) c.args.desk.now c.args.root.now one.0 one.1 c.args.key.now one.2 c.free-free.ensures.few in
-    record { tree = rw (sym c.new-sought.ensures.key) at (subst (λ (x : Content). (f : Format) × (q : State) × (t : SearchTree f x q c.args.root.now.link) × (without_rows f t c.args.key.now ≤ 65535)) (sym (ap g.R.Rows.content c.find.ensures.same)) (c.args.format, c.args.desk.now, search_at c.args.format (g.R.Rows.content c.args.rows.now) c.args.desk.now c.args.root.now one.0 one.1 one.2, few)) }
+    let few = few_new c.args.format (g.R.Rows.content c.args.rows.now) c.args.desk.now
+    c.args.root.now one.0 one.1 c.args.key.now one.2 c.free-free.ensures.few in
+    record {
+      tree =
+          rw (sym c.new-sought.ensures.key) at
+          (subst (λ (x : Content). (f : Format) × (q : State)
+          × (t : SearchTree f x q c.args.root.now.link) × (without_rows f t c.args.key.now ≤ 65535))
+          (sym (ap g.R.Rows.content c.find.ensures.same)) (
+            c.args.format,
+            c.args.desk.now,
+            search_at c.args.format (g.R.Rows.content c.args.rows.now)
+                c.args.desk.now c.args.root.now one.0 one.1 one.2,
+            few,
+          ));
+    }
 
-module _ (g : Over) (c : goal.After-remove_cost g) (m : List Pair) (st : Stands c.args.format (g.R.Rows.content c.args.rows.now) c.args.root.now m) (old : AreOld c.args.desk.now (numbers st)) where
-  abbrev tree : SearchTree c.args.format (g.R.Rows.content c.args.rows.now) c.args.desk.now c.args.root.now.link
-  tree = search_at c.args.format (g.R.Rows.content c.args.rows.now) c.args.desk.now c.args.root.now m st old
+module _ (g : Over) (c : goal.After-remove_cost g) (m : List Pair)
+    (st : Stands c.args.format (g.R.Rows.content c.args.rows.now) c.args.root.now m)
+    (old : AreOld c.args.desk.now (numbers st)) where
+  abbrev tree : SearchTree c.args.format (g.R.Rows.content c.args.rows.now) c.args.desk.now
+      c.args.root.now.link
+  tree = search_at c.args.format (g.R.Rows.content c.args.rows.now) c.args.desk.now c.args.root.now
+      m st old
 
   counted : c.remove_cost.result ≡ without_rows c.args.format tree c.args.key.now
-  counted = subst (λ (x : Content). (q : State) (t : SearchTree c.args.format x q c.args.root.now.link) → c.remove_cost.result ≡ without_rows c.args.format t c.args.key.now) (ap g.R.Rows.content c.find.ensures.same) (rw c.new-sought.ensures.key at (c.remove_cost.ensures.cost c.args.format)) c.args.desk.now tree
+  counted =
+      subst (λ (x : Content). (q : State) (t : SearchTree c.args.format x q c.args.root.now.link)
+      → c.remove_cost.result ≡ without_rows c.args.format t c.args.key.now)
+      (ap g.R.Rows.content c.find.ensures.same)
+      (rw c.new-sought.ensures.key at (c.remove_cost.ensures.cost c.args.format)) c.args.desk.now
+      tree
 
 pub returns-then-remove_cost-free-clause-no_room :
     goal.returns-then-remove_cost-free-clause-no_room
 returns-then-remove_cost-free-clause-no_room g c m st =
     let at = goal.at.returns-then-remove_cost-free-clause-no_room g c in
-    let old = any_old c.args.format (g.R.Rows.content c.args.rows.now) c.args.desk.now c.args.root.now c.requires.stands m st in
-    let cost = cost_found c.args.format (g.R.Rows.content c.args.rows.now) c.args.desk.now c.args.root.now m st c.args.key.now c.in-Some.value (found g at.After-find m st ∙ c.in-Some.is) in
-    omega (arith, counted g at.After-remove_cost m st old, cost, c.free-free.ensures.count, c.if-remove_cost-free.true)
+    let old = any_old c.args.format (g.R.Rows.content c.args.rows.now) c.args.desk.now
+    c.args.root.now c.requires.stands m st in
+    let cost = cost_found c.args.format (g.R.Rows.content c.args.rows.now) c.args.desk.now
+    c.args.root.now m st c.args.key.now c.in-Some.value
+    (found g at.After-find m st ∙ c.in-Some.is) in
+    omega (
+      arith,
+      counted g at.After-remove_cost m st old,
+      cost,
+      c.free-free.ensures.count,
+      c.if-remove_cost-free.true,
+    )
 
 pub remove_at-new-requires-clause-tree : goal.remove_at-new-requires-clause-tree
 remove_at-new-requires-clause-tree g c =
     let at = (goal.at.remove_at-new-requires-clause-tree g c).After-remove_cost in
-    rw (sym c.new-sought.ensures.key) at (subst (λ (x : Content). (t : SearchTree c.args.format x c.args.desk.now c.args.root.now.link) × (without_rows c.args.format t c.args.key.now ≤ free_count c.args.desk.now.lives)) (sym (ap g.R.Rows.content (c.remove_cost.ensures.same ∙ c.find.ensures.same))) (tree g at c.requires.stands.0 c.requires.stands.1 c.requires.stands.2, omega (arith, counted g at c.requires.stands.0 c.requires.stands.1 c.requires.stands.2, c.free-free.ensures.count, c.if-remove_cost-free.false)))
+    rw (sym c.new-sought.ensures.key) at
+    (subst (λ (x : Content).
+    (t : SearchTree c.args.format x c.args.desk.now c.args.root.now.link)
+    × (without_rows c.args.format t c.args.key.now ≤ free_count c.args.desk.now.lives))
+    (sym (ap g.R.Rows.content (c.remove_cost.ensures.same ∙ c.find.ensures.same))) (
+      tree g at c.requires.stands.0 c.requires.stands.1 c.requires.stands.2,
+      omega (
+        arith,
+        counted g at c.requires.stands.0 c.requires.stands.1 c.requires.stands.2,
+        c.free-free.ensures.count,
+        c.if-remove_cost-free.false,
+      ),
+    ))
 
 -- ---- the key is removed
 
-module _ (g : Over) (c : goal.After-remove_at-new g) (had : (m : List Pair) → Stands c.args.format (g.R.Rows.content c.args.rows.now) c.args.root.now m → map_get m c.args.key.now ≡ c.find.result) where
-  removed : AfterRemove c.args.format (g.R.Rows.content c.args.rows.now) (g.R.Rows.content c.remove_at-new.new.rows) c.args.desk.now c.remove_at-new.new.desk c.args.root.now c.remove_at-new.result c.args.key.now
+module _ (g : Over) (c : goal.After-remove_at-new g)
+    (had : (m : List Pair) → Stands c.args.format (g.R.Rows.content c.args.rows.now) c.args.root.now
+    m → map_get m c.args.key.now ≡ c.find.result) where
+  removed : AfterRemove c.args.format (g.R.Rows.content c.args.rows.now)
+      (g.R.Rows.content c.remove_at-new.new.rows) c.args.desk.now c.remove_at-new.new.desk
+      c.args.root.now c.remove_at-new.result c.args.key.now
   removed =
-      let done = subst (λ (x : Content). (t : SearchTree c.args.format x c.args.desk.now c.args.root.now.link) → Grown c.args.format x (g.R.Rows.content c.remove_at-new.new.rows) c.args.desk.now c.remove_at-new.new.desk (without c.args.format t c.args.key.now) c.remove_at-new.result (in_tree c.args.format t) (without_rows c.args.format t c.args.key.now)) (ap g.R.Rows.content (c.remove_cost.ensures.same ∙ c.find.ensures.same)) (rw c.new-sought.ensures.key at c.remove_at-new.ensures.removed) in
-      after_found c.args.format (g.R.Rows.content c.args.rows.now) c.args.desk.now c.args.root.now c.args.key.now c.requires.stands (g.R.Rows.content c.remove_at-new.new.rows) c.remove_at-new.new.desk c.remove_at-new.result c.in-Some.value (λ m st. had m st ∙ c.in-Some.is) done
+      let done =
+      subst (λ (x : Content).
+      (t : SearchTree c.args.format x c.args.desk.now c.args.root.now.link)
+      → Grown c.args.format x (g.R.Rows.content c.remove_at-new.new.rows) c.args.desk.now
+      c.remove_at-new.new.desk (without c.args.format t c.args.key.now) c.remove_at-new.result
+      (in_tree c.args.format t) (without_rows c.args.format t c.args.key.now))
+      (ap g.R.Rows.content (c.remove_cost.ensures.same ∙ c.find.ensures.same))
+      (rw c.new-sought.ensures.key at c.remove_at-new.ensures.removed) in
+      after_found c.args.format (g.R.Rows.content c.args.rows.now) c.args.desk.now c.args.root.now
+      c.args.key.now c.requires.stands (g.R.Rows.content c.remove_at-new.new.rows)
+      c.remove_at-new.new.desk c.remove_at-new.result c.in-Some.value
+      (λ m st. had m st ∙ c.in-Some.is) done
 
 pub returns-clause-stands : goal.returns-clause-stands
-returns-clause-stands g c = (removed g c (found g (goal.at.returns-clause-stands g c).After-find)).stands
+returns-clause-stands g c =
+    (removed g c (found g (goal.at.returns-clause-stands g c).After-find)).stands
 
 pub returns-clause-written : goal.returns-clause-written
-returns-clause-written g c = (removed g c (found g (goal.at.returns-clause-written g c).After-find)).written
+returns-clause-written g c =
+    (removed g c (found g (goal.at.returns-clause-written g c).After-find)).written
 
 pub returns-clause-cost : goal.returns-clause-cost
-returns-clause-cost g c = (removed g c (found g (goal.at.returns-clause-cost g c).After-find)).counted
+returns-clause-cost g c =
+    (removed g c (found g (goal.at.returns-clause-cost g c).After-find)).counted
 
 pub returns-clause-changes : goal.returns-clause-changes
-returns-clause-changes g c = (removed g c (found g (goal.at.returns-clause-changes g c).After-find)).changes
+returns-clause-changes g c =
+    (removed g c (found g (goal.at.returns-clause-changes g c).After-find)).changes
 
 pub returns-clause-versions : goal.returns-clause-versions
-returns-clause-versions g c = (removed g c (found g (goal.at.returns-clause-versions g c).After-find)).versions
+returns-clause-versions g c =
+    (removed g c (found g (goal.at.returns-clause-versions g c).After-find)).versions
 
 pub returns-clause-made : goal.returns-clause-made
 returns-clause-made g c = (removed g c (found g (goal.at.returns-clause-made g c).After-find)).made
@@ -146,7 +232,8 @@ returns-then-remove_cost-free-clause-cost g c = search rules
 pub returns-then-remove_cost-free-clause-changes : goal.returns-then-remove_cost-free-clause-changes
 returns-then-remove_cost-free-clause-changes g c = search rules
 
-pub returns-then-remove_cost-free-clause-versions : goal.returns-then-remove_cost-free-clause-versions
+pub returns-then-remove_cost-free-clause-versions :
+    goal.returns-then-remove_cost-free-clause-versions
 returns-then-remove_cost-free-clause-versions g c = search rules
 
 pub returns-then-remove_cost-free-clause-made : goal.returns-then-remove_cost-free-clause-made
@@ -161,7 +248,8 @@ returns-then-remove_cost-free-clause-blank g c = search rules
 pub returns-then-remove_cost-free-clause-kept : goal.returns-then-remove_cost-free-clause-kept
 returns-then-remove_cost-free-clause-kept g c = search rules
 
-pub returns-then-remove_cost-free-clause-untouched : goal.returns-then-remove_cost-free-clause-untouched
+pub returns-then-remove_cost-free-clause-untouched :
+    goal.returns-then-remove_cost-free-clause-untouched
 returns-then-remove_cost-free-clause-untouched g c = search rules
 
 pub remove_at-new-requires-clause-few : goal.remove_at-new-requires-clause-few

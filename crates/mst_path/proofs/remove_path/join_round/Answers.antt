@@ -13,4 +13,5 @@ close-requires-clause-frame g c =
 pub returns-clause-made : goal.returns-clause-made
 returns-clause-made g c = λ z f.
     let done = c.join-seam.ensures.joined z in
-    closed_round c.args.format done f (c.close.ensures.made done.placed done.root done.piece (frame_after c.args.format done f))
+    closed_round c.args.format done f
+    (c.close.ensures.made done.placed done.root done.piece (frame_after c.args.format done f))

@@ -20,42 +20,80 @@ cut_at-requires g c =
     let format = c.requires.tree.0 in
     let s = c.requires.tree.1 in
     let t = c.requires.tree.2 in
-    let o = top format (g.R.Rows.content c.args.rows.now) s c.args.link t c.args.key.now c.head-head.result c.requires.some c.head-head.ensures.value in
-    record { lies = subst (λ (x : Content). (es : List PlacedEntry) × EntriesLie x c.head-head.result es) (sym (ap g.R.Rows.content c.head-head.ensures.same)) (o.entries, lies format (g.R.Rows.content c.args.rows.now) s c.args.link t c.args.key.now c.head-head.result c.requires.some c.head-head.ensures.value) }
+    let o = top format (g.R.Rows.content c.args.rows.now) s c.args.link t c.args.key.now
+    c.head-head.result c.requires.some c.head-head.ensures.value in
+    record {
+      lies =
+          subst (λ (x : Content). (es : List PlacedEntry) × EntriesLie x c.head-head.result es)
+          (sym (ap g.R.Rows.content c.head-head.ensures.same)) (
+            o.entries,
+            lies format (g.R.Rows.content c.args.rows.now) s c.args.link t c.args.key.now
+                c.head-head.result c.requires.some c.head-head.ensures.value,
+          );
+    }
 
 -- ---- the key falls into a gap
 
-module _ (g : Over) (c : goal.In-Gap g) (format : Format) (s : State) (t : SearchTree format (g.R.Rows.content c.args.rows.now) s c.args.link) where
-  abbrev parted : Opened format (g.R.Rows.content c.args.rows.now) s t.placed (c.args.link - 1) c.head-head.result
-  parted = top format (g.R.Rows.content c.args.rows.now) s c.args.link t c.args.key.now c.head-head.result c.requires.some c.head-head.ensures.value
+module _ (g : Over) (c : goal.In-Gap g) (format : Format) (s : State)
+    (t : SearchTree format (g.R.Rows.content c.args.rows.now) s c.args.link) where
+  abbrev parted : Opened format (g.R.Rows.content c.args.rows.now) s t.placed (c.args.link - 1)
+      c.head-head.result
+  parted = top format (g.R.Rows.content c.args.rows.now) s c.args.link t c.args.key.now
+      c.head-head.result c.requires.some c.head-head.ensures.value
 
-  gap : CutGap format c.args.key.now parted.entries parted.tail c.in-Gap.front c.in-Gap.child c.in-Gap.back
-  gap = cut_top format (g.R.Rows.content c.args.rows.now) s c.args.link t c.args.key.now c.head-head.result c.requires.some c.head-head.ensures.value (ap g.R.Rows.content c.head-head.ensures.same) (c.cut_at.ensures.cut format) c.in-Gap.is
+  gap : CutGap format c.args.key.now parted.entries parted.tail c.in-Gap.front c.in-Gap.child
+      c.in-Gap.back
+  gap = cut_top format (g.R.Rows.content c.args.rows.now) s c.args.link t c.args.key.now
+      c.head-head.result c.requires.some c.head-head.ensures.value
+      (ap g.R.Rows.content c.head-head.ensures.same) (c.cut_at.ensures.cut format) c.in-Gap.is
 
 pub returns-in-Gap-clause-step : goal.returns-in-Gap-clause-step
 returns-in-Gap-clause-step g c = λ format s t.
-    steps_down format (g.R.Rows.content c.args.rows.now) s c.args.link t c.args.key.now c.head-head.result c.requires.some c.head-head.ensures.value c.in-Gap.front c.in-Gap.back c.in-Gap.child c.kept_tail.result (gap g (goal.at.returns-in-Gap-clause-step g c).In-Gap format s t) c.kept_tail.ensures.tail
+    steps_down format (g.R.Rows.content c.args.rows.now) s c.args.link t c.args.key.now
+    c.head-head.result c.requires.some c.head-head.ensures.value c.in-Gap.front c.in-Gap.back
+    c.in-Gap.child c.kept_tail.result
+    (gap g (goal.at.returns-in-Gap-clause-step g c).In-Gap format s t) c.kept_tail.ensures.tail
 
 pub returns-in-Gap-clause-opened : goal.returns-in-Gap-clause-opened
 returns-in-Gap-clause-opened g c = λ format s t.
-    opens_gap format (g.R.Rows.content c.args.rows.now) s c.args.link t c.args.key.now c.head-head.result c.requires.some c.head-head.ensures.value c.in-Gap.front c.in-Gap.back c.in-Gap.child c.kept_tail.result (gap g (goal.at.returns-in-Gap-clause-opened g c).In-Gap format s t) c.kept_tail.ensures.tail
+    opens_gap format (g.R.Rows.content c.args.rows.now) s c.args.link t c.args.key.now
+    c.head-head.result c.requires.some c.head-head.ensures.value c.in-Gap.front c.in-Gap.back
+    c.in-Gap.child c.kept_tail.result
+    (gap g (goal.at.returns-in-Gap-clause-opened g c).In-Gap format s t)
+    c.kept_tail.ensures.tail
 
 -- ---- the key's entry is held
 
-module _ (g : Over) (c : goal.In-Held g) (format : Format) (s : State) (t : SearchTree format (g.R.Rows.content c.args.rows.now) s c.args.link) where
-  abbrev opened : Opened format (g.R.Rows.content c.args.rows.now) s t.placed (c.args.link - 1) c.head-head.result
-  opened = top format (g.R.Rows.content c.args.rows.now) s c.args.link t c.args.key.now c.head-head.result c.requires.some c.head-head.ensures.value
+module _ (g : Over) (c : goal.In-Held g) (format : Format) (s : State)
+    (t : SearchTree format (g.R.Rows.content c.args.rows.now) s c.args.link) where
+  abbrev opened : Opened format (g.R.Rows.content c.args.rows.now) s t.placed (c.args.link - 1)
+      c.head-head.result
+  opened = top format (g.R.Rows.content c.args.rows.now) s c.args.link t c.args.key.now
+      c.head-head.result c.requires.some c.head-head.ensures.value
 
-  held : CutHeld format c.args.key.now opened.entries opened.tail c.in-Held.front c.in-Held.row c.in-Held.child c.in-Held.back
-  held = cut_top format (g.R.Rows.content c.args.rows.now) s c.args.link t c.args.key.now c.head-head.result c.requires.some c.head-head.ensures.value (ap g.R.Rows.content c.head-head.ensures.same) (c.cut_at.ensures.cut format) c.in-Held.is
+  held : CutHeld format c.args.key.now opened.entries opened.tail c.in-Held.front c.in-Held.row
+      c.in-Held.child c.in-Held.back
+  held = cut_top format (g.R.Rows.content c.args.rows.now) s c.args.link t c.args.key.now
+      c.head-head.result c.requires.some c.head-head.ensures.value
+      (ap g.R.Rows.content c.head-head.ensures.same) (c.cut_at.ensures.cut format) c.in-Held.is
 
   rows_behind : HasRows (g.R.Rows.content c.cut_at.new.rows) (own_rows 0 held.behind)
   rows_behind =
-      let all = subst (λ (l : List PlacedEntry). HasRows (g.R.Rows.content c.args.rows.now) (own_rows 0 l)) held.whole opened.run.rows in
-      subst (λ (x : Content). HasRows x (own_rows 0 held.behind)) (sym (ap g.R.Rows.content (c.cut_at.ensures.same ∙ c.head-head.ensures.same))) (back_rows (g.R.Rows.content c.args.rows.now) held.before (held.here ∷ held.behind) all).1
+      let all =
+      subst (λ (l : List PlacedEntry). HasRows (g.R.Rows.content c.args.rows.now)
+      (own_rows 0 l)) held.whole opened.run.rows in
+      subst (λ (x : Content). HasRows x (own_rows 0 held.behind))
+      (sym (ap g.R.Rows.content (c.cut_at.ensures.same ∙ c.head-head.ensures.same)))
+      (back_rows (g.R.Rows.content c.args.rows.now) held.before (held.here ∷ held.behind) all).1
 
-module _ (g : Over) (c : goal.After-first_tree-right g) (format : Format) (s : State) (t : SearchTree format (g.R.Rows.content c.args.rows.now) s c.args.link) (o : Opened format (g.R.Rows.content c.args.rows.now) s t.placed (c.args.link - 1) c.head-head.result) (h : CutHeld format c.args.key.now o.entries o.tail c.in-Held.front c.in-Held.row c.in-Held.child c.in-Held.back) where
-  right_at : HasRows (g.R.Rows.content c.cut_at.new.rows) (own_rows 0 h.behind) → link_of (gap_before h.behind o.tail) ≡ c.first_tree-right.result
+module _ (g : Over) (c : goal.After-first_tree-right g) (format : Format) (s : State)
+    (t : SearchTree format (g.R.Rows.content c.args.rows.now) s c.args.link)
+    (o : Opened format (g.R.Rows.content c.args.rows.now) s t.placed (c.args.link - 1)
+    c.head-head.result)
+    (h : CutHeld format c.args.key.now o.entries o.tail c.in-Held.front c.in-Held.row
+    c.in-Held.child c.in-Held.back) where
+  right_at : HasRows (g.R.Rows.content c.cut_at.new.rows) (own_rows 0 h.behind)
+      → link_of (gap_before h.behind o.tail) ≡ c.first_tree-right.result
   right_at rows = c.first_tree-right.ensures.tree h.behind o.tail h.back_is rows o.tail_at
 
 pub first_tree-right-requires : goal.first_tree-right-requires
@@ -63,17 +101,32 @@ first_tree-right-requires g c =
     let format = c.requires.tree.0 in
     let at = (goal.at.first_tree-right-requires g c).In-Held in
     let h = held g at format c.requires.tree.1 c.requires.tree.2 in
-    record { run = (h.behind, h.back_is, rows_behind g at format c.requires.tree.1 c.requires.tree.2) }
+    record {
+      run =
+          (h.behind, h.back_is, rows_behind g at format c.requires.tree.1 c.requires.tree.2);
+    }
 
 pub returns-in-Held-clause-step : goal.returns-in-Held-clause-step
 returns-in-Held-clause-step g c = λ format s t.
     let at = goal.at.returns-in-Held-clause-step g c in
-    steps_here format (g.R.Rows.content c.args.rows.now) s c.args.link t c.args.key.now c.head-head.result c.requires.some c.head-head.ensures.value c.in-Held.front c.in-Held.back c.in-Held.row c.in-Held.child c.first_tree-right.result c.kept_tail-in-Held.result (held g at.In-Held format s t) (right_at g at.After-first_tree-right format s t (opened g at.In-Held format s t) (held g at.In-Held format s t) (rows_behind g at.In-Held format s t)) c.kept_tail-in-Held.ensures.tail
+    steps_here format (g.R.Rows.content c.args.rows.now) s c.args.link t c.args.key.now
+    c.head-head.result c.requires.some c.head-head.ensures.value c.in-Held.front c.in-Held.back
+    c.in-Held.row c.in-Held.child c.first_tree-right.result c.kept_tail-in-Held.result
+    (held g at.In-Held format s t)
+    (right_at g at.After-first_tree-right format s t (opened g at.In-Held format s t)
+    (held g at.In-Held format s t) (rows_behind g at.In-Held format s t))
+    c.kept_tail-in-Held.ensures.tail
 
 pub returns-in-Held-clause-opened : goal.returns-in-Held-clause-opened
 returns-in-Held-clause-opened g c = λ format s t.
     let at = goal.at.returns-in-Held-clause-opened g c in
-    opens_entry format (g.R.Rows.content c.args.rows.now) s c.args.link t c.args.key.now c.head-head.result c.requires.some c.head-head.ensures.value c.in-Held.front c.in-Held.back c.in-Held.row c.in-Held.child c.first_tree-right.result c.kept_tail-in-Held.result (held g at.In-Held format s t) (right_at g at.After-first_tree-right format s t (opened g at.In-Held format s t) (held g at.In-Held format s t) (rows_behind g at.In-Held format s t)) c.kept_tail-in-Held.ensures.tail
+    opens_entry format (g.R.Rows.content c.args.rows.now) s c.args.link t c.args.key.now
+    c.head-head.result c.requires.some c.head-head.ensures.value c.in-Held.front c.in-Held.back
+    c.in-Held.row c.in-Held.child c.first_tree-right.result c.kept_tail-in-Held.result
+    (held g at.In-Held format s t)
+    (right_at g at.After-first_tree-right format s t (opened g at.In-Held format s t)
+    (held g at.In-Held format s t) (rows_behind g at.In-Held format s t))
+    c.kept_tail-in-Held.ensures.tail
 
 pub overflow_sub-link : goal.overflow_sub-link
 overflow_sub-link g c = search rules

@@ -10,25 +10,38 @@ use Rattle.mst_path.proofs.split.both_sides.Goals as goal
 
 -- ---- the lower side is made
 
-module _ (g : Over) (c : goal.After-side-lower g) (b : BothStand c.args.format (g.R.Rows.content c.args.rows.now) c.args.desk.now c.args.row c.args.left.now c.args.right.now) where
-  abbrev upper_parts : PartsStand c.args.format (g.R.Rows.content c.side-lower.new.rows) c.side-lower.new.desk c.args.right.now
+module _ (g : Over) (c : goal.After-side-lower g)
+    (b : BothStand c.args.format (g.R.Rows.content c.args.rows.now) c.args.desk.now c.args.row
+    c.args.left.now c.args.right.now) where
+  abbrev upper_parts : PartsStand c.args.format (g.R.Rows.content c.side-lower.new.rows)
+      c.side-lower.new.desk c.args.right.now
   upper_parts = upper_stands c.args.format _ _ _ _ _ _ _ b _ _ (c.side-lower.ensures.made b.lower)
 
 pub side-upper-requires-clause-parts : goal.side-upper-requires-clause-parts
-side-upper-requires-clause-parts g c = upper_parts g (goal.at.side-upper-requires-clause-parts g c).After-side-lower c.requires.parts
+side-upper-requires-clause-parts g c =
+    upper_parts g (goal.at.side-upper-requires-clause-parts g c).After-side-lower c.requires.parts
 
 pub side-upper-requires-clause-free : goal.side-upper-requires-clause-free
 side-upper-requires-clause-free g c =
     let one = c.side-lower.ensures.made c.requires.parts.lower in
-    subst (FreeIsBlank c.side-lower.new.desk.lives) (sym c.side-lower.ensures.blank) (blank_free _ _ _ _ one.moves (g.R.Rows.blank c.args.rows.now) c.requires.free)
+    subst (FreeIsBlank c.side-lower.new.desk.lives) (sym c.side-lower.ensures.blank)
+    (blank_free _ _ _ _ one.moves (g.R.Rows.blank c.args.rows.now) c.requires.free)
 
 -- ---- both are made
 
 pub kill-requires : goal.kill-requires
 kill-requires g c =
     let b = c.requires.parts in
-    record { born = row_still_old c.args.format _ _ _ _ _ _ _ b _ _ (c.side-lower.ensures.made b.lower) _ _ _ _ (c.side-upper.ensures.made (upper_parts g (goal.at.kill-requires g c).After-side-lower b)) }
+    record {
+      born = row_still_old c.args.format _ _ _ _ _ _ _ b _ _
+          (c.side-lower.ensures.made b.lower) _ _ _ _
+          (c.side-upper.ensures.made
+          (upper_parts g (goal.at.kill-requires g c).After-side-lower b));
+    }
 
 pub returns-clause-made : goal.returns-clause-made
 returns-clause-made g c b =
-    both_made c.args.format _ _ _ _ _ _ _ b _ _ (c.side-lower.ensures.made b.lower) _ _ _ _ (c.side-upper.ensures.made (upper_parts g (goal.at.returns-clause-made g c).After-side-lower b)) _ c.kill.ensures.dead _ refl
+    both_made c.args.format _ _ _ _ _ _ _ b _ _ (c.side-lower.ensures.made b.lower) _ _ _ _
+    (c.side-upper.ensures.made
+    (upper_parts g (goal.at.returns-clause-made g c).After-side-lower b)) _ c.kill.ensures.dead
+    _ refl

@@ -33,23 +33,50 @@ plant_child-returns-in-None-clause-planted g t c = record {
 
 module _ (g : Over) (t : ℕ) (c : goal.plant_node-After-len g t) where
   few_entries : c.len.result ≤ 65534
-  few_entries = omega (arith, c.len.ensures, (out-Node g.row.B.Denot c.args.node.now).entries.ok.0, needed_least c.args.format g.row.B.Denot c.args.node.now, c.requires.room, c.requires.few, count_by-le-length is_free c.args.desk.now.lives)
+  few_entries =
+      omega (
+        arith,
+        c.len.ensures,
+        (out-Node g.row.B.Denot c.args.node.now).entries.ok.0,
+        needed_least c.args.format g.row.B.Denot c.args.node.now,
+        c.requires.room,
+        c.requires.few,
+        count_by-le-length is_free c.args.desk.now.lives,
+      )
 
 pub plant_node-overflow_cast-len : goal.plant_node-overflow_cast-len
-plant_node-overflow_cast-len g t c = omega (arith, few_entries g t (goal.at.plant_node-overflow_cast-len g t c).After-len)
+plant_node-overflow_cast-len g t c =
+    omega (arith, few_entries g t (goal.at.plant_node-overflow_cast-len g t c).After-len)
 
 pub plant_node-begin-writer-requires-clause-low : goal.plant_node-begin-writer-requires-clause-low
-plant_node-begin-writer-requires-clause-low g t c = node_layer c.args.format g.row.B.Denot c.args.node.now c.requires.tree
+plant_node-begin-writer-requires-clause-low g t c =
+    node_layer c.args.format g.row.B.Denot c.args.node.now c.requires.tree
 
 pub plant_node-begin-writer-requires-clause-some : goal.plant_node-begin-writer-requires-clause-some
-plant_node-begin-writer-requires-clause-some g t c = omega (arith, c.len.ensures, (out-Node g.row.B.Denot c.args.node.now).entries.ok.0, node_some c.args.format g.row.B.Denot c.args.node.now c.requires.tree)
+plant_node-begin-writer-requires-clause-some g t c =
+    omega (
+      arith,
+      c.len.ensures,
+      (out-Node g.row.B.Denot c.args.node.now).entries.ok.0,
+      node_some c.args.format g.row.B.Denot c.args.node.now c.requires.tree,
+    )
 
 pub plant_node-begin-writer-requires-clause-few : goal.plant_node-begin-writer-requires-clause-few
-plant_node-begin-writer-requires-clause-few g t c = omega (arith, few_entries g t (goal.at.plant_node-begin-writer-requires-clause-few g t c).After-len)
+plant_node-begin-writer-requires-clause-few g t c =
+    omega (
+      arith,
+      few_entries g t
+          (goal.at.plant_node-begin-writer-requires-clause-few g t c).After-len,
+    )
 
 pub plant_node-begin-writer-requires-clause-room : goal.plant_node-begin-writer-requires-clause-room
 plant_node-begin-writer-requires-clause-room g t c =
-    omega (arith, node_some c.args.format g.row.B.Denot c.args.node.now c.requires.tree, needed_least c.args.format g.row.B.Denot c.args.node.now, c.requires.room)
+    omega (
+      arith,
+      node_some c.args.format g.row.B.Denot c.args.node.now c.requires.tree,
+      needed_least c.args.format g.row.B.Denot c.args.node.now,
+      c.requires.room,
+    )
 
 pub plant_node-loop-entry-init : goal.plant_node-loop-entry-init
 plant_node-loop-entry-init g t c =
@@ -57,23 +84,47 @@ plant_node-loop-entry-init g t c =
     record {
       writer = made.writer;
       layer = made.node.0;
-      left = omega (arith, made.node.2, c.len.ensures, (out-Node g.row.B.Denot c.args.node.now).entries.ok.0);
+      left =
+          omega (
+            arith,
+            made.node.2,
+            c.len.ensures,
+            (out-Node g.row.B.Denot c.args.node.now).entries.ok.0,
+          );
       blank = refl;
       kept = refl;
-      so_far = record { es = []; is = refl; written = made.written _; takes = made.takes; keeps = λ k out. refl };
+      so_far = record {
+        es = [];
+        is = refl;
+        written = made.written _;
+        takes = made.takes;
+        keeps =
+            λ k out. refl;
+      };
     }
 
 -- ---- the next entry
 
 module _ (g : Over) (t : ℕ) (c : goal.plant_node-After-entry-item g t) where
   inside : c.loop-entry.entry-index < length (items c.args.format g.row.B.Denot c.args.node.now)
-  inside = subst (λ xs. c.loop-entry.entry-index < length xs) c.deref-entry-items.ensures.value c.loop-entry-test.true
+  inside = subst (λ xs. c.loop-entry.entry-index < length xs) c.deref-entry-items.ensures.value
+      c.loop-entry-test.true
 
-  item_is : c.entry-item.result ≡ get_or (items c.args.format g.row.B.Denot c.args.node.now) c.loop-entry.entry-index c.entry-item.result
-  item_is = subst (λ xs. c.entry-item.result ≡ get_or xs c.loop-entry.entry-index c.entry-item.result) c.deref-entry-items.ensures.value c.entry-item.is
+  item_is : c.entry-item.result ≡ get_or (items c.args.format g.row.B.Denot c.args.node.now)
+      c.loop-entry.entry-index c.entry-item.result
+  item_is =
+      subst (λ xs. c.entry-item.result ≡ get_or xs c.loop-entry.entry-index c.entry-item.result)
+      c.deref-entry-items.ensures.value c.entry-item.is
 
-  rows_ahead : entries_needed (map (tree_entry c.args.format) (take c.loop-entry.entry-index (items c.args.format g.row.B.Denot c.args.node.now))) + rows_needed (tree_of_child c.args.format (out-Entry g.row.B.Denot c.entry-item.result).child) + length (items c.args.format g.row.B.Denot c.args.node.now) + 1 ≤ rows_needed (tree_of c.args.format c.args.node.now) + c.loop-entry.entry-index
-  rows_ahead = needed_ahead c.args.format g.row.B.Denot c.args.node.now c.loop-entry.entry-index c.entry-item.result inside item_is
+  rows_ahead : entries_needed
+      (map (tree_entry c.args.format)
+      (take c.loop-entry.entry-index (items c.args.format g.row.B.Denot c.args.node.now)))
+      + rows_needed
+      (tree_of_child c.args.format (out-Entry g.row.B.Denot c.entry-item.result).child) + length
+      (items c.args.format g.row.B.Denot c.args.node.now) + 1 ≤ rows_needed
+      (tree_of c.args.format c.args.node.now) + c.loop-entry.entry-index
+  rows_ahead = needed_ahead c.args.format g.row.B.Denot c.args.node.now c.loop-entry.entry-index
+      c.entry-item.result inside item_is
 
 pub plant_node-plant_child-child-requires : goal.plant_node-plant_child-child-requires
 plant_node-plant_child-child-requires g t c κs within =
@@ -87,12 +138,23 @@ plant_node-plant_child-child-requires g t c κs within =
           (
             search rules,
             (
-              node_child c.args.format g.row.B.Denot c.args.node.now c.loop-entry.entry-index c.entry-item.result c.requires.tree (inside g t here) (item_is g t here),
+              node_child c.args.format g.row.B.Denot c.args.node.now c.loop-entry.entry-index
+                  c.entry-item.result c.requires.tree (inside g t here) (item_is g t here),
               (
-                omega (arith, c.requires.room, free_now c.args.format _ _ _ _ c.loop-entry.writer _ s, ahead_count c.loop-entry.writer.next c.loop-entry.writer.left c.loop-entry.invariant.writer.reserved, inside g t here, rows_ahead g t here),
+                omega (
+                  arith,
+                  c.requires.room,
+                  free_now c.args.format _ _ _ _ c.loop-entry.writer _
+                      s,
+                  ahead_count c.loop-entry.writer.next c.loop-entry.writer.left
+                      c.loop-entry.invariant.writer.reserved,
+                  inside g t here,
+                  rows_ahead g t here,
+                ),
                 (
                   omega (arith, c.requires.few, takes_length _ _ _ s.takes),
-                  subst (FreeIsBlank c.loop-entry.desk.lives) (sym c.loop-entry.invariant.blank) (takes_blank _ _ _ _ s.takes c.requires.blank),
+                  subst (FreeIsBlank c.loop-entry.desk.lives) (sym c.loop-entry.invariant.blank)
+                      (takes_blank _ _ _ _ s.takes c.requires.blank),
                 ),
               ),
             ),
@@ -104,11 +166,28 @@ plant_node-plant_child-child-requires g t c κs within =
 pub plant_node-entry-requires-clause-room : goal.plant_node-entry-requires-clause-room
 plant_node-entry-requires-clause-room g t c more =
     let here = (goal.at.plant_node-entry-requires-clause-room g t c).After-entry-item in
-    omega (arith, more, c.loop-entry.invariant.left, c.requires.room, free_beside c.args.format _ _ _ _ c.loop-entry.writer _ c.loop-entry.invariant.so_far _ _ _ _ c.plant_child-child.ensures.planted, ahead_count c.loop-entry.writer.next c.loop-entry.writer.left c.loop-entry.invariant.writer.reserved, inside g t here, rows_ahead g t here)
+    omega (
+      arith,
+      more,
+      c.loop-entry.invariant.left,
+      c.requires.room,
+      free_beside c.args.format _ _
+          _ _ c.loop-entry.writer _ c.loop-entry.invariant.so_far _ _ _ _
+          c.plant_child-child.ensures.planted,
+      ahead_count c.loop-entry.writer.next
+          c.loop-entry.writer.left c.loop-entry.invariant.writer.reserved,
+      inside g t here,
+      rows_ahead g t here,
+    )
 
 pub plant_node-entry-requires-clause-few : goal.plant_node-entry-requires-clause-few
 plant_node-entry-requires-clause-few g t c =
-    omega (arith, c.requires.few, takes_length _ _ _ c.loop-entry.invariant.so_far.takes, takes_length _ _ _ c.plant_child-child.ensures.planted.takes)
+    omega (
+      arith,
+      c.requires.few,
+      takes_length _ _ _ c.loop-entry.invariant.so_far.takes,
+      takes_length _ _ _ c.plant_child-child.ensures.planted.takes,
+    )
 
 pub plant_node-entry-requires-clause-blank : goal.plant_node-entry-requires-clause-blank
 plant_node-entry-requires-clause-blank g t c =
@@ -116,24 +195,40 @@ plant_node-entry-requires-clause-blank g t c =
     let blank = g.R.Rows.blank c.args.rows.now in
     let old = taken_blank _ _ _ blank c.loop-entry.invariant.so_far.takes c.requires.blank in
     let same = c.plant_child-child.ensures.blank ∙ c.loop-entry.invariant.blank in
-    subst (λ (b : ℕ → Bool). Rattle.std.specs.Prelude.IfSome next (λ r. IsTrue (b r))) (sym same) (ahead_all (λ r. IsTrue (blank r)) next (all-back (λ r. IsTrue (blank r)) (entries_used c.loop-entry.invariant.so_far.es) (ahead next) old.1))
+    subst (λ (b : ℕ → Bool). Rattle.std.specs.Prelude.IfSome next (λ r. IsTrue (b r))) (sym same)
+    (ahead_all (λ r. IsTrue (blank r)) next
+    (all-back (λ r. IsTrue (blank r)) (entries_used c.loop-entry.invariant.so_far.es)
+    (ahead next) old.1))
 
 pub plant_node-entry-requires-clause-child : goal.plant_node-entry-requires-clause-child
 plant_node-entry-requires-clause-child g t c =
-    root_small c.args.format _ _ _ _ _ _ c.plant_child-child.ensures.planted (omega (arith, c.requires.few, takes_length _ _ _ c.loop-entry.invariant.so_far.takes))
+    root_small c.args.format _ _ _ _ _ _ c.plant_child-child.ensures.planted
+    (omega (arith, c.requires.few, takes_length _ _ _ c.loop-entry.invariant.so_far.takes))
 
 pub plant_node-loop-entry-preserved : goal.plant_node-loop-entry-preserved
 plant_node-loop-entry-preserved g t c =
     let here = (goal.at.plant_node-loop-entry-preserved g t c).After-entry-item in
-    let row = ahead_some c.loop-entry.writer.next c.loop-entry.writer.left c.loop-entry.invariant.writer.reserved (omega (arith, c.loop-entry.invariant.left, inside g t here)) in
+    let row = ahead_some c.loop-entry.writer.next c.loop-entry.writer.left
+    c.loop-entry.invariant.writer.reserved
+    (omega (arith, c.loop-entry.invariant.left, inside g t here)) in
     record {
       writer = c.entry.ensures.writer;
       layer = c.entry.ensures.node.0 ∙ c.loop-entry.invariant.layer;
       left = omega (arith, c.entry.ensures.node.2, c.loop-entry.invariant.left);
-      blank = c.entry.ensures.blank ∙ c.plant_child-child.ensures.blank ∙ c.loop-entry.invariant.blank;
+      blank = c.entry.ensures.blank ∙ c.plant_child-child.ensures.blank
+          ∙ c.loop-entry.invariant.blank;
       kept = c.entry.ensures.kept ∙ c.plant_child-child.ensures.kept ∙ c.loop-entry.invariant.kept;
-      so_far = subst (λ (xs : List TreeEntry). PlantedSoFar c.args.format c.args.desk.now c.entry.new.desk (g.R.Rows.content c.args.rows.now) (g.R.Rows.content c.entry.new.rows) c.entry.new.self xs) (sym (entries_more c.args.format g.row.B.Denot c.args.node.now c.loop-entry.entry-index c.entry-item.result (inside g t here) (item_is g t here)))
-          (entry_more c.args.format _ _ _ _ c.loop-entry.writer _ c.loop-entry.invariant.so_far _ _ _ _ c.plant_child-child.ensures.planted c.entry.new.desk (g.R.Rows.content c.entry.new.rows) c.entry.new.self row.0 _ _ row.1 c.entry.ensures.node.3 (c.entry.ensures.written c.args.format) c.entry.ensures.takes c.entry.ensures.keeps);
+      so_far =
+          subst (λ (xs : List TreeEntry). PlantedSoFar c.args.format c.args.desk.now
+          c.entry.new.desk (g.R.Rows.content c.args.rows.now) (g.R.Rows.content c.entry.new.rows)
+          c.entry.new.self xs)
+          (sym (entries_more c.args.format g.row.B.Denot c.args.node.now c.loop-entry.entry-index
+          c.entry-item.result (inside g t here) (item_is g t here)))
+          (entry_more c.args.format _ _ _ _ c.loop-entry.writer _ c.loop-entry.invariant.so_far _ _
+          _ _ c.plant_child-child.ensures.planted c.entry.new.desk
+          (g.R.Rows.content c.entry.new.rows) c.entry.new.self row.0 _ _ row.1
+          c.entry.ensures.node.3 (c.entry.ensures.written c.args.format) c.entry.ensures.takes
+          c.entry.ensures.keeps);
     }
 
 -- ---- all entries are planted
@@ -142,7 +237,9 @@ module _ (g : Over) (t : ℕ) (c : goal.plant_node-After-loop-entry g t) where
   at_end : c.loop-entry.entry-index ≡ length (items c.args.format g.row.B.Denot c.args.node.now)
   at_end = omega (arith, ap length c.deref-entry-items.ensures.value)
 
-  whole : map (tree_entry c.args.format) (take c.loop-entry.entry-index (items c.args.format g.row.B.Denot c.args.node.now)) ≡ map (tree_entry c.args.format) (items c.args.format g.row.B.Denot c.args.node.now)
+  whole : map (tree_entry c.args.format)
+      (take c.loop-entry.entry-index (items c.args.format g.row.B.Denot c.args.node.now)) ≡ map
+      (tree_entry c.args.format) (items c.args.format g.row.B.Denot c.args.node.now)
   whole = take_all c.args.format g.row.B.Denot c.args.node.now c.loop-entry.entry-index at_end
 
   none_left : c.loop-entry.writer.left ≡ 0
@@ -152,7 +249,8 @@ pub plant_node-plant_child-tail-requires : goal.plant_node-plant_child-tail-requ
 plant_node-plant_child-tail-requires g t c κs within =
     let so_far = c.loop-entry.invariant.so_far in
     let behind = (goal.at.plant_node-plant_child-tail-requires g t c).After-loop-entry in
-    let none_ahead = ahead_none c.loop-entry.writer.next c.loop-entry.writer.left c.loop-entry.invariant.writer.reserved (none_left g t behind) in (
+    let none_ahead = ahead_none c.loop-entry.writer.next c.loop-entry.writer.left
+    c.loop-entry.invariant.writer.reserved (none_left g t behind) in (
       search (rules, the_lemmas),
       (
         search rules,
@@ -163,10 +261,20 @@ plant_node-plant_child-tail-requires g t c κs within =
             (
               node_last c.args.format g.row.B.Denot c.args.node.now c.requires.tree,
               (
-                omega (arith, c.requires.room, free_now c.args.format _ _ _ _ c.loop-entry.writer _ so_far, ap length none_ahead, node_needed c.args.format g.row.B.Denot c.args.node.now, ap entries_needed (whole g t behind)),
+                omega (
+                  arith,
+                  c.requires.room,
+                  free_now c.args.format _ _ _ _ c.loop-entry.writer _
+                      so_far,
+                  ap length none_ahead,
+                  node_needed c.args.format g.row.B.Denot
+                      c.args.node.now,
+                  ap entries_needed (whole g t behind),
+                ),
                 (
                   omega (arith, c.requires.few, takes_length _ _ _ so_far.takes),
-                  subst (FreeIsBlank c.loop-entry.desk.lives) (sym c.loop-entry.invariant.blank) (takes_blank _ _ _ _ so_far.takes c.requires.blank),
+                  subst (FreeIsBlank c.loop-entry.desk.lives) (sym c.loop-entry.invariant.blank)
+                      (takes_blank _ _ _ _ so_far.takes c.requires.blank),
                 ),
               ),
             ),
@@ -177,13 +285,24 @@ plant_node-plant_child-tail-requires g t c κs within =
 
 pub plant_node-finish-requires-clause-tail : goal.plant_node-finish-requires-clause-tail
 plant_node-finish-requires-clause-tail g t c =
-    root_small c.args.format _ _ _ _ _ _ c.plant_child-tail.ensures.planted (omega (arith, c.requires.few, takes_length _ _ _ c.loop-entry.invariant.so_far.takes))
+    root_small c.args.format _ _ _ _ _ _ c.plant_child-tail.ensures.planted
+    (omega (arith, c.requires.few, takes_length _ _ _ c.loop-entry.invariant.so_far.takes))
 
 pub plant_node-returns-clause-planted : goal.plant_node-returns-clause-planted
 plant_node-returns-clause-planted g t c =
     let A = g.row.B.Denot in
     let n = c.args.node.now in
     let behind = (goal.at.plant_node-returns-clause-planted g t c).After-loop-entry in
-    let planted : (u : Tree) → Type 0 = λ u. Planted c.args.format c.args.desk.now c.plant_child-tail.new.desk (g.R.Rows.content c.args.rows.now) (g.R.Rows.content c.finish.new.rows) u c.finish.result in
-    let made = node_whole c.args.format _ _ _ _ c.loop-entry.writer _ c.loop-entry.invariant.so_far _ _ _ _ c.plant_child-tail.ensures.planted (g.R.Rows.content c.finish.new.rows) (out-Node A n).layer c.finish.result (sym c.loop-entry.invariant.layer) c.loop-entry.invariant.writer.reserved (none_left g t behind) (c.finish.ensures.root c.args.format) (c.finish.ensures.stands c.args.format) c.finish.ensures.keeps in
-    subst planted (ap (λ xs. node c.args.format (out-Node A n).layer (with_entries xs (last (tail c.args.format A n)))) (whole g t behind) ∙ sym (node_out c.args.format A n)) made
+    let planted : (u : Tree) → Type 0 =
+    λ u. Planted c.args.format c.args.desk.now c.plant_child-tail.new.desk
+    (g.R.Rows.content c.args.rows.now) (g.R.Rows.content c.finish.new.rows) u c.finish.result in
+    let made = node_whole c.args.format _ _ _ _ c.loop-entry.writer _ c.loop-entry.invariant.so_far
+    _ _ _ _ c.plant_child-tail.ensures.planted (g.R.Rows.content c.finish.new.rows)
+    (out-Node A n).layer c.finish.result (sym c.loop-entry.invariant.layer)
+    c.loop-entry.invariant.writer.reserved (none_left g t behind)
+    (c.finish.ensures.root c.args.format) (c.finish.ensures.stands c.args.format)
+    c.finish.ensures.keeps in
+    subst planted
+    (ap (λ xs. node c.args.format (out-Node A n).layer
+    (with_entries xs (last (tail c.args.format A n)))) (whole g t behind)
+    ∙ sym (node_out c.args.format A n)) made

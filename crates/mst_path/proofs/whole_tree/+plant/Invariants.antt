@@ -14,5 +14,7 @@ invariant-plant_node-loop-entry g l = record {
   left : l.writer.left + l.entry-index ≡ length (items l.format g.row.B.Denot l.node);
   blank : g.R.Rows.blank l.rows ≡ g.R.Rows.blank l.fn.rows;
   kept : g.R.Rows.kept l.rows ≡ g.R.Rows.kept l.fn.rows;
-  so_far : PlantedSoFar l.format l.fn.desk l.desk (g.R.Rows.content l.fn.rows) (g.R.Rows.content l.rows) l.writer (map (tree_entry l.format) (take l.entry-index (items l.format g.row.B.Denot l.node)));
+  so_far : PlantedSoFar l.format l.fn.desk l.desk (g.R.Rows.content l.fn.rows)
+      (g.R.Rows.content l.rows) l.writer
+      (map (tree_entry l.format) (take l.entry-index (items l.format g.row.B.Denot l.node)));
 }

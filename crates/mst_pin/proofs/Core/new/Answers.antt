@@ -7,11 +7,16 @@ use Rattle.mst_pin.proofs.Cores.{fresh_kept, fresh_state}
 use Rattle.mst_pin.proofs.Core.new.Goals as goal
 
 pub invariant_of-result : goal.invariant_of-result
-invariant_of-result c = record { kept = subst (λ (w : Words). IsKept c.args.passes w) (sym c.new.ensures) (fresh_kept c.args.passes (omega arith) (omega arith)) }
+invariant_of-result c =
+    record {
+      kept = subst (λ (w : Words). IsKept c.args.passes w) (sym c.new.ensures)
+          (fresh_kept c.args.passes (omega arith) (omega arith));
+    }
 
 pub returns-clause-opening : goal.returns-clause-opening
 unfolding state
-returns-clause-opening c = ap (λ (w : Words). state_of c.args.passes w (replicate 34 0)) c.new.ensures ∙ fresh_state c.args.passes (omega arith) (omega arith)
+returns-clause-opening c = ap (λ (w : Words). state_of c.args.passes w (replicate 34 0))
+    c.new.ensures ∙ fresh_state c.args.passes (omega arith) (omega arith)
 
 pub returns-then-passes-eq0-clause-in_range : goal.returns-then-passes-eq0-clause-in_range
 returns-then-passes-eq0-clause-in_range c = search rules

@@ -13,13 +13,22 @@ use Rattle.mst_pin.proofs.Core.run.Goals as goal
 
 pub loop-event-preserved : goal.loop-event-preserved
 loop-event-preserved g c =
-    let es : List Event = c.args.events.now in let i : ℕ = c.loop-event.event-index in let old : List Answer = c.loop-event.answers.items in
-    let items : c.push.new.self.items ≡ old ++ c.step.result ∷ [] = c.push.ensures.items ∙ ap (λ z. cond (is_ok z) (old ++ c.step.result ∷ []) old) c.unwrap.ensures in
-    let more : take (i + 1) es ≡ take i es ++ get_or es i (Pin 0) ∷ [] = ap (λ (z : ℕ). take z es) (add-one i) ∙ take-suc es i (Pin 0) c.loop-event-test.true in
-    let ran = runs_more (state c.args.self.now) (state c.loop-event.self) (state c.step.new.self) (take i es) old (get_or es i (Pin 0)) c.step.result c.loop-event.invariant.ran c.step.ensures.step in
+    let es : List Event = c.args.events.now in let i : ℕ = c.loop-event.event-index in
+    let old : List Answer = c.loop-event.answers.items in
+    let items : c.push.new.self.items ≡ old ++ c.step.result ∷ [] =
+    c.push.ensures.items ∙ ap (λ z. cond (is_ok z) (old ++ c.step.result ∷ []) old)
+    c.unwrap.ensures in
+    let more : take (i + 1) es ≡ take i es ++ get_or es i (Pin 0) ∷ [] =
+    ap (λ (z : ℕ). take z es) (add-one i) ∙ take-suc es i (Pin 0) c.loop-event-test.true in
+    let ran = runs_more (state c.args.self.now) (state c.loop-event.self) (state c.step.new.self)
+    (take i es) old (get_or es i (Pin 0)) c.step.result c.loop-event.invariant.ran
+    c.step.ensures.step in
     record {
-      ran = subst (λ (z : List Event). Runs (state c.args.self.now) z c.push.new.self.items (state c.step.new.self)) (sym more)
-          (subst (λ (z : List Answer). Runs (state c.args.self.now) (take i es ++ get_or es i (Pin 0) ∷ []) z (state c.step.new.self)) (sym items) ran);
+      ran =
+          subst (λ (z : List Event). Runs (state c.args.self.now) z c.push.new.self.items
+          (state c.step.new.self)) (sym more)
+          (subst (λ (z : List Answer). Runs (state c.args.self.now)
+          (take i es ++ get_or es i (Pin 0) ∷ []) z (state c.step.new.self)) (sym items) ran);
       taken = grind (arith, common_steps);
       room = omega arith;
     }

@@ -8,18 +8,25 @@ use Rattle.mst_command.proofs.Asked.{told_early, stopped_early}
 use Rattle.mst_program.proofs.program.command.Goals as goal
 
 pub returns-in-Err-clause-told : goal.returns-in-Err-clause-told
-returns-in-Err-clause-told g c = told_early g.E.Sink.takes g.E.Sink.failures c.args.err.now c.complain.new.err c.in-Err.why c.complain.result c.complain.ensures.failed c.complain.ensures.status c.complain.ensures.told c.args.words.now c.in-Err.ensures.comes
+returns-in-Err-clause-told g c = told_early g.E.Sink.takes g.E.Sink.failures c.args.err.now
+    c.complain.new.err c.in-Err.why c.complain.result c.complain.ensures.failed
+    c.complain.ensures.status c.complain.ensures.told c.args.words.now c.in-Err.ensures.comes
 
 pub returns-in-Err-clause-stopped : goal.returns-in-Err-clause-stopped
 returns-in-Err-clause-stopped g c =
     let broke = λ (d : c.in-Err.why ≡ Device). c.perform.ensures.stopped (c.in-Err.is ∙ ap Err d) in
-    stopped_early g.E.Sink.takes g.E.Sink.failures c.args.err.now c.complain.new.err c.in-Err.why c.complain.result c.complain.ensures.failed c.complain.ensures.status c.complain.ensures.told
-    (λ why. EndedEarly g.S.Source.gives g.S.Source.left g.O.Sink.takes g.O.Sink.failures c.args.words.now why c.args.source.now c.args.out.now c.perform.new.source c.perform.new.out)
+    stopped_early g.E.Sink.takes g.E.Sink.failures c.args.err.now c.complain.new.err c.in-Err.why
+    c.complain.result c.complain.ensures.failed c.complain.ensures.status
+    c.complain.ensures.told
+    (λ why. EndedEarly g.S.Source.gives g.S.Source.left g.O.Sink.takes g.O.Sink.failures
+    c.args.words.now why c.args.source.now c.args.out.now c.perform.new.source
+    c.perform.new.out)
     broke
     (record {
       comes = c.in-Err.ensures.comes;
       unread = c.in-Err.ensures.unread;
-      untouched = λ none. IfErr-at_err (λ why. Untouched why c.args.source.now c.perform.new.source) c.in-Err.is (c.perform.ensures.untouched none);
+      untouched = λ none. IfErr-at_err (λ why. Untouched why c.args.source.now c.perform.new.source)
+          c.in-Err.is (c.perform.ensures.untouched none);
       unwritten = c.in-Err.ensures.unwritten;
       broke = broke;
     })
@@ -91,7 +98,8 @@ returns-in-Ok-ProofRefused-clause-loaded g c = search rules
 pub returns-in-Ok-ProofRefused-clause-verified : goal.returns-in-Ok-ProofRefused-clause-verified
 returns-in-Ok-ProofRefused-clause-verified g c = search rules
 
-pub returns-in-Ok-ProofRefused-clause-proof_refused : goal.returns-in-Ok-ProofRefused-clause-proof_refused
+pub returns-in-Ok-ProofRefused-clause-proof_refused :
+    goal.returns-in-Ok-ProofRefused-clause-proof_refused
 returns-in-Ok-ProofRefused-clause-proof_refused g c = search rules
 
 pub returns-in-Ok-ProofRefused-clause-silent : goal.returns-in-Ok-ProofRefused-clause-silent
@@ -109,7 +117,8 @@ returns-in-Ok-ProofRefused-clause-refused g c = search rules
 pub returns-in-Ok-ProofRefused-clause-memory : goal.returns-in-Ok-ProofRefused-clause-memory
 returns-in-Ok-ProofRefused-clause-memory g c = search rules
 
-pub returns-in-Ok-ProofRefused-clause-memory_unread : goal.returns-in-Ok-ProofRefused-clause-memory_unread
+pub returns-in-Ok-ProofRefused-clause-memory_unread :
+    goal.returns-in-Ok-ProofRefused-clause-memory_unread
 returns-in-Ok-ProofRefused-clause-memory_unread g c = search rules
 
 pub returns-in-Err-clause-range : goal.returns-in-Err-clause-range

@@ -15,22 +15,32 @@ use Rattle.mst_proof.proofs.collision.collide_in.Goals as goal
 
 pub returns-in-Some-next-clause-none : goal.returns-in-Some-next-clause-none
 returns-in-Some-next-clause-none g c =
-    none_of_empty c.args.format c.pair_of.result c.args.key.now c.args.proof.now c.in-Some-next.found.now c.new.result.items c.in-Ok.texts (top_of c.args.format (option_copied c.args.tree)) c.in-Ok.ensures.frame c.next.new.self (ap (λ o. top_of c.args.format (option_copied o)) c.in_default-tree.is) c.in-Some-next.ensures.next c.in-Some-next.ensures.bytes c.new.ensures.items c.pair_of.ensures.none
+    none_of_empty c.args.format c.pair_of.result c.args.key.now c.args.proof.now
+    c.in-Some-next.found.now c.new.result.items c.in-Ok.texts
+    (top_of c.args.format (option_copied c.args.tree)) c.in-Ok.ensures.frame c.next.new.self
+    (ap (λ o. top_of c.args.format (option_copied o)) c.in_default-tree.is)
+    c.in-Some-next.ensures.next c.in-Some-next.ensures.bytes c.new.ensures.items
+    c.pair_of.ensures.none
 
 pub returns-in-Some-next-clause-some : goal.returns-in-Some-next-clause-some
 returns-in-Some-next-clause-some g c =
-    some_of_empty c.args.format c.pair_of.result c.args.key.now c.args.proof.now c.in-Some-next.found.now c.new.result.items c.in-Ok.texts (top_of c.args.format (option_copied c.args.tree)) c.in-Ok.ensures.frame c.next.new.self c.in-Some-next.ensures.next c.new.ensures.items c.pair_of.ensures.some
+    some_of_empty c.args.format c.pair_of.result c.args.key.now c.args.proof.now
+    c.in-Some-next.found.now c.new.result.items c.in-Ok.texts
+    (top_of c.args.format (option_copied c.args.tree)) c.in-Ok.ensures.frame c.next.new.self
+    c.in-Some-next.ensures.next c.new.ensures.items c.pair_of.ensures.some
 
 -- ---- there is no text
 
 pub text_in-requires : goal.text_in-requires
 text_in-requires g c =
-    let is : top_of c.args.format (option_copied c.args.tree) ≡ tree_of c.args.format c.in-Some.node.now = ap (λ o. top_of c.args.format (option_copied o)) c.in-Some.is in
+    let is : top_of c.args.format (option_copied c.args.tree) ≡ tree_of c.args.format
+    c.in-Some.node.now = ap (λ o. top_of c.args.format (option_copied o)) c.in-Some.is in
     let small = subst (IsSmall c.args.format) is (small_of_map c.args.format _ c.requires.map) in
     record { few = small.few }
 
 module _ (g : Over) (c : goal.After-pair_of-then-is_empty g) where
-  top_is : top_of c.args.format (option_copied c.args.tree) ≡ tree_of c.args.format c.in-Some.node.now
+  top_is : top_of c.args.format (option_copied c.args.tree) ≡ tree_of c.args.format
+      c.in-Some.node.now
   top_is = ap (λ o. top_of c.args.format (option_copied o)) c.in-Some.is
 
   text_is : c.in_ok-text_in.field-0.items ≡ text (top_of c.args.format (option_copied c.args.tree))
@@ -39,29 +49,50 @@ module _ (g : Over) (c : goal.After-pair_of-then-is_empty g) where
 pub returns-then-is_empty-clause-none : goal.returns-then-is_empty-clause-none
 returns-then-is_empty-clause-none g c =
     let none : length c.in-Ok.texts ≡ 0 = grind (arith, nat_tests, c.if-is_empty.ensures.empty) in
-    none_of_no_text c.args.format c.pair_of-then-is_empty.result c.args.key.now c.args.proof.now c.as_slice.result.now c.in_ok-text_in.field-0.items c.in-Ok.texts (top_of c.args.format (option_copied c.args.tree)) c.in-Ok.ensures.frame none c.as_slice.ensures (text_is g c) c.pair_of-then-is_empty.ensures.none
+    none_of_no_text c.args.format c.pair_of-then-is_empty.result c.args.key.now c.args.proof.now
+    c.as_slice.result.now c.in_ok-text_in.field-0.items c.in-Ok.texts
+    (top_of c.args.format (option_copied c.args.tree)) c.in-Ok.ensures.frame none
+    c.as_slice.ensures (text_is g c) c.pair_of-then-is_empty.ensures.none
 
 pub returns-then-is_empty-clause-some : goal.returns-then-is_empty-clause-some
 returns-then-is_empty-clause-some g c =
-    let itself = subst (λ (x : Tree). Contains (nodes x) x) (sym (top_is g c)) (has_itself c.args.format g.row.A.Denot c.in-Some.node.now) in
-    some_of_no_text c.args.format c.pair_of-then-is_empty.result c.args.key.now c.args.proof.now c.as_slice.result.now c.in_ok-text_in.field-0.items c.in-Ok.texts (top_of c.args.format (option_copied c.args.tree)) c.in-Ok.ensures.frame c.as_slice.ensures (text_is g c) itself c.pair_of-then-is_empty.ensures.some
+    let itself = subst (λ (x : Tree). Contains (nodes x) x) (sym (top_is g c))
+    (has_itself c.args.format g.row.A.Denot c.in-Some.node.now) in
+    some_of_no_text c.args.format c.pair_of-then-is_empty.result c.args.key.now c.args.proof.now
+    c.as_slice.result.now c.in_ok-text_in.field-0.items c.in-Ok.texts
+    (top_of c.args.format (option_copied c.args.tree)) c.in-Ok.ensures.frame c.as_slice.ensures
+    (text_is g c) itself c.pair_of-then-is_empty.ensures.some
 
 -- ---- the texts are walked beside the tree
 
 module _ (g : Over) (c : goal.Else-is_empty g) where
-  tree_is : top_of c.args.format (option_copied c.args.tree) ≡ tree_of c.args.format c.in-Some.node.now
+  tree_is : top_of c.args.format (option_copied c.args.tree) ≡ tree_of c.args.format
+      c.in-Some.node.now
   tree_is = ap (λ o. top_of c.args.format (option_copied o)) c.in-Some.is
 
 pub walk-requires : goal.walk-requires
-walk-requires g c = record { small = subst (IsSmall c.args.format) (tree_is g (goal.at.walk-requires g c).Else-is_empty) (small_of_map c.args.format (top_of c.args.format (option_copied c.args.tree)) c.requires.map) }
+walk-requires g c =
+    record {
+      small =
+          subst (IsSmall c.args.format) (tree_is g (goal.at.walk-requires g c).Else-is_empty)
+          (small_of_map c.args.format (top_of c.args.format (option_copied c.args.tree))
+          c.requires.map);
+    }
 
 pub returns-clause-none : goal.returns-clause-none
 returns-clause-none g c =
-    none_of_walk c.args.format c.walk.result c.args.key.now c.args.proof.now c.in-Ok.texts (top_of c.args.format (option_copied c.args.tree)) (tree_of c.args.format c.in-Some.node.now) c.in-Ok.ensures.frame (tree_is g (goal.at.returns-clause-none g c).Else-is_empty) (λ z. grind (arith, nat_tests, c.if-is_empty.ensures.empty, z)) c.walk.ensures.none
+    none_of_walk c.args.format c.walk.result c.args.key.now c.args.proof.now c.in-Ok.texts
+    (top_of c.args.format (option_copied c.args.tree))
+    (tree_of c.args.format c.in-Some.node.now) c.in-Ok.ensures.frame
+    (tree_is g (goal.at.returns-clause-none g c).Else-is_empty)
+    (λ z. grind (arith, nat_tests, c.if-is_empty.ensures.empty, z)) c.walk.ensures.none
 
 pub returns-clause-some : goal.returns-clause-some
 returns-clause-some g c =
-    some_of_walk c.args.format c.walk.result c.args.key.now c.args.proof.now c.in-Ok.texts (top_of c.args.format (option_copied c.args.tree)) (tree_of c.args.format c.in-Some.node.now) c.in-Ok.ensures.frame (tree_is g (goal.at.returns-clause-some g c).Else-is_empty) c.walk.ensures.some
+    some_of_walk c.args.format c.walk.result c.args.key.now c.args.proof.now c.in-Ok.texts
+    (top_of c.args.format (option_copied c.args.tree))
+    (tree_of c.args.format c.in-Some.node.now) c.in-Ok.ensures.frame
+    (tree_is g (goal.at.returns-clause-some g c).Else-is_empty) c.walk.ensures.some
 
 -- ---- the other clauses
 
@@ -79,7 +110,10 @@ returns-in_default-clause-memory_of_pair g c = search rules
 
 pub returns-in-None-clause-none : goal.returns-in-None-clause-none
 returns-in-None-clause-none g c =
-    none_of_nothing c.args.format c.args.key.now c.args.proof.now c.in-Ok.texts (top_of c.args.format (option_copied c.args.tree)) c.in-Ok.ensures.frame (ap (λ o. top_of c.args.format (option_copied o)) c.in_default-tree.is) c.in-None.ensures.next.0
+    none_of_nothing c.args.format c.args.key.now c.args.proof.now c.in-Ok.texts
+    (top_of c.args.format (option_copied c.args.tree)) c.in-Ok.ensures.frame
+    (ap (λ o. top_of c.args.format (option_copied o)) c.in_default-tree.is)
+    c.in-None.ensures.next.0
 
 pub returns-in-None-clause-some : goal.returns-in-None-clause-some
 returns-in-None-clause-some g c = search rules

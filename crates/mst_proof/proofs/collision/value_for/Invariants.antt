@@ -10,4 +10,5 @@ use Rattle.mst_proof.proofs.collision.value_for.Given as goal
 abbrev pub invariant-loop-entry : goal.invariant-loop-entry
 invariant-loop-entry g l =
     let n = out-Node g.row.B.Denot l.node in
-    (format : Format) → held_among format g.row.B.Denot l.key (drop l.entry-index n.entries.items) (tree_of_child format n.tail) ≡ held_value l.key (tree_of format l.node)
+    (format : Format) → held_among format g.row.B.Denot l.key (drop l.entry-index n.entries.items)
+    (tree_of_child format n.tail) ≡ held_value l.key (tree_of format l.node)

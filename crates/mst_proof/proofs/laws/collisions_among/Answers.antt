@@ -3,7 +3,12 @@ use Rattle.mst_proof.proofs.laws.collisions_among.Goals as goal
 pub returns-clause-two : goal.returns-clause-two
 returns-clause-two c texts one other = (
   λ is. (is.one_in, is.other_in, is.collision.differ, is.collision.same),
-  λ are. record { one_in = are.0; other_in = are.1; collision = record { differ = are.2; same = are.3 } },
+  λ are. record {
+    one_in = are.0;
+    other_in = are.1;
+    collision =
+        record { differ = are.2; same = are.3 };
+  },
 )
 
 pub returns-clause-has : goal.returns-clause-has

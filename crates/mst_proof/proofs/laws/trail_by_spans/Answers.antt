@@ -10,5 +10,7 @@ pub returns : goal.returns
 returns c = record {
   trail = λ format m k rise.
       let t = tree format m in
-      met_around k None None t refl refl (lies_between t None None (subst IsAscending (sym (pairs_tree format m)) rise) (between_none _));
+      met_around k None None t refl refl
+      (lies_between t None None (subst IsAscending (sym (pairs_tree format m)) rise)
+      (between_none _));
 }

@@ -10,6 +10,8 @@ use Rattle.mst_read.proofs.following.first_above.Given as goal
 abbrev pub invariant-loop : goal.invariant-loop
 invariant-loop g l = record {
   same : l.rows ≡ l.initial.rows;
-  onward : (f : Format) (c : Chain) → LiesBehind f (g.R.Rows.content l.initial.rows) l.initial.head c
-      → Onward f (g.R.Rows.content l.initial.rows) l.head.tail l.link l.counter l.end (BeginsAbove (Some l.bound) c);
+  onward : (f : Format) (c : Chain) → LiesBehind f (g.R.Rows.content l.initial.rows) l.initial.head
+      c
+      → Onward f (g.R.Rows.content l.initial.rows) l.head.tail l.link l.counter l.end
+      (BeginsAbove (Some l.bound) c);
 }

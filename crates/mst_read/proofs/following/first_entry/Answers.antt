@@ -5,4 +5,5 @@ pub entry-requires : goal.entry-requires
 entry-requires g c = record { there = first_there c.requires.lies.2 c.requires.limits.1 }
 
 pub returns-in-None-clause-first : goal.returns-in-None-clause-first
-returns-in-None-clause-first g c f chain lies = rw c.in-None.is (first_of_all lies c.requires.limits.1 c.entry.ensures.value)
+returns-in-None-clause-first g c f chain lies =
+    rw c.in-None.is (first_of_all lies c.requires.limits.1 c.entry.ensures.value)

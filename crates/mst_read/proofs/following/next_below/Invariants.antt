@@ -14,7 +14,8 @@ invariant-loop-top g l = record {
   limits : IfSome l.top IsHead;
   pair : HasPair (g.R.Rows.content l.fn.rows) l.right;
   reached : (s : LinkStands (g.R.Rows.content l.fn.rows) l.link)
-      → Reached s.0 (g.R.Rows.content l.fn.rows) l.top (Answers (g.R.Rows.content l.fn.rows) (option_copied l.after) l.right s.1);
+      → Reached s.0 (g.R.Rows.content l.fn.rows) l.top
+      (Answers (g.R.Rows.content l.fn.rows) (option_copied l.after) l.right s.1);
 }
 
 -- layers fall

@@ -18,38 +18,73 @@ loop-top-init g c = record {
 }
 
 pub seek-requires : goal.seek-requires
-seek-requires g c = record { lies = node_there (inside (c.loop-top.invariant.reached c.requires.stands) c.in-Some.is) (ap g.R.Rows.content c.loop-top.invariant.same) }
+seek-requires g c =
+    record {
+      lies =
+          node_there (inside (c.loop-top.invariant.reached c.requires.stands) c.in-Some.is)
+          (ap g.R.Rows.content c.loop-top.invariant.same);
+    }
 
 -- ---- the node has the key
 
 pub value-requires : goal.value-requires
 value-requires g c =
-    let there = value_there c.args.key.now c.requires.stands.1 (inside (c.loop-top.invariant.reached c.requires.stands) c.in-Some.is) (ap g.R.Rows.content c.loop-top.invariant.same) (rw c.new-sought.ensures.key at c.seek.ensures.place) c.in-Held.is in
-    record { there = there_still (ap g.R.Rows.content (c.seek.ensures.same ∙ c.loop-top.invariant.same)) entry_value c.in-Held.row there }
+    let there = value_there c.args.key.now c.requires.stands.1
+    (inside (c.loop-top.invariant.reached c.requires.stands) c.in-Some.is)
+    (ap g.R.Rows.content c.loop-top.invariant.same)
+    (rw c.new-sought.ensures.key at c.seek.ensures.place) c.in-Held.is in
+    record {
+      there =
+          there_still (ap g.R.Rows.content (c.seek.ensures.same ∙ c.loop-top.invariant.same))
+          entry_value c.in-Held.row there;
+    }
 
 pub returns-in-Held-clause-found : goal.returns-in-Held-clause-found
 returns-in-Held-clause-found g c f m s =
-    sym (read_before (ap g.R.Rows.content (c.seek.ensures.same ∙ c.loop-top.invariant.same)) entry_value c.in-Held.row c.value.ensures.value)
-    ∙ value_held c.args.key.now m (inside (c.loop-top.invariant.reached (f, m, s)) c.in-Some.is) (ap g.R.Rows.content c.loop-top.invariant.same) (rw c.new-sought.ensures.key at c.seek.ensures.place) c.in-Held.is
+    sym (read_before (ap g.R.Rows.content (c.seek.ensures.same ∙ c.loop-top.invariant.same))
+    entry_value c.in-Held.row c.value.ensures.value)
+    ∙ value_held c.args.key.now m (inside (c.loop-top.invariant.reached (f, m, s)) c.in-Some.is)
+    (ap g.R.Rows.content c.loop-top.invariant.same)
+    (rw c.new-sought.ensures.key at c.seek.ensures.place) c.in-Held.is
 
 -- ---- the search goes on in a gap
 
 pub head_at-top-requires-in-Gap : goal.head_at-top-requires-in-Gap
 head_at-top-requires-in-Gap g c =
-    let gap = in_gap c.args.key.now c.requires.stands.1 (inside (c.loop-top.invariant.reached c.requires.stands) c.in-Some.is) (ap g.R.Rows.content c.loop-top.invariant.same) (rw c.new-sought.ensures.key at c.seek.ensures.place) c.in-Gap.is in
-    record { lies = ahead_there gap (ap g.R.Rows.content (c.seek.ensures.same ∙ c.loop-top.invariant.same)) }
+    let gap = in_gap c.args.key.now c.requires.stands.1
+    (inside (c.loop-top.invariant.reached c.requires.stands) c.in-Some.is)
+    (ap g.R.Rows.content c.loop-top.invariant.same)
+    (rw c.new-sought.ensures.key at c.seek.ensures.place) c.in-Gap.is in
+    record {
+      lies =
+          ahead_there gap (ap g.R.Rows.content (c.seek.ensures.same ∙ c.loop-top.invariant.same));
+    }
 
-module _ (g : Over) (c : goal.After-head_at-top-in-Gap g) (s : LinkStands (g.R.Rows.content c.args.rows.now) c.args.link) where
-  ahead : Ahead s.0 (g.R.Rows.content c.args.rows.now) c.in-Some.head.layer c.in-Gap.link (Finds c.args.key.now s.1)
-  ahead = in_gap c.args.key.now s.1 (inside (c.loop-top.invariant.reached s) c.in-Some.is) (ap g.R.Rows.content c.loop-top.invariant.same) (rw c.new-sought.ensures.key at c.seek.ensures.place) c.in-Gap.is
+module _ (g : Over) (c : goal.After-head_at-top-in-Gap g)
+    (s : LinkStands (g.R.Rows.content c.args.rows.now) c.args.link) where
+  ahead : Ahead s.0 (g.R.Rows.content c.args.rows.now) c.in-Some.head.layer c.in-Gap.link
+      (Finds c.args.key.now s.1)
+  ahead = in_gap c.args.key.now s.1 (inside (c.loop-top.invariant.reached s) c.in-Some.is)
+      (ap g.R.Rows.content c.loop-top.invariant.same)
+      (rw c.new-sought.ensures.key at c.seek.ensures.place) c.in-Gap.is
 
 pub loop-top-smaller : goal.loop-top-smaller
-loop-top-smaller g c = omega (arith, depth_is c.in-Some.is, lower (ahead g c c.requires.stands) (ap g.R.Rows.content (c.seek.ensures.same ∙ c.loop-top.invariant.same)) c.head_at-top-in-Gap.ensures.head)
+loop-top-smaller g c =
+    omega (
+      arith,
+      depth_is c.in-Some.is,
+      lower (ahead g c c.requires.stands)
+          (ap g.R.Rows.content (c.seek.ensures.same ∙ c.loop-top.invariant.same))
+          c.head_at-top-in-Gap.ensures.head,
+    )
 
 pub loop-top-preserved : goal.loop-top-preserved
 loop-top-preserved g c = record {
   same = c.head_at-top-in-Gap.ensures.same ∙ c.seek.ensures.same ∙ c.loop-top.invariant.same;
-  reached = λ s. reach (ahead g c s) (ap g.R.Rows.content (c.seek.ensures.same ∙ c.loop-top.invariant.same)) c.head_at-top-in-Gap.ensures.head;
+  reached =
+      λ s. reach (ahead g c s)
+      (ap g.R.Rows.content (c.seek.ensures.same ∙ c.loop-top.invariant.same))
+      c.head_at-top-in-Gap.ensures.head;
 }
 
 pub returns-clause-found : goal.returns-clause-found

@@ -7,14 +7,26 @@ use Rattle.mst_read.proofs.proving.gap_met.Goals as goal
 pub head_at-requires : goal.head_at-requires
 head_at-requires g c =
     let s = c.requires.lies in
-    let lies = gap_lies s.0 (g.R.Rows.content c.args.rows.now) c.args.key.now c.in-Gap.link s.1 s.2.rows (sym (c.seek.ensures.place s.0 s.1 s.2) ∙ c.in-Gap.is) in
-    record { lies = (s.0, gap_placed c.args.key.now s.1, lies_still (ap g.R.Rows.content c.seek.ensures.same) lies) }
+    let lies = gap_lies s.0 (g.R.Rows.content c.args.rows.now) c.args.key.now c.in-Gap.link s.1
+    s.2.rows (sym (c.seek.ensures.place s.0 s.1 s.2) ∙ c.in-Gap.is) in
+    record {
+      lies = (
+        s.0,
+        gap_placed c.args.key.now s.1,
+        lies_still (ap g.R.Rows.content c.seek.ensures.same)
+            lies,
+      );
+    }
 
 pub returns-in-Held-clause-head : goal.returns-in-Held-clause-head
 returns-in-Held-clause-head g c f chain lies =
-    sym (ap head_of (gap_held c.args.key.now c.in-Held._row chain (sym (c.seek.ensures.place f chain lies) ∙ c.in-Held.is)))
+    sym (ap head_of
+    (gap_held c.args.key.now c.in-Held._row chain
+    (sym (c.seek.ensures.place f chain lies) ∙ c.in-Held.is)))
 
 pub returns-in-Gap-clause-head : goal.returns-in-Gap-clause-head
 returns-in-Gap-clause-head g c f chain behind =
-    let here = gap_lies f (g.R.Rows.content c.args.rows.now) c.args.key.now c.in-Gap.link chain behind.rows (sym (c.seek.ensures.place f chain behind) ∙ c.in-Gap.is) in
-    c.head_at.ensures.head f (gap_placed c.args.key.now chain) (lies_still (ap g.R.Rows.content c.seek.ensures.same) here)
+    let here = gap_lies f (g.R.Rows.content c.args.rows.now) c.args.key.now c.in-Gap.link chain
+    behind.rows (sym (c.seek.ensures.place f chain behind) ∙ c.in-Gap.is) in
+    c.head_at.ensures.head f (gap_placed c.args.key.now chain)
+    (lies_still (ap g.R.Rows.content c.seek.ensures.same) here)

@@ -16,9 +16,11 @@ invariant-loop-top g l = record {
   same : l.rows ≡ l.fn.rows;
   limits : IfSome l.top IsHead;
   few : l.count + depth l.top ≤ 129;
-  made : (texts : List ℕ) × (l.proof.items ≡ version l.format ∷ 0 ∷ texts) × (length texts ≤ 8584995 * l.count)
+  made : (texts : List ℕ) × (l.proof.items ≡ version l.format ∷ 0 ∷ texts)
+      × (length texts ≤ 8584995 * l.count)
       × ((m : List Pair) → StandsBelow l.format (g.R.Rows.content l.fn.rows) l.link m
-      → Met l.format (g.R.Rows.content l.fn.rows) l.top l.key texts l.count (trail l.format m l.key));
+      → Met l.format (g.R.Rows.content l.fn.rows) l.top l.key texts l.count
+      (trail l.format m l.key));
 }
 
 -- layers fall

@@ -25,7 +25,8 @@ loop-init g c =
           tail_is = lies.tail;
           left = omega (arith, lies.count);
           rows = lies.rows;
-          holds = text_starts c.args.format c.args.head.now.layer c.args.head.now.count chain begun lies.count refl;
+          holds = text_starts c.args.format c.args.head.now.layer c.args.head.now.count chain begun
+              lies.count refl;
         },
       );
     }
@@ -34,24 +35,56 @@ loop-init g c =
 
 pub digest_at-child-requires : goal.digest_at-child-requires
 digest_at-child-requires g c =
-    let a = at_cell (c.loop.invariant.written.3 c.requires.lies.0 c.requires.lies.1) c.loop-test.true (ap g.R.Rows.content c.loop.invariant.same) c.entry-entry.ensures.value in
-    record { lies = (c.args.format, a.child, child_lies a (ap g.R.Rows.content (c.value-value.ensures.same ∙ c.entry-entry.ensures.same ∙ c.loop.invariant.same))) }
+    let a = at_cell (c.loop.invariant.written.3 c.requires.lies.0 c.requires.lies.1)
+    c.loop-test.true (ap g.R.Rows.content c.loop.invariant.same) c.entry-entry.ensures.value in
+    record {
+      lies = (
+        c.args.format,
+        a.child,
+        child_lies a
+            (ap g.R.Rows.content (c.value-value.ensures.same ∙ c.entry-entry.ensures.same
+            ∙ c.loop.invariant.same)),
+      );
+    }
 
 pub loop-preserved : goal.loop-preserved
 loop-preserved g c =
     let m = c.loop.invariant.written.0 in
     record {
-      same = c.digest_at-child.ensures.same ∙ c.value-value.ensures.same ∙ c.entry-entry.ensures.same ∙ c.loop.invariant.same;
+      same = c.digest_at-child.ensures.same ∙ c.value-value.ensures.same
+          ∙ c.entry-entry.ensures.same ∙ c.loop.invariant.same;
       written = (
         _,
         c.take_entry.ensures.entry m c.loop.invariant.written.1,
-        omega (arith, entry_length c.args.format m (child_text c.digest_at-child.result) c.bytes.result.now c.bytes-in-loop.result.now (omega (arith, c.bytes-in-loop.ensures)), c.digest_at-child.ensures.short, c.loop.invariant.written.2, c.bytes.ensures, c.bytes-in-loop.ensures),
+        omega (
+          arith,
+          entry_length c.args.format m (child_text c.digest_at-child.result)
+              c.bytes.result.now c.bytes-in-loop.result.now
+              (omega (arith, c.bytes-in-loop.ensures)),
+          c.digest_at-child.ensures.short,
+          c.loop.invariant.written.2,
+          c.bytes.ensures,
+          c.bytes-in-loop.ensures,
+        ),
         λ chain behind.
-            let here = at_cell (c.loop.invariant.written.3 chain behind) c.loop-test.true (ap g.R.Rows.content c.loop.invariant.same) c.entry-entry.ensures.value in
-            let gap : c.digest_at-child.result ≡ child_digest (tree_of c.args.format here.child) = c.digest_at-child.ensures.digest c.args.format here.child (child_lies here (ap g.R.Rows.content (c.value-value.ensures.same ∙ c.entry-entry.ensures.same ∙ c.loop.invariant.same))) in
-            let read : Some c.value-value.result ≡ Some here.value = sym (read_before (ap g.R.Rows.content (c.entry-entry.ensures.same ∙ c.loop.invariant.same)) entry_value (c.loop.link - 1) c.value-value.ensures.value) ∙ cell_value here in
+            let here = at_cell (c.loop.invariant.written.3 chain behind) c.loop-test.true
+            (ap g.R.Rows.content c.loop.invariant.same) c.entry-entry.ensures.value in
+            let gap : c.digest_at-child.result ≡ child_digest (tree_of c.args.format here.child) =
+            c.digest_at-child.ensures.digest c.args.format here.child
+            (child_lies here
+            (ap g.R.Rows.content (c.value-value.ensures.same ∙ c.entry-entry.ensures.same
+            ∙ c.loop.invariant.same))) in
+            let read : Some c.value-value.result ≡ Some here.value =
+            sym (read_before
+            (ap g.R.Rows.content (c.entry-entry.ensures.same ∙ c.loop.invariant.same))
+            entry_value (c.loop.link - 1) c.value-value.ensures.value) ∙ cell_value here in
             let value : c.value-value.result ≡ here.value = cc in
-            let written : ((m ++ child_text c.digest_at-child.result) ++ counted c.bytes.result.now) ++ held_text c.args.format (held_of c.args.format c.bytes-in-loop.result.now) ≡ ((m ++ child_text (child_digest (tree_of c.args.format here.child))) ++ counted c.entry-entry.result.key) ++ held_text c.args.format (held_of c.args.format here.value) = cc (gap, value, c.bytes.ensures.bytes, c.bytes-in-loop.ensures.bytes) in
+            let written : ((m ++ child_text c.digest_at-child.result) ++ counted c.bytes.result.now)
+            ++ held_text c.args.format (held_of c.args.format c.bytes-in-loop.result.now)
+            ≡ ((m ++ child_text (child_digest (tree_of c.args.format here.child))) ++ counted
+            c.entry-entry.result.key) ++ held_text c.args.format
+            (held_of c.args.format here.value) =
+            cc (gap, value, c.bytes.ensures.bytes, c.bytes-in-loop.ensures.bytes) in
             text_goes_on c.args.format m here written,
       );
     }
@@ -60,19 +93,36 @@ loop-preserved g c =
 
 pub digest_at-requires : goal.digest_at-requires
 digest_at-requires g c =
-    let a = at_end (c.loop.invariant.written.3 c.requires.lies.0 c.requires.lies.1) (omega (arith, c.loop-test.false)) in
-    record { lies = (c.args.format, a.child, tail_lies a (ap g.R.Rows.content c.loop.invariant.same)) }
+    let a = at_end (c.loop.invariant.written.3 c.requires.lies.0 c.requires.lies.1)
+    (omega (arith, c.loop-test.false)) in
+    record {
+      lies =
+          (c.args.format, a.child, tail_lies a (ap g.R.Rows.content c.loop.invariant.same));
+    }
 
 pub returns-clause-ok : goal.returns-clause-ok
 returns-clause-ok g c chain behind =
     let m = c.loop.invariant.written.0 in
-    let last = at_end (c.loop.invariant.written.3 chain behind) (omega (arith, c.loop-test.false)) in
-    let tail : c.digest_at.result ≡ child_digest (tree_of c.args.format last.child) = c.digest_at.ensures.digest c.args.format last.child (tail_lies last (ap g.R.Rows.content c.loop.invariant.same)) in
+    let last = at_end (c.loop.invariant.written.3 chain behind) (omega (arith, c.loop-test.false))
+    in
+    let tail : c.digest_at.result ≡ child_digest (tree_of c.args.format last.child) =
+    c.digest_at.ensures.digest c.args.format last.child
+    (tail_lies last (ap g.R.Rows.content c.loop.invariant.same)) in
     let whole = text_ends c.args.format m last (ap (λ d. m ++ child_text d) tail) in
-    subst (λ (xs : List ℕ). IfSome c.child.new.self (λ bytes. bytes ≡ xs)) whole (c.child.ensures.child m c.loop.invariant.written.1)
+    subst (λ (xs : List ℕ). IfSome c.child.new.self (λ bytes. bytes ≡ xs)) whole
+    (c.child.ensures.child m c.loop.invariant.written.1)
 
 pub returns-clause-short : goal.returns-clause-short
 returns-clause-short g c =
     let m = c.loop.invariant.written.0 in
     let done = (c.loop.invariant.written.3 c.requires.lies.0 c.requires.lies.1).left in
-    short_text c.child.new.self (m ++ child_text c.digest_at.result) 8584991 (c.child.ensures.child m c.loop.invariant.written.1) (omega (arith, length-append m (child_text c.digest_at.result), c.digest_at.ensures.short, c.loop.invariant.written.2, done, c.requires.limits.2))
+    short_text c.child.new.self (m ++ child_text c.digest_at.result) 8584991
+    (c.child.ensures.child m c.loop.invariant.written.1)
+    (omega (
+      arith,
+      length-append m (child_text c.digest_at.result),
+      c.digest_at.ensures.short,
+      c.loop.invariant.written.2,
+      done,
+      c.requires.limits.2,
+    ))

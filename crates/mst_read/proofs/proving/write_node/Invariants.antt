@@ -15,5 +15,6 @@ invariant-loop g l = record {
   same : l.rows ≡ l.initial.rows;
   written : (m : List ℕ) × IfSome l.out (λ bytes. bytes ≡ m) × (length m ≤ 4 + 131 * l.counter)
       × ((c : Chain) → LiesBehind l.format (g.R.Rows.content l.initial.rows) l.head c
-      → Onward l.format (g.R.Rows.content l.initial.rows) l.head.tail l.link l.counter l.end (Completes l.format m (text (node l.format l.head.layer (entries_of l.format c)))));
+      → Onward l.format (g.R.Rows.content l.initial.rows) l.head.tail l.link l.counter l.end
+      (Completes l.format m (text (node l.format l.head.layer (entries_of l.format c)))));
 }

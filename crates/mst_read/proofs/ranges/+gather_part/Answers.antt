@@ -27,44 +27,75 @@ loop-init g t c = record {
 
 pub head_at-requires : goal.head_at-requires
 head_at-requires g t c =
-    let a = at_cell (c.loop.invariant.onward c.requires.stands) c.loop-test.true (ap g.R.Rows.content c.loop.invariant.same) c.entry-entry.ensures.value in
-    record { lies = (c.requires.stands.0, a.child, child_lies a (ap g.R.Rows.content (c.entry-entry.ensures.same ∙ c.loop.invariant.same))) }
+    let a = at_cell (c.loop.invariant.onward c.requires.stands) c.loop-test.true
+    (ap g.R.Rows.content c.loop.invariant.same) c.entry-entry.ensures.value in
+    record {
+      lies = (
+        c.requires.stands.0,
+        a.child,
+        child_lies a
+            (ap g.R.Rows.content (c.entry-entry.ensures.same ∙ c.loop.invariant.same)),
+      );
+    }
 
 pub gather_part-requires : goal.gather_part-requires
 gather_part-requires g t c κs within =
-    let here = at_cell (c.loop.invariant.onward c.requires.stands) c.loop-test.true (ap g.R.Rows.content c.loop.invariant.same) c.entry-entry.ensures.value in
+    let here = at_cell (c.loop.invariant.onward c.requires.stands) c.loop-test.true
+    (ap g.R.Rows.content c.loop.invariant.same) c.entry-entry.ensures.value in
     let same = ap g.R.Rows.content (c.entry-entry.ensures.same ∙ c.loop.invariant.same) in
     let falls = child_falls here same c.head_at.ensures.head in
-    let o = opened c.in-Some.is (child_stands here same c.head_at.ensures.head (ap g.R.Rows.content c.head_at.ensures.same)) in
-    (omega (arith, depth_is c.in-Some.is, falls, c.decreases), (search rules, (search rules, (c.requires.stands.0, o.chain, o.stands))))
+    let o =
+    opened c.in-Some.is
+    (child_stands here same c.head_at.ensures.head (ap g.R.Rows.content c.head_at.ensures.same))
+    in (
+      omega (arith, depth_is c.in-Some.is, falls, c.decreases),
+      (search rules, (search rules, (c.requires.stands.0, o.chain, o.stands))),
+    )
 
 -- ---- and then the entry's own pair is added
 
 module _ (g : Over) (n : ℕ) (c : goal.After-is_wanted g n) where
   rows_still : c.match-head_at.rows ≡ c.args.rows.now
   rows_still = elim c.match-head_at.branch [
-    | in-Some+in_ok-gather_part w ↦ w.rows-is ∙ w.gather_part.ensures.same ∙ c.head_at.ensures.same ∙ c.entry-entry.ensures.same ∙ c.loop.invariant.same
-    | in_default w ↦ w.rows-is ∙ c.head_at.ensures.same ∙ c.entry-entry.ensures.same ∙ c.loop.invariant.same
+    | in-Some+in_ok-gather_part w ↦ w.rows-is ∙ w.gather_part.ensures.same ∙ c.head_at.ensures.same
+        ∙ c.entry-entry.ensures.same ∙ c.loop.invariant.same
+    | in_default w ↦ w.rows-is ∙ c.head_at.ensures.same ∙ c.entry-entry.ensures.same
+        ∙ c.loop.invariant.same
   ]
 
   module _ (s : SomePart (g.R.Rows.content c.args.rows.now) c.args.part.now) where
-    entry : AtCell s.0 (g.R.Rows.content c.args.rows.now) c.args.part.now.tail (c.loop.link - 1) c.loop.counter c.args.part.now.count c.entry-entry.result (Rest (option_copied c.args.to) c.args.limit s.0 c.args.part.now.layer c.loop.found.items (filled None (option_copied c.args.to) c.args.limit c.args.found.now.items (entries_pairs (entries_of s.0 s.1))))
-    entry = at_cell (c.loop.invariant.onward s) c.loop-test.true (ap g.R.Rows.content c.loop.invariant.same) c.entry-entry.ensures.value
+    entry : AtCell s.0 (g.R.Rows.content c.args.rows.now) c.args.part.now.tail (c.loop.link - 1)
+        c.loop.counter c.args.part.now.count c.entry-entry.result
+        (Rest (option_copied c.args.to) c.args.limit s.0 c.args.part.now.layer c.loop.found.items
+        (filled None (option_copied c.args.to) c.args.limit c.args.found.now.items
+        (entries_pairs (entries_of s.0 s.1))))
+    entry = at_cell (c.loop.invariant.onward s) c.loop-test.true
+        (ap g.R.Rows.content c.loop.invariant.same) c.entry-entry.ensures.value
 
     gap : HeadStands s.0 (g.R.Rows.content c.head_at.new.rows) c.head_at.result entry.child
-    gap = child_stands entry (ap g.R.Rows.content (c.entry-entry.ensures.same ∙ c.loop.invariant.same)) c.head_at.ensures.head (ap g.R.Rows.content c.head_at.ensures.same)
+    gap =
+        child_stands entry
+        (ap g.R.Rows.content (c.entry-entry.ensures.same ∙ c.loop.invariant.same))
+        c.head_at.ensures.head (ap g.R.Rows.content c.head_at.ensures.same)
 
-    in_gap : c.match-head_at.found.items ≡ filled None (option_copied c.args.to) c.args.limit c.loop.found.items (pairs (tree_of s.0 entry.child))
+    in_gap : c.match-head_at.found.items ≡ filled None (option_copied c.args.to) c.args.limit
+        c.loop.found.items (pairs (tree_of s.0 entry.child))
     in_gap = elim c.match-head_at.branch [
       | in-Some+in_ok-gather_part w ↦
           let o = opened w.in-Some.is gap in
-          ap (λ (v : Vec (Key × Value) g.row.A.Denot). v.items) w.found-is ∙ (w.in_ok-gather_part.ensures.found s.0 o.chain o.stands ∙ ap (filled None (option_copied c.args.to) c.args.limit c.loop.found.items) o.same)
+          ap (λ (v : Vec (Key × Value) g.row.A.Denot). v.items) w.found-is
+          ∙ (w.in_ok-gather_part.ensures.found s.0 o.chain o.stands
+          ∙ ap (filled None (option_copied c.args.to) c.args.limit c.loop.found.items) o.same)
       | in_default w ↦
-          ap (λ (v : Vec (Key × Value) g.row.A.Denot). v.items) w.found-is ∙ (at_none None (option_copied c.args.to) c.args.limit c.loop.found.items entry.child w.in_default.is gap)
+          ap (λ (v : Vec (Key × Value) g.row.A.Denot). v.items) w.found-is
+          ∙ (at_none None (option_copied c.args.to) c.args.limit c.loop.found.items entry.child
+          w.in_default.is gap)
     ]
 
-    there : part_at entry_value (g.R.Rows.content c.match-head_at.rows) (c.loop.link - 1) ≡ Some entry.value
-    there = read_still (ap g.R.Rows.content rows_still) entry_value (c.loop.link - 1) (cell_value entry)
+    there : part_at entry_value (g.R.Rows.content c.match-head_at.rows) (c.loop.link - 1) ≡ Some
+        entry.value
+    there = read_still (ap g.R.Rows.content rows_still) entry_value (c.loop.link - 1)
+        (cell_value entry)
 
 pub value-requires : goal.value-requires
 value-requires g t c =
@@ -76,13 +107,19 @@ pub returns-then-not-is_wanted-clause-found : goal.returns-then-not-is_wanted-cl
 returns-then-not-is_wanted-clause-found g t c f p s =
     let at = (goal.at.returns-then-not-is_wanted-clause-found g t c).After-is_wanted in
     let ends = c.if-not-is_wanted.ensures.ends refl in
-    stops (entry g t at (f, p, s)) (in_gap g t at (f, p, s)) (own-ends (option_copied c.args.to) c.args.limit c.match-head_at.found.items c.entry-entry.result.key (entry g t at (f, p, s)).value ends) ends
+    stops (entry g t at (f, p, s)) (in_gap g t at (f, p, s))
+    (own-ends (option_copied c.args.to) c.args.limit c.match-head_at.found.items
+    c.entry-entry.result.key (entry g t at (f, p, s)).value ends) ends
 
 pub returns-then-len-limit-clause-found : goal.returns-then-len-limit-clause-found
 returns-then-len-limit-clause-found g t c f p s =
     let at = (goal.at.returns-then-len-limit-clause-found g t c).After-is_wanted in
-    let own = own-pushed (option_copied c.args.to) c.args.limit c.match-head_at.found.items c.push.new.self.items c.entry-entry.result.key (entry g t at (f, p, s)).value c.value.result _ c.in_ok-push.ensures.items c.value.ensures.value (there g t at (f, p, s)) (c.if-not-is_wanted.ensures.wanted refl) in
-    stops (entry g t at (f, p, s)) (in_gap g t at (f, p, s)) own (inl (omega (arith, c.if-len-limit.true, c.len.ensures)))
+    let own = own-pushed (option_copied c.args.to) c.args.limit c.match-head_at.found.items
+    c.push.new.self.items c.entry-entry.result.key (entry g t at (f, p, s)).value c.value.result
+    _ c.in_ok-push.ensures.items c.value.ensures.value (there g t at (f, p, s))
+    (c.if-not-is_wanted.ensures.wanted refl) in
+    stops (entry g t at (f, p, s)) (in_gap g t at (f, p, s)) own
+    (inl (omega (arith, c.if-len-limit.true, c.len.ensures)))
 
 pub loop-preserved : goal.loop-preserved
 loop-preserved g t c =
@@ -90,7 +127,10 @@ loop-preserved g t c =
     record {
       same = c.value.ensures.same ∙ rows_still g t at;
       onward = λ s.
-          let own = own-pushed (option_copied c.args.to) c.args.limit c.match-head_at.found.items c.push.new.self.items c.entry-entry.result.key (entry g t at s).value c.value.result _ c.in_ok-push.ensures.items c.value.ensures.value (there g t at s) (c.if-not-is_wanted.ensures.wanted refl) in
+          let own = own-pushed (option_copied c.args.to) c.args.limit c.match-head_at.found.items
+          c.push.new.self.items c.entry-entry.result.key (entry g t at s).value c.value.result _
+          c.in_ok-push.ensures.items c.value.ensures.value (there g t at s)
+          (c.if-not-is_wanted.ensures.wanted refl) in
           goes_on (entry g t at s) (in_gap g t at s) own;
     }
 
@@ -99,22 +139,40 @@ loop-preserved g t c =
 pub head_at-requires-2 : goal.head_at-requires-2
 head_at-requires-2 g t c =
     let a = at_end (c.loop.invariant.onward c.requires.stands) (omega (arith, c.loop-test.false)) in
-    record { lies = (c.requires.stands.0, a.child, tail_lies a (ap g.R.Rows.content c.loop.invariant.same)) }
+    record {
+      lies =
+          (c.requires.stands.0, a.child, tail_lies a (ap g.R.Rows.content c.loop.invariant.same));
+    }
 
 pub gather_part-requires-in-Some-head_at : goal.gather_part-requires-in-Some-head_at
 gather_part-requires-in-Some-head_at g t c κs within =
-    let last = at_end (c.loop.invariant.onward c.requires.stands) (omega (arith, c.loop-test.false)) in
-    let falls = tail_falls last (ap g.R.Rows.content c.loop.invariant.same) c.head_at-2.ensures.head in
-    let o = opened c.in-Some-head_at.is (tail_stands last (ap g.R.Rows.content c.loop.invariant.same) c.head_at-2.ensures.head (ap g.R.Rows.content c.head_at-2.ensures.same)) in
-    (omega (arith, depth_is c.in-Some-head_at.is, falls, c.decreases), (search rules, (search rules, (c.requires.stands.0, o.chain, o.stands))))
+    let last = at_end (c.loop.invariant.onward c.requires.stands) (omega (arith, c.loop-test.false))
+    in
+    let falls = tail_falls last (ap g.R.Rows.content c.loop.invariant.same) c.head_at-2.ensures.head
+    in
+    let o =
+    opened c.in-Some-head_at.is
+    (tail_stands last (ap g.R.Rows.content c.loop.invariant.same) c.head_at-2.ensures.head
+    (ap g.R.Rows.content c.head_at-2.ensures.same)) in (
+      omega (arith, depth_is c.in-Some-head_at.is, falls, c.decreases),
+      (search rules, (search rules, (c.requires.stands.0, o.chain, o.stands))),
+    )
 
 pub returns-in-Some-head_at-clause-found : goal.returns-in-Some-head_at-clause-found
 returns-in-Some-head_at-clause-found g t c f p s =
     let last = at_end (c.loop.invariant.onward (f, p, s)) (omega (arith, c.loop-test.false)) in
-    let o = opened c.in-Some-head_at.is (tail_stands last (ap g.R.Rows.content c.loop.invariant.same) c.head_at-2.ensures.head (ap g.R.Rows.content c.head_at-2.ensures.same)) in
-    ok_same c.gather_part-in-Some-head_at.result _ _ _ (c.gather_part-in-Some-head_at.ensures.found f o.chain o.stands) (ap (filled None (option_copied c.args.to) c.args.limit c.loop.found.items) o.same ∙ last.holds.holds)
+    let o =
+    opened c.in-Some-head_at.is
+    (tail_stands last (ap g.R.Rows.content c.loop.invariant.same) c.head_at-2.ensures.head
+    (ap g.R.Rows.content c.head_at-2.ensures.same)) in
+    ok_same c.gather_part-in-Some-head_at.result _ _ _
+    (c.gather_part-in-Some-head_at.ensures.found f o.chain o.stands)
+    (ap (filled None (option_copied c.args.to) c.args.limit c.loop.found.items) o.same
+    ∙ last.holds.holds)
 
 pub returns-in-None-clause-found : goal.returns-in-None-clause-found
 returns-in-None-clause-found g t c f p s =
     let last = at_end (c.loop.invariant.onward (f, p, s)) (omega (arith, c.loop-test.false)) in
-    at_none None (option_copied c.args.to) c.args.limit c.loop.found.items last.child c.in-None.is (tail_stands last (ap g.R.Rows.content c.loop.invariant.same) c.head_at-2.ensures.head (ap g.R.Rows.content c.head_at-2.ensures.same)) ∙ last.holds.holds
+    at_none None (option_copied c.args.to) c.args.limit c.loop.found.items last.child c.in-None.is
+    (tail_stands last (ap g.R.Rows.content c.loop.invariant.same) c.head_at-2.ensures.head
+    (ap g.R.Rows.content c.head_at-2.ensures.same)) ∙ last.holds.holds

@@ -18,5 +18,6 @@ invariant-loop g l = record {
   onward : (s : SomePart (g.R.Rows.content l.fn.rows) l.fn.part)
       → Onward s.0 (g.R.Rows.content l.fn.rows) l.part.tail l.link l.counter l.end
       (Rest (option_copied l.to) l.limit s.0 l.part.layer l.found.items
-      (filled None (option_copied l.to) l.limit l.fn.found.items (entries_pairs (entries_of s.0 s.1))));
+      (filled None (option_copied l.to) l.limit l.fn.found.items
+      (entries_pairs (entries_of s.0 s.1))));
 }

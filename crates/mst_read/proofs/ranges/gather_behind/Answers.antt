@@ -9,44 +9,77 @@ use Rattle.mst_read.proofs.ranges.gather_behind.Goals as goal
 
 pub returns-then-part-eq0-clause-found : goal.returns-then-part-eq0-clause-found
 returns-then-part-eq0-clause-found g c f p s =
-    sym (ap (filled None (option_copied c.args.to) c.args.limit c.args.found.now.items) (no_entries s c.if-part-eq0.true)
+    sym (ap (filled None (option_copied c.args.to) c.args.limit c.args.found.now.items)
+    (no_entries s c.if-part-eq0.true)
     ∙ filled-nothing None (option_copied c.args.to) c.args.limit c.args.found.now.items [] tt)
 
 pub returns-then-len-limit-clause-found : goal.returns-then-len-limit-clause-found
-returns-then-len-limit-clause-found g c f p s = sym (filled-full None (option_copied c.args.to) c.args.limit c.args.found.now.items (past_gap f p) (omega (arith, c.if-len-limit.true, c.len.ensures)))
+returns-then-len-limit-clause-found g c f p s =
+    sym (filled-full None (option_copied c.args.to) c.args.limit c.args.found.now.items
+    (past_gap f p) (omega (arith, c.if-len-limit.true, c.len.ensures)))
 
 pub value-requires : goal.value-requires
 value-requires g c =
     let s = c.requires.stands in
     let some : 0 < c.args.part.now.count = omega (arith, c.if-part-eq0.false) in
     let Is : Option (List ℕ) → Type 0 = IsSome in
-    record { there = subst Is (sym (read_still (ap g.R.Rows.content c.entry-entry.ensures.same) entry_value (c.args.part.now.first - 1) (cell_value (own s.2 some c.entry-entry.ensures.value)))) refl }
+    record {
+      there =
+          subst Is (sym (read_still (ap g.R.Rows.content c.entry-entry.ensures.same) entry_value
+          (c.args.part.now.first - 1) (cell_value (own s.2 some c.entry-entry.ensures.value))))
+          refl;
+    }
 
 pub returns-then-not-is_wanted-clause-found : goal.returns-then-not-is_wanted-clause-found
 returns-then-not-is_wanted-clause-found g c f p s =
     let some : 0 < c.args.part.now.count = omega (arith, c.if-part-eq0.false) in
     let ends = c.if-not-is_wanted.ensures.ends refl in
-    ends_there s some c.entry-entry.ensures.value (option_copied c.args.to) c.args.limit c.args.found.now.items (own-ends (option_copied c.args.to) c.args.limit c.args.found.now.items c.entry-entry.result.key (own s some c.entry-entry.ensures.value).value ends) ends
+    ends_there s some c.entry-entry.ensures.value (option_copied c.args.to) c.args.limit
+    c.args.found.now.items
+    (own-ends (option_copied c.args.to) c.args.limit c.args.found.now.items
+    c.entry-entry.result.key (own s some c.entry-entry.ensures.value).value ends) ends
 
 pub returns-then-len-limit-2-clause-found : goal.returns-then-len-limit-2-clause-found
 returns-then-len-limit-2-clause-found g c f p s =
     let some : 0 < c.args.part.now.count = omega (arith, c.if-part-eq0.false) in
     let here = own s some c.entry-entry.ensures.value in
-    let value = read_still (ap g.R.Rows.content c.entry-entry.ensures.same) entry_value (c.args.part.now.first - 1) (cell_value here) in
-    let added = own-pushed (option_copied c.args.to) c.args.limit c.args.found.now.items c.push.new.self.items c.entry-entry.result.key here.value c.value.result _ c.in_ok-push.ensures.items c.value.ensures.value value (c.if-not-is_wanted.ensures.wanted refl) in
-    ends_there s some c.entry-entry.ensures.value (option_copied c.args.to) c.args.limit c.args.found.now.items added (inl (omega (arith, c.if-len-limit-2.true, c.len-2.ensures)))
+    let value = read_still (ap g.R.Rows.content c.entry-entry.ensures.same) entry_value
+    (c.args.part.now.first - 1) (cell_value here) in
+    let added = own-pushed (option_copied c.args.to) c.args.limit c.args.found.now.items
+    c.push.new.self.items c.entry-entry.result.key here.value c.value.result _
+    c.in_ok-push.ensures.items c.value.ensures.value value
+    (c.if-not-is_wanted.ensures.wanted refl) in
+    ends_there s some c.entry-entry.ensures.value (option_copied c.args.to) c.args.limit
+    c.args.found.now.items added (inl (omega (arith, c.if-len-limit-2.true, c.len-2.ensures)))
 
 pub gather_part-requires : goal.gather_part-requires
 gather_part-requires g c =
     let s = c.requires.stands in
     let some : 0 < c.args.part.now.count = omega (arith, c.if-part-eq0.false) in
-    record { stands = (s.0, (own s.2 some c.entry-entry.ensures.value).rest, others_stand s.2 some c.entry-entry.ensures.value (ap g.R.Rows.content (c.value.ensures.same ∙ c.entry-entry.ensures.same)) c.part_of-rest.ensures) }
+    record {
+      stands = (
+        s.0,
+        (own s.2 some c.entry-entry.ensures.value).rest,
+        others_stand s.2 some
+            c.entry-entry.ensures.value
+            (ap g.R.Rows.content (c.value.ensures.same ∙ c.entry-entry.ensures.same))
+            c.part_of-rest.ensures,
+      );
+    }
 
 pub returns-clause-found : goal.returns-clause-found
 returns-clause-found g c f p s =
     let some : 0 < c.args.part.now.count = omega (arith, c.if-part-eq0.false) in
     let here = own s some c.entry-entry.ensures.value in
-    let rest = others_stand s some c.entry-entry.ensures.value (ap g.R.Rows.content (c.value.ensures.same ∙ c.entry-entry.ensures.same)) c.part_of-rest.ensures in
-    let value = read_still (ap g.R.Rows.content c.entry-entry.ensures.same) entry_value (c.args.part.now.first - 1) (cell_value here) in
-    let added = own-pushed (option_copied c.args.to) c.args.limit c.args.found.now.items c.push.new.self.items c.entry-entry.result.key here.value c.value.result _ c.in_ok-push.ensures.items c.value.ensures.value value (c.if-not-is_wanted.ensures.wanted refl) in
-    ok_same c.gather_part.result _ _ _ (c.gather_part.ensures.found f here.rest rest) (both s some c.entry-entry.ensures.value (option_copied c.args.to) c.args.limit c.args.found.now.items added)
+    let rest = others_stand s some c.entry-entry.ensures.value
+    (ap g.R.Rows.content (c.value.ensures.same ∙ c.entry-entry.ensures.same))
+    c.part_of-rest.ensures in
+    let value = read_still (ap g.R.Rows.content c.entry-entry.ensures.same) entry_value
+    (c.args.part.now.first - 1) (cell_value here) in
+    let added = own-pushed (option_copied c.args.to) c.args.limit c.args.found.now.items
+    c.push.new.self.items c.entry-entry.result.key here.value c.value.result _
+    c.in_ok-push.ensures.items c.value.ensures.value value
+    (c.if-not-is_wanted.ensures.wanted refl) in
+    ok_same c.gather_part.result _ _ _ (c.gather_part.ensures.found f here.rest rest)
+    (both s some c.entry-entry.ensures.value (option_copied c.args.to) c.args.limit
+    c.args.found.now.items added)

@@ -10,6 +10,8 @@ use Rattle.mst_read.proofs.ranges.part_from.Given as goal
 abbrev pub invariant-loop-passed : goal.invariant-loop-passed
 invariant-loop-passed g l = record {
   same : l.rows ≡ l.initial.rows;
-  onward : (f : Format) (c : Chain) → LiesBehind f (g.R.Rows.content l.initial.rows) l.initial.head c
-      → Onward f (g.R.Rows.content l.initial.rows) l.head.tail l.link l.passed l.head.count (Cuts l.from c);
+  onward : (f : Format) (c : Chain) → LiesBehind f (g.R.Rows.content l.initial.rows) l.initial.head
+      c
+      → Onward f (g.R.Rows.content l.initial.rows) l.head.tail l.link l.passed l.head.count
+      (Cuts l.from c);
 }

@@ -2,7 +2,8 @@ use Rattle.mst_read.proofs.Descend.{at_link}
 use Rattle.mst_read.proofs.ranges.range.Goals as goal
 
 pub range_below-requires : goal.range_below-requires
-range_below-requires g c = record { stands = (c.requires.stands.0, c.requires.stands.1, at_link c.requires.stands.2) }
+range_below-requires g c =
+    record { stands = (c.requires.stands.0, c.requires.stands.1, at_link c.requires.stands.2) }
 
 pub returns-clause-found : goal.returns-clause-found
 returns-clause-found g c f m s = c.range_below.ensures.found f m (at_link s)

@@ -15,13 +15,23 @@ head_at-top-requires g c = record { lies = there_at c.requires.stands.2 }
 pub gather-requires : goal.gather-requires
 gather-requires g c =
     let s = c.requires.stands in
-    record { stands = (s.0, s.2.tree.placed, stands_still (ap g.R.Rows.content c.head_at-top.ensures.same) (head_stands s.2 c.head_at-top.ensures.head)) }
+    record {
+      stands = (
+        s.0,
+        s.2.tree.placed,
+        stands_still (ap g.R.Rows.content c.head_at-top.ensures.same)
+            (head_stands s.2 c.head_at-top.ensures.head),
+      );
+    }
 
 pub returns-clause-found : goal.returns-clause-found
 returns-clause-found g c f m s =
     let from = option_copied c.args.from in
     let to = option_copied c.args.to in
-    c.in_ok-gather.ensures.found f s.tree.placed (stands_still (ap g.R.Rows.content c.head_at-top.ensures.same) (head_stands s c.head_at-top.ensures.head))
-    ∙ ap (λ (l : List Pair). filled from to c.args.limit l (pairs (tree_of f s.tree.placed))) c.new-found.ensures.items
+    c.in_ok-gather.ensures.found f s.tree.placed
+    (stands_still (ap g.R.Rows.content c.head_at-top.ensures.same)
+    (head_stands s c.head_at-top.ensures.head))
+    ∙ ap (λ (l : List Pair). filled from to c.args.limit l (pairs (tree_of f s.tree.placed)))
+    c.new-found.ensures.items
     ∙ ap (filled from to c.args.limit []) (pairs_at s)
     ∙ filled-span from to c.args.limit m

@@ -4,7 +4,11 @@ use Rattle.mst_report.proofs.Keys.{too_long}
 use Rattle.mst_report.proofs.words.key_in.Goals as goal
 
 pub returns-in_err-bytes : goal.returns-in_err-bytes
-returns-in_err-bytes c = record { key = c.from_residual.ensures ∙ too_long c.args.word.now (omega (arith, c.in_err-bytes.ensures.lookup)) }
+returns-in_err-bytes c =
+    record {
+      key = c.from_residual.ensures ∙ too_long c.args.word.now
+          (omega (arith, c.in_err-bytes.ensures.lookup));
+    }
 
 pub slice_bounds-get_mut-end : goal.slice_bounds-get_mut-end
 slice_bounds-get_mut-end c = search rules

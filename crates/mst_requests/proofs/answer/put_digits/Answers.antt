@@ -10,25 +10,41 @@ pub loop-at-init : goal.loop-at-init
 loop-at-init g c = record {
   within = omega arith;
   failures = refl;
-  puts = puts_none g.W.Sink.takes c.args.sink.now c.args.pending.now (encode_lower (take 0 c.args.bytes.now)) (g.met.W.Sink.takes_none c.args.sink.now) (no_digits c.args.bytes.now);
+  puts = puts_none g.W.Sink.takes c.args.sink.now c.args.pending.now
+      (encode_lower (take 0 c.args.bytes.now)) (g.met.W.Sink.takes_none c.args.sink.now)
+      (no_digits c.args.bytes.now);
 }
 
 pub returns-in_err-put-clause-err : goal.returns-in_err-put-clause-err
-returns-in_err-put-clause-err g c = let at = c.loop-at.at in let bytes = c.args.bytes.now in let takes = g.W.Sink.takes in let n = length c.split_at-in-loop-at.result.0.now in
+returns-in_err-put-clause-err g c = let at = c.loop-at.at in let bytes = c.args.bytes.now in
+    let takes = g.W.Sink.takes in let n = length c.split_at-in-loop-at.result.0.now in
     let is : c.as_slice.result.now ≡ encode_lower (take n (drop at bytes)) = search rules in
-    let broke = puts_breaks takes g.met.W.Sink.takes_more c.args.sink.now c.loop-at.sink c.put.new.sink c.args.pending.now c.loop-at.pending (encode_lower (take at bytes)) c.as_slice.result.now c.loop-at.invariant.puts c.in_err-put.ensures.err in
+    let broke = puts_breaks takes g.met.W.Sink.takes_more c.args.sink.now c.loop-at.sink
+    c.put.new.sink c.args.pending.now c.loop-at.pending (encode_lower (take at bytes))
+    c.as_slice.result.now c.loop-at.invariant.puts c.in_err-put.ensures.err in
     on_err c.from_residual.result
-    (subst (λ (l : List ℕ). Breaks takes c.args.sink.now c.args.pending.now l c.put.new.sink) (sym (digits_parted bytes (at + n)))
-    (breaks_more takes c.args.sink.now c.put.new.sink c.args.pending.now (encode_lower (take (at + n) bytes)) (encode_lower (drop (at + n) bytes))
-    (subst (λ (l : List ℕ). Breaks takes c.args.sink.now c.args.pending.now l c.put.new.sink) (ap (λ (l : List ℕ). encode_lower (take at bytes) ++ l) is ∙ sym (digits_more bytes at n)) broke)))
+    (subst (λ (l : List ℕ). Breaks takes c.args.sink.now c.args.pending.now l c.put.new.sink)
+    (sym (digits_parted bytes (at + n)))
+    (breaks_more takes c.args.sink.now c.put.new.sink c.args.pending.now
+    (encode_lower (take (at + n) bytes)) (encode_lower (drop (at + n) bytes))
+    (subst (λ (l : List ℕ). Breaks takes c.args.sink.now c.args.pending.now l c.put.new.sink)
+    (ap (λ (l : List ℕ). encode_lower (take at bytes) ++ l) is ∙ sym (digits_more bytes at n))
+    broke)))
 
 pub loop-at-preserved : goal.loop-at-preserved
-loop-at-preserved g c = let at = c.loop-at.at in let bytes = c.args.bytes.now in let takes = g.W.Sink.takes in let n = length c.split_at-in-loop-at.result.0.now in
-    let is : c.as_slice.result.now ≡ encode_lower (take n (drop at bytes)) = search rules in record {
+loop-at-preserved g c = let at = c.loop-at.at in let bytes = c.args.bytes.now in let takes =
+    g.W.Sink.takes in let n = length c.split_at-in-loop-at.result.0.now in
+    let is : c.as_slice.result.now ≡ encode_lower (take n (drop at bytes)) =
+    search rules in record {
       within = omega arith;
       failures = c.in_ok-put.ensures.steady ∙ c.loop-at.invariant.failures;
-      puts = subst (λ (l : List ℕ). Puts takes c.args.sink.now c.args.pending.now l c.put.new.sink c.put.new.self) (ap (λ (l : List ℕ). encode_lower (take at bytes) ++ l) is ∙ sym (digits_more bytes at n))
-          (puts_then takes g.met.W.Sink.takes_more c.args.sink.now c.loop-at.sink c.put.new.sink c.args.pending.now c.loop-at.pending c.put.new.self (encode_lower (take at bytes)) c.as_slice.result.now c.loop-at.invariant.puts c.in_ok-put.ensures.ok);
+      puts =
+          subst (λ (l : List ℕ). Puts takes c.args.sink.now c.args.pending.now l c.put.new.sink
+          c.put.new.self) (ap (λ (l : List ℕ). encode_lower (take at bytes) ++ l) is
+          ∙ sym (digits_more bytes at n))
+          (puts_then takes g.met.W.Sink.takes_more c.args.sink.now c.loop-at.sink c.put.new.sink
+          c.args.pending.now c.loop-at.pending c.put.new.self (encode_lower (take at bytes))
+          c.as_slice.result.now c.loop-at.invariant.puts c.in_ok-put.ensures.ok);
     }
 
 pub split_at-requires : goal.split_at-requires

@@ -8,7 +8,8 @@ abbrev pub invariant-loop-at : goal.invariant-loop-at
 invariant-loop-at g l = record {
   within : l.at ≤ length l.bytes;
   failures : g.W.Sink.failures l.sink ≡ g.W.Sink.failures l.fn.sink;
-  puts : Puts g.W.Sink.takes l.fn.sink l.fn.pending (encode_lower (take l.at l.bytes)) l.sink l.pending;
+  puts : Puts g.W.Sink.takes l.fn.sink l.fn.pending (encode_lower (take l.at l.bytes)) l.sink
+      l.pending;
 }
 
 abbrev pub decreases-loop-at : goal.decreases-loop-at

@@ -10,7 +10,9 @@ returns-then-number-from c =
     let next = c.loop-digit.number * 10 + c.from.result in
     let is : next ≡ c.loop-digit.number * 10 + (get_or digits i 0 - 48) = search rules in
     let is_digit : is_ascii_digit (get_or digits i 0) ≡ true = search rules in
-    sym (c.loop-digit.invariant.same ∙ one_digit c.args.most c.loop-digit.number next i digits c.loop-digit-test.true is_digit is ∙ too_much c.args.most next (drop (i + 1) digits) (omega arith))
+    sym (c.loop-digit.invariant.same ∙ one_digit c.args.most c.loop-digit.number next i digits
+    c.loop-digit-test.true is_digit is ∙ too_much c.args.most next (drop (i + 1) digits)
+    (omega arith))
 
 pub loop-digit-preserved : goal.loop-digit-preserved
 loop-digit-preserved c =
@@ -19,7 +21,8 @@ loop-digit-preserved c =
     let is : next ≡ c.loop-digit.number * 10 + (get_or digits i 0 - 48) = search rules in
     let is_digit : is_ascii_digit (get_or digits i 0) ≡ true = search rules in record {
       small = omega arith;
-      same = c.loop-digit.invariant.same ∙ one_digit c.args.most c.loop-digit.number next i digits c.loop-digit-test.true is_digit is;
+      same = c.loop-digit.invariant.same ∙ one_digit c.args.most c.loop-digit.number next i digits
+          c.loop-digit-test.true is_digit is;
     }
 
 pub loop-digit-init : goal.loop-digit-init

@@ -12,8 +12,10 @@ pub returns-in-Err : goal.returns-in-Err
 returns-in-Err g c = let p = c.args.pass.now in let q = c.range.new.self in
     let from = option_copied c.args.from in let to = option_copied c.args.to in
     let found = λ (m : List Pair). map_range m from to c.args.limit in
-    asked (Range from to c.args.limit) (Range from to c.args.limit) p q (line_of (codes "memory")) refl
-    (missed (λ _ m. line_of (count_words (found m)) ++ pair_lines (found m)) (line_of (codes "memory")) p q c.in-Err.ensures.memory refl)
+    asked (Range from to c.args.limit) (Range from to c.args.limit) p q (line_of (codes "memory"))
+    refl
+    (missed (λ _ m. line_of (count_words (found m)) ++ pair_lines (found m))
+    (line_of (codes "memory")) p q c.in-Err.ensures.memory refl)
 
 pub returns-in-Ok : goal.returns-in-Ok
 returns-in-Ok g c = search rules

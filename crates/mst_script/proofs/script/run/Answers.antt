@@ -61,10 +61,12 @@ returns-in-Err-with_capacity-clause-ok g c = search rules
 pub returns-in-Err-with_capacity-clause-ended : goal.returns-in-Err-with_capacity-clause-ended
 returns-in-Err-with_capacity-clause-ended g c = search rules
 
-pub returns-in-Err-with_capacity-clause-steady_source : goal.returns-in-Err-with_capacity-clause-steady_source
+pub returns-in-Err-with_capacity-clause-steady_source :
+    goal.returns-in-Err-with_capacity-clause-steady_source
 returns-in-Err-with_capacity-clause-steady_source g c = search rules
 
-pub returns-in-Err-with_capacity-clause-steady_sink : goal.returns-in-Err-with_capacity-clause-steady_sink
+pub returns-in-Err-with_capacity-clause-steady_sink :
+    goal.returns-in-Err-with_capacity-clause-steady_sink
 returns-in-Err-with_capacity-clause-steady_sink g c = search rules
 
 pub returns-in-Err-with_capacity-clause-stopped : goal.returns-in-Err-with_capacity-clause-stopped
@@ -85,19 +87,23 @@ new-all-requires-clause-room g c = search rules
 pub same-reader : goal.same-reader
 same-reader g c = search rules
 
-pub settle_and_drive-driven-requires-clause-source : goal.settle_and_drive-driven-requires-clause-source
+pub settle_and_drive-driven-requires-clause-source :
+    goal.settle_and_drive-driven-requires-clause-source
 settle_and_drive-driven-requires-clause-source g c = search rules
 
 pub settle_and_drive-driven-requires-clause-sink : goal.settle_and_drive-driven-requires-clause-sink
 settle_and_drive-driven-requires-clause-sink g c = search rules
 
-pub settle_and_drive-driven-requires-clause-pending : goal.settle_and_drive-driven-requires-clause-pending
+pub settle_and_drive-driven-requires-clause-pending :
+    goal.settle_and_drive-driven-requires-clause-pending
 settle_and_drive-driven-requires-clause-pending g c = search rules
 
-pub settle_and_drive-driven-requires-clause-reader : goal.settle_and_drive-driven-requires-clause-reader
+pub settle_and_drive-driven-requires-clause-reader :
+    goal.settle_and_drive-driven-requires-clause-reader
 settle_and_drive-driven-requires-clause-reader g c = search rules
 
-pub settle_and_drive-driven-requires-clause-whole : goal.settle_and_drive-driven-requires-clause-whole
+pub settle_and_drive-driven-requires-clause-whole :
+    goal.settle_and_drive-driven-requires-clause-whole
 settle_and_drive-driven-requires-clause-whole g c = search rules
 
 pub settle_and_drive-driven-requires-clause-free : goal.settle_and_drive-driven-requires-clause-free

@@ -4,7 +4,11 @@ use Rattle.mst_script.proofs.Serving.{line_served}
 use Rattle.mst_script.proofs.serve.serve.Goals as goal
 
 pub settle-requires : goal.settle-requires
-settle-requires g c = record { whole = all_passes c.args.store.now c.answer-answer.new.passes c.answer-answer.ensures.whole }
+settle-requires g c =
+    record {
+      whole = all_passes c.args.store.now c.answer-answer.new.passes
+          c.answer-answer.ensures.whole;
+    }
 
 pub returns-clause-whole : goal.returns-clause-whole
 returns-clause-whole g c = search (rules, all_settled)

@@ -12,7 +12,9 @@ returns-clause-one c rows format m change not = omega (arith, not)
 
 pub returns-clause-first_put : goal.returns-clause-first_put
 unfolding tree tree_within
-returns-clause-first_put c format k v = let two = ap (λ (t : Tree). new_rows empty t) (lone_tree format k v) in (omega (arith, two), omega (arith, two))
+returns-clause-first_put c format k v = let two =
+    ap (λ (t : Tree). new_rows empty t) (lone_tree format k v) in
+    (omega (arith, two), omega (arith, two))
 
 pub returns-clause-no_remove : goal.returns-clause-no_remove
 unfolding tree tree_within

@@ -10,4 +10,5 @@ returns-then-eq-clause-made g c =
     stays_made c.args.turn.now c.args.seat.now c.requires.turn c.args.to same c.requires.open
 
 pub move_tree-moved-requires-clause-turn : goal.move_tree-moved-requires-clause-turn
-move_tree-moved-requires-clause-turn g c = subst (λ (z : Seated). HasTurn c.args.turn.now z.me) (sym c.tree_in.ensures.same) c.requires.turn
+move_tree-moved-requires-clause-turn g c = subst (λ (z : Seated). HasTurn c.args.turn.now z.me)
+    (sym c.tree_in.ensures.same) c.requires.turn

@@ -9,5 +9,6 @@ invariant-loop-pass g l = record {
   same : l.line ≡ l.fn.line;
   table : l.courier.table ≡ l.fn.courier.table;
   courier : GoesOn l.fn.courier.me l.courier.me;
-  later : (k : ℕ) (d : Known) → k < l.pass-index → IsPrefix (get_or l.fn.line k d).seen l.courier.me.0.seen;
+  later : (k : ℕ) (d : Known) → k < l.pass-index → IsPrefix (get_or l.fn.line k d).seen
+      l.courier.me.0.seen;
 }

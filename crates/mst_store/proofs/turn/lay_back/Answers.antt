@@ -6,7 +6,16 @@ use Rattle.mst_store.specs.Turns.{Seat}
 use Rattle.mst_store.proofs.turn.lay_back.Goals as goal
 
 pub give_turn-requires : goal.give_turn-requires
-give_turn-requires g c = record { giving = (Some c.args.desk, desk_state c.args.desk, subst (λ (z : Seat). IsGiving (stored z.0.format) (Some c.args.desk) (desk_state c.args.desk) z) (sym c.return_desk.ensures.returned) c.requires.giving) }
+give_turn-requires g c =
+    record {
+      giving = (
+        Some c.args.desk,
+        desk_state c.args.desk,
+        subst (λ (z : Seat). IsGiving (stored z.0.format) (Some c.args.desk)
+            (desk_state c.args.desk) z)
+            (sym c.return_desk.ensures.returned) c.requires.giving,
+      );
+    }
 
 pub return_desk-requires : goal.return_desk-requires
 return_desk-requires g c = search rules

@@ -7,7 +7,12 @@ use Rattle.mst_store.proofs.Made.{map_stands, same_seat, key_aged, change_made}
 use Rattle.mst_store.proofs.writing.make_put.Goals as goal
 
 pub put-requires : goal.put-requires
-put-requires g c = record { stands = map_stands c.args.turn.now c.args.seat.now.me c.requires.turn; free = c.requires.turn.blank }
+put-requires g c =
+    record {
+      stands = map_stands c.args.turn.now c.args.seat.now.me c.requires.turn;
+      free =
+          c.requires.turn.blank;
+    }
 
 pub returns-clause-same : goal.returns-clause-same
 returns-clause-same g c = same_seat c.args.seat.now c.put.new.rows c.put.ensures.kept
@@ -26,4 +31,5 @@ returns-clause-made g c =
     change_made t s z h c.in-Ok.root (had c.in-Ok.old) d change done.kept c.requires.open
     (done.stands m h.stands) (λ n stands. done.changes m n h.stands stands)
     (ap (λ (o : Option (List ℕ)). had o) (done.value m h.stands)) (done.cost m h.stands)
-    (λ stands. key_aged t s.me h (content_of z.me.0) c.in-Ok.root d n stands (done.changes m n h.stands stands) done.written (done.made n stands) (done.cost m h.stands))
+    (λ stands. key_aged t s.me h (content_of z.me.0) c.in-Ok.root d n stands
+    (done.changes m n h.stands stands) done.written (done.made n stands) (done.cost m h.stands))

@@ -15,24 +15,40 @@ use Rattle.mst_store.proofs.writing.write.Goals as goal
 
 pub publish-requires : goal.publish-requires
 publish-requires g c = record {
-  made = subst (λ (e : Event). HasMade c.make.new.turn c.in-Ok-make.root c.in-Ok.turn.format e c.make.new.seat.me)
-      (own_event c.args.seat.now.me c.begin_write.new.seat.me c.args.event.now (c.requires.mine ∙ sym c.requires.free.3) (ap (λ (v : View). v.number) c.in-Ok.ensures.begun.rest)) (subst (λ (f : Format). HasMade c.make.new.turn c.in-Ok-make.root f (made_at_seat c.begin_write.new.seat.me c.args.event.now.change) c.make.new.seat.me) (format_kept c.in-Ok.turn.format c.args.event.now.change c.requires.keyed) c.in-Ok-make.ensures.made.has);
+  made =
+      subst (λ (e : Event). HasMade c.make.new.turn c.in-Ok-make.root c.in-Ok.turn.format e
+      c.make.new.seat.me)
+      (own_event c.args.seat.now.me c.begin_write.new.seat.me c.args.event.now
+      (c.requires.mine ∙ sym c.requires.free.3)
+      (ap (λ (v : View). v.number) c.in-Ok.ensures.begun.rest))
+      (subst (λ (f : Format). HasMade c.make.new.turn c.in-Ok-make.root f
+      (made_at_seat c.begin_write.new.seat.me c.args.event.now.change) c.make.new.seat.me)
+      (format_kept c.in-Ok.turn.format c.args.event.now.change c.requires.keyed)
+      c.in-Ok-make.ensures.made.has);
 }
 
 pub give_back-requires : goal.give_back-requires
 give_back-requires g c = let same = c.in-Err.ensures.untouched in record {
-  holds = subst (λ (t : Turn g.row.A.Denot). HoldsDesk t c.make.new.seat.me) (sym same.0) (subst (λ (z : Seated). HoldsDesk c.in-Ok.turn z.me) (sym same.1) c.in-Ok.ensures.begun.has.holds);
-  settled = subst (λ (t : Turn g.row.A.Denot). IsSettled t.desk) (sym same.0) c.in-Ok.ensures.begun.has.settled;
+  holds = subst (λ (t : Turn g.row.A.Denot). HoldsDesk t c.make.new.seat.me) (sym same.0)
+      (subst (λ (z : Seated). HoldsDesk c.in-Ok.turn z.me) (sym same.1)
+      c.in-Ok.ensures.begun.has.holds);
+  settled = subst (λ (t : Turn g.row.A.Denot). IsSettled t.desk) (sym same.0)
+      c.in-Ok.ensures.begun.has.settled;
 }
 
 pub returns-in-Ok-make-clause-wrote : goal.returns-in-Ok-make-clause-wrote
 returns-in-Ok-make-clause-wrote g c =
-    wrote c.args.seat.now.me c.begin_write.new.seat.me c.in-Ok.turn c.in-Ok.ensures.begun c.args.event.now c.in-Ok-make.root (had c.in-Ok-make.old) c.make.new.turn c.make.new.seat.me c.publish.new.seat.me
-    c.in-Ok-make.ensures.made c.publish.ensures.added c.in-Ok.ensures.room (c.requires.mine ∙ sym c.requires.free.3)
+    wrote c.args.seat.now.me c.begin_write.new.seat.me c.in-Ok.turn c.in-Ok.ensures.begun
+    c.args.event.now c.in-Ok-make.root (had c.in-Ok-make.old) c.make.new.turn c.make.new.seat.me
+    c.publish.new.seat.me
+    c.in-Ok-make.ensures.made c.publish.ensures.added c.in-Ok.ensures.room
+    (c.requires.mine ∙ sym c.requires.free.3)
 
 pub returns-in-Err-clause-refused : goal.returns-in-Err-clause-refused
 returns-in-Err-clause-refused g c =
-    refused c.args.seat.now.me c.begin_write.new.seat.me c.in-Ok.turn c.in-Ok.ensures.begun c.make.new.seat.me c.give_back.new.seat.me (ap (λ (z : Seated). z.me) c.in-Err.ensures.untouched.1) c.give_back.ensures.gave
+    refused c.args.seat.now.me c.begin_write.new.seat.me c.in-Ok.turn c.in-Ok.ensures.begun
+    c.make.new.seat.me c.give_back.new.seat.me
+    (ap (λ (z : Seated). z.me) c.in-Err.ensures.untouched.1) c.give_back.ensures.gave
     c.args.event.now.change c.in-Ok.ensures.room c.in-Err.ensures.lacks
 
 pub begin_write-requires-clause-free : goal.begin_write-requires-clause-free

@@ -4,4 +4,9 @@ use Rattle.mst_store.proofs.AllPasses.{all_new}
 use Rattle.mst_store_tests.proofs.memory.passes_settle_over_a_full_heap.Goals as goal
 
 pub each_gets_what_all_put-requires : goal.each_gets_what_all_put-requires
-each_gets_what_all_put-requires g c = record { whole = subst AreAllPasses (sym (c.deref_mut.ensures.value ∙ c.dealt-passes.ensures.passes)) (all_new c.opened-store.result.0) }
+each_gets_what_all_put-requires g c =
+    record {
+      whole =
+          subst AreAllPasses (sym (c.deref_mut.ensures.value ∙ c.dealt-passes.ensures.passes))
+          (all_new c.opened-store.result.0);
+    }

@@ -8,8 +8,14 @@ use Rattle.mst_words.specs.Steps.{Takes}
 use Rattle.mst_store_tests.proofs.table.one_pass_has_the_turn.Goals as goal
 
 -- the slot of whoever took the turn has the desk
-has_desk : (f : Format) (m m' : Me (Option State) View) → Takes (stored f) m m' → (d : State) × (m'.1 ≡ (0, Some d) ∷ [])
-has_desk f m m' t = (state_of t.desk, ap (λ (n : Me (Option State) View). n.1) t.is ∙ ap (λ (x : Option State). (0, x) ∷ []) t.is_desk.there)
+has_desk : (f : Format) (m m' : Me (Option State) View) → Takes (stored f) m m' → (d : State)
+    × (m'.1 ≡ (0, Some d) ∷ [])
+has_desk f m m' t = (
+  state_of t.desk,
+  ap (λ (n : Me (Option State) View). n.1) t.is
+      ∙ ap (λ (x : Option State). (0, x) ∷ []) t.is_desk.there,
+)
 
 pub take_desk-desk-requires : goal.take_desk-desk-requires
-take_desk-desk-requires g c = record { holds = has_desk _ _ _ (c.take_turn.ensures.taken (search rules)) }
+take_desk-desk-requires g c =
+    record { holds = has_desk _ _ _ (c.take_turn.ensures.taken (search rules)) }

@@ -4,4 +4,5 @@ use Rattle.mst_node.proofs.TreeEquation.{tree-no_pairs}
 use Rattle.mst_tree_tests.proofs.proving.collided_with_none.Goals as goal
 
 pub collide_in-requires : goal.collide_in-requires
-collide_in-requires c = record { map = ([], IsMap-nil, omega arith, sym (tree-no_pairs c.args.format [] refl)) }
+collide_in-requires c =
+    record { map = ([], IsMap-nil, omega arith, sym (tree-no_pairs c.args.format [] refl)) }

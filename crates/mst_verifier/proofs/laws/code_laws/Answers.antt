@@ -12,13 +12,17 @@ pub returns-clause-apart : goal.returns-clause-apart
 returns-clause-apart c = apart
 
 pub returns-clause-grammar : goal.returns-clause-grammar
-returns-clause-grammar c = λ format d text upper low high fault e fails. grammar format d text upper low high fault e fails
+returns-clause-grammar c = λ format d text upper low high fault e fails. grammar format d text upper
+    low high fault e fails
 
 pub returns-clause-digest : goal.returns-clause-digest
-returns-clause-digest c = λ format d text upper low high fault e fails. digest format d text upper low high fault e fails
+returns-clause-digest c = λ format d text upper low high fault e fails. digest format d text upper
+    low high fault e fails
 
 pub returns-clause-layer : goal.returns-clause-layer
-returns-clause-layer c = λ format d text upper low high fault e fails. layer format d text upper low high fault e fails
+returns-clause-layer c = λ format d text upper low high fault e fails. layer format d text upper low
+    high fault e fails
 
 pub returns-clause-keys : goal.returns-clause-keys
-returns-clause-keys c = λ format d text upper low high fault e fails. keys format d text upper low high fault e fails
+returns-clause-keys c = λ format d text upper low high fault e fails. keys format d text upper low
+    high fault e fails

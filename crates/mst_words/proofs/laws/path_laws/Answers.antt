@@ -9,7 +9,8 @@ pub returns-clause-can : goal.returns-clause-can
 returns-clause-can c z s a deed id i me at may small = can z s a id me at deed i may small
 
 pub returns-clause-can_publish : goal.returns-clause-can_publish
-returns-clause-can_publish c z s a id into me e d used at ready small = can_publish z s a id me at into e d used ready small
+returns-clause-can_publish c z s a id into me e d used at ready small =
+    can_publish z s a id me at into e d used ready small
 
 pub returns-clause-deed : goal.returns-clause-deed
 returns-clause-deed c = goes_on

@@ -10,18 +10,25 @@ use Rattle.mst_words.proofs.words.first_words.Goals as goal
 pub returns-clause-digest : goal.returns-clause-digest
 returns-clause-digest g c =
     let four : List ℕ = c.empty_digest_words.result in
-    let long : length c.in_ok-words.words.items ≡ table_words c.args.shape.rows = ap (λ (l : List ℕ). length l) c.in_ok-words.ensures.ok ∙ length-replicate _ _ ∙ c.table_words.ensures.count in
+    let long : length c.in_ok-words.words.items ≡ table_words c.args.shape.rows =
+    ap (λ (l : List ℕ). length l) c.in_ok-words.ensures.ok ∙ length-replicate _ _
+    ∙ c.table_words.ensures.count in
     let same = length-set c.in_ok-words.words.items 42 c.format_number-number.result in
-    four_set (set c.in_ok-words.words.items 42 c.format_number-number.result) (get_or four 0 0) (get_or four 1 0) (get_or four 2 0) (get_or four 3 0) (omega (arith, long, same))
+    four_set (set c.in_ok-words.words.items 42 c.format_number-number.result) (get_or four 0 0)
+    (get_or four 1 0) (get_or four 2 0) (get_or four 3 0) (omega (arith, long, same))
     ∙ ap bytes_in (four_of four (omega (arith, c.empty_digest_words.type_inv)))
     ∙ c.empty_digest_words.ensures.bytes
 
 pub returns-clause-format : goal.returns-clause-format
 returns-clause-format g c =
     let four : List ℕ = c.empty_digest_words.result in
-    let long : length c.in_ok-words.words.items ≡ table_words c.args.shape.rows = ap (λ (l : List ℕ). length l) c.in_ok-words.ensures.ok ∙ length-replicate _ _ ∙ c.table_words.ensures.count in
-    behind_four (set c.in_ok-words.words.items 42 c.format_number-number.result) (get_or four 0 0) (get_or four 1 0) (get_or four 2 0) (get_or four 3 0)
-    ∙ get_or-set_same c.in_ok-words.words.items 42 c.format_number-number.result 0 (omega (arith, long))
+    let long : length c.in_ok-words.words.items ≡ table_words c.args.shape.rows =
+    ap (λ (l : List ℕ). length l) c.in_ok-words.ensures.ok ∙ length-replicate _ _
+    ∙ c.table_words.ensures.count in
+    behind_four (set c.in_ok-words.words.items 42 c.format_number-number.result) (get_or four 0 0)
+    (get_or four 1 0) (get_or four 2 0) (get_or four 3 0)
+    ∙ get_or-set_same c.in_ok-words.words.items 42 c.format_number-number.result 0
+    (omega (arith, long))
     ∙ c.format_number-number.ensures.number
 
 pub bounds-empty_digest_words-0 : goal.bounds-empty_digest_words-0

@@ -7,17 +7,19 @@ use Rattle.mst_arena.proofs.row.Row.read.Goals.{else-is_within_limits-via-then-i
 
 pub returns-in_err-row-clause-none : goal.returns-in_err-row-clause-none
 returns-in_err-row-clause-none c =
-    let none : None ≡ row_in c.args.words.now = none_found c.args.words.now c.candidate.result c.candidate.ensures.exact (λ row e is same. search rules) in
+    let none : None ≡ row_in c.args.words.now = none_found c.args.words.now c.candidate.result
+    c.candidate.ensures.exact (λ row e is same. search rules) in
     rw c.from_residual.ensures (no_row c.args.words.now none)
 
 pub returns-then-eq-clause-row : goal.returns-then-eq-clause-row
 returns-then-eq-clause-row c = search rules
 
 none_else : (c : goal.Joined-else-is_within_limits) → None ≡ row_in c.args.words.now
-none_else c = none_found c.args.words.now c.candidate.result c.candidate.ensures.exact (λ row e is same. elim c.else-is_within_limits.branch [
-  | else-is_within_limits-via-then-is_within_limits+else-eq w ↦ search rules
-  | else-is_within_limits-via-else-is_within_limits w ↦ search rules
-])
+none_else c = none_found c.args.words.now c.candidate.result c.candidate.ensures.exact
+    (λ row e is same. elim c.else-is_within_limits.branch [
+      | else-is_within_limits-via-then-is_within_limits+else-eq w ↦ search rules
+      | else-is_within_limits-via-else-is_within_limits w ↦ search rules
+    ])
 
 pub returns-else-is_within_limits-clause-none : goal.returns-else-is_within_limits-clause-none
 returns-else-is_within_limits-clause-none c = no_row c.args.words.now (none_else c)

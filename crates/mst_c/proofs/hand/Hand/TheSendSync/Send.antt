@@ -18,10 +18,12 @@ use Rattle.mst_c.specs.contracts.hand.Hand.{the_row, the_type}
 
 owned : (a : Global) (p : Ptr) (h : HeldNow) → Keyless (hand_owns a p h)
 owned a p None = tt
-owned a p (Some x) = (lies Held.the_row held p x, heap.frees.frees a (raw (lone Held.the_row.mir)) p)
+owned a p (Some x) =
+    (lies Held.the_row held p x, heap.frees.frees a (raw (lone Held.the_row.mir)) p)
 
 pub send : IsSend the_row
 send =
     let all : AllSend (fields the_type) = (search sendable, (handle.the_field_send, tt)) in
     owning_send the_type all (λ d. owned d.alloc d.ptr d.held)
-    (λ k. quiet (to the_type) (exits_of k (fields the_type)) ((struct_send (shape the_type) all).leaving k))
+    (λ k. quiet (to the_type) (exits_of k (fields the_type))
+    ((struct_send (shape the_type) all).leaving k))

@@ -6,4 +6,5 @@ pub returns-clause-fresh : goal.returns-clause-fresh
 returns-clause-fresh g c = search rules
 
 pub returns-clause-whole : goal.returns-clause-whole
-returns-clause-whole g c = λ xs given last known few gave none. all_given xs given _ last refl known few gave none
+returns-clause-whole g c = λ xs given last known few gave none. all_given xs given _ last refl known
+    few gave none

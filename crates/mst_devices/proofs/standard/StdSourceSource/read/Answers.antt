@@ -45,13 +45,30 @@ returns-in-Ok-eq0-clause-failed g c = search rules
 
 pub returns-in-Ok-clause-ok : goal.returns-in-Ok-clause-ok
 returns-in-Ok-clause-ok g c =
-    let now : Counted = record { left = c.self.inside.left; has_ended = c.self.inside.has_ended; failures = c.self.inside.failures; known = g.R.Read.remaining c.self.inside.input } in
-    let then : Counted = record { left = c.self.inside.left - c.in-Ok.count; has_ended = c.self.inside.has_ended; failures = c.self.inside.failures; known = g.R.Read.remaining c.read.new.self } in
+    let now : Counted =
+    record {
+      left = c.self.inside.left;
+      has_ended = c.self.inside.has_ended;
+      failures =
+          c.self.inside.failures;
+      known = g.R.Read.remaining c.self.inside.input;
+    } in
+    let then : Counted =
+    record {
+      left = c.self.inside.left - c.in-Ok.count;
+      has_ended = c.self.inside.has_ended;
+      failures = c.self.inside.failures;
+      known = g.R.Read.remaining c.read.new.self;
+    } in
     let is : now ≡ c.args.self.now = c.self.view_is in
-    subst (λ (s : Counted). Gave GaveKnown left_of s (c.read.new.buf ++ drop c.most-most.result c.args.buffer.now) c.in-Ok.count then) is
-    (read_some now then c.read.new.buf (drop c.most-most.result c.args.buffer.now) (length c.args.buffer.now) c.most-most.result c.in-Ok.count
-    (c.most-most.ensures ∙ ap (λ (s : Counted). min (left_of s) (length c.args.buffer.now)) (sym is))
-    (omega (arith, c.if-most-eq0.false)) (omega (arith, c.in-Ok.count-test.1)) (search rules) (grind (arith, common_steps)) refl refl (search rules))
+    subst (λ (s : Counted). Gave GaveKnown left_of s
+    (c.read.new.buf ++ drop c.most-most.result c.args.buffer.now) c.in-Ok.count then) is
+    (read_some now then c.read.new.buf (drop c.most-most.result c.args.buffer.now)
+    (length c.args.buffer.now) c.most-most.result c.in-Ok.count
+    (c.most-most.ensures ∙ ap (λ (s : Counted). min (left_of s) (length c.args.buffer.now))
+    (sym is))
+    (omega (arith, c.if-most-eq0.false)) (omega (arith, c.in-Ok.count-test.1)) (search rules)
+    (grind (arith, common_steps)) refl refl (search rules))
 
 pub returns-in-Ok-clause-steady : goal.returns-in-Ok-clause-steady
 returns-in-Ok-clause-steady g c = search rules

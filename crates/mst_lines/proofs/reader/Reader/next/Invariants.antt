@@ -8,8 +8,10 @@ invariant-loop-pending g l = record {
   source_failures : g.S.Source.failures l.source ≡ g.S.Source.failures l.fn.source;
   sink_failures : g.W.Sink.failures l.sink ≡ g.W.Sink.failures l.fn.sink;
   fewer : length l.self + g.S.Source.left l.source ≤ length l.fn.self + g.S.Source.left l.fn.source;
-  order : (l.source ≡ l.fn.source) ⊎ (g.W.Sink.takes l.fn.sink l.fn.pending l.sink × (l.pending ≡ []));
-  read : Goes g.S.Source.gives g.W.Sink.takes l.fn.self l.fn.source l.fn.sink l.fn.pending l.line l.self l.source l.sink l.pending;
+  order : (l.source ≡ l.fn.source)
+      ⊎ (g.W.Sink.takes l.fn.sink l.fn.pending l.sink × (l.pending ≡ []));
+  read : Goes g.S.Source.gives g.W.Sink.takes l.fn.self l.fn.source l.fn.sink l.fn.pending l.line
+      l.self l.source l.sink l.pending;
 }
 
 abbrev pub decreases-loop-pending : goal.decreases-loop-pending

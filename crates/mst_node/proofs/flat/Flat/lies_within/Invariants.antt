@@ -8,4 +8,6 @@ use Rattle.mst_node.proofs.flat.Flat.lies_within.Given as goal
 
 -- the entries to come are read from the rest, and all keys lie in the span where theirs do
 abbrev pub invariant-loop : goal.invariant-loop
-invariant-loop l = (p : List FlatEntry × List ℕ) × (entries_at l.self-inside.format (l.end - l.counter) l.rest ≡ Some p) × (LiesWithin l.span l.self ↔ AllByRecursion (λ e. IsBetween l.span.low l.span.high e.key) p.0)
+invariant-loop l = (p : List FlatEntry × List ℕ)
+    × (entries_at l.self-inside.format (l.end - l.counter) l.rest ≡ Some p)
+    × (LiesWithin l.span l.self ↔ AllByRecursion (λ e. IsBetween l.span.low l.span.high e.key) p.0)

@@ -17,40 +17,70 @@ loop-init c =
     let p = parts c.self.inside.format f.count f.body.now c.self.invariant in
     let all : f.count ≡ f.count - 0 = omega arith in
     let k = c.args.key.now in
-    let s = c.args.span in
-    ((b.0, p.rest), ap (λ (n : ℕ). entries_at c.self.inside.format n f.body.now) (sym all) ∙ p.entries, subst (λ (n : FlatNode). place_among k s.low s.high b.0 n.tail ≡ place_of k s n) c.self.view_is refl)
+    let s = c.args.span in (
+      (b.0, p.rest),
+      ap (λ (n : ℕ). entries_at c.self.inside.format n f.body.now) (sym all)
+          ∙ p.entries,
+      subst (λ (n : FlatNode). place_among k s.low s.high b.0 n.tail ≡ place_of k s n)
+          c.self.view_is refl,
+    )
 
 pub unreachable-requires : goal.unreachable-requires
-unreachable-requires c = entries-first c.self.inside.format (c.self.inside.count - c.loop.counter) c.loop.rest.now c.loop.invariant.0 c.loop.invariant.1 (omega arith) c.in_default.ensures.reading
+unreachable-requires c = entries-first c.self.inside.format (c.self.inside.count - c.loop.counter)
+    c.loop.rest.now c.loop.invariant.0 c.loop.invariant.1 (omega arith) c.in_default.ensures.reading
 
 pub returns-in-Less : goal.returns-in-Less
 returns-in-Less c =
     let e = seen c.in-Some.entry in
-    let step = entries-step c.self.inside.format (c.self.inside.count - c.loop.counter) (c.self.inside.count - (c.loop.counter + 1)) c.loop.rest.now c.loop.invariant.0 (e, c.in-Some.after.now) c.loop.invariant.1 (omega arith) c.in-Some.ensures.reading in
+    let step = entries-step c.self.inside.format (c.self.inside.count - c.loop.counter)
+    (c.self.inside.count - (c.loop.counter + 1)) c.loop.rest.now c.loop.invariant.0
+    (e, c.in-Some.after.now) c.loop.invariant.1 (omega arith) c.in-Some.ensures.reading in
     let at = c.in-Ok-Ok.at in
-    let child = ap (λ (d : Option (List ℕ)). Gap d (record { low = c.loop.low; high = Some at })) c.copied-child.ensures in
-    record { place = child ∙ place_step c.args.key.now c.loop.low c.args.span.high c.loop.invariant.0.0 step.0 e c.args.self.now.tail at _ _ step.1 c.in-Ok-Ok.ensures.ok c.in-Less.ensures c.loop.invariant.2 }
+    let child = ap (λ (d : Option (List ℕ)). Gap d (record { low = c.loop.low; high = Some at }))
+    c.copied-child.ensures in
+    record {
+      place = child ∙ place_step c.args.key.now c.loop.low c.args.span.high
+          c.loop.invariant.0.0 step.0 e c.args.self.now.tail at _ _ step.1 c.in-Ok-Ok.ensures.ok
+          c.in-Less.ensures c.loop.invariant.2;
+    }
 
 pub returns-in-Equal : goal.returns-in-Equal
 returns-in-Equal c =
     let e = seen c.in-Some.entry in
-    let step = entries-step c.self.inside.format (c.self.inside.count - c.loop.counter) (c.self.inside.count - (c.loop.counter + 1)) c.loop.rest.now c.loop.invariant.0 (e, c.in-Some.after.now) c.loop.invariant.1 (omega arith) c.in-Some.ensures.reading in
-    record { place = ap Held c.in-Ok-Ok.ensures'.ok ∙ place_step c.args.key.now c.loop.low c.args.span.high c.loop.invariant.0.0 step.0 e c.args.self.now.tail c.in-Ok-Ok.at _ _ step.1 c.in-Ok-Ok.ensures.ok c.in-Equal.ensures c.loop.invariant.2 }
+    let step = entries-step c.self.inside.format (c.self.inside.count - c.loop.counter)
+    (c.self.inside.count - (c.loop.counter + 1)) c.loop.rest.now c.loop.invariant.0
+    (e, c.in-Some.after.now) c.loop.invariant.1 (omega arith) c.in-Some.ensures.reading in
+    record {
+      place = ap Held c.in-Ok-Ok.ensures'.ok ∙ place_step c.args.key.now c.loop.low
+          c.args.span.high c.loop.invariant.0.0 step.0 e c.args.self.now.tail c.in-Ok-Ok.at _ _
+          step.1
+          c.in-Ok-Ok.ensures.ok c.in-Equal.ensures c.loop.invariant.2;
+    }
 
 pub loop-preserved : goal.loop-preserved
 loop-preserved c =
     let e = seen c.in-Some.entry in
-    let step = entries-step c.self.inside.format (c.self.inside.count - c.loop.counter) (c.self.inside.count - (c.loop.counter + 1)) c.loop.rest.now c.loop.invariant.0 (e, c.in-Some.after.now) c.loop.invariant.1 (omega arith) c.in-Some.ensures.reading in
-    ((step.0, c.loop.invariant.0.1), step.2, place_step c.args.key.now c.loop.low c.args.span.high c.loop.invariant.0.0 step.0 e c.args.self.now.tail c.in-Ok-Ok.at _ _ step.1 c.in-Ok-Ok.ensures.ok c.in-Greater.ensures c.loop.invariant.2)
+    let step = entries-step c.self.inside.format (c.self.inside.count - c.loop.counter)
+    (c.self.inside.count - (c.loop.counter + 1)) c.loop.rest.now c.loop.invariant.0
+    (e, c.in-Some.after.now) c.loop.invariant.1 (omega arith) c.in-Some.ensures.reading in (
+      (step.0, c.loop.invariant.0.1),
+      step.2,
+      place_step c.args.key.now c.loop.low c.args.span.high
+          c.loop.invariant.0.0 step.0 e c.args.self.now.tail c.in-Ok-Ok.at _ _ step.1
+          c.in-Ok-Ok.ensures.ok c.in-Greater.ensures c.loop.invariant.2,
+    )
 
 pub returns : goal.returns
 returns c =
-    let none = entries-none c.self.inside.format (c.self.inside.count - c.loop.counter) c.loop.rest.now c.loop.invariant.0 c.loop.invariant.1 (omega arith) in
+    let none = entries-none c.self.inside.format (c.self.inside.count - c.loop.counter)
+    c.loop.rest.now c.loop.invariant.0 c.loop.invariant.1 (omega arith) in
     let span : Span = record { low = c.loop.low; high = c.args.span.high } in
-    let tail : c.copied-child-2.result ≡ c.args.self.now.tail = c.copied-child-2.ensures ∙ c.tail.ensures.tail in
+    let tail : c.copied-child-2.result ≡ c.args.self.now.tail = c.copied-child-2.ensures
+    ∙ c.tail.ensures.tail in
     record {
       place = ap (λ (d : Option (List ℕ)). Gap d span) tail
-          ∙ ap (λ (xs : List FlatEntry). place_among c.args.key.now c.loop.low c.args.span.high xs c.args.self.now.tail) (sym none)
+          ∙ ap (λ (xs : List FlatEntry). place_among c.args.key.now c.loop.low c.args.span.high xs
+          c.args.self.now.tail) (sym none)
           ∙ c.loop.invariant.2;
     }
 

@@ -4,11 +4,15 @@ use Rattle.mst_path.proofs.lemmas.rows.Taking.{takes_append, takes_count, takes_
 use Rattle.mst_path.proofs.node_writer.NodeWriter.begin.Goals as goal
 
 pub take_row-first-requires : goal.take_row-first-requires
-take_row-first-requires g c = record { room = omega (arith, c.requires.room, takes_count _ _ _ c.take_row-head.ensures.takes) }
+take_row-first-requires g c =
+    record {
+      room = omega (arith, c.requires.room, takes_count _ _ _ c.take_row-head.ensures.takes);
+    }
 
 pub returns-clause-writer : goal.returns-clause-writer
 returns-clause-writer g c =
-    let both = takes_append _ _ _ _ _ c.take_row-head.ensures.takes c.take_row-first.ensures.takes in
+    let both = takes_append _ _ _ _ _ c.take_row-head.ensures.takes c.take_row-first.ensures.takes
+    in
     let small = takes_small _ _ _ both c.requires.rows in
     record {
       low = c.requires.low;
@@ -19,7 +23,8 @@ returns-clause-writer g c =
     }
 
 pub returns-clause-takes : goal.returns-clause-takes
-returns-clause-takes g c = takes_append _ _ _ _ _ c.take_row-head.ensures.takes c.take_row-first.ensures.takes
+returns-clause-takes g c = takes_append _ _ _ _ _ c.take_row-head.ensures.takes
+    c.take_row-first.ensures.takes
 
 pub take_row-head-requires : goal.take_row-head-requires
 take_row-head-requires g c = search rules

@@ -16,13 +16,20 @@ use Rattle.mst_path.proofs.node_writer.NodeWriter.copy.Given.{Over}
 use Rattle.mst_path.proofs.node_writer.NodeWriter.copy.Goals as goal
 use Rattle.mst_path.proofs.node_writer.NodeWriter.copy.Goals.{in-Some-next, in-None, After-copy_entry}
 
-same_entry : (a b n m : ℕ) (k v : List ℕ) → a ≡ b → n ≡ m → Some (Entry a n k v) ≡ Some (Entry b m k v)
+same_entry : (a b n m : ℕ) (k v : List ℕ) → a ≡ b → n ≡ m → Some (Entry a n k v) ≡ Some
+    (Entry b m k v)
 same_entry a b n m k v ab nm = cc
 
 -- the entry is written, and all else is left
 module _ (g : Over) (c : goal.After-copy_entry g) where
-  copied : IfSome (g.R.Rows.content c.args.rows.now c.args.from) (λ row. Writes (g.R.Rows.content c.args.rows.now) (g.R.Rows.content c.copy_entry.new.self) c.in-Some.to (relinked c.args.child.now.link c.match-self-2.next row))
-  copied = subst (λ (x : Content). IfSome (x c.args.from) (λ row. Writes x (g.R.Rows.content c.copy_entry.new.self) c.in-Some.to (relinked c.args.child.now.link c.match-self-2.next row))) (ap g.R.Rows.content c.value-value.ensures.same) c.copy_entry.ensures.writes
+  copied : IfSome (g.R.Rows.content c.args.rows.now c.args.from)
+      (λ row. Writes (g.R.Rows.content c.args.rows.now) (g.R.Rows.content c.copy_entry.new.self)
+      c.in-Some.to (relinked c.args.child.now.link c.match-self-2.next row))
+  copied =
+      subst (λ (x : Content). IfSome (x c.args.from)
+      (λ row. Writes x (g.R.Rows.content c.copy_entry.new.self) c.in-Some.to
+      (relinked c.args.child.now.link c.match-self-2.next row)))
+      (ap g.R.Rows.content c.value-value.ensures.same) c.copy_entry.ensures.writes
 
 pub returns-clause-written : goal.returns-clause-written
 returns-clause-written g c format es p r v next has_value w root has out =
@@ -39,26 +46,49 @@ returns-clause-written g c format es p r v next has_value w root has out =
       | in-Some-next b ↦ b.next-is ∙ sym (ap link_to b.in-Some-next.is)
       | in-None b ↦ b.next-is ∙ sym (ap link_to b.in-None.is)
     ] in
-    let writes : Writes old new c.in-Some.to (Entry c.args.child.now.link c.match-self-2.next k v) = copy_is old new c.args.from c.in-Some.to c.args.child.now.link c.match-self-2.next c.args.entry.now v c.requires.entry has_value (copied g (goal.at.returns-clause-written g c).After-copy_entry) in
-    let begins : link_from (r + 1) es ≡ c.args.self.now.first + 1 = subst (λ (o : Option ℕ). link_from (link_to o) es ≡ c.args.self.now.first + 1) next w.begins in
-    let before : HasRows old (entry_rows format (r + 1) es) = subst (λ (o : Option ℕ). HasRows old (entry_rows format (link_to o) es)) next w.rows in
-    let other : (ns : List ℕ) → _ → _ = λ ns o. same_of_write old new c.in-Some.to _ writes ns (subst (λ (n : ℕ). AllByRecursion (λ x. x ≢ n) ns) (sym row) (out_flip r ns o)) in
-    let here : new r ≡ Some (Entry (link_of p) (link_to c.take_next-self.result) k v) = ap new (sym row) ∙ writes.here ∙ same_entry _ _ _ _ k v root.link link in
+    let writes : Writes old new c.in-Some.to (Entry c.args.child.now.link c.match-self-2.next k v) =
+    copy_is old new c.args.from c.in-Some.to c.args.child.now.link c.match-self-2.next
+    c.args.entry.now v c.requires.entry has_value
+    (copied g (goal.at.returns-clause-written g c).After-copy_entry) in
+    let begins : link_from (r + 1) es ≡ c.args.self.now.first + 1 =
+    subst (λ (o : Option ℕ). link_from (link_to o) es ≡ c.args.self.now.first + 1) next w.begins
+    in
+    let before : HasRows old (entry_rows format (r + 1) es) =
+    subst (λ (o : Option ℕ). HasRows old (entry_rows format (link_to o) es)) next w.rows in
+    let other : (ns : List ℕ) → _ → _ = λ ns o. same_of_write old new c.in-Some.to _ writes ns
+    (subst (λ (n : ℕ). AllByRecursion (λ x. x ≢ n) ns) (sym row) (out_flip r ns o)) in
+    let here : new r ≡ Some (Entry (link_of p) (link_to c.take_next-self.result) k v) =
+    ap new (sym row) ∙ writes.here ∙ same_entry _ _ _ _ k v root.link link in
     let fed = c.entry.ensures.entry _ w.fed in
     record {
       format_is = w.format_is;
       counted = omega (arith, w.counted, length-append es (e ∷ []), c.requires.some);
       begins = link_from-push (link_to c.take_next-self.result) es e ∙ begins;
-      fed = subst (Holds256 c.entry.new.self) (sym (text_up_to-push format layer count es e)) (rw (c.digest_at.ensures.digest format p root, c.bytes.ensures.bytes, c.bytes-2.ensures.bytes, read, w.format_is) at fed);
-      rows = subst (HasRows new) (sym (entry_rows-push format (link_to c.take_next-self.result) es e))
-          (all-append _ (entry_rows format (r + 1) es) ((r, Entry (link_of p) (link_to c.take_next-self.result) k v) ∷ rows_of format p)
-          (entries_frame format old new (r + 1) es (other (entries_used es) (out_front r (entries_used es) (used p) out)) before)
-          (here, placed_frame format old new p (other (used p) (out_back r (entries_used es) (used p) out)) has));
+      fed = subst (Holds256 c.entry.new.self) (sym (text_up_to-push format layer count es e))
+          (rw (
+            c.digest_at.ensures.digest format p root,
+            c.bytes.ensures.bytes,
+            c.bytes-2.ensures.bytes,
+            read,
+            w.format_is,
+          ) at fed);
+      rows =
+          subst (HasRows new) (sym (entry_rows-push format (link_to c.take_next-self.result) es e))
+          (all-append _ (entry_rows format (r + 1) es)
+          ((r, Entry (link_of p) (link_to c.take_next-self.result) k v) ∷ rows_of format p)
+          (entries_frame format old new (r + 1) es
+          (other (entries_used es) (out_front r (entries_used es) (used p) out)) before) (
+            here,
+            placed_frame format old new p
+                (other (used p) (out_back r (entries_used es) (used p) out)) has,
+          ));
     }
 
 pub returns-clause-keeps : goal.returns-clause-keeps
 returns-clause-keeps g c = λ k out.
-    copy_keeps (g.R.Rows.content c.args.rows.now) (g.R.Rows.content c.copy_entry.new.self) c.args.from c.in-Some.to c.args.child.now.link c.match-self-2.next c.args.entry.now c.requires.entry (copied g (goal.at.returns-clause-keeps g c).After-copy_entry) k
+    copy_keeps (g.R.Rows.content c.args.rows.now) (g.R.Rows.content c.copy_entry.new.self)
+    c.args.from c.in-Some.to c.args.child.now.link c.match-self-2.next c.args.entry.now
+    c.requires.entry (copied g (goal.at.returns-clause-keeps g c).After-copy_entry) k
     (subst (λ (o : Option ℕ). IsOut k (ahead o)) c.in-Some.is out).0
 
 pub value-value-requires : goal.value-value-requires
@@ -74,12 +104,17 @@ pub overflow_add-next : goal.overflow_add-next
 overflow_add-next g c = grind (arith, elements)
 
 pub copy_entry-requires-clause-there : goal.copy_entry-requires-clause-there
-copy_entry-requires-clause-there g c = subst (λ (x : Content). IsSome (part_at entry_links x c.args.from)) (sym (ap g.R.Rows.content c.value-value.ensures.same)) (is_there _ _ c.requires.entry)
+copy_entry-requires-clause-there g c =
+    subst (λ (x : Content). IsSome (part_at entry_links x c.args.from))
+    (sym (ap g.R.Rows.content c.value-value.ensures.same)) (is_there _ _ c.requires.entry)
 
 pub copy_entry-requires-clause-blank : goal.copy_entry-requires-clause-blank
 copy_entry-requires-clause-blank g c =
-    let blank : IsTrue (g.R.Rows.blank c.args.rows.now c.in-Some.to) = subst (λ (o : Option ℕ). IfSome o (λ r. IsTrue (g.R.Rows.blank c.args.rows.now r))) c.in-Some.is c.requires.blank in
-    subst (λ (b : ℕ → Bool). IsTrue (b c.in-Some.to)) (sym (ap g.R.Rows.blank c.value-value.ensures.same)) blank
+    let blank : IsTrue (g.R.Rows.blank c.args.rows.now c.in-Some.to) =
+    subst (λ (o : Option ℕ). IfSome o (λ r. IsTrue (g.R.Rows.blank c.args.rows.now r)))
+    c.in-Some.is c.requires.blank in
+    subst (λ (b : ℕ → Bool). IsTrue (b c.in-Some.to))
+    (sym (ap g.R.Rows.blank c.value-value.ensures.same)) blank
 
 pub copy_entry-requires-clause-child : goal.copy_entry-requires-clause-child
 copy_entry-requires-clause-child g c = search rules

@@ -12,7 +12,8 @@ use Rattle.mst_path.proofs.lemmas.rows.Entries.{link_from-push, entry_rows-push,
 use Rattle.mst_path.proofs.node_writer.NodeWriter.entry.Goals as goal
 use Rattle.mst_path.proofs.node_writer.NodeWriter.entry.Goals.{in-Some-next, in-None}
 
-same_entry : (a b n m : ℕ) (k l v w : List ℕ) → a ≡ b → n ≡ m → k ≡ l → v ≡ w → Some (Entry a n k v) ≡ Some (Entry b m l w)
+same_entry : (a b n m : ℕ) (k l v w : List ℕ) → a ≡ b → n ≡ m → k ≡ l → v ≡ w → Some (Entry a n k v)
+    ≡ Some (Entry b m l w)
 same_entry a b n m k l v w ab nm kl vw = cc
 
 pub returns-clause-written : goal.returns-clause-written
@@ -29,20 +30,39 @@ returns-clause-written g c format es p r next w root has out =
       | in-Some-next b ↦ b.next-is ∙ sym (ap link_to b.in-Some-next.is)
       | in-None b ↦ b.next-is ∙ sym (ap link_to b.in-None.is)
     ] in
-    let begins : link_from (r + 1) es ≡ c.args.self.now.first + 1 = subst (λ (o : Option ℕ). link_from (link_to o) es ≡ c.args.self.now.first + 1) next w.begins in
-    let before : HasRows old (entry_rows format (r + 1) es) = subst (λ (o : Option ℕ). HasRows old (entry_rows format (link_to o) es)) next w.rows in
-    let other : (ns : List ℕ) → _ → _ = λ ns o. same_of_write old new c.in-Some.row _ c.write.ensures.writes ns (subst (λ (n : ℕ). AllByRecursion (λ x. x ≢ n) ns) (sym row) (out_flip r ns o)) in
-    let here : new r ≡ Some (Entry (link_of p) (link_to c.take_next-self.result) k v) = ap new (sym row) ∙ c.write.ensures.writes.here ∙ same_entry _ _ _ _ _ _ _ _ root.link link c.copy.ensures.same c.copy-2.ensures.same in
+    let begins : link_from (r + 1) es ≡ c.args.self.now.first + 1 =
+    subst (λ (o : Option ℕ). link_from (link_to o) es ≡ c.args.self.now.first + 1) next w.begins
+    in
+    let before : HasRows old (entry_rows format (r + 1) es) =
+    subst (λ (o : Option ℕ). HasRows old (entry_rows format (link_to o) es)) next w.rows in
+    let other : (ns : List ℕ) → _ → _ = λ ns o. same_of_write old new c.in-Some.row _
+    c.write.ensures.writes ns
+    (subst (λ (n : ℕ). AllByRecursion (λ x. x ≢ n) ns) (sym row) (out_flip r ns o)) in
+    let here : new r ≡ Some (Entry (link_of p) (link_to c.take_next-self.result) k v) =
+    ap new (sym row) ∙ c.write.ensures.writes.here ∙ same_entry _ _ _ _ _ _ _ _ root.link link
+    c.copy.ensures.same c.copy-2.ensures.same in
     let fed = c.entry.ensures.entry _ w.fed in
     record {
       format_is = w.format_is;
       counted = omega (arith, w.counted, length-append es (e ∷ []), c.requires.some);
       begins = link_from-push (link_to c.take_next-self.result) es e ∙ begins;
-      fed = subst (Holds256 c.entry.new.self) (sym (text_up_to-push format layer count es e)) (rw (c.digest_at.ensures.digest format p root, c.bytes.ensures.bytes, c.bytes-2.ensures.bytes, w.format_is) at fed);
-      rows = subst (HasRows new) (sym (entry_rows-push format (link_to c.take_next-self.result) es e))
-          (all-append _ (entry_rows format (r + 1) es) ((r, Entry (link_of p) (link_to c.take_next-self.result) k v) ∷ rows_of format p)
-          (entries_frame format old new (r + 1) es (other (entries_used es) (out_front r (entries_used es) (used p) out)) before)
-          (here, placed_frame format old new p (other (used p) (out_back r (entries_used es) (used p) out)) has));
+      fed = subst (Holds256 c.entry.new.self) (sym (text_up_to-push format layer count es e))
+          (rw (
+            c.digest_at.ensures.digest format p root,
+            c.bytes.ensures.bytes,
+            c.bytes-2.ensures.bytes,
+            w.format_is,
+          ) at fed);
+      rows =
+          subst (HasRows new) (sym (entry_rows-push format (link_to c.take_next-self.result) es e))
+          (all-append _ (entry_rows format (r + 1) es)
+          ((r, Entry (link_of p) (link_to c.take_next-self.result) k v) ∷ rows_of format p)
+          (entries_frame format old new (r + 1) es
+          (other (entries_used es) (out_front r (entries_used es) (used p) out)) before) (
+            here,
+            placed_frame format old new p
+                (other (used p) (out_back r (entries_used es) (used p) out)) has,
+          ));
     }
 
 pub overflow_sub-self : goal.overflow_sub-self

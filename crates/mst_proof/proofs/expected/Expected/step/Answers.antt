@@ -21,14 +21,18 @@ yes_from_not true e = refl
 yes_from_not false e = e
 
 -- the digest of a text is the one that was computed
-digest_is : (text d r : List ℕ) (t : Bool) → r ≡ digest_of text → bytes_eq r d ≡ t → bytes_eq (digest_of text) d ≡ t
+digest_is : (text d r : List ℕ) (t : Bool) → r ≡ digest_of text → bytes_eq r d ≡ t
+    → bytes_eq (digest_of text) d ≡ t
 digest_is text d r t is e = ap (λ (y : List ℕ). bytes_eq y d) (sym is) ∙ e
 
 pub returns-in_default : goal.returns-in_default
 returns-in_default c =
     let b = bytes-at c.args.text.now (λ i. omega (arith, c.type_inv.text i)) in
-    let none = node_in-none c.args.format c.args.text.now b (λ g. absurd (search (rules, c.in_default.ensures.grammar.1 g))) in
-    record { step = sym (step-no_node c.args.format c.args.key.now c.args.text.now c.args.self none) }
+    let none = node_in-none c.args.format c.args.text.now b
+    (λ g. absurd (search (rules, c.in_default.ensures.grammar.1 g))) in
+    record {
+      step = sym (step-no_node c.args.format c.args.key.now c.args.text.now c.args.self none);
+    }
 
 -- ---- the text is a node's
 
@@ -40,36 +44,61 @@ module _ (c : goal.In-Some) where
   says = c.in-Some.ensures.found.4
 
   read : node_in c.args.format c.args.text.now ≡ Some node
-  read = node_in-read c.args.format c.args.text.now (node, c.in-Some.ensures.found.1, c.in-Some.ensures.found.2, c.in-Some.ensures.found.3)
+  read = node_in-read c.args.format c.args.text.now
+      (node, c.in-Some.ensures.found.1, c.in-Some.ensures.found.2, c.in-Some.ensures.found.3)
 
-  under_is : is_under c.args.self.upper node.layer ≡ is_under c.args.self.upper c.in-Some.found.layer
+  under_is : is_under c.args.self.upper node.layer ≡ is_under c.args.self.upper
+      c.in-Some.found.layer
   under_is = ap (is_under c.args.self.upper) (sym says.layer)
 
 pub returns-then-ne : goal.returns-then-ne
 returns-then-ne c =
     let at = (goal.at.returns-then-ne c).In-Some in
-    let other = digest_is c.args.text.now c.args.self.digest _ false c.digest.ensures.digest (no_from_not _ c.if-ne.ensures) in
-    record { step = sym (step-other_digest c.args.format c.args.key.now c.args.text.now c.args.self (node at) (read at) other) }
+    let other = digest_is c.args.text.now c.args.self.digest _ false c.digest.ensures.digest
+    (no_from_not _ c.if-ne.ensures) in
+    record {
+      step =
+          sym (step-other_digest c.args.format c.args.key.now c.args.text.now c.args.self (node at)
+          (read at) other);
+    }
 
 -- ---- and it has the digest
 
 pub returns-then-not-is_under : goal.returns-then-not-is_under
 returns-then-not-is_under c =
     let at = (goal.at.returns-then-not-is_under c).In-Some in
-    let same = digest_is c.args.text.now c.args.self.digest _ true c.digest.ensures.digest (yes_from_not _ c.if-ne.ensures) in
-    record { step = sym (step-not_below c.args.format c.args.key.now c.args.text.now c.args.self (node at) (read at) same (under_is at ∙ sym c.if-not-is_under.ensures.under)) }
+    let same = digest_is c.args.text.now c.args.self.digest _ true c.digest.ensures.digest
+    (yes_from_not _ c.if-ne.ensures) in
+    record {
+      step =
+          sym (step-not_below c.args.format c.args.key.now c.args.text.now c.args.self (node at)
+          (read at) same (under_is at ∙ sym c.if-not-is_under.ensures.under));
+    }
 
 pub returns-then-not-found : goal.returns-then-not-found
 returns-then-not-found c =
     let at = (goal.at.returns-then-not-found c).In-Some in
-    let same = digest_is c.args.text.now c.args.self.digest _ true c.digest.ensures.digest (yes_from_not _ c.if-ne.ensures) in
-    let outside = keys_inside c.args.self.span (node at) c.in-Some.found.within (says at).within ∙ no_from_not _ (sym c.if-not-found.true) in
-    record { step = sym (step-outside c.args.format c.args.key.now c.args.text.now c.args.self (node at) (read at) same (under_is at ∙ sym c.if-not-is_under.ensures.under) outside) }
+    let same = digest_is c.args.text.now c.args.self.digest _ true c.digest.ensures.digest
+    (yes_from_not _ c.if-ne.ensures) in
+    let outside = keys_inside c.args.self.span (node at) c.in-Some.found.within (says at).within
+    ∙ no_from_not _ (sym c.if-not-found.true) in
+    record {
+      step =
+          sym (step-outside c.args.format c.args.key.now c.args.text.now c.args.self (node at)
+          (read at) same (under_is at ∙ sym c.if-not-is_under.ensures.under) outside);
+    }
 
 pub returns : goal.returns
 returns c =
     let at = (goal.at.returns c).In-Some in
-    let same = digest_is c.args.text.now c.args.self.digest _ true c.digest.ensures.digest (yes_from_not _ c.if-ne.ensures) in
-    let inside = keys_inside c.args.self.span (node at) c.in-Some.found.within (says at).within ∙ yes_from_not _ (sym c.if-not-found.false) in
-    let step = c.of.ensures.step ∙ ap (λ (k : ℕ). step_of k c.in-Some.found.place) (says at).layer ∙ ap (step_of (node at).layer) (says at).place in
-    record { step = ap Ok step ∙ sym (step-passed c.args.format c.args.key.now c.args.text.now c.args.self (node at) (read at) same (under_is at ∙ sym c.if-not-is_under.ensures.under) inside) }
+    let same = digest_is c.args.text.now c.args.self.digest _ true c.digest.ensures.digest
+    (yes_from_not _ c.if-ne.ensures) in
+    let inside = keys_inside c.args.self.span (node at) c.in-Some.found.within (says at).within
+    ∙ yes_from_not _ (sym c.if-not-found.false) in
+    let step = c.of.ensures.step ∙ ap (λ (k : ℕ). step_of k c.in-Some.found.place) (says at).layer
+    ∙ ap (step_of (node at).layer) (says at).place in
+    record {
+      step =
+          ap Ok step ∙ sym (step-passed c.args.format c.args.key.now c.args.text.now c.args.self
+          (node at) (read at) same (under_is at ∙ sym c.if-not-is_under.ensures.under) inside);
+    }

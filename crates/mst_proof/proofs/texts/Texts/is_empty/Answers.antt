@@ -8,4 +8,8 @@ returns c =
     let n = c.self.inside.count in
     let bytes = c.self.inside.bytes.now in
     let count : length (texts_or_none n bytes) ≡ n = texts-count n bytes _ c.self.invariant.1 in
-    record { empty = is_empty n c.args.self.now (ap (λ (ts : List (List ℕ)). length ts) (sym c.self.view_is) ∙ count) }
+    record {
+      empty =
+          is_empty n c.args.self.now (ap (λ (ts : List (List ℕ)). length ts) (sym c.self.view_is)
+          ∙ count);
+    }

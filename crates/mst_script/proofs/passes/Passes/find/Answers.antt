@@ -7,7 +7,9 @@ pub loop-place-init : goal.loop-place-init
 loop-place-init g c = λ k d l. absurd (omega (arith, l))
 
 pub loop-place-preserved : goal.loop-place-preserved
-loop-place-preserved g c = not_yet c.as_slice-pinned-items.result.now c.loop-place.place c.args.number c.pinned-item.result c.loop-place.invariant c.loop-place-test.true c.pinned-item.is (λ e. c.if-number.false (c.number.ensures.number ∙ e))
+loop-place-preserved g c = not_yet c.as_slice-pinned-items.result.now c.loop-place.place
+    c.args.number c.pinned-item.result c.loop-place.invariant c.loop-place-test.true
+    c.pinned-item.is (λ e. c.if-number.false (c.number.ensures.number ∙ e))
 
 pub loop-place-2-init : goal.loop-place-2-init
 loop-place-2-init g c = λ k d l. absurd (omega (arith, l))
@@ -17,20 +19,28 @@ returns-then-number-2 g c =
     let held : c.as_slice-pinned-items.result.now ≡ c.args.self.now.held = search rules in
     let free : c.as_slice-pass-items.result.now ≡ c.args.self.now.free = search rules in record {
       found = (
-        found_at c.as_slice-pass-items.result.now c.args.self.now.free c.loop-place-2.place c.args.number c.pass-item.result c.loop-place-2-test.true c.pass-item.is (sym c.number-in-loop-place-2.ensures.number ∙ c.if-number-2.true) free,
-        nowhere c.as_slice-pinned-items.result.now c.args.self.now.held c.loop-place.place c.args.number c.loop-place.invariant c.loop-place-test.false held,
+        found_at c.as_slice-pass-items.result.now c.args.self.now.free c.loop-place-2.place
+            c.args.number c.pass-item.result c.loop-place-2-test.true c.pass-item.is
+            (sym c.number-in-loop-place-2.ensures.number ∙ c.if-number-2.true) free,
+        nowhere c.as_slice-pinned-items.result.now c.args.self.now.held c.loop-place.place
+            c.args.number c.loop-place.invariant c.loop-place-test.false held,
       );
     }
 
 pub loop-place-2-preserved : goal.loop-place-2-preserved
-loop-place-2-preserved g c = not_yet c.as_slice-pass-items.result.now c.loop-place-2.place c.args.number c.pass-item.result c.loop-place-2.invariant c.loop-place-2-test.true c.pass-item.is (λ e. c.if-number-2.false (c.number-in-loop-place-2.ensures.number ∙ e))
+loop-place-2-preserved g c = not_yet c.as_slice-pass-items.result.now c.loop-place-2.place
+    c.args.number c.pass-item.result c.loop-place-2.invariant c.loop-place-2-test.true
+    c.pass-item.is (λ e. c.if-number-2.false (c.number-in-loop-place-2.ensures.number ∙ e))
 
 pub unreachable-requires : goal.unreachable-requires
 unreachable-requires g c =
     let held : c.as_slice-pinned-items.result.now ≡ c.args.self.now.held = search rules in
     let free : c.as_slice-pass-items.result.now ≡ c.args.self.now.free = search rules in
-    not_there c.args.self.now c.args.number c.requires.there (nowhere c.as_slice-pass-items.result.now c.args.self.now.free c.loop-place-2.place c.args.number c.loop-place-2.invariant c.loop-place-2-test.false free)
-    (nowhere c.as_slice-pinned-items.result.now c.args.self.now.held c.loop-place.place c.args.number c.loop-place.invariant c.loop-place-test.false held)
+    not_there c.args.self.now c.args.number c.requires.there
+    (nowhere c.as_slice-pass-items.result.now c.args.self.now.free c.loop-place-2.place
+    c.args.number c.loop-place-2.invariant c.loop-place-2-test.false free)
+    (nowhere c.as_slice-pinned-items.result.now c.args.self.now.held c.loop-place.place
+    c.args.number c.loop-place.invariant c.loop-place-test.false held)
 
 pub offset_bounds-pinned-items-place : goal.offset_bounds-pinned-items-place
 offset_bounds-pinned-items-place g c = search rules

@@ -10,7 +10,8 @@ returns g c =
       unpins = record {
         p = p;
         here = c.swap_remove.ensures.value ∙ ap (λ xs. get_or xs c.args.place p) held;
-        free = c.push_reserved.ensures.items ∙ ap (λ x. c.self.inside.free.items ++ x ∷ []) c.unpin-pass.ensures.same ∙ ap (λ xs. xs ++ p ∷ []) free;
+        free = c.push_reserved.ensures.items ∙ ap (λ x. c.self.inside.free.items ++ x ∷ [])
+            c.unpin-pass.ensures.same ∙ ap (λ xs. xs ++ p ∷ []) free;
         held = c.swap_remove.ensures.items ∙ ap (λ xs. swap_remove xs c.args.place p) held;
       };
     }

@@ -7,8 +7,10 @@ use Rattle.mst_script.proofs.passes.Passes.unpin_all.Given as goal
 abbrev pub invariant-loop-pinned : goal.invariant-loop-pinned
 invariant-loop-pinned g l = record {
   same : IsPermutation (everyone l.fn.self) (l.self-inside.free.items ++ l.self-inside.held.items);
-  free_room : vec_len l.self-inside.free + vec_len l.self-inside.held ≤ vec_capacity l.self-inside.free;
-  held_room : vec_len l.self-inside.free + vec_len l.self-inside.held ≤ vec_capacity l.self-inside.held;
+  free_room : vec_len l.self-inside.free + vec_len l.self-inside.held ≤ vec_capacity
+      l.self-inside.free;
+  held_room : vec_len l.self-inside.free + vec_len l.self-inside.held ≤ vec_capacity
+      l.self-inside.held;
 }
 
 abbrev pub decreases-loop-pinned : goal.decreases-loop-pinned

@@ -4,29 +4,44 @@ use Rattle.mst_store.proofs.Asked.{asked_current, asked_drained, asked_blocked, 
 use Rattle.mst_store.proofs.turn.Asked.ask.Goals as goal
 
 pub returns-then-which-current-clause-asked : goal.returns-then-which-current-clause-asked
-returns-then-which-current-clause-asked g c = asked_current c.args.which c.args.desk.now c.args.self.now c.args.seat.now.me c.requires.asked
+returns-then-which-current-clause-asked g c =
+    asked_current c.args.which c.args.desk.now c.args.self.now c.args.seat.now.me c.requires.asked
     (c.if-which-current.true ∙ ap (λ z. z.0) c.current-current.ensures.current)
 
 pub ask-requires-clause-new : goal.ask-requires-clause-new
-ask-requires-clause-new g c = not_asked c.args.which c.args.desk.now c.args.self.now c.args.seat.now.me c.requires.asked
+ask-requires-clause-new g c = not_asked c.args.which c.args.desk.now c.args.self.now
+    c.args.seat.now.me c.requires.asked
 
 pub returns-then-ask-clause-asked : goal.returns-then-ask-clause-asked
-returns-then-ask-clause-asked g c = asked_drained c.args.which c.args.desk.now c.args.self.now (record { live = c.args.self.now.live; into = c.args.which }) c.args.seat.now.me c.ask.new.self.me
-    c.requires.asked (λ is. c.if-which-current.false (is ∙ ap (λ z. z.0) (sym c.current-current.ensures.current))) (c.ask.ensures.drained c.if-ask.true) refl refl
+returns-then-ask-clause-asked g c = asked_drained c.args.which c.args.desk.now c.args.self.now
+    (record { live = c.args.self.now.live; into = c.args.which }) c.args.seat.now.me
+    c.ask.new.self.me
+    c.requires.asked
+    (λ is. c.if-which-current.false
+    (is ∙ ap (λ z. z.0) (sym c.current-current.ensures.current)))
+    (c.ask.ensures.drained c.if-ask.true) refl refl
 
 pub returns-else-ask-clause-asked : goal.returns-else-ask-clause-asked
-returns-else-ask-clause-asked g c = asked_blocked c.args.which c.args.desk.now c.args.self.now (record { live = c.push.new.self; into = c.args.self.now.into }) c.args.seat.now.me c.ask.new.self.me
-    c.requires.asked (λ is. c.if-which-current.false (is ∙ ap (λ z. z.0) (sym c.current-current.ensures.current))) (c.ask.ensures.blocked c.if-ask.false)
-    (c.push.ensures.items ∙ ap (λ (v : ℕ). c.args.self.now.live.items ++ v ∷ []) c.version_of.ensures.version) refl
+returns-else-ask-clause-asked g c = asked_blocked c.args.which c.args.desk.now c.args.self.now
+    (record { live = c.push.new.self; into = c.args.self.now.into }) c.args.seat.now.me
+    c.ask.new.self.me
+    c.requires.asked
+    (λ is. c.if-which-current.false
+    (is ∙ ap (λ z. z.0) (sym c.current-current.ensures.current)))
+    (c.ask.ensures.blocked c.if-ask.false)
+    (c.push.ensures.items ∙ ap (λ (v : ℕ). c.args.self.now.live.items ++ v ∷ [])
+    c.version_of.ensures.version) refl
 
 pub returns-then-which-current-clause-counted : goal.returns-then-which-current-clause-counted
 returns-then-which-current-clause-counted g c = refl
 
 pub returns-then-ask-clause-counted : goal.returns-then-ask-clause-counted
-returns-then-ask-clause-counted g c = asks_drained c.args.which c.args.seat.now.me c.ask.new.self.me (c.ask.ensures.drained c.if-ask.true)
+returns-then-ask-clause-counted g c = asks_drained c.args.which c.args.seat.now.me c.ask.new.self.me
+    (c.ask.ensures.drained c.if-ask.true)
 
 pub returns-else-ask-clause-counted : goal.returns-else-ask-clause-counted
-returns-else-ask-clause-counted g c = asks_blocked c.args.which c.args.seat.now.me c.ask.new.self.me (c.ask.ensures.blocked c.if-ask.false)
+returns-else-ask-clause-counted g c = asks_blocked c.args.which c.args.seat.now.me c.ask.new.self.me
+    (c.ask.ensures.blocked c.if-ask.false)
 
 pub returns-then-which-current-clause-same : goal.returns-then-which-current-clause-same
 returns-then-which-current-clause-same g c = search rules

@@ -8,6 +8,10 @@ use Rattle.mst_tree_tests.proofs.rows.planting.planted.Goals as goal
 
 pub plant-root-requires-clause-blank : goal.plant-root-requires-clause-blank
 plant-root-requires-clause-blank g c k is =
-    let lives : length c.in_ok-desk.desk.lives ≡ c.args.size = ap (λ (s : State). length s.lives) c.in_ok-desk.ensures.ok ∙ length-replicate c.args.size Free in
-    let below : k < length c.in_ok-rows.rows = omega (arith, within_length c.in_ok-desk.desk.lives k is, lives, c.in_ok-rows.ensures.size) in
+    let lives : length c.in_ok-desk.desk.lives ≡ c.args.size =
+    ap (λ (s : State). length s.lives) c.in_ok-desk.ensures.ok ∙ length-replicate c.args.size
+    Free in
+    let below : k < length c.in_ok-rows.rows =
+    omega (arith, within_length c.in_ok-desk.desk.lives k is, lives, c.in_ok-rows.ensures.size)
+    in
     grind (arith, nat_tests)

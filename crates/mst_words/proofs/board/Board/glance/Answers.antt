@@ -5,4 +5,9 @@ use Rattle.mst_words.proofs.Hearing.{glances_allows}
 use Rattle.mst_words.proofs.board.Board.glance.Goals as goal
 
 pub load-requires : goal.load-requires
-load-requires g c = (search rules, search rules, glances_allows (stored _) (stored_framed _) _ _ _ _ _ c.args.seat.now.me)
+load-requires g c = (
+  search rules,
+  search rules,
+  glances_allows (stored _) (stored_framed _) _ _ _ _ _
+      c.args.seat.now.me,
+)

@@ -6,4 +6,10 @@ use Rattle.mst_words.proofs.HoldSteps.{notes_allows}
 use Rattle.mst_words.proofs.board.Board.note_current.Goals as goal
 
 pub load-requires : goal.load-requires
-load-requires g c = (search rules, (let v = ap (λ (z : TableId). z.words) c.self.view_is in let e = c.requires.wide in omega arith), notes_allows (stored _) (stored_framed _) _ _ _ _ c.args.seat.now.me c.requires.holder)
+load-requires g c = (
+  search rules,
+  (let v = ap (λ (z : TableId). z.words) c.self.view_is in let e =
+      c.requires.wide in omega arith),
+  notes_allows (stored _) (stored_framed _) _ _ _ _
+      c.args.seat.now.me c.requires.holder,
+)

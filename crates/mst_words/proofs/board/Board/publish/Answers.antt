@@ -9,7 +9,11 @@ pub swap-requires : goal.swap-requires
 swap-requires g c = let r = c.requires.ready in (
   search rules,
   (let v = ap (λ (z : TableId). z.words) c.self.view_is in let e = c.requires.wide in omega arith),
-  rw c.requires.named.0 (rw c.requires.named.1 (publishes_by _ _ _ _ _ (c.from.result * masks) c.args.into c.args.event.now (desk_state c.args.desk.now) r.0 c.args.seat.now.me r.1 (ap (λ (z : ℕ). z * masks) c.from.ensures))),
+  rw c.requires.named.0
+      (rw c.requires.named.1
+      (publishes_by _ _ _ _ _ (c.from.result * masks) c.args.into c.args.event.now
+      (desk_state c.args.desk.now) r.0 c.args.seat.now.me r.1
+      (ap (λ (z : ℕ). z * masks) c.from.ensures))),
 )
 
 pub returns-clause-same : goal.returns-clause-same

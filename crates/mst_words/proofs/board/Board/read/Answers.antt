@@ -5,4 +5,9 @@ use Rattle.mst_words.proofs.Steps.{reads_allows}
 use Rattle.mst_words.proofs.board.Board.read.Goals as goal
 
 pub load-requires : goal.load-requires
-load-requires g c = (search rules, search rules, reads_allows (stored _) (stored_framed _) _ _ _ _ _ c.args.seat.now.me c.requires.readable)
+load-requires g c = (
+  search rules,
+  search rules,
+  reads_allows (stored _) (stored_framed _) _ _ _ _ _
+      c.args.seat.now.me c.requires.readable,
+)

@@ -6,4 +6,10 @@ use Rattle.mst_words.proofs.Hearing.{all_allows}
 use Rattle.mst_words.proofs.board.Board.see_all.Goals as goal
 
 pub load-requires : goal.load-requires
-load-requires g c = (search rules, (let v = ap (λ (z : TableId). z.words) c.self.view_is in let e = c.requires.wide in omega arith), all_allows (stored _) (stored_framed _) _ _ _ _ c.args.seat.now.me c.requires.off)
+load-requires g c = (
+  search rules,
+  (let v = ap (λ (z : TableId). z.words) c.self.view_is in let e =
+      c.requires.wide in omega arith),
+  all_allows (stored _) (stored_framed _) _ _ _ _
+      c.args.seat.now.me c.requires.off,
+)

@@ -4,8 +4,14 @@ use Rattle.mst_arena.specs.Lives.{State}
 use Rattle.mst_words.proofs.board.Board.take_desk.Goals as goal
 
 pub exchange-requires : goal.exchange-requires
-exchange-requires g c = let h = c.requires.holds in
-    (search rules, (Some h.0, h.1 ∙ ap (λ (l : List (ℕ × Option State)). (0, Some h.0) ∷ rest l) (sym h.1)))
+exchange-requires g c = let h = c.requires.holds in (
+  search rules,
+  (
+    Some h.0,
+    h.1 ∙ ap (λ (l : List (ℕ × Option State)). (0, Some h.0) ∷ rest l)
+        (sym h.1),
+  ),
+)
 
 pub unreachable-requires : goal.unreachable-requires
 unreachable-requires g c = search rules

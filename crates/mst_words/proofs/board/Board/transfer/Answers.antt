@@ -6,7 +6,13 @@ use Rattle.mst_words.proofs.HoldSteps.{transfers_allows}
 use Rattle.mst_words.proofs.board.Board.transfer.Goals as goal
 
 pub fetch_xor-requires : goal.fetch_xor-requires
-fetch_xor-requires g c = let d = c.requires.due in (search rules, (let v = ap (λ (z : TableId). z.words) c.self.view_is in let e = c.requires.wide in let l = c.requires.there in omega arith), transfers_allows (stored _) (stored_framed _) _ _ _ _ c.args.old c.args.mask c.args.seat.now.me d.0 d.1 d.2)
+fetch_xor-requires g c = let d = c.requires.due in (
+  search rules,
+  (let v = ap (λ (z : TableId). z.words) c.self.view_is in let e =
+      c.requires.wide in let l = c.requires.there in omega arith),
+  transfers_allows (stored _)
+      (stored_framed _) _ _ _ _ c.args.old c.args.mask c.args.seat.now.me d.0 d.1 d.2,
+)
 
 pub returns-clause-same : goal.returns-clause-same
 returns-clause-same g c = search rules

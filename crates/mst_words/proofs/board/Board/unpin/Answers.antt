@@ -6,7 +6,15 @@ use Rattle.mst_words.proofs.PinSteps.{unpins_allows}
 use Rattle.mst_words.proofs.board.Board.unpin.Goals as goal
 
 pub fetch_xor-requires : goal.fetch_xor-requires
-fetch_xor-requires g c = let r = c.requires in (search rules, (let v = ap (λ (z : TableId). z.words) c.self.view_is in let e = r.wide in let l = r.there in omega arith), unpins_allows (stored _) (stored_framed _) _ _ _ _ c.args.which c.bit_of.result c.args.number c.args.seat.now.me c.bit_of.ensures.bit r.some r.pinned)
+fetch_xor-requires g c = let r =
+    c.requires in (
+      search rules,
+      (let v = ap (λ (z : TableId). z.words) c.self.view_is in let e =
+          r.wide in let l = r.there in omega arith),
+      unpins_allows (stored _) (stored_framed _) _ _ _ _
+          c.args.which c.bit_of.result c.args.number c.args.seat.now.me c.bit_of.ensures.bit r.some
+          r.pinned,
+    )
 
 pub bit_of-requires-clause-some : goal.bit_of-requires-clause-some
 bit_of-requires-clause-some g c = search rules

@@ -20,7 +20,8 @@ returns-clause-same g c = search rules
 pub returns-clause-limits : goal.returns-clause-limits
 returns-clause-limits g c =
     let view = c.args.self.now.me.0 in
-    let is : part_at head_links (content_of view) c.args.row ≡ Some c.in-Some.links = search rules in
+    let is : part_at head_links (content_of view) c.args.row ≡ Some c.in-Some.links =
+    search rules in
     head_within view c.args.row c.in-Some.links is
 
 pub words-requires : goal.words-requires

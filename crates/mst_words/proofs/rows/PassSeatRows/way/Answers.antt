@@ -10,34 +10,41 @@ use Rattle.mst_words.proofs.rows.PassSeatRows.way.Goals as goal
 
 module _ (g : Over) (c : goal.After-word g) where
   before : WayAt c.args.key.now c.args.self.now.me.0 c.args.row
-  before = way_of_row c.args.key.now c.args.self.now.me.0 c.args.row c.order.ensures.limits c.order.ensures.range c.requires.there
+  before = way_of_row c.args.key.now c.args.self.now.me.0 c.args.row c.order.ensures.limits
+      c.order.ensures.range c.requires.there
 
   child_is : c.word.result ≡ row c.args.self.now.me.0.known_words c.args.row 1
-  child_is = c.word.ensures.word ∙ ap (λ (z : Seated). row z.me.0.known_words c.args.row 1) c.order.ensures.same
+  child_is = c.word.ensures.word ∙ ap (λ (z : Seated). row z.me.0.known_words c.args.row 1)
+      c.order.ensures.same
 
 pub overflow_cast-result : goal.overflow_cast-result
 overflow_cast-result g c = omega (arith, child_is g c, (before g c).child)
 
 pub returns-in-Less-clause-way : goal.returns-in-Less-clause-way
-returns-in-Less-clause-way g c = way_to_child (before g c) c.order.ensures.order c.in-Less.is (child_is g c)
+returns-in-Less-clause-way g c = way_to_child (before g c) c.order.ensures.order c.in-Less.is
+    (child_is g c)
 
 -- ---- it is that key
 
 pub returns-in-Equal-clause-way : goal.returns-in-Equal-clause-way
 returns-in-Equal-clause-way g c =
-    way_here (way_of_row c.args.key.now c.args.self.now.me.0 c.args.row c.order.ensures.limits c.order.ensures.range c.requires.there) c.order.ensures.order c.in-Equal.is
+    way_here (way_of_row c.args.key.now c.args.self.now.me.0 c.args.row c.order.ensures.limits
+    c.order.ensures.range c.requires.there) c.order.ensures.order c.in-Equal.is
 
 -- ---- it is above that key
 
 module _ (g : Over) (c : goal.After-word-in-Greater g) where
   behind : WayAt c.args.key.now c.args.self.now.me.0 c.args.row
-  behind = way_of_row c.args.key.now c.args.self.now.me.0 c.args.row c.order.ensures.limits c.order.ensures.range c.requires.there
+  behind = way_of_row c.args.key.now c.args.self.now.me.0 c.args.row c.order.ensures.limits
+      c.order.ensures.range c.requires.there
 
   next_is : c.word-in-Greater.result ≡ row c.args.self.now.me.0.known_words c.args.row 2
-  next_is = c.word-in-Greater.ensures.word ∙ ap (λ (z : Seated). row z.me.0.known_words c.args.row 2) c.order.ensures.same
+  next_is = c.word-in-Greater.ensures.word
+      ∙ ap (λ (z : Seated). row z.me.0.known_words c.args.row 2) c.order.ensures.same
 
 pub overflow_cast-result-in-Greater : goal.overflow_cast-result-in-Greater
 overflow_cast-result-in-Greater g c = omega (arith, next_is g c, (behind g c).next)
 
 pub returns-in-Greater-clause-way : goal.returns-in-Greater-clause-way
-returns-in-Greater-clause-way g c = way_to_next (behind g c) c.order.ensures.order c.in-Greater.is (next_is g c)
+returns-in-Greater-clause-way g c = way_to_next (behind g c) c.order.ensures.order c.in-Greater.is
+    (next_is g c)

@@ -9,7 +9,10 @@ use Rattle.mst_words.specs.Stored.{stored}
 use Rattle.mst_words.proofs.seat.PassSeat.pin.Goals as goal
 
 pub returns-clause-pinned : goal.returns-clause-pinned
-returns-clause-pinned g c = subst (λ (m : Me (Option State) View). (x : ℕ) × (p : PinsNow {S = Option State} (stored m.0.format) m x c.pin.new.seat.me) × (p.cur ≡ c.pin.result)) (ap (λ (z : Seated). z.me) c.self.view_is) c.pin.ensures.pinned
+returns-clause-pinned g c =
+    subst (λ (m : Me (Option State) View). (x : ℕ)
+    × (p : PinsNow {S = Option State} (stored m.0.format) m x c.pin.new.seat.me)
+    × (p.cur ≡ c.pin.result)) (ap (λ (z : Seated). z.me) c.self.view_is) c.pin.ensures.pinned
 
 pub pin-requires-clause-own : goal.pin-requires-clause-own
 pin-requires-clause-own g c = search rules

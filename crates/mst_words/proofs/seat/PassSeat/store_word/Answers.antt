@@ -13,5 +13,9 @@ pub word-requires-clause-there : goal.word-requires-clause-there
 word-requires-clause-there g c = search rules
 
 pub store-requires-clause-writable : goal.store-requires-clause-writable
-store-requires-clause-writable g c = subst (λ (i : ℕ). IsWritable (stored c.word.new.self.me.0.format) c.word.new.self.me.0 i) (sym c.row_word.ensures.place)
-    (subst (λ (z : Seated). IsWritable (stored z.me.0.format) z.me.0 (row_word c.args.row c.args.k)) (sym c.word.ensures.same) (writable c.args.self.now.me.0 c.args.row c.args.k c.requires.blank c.requires.there))
+store-requires-clause-writable g c =
+    subst (λ (i : ℕ). IsWritable (stored c.word.new.self.me.0.format) c.word.new.self.me.0 i)
+    (sym c.row_word.ensures.place)
+    (subst (λ (z : Seated). IsWritable (stored z.me.0.format) z.me.0 (row_word c.args.row c.args.k))
+    (sym c.word.ensures.same)
+    (writable c.args.self.now.me.0 c.args.row c.args.k c.requires.blank c.requires.there))

@@ -8,7 +8,8 @@ ready : (g : Over) (c : goal.After-desk-3-1 g) → IsPrefix c.plant.new.desk
 ready g c =
     let m = c.requires.tree.0 in
     let stands = c.in-Ok.ensures.stands m c.requires.tree.1 c.requires.tree.2 in
-    begins c.in_ok-desk.desk c.plant.new.desk c.args.size (numbers stands) c.in_ok-desk.ensures.ok (c.in-Ok.ensures.takes m stands)
+    begins c.in_ok-desk.desk c.plant.new.desk c.args.size (numbers stands) c.in_ok-desk.ensures.ok
+    (c.in-Ok.ensures.takes m stands)
 
 pub publish-requires-clause-records : goal.publish-requires-clause-records
 publish-requires-clause-records g c = (ready g c).records
@@ -26,5 +27,9 @@ invariant_of-result g c =
     let s = c.in_ok-desk.desk in
     let places = c.in_ok-rows.rows in
     let is = c.in_ok-desk.ensures.ok in
-    let change = changes_taken s c.plant.new.desk (numbers stands) (moves_takes s c.plant.new.desk (numbers stands) (c.in-Ok.ensures.takes m stands)) in
-    ready_after places c.plant.new.rows s c.plant.new.desk c.publish.new.desk c.in-Ok.root m stands change c.publish.ensures.published (within_new s places c.args.size (lives_of s c.args.size is) c.in_ok-rows.ensures.ok) c.in-Ok.ensures.blank
+    let change = changes_taken s c.plant.new.desk (numbers stands)
+    (moves_takes s c.plant.new.desk (numbers stands) (c.in-Ok.ensures.takes m stands)) in
+    ready_after places c.plant.new.rows s c.plant.new.desk c.publish.new.desk c.in-Ok.root m stands
+    change c.publish.ensures.published
+    (within_new s places c.args.size (lives_of s c.args.size is) c.in_ok-rows.ensures.ok)
+    c.in-Ok.ensures.blank
