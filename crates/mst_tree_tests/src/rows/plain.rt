@@ -66,11 +66,11 @@ fn copied_entry_has_other_links_alone(rt: HostRuntime) {
     let Ok(mut rows) = PlainRows::new(rt.alloc(), 2) else {
         panic!(rt; "no memory")
     };
-    rows.write(0, &row);
-    rows.copy_entry(0, 1, 65_535, 0);
-    assert!(rt; entry_is(&mut rows, 1, (65_535, 0), &[0x6b; 32], &[0x76; 64]));
+    rows.write(1, &row);
+    rows.copy_entry(1, 0, 65_535, 0);
+    assert!(rt; entry_is(&mut rows, 0, (65_535, 0), &[0x6b; 32], &[0x76; 64]));
     assert!(rt;
-        row_is(&mut rows, 0, &row),
+        row_is(&mut rows, 1, &row),
         "the entry that was copied stays"
     );
 }
