@@ -46,14 +46,14 @@ report_of-requires g c =
 -- they are numbered from 1 on
 pub run_all-requires-clause-numbered : goal.run_all-requires-clause-numbered
 run_all-requires-clause-numbered g c κs within =
-    let store = c.in-Ok-opened.store in let dealt = c.in-Ok-deal in
+    let store = c.in-Ok-opened.opened.0 in let dealt = c.in-Ok-deal in
     let count : vec_len dealt.passes ≡ store.passes = search rules in
     (λ k d below. dealt_number store dealt.passes.items k d dealt.ensures.ok
     (omega (arith, below, count)))
 
 pub returns-clause-few : goal.returns-clause-few
 returns-clause-few g c =
-    let count : vec_len c.in_ok-passes.passes ≡ c.in-Ok-opened.store.passes = search rules in
+    let count : vec_len c.in_ok-passes.passes ≡ c.in-Ok-opened.opened.0.passes = search rules in
     let told = c.report_of.result in
     few_puts c.args.readers c.args.writers c.args.calls told.events told.root
     (settled_count (vec_len c.in_ok-passes.passes) (c.args.readers + c.args.writers) c.args.writers
@@ -62,7 +62,7 @@ returns-clause-few g c =
 
 pub returns-clause-whole : goal.returns-clause-whole
 returns-clause-whole g c =
-    let count : vec_len c.in_ok-passes.passes ≡ c.in-Ok-opened.store.passes = search rules in
+    let count : vec_len c.in_ok-passes.passes ≡ c.in-Ok-opened.opened.0.passes = search rules in
     let told = c.report_of.result in
     all_puts c.args.readers c.args.writers c.args.calls told.events told.root
     (settled_count (vec_len c.in_ok-passes.passes) (c.args.readers + c.args.writers) c.args.writers
