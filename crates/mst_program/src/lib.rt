@@ -9,9 +9,10 @@
 //!                                                  // 0, and out has "none\nsome 78\n"
 //! ```
 //!
-//! [`command`] is the whole program as a call, which tests make over bytes and `mst` over the
-//! terminal; its exit statuses are 0 to 4. [`Progress`] writes how many calls of a load are
-//! answered.
+//! [`run_program`] is the whole program as a call, which `mst` makes over the words and the streams
+//! of the process; [`command`] is the same over words that are read, which tests make over bytes.
+//! The exit statuses are 0 to 4. [`Watch`] chooses who is told how far a load is, and [`Progress`]
+//! writes how many of its calls are answered.
 //!
 //! What clap writes of wrong words, and in a help text, no contract says. Words of a plain form are
 //! read without clap, and of those everything is said; `--version` or `-V` alone is told without
@@ -20,7 +21,9 @@
 
 mod program;
 mod progress;
+mod starting;
 mod words;
 
 pub use program::command;
-pub use progress::Progress;
+pub use progress::{Progress, Watch};
+pub use starting::run_program;

@@ -3,9 +3,10 @@ ghost use Rattle.std.specs.Prelude.{◌≡◌, ◌<◌, ◌-◌, ◌+◌, ◌^�
 ghost use Rattle.mst_devices.specs.Device.{Breaks};
 ghost use Rattle.mst_command.specs.Programs.{RanScript, RanReplay, RanVerify, Helped, Broke, Comes, EndedEarly};
 ghost use Rattle.mst_command.specs.Loading.{NamesLoad, RanLoad, asks_load};
-ghost use Rattle.mst_command.specs.Commanding.{AsksFor, IsDevice, NamesShape, Untouched, Unread, asks_replay, asks_verify, status_of, told};
+ghost use Rattle.mst_command.specs.Commanding.{AsksFor, IsDevice, NamesShape, Untouched, Unread, asks_replay, asks_verify, status_at, status_of, told};
 ghost use Rattle.mst_command.specs.declared.task.Refusal.TheVariants.{Device};
 ghost use Rattle.mst_command.specs.declared.task.Ending.TheVariants.{Done, ProofRefused};
+ghost use Rattle.mst_program.specs.Commanded.{Performed};
 
 use crate::words::task_of;
 use mst_command::{DONE, Ending, PROOF_REFUSED, Refusal, complain, execute};
@@ -26,6 +27,8 @@ fn perform<R: Threads + Wait + AllocGlobal + Sync, G: Gate + Sync, S: Source, W:
 ) -> Result<Ending, Refusal>
     requires source { S.failures source.old < 2 ^ 64 - 1 }
     requires out { W.failures out.old < 2 ^ 64 - 1 }
+    ensures performed { IfOk result (λ ending. Performed S.gives S.left W.takes words.now source.old
+        out.old ending source.new out.new) }
     ensures ran { asks_replay words.now ≡ false → asks_verify words.now ≡ None
         → asks_load words.now ≡ false
         → OnOk result (((shape : _) × NamesShape words.now shape
@@ -88,6 +91,8 @@ where
     ensures device { (result ≡ 3)
         ↔ (S.failures source.old + O.failures out.old + E.failures err.old < S.failures source.new
         + O.failures out.new + E.failures err.new) }
+    ensures performed { (ending : _) → result ≡ status_at ending
+        → Performed S.gives S.left O.takes words.now source.old out.old ending source.new out.new }
     ensures done { result ≡ 0 → asks_replay words.now ≡ false → asks_verify words.now ≡ None
         → asks_load words.now ≡ false
         → ((shape : _) × NamesShape words.now shape

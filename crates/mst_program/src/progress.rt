@@ -1,5 +1,7 @@
 //! How far a load is, told line by line while its threads make their calls.
-ghost use Rattle.std.specs.Prelude.{◌≡◌, ◌↔◌, ◌%◌, true};
+ghost use Rattle.std.specs.Prelude.{◌≡◌, ◌≢◌, ◌↔◌, ◌⊎◌, ◌%◌, true, false};
+ghost use Rattle.mst_command.specs.Loading.{asks_load};
+ghost use Rattle.mst_program.specs.declared.progress.Watch.TheVariants.{Silent};
 
 use mst_load::Gate;
 use std::sync::atomic::AtomicU64;
@@ -43,6 +45,51 @@ impl<E: Eprint> Gate for Progress<E> {
         let count = self.answered.fetch_add(1, SeqCst).wrapping_add(1);
         if is_shown(count) {
             let _ = eprintln!(self.errors; "calls {count}");
+        }
+    }
+}
+
+// Whether the words ask for a load.
+fn ask_load(words: &[&str]) -> bool
+    ensures { result ≡ asks_load words.now }
+{
+    match words {
+        [_, name, ..] => *name == "load",
+        _ => false,
+    }
+}
+
+/// Who is told how far a load is.
+#[derive(Drop)]
+pub enum Watch<E: Eprint> {
+    /// Nobody.
+    Silent,
+    /// Somebody who looks on.
+    Shown(Progress<E>),
+}
+
+impl<E: Eprint + Drop> Watch<E> {
+    /// Somebody is told where the words ask for a load and its errors go to a terminal, and else
+    /// nobody.
+    pub fn of(words: &[&str], is_terminal: bool, errors: E) -> Watch<E>
+        ensures silent { (is_terminal ≡ false) ⊎ (asks_load words.now ≡ false) → result ≡ Silent }
+        ensures shown { is_terminal ≡ true → asks_load words.now ≡ true → result ≢ Silent }
+    {
+        if is_terminal && ask_load(words) {
+            Watch::Shown(Progress::new(errors))
+        } else {
+            Watch::Silent
+        }
+    }
+}
+
+impl<E: Eprint> Gate for Watch<E> {
+    fn enter(&self, _worker: u32, _call: u32) {}
+
+    fn answered(&self, worker: u32, call: u32) {
+        match self {
+            Watch::Silent => {}
+            Watch::Shown(progress) => progress.answered(worker, call),
         }
     }
 }

@@ -8,6 +8,7 @@ mod proofs;
 mod replays;
 mod scripts;
 mod spoilt;
+mod starting;
 mod words;
 
 use crate::outcomes::Outcome;

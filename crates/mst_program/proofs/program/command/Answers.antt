@@ -1,10 +1,13 @@
 use Rattle.std.proofs.Common.{rules}
-use Rattle.std.proofs.Common.{Err, ap, ◌∙◌, ◌≡◌}
-use Rattle.std.proofs.lemmas.Result.{IfErr-at_err}
+use Rattle.std.proofs.Common.{Err, ap, subst, ◌∙◌, ◌≡◌}
+use Rattle.std.proofs.lemmas.Result.{IfErr-at_err, IfOk-at_ok}
 use Rattle.mst_command.specs.Commanding.{Untouched}
 use Rattle.mst_command.specs.Programs.{EndedEarly}
 use Rattle.mst_command.specs.declared.task.Refusal.TheVariants.{Device}
 use Rattle.mst_command.proofs.Asked.{told_early, stopped_early}
+use Rattle.mst_command.specs.declared.task.Ending.{Ending}
+use Rattle.mst_program.specs.Commanded.{Performed}
+use Rattle.mst_program.proofs.Endings.{at_done, at_refused, no_ending}
 use Rattle.mst_program.proofs.program.command.Goals as goal
 
 pub returns-in-Err-clause-told : goal.returns-in-Err-clause-told
@@ -153,3 +156,25 @@ returns-in-Err-clause-memory g c = search rules
 
 pub returns-in-Err-clause-memory_unread : goal.returns-in-Err-clause-memory_unread
 returns-in-Err-clause-memory_unread g c = search rules
+
+pub returns-in-Ok-Done-clause-performed : goal.returns-in-Ok-Done-clause-performed
+returns-in-Ok-Done-clause-performed g c =
+    let P = λ (ending : Ending). Performed g.S.Source.gives g.S.Source.left g.O.Sink.takes
+    c.args.words.now c.args.source.now c.args.out.now ending c.perform.new.source
+    c.perform.new.out in
+    at_done P (subst P c.in-Ok-Done.field-0-is
+    (IfOk-at_ok P c.in-Ok-Done.is c.perform.ensures.performed))
+
+pub returns-in-Ok-ProofRefused-clause-performed : goal.returns-in-Ok-ProofRefused-clause-performed
+returns-in-Ok-ProofRefused-clause-performed g c =
+    let P = λ (ending : Ending). Performed g.S.Source.gives g.S.Source.left g.O.Sink.takes
+    c.args.words.now c.args.source.now c.args.out.now ending c.perform.new.source
+    c.perform.new.out in
+    at_refused P
+    (subst P c.in-Ok-ProofRefused.field-0-is
+    (IfOk-at_ok P c.in-Ok-ProofRefused.is c.perform.ensures.performed))
+
+pub returns-in-Err-clause-performed : goal.returns-in-Err-clause-performed
+returns-in-Err-clause-performed g c =
+    λ ending is. absurd (no_ending g.E.Sink.failures c.args.err.now c.complain.new.err c.in-Err.why
+    c.complain.result c.complain.ensures.failed c.complain.ensures.status ending is)

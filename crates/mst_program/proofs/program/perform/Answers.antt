@@ -1,6 +1,7 @@
 use Rattle.std.proofs.Common.{rules}
 use Rattle.std.proofs.Common.{◌+◌}
 use Rattle.mst_command.proofs.Asked.{asked_script, asked_replay, asked_verify, asked_load, asked_others, not_verified, words_device, still_unread, still_untouched, task_comes, words_come, no_device}
+use Rattle.mst_program.proofs.Endings.{performed}
 use Rattle.mst_program.proofs.program.perform.Goals as goal
 
 pub returns-in-Ok-clause-ran : goal.returns-in-Ok-clause-ran
@@ -98,3 +99,11 @@ returns-in-Err-clause-others g c = search rules
 
 pub returns-in-Err-clause-steady : goal.returns-in-Err-clause-steady
 returns-in-Err-clause-steady g c = search rules
+
+pub returns-in-Ok-clause-performed : goal.returns-in-Ok-clause-performed
+returns-in-Ok-clause-performed g c = performed g.S.Source.gives g.S.Source.left g.W.Sink.takes
+    c.args.words.now c.in-Ok.task c.execute.result c.args.source.now c.execute.new.source
+    c.args.out.now c.execute.new.out c.in-Ok.ensures.asked c.execute.ensures.did
+
+pub returns-in-Err-clause-performed : goal.returns-in-Err-clause-performed
+returns-in-Err-clause-performed g c = search rules

@@ -1,0 +1,27 @@
+use Rattle.std.proofs.Common.{rules, ◌≡◌, inl, subst}
+use Rattle.std.specs.Vec.Iter.{into_iter_items}
+use Rattle.mst_program.specs.Commanded.{AreTexts}
+use Rattle.mst_program.proofs.starting.run_words.Goals as goal
+
+pub returns : goal.returns
+returns g c =
+    let words : c.in-Ok-words_of.words.items ≡ c.deref-3.result.now = search rules in
+    let texts : c.deref.result.now ≡ into_iter_items c.args.arguments = search rules in
+    let are : AreTexts c.deref-3.result.now (into_iter_items c.args.arguments) =
+    subst (λ (ts : _). AreTexts c.deref-3.result.now ts) texts
+    (subst (λ (ws : _). AreTexts ws c.deref.result.now) words c.in-Ok-words_of.ensures) in
+    inl (
+      c.deref-3.result.now,
+      are,
+      record {
+        range = c.command.ensures.range;
+        performed = c.command.ensures.performed;
+        silent = c.command.ensures.silent;
+        told = c.command.ensures.told;
+        refused = c.command.ensures.refused;
+        memory = c.command.ensures.memory;
+        memory_unread = c.command.ensures.memory_unread;
+        device = c.command.ensures.device;
+        stopped = c.command.ensures.stopped;
+      },
+    )
