@@ -11,6 +11,6 @@ collide-requires c =
         c.requires.map,
         c.requires.few,
         ap (tree_of One) c.deref.ensures
-            ∙ ap (tree_of_child One) (sym c.in-Some.is) ∙ c.in-Ok.ensures.tree,
+            ∙ ap (tree_of_child One) (sym c.in-Some.is) ∙ c.in_ok-tree.ensures.tree,
       );
     }
