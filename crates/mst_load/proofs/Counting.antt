@@ -88,7 +88,7 @@ by_all P [] all = tt
 by_all P (e ∷ h) all =
     (all 0 e (omega arith), by_all P h (λ k d below. all (suc k) d (omega (arith, below))))
 
-to_all : (P : Event → Type 0) (h : History) → AllByRecursion P h → All P h
+pub to_all : (P : Event → Type 0) (h : History) → AllByRecursion P h → All P h
 to_all P [] each k d below = absurd (omega (arith, below))
 to_all P (e ∷ h) each zero d below = each.0
 to_all P (e ∷ h) each (suc k) d below = to_all P h each.1 k d (omega (arith, below))
@@ -275,3 +275,24 @@ full_events readers writers calls h range each all =
     (readers + writers) writers calls h (omega arith) each in
     full_writers writers writers calls h (omega arith)
     (fewer (readers + writers) writers writers calls h (omega arith) each) (sym counts ∙ all)
+
+-- where each writer has made all of its calls, there are as many events as calls
+whole_writers : (n calls : ℕ) (h : History)
+    → ((w : ℕ) → 0 < w → w ≤ n → length (events_of w h) ≡ calls) → total n h ≡ n * calls
+whole_writers zero calls h each = sym (zero-mul calls)
+whole_writers (suc n) calls h each =
+    let before : total n h ≡ n * calls =
+    whole_writers n calls h (λ w some low. each w some (omega (arith, low))) in
+    sums (total n h) (length (events_of (suc n) h)) (n * calls) calls (suc n * calls) before
+    (each (suc n) (omega arith) (omega arith)) (suc-mul n calls)
+  where
+    sums : (a b c d e : ℕ) → a ≡ c → b ≡ d → e ≡ c + d → a + b ≡ e
+    sums a b c d e f g i = omega (arith, f, g, i)
+
+pub all_events : (readers writers calls : ℕ) (h : History)
+    → AllByRecursion (IsOfFirst (readers + writers)) h → AreCounted (readers + writers) writers
+    calls h → ((w : ℕ) → 0 < w → w ≤ writers → length (events_of w h) ≡ calls)
+    → length h ≡ writers * calls
+all_events readers writers calls h range each whole = count (readers + writers) h range
+    ∙ total_writers (readers + writers) writers calls h (omega arith) each
+    ∙ whole_writers writers calls h whole

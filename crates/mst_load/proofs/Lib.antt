@@ -4,3 +4,6 @@ mod Kept
 mod Left
 mod Counting
 mod Merged
+mod FewRows
+mod FewKeys
+mod NoneRefused

@@ -134,13 +134,13 @@ look_stable (Some x) (Some y) h = go (bytes_eq x y) refl
 
 module _ (readers writers calls events : ℕ) (root : List ℕ)
     (s : HasSettled (readers + writers) writers calls events root) where
-  abbrev log : History
+  abbrev pub log : History
   log = s.settled.log
 
-  abbrev none : Known
+  abbrev pub none : Known
   none = new_pass s.all.store 0
 
-  in_range : AllByRecursion (IsOfFirst (readers + writers)) log
+  pub in_range : AllByRecursion (IsOfFirst (readers + writers)) log
   in_range = by_all (IsOfFirst (readers + writers)) log (λ i e below.
       let at = pass_at s.passes none (get_or log i e).pass (s.settled.alone i e below) in
       let is : (get_or s.passes at.0 none).number ≡ (get_or log i e).pass = at.2 in
@@ -149,7 +149,7 @@ module _ (readers writers calls events : ℕ) (root : List ℕ)
       let size : length s.passes ≡ readers + writers = s.count_is in
       (omega (arith, is, number), omega (arith, is, number, low, size)))
 
-  each_counted : AreCounted (readers + writers) writers calls log
+  pub each_counted : AreCounted (readers + writers) writers calls log
   each_counted w some low =
       let size : length s.passes ≡ readers + writers = s.count_is in
       let there : w - 1 < length s.passes = omega (arith, some, low, size) in

@@ -19,7 +19,7 @@ value_of call = to_be_bytes w32 call
 abbrev pub change_of : ℕ → ℕ → Change
 change_of writer call = Put (key_of writer call) (value_of call)
 
--- the event of a call of a writer, where it was not refused
+-- the event of a call of a writer
 abbrev pub event_of : ℕ → ℕ → Event
 event_of writer call = record { pass = writer; change = change_of writer call }
 
@@ -34,7 +34,7 @@ abbrev pub all_calls : ℕ → ℕ → History
 all_calls zero calls = []
 all_calls (suc w) calls = all_calls w calls ++ calls_of (suc w) calls
 
--- the map that these calls leave where none of them is refused
+-- the map that these calls leave
 unfoldable pub map_left : ℕ → ℕ → List Pair
 map_left writers calls = after (all_calls writers calls)
 

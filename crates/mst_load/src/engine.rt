@@ -34,7 +34,7 @@ pub struct Report {
     pub falls: u64,
     /// The root digest of the last version's map.
     pub root: [u8; 32],
-    /// The root digest of the map that the writers' calls leave where none was refused.
+    /// The root digest of the map that the writers' calls leave.
     pub built: [u8; 32],
 }
 
@@ -49,8 +49,8 @@ pub enum LoadFault {
     Thread(Memory),
 }
 
-// The number of the version that a pass finds when all have settled, and the root digest of its map.
-// That all settle again shows that no event came since.
+// The number of the version that a pass finds when all have settled, and the root digest of its
+// map. That all settle again shows that no event came since.
 fn version_of<'a, A: Allocator>(
     pass: Pass<'a, Global>,
     others: Vec<Pass<'a, Global>, A>,
@@ -87,7 +87,8 @@ fn report_of<A: Allocator>(
     requires worked { All (HasAllCalls _plan.writers _plan.calls) passes.items }
     ensures falls { result.falls ≡ falls }
     ensures built { result.built ≡ built }
-    ensures settled { HasSettled (vec_len passes.entry) _plan.writers _plan.calls result.events result.root }
+    ensures settled { HasSettled (vec_len passes.entry) _plan.writers _plan.calls result.events
+        result.root }
     ensures version { IsOneVersion result.events result.root }
 {
     let mut passes = passes;
@@ -121,10 +122,10 @@ fn opened<A: Allocator + Copy>(alloc: A, shape: Shape) -> Result<(Store<A>, Seat
 /// what they left. The writers are the first passes, the readers follow.
 ///
 /// Call `c` of writer `w` puts the value `c` at the key of `w` and `c` by 32, and waits for its
-/// turn. A put that is refused is no event, and the writer goes on: where there are as many events
-/// as calls of writers, none was refused, and the map is the one that they leave. A reader asks for
-/// the version and for a value in turns. Each worker asks the gate before each call and tells it
-/// after.
+/// turn. None is refused: at most 256 keys take at most 512 rows in each version, and the store has
+/// 32,768 for the versions that at most 32 passes keep. So there are as many events as calls of
+/// writers, and the map is the one that they leave. A reader asks for the version and for a value
+/// in turns. Each worker asks the gate before each call and tells it after.
 ///
 /// There are at most 24 readers, 1 to 8 writers, and 1 to 100,000 calls of each worker. The store,
 /// which the threads share, lies in the runtime's memory, the lists of passes and threads in
@@ -147,9 +148,8 @@ pub fn load<R: Threads + Wait + AllocGlobal + Sync, A: Allocator + Copy, G: Gate
     ensures settled { IfOk result
         (λ report. HasSettled (readers + writers) writers calls report.events report.root) }
     ensures built { IfOk result (λ report. report.built ≡ text.root One (map_left writers calls)) }
-    ensures few { IfOk result (λ report. report.events ≤ writers * calls) }
-    ensures whole { IfOk result
-        (λ report. report.events ≡ writers * calls → report.root ≡ report.built) }
+    ensures all { IfOk result (λ report. report.events ≡ writers * calls) }
+    ensures whole { IfOk result (λ report. report.root ≡ report.built) }
 {
     let pairs = match left_by(alloc, writers, calls) {
         Ok(pairs) => pairs,

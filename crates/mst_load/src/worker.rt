@@ -17,7 +17,8 @@ pub(crate) struct Plan {
     pub(crate) calls: u32,
 }
 
-// Makes the calls of a writer. A put that is refused is none of its events, and the writer goes on.
+// Makes the calls of a writer. The contract leaves open whether a put is refused: that none is
+// follows from what all writers put.
 #[tactic(auto, using(crate::proofs::Working::not_written, crate::proofs::Working::written_more))]
 fn write<R: Wait, G: Gate>(rt: &R, gate: &G, pass: &mut Pass<'_, Global>, calls: u32)
     requires few { pass.old.number < 256 }

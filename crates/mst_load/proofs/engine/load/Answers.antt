@@ -5,7 +5,8 @@ use Rattle.mst_store.specs.Settling.{AreAllPasses}
 use Rattle.std.specs.Prelude.{get_or}
 use Rattle.mst_load.proofs.Kept.{each_keeps, settled_count}
 use Rattle.mst_load.proofs.Returning.{dealt_worker, dealt_number, all_back}
-use Rattle.mst_load.proofs.Merged.{few_puts, all_puts}
+use Rattle.mst_load.proofs.Merged.{all_puts}
+use Rattle.mst_load.proofs.NoneRefused.{all_made}
 use Rattle.mst_load.proofs.engine.load.Goals as goal
 
 -- the passes that go to the workers are those that were dealt
@@ -51,20 +52,26 @@ run_all-requires-clause-numbered g c κs within =
     (λ k d below. dealt_number store dealt.passes.items k d dealt.ensures.ok
     (omega (arith, below, count)))
 
-pub returns-clause-few : goal.returns-clause-few
-returns-clause-few g c =
+-- no put was refused
+pub returns-clause-all : goal.returns-clause-all
+returns-clause-all g c =
     let count : vec_len c.in_ok-passes.passes ≡ c.in-Ok-opened.opened.0.passes = search rules in
     let told = c.report_of.result in
-    few_puts c.args.readers c.args.writers c.args.calls told.events told.root
+    all_made c.args.readers c.args.writers c.args.calls told.events told.root
     (settled_count (vec_len c.in_ok-passes.passes) (c.args.readers + c.args.writers) c.args.writers
     c.args.calls told.events told.root c.report_of.ensures.settled
     (count ∙ c.in-Ok-opened.ensures.store.1))
+    c.requires.readers c.requires.writers.1 c.requires.calls.1
 
+-- so the map is the one that all calls leave
 pub returns-clause-whole : goal.returns-clause-whole
 returns-clause-whole g c =
     let count : vec_len c.in_ok-passes.passes ≡ c.in-Ok-opened.opened.0.passes = search rules in
     let told = c.report_of.result in
-    all_puts c.args.readers c.args.writers c.args.calls told.events told.root
-    (settled_count (vec_len c.in_ok-passes.passes) (c.args.readers + c.args.writers) c.args.writers
-    c.args.calls told.events told.root c.report_of.ensures.settled
-    (count ∙ c.in-Ok-opened.ensures.store.1)) told.built (search rules)
+    let settled = settled_count (vec_len c.in_ok-passes.passes)
+    (c.args.readers + c.args.writers) c.args.writers c.args.calls told.events told.root
+    c.report_of.ensures.settled (count ∙ c.in-Ok-opened.ensures.store.1) in
+    all_puts c.args.readers c.args.writers c.args.calls told.events told.root settled told.built
+    (search rules)
+    (all_made c.args.readers c.args.writers c.args.calls told.events told.root settled
+    c.requires.readers c.requires.writers.1 c.requires.calls.1)
