@@ -1,5 +1,5 @@
 -- What the calls through a hand's pass do, free or pinned.
-use Rattle.std.specs.Prelude.{◌≡◌, ℕ, List, length, Bool, true, false, Option, IfSome, IsSome, Result, Ok, Err}
+use Rattle.std.specs.Prelude.{◌≡◌, ◌↔◌, ℕ, List, [], length, Bool, true, false, Option, IfSome, IsSome, Result, Ok, Err}
 use Rattle.mst_key.specs.declared.format.Format.{Format}
 use Rattle.mst_key.specs.History.{after, had}
 use Rattle.mst_key.specs.Map.{Pair}
@@ -13,12 +13,13 @@ use Rattle.mst_c.specs.declared.held.Unwritten.TheVariants.{Pins, Store}
 use Rattle.mst_c.specs.declared.held.Uncounted.{Uncounted}
 use Rattle.mst_c.specs.declared.held.Uncounted.TheVariants as uncounted
 
--- A read answers what this question asks of a map and its format: a free pass of that which it finds
--- now, a pinned one of that of its version
+-- A read answers what this question asks of a map and its format: a free pass of that which it
+-- finds now, a pinned one of that of its version
 abbrev pub Reads : {R : Type 0} → (Format → List Pair → R) → State → R → State → Type 0
 Reads question Away answer s = ⊥
 Reads question (Free p) answer s = (q : Known) × (s ≡ Free q) × Answers question p answer q
-Reads question (Pinned p) answer s = (s ≡ Pinned p) × (answer ≡ question (format_seen p) (after p.seen))
+Reads question (Pinned p) answer s =
+    (s ≡ Pinned p) × (answer ≡ question (format_seen p) (after p.seen))
 
 -- A read for which memory was refused changed nothing but that a free pass has asked
 abbrev pub Forgets : State → State → Type 0
@@ -29,7 +30,8 @@ Forgets (Pinned p) s = s ≡ Pinned p
 -- A write by a free pass is as the pass's contract says; a pinned pass writes nothing
 abbrev pub Writes : Change → State → Result (Option (List ℕ)) Unwritten → State → Type 0
 Writes change Away result s = ⊥
-Writes change (Free p) (Ok old) s = (q : Known) × (s ≡ Free q) × Wrote (made_by p change) p (had old) q
+Writes change (Free p) (Ok old) s =
+    (q : Known) × (s ≡ Free q) × Wrote (made_by p change) p (had old) q
 Writes change (Free p) (Err (Store fault)) s = (q : Known) × (s ≡ Free q) × Refuses fault change p q
 Writes change (Free p) (Err Pins) s = ⊥
 Writes change (Pinned p) (Err Pins) s = s ≡ Pinned p
@@ -48,18 +50,21 @@ Unpins Away done s = ⊥
 Unpins (Free p) done s = (done ≡ false) × (s ≡ Free p)
 Unpins (Pinned p) done s = (done ≡ true) × (s ≡ Free p)
 
--- The number of the version: of a free pass that which it finds now, of a pinned one that of its pin
+-- The number of the version: of a free pass that which it finds now, of a pinned one that of its
+-- pin
 abbrev pub Versions : State → ℕ → State → Type 0
 Versions Away n s = ⊥
 Versions (Free p) n s = (q : Known) × (s ≡ Free q) × Looks p q × (n ≡ length q.seen)
 Versions (Pinned p) n s = (s ≡ Pinned p) × (n ≡ length p.seen)
 
--- The rows of the map are counted by a free pass, where it finds no pin and no other pass writes
+-- The rows of the map are counted by a free pass where no other pass writes, exactly if it finds no
+-- version pinned
 abbrev pub Counts : State → Result (Option ℕ) Uncounted → State → Type 0
 Counts Away result s = ⊥
 Counts (Free p) (Ok found) s =
-    (q : Known) × (s ≡ Free q) × Looks p q × IfSome found (λ n. n ≡ rows_of (format_seen q) (after q.seen))
-    × (p.store.passes ≡ 1 → IsSome found)
+    (q : Known) × (s ≡ Free q) × Looks p q
+    × IfSome found (λ n. n ≡ rows_of (format_seen q) (after q.seen))
+    × (p.store.passes ≡ 1 → IsSome found) × (IsSome found ↔ (q.found ≡ []))
 Counts (Free p) (Err uncounted.Busy) s = (q : Known) × (s ≡ Free q) × FindsBusy p q
 Counts (Free p) (Err uncounted.Pins) s = ⊥
 Counts (Pinned p) (Err uncounted.Pins) s = s ≡ Pinned p

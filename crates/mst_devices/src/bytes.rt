@@ -1,6 +1,6 @@
 //! Devices over memory.
-ghost use Rattle.std.specs.Prelude.{◌≡◌, ◌<◌, ◌≤◌, ◌-◌, ◌^◌, ◌++◌, [], length, min, IfOk, OnOk, OnErr, refl};
-ghost use Rattle.mst_devices.specs.Device.{Took};
+ghost use Rattle.std.specs.Prelude.{◌≡◌, ◌<◌, ◌≤◌, ◌-◌, ◌^◌, ◌++◌, [], length, min, Ok, IfOk, OnOk, OnErr, refl};
+ghost use Rattle.mst_devices.specs.Device.{Gave, Took};
 ghost use Rattle.mst_devices.specs.Laws.{given_more, given_within, taken_none, taken_more};
 
 use crate::{Device, Sink, Source};
@@ -38,7 +38,13 @@ impl<'a> Source for BytesSource<'a> {
 
     ghost failures = { λ _. 0 };
 
-    fn read(&mut self, buffer: &mut [u8]) -> Result<usize, Device> {
+    fn read(&mut self, buffer: &mut [u8]) -> Result<usize, Device>
+        requires room { 0 < length buffer.old }
+        ensures ok { IfOk result
+            (λ n. Gave (λ s xs t. s ≡ xs ++ t) (λ s. length s) self.old buffer.new n self.new) }
+
+        ensures whole { result ≡ Ok (min (length self.old) (length buffer.old)) }
+    {
         let count = self.rest.len().min(buffer.len());
         let (front, rest) = self.rest.split_at(count);
         buffer[..count].copy_from_slice(front);

@@ -107,8 +107,8 @@ pub struct StdSink<W: Write> {
 }
 
 impl<W: Write> StdSink<W> {
-    /// A sink over one of the two standard outputs. Where std knows the writer's bytes, it holds what
-    /// it held, and behind that all that the sink took.
+    /// A sink over one of the two standard outputs. Where std knows the writer's bytes, it holds
+    /// what it held, and behind that all that the sink took.
     pub fn new(output: W) -> StdSink<W>
         ensures fresh { result ≡ record { failures = 0; known = W.contents output } }
         ensures whole { (held taken : _) (last : Written) → W.contents output ≡ Some held

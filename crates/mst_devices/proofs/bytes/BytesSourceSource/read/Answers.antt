@@ -16,12 +16,3 @@ copy_from_slice-requires c = search rules
 
 pub returns-clause-ok : goal.returns-clause-ok
 returns-clause-ok c = grind (arith, common_steps)
-
-pub returns-clause-steady : goal.returns-clause-steady
-returns-clause-steady c = search rules
-
-pub returns-clause-err : goal.returns-clause-err
-returns-clause-err c = search rules
-
-pub returns-clause-failed : goal.returns-clause-failed
-returns-clause-failed c = search rules
