@@ -1,8 +1,8 @@
 -- The parts of the row that sixteen words spell, each from some of the words.
-use Rattle.std.proofs.Common.{◌≡◌, ℕ, ◌+◌, ◌*◌, ◌/◌, ◌%◌, ◌<◌, ◌≤◌, List, [], ◌∷◌, length, take, drop, set, map, refl, sym, ◌∙◌, ap, arith, Some, None, Option}
+use Rattle.std.proofs.Common.{◌≡◌, ℕ, ◌+◌, ◌*◌, ◌/◌, ◌%◌, ◌<◌, ◌≤◌, List, [], ◌∷◌, length, take, drop, set, map, refl, sym, ◌∙◌, ap, subst, arith, Some, None, Option}
 use Rattle.std.specs.Prelude.{slice_index, slice_range, option_and_then, IsSome}
 use Rattle.std.specs.List.{range_with_len}
-use Rattle.std.proofs.lemmas.List.{ext_get_or, get_or-take, get_or-drop, length-take-le, length-drop}
+use Rattle.std.proofs.lemmas.List.{ext_get_or, get_or-take, get_or-drop, length-take-le, length-drop, take_all}
 use Rattle.std.proofs.lemmas.List.FromFn.{length-map-range_with_len, get_or-map-range_with_len}
 use Rattle.mst_key.specs.Bytes.{IsKey}
 use Rattle.mst_arena.specs.declared.row.Row.{Row}
@@ -10,7 +10,7 @@ use Rattle.mst_arena.specs.declared.row.Row.TheVariants.{Entry, Head}
 use Rattle.mst_arena.specs.declared.row.HeadLinks.{HeadLinks}
 use Rattle.mst_arena.specs.declared.row.EntryLinks.{EntryLinks}
 use Rattle.mst_arena.specs.Row.{IsRow, HasBytes, head_links, head_digest, entry_links, entry_value}
-use Rattle.mst_arena.specs.Words.{words_of, byte_of_words, row_in, part_in}
+use Rattle.mst_arena.specs.Words.{words_of, byte_of_words, bytes_in, row_in, part_in}
 use Rattle.mst_arena.specs.Content.{relinked}
 use Rattle.mst_arena.proofs.Packing.{packed, bytes_back, front_back}
 use Rattle.mst_arena.proofs.Spelling.{words_of_row, row_of_words}
@@ -30,6 +30,33 @@ words_at words a n le = ext_get_or 0 _ (take n (drop a words))
     let within : i < n = omega (arith, length-map-range_with_len (slice_index words) a n) in
     get_or-map-range_with_len (slice_index words) a n i (a + i) 0 within refl
     ∙ sym (get_or-take n (drop a words) i 0 within ∙ get_or-drop a words i 0))
+
+-- ---- all bytes of words, read one by one
+
+all_words : (words : List ℕ) (n : ℕ) → length words ≡ n → map (slice_index words)
+    (range_with_len 0 n) ≡ words
+all_words words n len = words_at words 0 n (omega (arith, len)) ∙ take_all n words
+    (omega (arith, len))
+
+pub four_bytes : (words : List ℕ) → length words ≡ 4 → map (byte_of_words words)
+    (range_with_len 0 32) ≡ bytes_in words
+four_bytes words len =
+    subst (λ (l : List ℕ). map (byte_of_words l) (range_with_len 0 32) ≡ bytes_in l)
+    (all_words words 4 len) refl
+
+pub eight_bytes : (words : List ℕ) → length words ≡ 8 → map (byte_of_words words)
+    (range_with_len 0 64) ≡ bytes_in words
+eight_bytes words len =
+    subst (λ (l : List ℕ). map (byte_of_words l) (range_with_len 0 64) ≡ bytes_in l)
+    (all_words words 8 len) refl
+
+-- those of a key
+pub key_bytes : (words : List ℕ) → length words ≡ 7
+    → map (byte_of_words (slice_index words 3 ∷ slice_index words 4 ∷ slice_index words 5
+    ∷ slice_index words 6 ∷ [])) (range_with_len 0 32) ≡ bytes_in (slice_range words 3 7)
+key_bytes words len = ap bytes_in (words_at words 3 4 (omega (arith, len)))
+
+-- ---- which part it is
 
 -- what words that spell an entry, or a head, have
 pub record EntryIn (words : List ℕ) : Type 0 where

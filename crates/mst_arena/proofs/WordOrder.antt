@@ -1,93 +1,13 @@
 -- The order of two keys is that of their words, and where these are the same, of their lengths.
-use Rattle.std.proofs.Common.{◌≡◌, ℕ, zero, suc, ◌+◌, ◌*◌, ◌%◌, ◌<◌, ◌≤◌, ◌==◌, nat_lt, cond, List, [], ◌∷◌, length, refl, sym, ◌∙◌, ap, arith, Ordering, Less, Equal, Greater, nat_cmp}
+use Rattle.std.proofs.Common.{◌≡◌, ℕ, zero, suc, ◌+◌, ◌%◌, ◌<◌, ◌≤◌, List, [], ◌∷◌, length, refl, sym, ◌∙◌, ap, arith, Ordering, Less, Equal, Greater, nat_cmp}
 use Rattle.std.specs.Prelude.{slice_index}
 use Rattle.std.specs.Ordering.{ordering_then}
-use Rattle.std.specs.Int.{w64, from_be_bytes}
-use Rattle.std.proofs.lemmas.Bool.{cond-true, lt-ltb}
-use Rattle.std.proofs.lemmas.Cmp.{nat_cmp_total, tied_itself}
 use Rattle.mst_key.specs.Bytes.{IsBytes}
 use Rattle.mst_key.specs.Map.{key_cmp}
+use Rattle.mst_node.proofs.FirstWords.{less, greater, same, eight}
 use Rattle.mst_arena.specs.Words.{word_from}
 use Rattle.mst_arena.specs.Ways.{words_order}
 use Rattle.mst_arena.proofs.Packing.{byte_lt}
-
--- ---- numbers
-
-less : (a b : ℕ) → a < b → nat_cmp a b ≡ Less
-less a b lt = cond-true (nat_lt a b) Less (cond (a == b) Equal Greater) (lt-ltb a b lt)
-
-greater : (a b : ℕ) → b < a → nat_cmp a b ≡ Greater
-greater a b lt = grind arith
-
-same : (a b : ℕ) → a ≡ b → nat_cmp a b ≡ Equal
-same a b e = ap (nat_cmp a) (sym e) ∙ tied_itself nat_cmp_total a
-
--- one of the three holds
-by_three : {G : Type 0} (a b : ℕ) → (a < b → G) → (a ≡ b → G) → (b < a → G) → G
-by_three zero zero l e g = e refl
-by_three zero (suc b) l e g = l (omega arith)
-by_three (suc a) zero l e g = g (omega arith)
-by_three (suc a) (suc b) l e g = by_three a b (λ x. l (omega (arith, x))) (λ x. e (ap suc x))
-    (λ x. g (omega (arith, x)))
-
--- a number of two digits: the high one decides first
-digits : (x y a b : ℕ) → a < 256 → b < 256 → nat_cmp (x * 256 + a) (y * 256 + b) ≡ ordering_then
-    (nat_cmp x y) (nat_cmp a b)
-digits x y a b la lb = by_three x y
-    (λ l. less (x * 256 + a) (y * 256 + b) (omega (arith, l, la, lb))
-    ∙ sym (ap (λ (r : Ordering). ordering_then r (nat_cmp a b)) (less x y l)))
-    (λ e. low e ∙ sym (ap (λ (r : Ordering). ordering_then r (nat_cmp a b)) (same x y e)))
-    (λ g. greater (x * 256 + a) (y * 256 + b) (omega (arith, g, la, lb))
-    ∙ sym (ap (λ (r : Ordering). ordering_then r (nat_cmp a b)) (greater x y g)))
-  where
-    low : x ≡ y → nat_cmp (x * 256 + a) (y * 256 + b) ≡ nat_cmp a b
-    low e = by_three a b
-        (λ l. less (x * 256 + a) (y * 256 + b) (omega (arith, e, l)) ∙ sym (less a b l))
-        (λ s. same (x * 256 + a) (y * 256 + b) (omega (arith, e, s)) ∙ sym (same a b s))
-        (λ g. greater (x * 256 + a) (y * 256 + b) (omega (arith, e, g)) ∙ sym (greater a b g))
-
-then_assoc : (p q r : Ordering) → ordering_then (ordering_then p q) r ≡ ordering_then p
-    (ordering_then q r)
-then_assoc Less q r = refl
-then_assoc Equal q r = refl
-then_assoc Greater q r = refl
-
--- ---- eight bytes as a word
-
-push : (x y a b : ℕ) (r : Ordering) → a < 256 → b < 256 → ordering_then (nat_cmp x y)
-    (ordering_then (nat_cmp a b) r) ≡ ordering_then (nat_cmp (x * 256 + a) (y * 256 + b)) r
-push x y a b r la lb = sym (then_assoc (nat_cmp x y) (nat_cmp a b) r)
-    ∙ ap (λ (o : Ordering). ordering_then o r) (sym (digits x y a b la lb))
-
-abbrev wide : ℕ → ℕ → ℕ → ℕ → ℕ → ℕ → ℕ → ℕ → ℕ
-wide a b c d e f g h = ((((((a * 256 + b) * 256 + c) * 256 + d) * 256 + e) * 256 + f) * 256 + g) *
-    256 + h
-
-is_wide : (a b c d e f g h : ℕ) → wide a b c d e f g h ≡ from_be_bytes w64
-    (a ∷ b ∷ c ∷ d ∷ e ∷ f ∷ g ∷ h ∷ [])
-is_wide a b c d e f g h = omega arith
-
-eight : (a b c d e f g h a' b' c' d' e' f' g' h' : ℕ) (r : Ordering) → b < 256 → b' < 256 → c < 256
-    → c' < 256 → d < 256 → d' < 256 → e < 256 → e' < 256 → f < 256 → f' < 256 → g < 256 → g' < 256
-    → h < 256 → h' < 256
-    → ordering_then (nat_cmp a a')
-    (ordering_then (nat_cmp b b')
-    (ordering_then (nat_cmp c c')
-    (ordering_then (nat_cmp d d')
-    (ordering_then (nat_cmp e e')
-    (ordering_then (nat_cmp f f')
-    (ordering_then (nat_cmp g g') (ordering_then (nat_cmp h h') r)))))))
-    ≡ ordering_then
-    (nat_cmp (from_be_bytes w64 (a ∷ b ∷ c ∷ d ∷ e ∷ f ∷ g ∷ h ∷ []))
-    (from_be_bytes w64 (a' ∷ b' ∷ c' ∷ d' ∷ e' ∷ f' ∷ g' ∷ h' ∷ []))) r
-eight a b c d e f g h a' b' c' d' e' f' g' h' r lb lb' lc lc' ld ld' le le' lf lf' lg lg' lh lh' =
-    push a a' b b' _ lb lb' ∙ push _ _ c c' _ lc lc' ∙ push _ _ d d' _ ld ld' ∙ push _ _ e e' _ le
-    le' ∙ push _ _ f f' _ lf lf' ∙ push _ _ g g' _ lg lg' ∙ push _ _ h h' r lh lh'
-    ∙ ap (λ (n : ℕ). ordering_then (nat_cmp n (wide a' b' c' d' e' f' g' h')) r)
-    (is_wide a b c d e f g h)
-    ∙ ap (λ (n : ℕ). ordering_then
-    (nat_cmp (from_be_bytes w64 (a ∷ b ∷ c ∷ d ∷ e ∷ f ∷ g ∷ h ∷ [])) n) r)
-    (is_wide a' b' c' d' e' f' g' h')
 
 -- ---- bytes one after another
 

@@ -1,9 +1,9 @@
 //! The parts of a row, each from the words that it stands in. The sixteen words are counted from 0.
-ghost use Rattle.std.specs.Prelude.{◌≡◌, ◌≤◌, ◌<◌, ◌*◌, ◌↔◌, ℕ, List, map, take, slice_index, slice_range, Some, IsSome, IsOk, IfOk};
+ghost use Rattle.std.specs.Prelude.{◌≡◌, ◌≤◌, ◌<◌, ◌/◌, ◌%◌, ◌^◌, ◌↔◌, ℕ, List, map, take, slice_index, slice_range, Some, IsSome, IfSome, IsOk, IfOk};
 ghost use Rattle.mst_key.specs.Bytes.{IsKey, IsValue};
 ghost use Rattle.std.specs.List.{range_with_len};
 ghost use Rattle.mst_arena.specs.Row.{head_links, head_digest, entry_links, entry_value};
-ghost use Rattle.mst_arena.specs.Words.{byte_of_words, part_in};
+ghost use Rattle.mst_arena.specs.Words.{byte_of_words, bytes_in, part_in};
 
 use crate::row::{EntryLinks, HeadLinks, Row};
 use mst_key::{Key, KeySize, Value, ValueSize};
@@ -84,8 +84,15 @@ fn value_of(words: &[u64; 8], len: usize) -> Result<Value, ValueSize>
 impl HeadLinks {
     /// The layer, the count and the links of a head, from words 1 to 4 of its sixteen.
     ///
-    /// Nothing is said of the words of no head.
+    /// They are these four numbers if the first fits one byte and each other four bytes, and
+    /// otherwise none. Whether they are within the limits of a head is not asked.
     pub fn read(words: &[u64; 4]) -> Option<HeadLinks>
+        ensures some { IfSome result (λ head. (head.layer ≡ slice_index words.now 0)
+            × (head.count ≡ slice_index words.now 1) × (head.first ≡ slice_index words.now 2)
+            × (head.tail ≡ slice_index words.now 3)) }
+        ensures when { IsSome result ↔ ((slice_index words.now 0 < 2 ^ 8)
+            × (slice_index words.now 1 < 2 ^ 32) × (slice_index words.now 2 < 2 ^ 32)
+            × (slice_index words.now 3 < 2 ^ 32)) }
         ensures part { (all : List ℕ) → words.now ≡ slice_range all 1 5
             → IsSome (part_in head_links all) → part_in head_links all ≡ result }
     {
@@ -101,8 +108,17 @@ impl HeadLinks {
 impl EntryLinks {
     /// The links and the key of an entry, from words 1 to 7 of its sixteen.
     ///
-    /// Nothing is said of the words of no entry.
+    /// The links are the first two of these words. The key is the first bytes of the last four, as
+    /// many as the low byte of the third word says. The result is `None` exactly if a link does not
+    /// fit four bytes, or the key would have no byte or more than 32.
     pub fn read(words: &[u64; 7]) -> Option<EntryLinks>
+        ensures some { IfSome result (λ entry. (entry.child ≡ slice_index words.now 0)
+            × (entry.next ≡ slice_index words.now 1)
+            × (entry.key ≡ take (slice_index words.now 2 % 256)
+            (bytes_in (slice_range words.now 3 7)))) }
+        ensures when { IsSome result ↔ ((slice_index words.now 0 < 2 ^ 32)
+            × (slice_index words.now 1 < 2 ^ 32) × (0 < slice_index words.now 2 % 256)
+            × (slice_index words.now 2 % 256 ≤ 32)) }
         ensures part { (all : List ℕ) → words.now ≡ slice_range all 1 8
             → IsSome (part_in entry_links all) → part_in entry_links all ≡ result }
     {
@@ -120,8 +136,9 @@ impl EntryLinks {
 }
 
 impl Row {
-    /// The digest of a head, from words 5 to 8 of its sixteen.
+    /// The digest of a head, from words 5 to 8 of its sixteen: all their bytes.
     pub fn read_digest(words: &[u64; 4]) -> [u8; 32]
+        ensures bytes { result ≡ bytes_in words.now }
         ensures part { (all : List ℕ) → words.now ≡ slice_range all 5 9
             → IsSome (part_in head_digest all) → part_in head_digest all ≡ Some result }
     {
@@ -130,8 +147,11 @@ impl Row {
 
     /// The value of an entry, from word 3 of its sixteen, which has the lengths, and words 8 to 15.
     ///
-    /// Nothing is said of the words of no entry.
+    /// The value is the first bytes of the eight words, as many as word 3 says above its low byte.
+    /// The result is `None` exactly if these are more than 64.
     pub fn read_value(lengths: u64, words: &[u64; 8]) -> Option<Value>
+        ensures some { IfSome result (λ value. value ≡ take (lengths / 256) (bytes_in words.now)) }
+        ensures when { IsSome result ↔ (lengths / 256 ≤ 64) }
         ensures part { (all : List ℕ) → lengths ≡ slice_index all 3
             → words.now ≡ slice_range all 8 16
             → IsSome (part_in entry_value all) → part_in entry_value all ≡ result }

@@ -44,19 +44,22 @@ pub trait Rows {
         ensures blank { blank self.new ≡ blank self.old }
         ensures kept { kept self.new ≡ kept self.old };
 
-    /// Copies the entry at a number into a blank row, with another child and another next.
-    fn copy_entry(&mut self, from: u32, to: u32, child: u32, next: u32)
+    /// Copies the entry at a number into a blank row, with another child and another next. It
+    /// answers the entry's value, so that whoever needs it does not load its words once more.
+    fn copy_entry(&mut self, from: u32, to: u32, child: u32, next: u32) -> Value
         requires there { IsSome (part_at entry_links (content self.old) from) }
         requires blank { IsTrue (blank self.old to) }
         requires child { child ≤ 65535 }
         requires next { next ≤ 65535 }
         ensures writes { IfSome (content self.old from)
             (λ entry. Writes (content self.old) (content self.new) to (relinked child next entry)) }
+        ensures value { part_at entry_value (content self.old) from ≡ Some result }
         ensures blank { blank self.new ≡ blank self.old }
         ensures kept { kept self.new ≡ kept self.old }
     {
         match self.read(from) {
             Row::Entry { key, value, .. } => {
+                let answer = value.copy();
                 let entry = Row::Entry {
                     child,
                     next,
@@ -64,6 +67,7 @@ pub trait Rows {
                     value,
                 };
                 self.write(to, &entry);
+                answer
             }
             Row::Head { .. } => unreachable!(),
         }

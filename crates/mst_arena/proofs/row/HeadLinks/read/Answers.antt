@@ -2,40 +2,55 @@ use Rattle.std.proofs.Common.{rules}
 use Rattle.mst_arena.proofs.Readers.{head_links_of}
 use Rattle.mst_arena.proofs.row.HeadLinks.read.Goals as goal
 
-pub returns-in_err-ok : goal.returns-in_err-ok
-returns-in_err-ok c =
-    record {
-      part = λ all at some. head_links_of c.args.words.now all _
-          (λ layer count first tail l k f t is. search rules) at some;
-    }
+pub returns-in_err-ok-clause-some : goal.returns-in_err-ok-clause-some
+returns-in_err-ok-clause-some c = search rules
 
-pub returns-in_err-ok-2 : goal.returns-in_err-ok-2
-returns-in_err-ok-2 c =
-    record {
-      part = λ all at some. head_links_of c.args.words.now all _
-          (λ layer count first tail l k f t is. search rules) at some;
-    }
+pub returns-in_err-ok-clause-when : goal.returns-in_err-ok-clause-when
+returns-in_err-ok-clause-when c = search rules
 
-pub returns-in_err-ok-3 : goal.returns-in_err-ok-3
-returns-in_err-ok-3 c =
-    record {
-      part = λ all at some. head_links_of c.args.words.now all _
-          (λ layer count first tail l k f t is. search rules) at some;
-    }
+pub returns-in_err-ok-clause-part : goal.returns-in_err-ok-clause-part
+returns-in_err-ok-clause-part c all at some = head_links_of c.args.words.now all _
+    (λ layer count first tail l k f t is. search rules) at some
 
-pub returns-in_err-ok-4 : goal.returns-in_err-ok-4
-returns-in_err-ok-4 c =
-    record {
-      part = λ all at some. head_links_of c.args.words.now all _
-          (λ layer count first tail l k f t is. search rules) at some;
-    }
+pub returns-in_err-ok-2-clause-some : goal.returns-in_err-ok-2-clause-some
+returns-in_err-ok-2-clause-some c = search rules
 
-pub returns : goal.returns
-returns c =
-    record {
-      part = λ all at some. head_links_of c.args.words.now all _
-          (λ layer count first tail l k f t is. search rules) at some;
-    }
+pub returns-in_err-ok-2-clause-when : goal.returns-in_err-ok-2-clause-when
+returns-in_err-ok-2-clause-when c = search rules
+
+pub returns-in_err-ok-2-clause-part : goal.returns-in_err-ok-2-clause-part
+returns-in_err-ok-2-clause-part c all at some = head_links_of c.args.words.now all _
+    (λ layer count first tail l k f t is. search rules) at some
+
+pub returns-in_err-ok-3-clause-some : goal.returns-in_err-ok-3-clause-some
+returns-in_err-ok-3-clause-some c = search rules
+
+pub returns-in_err-ok-3-clause-when : goal.returns-in_err-ok-3-clause-when
+returns-in_err-ok-3-clause-when c = search rules
+
+pub returns-in_err-ok-3-clause-part : goal.returns-in_err-ok-3-clause-part
+returns-in_err-ok-3-clause-part c all at some = head_links_of c.args.words.now all _
+    (λ layer count first tail l k f t is. search rules) at some
+
+pub returns-in_err-ok-4-clause-some : goal.returns-in_err-ok-4-clause-some
+returns-in_err-ok-4-clause-some c = search rules
+
+pub returns-in_err-ok-4-clause-when : goal.returns-in_err-ok-4-clause-when
+returns-in_err-ok-4-clause-when c = search rules
+
+pub returns-in_err-ok-4-clause-part : goal.returns-in_err-ok-4-clause-part
+returns-in_err-ok-4-clause-part c all at some = head_links_of c.args.words.now all _
+    (λ layer count first tail l k f t is. search rules) at some
+
+pub returns-clause-some : goal.returns-clause-some
+returns-clause-some c = search rules
+
+pub returns-clause-when : goal.returns-clause-when
+returns-clause-when c = search rules
+
+pub returns-clause-part : goal.returns-clause-part
+returns-clause-part c all at some = head_links_of c.args.words.now all _
+    (λ layer count first tail l k f t is. search rules) at some
 
 pub bounds-words-0 : goal.bounds-words-0
 bounds-words-0 c = search rules
