@@ -29,7 +29,9 @@ impl Key {
     }
 }
 
-/// The layer in a format of the key that has these bytes.
+/// The layer in a format of the key that has these bytes. It is inlined, since the reading of a
+/// text asks it for each key.
+#[inline(always)]
 #[tactic(auto, unfolding(crate::specs::Layer::layer_in))]
 pub fn layer_of(format: Format, key: &[u8]) -> u8
     ensures layer { result ≡ layer_in format key.now }
@@ -76,8 +78,9 @@ fn zeros_in_byte(format: Format, byte: u8) -> u8
     }
 }
 
-/// How many digits 0 of a format begin a digest.
-fn zeros_of_digest(format: Format, digest: &[u8; 32]) -> u8
+/// How many digits 0 of a format begin a digest, byte after byte.
+#[inline(never)]
+fn zeros_of_bytes(format: Format, digest: &[u8; 32]) -> u8
     ensures zeros { result ≡ zeros_in_front (digits format digest.now) }
 {
     let mut zeros = 0;
@@ -88,4 +91,17 @@ fn zeros_of_digest(format: Format, digest: &[u8; 32]) -> u8
         }
     }
     zeros
+}
+
+/// How many digits 0 of a format begin a digest. Mostly its first byte decides, so the others are
+/// left to a call.
+fn zeros_of_digest(format: Format, digest: &[u8; 32]) -> u8
+    ensures zeros { result ≡ zeros_in_front (digits format digest.now) }
+{
+    let first = digest[0];
+    if first != 0 {
+        zeros_in_byte(format, first)
+    } else {
+        zeros_of_bytes(format, digest)
+    }
 }

@@ -12,7 +12,10 @@ pub mod EntryPlaces
 pub mod FittingKeys
 pub mod KeyPlaces
 pub mod GrammarIsRead
+pub mod ScannedEntries
+pub mod Stops
 pub mod Scans
+pub mod FirstWords
 pub mod TreeOrder
 pub mod Frames
 pub mod MapTextsInGrammar

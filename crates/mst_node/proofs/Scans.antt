@@ -1,24 +1,21 @@
 -- One reading of a node text says what reading it, testing its keys and searching it say.
 use Rattle.std.proofs.Common.{◌≡◌, ◌↔◌, ℕ, zero, suc, ◌<◌, ◌==◌, Bool, true, false, cond, List, [], ◌∷◌, length, Option, Some, None, refl, sym, ◌∙◌, ap, subst, arith}
-use Rattle.std.specs.Prelude.{IfSome, IsSome, unwrap_or}
-use Rattle.std.specs.Bool.{Decides}
+use Rattle.std.specs.Prelude.{IfSome, option_map}
 use Rattle.std.specs.Int.{w16, from_be_bytes}
 use Rattle.std.specs.List.{AllByRecursion}
-use Rattle.std.specs.Option.{option_map_or}
-use Rattle.std.specs.Ordering.{is_lt}
+use Rattle.std.specs.Option.{option_or}
 use Rattle.std.specs.declared.cmp.Ordering.{Ordering}
 use Rattle.std.specs.declared.cmp.Ordering.TheVariants.{Less, Equal, Greater}
-use Rattle.std.proofs.lemmas.Bool.Decides.{nat_tests, Decides-and, Decides-eqb}
+use Rattle.std.proofs.lemmas.Bool.Decides.{nat_tests}
 use Rattle.std.proofs.lemmas.Cmp.{nat_list_cmp_total}
 use Rattle.mst_key.specs.declared.format.Format.{Format}
-use Rattle.mst_key.specs.Layer.{layer_in}
 use Rattle.mst_key.specs.Map.{key_cmp}
 use Rattle.mst_node.specs.Text.{FlatEntry, FlatNode, version}
 use Rattle.mst_node.specs.Gaps.{IsBetween}
 use Rattle.mst_node.specs.Grammar.{KeysFit}
 use Rattle.mst_node.specs.Place.{place_among, place_of, LiesWithin}
 use Rattle.mst_node.specs.Reading.{◌>>=◌, child_at, entry_at, entries_at, whole, body_at, node_of, node_at}
-use Rattle.mst_node.specs.Scan.{Stopped, Passing, start, stop_at, pass_at, fits_behind, scan_at, body_scan_at, text_scan_at, EndsLieIn, bound_or, stop_place, place_by}
+use Rattle.mst_node.specs.Scan.{Stopped, Passing, start, stop_at, pass_at, scan_at, body_scan_at, text_scan_at, first_at, EndsLieIn, place_by}
 use Rattle.mst_node.specs.Trail.{by_order}
 use Rattle.mst_node.specs.declared.place.Place.{Place}
 use Rattle.mst_node.specs.declared.place.Place.TheVariants.{Held, Gap}
@@ -26,125 +23,7 @@ use Rattle.mst_node.specs.declared.place.Span.{Span}
 use Rattle.mst_node.proofs.FittingKeys.{FitsFrom, fits-all}
 use Rattle.mst_node.proofs.EntryPlaces.{entries-count, none-some}
 use Rattle.mst_node.proofs.ReadIsSpelled.{bind_ok, guard_ok, some_same}
-
--- ---- keys that fit
-
-lt-Decides : (r : Ordering) → Decides (is_lt r) (r ≡ Less)
-lt-Decides Less = (λ e. refl, λ e. refl)
-lt-Decides Equal = (λ e. absurd (cc), λ e. ap is_lt e)
-lt-Decides Greater = (λ e. absurd (cc), λ e. ap is_lt e)
-
-last-Decides : (last : Option (List ℕ)) (k : List ℕ)
-    → Decides (option_map_or (λ b. is_lt (key_cmp b k)) last true)
-    (IfSome last (λ b. key_cmp b k ≡ Less))
-last-Decides None k = (λ e. tt, λ is. refl)
-last-Decides (Some b) k = lt-Decides (key_cmp b k)
-
-pub behind-Decides : (format : Format) (l : ℕ) (last : Option (List ℕ)) (k : List ℕ)
-    → Decides (fits_behind format l last k)
-    ((layer_in format k ≡ l) × IfSome last (λ b. key_cmp b k ≡ Less))
-behind-Decides format l last k =
-    Decides-and (layer_in format k == l) (option_map_or (λ b. is_lt (key_cmp b k)) last true)
-    (Decides-eqb (layer_in format k) l) (last-Decides last k)
-
-fits_ok : {A : Type 0} (b : Bool) (r : Option A) (y : A) → cond b r None ≡ Some y → (b ≡ true)
-    × (r ≡ Some y)
-fits_ok true r y h = (refl, h)
-fits_ok false r y h = absurd (cc)
-
--- ---- entries passed one after another
-
-abbrev pub passing : List ℕ → Passing → List FlatEntry → Passing
-passing k p [] = p
-passing k p (e ∷ es) = passing k (pass_at k p e) es
-
--- what is scanned was read, and its keys fit
-scan-read : (format : Format) (l : ℕ) (k : List ℕ) (p : Passing) (n : ℕ) (bytes : List ℕ)
-    (r : Passing × List ℕ) → scan_at format l k p n bytes ≡ Some r → (es : List FlatEntry)
-    × (entries_at format n bytes ≡ Some (es, r.1)) × FitsFrom format p.last l es
-    × (r.0 ≡ passing k p es)
-unfolding scan_at entries_at
-scan-read format l k p zero bytes r h =
-    let same = some_same (p, bytes) r h in (
-      [],
-      ap (λ (q : Passing × List ℕ). Some ([], q.1)) same,
-      tt,
-      ap (λ (q : Passing × List ℕ). q.0)
-          (sym same),
-    )
-scan-read format l k p (suc n) bytes r h =
-    let e = bind_ok (entry_at format bytes) _ r h in
-    let fit = fits_ok (fits_behind format l p.last e.0.0.key)
-    (scan_at format l k (pass_at k p e.0.0) n e.0.1) r e.2 in
-    let rest = scan-read format l k (pass_at k p e.0.0) n e.0.1 r fit.1 in
-    let fits = (behind-Decides format l p.last e.0.0.key).0 fit.0 in
-    let read : entries_at format (suc n) bytes ≡ Some (e.0.0 ∷ rest.0, r.1) =
-    ap (λ (q : Option (FlatEntry × List ℕ)). q >>= λ x. entries_at format n x.1 >>= λ es. Some
-    (x.0 ∷ es.0, es.1)) e.1
-    ∙ ap (λ (q : Option (List FlatEntry × List ℕ)). q >>= λ es. Some (e.0.0 ∷ es.0, es.1)) rest.1 in
-    (e.0.0 ∷ rest.0, read, (fits.0, fits.1, rest.2), rest.3)
-
--- what is read with keys that fit is scanned
-read-scan : (format : Format) (l : ℕ) (k : List ℕ) (p : Passing) (n : ℕ) (bytes : List ℕ)
-    (r : List FlatEntry × List ℕ) → entries_at format n bytes ≡ Some r → FitsFrom format p.last l
-    r.0 → scan_at format l k p n bytes ≡ Some (passing k p r.0, r.1)
-unfolding scan_at entries_at
-read-scan format l k p zero bytes r h fits =
-    ap (λ (q : List FlatEntry × List ℕ). Some (passing k p q.0, q.1)) (some_same ([], bytes) r h)
-read-scan format l k p (suc n) bytes r h fits =
-    let e = bind_ok (entry_at format bytes) _ r h in
-    let more = bind_ok (entries_at format n e.0.1) _ r e.2 in
-    let same : (e.0.0 ∷ more.0.0, more.0.1) ≡ r = some_same _ r more.2 in
-    let here : FitsFrom format p.last l (e.0.0 ∷ more.0.0) =
-    subst (λ (q : List FlatEntry × List ℕ). FitsFrom format p.last l q.0) (sym same) fits in
-    let test : fits_behind format l p.last e.0.0.key ≡ true =
-    (behind-Decides format l p.last e.0.0.key).1 (here.0, here.1) in
-    let rest = read-scan format l k (pass_at k p e.0.0) n e.0.1 more.0 more.1 here.2 in
-    ap (λ (q : Option (FlatEntry × List ℕ)). q >>= λ x. cond (fits_behind format l p.last x.0.key)
-    (scan_at format l k (pass_at k p x.0) n x.1) None) e.1
-    ∙ ap (λ (t : Bool). cond t (scan_at format l k (pass_at k p e.0.0) n e.0.1) None) test
-    ∙ rest
-    ∙ ap (λ (q : List FlatEntry × List ℕ). Some (passing k p q.0, q.1)) same
-
--- one more entry of a scan
-pub scan_more : (format : Format) (l : ℕ) (k : List ℕ) (p q : Passing) (n m : ℕ) (bytes : List ℕ)
-    (e : FlatEntry × List ℕ) → n ≡ suc m → entry_at format bytes ≡ Some e → fits_behind format l
-    p.last e.0.key ≡ true → q ≡ pass_at k p e.0 → scan_at format l k q m e.1 ≡ scan_at format l k p
-    n bytes
-unfolding scan_at
-scan_more format l k p q zero m bytes e h r fits is = absurd (omega (arith, h))
-scan_more format l k p q (suc n) m bytes e h r fits is =
-    let same : m ≡ n = omega (arith, h) in
-    ap (λ (j : ℕ). scan_at format l k q j e.1) same
-    ∙ ap (λ (s : Passing). scan_at format l k s n e.1) is
-    ∙ sym (ap (λ (t : Bool). cond t (scan_at format l k (pass_at k p e.0) n e.1) None) fits)
-    ∙ sym (ap (λ (o : Option (FlatEntry × List ℕ)). o >>= λ x. cond
-    (fits_behind format l p.last x.0.key) (scan_at format l k (pass_at k p x.0) n x.1) None) r)
-
--- a scan ends where an entry is not read, or does not fit
-pub scan_unread : (format : Format) (l : ℕ) (k : List ℕ) (p : Passing) (n : ℕ) (bytes : List ℕ)
-    → 0 < n → entry_at format bytes ≡ None → scan_at format l k p n bytes ≡ None
-unfolding scan_at
-scan_unread format l k p zero bytes some r = absurd (omega arith)
-scan_unread format l k p (suc n) bytes some r =
-    ap (λ (o : Option (FlatEntry × List ℕ)). o >>= λ x. cond (fits_behind format l p.last x.0.key)
-    (scan_at format l k (pass_at k p x.0) n x.1) None) r
-
-pub scan_unfit : (format : Format) (l : ℕ) (k : List ℕ) (p : Passing) (n : ℕ) (bytes : List ℕ)
-    (e : FlatEntry × List ℕ) → 0 < n → entry_at format bytes ≡ Some e → fits_behind format l p.last
-    e.0.key ≡ false → scan_at format l k p n bytes ≡ None
-unfolding scan_at
-scan_unfit format l k p zero bytes e some r fits = absurd (omega arith)
-scan_unfit format l k p (suc n) bytes e some r fits =
-    ap (λ (o : Option (FlatEntry × List ℕ)). o >>= λ x. cond (fits_behind format l p.last x.0.key)
-    (scan_at format l k (pass_at k p x.0) n x.1) None) r
-    ∙ ap (λ (t : Bool). cond t (scan_at format l k (pass_at k p e.0) n e.1) None) fits
-
-pub scan_end : (format : Format) (l : ℕ) (k : List ℕ) (p : Passing) (n : ℕ) (bytes : List ℕ) → n ≡ 0
-    → scan_at format l k p n bytes ≡ Some (p, bytes)
-unfolding scan_at
-scan_end format l k p zero bytes none = refl
-scan_end format l k p (suc n) bytes none = absurd (omega (arith, none))
+use Rattle.mst_node.proofs.ScannedEntries.{passing, scan-read, read-scan}
 
 -- ---- where the search ends
 
@@ -159,12 +38,12 @@ passing-stopped k p s (e ∷ es) h =
 abbrev chosen : List ℕ → Option (List ℕ) → Span → FlatEntry → List FlatEntry → Option (List ℕ)
     → Ordering → Place
 chosen k last span e es tail r =
-    by_order r (Gap e.child (record { low = bound_or last span.low; high = Some e.key }))
+    by_order r (Gap e.child (record { low = option_or last span.low; high = Some e.key }))
     (Held e.held) (place_among k (Some e.key) span.high es tail)
 
 passing-place : (k : List ℕ) (p : Passing) (es : List FlatEntry) (span : Span)
     (tail : Option (List ℕ)) → p.stop ≡ None → place_by (passing k p es).stop (passing k p es).last
-    span tail ≡ place_among k (bound_or p.last span.low) span.high es tail
+    span tail ≡ place_among k (option_or p.last span.low) span.high es tail
 passing-place k p [] span tail none = ap (λ (o : Option Stopped). place_by o p.last span tail) none
 passing-place k p (e ∷ es) span tail none =
     go (key_cmp k e.key) refl (passing-place k (pass_at k p e) es span tail)
@@ -188,7 +67,7 @@ passing-place k p (e ∷ es) span tail none =
         (step Equal is))
     go Greater is next = next (step Greater is)
 
--- ---- the first key and the last one
+-- ---- the last key
 
 abbrev last_key : FlatEntry → List FlatEntry → List ℕ
 last_key e [] = e.key
@@ -198,12 +77,6 @@ passing-last : (k : List ℕ) (p : Passing) (e : FlatEntry) (es : List FlatEntry
     → (passing k p (e ∷ es)).last ≡ Some (last_key e es)
 passing-last k p e [] = refl
 passing-last k p e (f ∷ es) = passing-last k (pass_at k p e) f es
-
-passing-first : (k : List ℕ) (p : Passing) (b : List ℕ) (es : List FlatEntry) → p.first ≡ Some b
-    → (passing k p es).first ≡ Some b
-passing-first k p b [] h = h
-passing-first k p b (e ∷ es) h =
-    passing-first k (pass_at k p e) b es (ap (λ (o : Option (List ℕ)). Some (unwrap_or o e.key)) h)
 
 -- ---- rising keys lie in a span where the first and the last one do
 
@@ -271,19 +144,16 @@ high-last (Some b) e es all = last-below b e es all
 
 ends-within : (format : Format) (k : List ℕ) (span : Span) (l : ℕ) (e : FlatEntry)
     (es : List FlatEntry) → FitsFrom format None l (e ∷ es)
-    → EndsLieIn span (passing k start (e ∷ es)) ↔ Between span.low span.high (e ∷ es)
+    → EndsLieIn span (Some e.key) (passing k start (e ∷ es)) ↔ Between span.low span.high (e ∷ es)
 ends-within format k span l e es fits =
-    let first = passing-first k (pass_at k start e) e.key es refl in
     let last = passing-last k start e es in
-    let A : Option (List ℕ) → Type 0 =
-    λ o. IfSome o (λ j. IfSome span.low (λ b. key_cmp b j ≡ Less)) in
     let B : Option (List ℕ) → Type 0 =
     λ o. IfSome o (λ j. IfSome span.high (λ b. key_cmp j b ≡ Less)) in (
       λ ends. between-both span.low span.high (e ∷ es)
-          (low-all format span.low l e es fits.2 (subst A first ends.above))
+          (low-all format span.low l e es fits.2 ends.above)
           (high-all format span.high l e es fits.2 (subst B last ends.below)),
       λ all. record {
-        above = subst A (sym first) all.0.above;
+        above = all.0.above;
         below =
             subst B (sym last)
             (high-last span.high e es (between-low span.low span.high (e ∷ es) all));
@@ -293,19 +163,45 @@ ends-within format k span l e es fits =
 -- ---- the whole text
 
 -- what was scanned is a node with keys that fit, and what it says of the key
-pub record Scanned (format : Format) (k text : List ℕ) (x : ℕ × Passing × Option (List ℕ)) : Type 0
+pub record Scanned (format : Format) (k text : List ℕ)
+    (x : ℕ × Option (List ℕ) × Passing × Option (List ℕ)) : Type 0
   where
     pub node : FlatNode
     pub read : node_at format text ≡ Some node
     pub fit : KeysFit node
     pub layer : x.0 ≡ node.layer
-    pub within : (span : Span) → EndsLieIn span x.1 ↔ LiesWithin span node
-    pub place : (span : Span) → place_by x.1.stop x.1.last span x.2 ≡ place_of k span node
+    pub within : (span : Span) → EndsLieIn span x.1 x.2 ↔ LiesWithin span node
+    pub place : (span : Span) → place_by x.2.stop x.2.last span x.3 ≡ place_of k span node
+
+-- the key of the first entry, as a list has it
+abbrev head_key : List FlatEntry → Option (List ℕ)
+head_key [] = None
+head_key (e ∷ es) = Some e.key
+
+first-read : (format : Format) (n : ℕ) (bytes : List ℕ) (r : List FlatEntry × List ℕ) → 0 < n
+    → entries_at format n bytes ≡ Some r → first_at format bytes ≡ head_key r.0
+unfolding entries_at
+first-read format zero bytes r some h = absurd (omega (arith, some))
+first-read format (suc n) bytes r some h =
+    let e = bind_ok (entry_at format bytes) _ r h in
+    let more = bind_ok (entries_at format n e.0.1) _ r e.2 in
+    let same : (e.0.0 ∷ more.0.0, more.0.1) ≡ r = some_same _ r more.2 in
+    ap (λ (o : Option (FlatEntry × List ℕ)). option_map (λ x. x.0.key) o) e.1
+    ∙ ap (λ (q : List FlatEntry × List ℕ). head_key q.0) same
+
+-- what a body that was scanned has
+pub record BodyRead (format : Format) (l : ℕ) (k : List ℕ) (n : ℕ) (bytes : List ℕ)
+    (b : Passing × Option (List ℕ)) : Type 0 where
+  pub entries : List FlatEntry
+  pub read : body_at format n bytes ≡ Some (entries, b.1)
+  pub fits : FitsFrom format None l entries
+  pub passed : b.0 ≡ passing k start entries
+  pub count : length entries ≡ n
+  pub first : 0 < n → first_at format bytes ≡ head_key entries
 
 body-read : (format : Format) (l : ℕ) (k : List ℕ) (n : ℕ) (bytes : List ℕ)
     (b : Passing × Option (List ℕ)) → body_scan_at format l k n bytes ≡ Some b
-    → (es : List FlatEntry) × (body_at format n bytes ≡ Some (es, b.1)) × FitsFrom format None l es
-    × (b.0 ≡ passing k start es) × (length es ≡ n)
+    → BodyRead format l k n bytes b
 unfolding body_scan_at body_at
 body-read format l k n bytes b h =
     let p = bind_ok (scan_at format l k start n bytes) _ b h in
@@ -316,22 +212,22 @@ body-read format l k n bytes b h =
     go : (p : Passing) (rest : List ℕ) (es : List FlatEntry) → entries_at format n bytes ≡ Some
         (es, rest) → FitsFrom format None l es → p ≡ passing k start es → (tail : Option (List ℕ))
         (left : List ℕ) → child_at rest ≡ Some (tail, left) → whole ((p, tail), left) ≡ Some b
-        → (es : List FlatEntry) × (body_at format n bytes ≡ Some (es, b.1)) × FitsFrom format None l
-        es × (b.0 ≡ passing k start es) × (length es ≡ n)
+        → BodyRead format l k n bytes b
     go p rest es h fits is tail (x ∷ left) c e = absurd (cc)
     go p rest es h fits is tail [] c e =
         let same = some_same (p, tail) b e in
         let read : body_at format n bytes ≡ Some (es, tail) =
         ap (λ (q : Option (List FlatEntry × List ℕ)). q >>= λ x. child_at x.1 >>= λ t. whole
         ((x.0, t.0), t.1)) h
-        ∙ ap (λ (q : Option (Option (List ℕ) × List ℕ)). q >>= λ t. whole ((es, t.0), t.1)) c in (
-          es,
-          read ∙ ap (λ (q : Passing × Option (List ℕ)). Some (es, q.1)) same,
-          fits,
-          ap (λ (q : Passing × Option (List ℕ)). q.0) (sym same) ∙ is,
-          entries-count format n
-              bytes (es, rest) h,
-        )
+        ∙ ap (λ (q : Option (Option (List ℕ) × List ℕ)). q >>= λ t. whole ((es, t.0), t.1)) c in
+        record {
+          entries = es;
+          read = read ∙ ap (λ (q : Passing × Option (List ℕ)). Some (es, q.1)) same;
+          fits = fits;
+          passed = ap (λ (q : Passing × Option (List ℕ)). q.0) (sym same) ∙ is;
+          count = entries-count format n bytes (es, rest) h;
+          first = λ some. first-read format n bytes (es, rest) some h;
+        }
 
 body-scan : (format : Format) (l : ℕ) (k : List ℕ) (n : ℕ) (bytes : List ℕ)
     (b : List FlatEntry × Option (List ℕ)) → body_at format n bytes ≡ Some b → FitsFrom format None
@@ -357,25 +253,29 @@ body-scan format l k n bytes b h fits =
         ((passing k start es, t.0), t.1)) c
         ∙ ap (λ (q : List FlatEntry × Option (List ℕ)). Some (passing k start q.0, q.1)) same
 
-scanned_of : (format : Format) (k text : List ℕ) (l : ℕ) (b : Passing × Option (List ℕ))
-    (es : List FlatEntry) → node_at format text ≡ Some (node_of format l (es, b.1))
-    → FitsFrom format None l es → b.0 ≡ passing k start es → 0 < length es → Scanned format k text
-    (l, b.0, b.1)
-scanned_of format k text l b [] read fits is some = absurd (omega arith)
-scanned_of format k text l b (e ∷ es) read fits is some =
+scanned_of : (format : Format) (k text : List ℕ) (l : ℕ) (first : Option (List ℕ))
+    (b : Passing × Option (List ℕ)) (es : List FlatEntry)
+    → node_at format text ≡ Some (node_of format l (es, b.1)) → FitsFrom format None l es
+    → b.0 ≡ passing k start es → first ≡ head_key es → 0 < length es
+    → Scanned format k text (l, first, b.0, b.1)
+scanned_of format k text l first b [] read fits is head some = absurd (omega arith)
+scanned_of format k text l first b (e ∷ es) read fits is head some =
     record {
       node = node_of format l (e ∷ es, b.1);
       read = read;
       fit = (fits-all format l (e ∷ es, b.1)).1 fits;
       layer = refl;
       within =
-          λ span. subst (λ (p : Passing). EndsLieIn span p ↔ Between span.low span.high (e ∷ es))
-          (sym is) (ends-within format k span l e es fits);
+          λ span. subst (λ (o : Option (List ℕ)). EndsLieIn span o b.0
+          ↔ Between span.low span.high (e ∷ es)) (sym head)
+          (subst (λ (p : Passing). EndsLieIn span (Some e.key) p
+          ↔ Between span.low span.high (e ∷ es)) (sym is) (ends-within format k span l e es fits));
       place = λ span. ap (λ (p : Passing). place_by p.stop p.last span b.1) is
           ∙ passing-place k start (e ∷ es) span b.1 refl;
     }
 
-pub text-scanned : (format : Format) (k text : List ℕ) (x : ℕ × Passing × Option (List ℕ))
+pub text-scanned : (format : Format) (k text : List ℕ)
+    (x : ℕ × Option (List ℕ) × Passing × Option (List ℕ))
     → text_scan_at format k text ≡ Some x → Scanned format k text x
 unfolding text_scan_at node_at
 text-scanned format k [] x h = absurd (cc)
@@ -387,27 +287,32 @@ text-scanned format k (v ∷ l ∷ g ∷ c ∷ bytes) x h = go (v == version for
     go : (u : Bool) → (v == version format) ≡ u
         → cond u (cond (from_be_bytes w16 (g ∷ c ∷ []) == 0) None
         (body_scan_at format l k (from_be_bytes w16 (g ∷ c ∷ [])) bytes >>= λ b. Some
-        (l, b.0, b.1))) None ≡ Some x → Scanned format k (v ∷ l ∷ g ∷ c ∷ bytes) x
+        (l, first_at format bytes, b.0, b.1))) None ≡ Some x → Scanned format k
+        (v ∷ l ∷ g ∷ c ∷ bytes) x
     go false e h = absurd (cc)
     go true e h =
         let count = from_be_bytes w16 (g ∷ c ∷ []) in
         let some =
-        guard_ok (count == 0) (body_scan_at format l k count bytes >>= λ b. Some (l, b.0, b.1))
+        guard_ok (count == 0)
+        (body_scan_at format l k count bytes >>= λ b. Some (l, first_at format bytes, b.0, b.1))
         x h in
-        let b = bind_ok (body_scan_at format l k count bytes) (λ b. Some (l, b.0, b.1)) x some.1 in
+        let b = bind_ok (body_scan_at format l k count bytes)
+        (λ b. Some (l, first_at format bytes, b.0, b.1)) x some.1 in
         let r = body-read format l k count bytes b.0 b.1 in
         let more : 0 < count = grind (arith, nat_tests, some.0) in
-        let read : node_at format (v ∷ l ∷ g ∷ c ∷ bytes) ≡ Some (node_of format l (r.0, b.0.1)) =
+        let read : node_at format (v ∷ l ∷ g ∷ c ∷ bytes) ≡ Some
+        (node_of format l (r.entries, b.0.1)) =
         ap (λ (t : Bool). cond t
         (cond (count == 0) None (body_at format count bytes >>= λ y. Some (node_of format l y)))
         None) e
         ∙ ap (λ (t : Bool). cond t None
         (body_at format count bytes >>= λ y. Some (node_of format l y))) some.0
         ∙ ap (λ (o : Option (List FlatEntry × Option (List ℕ))). o >>= λ y. Some
-        (node_of format l y)) r.1 in
-        subst (Scanned format k (v ∷ l ∷ g ∷ c ∷ bytes)) (some_same (l, b.0.0, b.0.1) x b.2)
-        (scanned_of format k (v ∷ l ∷ g ∷ c ∷ bytes) l b.0 r.0 read r.2 r.3
-        (omega (arith, more, r.4)))
+        (node_of format l y)) r.read in
+        subst (Scanned format k (v ∷ l ∷ g ∷ c ∷ bytes))
+        (some_same (l, first_at format bytes, b.0.0, b.0.1) x b.2)
+        (scanned_of format k (v ∷ l ∷ g ∷ c ∷ bytes) l (first_at format bytes) b.0 r.entries read
+        r.fits r.passed (r.first more) (omega (arith, more, r.count)))
 
 -- a node with keys that fit is scanned
 pub node-scanned : (format : Format) (k text : List ℕ) (n : FlatNode) → node_at format text ≡ Some n
@@ -422,10 +327,11 @@ node-scanned format k (v ∷ l ∷ g ∷ c ∷ bytes) n h fit none = go (v == ve
     go : (u : Bool) → (v == version format) ≡ u
         → cond u (cond (from_be_bytes w16 (g ∷ c ∷ []) == 0) None
         (body_at format (from_be_bytes w16 (g ∷ c ∷ [])) bytes >>= λ y. Some (node_of format l y)))
-        None ≡ Some n → cond {A = Option (ℕ × Passing × Option (List ℕ))} u
-        (cond {A = Option (ℕ × Passing × Option (List ℕ))} (from_be_bytes w16 (g ∷ c ∷ []) == 0)
+        None ≡ Some n → cond {A = Option (ℕ × Option (List ℕ) × Passing × Option (List ℕ))} u
+        (cond {A = Option (ℕ × Option (List ℕ) × Passing × Option (List ℕ))}
+        (from_be_bytes w16 (g ∷ c ∷ []) == 0)
         None (body_scan_at format l k (from_be_bytes w16 (g ∷ c ∷ [])) bytes >>= λ b. Some
-        (l, b.0, b.1))) None ≡ None → ⊥
+        (l, first_at format bytes, b.0, b.1))) None ≡ None → ⊥
     go false e h none = absurd (cc)
     go true e h none =
         let count = from_be_bytes w16 (g ∷ c ∷ []) in
@@ -437,10 +343,14 @@ node-scanned format k (v ∷ l ∷ g ∷ c ∷ bytes) n h fit none = go (v == ve
         (fits-all format l b.0).0
         (subst KeysFit (sym (some_same (node_of format l b.0) n b.2)) fit) in
         let scan = body-scan format l k count bytes b.0 b.1 fits in
-        let scanned : cond {A = Option (ℕ × Passing × Option (List ℕ))} (count == 0) None
-        (body_scan_at format l k count bytes >>= λ y. Some (l, y.0, y.1)) ≡ Some
-        (l, passing k start b.0.0, b.0.1) =
+        let scanned : cond {A = Option (ℕ × Option (List ℕ) × Passing × Option (List ℕ))}
+        (count == 0) None
+        (body_scan_at format l k count bytes >>= λ y. Some (l, first_at format bytes, y.0, y.1))
+        ≡ Some
+        (l, first_at format bytes, passing k start b.0.0, b.0.1) =
         ap (λ (t : Bool). cond t None
-        (body_scan_at format l k count bytes >>= λ y. Some (l, y.0, y.1))) some.0
-        ∙ ap (λ (o : Option (Passing × Option (List ℕ))). o >>= λ y. Some (l, y.0, y.1)) scan in
+        (body_scan_at format l k count bytes >>= λ y. Some (l, first_at format bytes, y.0, y.1)))
+        some.0
+        ∙ ap (λ (o : Option (Passing × Option (List ℕ))). o >>= λ y. Some
+        (l, first_at format bytes, y.0, y.1)) scan in
         none-some _ _ none scanned

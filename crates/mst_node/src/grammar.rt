@@ -28,9 +28,9 @@ pub fn read_text(bytes: &[u8]) -> Result<Flat<'_>, NodeFault>
     read_text_in(Format::One, bytes)
 }
 
-/// The flat node that the bytes spell in a format, borrowed from them, as `read_text` does in format
-/// 1. In format 2 a text has the version 2, and 32 bytes, the SHA-256 of the value, stand for each
-/// value and its length.
+/// The flat node that the bytes spell in a format, borrowed from them, as `read_text` does in
+/// format 1. In format 2 a text has the version 2, and 32 bytes, the SHA-256 of the value, stand
+/// for each value and its length.
 pub fn read_text_in(format: Format, bytes: &[u8]) -> Result<Flat<'_>, NodeFault>
     ensures spelling { IfOk result (λ n. (n.format ≡ format) × IsFlatNode n
         × (bytes.now ≡ spelling n)) }

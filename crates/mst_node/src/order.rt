@@ -1,19 +1,51 @@
 //! The order of the keys of a list.
-ghost use Rattle.std.specs.Prelude.{◌≡◌, ◌↔◌, IsTrue};
-ghost use Rattle.std.specs.declared.cmp.Ordering.TheVariants.{Less};
+ghost use Rattle.std.specs.Prelude.{◌≡◌, ◌<◌, ◌↔◌, IsTrue, IfSome};
+ghost use Rattle.std.specs.declared.cmp.Ordering.TheVariants.{Less, Greater};
 ghost use Rattle.mst_key.specs.Bytes.{IsKey, IsValue};
 ghost use Rattle.mst_key.specs.Map.{key_cmp, IsAscending, IsMap};
 
 use mst_key::{Key, Value};
 use std::cmp::Ordering;
 
-/// Whether the bytes of a key come before those of another.
-pub(crate) fn comes_before(one: &[u8], other: &[u8]) -> bool
+/// The first eight bytes of each as a number, where both have as many. Numbers that differ decide
+/// the order.
+fn first_words(one: &[u8], other: &[u8]) -> Option<(u64, u64)>
+    ensures less { IfSome result (λ w. w.0 < w.1 → key_cmp one.now other.now ≡ Less) }
+    ensures greater { IfSome result (λ w. w.1 < w.0 → key_cmp one.now other.now ≡ Greater) }
+{
+    match one.first_chunk::<8>() {
+        None => None,
+        Some(first) => match other.first_chunk::<8>() {
+            None => None,
+            Some(second) => Some((u64::from_be_bytes(*first), u64::from_be_bytes(*second))),
+        },
+    }
+}
+
+/// Whether the bytes of a key come before those of another, byte by byte.
+fn comes_before_by_bytes(one: &[u8], other: &[u8]) -> bool
     ensures less { IsTrue result ↔ (key_cmp one.now other.now ≡ Less) }
 {
     match one.cmp(&other) {
         Ordering::Less => true,
         Ordering::Equal | Ordering::Greater => false,
+    }
+}
+
+/// Whether the bytes of a key come before those of another. Most keys differ in their first words,
+/// which costs a third of the order byte by byte.
+pub(crate) fn comes_before(one: &[u8], other: &[u8]) -> bool
+    ensures less { IsTrue result ↔ (key_cmp one.now other.now ≡ Less) }
+{
+    match first_words(one, other) {
+        None => comes_before_by_bytes(one, other),
+        Some((first, second)) => {
+            if first == second {
+                comes_before_by_bytes(one, other)
+            } else {
+                first < second
+            }
+        }
     }
 }
 

@@ -31,7 +31,8 @@ impl Top {
     /// Of the same pairs and one more, whose key has this layer.
     fn with(self, layer: u8) -> Top
         requires few { self.count < 65535 }
-        ensures top { (format : Format) (m : List Pair) (p : Pair) → IsTop format m self → layer_in format p.0 ≡ layer
+        ensures top { (format : Format) (m : List Pair) (p : Pair) → IsTop format m self
+            → layer_in format p.0 ≡ layer
             → IsTop format (m ++ p ∷ []) result }
     {
         if layer > self.layer {
@@ -114,8 +115,8 @@ pub fn root_of(pairs: &[(Key, Value)]) -> [u8; 32]
     root_of_in(Format::One, pairs)
 }
 
-/// The root digest of the map of these pairs in a format, as `root_of` is in format 1. Calls nest no
-/// deeper than the layers, in format 2 129 at the most.
+/// The root digest of the map of these pairs in a format, as `root_of` is in format 1. Calls nest
+/// no deeper than the layers, in format 2 129 at the most.
 pub fn root_of_in(format: Format, pairs: &[(Key, Value)]) -> [u8; 32]
     requires few { length pairs.now ≤ 65535 }
     ensures root { result ≡ root_digest format pairs.now }

@@ -1,5 +1,7 @@
 //! What the verifier expects of the next text, and what the text says of the key.
 ghost use Rattle.std.specs.Prelude.{◌≡◌};
+ghost use Rattle.std.specs.Str.{bytes_eq};
+ghost use Rattle.mst_node.specs.Text.{digest_of};
 ghost use Rattle.mst_proof.specs.Verdict.{is_under as under, first_expected, step_of as step_from, step_at};
 
 use crate::fault::ProofFault;
@@ -56,6 +58,14 @@ fn is_under(upper: Option<u8>, layer: u8) -> bool
     }
 }
 
+/// Whether a text has a digest. The two are compared as slices, so where they lie: as arrays they
+/// would be put together byte by byte first.
+fn has_digest(text: &[u8], expected: &[u8; 32]) -> bool
+    ensures same { result ≡ bytes_eq (digest_of text.now) expected.now }
+{
+    digest(text).as_slice() == expected.as_slice()
+}
+
 impl Expected {
     /// Of the first text.
     pub(crate) fn first(root: &[u8; 32]) -> Expected
@@ -75,7 +85,7 @@ impl Expected {
         let Some(found) = find_in_text(format, text, key, self.span) else {
             return Err(ProofFault::NoNode);
         };
-        if digest(text) != self.digest {
+        if !has_digest(text, &self.digest) {
             return Err(ProofFault::OtherDigest);
         }
         if !is_under(self.upper, found.layer) {

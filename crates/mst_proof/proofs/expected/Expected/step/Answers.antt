@@ -1,9 +1,8 @@
 use Rattle.std.proofs.Common.{◌≡◌, ◌∙◌, refl, sym, ap, arith, List, ℕ, Bool, true, false, Some, rules}
 use Rattle.std.specs.Prelude.{not}
-use Rattle.std.specs.Str.{bytes_eq}
 use Rattle.std.specs.declared.result.Result.TheVariants.{Ok}
 use Rattle.mst_node.specs.Found.{IsFound}
-use Rattle.mst_node.specs.Text.{FlatNode, digest_of}
+use Rattle.mst_node.specs.Text.{FlatNode}
 use Rattle.mst_node.proofs.ReadIsSpelled.{bytes-at}
 use Rattle.mst_proof.specs.Verdict.{node_in, is_under, step_of}
 use Rattle.mst_proof.proofs.Decisions.{node_in-none, node_in-read, keys_inside}
@@ -19,11 +18,6 @@ no_from_not false e = refl
 yes_from_not : (b : Bool) → false ≡ not b → b ≡ true
 yes_from_not true e = refl
 yes_from_not false e = e
-
--- the digest of a text is the one that was computed
-digest_is : (text d r : List ℕ) (t : Bool) → r ≡ digest_of text → bytes_eq r d ≡ t
-    → bytes_eq (digest_of text) d ≡ t
-digest_is text d r t is e = ap (λ (y : List ℕ). bytes_eq y d) (sym is) ∙ e
 
 pub returns-in_default : goal.returns-in_default
 returns-in_default c =
@@ -51,11 +45,10 @@ module _ (c : goal.In-Some) where
       c.in-Some.found.layer
   under_is = ap (is_under c.args.self.upper) (sym says.layer)
 
-pub returns-then-ne : goal.returns-then-ne
-returns-then-ne c =
-    let at = (goal.at.returns-then-ne c).In-Some in
-    let other = digest_is c.args.text.now c.args.self.digest _ false c.digest.ensures.digest
-    (no_from_not _ c.if-ne.ensures) in
+pub returns-then-not-has_digest : goal.returns-then-not-has_digest
+returns-then-not-has_digest c =
+    let at = (goal.at.returns-then-not-has_digest c).In-Some in
+    let other = sym c.if-not-has_digest.ensures.same in
     record {
       step =
           sym (step-other_digest c.args.format c.args.key.now c.args.text.now c.args.self (node at)
@@ -67,8 +60,7 @@ returns-then-ne c =
 pub returns-then-not-is_under : goal.returns-then-not-is_under
 returns-then-not-is_under c =
     let at = (goal.at.returns-then-not-is_under c).In-Some in
-    let same = digest_is c.args.text.now c.args.self.digest _ true c.digest.ensures.digest
-    (yes_from_not _ c.if-ne.ensures) in
+    let same = sym c.if-not-has_digest.ensures.same in
     record {
       step =
           sym (step-not_below c.args.format c.args.key.now c.args.text.now c.args.self (node at)
@@ -78,8 +70,7 @@ returns-then-not-is_under c =
 pub returns-then-not-found : goal.returns-then-not-found
 returns-then-not-found c =
     let at = (goal.at.returns-then-not-found c).In-Some in
-    let same = digest_is c.args.text.now c.args.self.digest _ true c.digest.ensures.digest
-    (yes_from_not _ c.if-ne.ensures) in
+    let same = sym c.if-not-has_digest.ensures.same in
     let outside = keys_inside c.args.self.span (node at) c.in-Some.found.within (says at).within
     ∙ no_from_not _ (sym c.if-not-found.true) in
     record {
@@ -91,8 +82,7 @@ returns-then-not-found c =
 pub returns : goal.returns
 returns c =
     let at = (goal.at.returns c).In-Some in
-    let same = digest_is c.args.text.now c.args.self.digest _ true c.digest.ensures.digest
-    (yes_from_not _ c.if-ne.ensures) in
+    let same = sym c.if-not-has_digest.ensures.same in
     let inside = keys_inside c.args.self.span (node at) c.in-Some.found.within (says at).within
     ∙ yes_from_not _ (sym c.if-not-found.false) in
     let step = c.of.ensures.step ∙ ap (λ (k : ℕ). step_of k c.in-Some.found.place) (says at).layer
