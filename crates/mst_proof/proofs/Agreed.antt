@@ -168,7 +168,7 @@ settled_done Two Nothing held a e = absurd (cc)
 settled_done Two Unfit held a e = absurd (cc)
 
 -- the claim of the frame is that of the answer
-claim_is : (format : Format) (rest : List ℕ) (claim : Claim) (a : Option (List ℕ))
+pub claim_is : (format : Format) (rest : List ℕ) (claim : Claim) (a : Option (List ℕ))
     → claim_at format rest ≡ Ok claim → (format ≡ Two → claim ≡ claim_of format a)
     → claim_at format rest ≡ Ok (claim_of format a)
 claim_is One [] claim a e two = refl

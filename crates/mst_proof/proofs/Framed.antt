@@ -24,11 +24,13 @@ use Rattle.mst_proof.specs.declared.fault.ProofFault.TheVariants.{CutShort}
 use Rattle.mst_proof.specs.declared.claim.Claim.{Claim}
 use Rattle.mst_proof.specs.declared.claim.Claim.TheVariants.{Nothing, Absence, Given, Unfit}
 use Rattle.mst_proof.specs.Accepted.{IsAnswer}
+use Rattle.mst_proof.specs.Faults.{IsShort}
 
 -- ---- what is cut out was framed
 
 pub text_takes : (bytes : List ℕ) (p : List ℕ × List ℕ) → text_at bytes ≡ Some p → IsBytes bytes
     → (bytes ≡ to_be_bytes w32 (length p.0) ++ p.0 ++ p.1) × IsBytes p.0 × IsBytes p.1
+    × IsShort p.0
 unfolding text_at
 text_takes [] p h b = absurd (cc)
 text_takes (a ∷ []) p h b = absurd (cc)
@@ -43,24 +45,30 @@ text_takes (a ∷ e ∷ c ∷ d ∷ bytes) p h b =
     let d_fits : d < 256 = b.1.1.1.0 in
     let number : to_be_bytes w32 (length p.0) ≡ a ∷ e ∷ c ∷ d ∷ [] =
     be_bytes_4 (a ∷ e ∷ c ∷ d ∷ []) (length p.0) refl
-    (four_fit a e c d a_fits e_fits c_fits d_fits) part.1 in (
+    (four_fit a e c d a_fits e_fits c_fits d_fits) part.1 in
+    let small : size < 2 ^ 32 = omega arith in (
       ap (λ (xs : List ℕ). a ∷ e ∷ c ∷ d ∷ xs) part.0 ∙ ap (λ (xs : List ℕ). xs ++ p.0 ++ p.1)
           (sym number),
       part.2,
       part.3,
+      omega (arith, part.1, small),
     )
+
+abbrev pub AllShort : List (List ℕ) → Type 0
+AllShort ts = AllByRecursion IsShort ts
 
 abbrev pub AllBytes : List (List ℕ) → Type 0
 AllBytes ts = AllByRecursion IsBytes ts
 
 abbrev TakesTexts : ℕ → List ℕ → List (List ℕ) × List ℕ → Type 0
 TakesTexts n bytes p = (bytes ≡ framed p.0 ++ p.1) × (length p.0 ≡ n) × AllBytes p.0 × IsBytes p.1
+    × AllShort p.0
 
 pub texts_takes : (n : ℕ) (bytes : List ℕ) (p : List (List ℕ) × List ℕ) → texts_at n bytes ≡ Some p
     → IsBytes bytes → TakesTexts n bytes p
 unfolding texts_at
 texts_takes zero bytes p h b = subst (TakesTexts 0 bytes) (some_same ([], bytes) p h)
-    (refl, refl, tt, b)
+    (refl, refl, tt, b, tt)
 texts_takes (suc n) bytes p h b =
     let r1 = bind_ok (text_at bytes) _ p h in
     let first = text_takes bytes r1.0 r1.1 b in
@@ -70,13 +78,14 @@ texts_takes (suc n) bytes p h b =
     let text : bytes ≡ framed (r1.0.0 ∷ r2.0.0) ++ r2.0.1 =
     first.0 ∙ ap (λ (xs : List ℕ). size ++ r1.0.0 ++ xs) rest.0 ∙ simp append_assoc in
     subst (TakesTexts (suc n) bytes) (some_same (r1.0.0 ∷ r2.0.0, r2.0.1) p r2.2)
-    (text, ap suc rest.1, (first.1, rest.2), rest.3)
+    (text, ap suc rest.1, (first.1, rest.2), rest.3, (first.3, rest.4))
 
 pub record IsFrame (format : Format) (bytes : List ℕ) (ts : List (List ℕ)) (claim : Claim) : Type 0
   where
     pub rest : List ℕ
     pub whole : bytes ≡ version format ∷ length ts ∷ framed ts ++ rest
     pub few : length ts < 256
+    pub short : AllShort ts
     pub texts : AllBytes ts
     pub claims : claim_at format rest ≡ Ok claim
 
@@ -135,6 +144,7 @@ frame_takes format bytes f e b =
       whole = whole ∙ ap (λ (xs : List ℕ). version format ∷ head.0.0 ∷ xs) takes.0
           ∙ ap (λ (n : ℕ). version format ∷ n ∷ framed f.0 ++ done.0) count;
       few = omega (arith, small, takes.1);
+      short = takes.4;
       texts = takes.2;
       claims = done.2;
     }
@@ -236,16 +246,16 @@ claim_again Two (Some v) is =
 
 -- ---- what is framed is cut out
 
-text_again : (text rest : List ℕ) → length text < 2 ^ 32
-    → text_at (to_be_bytes w32 (length text) ++ text ++ rest) ≡ Some (text, rest)
+text_again : (text rest : List ℕ) → IsShort text → text_at
+    (to_be_bytes w32 (length text) ++ text ++ rest) ≡ Some (text, rest)
 unfolding text_at
 text_again text rest small =
     let size : from_be_bytes w32 (to_be_bytes w32 (length text)) ≡ length text =
     from_be_bytes-to_be_bytes_4 (length text) small in
     rw size (part_again (length text) text rest refl)
 
-pub texts_again : (ts : List (List ℕ)) (rest : List ℕ) → AllByRecursion (λ t. length t < 2 ^ 32) ts
-    → texts_at (length ts) (framed ts ++ rest) ≡ Some (ts, rest)
+pub texts_again : (ts : List (List ℕ)) (rest : List ℕ) → AllShort ts → texts_at (length ts)
+    (framed ts ++ rest) ≡ Some (ts, rest)
 unfolding texts_at
 texts_again [] rest small = refl
 texts_again (t ∷ ts) rest small =
@@ -258,8 +268,7 @@ texts_again (t ∷ ts) rest small =
     rw (first, others)
 
 pub frame_again : (format : Format) (ts : List (List ℕ)) (a : Option (List ℕ)) → IsAnswer format a
-    → AllByRecursion (λ t. length t < 2 ^ 32) ts → frame_at format (framing format ts a) ≡ Ok
-    (ts, claim_of format a)
+    → AllShort ts → frame_at format (framing format ts a) ≡ Ok (ts, claim_of format a)
 frame_again format ts a is small =
     let rest = answer_text format a in
     let same : (version format == version format) ≡ true = grind (arith, nat_tests) in
@@ -300,7 +309,7 @@ entries_short format (e ∷ es) all =
           (entry_text format e) (flat_map (entry_text format) es),
     )
 
-spelling_short : (n : FlatNode) → IsFlatNode n → length (spelling n) < 2 ^ 32
+spelling_short : (n : FlatNode) → IsFlatNode n → IsShort (spelling n)
 spelling_short n is =
     omega (
       arith,
@@ -312,6 +321,6 @@ spelling_short n is =
 
 pub texts_short : (format : Format) (ns : List FlatNode)
     → AllByRecursion (λ n. (n.format ≡ format) × IsFlatNode n) ns
-    → AllByRecursion (λ t. length t < 2 ^ 32) (map spelling ns)
+    → AllShort (map spelling ns)
 texts_short format [] all = tt
 texts_short format (n ∷ ns) all = (spelling_short n all.0.1, texts_short format ns all.1)

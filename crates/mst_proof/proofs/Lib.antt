@@ -13,5 +13,7 @@ pub mod Walks
 pub mod Stepwise
 pub mod Nodewise
 pub mod Around
+pub mod FrameFaults
 pub mod Faults
 pub mod Heights
+pub mod Failing

@@ -70,7 +70,8 @@ pub record CollidesWith (ts : List (List ℕ)) (t : Tree) (one other : List ℕ)
   pub collision : Collision one other
 
 -- the value that is claimed and this one, if there is one, are a collision
-pub record ValuesCollide (claim : Claim) (value : Option (List ℕ)) (one other : List ℕ) : Type 0 where
+pub record ValuesCollide (claim : Claim) (value : Option (List ℕ)) (one other : List ℕ)
+    : Type 0 where
   pub claims : claim ≡ Given one
   pub other_is : value ≡ Some other
   pub collision : Collision one other

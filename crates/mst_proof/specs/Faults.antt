@@ -14,28 +14,32 @@ use Rattle.mst_proof.specs.Accepted.{IsExpected, Holds, IsInGap, gap_child, Lead
 
 -- ---- the frame
 
--- A tail, which claims an answer. In format 1 it has no byte. In format 2 it is one byte that is not
--- 1, or a byte 1 and a value behind its length
+-- A tail, which claims an answer. In format 1 it has no byte. In format 2 it is one byte that is
+-- not 1, or a byte 1 and a value behind its length
 abbrev pub IsTail : Format → List ℕ → Type 0
 IsTail One tail = tail ≡ []
 IsTail Two tail = ((b : ℕ) × (b ≢ 1) × (tail ≡ b ∷ []))
     ⊎ ((value : List ℕ) × (tail ≡ 1 ∷ length value ∷ value))
 
+-- a text whose length four bytes hold
+abbrev pub IsShort : List ℕ → Type 0
+IsShort text = length text < 2 ^ 32
+
 -- the bytes are the version, the number of these texts, the texts, each behind its length in four
 -- bytes, the tail, and the rest
-abbrev pub Frames : Format → List ℕ → List (List ℕ) → List ℕ → List ℕ → Type 0
-Frames format bytes texts tail rest =
-    bytes ≡ version format ∷ length texts ∷ framed texts ++ (tail ++ rest)
+pub record Frames (format : Format) (bytes : List ℕ) (texts : List (List ℕ)) (tail rest : List ℕ)
+    : Type 0 where
+  pub short : AllByRecursion IsShort texts
+  pub whole : bytes ≡ version format ∷ length texts ∷ framed texts ++ (tail ++ rest)
 
--- The first byte is not the version; or no front of the bytes frames texts, each of which is
--- shorter than 2^32 bytes, and a tail; or bytes are left over.
+-- The first byte is not the version; or no front of the bytes frames texts and a tail; or bytes are
+-- left over.
 abbrev pub FrameFails : Format → List ℕ → ProofFault → Type 0
 FrameFails format bytes Version =
     (v : ℕ) × (rest : List ℕ) × (bytes ≡ v ∷ rest) × (v ≢ version format)
 FrameFails format bytes CutShort =
     ((v : ℕ) (rest : List ℕ) → bytes ≡ v ∷ rest → v ≡ version format)
-    × ((texts : List (List ℕ)) (tail rest : List ℕ)
-    → AllByRecursion (λ t. length t < 2 ^ 32) texts → IsTail format tail
+    × ((texts : List (List ℕ)) (tail rest : List ℕ) → IsTail format tail
     → Frames format bytes texts tail rest → ⊥)
 FrameFails format bytes LeftOver =
     (texts : List (List ℕ)) × (tail : List ℕ) × (b : ℕ) × (rest : List ℕ) × IsTail format tail
@@ -60,7 +64,8 @@ abbrev pub FailsBy : (format : Format) → List ℕ → Option ℕ → Option (L
 FailsBy format d upper low high text NoNode = InGrammar format text → ⊥
 FailsBy format d upper low high text OtherDigest = InGrammar format text × (digest_of text ≢ d)
 FailsBy format d upper low high text LayerNotBelow =
-    (n : FlatNode) × Spells format text n × (digest_of text ≡ d) × (IfSome upper (λ u. n.layer < u) → ⊥)
+    (n : FlatNode) × Spells format text n × (digest_of text ≡ d)
+    × (IfSome upper (λ u. n.layer < u) → ⊥)
 FailsBy format d upper low high text KeyOutside =
     (n : FlatNode) × Spells format text n × (digest_of text ≡ d) × IfSome upper (λ u. n.layer < u)
     × (AllByRecursion (λ e. IsBetween low high e.key) n.entries → ⊥)
@@ -81,7 +86,8 @@ Decides k n = ((v : List ℕ) × Holds n k v)
 
 -- No text is left although one is expected; or the first text fails a test; or it decides the key
 -- and another text follows; or it leads on, and what is left fails.
-abbrev pub FailAt : (format : Format) → List ℕ → List ℕ → Option ℕ → Option (List ℕ) → Option (List ℕ)
+abbrev pub FailAt : (format : Format) → List ℕ → List ℕ → Option ℕ → Option (List ℕ)
+    → Option (List ℕ)
     → List (List ℕ) → ProofFault → Type 0
 FailAt format k d upper low high [] fault = fault ≡ Unfinished
 FailAt format k d upper low high (t ∷ ts) fault =

@@ -89,13 +89,15 @@ by_step (Decided answer) decided onward = decided answer
 by_step (Onward x) decided onward = onward x
 
 -- the texts, followed from one to the next
-abbrev pub followed : (format : Format) → List ℕ → Expected → List (List ℕ) → Result (Option (List ℕ)) ProofFault
+abbrev pub followed : (format : Format) → List ℕ → Expected → List (List ℕ)
+    → Result (Option (List ℕ)) ProofFault
 followed format k x [] = Err Unfinished
 followed format k x (t ∷ ts) =
     step_at format k x t >> λ s. by_step s (answer_at_end ts) (λ next. followed format k next ts)
 
 -- no texts are the proof of the empty map
-abbrev pub judgement : (format : Format) → List ℕ → List ℕ → List (List ℕ) → Result (Option (List ℕ)) ProofFault
+abbrev pub judgement : (format : Format) → List ℕ → List ℕ → List (List ℕ)
+    → Result (Option (List ℕ)) ProofFault
 judgement format root k [] = unless (bytes_eq root (digest_of [])) OtherDigest (Ok None)
 judgement format root k (t ∷ ts) = followed format k (first_expected root) (t ∷ ts)
 
@@ -116,6 +118,7 @@ settled Two Nothing held = Err OtherValue
 settled Two Unfit held = Err OtherValue
 
 -- the answer of a proof for a root digest and a key, or the first test that it fails
-abbrev pub verdict : (format : Format) → List ℕ → List ℕ → List ℕ → Result (Option (List ℕ)) ProofFault
+abbrev pub verdict : (format : Format) → List ℕ → List ℕ → List ℕ
+    → Result (Option (List ℕ)) ProofFault
 verdict format root k proof =
     frame_at format proof >> λ f. judgement format root k f.0 >> λ held. settled format f.1 held

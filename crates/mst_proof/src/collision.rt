@@ -163,11 +163,13 @@ pub fn collide<A: Allocator + Copy>(
     requires map { (m : List KeyValue) × IsMap m × (length m ≤ 65535)
         × (top_of One (option_copied tree) ≡ tree_of_map One m) }
     ensures none { IfOk result
-        (λ pair. IfNone pair (ShowsNoOther One (top_of One (option_copied tree.entry)) key.now proof.now)) }
+        (λ pair. IfNone pair
+        (ShowsNoOther One (top_of One (option_copied tree.entry)) key.now proof.now)) }
     ensures some { IfOk result
         (λ pair. IfSome pair
         (λ p. CollidesAmong
-        (texts_named One proof.now (top_of One (option_copied tree.entry))) p.one.items p.other.items)) }
+        (texts_named One proof.now (top_of One (option_copied tree.entry))) p.one.items
+        p.other.items)) }
     ensures memory { OnErr result (IsOk (frame_at One proof.now)) }
     // without a tree only the pair itself takes memory
     ensures memory_of_pair { OnErr result (tree.entry ≡ None → (text : List ℕ)

@@ -26,8 +26,9 @@ pub fn trail_by_spans()
         → trail format m k ≡ nodes_around k (tree format m) }
 {}
 
-/// A trail has at most 65 nodes in format 1, and 129 in format 2: layers fall from node to node, from
-/// 64 at most or from 128. So the number of its texts fits the one byte that a proof has for it.
+/// A trail has at most 65 nodes in format 1, and 129 in format 2: layers fall from node to node,
+/// from 64 at most or from 128. So the number of its texts fits the one byte that a proof has for
+/// it.
 pub fn trail_is_short()
     ensures few { (m : List Pair) (k : List ℕ) → length (trail One m k) ≤ 65 }
     ensures few_in_format_2 { (m : List Pair) (k : List ℕ) → length (trail Two m k) ≤ 129 }
@@ -61,15 +62,16 @@ pub fn texts_by_grammar()
         → (node_in format text ≡ None) ↔ (InGrammar format text → ⊥) }
 {}
 
-/// What a proof has passed when its verdict is a fault: the frame with its tail before any text, each
-/// text before the next, and of one text the grammar, then the digest, then the layer, then the
-/// keys. In format 2 the claim of the tail is compared last.
+/// What a proof has passed when its verdict is a fault: the frame with its tail before any text,
+/// each text before the next, and of one text the grammar, then the digest, then the layer, then
+/// the keys. In format 2 the claim of the tail is compared last.
 pub fn faults_in_order()
     // a text is refused with a fault exactly where it has passed the tests before that one, and
     // fails that one
     ensures text { (format : Format) (k : List ℕ) (x : Expected) (text : List ℕ)
         (fault : ProofFault) → IsBytes text → (step_at format k x text ≡ Err fault)
         ↔ FailsBy format x.digest x.upper x.span.low x.span.high text fault }
+    // and so is a whole proof
     ensures fails { (format : Format) (root k proof : List ℕ) (fault : ProofFault) → IsBytes proof
-        → verdict format root k proof ≡ Err fault → ProofFails format root k proof fault }
+        → (verdict format root k proof ≡ Err fault) ↔ ProofFails format root k proof fault }
 {}

@@ -13,8 +13,8 @@
 //! ```
 //!
 //! An answer is worth what its root digest is: who made that, and when, is not told here. Where an
-//! answer is false, `collide` names two texts with one SHA-256. `verify_in` and `collide_in` are the
-//! same in either format. Proofs are made by `mst_read` and `mst_store`.
+//! answer is false, `collide` names two texts with one SHA-256. `verify_in` and `collide_in` are
+//! the same in either format. Proofs are made by `mst_read` and `mst_store`.
 //!
 //! The definitions that the contracts cite stand in `specs/`: `Verdict`, `Accepted`, `Frame`, and
 //! in `mst_node` `Trail`.

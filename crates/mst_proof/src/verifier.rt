@@ -111,7 +111,8 @@ pub fn verify(root: &[u8; 32], key: &Key, proof: &[u8]) -> Result<Option<Value>,
     ensures accepted { (answer : Option (List ℕ)) → (result ≡ Ok answer)
         ↔ Accepted One root.now key.now proof.now answer }
     // The proof that a map gives shows the map's answer.
-    ensures complete { (m : List Pair) → HasRoot One m root.now → proof.now ≡ proof_text One m key.now
+    ensures complete { (m : List Pair) → HasRoot One m root.now → proof.now ≡ proof_text One m
+        key.now
         → result ≡ Ok (map_get m key.now) }
     // Where a proof shows another answer for a map's root, two different texts have one SHA-256:
     // two of those of the proof, those of the nodes of the map's tree, and the empty text.
@@ -122,8 +123,8 @@ pub fn verify(root: &[u8; 32], key: &Key, proof: &[u8]) -> Result<Option<Value>,
     verify_in(Format::One, root, key, proof)
 }
 
-/// What the proof shows of the key in the map with this root digest in a format, as `verify` says it
-/// in format 1.
+/// What the proof shows of the key in the map with this root digest in a format, as `verify` says
+/// it in format 1.
 ///
 /// In format 2 a proof begins with the version 02, and a tail follows its texts: 00 for an absent
 /// key, or 01, the length of the value in one byte, and the value. The last text holds the SHA-256
