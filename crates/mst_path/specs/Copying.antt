@@ -23,7 +23,8 @@ pub record Going (format : Format) (w : NodeWriter) (content : Content) (s : Sta
 
 -- So many entries from a link on are to be copied behind those that are written, and no row stands
 -- twice in all of them.
-pub record Copying (format : Format) (w : NodeWriter) (content : Content) (s : State) (link count : ℕ) : Type 0 where
+pub record Copying (format : Format) (w : NodeWriter) (content : Content) (s : State)
+    (link count : ℕ) : Type 0 where
   pub behind : ℕ
   pub es : List PlacedEntry
   pub ws : List PlacedEntry

@@ -29,19 +29,20 @@ pub record IsRunOf (run : Run) (behind : ℕ) (es : List PlacedEntry) : Type 0 w
   pub begins : link_from behind es ≡ run.first
 
 -- the key falls into the gap between two parts of the entries, in which the tree at the link stands
-pub record CutGap (format : Format) (k : List ℕ) (es : List PlacedEntry) (tail : Placed) (front : Run) (child : ℕ)
-    (back : Run) : Type 0 where
+pub record CutGap (format : Format) (k : List ℕ) (es : List PlacedEntry) (tail : Placed)
+    (front : Run) (child : ℕ) (back : Run) : Type 0 where
   pub before : List PlacedEntry
   pub behind : List PlacedEntry
   pub whole : es ≡ before ++ behind
   pub front_is : IsRunOf front (link_from 0 behind) before
   pub back_is : IsRunOf back 0 behind
   pub child_at : link_of (gap_before behind tail) ≡ child
-  pub gap : IsGap k (entries_to format es tail) (cells_of format before) (entries_to format behind tail)
+  pub gap : IsGap k (entries_to format es tail) (cells_of format before)
+      (entries_to format behind tail)
 
 -- the key's entry stands in the row between two parts of the entries, behind the tree at the link
-pub record CutHeld (format : Format) (k : List ℕ) (es : List PlacedEntry) (tail : Placed) (front : Run)
-    (row child : ℕ) (back : Run) : Type 0 where
+pub record CutHeld (format : Format) (k : List ℕ) (es : List PlacedEntry) (tail : Placed)
+    (front : Run) (row child : ℕ) (back : Run) : Type 0 where
   pub before : List PlacedEntry
   pub here : PlacedEntry
   pub behind : List PlacedEntry
@@ -51,7 +52,8 @@ pub record CutHeld (format : Format) (k : List ℕ) (es : List PlacedEntry) (tai
   pub row_is : here.at ≡ row
   pub key_is : here.key ≡ k
   pub child_at : link_of here.child ≡ child
-  pub at : IsAt k (entries_to format es tail) (cells_of format before) (tree_of format here.child) here.value
+  pub at : IsAt k (entries_to format es tail) (cells_of format before) (tree_of format here.child)
+      here.value
       (entries_to format behind tail)
 
 -- a cut of the entries at the key

@@ -27,7 +27,8 @@ frame_rows frame = side_rows (frame.front.count + frame.back.count) false
 -- The entries stand, and they and the rows that go are of the current version or older ones. No row
 -- is in two of them, nor in one of them and in the rows that are given for the gap, which are
 -- alive.
-pub record Framed (format : Format) (content : Content) (s : State) (frame : Frame) (given : ℕ → ℕ) : Type 0 where
+pub record Framed (format : Format) (content : Content) (s : State) (frame : Frame) (given : ℕ → ℕ)
+    : Type 0 where
   pub front : List PlacedEntry
   pub behind : ℕ
   pub front_run : Run format content s frame.front.first frame.front.count behind front
@@ -41,17 +42,20 @@ pub record Framed (format : Format) (content : Content) (s : State) (frame : Fra
       (gaps_used (others back)) + times x (used tail) + times x (spare frame) ≤ 1
 
 -- how often a row stands in the entries, with the trees in their gaps, and in all of the frame
-abbrev pub in_entries : (format : Format) {content : Content} {s : State} {frame : Frame} {given : ℕ → ℕ}
+abbrev pub in_entries : (format : Format) {content : Content} {s : State} {frame : Frame}
+    {given : ℕ → ℕ}
     → Framed format content s frame given → ℕ → ℕ
 in_entries format f x = times x (own f.front) + times x (gaps_used f.front) + times x (own f.back)
     + times x (gaps_used (others f.back)) + times x (used f.tail)
 
-abbrev pub in_frame : (format : Format) {content : Content} {s : State} {frame : Frame} {given : ℕ → ℕ}
+abbrev pub in_frame : (format : Format) {content : Content} {s : State} {frame : Frame}
+    {given : ℕ → ℕ}
     → Framed format content s frame given → ℕ → ℕ
 in_frame format {content} {s} {frame} f x = in_entries format f x + times x (spare frame)
 
 -- the tree with this one in the gap
-abbrev pub tree_round : (format : Format) {content : Content} {s : State} {frame : Frame} {given : ℕ → ℕ}
+abbrev pub tree_round : (format : Format) {content : Content} {s : State} {frame : Frame}
+    {given : ℕ → ℕ}
     → Framed format content s frame given → Tree → Tree
 tree_round format {content} {s} {frame} f t = node_of format frame.layer
     (with_entries (cells_of format f.front) (with_first t (entries_to format f.back f.tail)))

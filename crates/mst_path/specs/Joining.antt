@@ -18,7 +18,8 @@ use Rattle.mst_path.specs.Frames.{Framed, in_frame, tree_round, frame_rows}
 
 -- Two search trees of the current version stand at the links, and no row is in both of them or
 -- twice in one.
-pub record TwoTrees (format : Format) (content : Content) (s : State) (left right : ℕ) : Type 0 where
+pub record TwoTrees (format : Format) (content : Content) (s : State) (left right : ℕ)
+    : Type 0 where
   pub a : Placed
   pub b : Placed
   pub a_at : link_of a ≡ left
@@ -28,6 +29,10 @@ pub record TwoTrees (format : Format) (content : Content) (s : State) (left righ
   pub a_search : IsMst format (tree_of format a)
   pub b_search : IsMst format (tree_of format b)
   pub once : (x : ℕ) → times x (used a) + times x (used b) ≤ 1
+
+-- the two trees at the links of a meeting
+abbrev pub MetTrees : Format → Content → State → Meeting → Type 0
+MetTrees format content s m = TwoTrees format content s m.left m.right
 
 -- how often a row stands in them
 abbrev pub in_both : (format : Format) {content : Content} {s : State} {left right : ℕ}
@@ -54,15 +59,15 @@ height_at content (suc row) = option_map_or (λ h. h.layer + 1) (part_at head_li
 
 -- The trees that meet, and the frame round them: their join in the frame's gap makes the join of
 -- the two.
-pub record Met (format : Format) (content : Content) (s : State) (left right : ℕ) (t : TwoTrees format content s left right)
-    (m : Meeting) : Type 0 where
-  pub inner : TwoTrees format content s m.left m.right
+pub record Met (format : Format) (content : Content) (s : State) (left right : ℕ)
+    (t : TwoTrees format content s left right) (m : Meeting) : Type 0 where
+  pub inner : MetTrees format content s m
   pub framed : Framed format content s m.frame (in_both format inner)
   pub is : both_joined format t ≡ tree_round format framed (both_joined format inner)
   pub rows : both_rows format t ≡ both_rows format inner + frame_rows m.frame
   pub given : (x : ℕ) → in_both format t x ≡ in_both format inner x + in_frame format framed x
-  pub falls : height (tree_of format inner.a) + height (tree_of format inner.b) < height (tree_of format t.a)
-      + height (tree_of format t.b)
+  pub falls : height (tree_of format inner.a) + height (tree_of format inner.b)
+      < height (tree_of format t.a) + height (tree_of format t.b)
   pub low : m.frame.layer ≤ 128
 
 -- ---- where they meet, by the layers of their nodes

@@ -58,7 +58,8 @@ pub record BackRun (format : Format) (content : Content) (s : State) (link count
   pub tail_none : HasTail es tail
 
 -- the parts stand, and no row is in two of them
-pub record PartsStand (format : Format) (content : Content) (s : State) (parts : Parts) : Type 0 where
+pub record PartsStand (format : Format) (content : Content) (s : State) (parts : Parts)
+    : Type 0 where
   pub front : List PlacedEntry
   pub behind : ℕ
   pub front_run : Run format content s parts.front.first parts.front.count behind front
@@ -75,14 +76,14 @@ pub record PartsStand (format : Format) (content : Content) (s : State) (parts :
 -- how often a row stands in the parts
 abbrev pub in_parts : (format : Format) {content : Content} {s : State} {parts : Parts}
     → PartsStand format content s parts → ℕ → ℕ
-in_parts format p x = times x (own p.front) + times x (gaps_used p.front) + times x (used p.seam) + times x
-    (own p.back) + times x (gaps_used (others p.back)) + times x (used p.tail)
+in_parts format p x = times x (own p.front) + times x (gaps_used p.front) + times x (used p.seam)
+    + times x (own p.back) + times x (gaps_used (others p.back)) + times x (used p.tail)
 
 -- The tree stands at the root, on rows of what was given and rows that were taken, so many of
 -- these; what was given and is not of the new tree was killed, and only rows that were taken were
 -- written.
-pub record Grown (format : Format) (c c' : Content) (s s' : State) (t : Tree) (at : Root) (given : ℕ → ℕ)
-    (count : ℕ) : Type 0 where
+pub record Grown (format : Format) (c c' : Content) (s s' : State) (t : Tree) (at : Root)
+    (given : ℕ → ℕ) (count : ℕ) : Type 0 where
   pub placed : Placed
   pub is : tree_of format placed ≡ t
   pub root : IsRootOf format placed at
@@ -95,8 +96,8 @@ pub record Grown (format : Format) (c c' : Content) (s s' : State) (t : Tree) (a
   pub counted : length taken ≡ count
 
 -- The same for two trees, below and above a key.
-pub record Split (format : Format) (c c' : Content) (s s' : State) (t u : Tree) (left right : Root) (given : ℕ → ℕ)
-    (count : ℕ) : Type 0 where
+pub record Split (format : Format) (c c' : Content) (s s' : State) (t u : Tree) (left right : Root)
+    (given : ℕ → ℕ) (count : ℕ) : Type 0 where
   pub lower : Placed
   pub upper : Placed
   pub lower_is : tree_of format lower ≡ t
@@ -124,7 +125,8 @@ pub record OldTree (format : Format) (content : Content) (s : State) (link : ℕ
 
 -- What is left of the parts, for a node whose entries in front are written: the rows that were
 -- taken for its head and its next entry are new ones, and no row stands twice.
-pub record Rest (format : Format) (w : NodeWriter) (content : Content) (s : State) (parts : Parts) : Type 0 where
+pub record Rest (format : Format) (w : NodeWriter) (content : Content) (s : State) (parts : Parts)
+    : Type 0 where
   pub ws : List PlacedEntry
   pub going : Going format w content s ws
   pub head_new : IsNew s w.head
@@ -139,11 +141,12 @@ pub record Rest (format : Format) (w : NodeWriter) (content : Content) (s : Stat
       (used seam) + times x (own back) + times x (gaps_used (others back)) + times x (used tail) ≤ 1
 
 -- the node is written
-pub record Finished (format : Format) (w : NodeWriter) (c c' : Content) (s s' : State) (parts : Parts)
-    (r : Rest format w c s parts) (at : Root) : Type 0 where
+pub record Finished (format : Format) (w : NodeWriter) (c c' : Content) (s s' : State)
+    (parts : Parts) (r : Rest format w c s parts) (at : Root) : Type 0 where
   pub placed : Placed
   pub is : tree_of format placed ≡ node format w.layer
-      (with_entries (cells_of format r.ws) (with_first (tree_of format r.seam) (entries_to format r.back r.tail)))
+      (with_entries (cells_of format r.ws)
+      (with_first (tree_of format r.seam) (entries_to format r.back r.tail)))
   pub root : IsRootOf format placed at
   pub piece : Piece format c' s' placed
   pub taken : List ℕ

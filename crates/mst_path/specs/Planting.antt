@@ -37,7 +37,8 @@ pub record IsTreeOf (format : Format) (t : Tree) (m : List Pair) : Type 0 where
   pub is : t ≡ tree format m
 
 -- the tree was written into rows that were taken for it, and no other row was touched
-pub record Planted (format : Format) (old new : State) (before after : Content) (t : Tree) (at : Root) : Type 0 where
+pub record Planted (format : Format) (old new : State) (before after : Content) (t : Tree)
+    (at : Root) : Type 0 where
   pub placed : Placed
   pub is : tree_of format placed ≡ t
   pub root : IsRootOf format placed at

@@ -27,7 +27,8 @@ use Rattle.mst_path.specs.RemovePath.{SearchTree}
 use Rattle.mst_path.specs.Splitting.{ToSplit}
 
 -- two trees stand, and no row is in both of them
-pub record TwoStand (format : Format) (content : Content) (s : State) (left right : Root) : Type 0 where
+pub record TwoStand (format : Format) (content : Content) (s : State) (left right : Root)
+    : Type 0 where
   pub lower : Placed
   pub upper : Placed
   pub lower_root : IsRootOf format lower left
@@ -42,10 +43,12 @@ abbrev pub in_two : (format : Format) {content : Content} {s : State} {left righ
 in_two format t x = times x (used t.lower) + times x (used t.upper)
 
 -- the tree with a new entry in the gap, between these two
-abbrev pub tree_with : (format : Format) {content : Content} {s : State} {frame : Frame} {given : ℕ → ℕ}
+abbrev pub tree_with : (format : Format) {content : Content} {s : State} {frame : Frame}
+    {given : ℕ → ℕ}
     → Framed format content s frame given → List ℕ → List ℕ → Tree → Tree → Tree
 tree_with format {content} {s} {frame} f k v t u = node format frame.layer
-    (with_entries (cells_of format f.front) (entry t k v (with_first u (entries_to format f.back f.tail))))
+    (with_entries (cells_of format f.front)
+    (entry t k v (with_first u (entries_to format f.back f.tail))))
 
 -- and its rows
 abbrev pub with_rows : Frame → ℕ
@@ -72,38 +75,45 @@ pair_rows format t l k v = put_rows l k v (tree_of format t.tree.placed)
 -- ---- what becomes of the top node
 
 -- The key falls into a gap of a node of a higher layer: the pair is put into the tree there.
-pub record PutsDown (format : Format) (content : Content) (s : State) (link : ℕ) (t : RisingTree format content s link)
-    (l : ℕ) (k : List ℕ) (child : ℕ) (frame : Frame) : Type 0 where
+pub record PutsDown (format : Format) (content : Content) (s : State) (link : ℕ)
+    (t : RisingTree format content s link) (l : ℕ) (k : List ℕ) (child : ℕ) (frame : Frame)
+    : Type 0 where
   pub inner : RisingTree format content s child
   pub framed : Framed format content s frame (in_rising format inner)
-  pub is : (v : List ℕ) → with_pair format t l k v ≡ tree_round format framed (with_pair format inner l k v)
-  pub rows : (v : List ℕ) → pair_rows format t l k v ≡ pair_rows format inner l k v + frame_rows frame
+  pub is : (v : List ℕ)
+      → with_pair format t l k v ≡ tree_round format framed (with_pair format inner l k v)
+  pub rows : (v : List ℕ)
+      → pair_rows format t l k v ≡ pair_rows format inner l k v + frame_rows frame
   pub given : (x : ℕ) → in_rising format t x ≡ in_rising format inner x + in_frame format framed x
   pub falls : height (tree_of format inner.tree.placed) < height (tree_of format t.tree.placed)
   pub low : frame.layer ≤ 128
 
 -- The key falls into a gap of a node of its layer: the tree there is split, and the pair stands
 -- between its sides.
-pub record PutsBetween (format : Format) (content : Content) (s : State) (link : ℕ) (t : RisingTree format content s link)
-    (l : ℕ) (k : List ℕ) (child : ℕ) (frame : Frame) : Type 0 where
+pub record PutsBetween (format : Format) (content : Content) (s : State) (link : ℕ)
+    (t : RisingTree format content s link) (l : ℕ) (k : List ℕ) (child : ℕ) (frame : Frame)
+    : Type 0 where
   pub inner : ToSplit format content s child k
   pub framed : Framed format content s frame (λ x. times x (used inner.tree.placed))
   pub is : (v : List ℕ)
-      → with_pair format t l k v ≡ tree_with format framed k v (below k (tree_of format inner.tree.placed))
+      → with_pair format t l k v
+      ≡ tree_with format framed k v (below k (tree_of format inner.tree.placed))
       (above k (tree_of format inner.tree.placed))
   pub rows : (v : List ℕ)
       → pair_rows format t l k v ≡ split_rows k (tree_of format inner.tree.placed) + with_rows frame
-  pub given : (x : ℕ) → in_rising format t x ≡ times x (used inner.tree.placed) + in_frame format framed x
+  pub given : (x : ℕ)
+      → in_rising format t x ≡ times x (used inner.tree.placed) + in_frame format framed x
   pub low : frame.layer ≤ 128
 
 -- The key has an entry in the node: it is written anew, with the value, between the trees beside
 -- it.
-pub record PutsAnew (format : Format) (content : Content) (s : State) (link : ℕ) (t : RisingTree format content s link)
-    (l : ℕ) (k : List ℕ) (m : Meeting) : Type 0 where
+pub record PutsAnew (format : Format) (content : Content) (s : State) (link : ℕ)
+    (t : RisingTree format content s link) (l : ℕ) (k : List ℕ) (m : Meeting) : Type 0 where
   pub inner : TwoTrees format content s m.left m.right
   pub framed : Framed format content s m.frame (in_both format inner)
   pub is : (v : List ℕ)
-      → with_pair format t l k v ≡ tree_with format framed k v (tree_of format inner.a) (tree_of format inner.b)
+      → with_pair format t l k v
+      ≡ tree_with format framed k v (tree_of format inner.a) (tree_of format inner.b)
   pub rows : (v : List ℕ) → pair_rows format t l k v ≡ with_rows m.frame
   pub given : (x : ℕ) → in_rising format t x ≡ in_both format inner x + in_frame format framed x
   pub low : m.frame.layer ≤ 128
@@ -112,6 +122,8 @@ pub record PutsAnew (format : Format) (content : Content) (s : State) (link : �
 abbrev pub IsPutStep : (format : Format) (content : Content) (s : State) (link : ℕ)
     → RisingTree format content s link → ℕ → List ℕ → PutStep → Type 0
 IsPutStep format content s link t l k OnTop = height (tree_of format t.tree.placed) ≤ l
-IsPutStep format content s link t l k (Down child frame) = PutsDown format content s link t l k child frame
-IsPutStep format content s link t l k (Between child frame) = PutsBetween format content s link t l k child frame
+IsPutStep format content s link t l k (Down child frame) =
+    PutsDown format content s link t l k child frame
+IsPutStep format content s link t l k (Between child frame) =
+    PutsBetween format content s link t l k child frame
 IsPutStep format content s link t l k (Anew meeting) = PutsAnew format content s link t l k meeting

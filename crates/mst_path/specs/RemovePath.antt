@@ -26,7 +26,8 @@ pub record SearchTree (format : Format) (content : Content) (s : State) (link : 
   pub once : (x : ℕ) → times x (used placed) ≤ 1
 
 -- how often a row stands in it
-abbrev pub in_tree : (format : Format) {content : Content} {s : State} {link : ℕ} → SearchTree format content s link → ℕ → ℕ
+abbrev pub in_tree : (format : Format) {content : Content} {s : State} {link : ℕ}
+    → SearchTree format content s link → ℕ → ℕ
 in_tree format t x = times x (used t.placed)
 
 -- the tree without the key, and the rows of the nodes that are made new
@@ -39,8 +40,8 @@ abbrev pub without_rows : (format : Format) {content : Content} {s : State} {lin
 without_rows format t k = remove_rows (tree_of format t.placed) k
 
 -- The key falls into a gap of the top node: the tree in it loses the key.
-pub record StepsDown (format : Format) (content : Content) (s : State) (link : ℕ) (t : SearchTree format content s link)
-    (k : List ℕ) (child : ℕ) (frame : Frame) : Type 0 where
+pub record StepsDown (format : Format) (content : Content) (s : State) (link : ℕ)
+    (t : SearchTree format content s link) (k : List ℕ) (child : ℕ) (frame : Frame) : Type 0 where
   pub inner : SearchTree format content s child
   pub framed : Framed format content s frame (in_tree format inner)
   pub is : without format t k ≡ tree_round format framed (without format inner k)
@@ -50,8 +51,8 @@ pub record StepsDown (format : Format) (content : Content) (s : State) (link : �
   pub low : frame.layer ≤ 128
 
 -- The key has an entry in the top node: it goes, and the trees beside it are joined.
-pub record StepsHere (format : Format) (content : Content) (s : State) (link : ℕ) (t : SearchTree format content s link)
-    (k : List ℕ) (m : Meeting) : Type 0 where
+pub record StepsHere (format : Format) (content : Content) (s : State) (link : ℕ)
+    (t : SearchTree format content s link) (k : List ℕ) (m : Meeting) : Type 0 where
   pub inner : TwoTrees format content s m.left m.right
   pub framed : Framed format content s m.frame (in_both format inner)
   pub is : without format t k ≡ tree_round format framed (both_joined format inner)
@@ -61,5 +62,6 @@ pub record StepsHere (format : Format) (content : Content) (s : State) (link : �
 
 abbrev pub IsStep : (format : Format) (content : Content) (s : State) (link : ℕ)
     → SearchTree format content s link → List ℕ → Step → Type 0
-IsStep format content s link t k (Down child frame) = StepsDown format content s link t k child frame
+IsStep format content s link t k (Down child frame) =
+    StepsDown format content s link t k child frame
 IsStep format content s link t k (Here meeting) = StepsHere format content s link t k meeting

@@ -15,7 +15,8 @@ use Rattle.mst_path.specs.declared.making.Parts.{Parts}
 use Rattle.mst_node.specs.Shape.{with_entries}
 
 -- a search tree of the current version stands at a link, under a layer
-pub record SearchUnder (format : Format) (content : Content) (s : State) (link layer : ℕ) : Type 0 where
+pub record SearchUnder (format : Format) (content : Content) (s : State) (link layer : ℕ)
+    : Type 0 where
   pub tree : OldTree format content s link
   pub mst : IsMst format (tree_of format tree.placed)
   pub rises : IsAscending (pairs (tree_of format tree.placed))
@@ -29,16 +30,20 @@ ToSplit format content s link k = SearchUnder format content s link (layer_in fo
 abbrev pub side_of : (format : Format) {content : Content} {s : State} {parts : Parts}
     → PartsStand format content s parts → Tree
 side_of format {parts = parts} p = node_of format parts.layer
-    (with_entries (cells_of format p.front) (with_first (tree_of format p.seam) (entries_to format p.back p.tail)))
+    (with_entries (cells_of format p.front)
+    (with_first (tree_of format p.seam) (entries_to format p.back p.tail)))
 
 -- the parts of two sides stand, and the row of an old head: no row is in two of them
-pub record BothStand (format : Format) (content : Content) (s : State) (row : ℕ) (left right : Parts) : Type 0 where
+pub record BothStand (format : Format) (content : Content) (s : State) (row : ℕ)
+    (left right : Parts) : Type 0 where
   pub head_old : IsOld s row
   pub lower : PartsStand format content s left
   pub upper : PartsStand format content s right
   pub once : (x : ℕ) → times x (row ∷ []) + in_parts format lower x + in_parts format upper x ≤ 1
 
 -- how often a row stands in both sides and the head
-abbrev pub in_both : (format : Format) {content : Content} {s : State} {row : ℕ} {left right : Parts}
+abbrev pub in_both : (format : Format) {content : Content} {s : State} {row : ℕ}
+    {left right : Parts}
     → BothStand format content s row left right → ℕ → ℕ
-in_both format {row = row} b x = times x (row ∷ []) + in_parts format b.lower x + in_parts format b.upper x
+in_both format {row = row} b x =
+    times x (row ∷ []) + in_parts format b.lower x + in_parts format b.upper x

@@ -1,5 +1,5 @@
 -- Rows that a write takes, and the rows that it leaves alone.
-use Rattle.std.specs.Prelude.{◌≡◌, ◌≢◌, ℕ, Bool, IsTrue, List, [], ◌∷◌, slice_get, slice_set, Some}
+use Rattle.std.specs.Prelude.{◌≡◌, ◌≢◌, ◌≤◌, ℕ, Bool, IsTrue, List, [], ◌∷◌, length, slice_get, slice_set, Some}
 use Rattle.std.specs.List.{AllByRecursion}
 use Rattle.mst_arena.specs.Content.{Content}
 use Rattle.mst_arena.specs.Lives.{State, next}
@@ -30,3 +30,16 @@ KeepsBut rows old new = (k : ℕ) → IsOut k rows → new k ≡ old k
 -- the free rows may be written
 abbrev pub FreeIsBlank : List Life → (ℕ → Bool) → Type 0
 FreeIsBlank lives blank = (k : ℕ) → slice_get lives k ≡ Some Free → IsTrue (blank k)
+
+-- so few rows that the link to each, its number and one, fits into 16 bits
+abbrev pub FewRows : List Life → Type 0
+FewRows lives = length lives ≤ 65535
+
+-- Rows may be taken and written: each has a link, and the free ones are blank.
+pub record IsWritable (lives : List Life) (blank : ℕ → Bool) : Type 0 where
+  pub few : FewRows lives
+  pub free : FreeIsBlank lives blank
+
+-- what the holder of rows is beside their content stays: which rows are blank, and what it keeps
+abbrev pub StaysBeside : {S K : Type 0} → (S → ℕ → Bool) → (S → K) → S → S → Type 0
+StaysBeside blank kept old new = (blank new ≡ blank old) × (kept new ≡ kept old)

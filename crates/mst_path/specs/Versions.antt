@@ -40,7 +40,8 @@ HaveMaps format content lives kept =
 abbrev pub rows_kept : (format : Format) (content : Content) (lives : List Life) (kept : List Kept)
     → HaveMaps format content lives kept → List ℕ
 rows_kept format content lives [] have = []
-rows_kept format content lives (k ∷ ks) have = numbers have.0.stands ++ rows_kept format content lives ks have.1
+rows_kept format content lives (k ∷ ks) have =
+    numbers have.0.stands ++ rows_kept format content lives ks have.1
 
 -- What holds between two writes: none is under way; the current version is kept; and each version
 -- that is kept is the current one or an earlier one, and has its map.

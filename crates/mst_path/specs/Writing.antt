@@ -32,7 +32,8 @@ link_from behind (e ∷ es) = e.at + 1
 -- the rows of these entries and of the trees before them
 abbrev pub entry_rows : (format : Format) → ℕ → List PlacedEntry → List (ℕ × Row)
 entry_rows format behind [] = []
-entry_rows format behind (e ∷ es) = (e.at, Entry (link_of e.child) (link_from behind es) e.key e.value)
+entry_rows format behind (e ∷ es) =
+    (e.at, Entry (link_of e.child) (link_from behind es) e.key e.value)
     ∷ rows_of format e.child ++ entry_rows format behind es
 
 -- their numbers
@@ -42,11 +43,17 @@ entries_used (e ∷ es) = e.at ∷ used e.child ++ entries_used es
 
 -- the text of a node up to these entries
 abbrev pub flat_of : (format : Format) → PlacedEntry → FlatEntry
-flat_of format e = record { child = child_digest (tree_of format e.child); key = e.key; held = held_of format e.value }
+flat_of format e =
+    record {
+      child = child_digest (tree_of format e.child);
+      key = e.key;
+      held = held_of format e.value;
+    }
 
 abbrev pub text_up_to : (format : Format) → ℕ → ℕ → List PlacedEntry → List ℕ
 text_up_to format layer count es =
-    version format ∷ layer ∷ to_be_bytes w16 count ++ flat_map (entry_text format) (map (flat_of format) es)
+    version format ∷ layer ∷ to_be_bytes w16 count
+    ++ flat_map (entry_text format) (map (flat_of format) es)
 
 -- link and digest are those of the placed tree
 pub record IsRootOf (format : Format) (p : Placed) (at : Root) : Type 0 where
@@ -77,9 +84,10 @@ pub record IsWriter (w : NodeWriter) : Type 0 where
   pub small : AllByRecursion (λ r. r < 65535) (w.head ∷ w.first ∷ ahead w.next)
   pub reserved : IsAhead w.next w.left
 
--- these entries are written, in this format: they are the first of the node's, their rows stand, and the hasher
--- holds the text up to them
-pub record IsWritten (format : Format) (w : NodeWriter) (content : Content) (es : List PlacedEntry) : Type 0 where
+-- these entries are written, in this format: they are the first of the node's, their rows stand,
+-- and the hasher holds the text up to them
+pub record IsWritten (format : Format) (w : NodeWriter) (content : Content) (es : List PlacedEntry)
+    : Type 0 where
   pub format_is : w.format ≡ format
   pub counted : length es + w.left ≡ w.count
   pub begins : link_from (link_to w.next) es ≡ w.first + 1

@@ -1,11 +1,11 @@
 //! Entries of a node, copied into a node that is being written.
-ghost use Rattle.std.specs.Prelude.{◌≡◌, ◌≤◌, ◌<◌, ◌+◌, ℕ, List, [], ◌∷◌, ◌++◌, length, Some, IfSome, IsTrue, IsSome};
+ghost use Rattle.std.specs.Prelude.{◌≡◌, ◌≤◌, ◌<◌, ◌+◌, ℕ, List, [], ◌∷◌, ◌++◌, Some, IfSome, IsTrue, IsSome};
 ghost use Rattle.mst_key.specs.declared.format.Format.{Format};
 ghost use Rattle.mst_arena.specs.Lives.{free_count};
 ghost use Rattle.mst_arena.specs.Content.{part_at};
 ghost use Rattle.mst_arena.specs.Row.{entry_links, entry_value};
 ghost use Rattle.mst_arena.specs.Standing.{Placed, link_of, rows_of, used, HasRows};
-ghost use Rattle.mst_path.specs.Takes.{IsOut, KeepsBut, FreeIsBlank};
+ghost use Rattle.mst_path.specs.Takes.{IsOut, KeepsBut, FewRows, IsWritable, StaysBeside};
 ghost use Rattle.mst_path.specs.Writing.{PlacedEntry, entries_used, IsRootOf, ahead, IsWriter, IsWritten};
 ghost use Rattle.mst_path.specs.Moves.{IsOld, Moves};
 ghost use Rattle.mst_path.specs.Copying.{Copying, Copied};
@@ -48,7 +48,7 @@ pub(crate) fn move_entry<R: Rows, A: Allocator>(
     requires writer { IsWriter writer.old }
     requires some { 0 < writer.old.left }
     requires room { 1 < writer.old.left → 0 < free_count desk.old.lives }
-    requires few { length desk.old.lives ≤ 65535 }
+    requires few { FewRows desk.old.lives }
     requires blank { IfSome writer.old.next (λ r. IsTrue (R.blank rows.old r)) }
     requires child { child.now.link ≤ 65535 }
     requires entry { part_at entry_links (R.content rows.old) row ≡ Some entry.now }
@@ -65,8 +65,7 @@ pub(crate) fn move_entry<R: Rows, A: Allocator>(
         × (writer.new.left + 1 ≡ writer.old.left) × (writer.new.head ≡ writer.old.head) }
     ensures moves { Moves desk.old desk.new (ahead writer.new.next) (row ∷ []) }
     ensures keeps { KeepsBut (ahead writer.old.next) (R.content rows.old) (R.content rows.new) }
-    ensures blank { R.blank rows.new ≡ R.blank rows.old }
-    ensures kept { R.kept rows.new ≡ R.kept rows.old }
+    ensures beside { StaysBeside R.blank R.kept rows.old rows.new }
 {
     writer.copy(rows, desk, child, row, entry);
     desk.kill(row);
@@ -86,9 +85,8 @@ pub(crate) fn move_run<R: Rows, A: Allocator>(
     requires writer { IsWriter writer.old }
     requires left { count ≤ writer.old.left }
     requires room { writer.old.left ≤ free_count desk.old.lives + 1 }
-    requires few { length desk.old.lives ≤ 65535 }
+    requires ready { IsWritable desk.old.lives (R.blank rows.old) }
     requires blank { IfSome writer.old.next (λ r. IsTrue (R.blank rows.old r)) }
-    requires free { FreeIsBlank desk.old.lives (R.blank rows.old) }
     ensures writer { IsWriter writer.new }
     ensures copied { (format : Format)
         (k : Copying format writer.old (R.content rows.old) desk.old from count)
@@ -97,8 +95,7 @@ pub(crate) fn move_run<R: Rows, A: Allocator>(
         (R.content rows.new) desk.old desk.new k.ws k.es }
     ensures node { (writer.new.layer ≡ writer.old.layer) × (writer.new.count ≡ writer.old.count)
         × (writer.new.left + count ≡ writer.old.left) × (writer.new.head ≡ writer.old.head) }
-    ensures blank { R.blank rows.new ≡ R.blank rows.old }
-    ensures kept { R.kept rows.new ≡ R.kept rows.old }
+    ensures beside { StaysBeside R.blank R.kept rows.old rows.new }
     ensures next { IfSome writer.new.next (λ r. IsTrue (R.blank rows.new r)) }
 {
     let mut link = from;

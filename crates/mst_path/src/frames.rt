@@ -1,10 +1,10 @@
 //! What is left of nodes round a gap, once the tree in the gap is made anew.
-ghost use Rattle.std.specs.Prelude.{◌≡◌, ◌≤◌, ◌<◌, ◌+◌, ℕ, [], ◌∷◌, length};
+ghost use Rattle.std.specs.Prelude.{◌≡◌, ◌≤◌, ◌<◌, ◌+◌, ℕ, [], ◌∷◌};
 ghost use Rattle.mst_key.specs.declared.format.Format.{Format};
 ghost use Rattle.mst_arena.specs.Lives.{free_count};
 ghost use Rattle.mst_arena.specs.Lists.{In, times};
 ghost use Rattle.mst_arena.specs.Standing.{Placed, tree_of, used};
-ghost use Rattle.mst_path.specs.Takes.{FreeIsBlank};
+ghost use Rattle.mst_path.specs.Takes.{IsWritable, StaysBeside};
 ghost use Rattle.mst_path.specs.Moves.{IsOld, Moves};
 ghost use Rattle.mst_path.specs.Runs.{Piece};
 ghost use Rattle.mst_path.specs.Writing.{IsRootOf, ahead};
@@ -69,8 +69,7 @@ fn fill<R: Rows, A: Allocator>(
         × Framed format (R.content rows.old) desk.old frame.now (λ x. times x (used p)) }
     requires low { frame.now.layer ≤ 128 }
     requires room { frame_rows frame.now ≤ free_count desk.old.lives }
-    requires few { length desk.old.lives ≤ 65535 }
-    requires free { FreeIsBlank desk.old.lives (R.blank rows.old) }
+    requires ready { IsWritable desk.old.lives (R.blank rows.old) }
     ensures made { (p : Placed) → IsRootOf format p seam.now
         → Piece format (R.content rows.old) desk.old p
         → (f : Framed format (R.content rows.old) desk.old frame.now (λ x. times x (used p)))
@@ -78,8 +77,7 @@ fn fill<R: Rows, A: Allocator>(
         (tree_round format f (tree_of format p)) result (λ x. times x
         (used p) + in_entries format f x)
         (frame_rows frame.now) }
-    ensures blank { R.blank rows.new ≡ R.blank rows.old }
-    ensures kept { R.kept rows.new ≡ R.kept rows.old }
+    ensures beside { StaysBeside R.blank R.kept rows.old rows.new }
 {
     if frame.front.count + frame.back.count == 0 {
         return *seam;
@@ -108,8 +106,7 @@ pub(crate) fn close<R: Rows, A: Allocator>(
         × Framed format (R.content rows.old) desk.old frame.now (λ x. times x (used p)) }
     requires low { frame.now.layer ≤ 128 }
     requires room { frame_rows frame.now ≤ free_count desk.old.lives }
-    requires few { length desk.old.lives ≤ 65535 }
-    requires free { FreeIsBlank desk.old.lives (R.blank rows.old) }
+    requires ready { IsWritable desk.old.lives (R.blank rows.old) }
     ensures made { (p : Placed) → IsRootOf format p seam.now
         → Piece format (R.content rows.old) desk.old p
         → (f : Framed format (R.content rows.old) desk.old frame.now (λ x. times x (used p)))
@@ -117,8 +114,7 @@ pub(crate) fn close<R: Rows, A: Allocator>(
         (tree_round format f (tree_of format p)) result (λ x. times x
         (used p) + in_frame format f x)
         (frame_rows frame.now) }
-    ensures blank { R.blank rows.new ≡ R.blank rows.old }
-    ensures kept { R.kept rows.new ≡ R.kept rows.old }
+    ensures beside { StaysBeside R.blank R.kept rows.old rows.new }
 {
     let root = fill(rows, desk, frame, seam, format);
     kill_both(desk, frame.head, frame.other);

@@ -8,7 +8,7 @@ ghost use Rattle.mst_key.specs.declared.format.Format.{Format};
 ghost use Rattle.mst_node.specs.Cost.{same_bytes, cost};
 ghost use Rattle.mst_arena.specs.Lives.{free_count};
 ghost use Rattle.mst_arena.specs.Standing.{Stands, numbers};
-ghost use Rattle.mst_path.specs.Takes.{FreeIsBlank};
+ghost use Rattle.mst_path.specs.Takes.{FreeIsBlank, StaysBeside};
 ghost use Rattle.mst_path.specs.Made.{IsMade};
 ghost use Rattle.mst_path.specs.Changing.{MapStands, OnlyFreeWritten, SameVersions};
 ghost use Rattle.mst_path.specs.Reached.{Changes};
@@ -88,8 +88,7 @@ pub fn put<R: Rows, A: Allocator>(
     ensures same_value { IfOk result (λ done. (m : List Pair)
         → Stands format (R.content rows.old) root.now m → map_get m key.now ≡ Some value.now
         → (done.0 ≡ root.now) × (desk.new ≡ desk.old) × (rows.new ≡ rows.old)) }
-    ensures blank { R.blank rows.new ≡ R.blank rows.old }
-    ensures kept { R.kept rows.new ≡ R.kept rows.old }
+    ensures beside { StaysBeside R.blank R.kept rows.old rows.new }
     ensures no_room { IfErr result (λ _. (m : List Pair)
         → Stands format (R.content rows.old) root.now m
         → free_count desk.old.lives < cost format m (map.put m key.now value.now)) }

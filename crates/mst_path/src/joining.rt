@@ -1,9 +1,9 @@
 //! Two trees that stand, joined: from the top down, the node of the greater layer is made anew
 //! round the gap in which it meets the other tree.
-ghost use Rattle.std.specs.Prelude.{◌≡◌, ◌≤◌, ◌<◌, ◌+◌, length};
+ghost use Rattle.std.specs.Prelude.{◌≡◌, ◌≤◌, ◌<◌, ◌+◌};
 ghost use Rattle.mst_key.specs.declared.format.Format.{Format};
 ghost use Rattle.mst_arena.specs.Lives.{State, free_count};
-ghost use Rattle.mst_path.specs.Takes.{FreeIsBlank};
+ghost use Rattle.mst_path.specs.Takes.{IsWritable, StaysBeside};
 ghost use Rattle.mst_path.specs.Making.{Grown};
 ghost use Rattle.mst_path.specs.Joining.{TwoTrees, in_both, both_joined, both_rows, Met, above_right, below_right, beside_right};
 
@@ -35,14 +35,12 @@ pub(crate) fn join<R: Rows, A: Allocator>(
 ) -> Root
     requires trees { (t : TwoTrees format (R.content rows.old) desk.old left right)
         × (both_rows format t ≤ free_count desk.old.lives) }
-    requires few { length desk.old.lives ≤ 65535 }
-    requires free { FreeIsBlank desk.old.lives (R.blank rows.old) }
+    requires ready { IsWritable desk.old.lives (R.blank rows.old) }
     ensures joined { (t : TwoTrees format (R.content rows.old) desk.old left right)
         → Grown format (R.content rows.old) (R.content rows.new) desk.old desk.new
         (both_joined format t) result
         (in_both format t) (both_rows format t) }
-    ensures blank { R.blank rows.new ≡ R.blank rows.old }
-    ensures kept { R.kept rows.new ≡ R.kept rows.old }
+    ensures beside { StaysBeside R.blank R.kept rows.old rows.new }
 {
     if left == 0 {
         return root_at(rows, right);

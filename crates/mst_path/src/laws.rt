@@ -85,20 +85,23 @@ pub fn reach_laws()
 /// earlier ones. Each law holds for the trees of either format.
 pub fn version_laws()
     // a new desk keeps the empty map
-    ensures open { (f : Format) (content : Content) (at : Root) (rows records first : ℕ) → 0 < records
+    ensures open { (f : Format) (content : Content) (at : Root) (rows records first : ℕ)
+        → 0 < records
         → Stands f content at []
         → Keeps f content
         (record { current = 0; versions = replicate records first; lives = replicate rows Free })
         (record { number = first; root = at; pairs = [] } ∷ []) }
     // a write that is advanced adds its version, and leaves the map of each version that is kept
-    ensures write { (f : Format) (old new : State) (before after : Content) (root at : Root) (m n : List Pair)
+    ensures write { (f : Format) (old new : State) (before after : Content) (root at : Root)
+        (m n : List Pair)
         (kept : List Kept) (into : ℕ) (has : HasMap f before old.lives (version old) root m)
         (stands : Stands f after at n) → Changes old new (numbers has.stands) (numbers stands)
         → OnlyFreeWritten old before after → into < length old.versions → Keeps f before old kept
         → Keeps f after (advanced into new)
         (record { number = next old; root = at; pairs = n } ∷ kept) }
     // and so does a map that is planted where the empty map stands
-    ensures plant { (f : Format) (old new : State) (before after : Content) (root at : Root) (n : List Pair)
+    ensures plant { (f : Format) (old new : State) (before after : Content) (root at : Root)
+        (n : List Pair)
         (kept : List Kept) (into : ℕ) (stands : Stands f after at n)
         → HasMap f before old.lives (version old) root [] → Takes old new (numbers stands)
         → KeepsBut (numbers stands) before after → into < length old.versions
@@ -113,11 +116,13 @@ pub fn version_laws()
     ensures sweep { (f : Format) (content : Content) (s : State) (live : List ℕ) (kept : List Kept)
         → AreNumbers live kept → Keeps f content s kept → Keeps f content (swept_by live s) kept }
     // after it a row is free exactly where none of their maps stands on it
-    ensures free { (f : Format) (content : Content) (s : State) (live : List ℕ) (kept : List Kept) (r : ℕ)
+    ensures free { (f : Format) (content : Content) (s : State) (live : List ℕ) (kept : List Kept)
+        (r : ℕ)
         → AreNumbers live kept → (keeps : Keeps f content s kept) → r < length s.lives
         → slice_get (swept_by live s).lives r ≡ Some Free
         ↔ (times r (rows_kept f content s.lives kept keeps.maps) ≡ 0) }
-    ensures count { (f : Format) (content : Content) (s : State) (live rows : List ℕ) (kept : List Kept)
+    ensures count { (f : Format) (content : Content) (s : State) (live rows : List ℕ)
+        (kept : List Kept)
         → AreNumbers live kept → (keeps : Keeps f content s kept) → IsDistinct rows
         → ((r : ℕ) → In r rows ↔ In r (rows_kept f content s.lives kept keeps.maps))
         → free_count (swept_by live s).lives + length rows ≡ length s.lives }
@@ -126,7 +131,8 @@ pub fn version_laws()
     ensures rows { (f : Format) (content : Content) (at : Root) (m : List Pair)
         (stands : Stands f content at m)
         → length (numbers stands) ≡ length m + node_count (tree f m) }
-    ensures room { (f : Format) (content : Content) (s : State) (at : Root) (m : List Pair) → IsSettled s
+    ensures room { (f : Format) (content : Content) (s : State) (at : Root) (m : List Pair)
+        → IsSettled s
         → HasMap f content s.lives (version s) at m
         → free_count (swept_by (version s ∷ []) s).lives + (length m + node_count (tree f m))
         ≡ length s.lives }

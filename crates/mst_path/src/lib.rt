@@ -30,7 +30,8 @@
 //!
 //! - `insertion` and `removal` look for the key (`finding`), count the rows that are needed
 //!   (`counting`, `remove_path`), and only then write.
-//! - `put_path`, `split`, `remove_path` and `joining` go down the path, with where the key stands among
+//! - `put_path`, `split`, `remove_path` and `joining` go down the path, with where the key stands
+//!   among
 //!   the entries of a node (`cut`).
 //! - `frames` has what is left of a node round the gap whose tree changes; `making` makes a new
 //!   node of such parts.

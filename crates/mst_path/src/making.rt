@@ -1,5 +1,5 @@
 //! A new node, made of parts of nodes that stand.
-ghost use Rattle.std.specs.Prelude.{◌≡◌, ◌≤◌, ◌<◌, ◌+◌, ℕ, length, IfSome, IsTrue};
+ghost use Rattle.std.specs.Prelude.{◌≡◌, ◌≤◌, ◌<◌, ◌+◌, ℕ, IfSome, IsTrue};
 ghost use Rattle.mst_key.specs.declared.format.Format.{Format};
 ghost use Rattle.mst_node.specs.Tree.{node, entry};
 ghost use Rattle.mst_node.specs.Shape.{with_entries};
@@ -7,7 +7,7 @@ ghost use Rattle.mst_arena.specs.Lives.{free_count};
 ghost use Rattle.mst_arena.specs.Lists.{times};
 ghost use Rattle.mst_arena.specs.Standing.{Placed, tree_of, used};
 ghost use Rattle.mst_change.specs.Parts.{with_first};
-ghost use Rattle.mst_path.specs.Takes.{FreeIsBlank};
+ghost use Rattle.mst_path.specs.Takes.{IsWritable, StaysBeside};
 ghost use Rattle.mst_path.specs.Runs.{Piece};
 ghost use Rattle.mst_path.specs.Writing.{IsRootOf, IsWriter};
 ghost use Rattle.mst_path.specs.Making.{PartsStand, in_parts, cells_of, entries_to, Grown, Rest, Finished, tail_behind};
@@ -65,8 +65,7 @@ pub(crate) fn make_node<R: Rows, A: Allocator>(
     requires some { 0 < parts.now.front.count + parts.now.back.count }
     requires low { parts.now.layer ≤ 128 }
     requires room { parts.now.front.count + parts.now.back.count + 1 ≤ free_count desk.old.lives }
-    requires few { length desk.old.lives ≤ 65535 }
-    requires free { FreeIsBlank desk.old.lives (R.blank rows.old) }
+    requires ready { IsWritable desk.old.lives (R.blank rows.old) }
     ensures made { (p : PartsStand format (R.content rows.old) desk.old parts.now)
         → Grown format (R.content rows.old) (R.content rows.new) desk.old desk.new
         (node format parts.now.layer
@@ -74,8 +73,7 @@ pub(crate) fn make_node<R: Rows, A: Allocator>(
         (with_first (tree_of format p.seam) (entries_to format p.back p.tail)))) result
         (in_parts format p)
         (parts.now.front.count + parts.now.back.count + 1) }
-    ensures blank { R.blank rows.new ≡ R.blank rows.old }
-    ensures kept { R.kept rows.new ≡ R.kept rows.old }
+    ensures beside { StaysBeside R.blank R.kept rows.old rows.new }
 {
     let count = parts.front.count + parts.back.count;
     let mut writer = NodeWriter::begin(desk, parts.layer, count, format);
@@ -105,8 +103,7 @@ pub(crate) fn make_node_with<R: Rows, A: Allocator>(
         × ((x : ℕ) → in_parts format p x + times x (used c) ≤ 1) }
     requires low { parts.now.layer ≤ 128 }
     requires room { parts.now.front.count + parts.now.back.count + 2 ≤ free_count desk.old.lives }
-    requires few { length desk.old.lives ≤ 65535 }
-    requires free { FreeIsBlank desk.old.lives (R.blank rows.old) }
+    requires ready { IsWritable desk.old.lives (R.blank rows.old) }
     ensures made { (p : PartsStand format (R.content rows.old) desk.old parts.now) (c : Placed)
         → IsRootOf format c child.now → Piece format (R.content rows.old) desk.old c
         → ((x : ℕ) → in_parts format p x + times x (used c) ≤ 1)
@@ -115,9 +112,9 @@ pub(crate) fn make_node_with<R: Rows, A: Allocator>(
         (with_entries (cells_of format p.front)
         (entry (tree_of format c) key.now value.now
         (with_first (tree_of format p.seam) (entries_to format p.back p.tail))))) result
-        (λ x. in_parts format p x + times x (used c)) (parts.now.front.count + parts.now.back.count + 2) }
-    ensures blank { R.blank rows.new ≡ R.blank rows.old }
-    ensures kept { R.kept rows.new ≡ R.kept rows.old }
+        (λ x. in_parts format p x + times x (used c))
+        (parts.now.front.count + parts.now.back.count + 2) }
+    ensures beside { StaysBeside R.blank R.kept rows.old rows.new }
 {
     let count = parts.front.count + parts.back.count + 1;
     let mut writer = NodeWriter::begin(desk, parts.layer, count, format);
@@ -143,16 +140,14 @@ fn finish_node<R: Rows, A: Allocator>(
     requires writer { IsWriter writer }
     requires left { writer.left ≡ parts.now.back.count }
     requires room { writer.left ≤ free_count desk.old.lives + 1 }
-    requires few { length desk.old.lives ≤ 65535 }
+    requires ready { IsWritable desk.old.lives (R.blank rows.old) }
     requires blank { IfSome writer.next (λ r. IsTrue (R.blank rows.old r)) }
     requires head { IsTrue (R.blank rows.old writer.head) }
-    requires free { FreeIsBlank desk.old.lives (R.blank rows.old) }
     ensures finished { (format : Format) (r : Rest format writer
         (R.content rows.old) desk.old parts.now)
         → Finished format writer (R.content rows.old)
         (R.content rows.new) desk.old desk.new parts.now r result }
-    ensures blank { R.blank rows.new ≡ R.blank rows.old }
-    ensures kept { R.kept rows.new ≡ R.kept rows.old }
+    ensures beside { StaysBeside R.blank R.kept rows.old rows.new }
 {
     if parts.back.count == 0 {
         return writer.finish(rows, &parts.seam);
@@ -173,16 +168,14 @@ fn finish_with_back<R: Rows, A: Allocator>(
     requires writer { IsWriter writer }
     requires left { writer.left ≡ parts.now.back.count }
     requires room { writer.left ≤ free_count desk.old.lives + 1 }
-    requires few { length desk.old.lives ≤ 65535 }
+    requires ready { IsWritable desk.old.lives (R.blank rows.old) }
     requires blank { IfSome writer.next (λ r. IsTrue (R.blank rows.old r)) }
     requires head { IsTrue (R.blank rows.old writer.head) }
-    requires free { FreeIsBlank desk.old.lives (R.blank rows.old) }
     ensures finished { (format : Format) (r : Rest format writer
         (R.content rows.old) desk.old parts.now)
         → Finished format writer (R.content rows.old)
         (R.content rows.new) desk.old desk.new parts.now r result }
-    ensures blank { R.blank rows.new ≡ R.blank rows.old }
-    ensures kept { R.kept rows.new ≡ R.kept rows.old }
+    ensures beside { StaysBeside R.blank R.kept rows.old rows.new }
 {
     let row = parts.back.first - 1;
     let entry = rows.entry(row);

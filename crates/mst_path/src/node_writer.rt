@@ -1,12 +1,12 @@
 //! One node, written into rows entry by entry.
-ghost use Rattle.std.specs.Prelude.{◌≡◌, ◌≤◌, ◌<◌, ◌+◌, ℕ, List, [], ◌∷◌, ◌++◌, length, Some, IfSome, IsTrue, IsSome};
+ghost use Rattle.std.specs.Prelude.{◌≡◌, ◌≤◌, ◌<◌, ◌+◌, ℕ, List, [], ◌∷◌, ◌++◌, Some, IfSome, IsTrue, IsSome};
 ghost use Rattle.mst_node.specs.Text.{child_digest};
 ghost use Rattle.mst_key.specs.declared.format.Format.{Format};
 ghost use Rattle.mst_arena.specs.Lives.{free_count};
 ghost use Rattle.mst_arena.specs.Content.{Content, part_at};
 ghost use Rattle.mst_arena.specs.Row.{entry_links, entry_value};
 ghost use Rattle.mst_arena.specs.Standing.{Placed, head, tree_of, rows_of, used, HasRows};
-ghost use Rattle.mst_path.specs.Takes.{Takes, IsOut, KeepsBut};
+ghost use Rattle.mst_path.specs.Takes.{Takes, IsOut, KeepsBut, FewRows, StaysBeside};
 ghost use Rattle.mst_path.specs.Writing.{PlacedEntry, chain_of, entries_used, IsRootOf, ahead, IsAhead, IsWriter, IsWritten};
 
 use mst_arena::{Desk, EntryLinks, Root, Row, Rows};
@@ -87,7 +87,7 @@ impl NodeWriter {
         requires some { 0 < count }
         requires few { count ≤ 65534 }
         requires room { 2 ≤ free_count desk.old.lives }
-        requires rows { length desk.old.lives ≤ 65535 }
+        requires rows { FewRows desk.old.lives }
         ensures writer { IsWriter result }
         ensures written { (c : Content) → IsWritten format result c [] }
         ensures node { (result.layer ≡ layer) × (result.count ≡ count) × (result.left ≡ count) }
@@ -122,7 +122,7 @@ impl NodeWriter {
         requires writer { IsWriter self.old }
         requires some { 0 < self.old.left }
         requires room { 1 < self.old.left → 0 < free_count desk.old.lives }
-        requires few { length desk.old.lives ≤ 65535 }
+        requires few { FewRows desk.old.lives }
         requires blank { IfSome self.old.next (λ r. IsTrue (R.blank rows.old r)) }
         requires child { child.now.link ≤ 65535 }
         ensures writer { IsWriter self.new }
@@ -138,8 +138,7 @@ impl NodeWriter {
             × (self.new.left + 1 ≡ self.old.left) × (self.new.head ≡ self.old.head) }
         ensures takes { Takes desk.old desk.new (ahead self.new.next) }
         ensures keeps { KeepsBut (ahead self.old.next) (R.content rows.old) (R.content rows.new) }
-        ensures blank { R.blank rows.new ≡ R.blank rows.old }
-        ensures kept { R.kept rows.new ≡ R.kept rows.old }
+        ensures beside { StaysBeside R.blank R.kept rows.old rows.new }
     {
         let Some(row) = self.next else { unreachable!() };
         self.left -= 1;
@@ -172,7 +171,7 @@ impl NodeWriter {
         requires writer { IsWriter self.old }
         requires some { 0 < self.old.left }
         requires room { 1 < self.old.left → 0 < free_count desk.old.lives }
-        requires few { length desk.old.lives ≤ 65535 }
+        requires few { FewRows desk.old.lives }
         requires blank { IfSome self.old.next (λ r. IsTrue (R.blank rows.old r)) }
         requires child { child.now.link ≤ 65535 }
         requires entry { part_at entry_links (R.content rows.old) from ≡ Some entry.now }
@@ -189,18 +188,16 @@ impl NodeWriter {
             × (self.new.left + 1 ≡ self.old.left) × (self.new.head ≡ self.old.head) }
         ensures takes { Takes desk.old desk.new (ahead self.new.next) }
         ensures keeps { KeepsBut (ahead self.old.next) (R.content rows.old) (R.content rows.new) }
-        ensures blank { R.blank rows.new ≡ R.blank rows.old }
-        ensures kept { R.kept rows.new ≡ R.kept rows.old }
+        ensures beside { StaysBeside R.blank R.kept rows.old rows.new }
     {
         let Some(to) = self.next else { unreachable!() };
-        let value = rows.value(from);
         self.left -= 1;
         self.next = take_next(desk, self.left);
         let next = match self.next {
             Some(row) => row + 1,
             None => 0,
         };
-        rows.copy_entry(from, to, child.link, next);
+        let value = rows.copy_entry(from, to, child.link, next);
         self.hasher.entry(
             self.format,
             digest_at(child),
@@ -228,8 +225,7 @@ impl NodeWriter {
             → HasRows (R.content rows.new)
             (rows_of format (head self.head self.layer (chain_of es p))) }
         ensures keeps { KeepsBut (self.head ∷ []) (R.content rows.old) (R.content rows.new) }
-        ensures blank { R.blank rows.new ≡ R.blank rows.old }
-        ensures kept { R.kept rows.new ≡ R.kept rows.old }
+        ensures beside { StaysBeside R.blank R.kept rows.old rows.new }
     {
         self.hasher.child(digest_at(tail));
         let digest = self.hasher.finalize();

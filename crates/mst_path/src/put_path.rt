@@ -1,6 +1,6 @@
 //! The tree after a put: along the path to the key's place each node is made anew, and where the
 //! pair comes to stand the tree below it is split.
-ghost use Rattle.std.specs.Prelude.{◌≡◌, ◌≤◌, ◌<◌, ◌+◌, length, true, false};
+ghost use Rattle.std.specs.Prelude.{◌≡◌, ◌≤◌, ◌<◌, ◌+◌, true, false};
 ghost use Rattle.mst_key.specs.declared.format.Format.{Format};
 ghost use Rattle.mst_key.specs.Layer.{layer_in};
 ghost use Rattle.mst_node.specs.Tree.{node, entry, last};
@@ -9,10 +9,10 @@ ghost use Rattle.mst_arena.specs.Lists.{times};
 ghost use Rattle.mst_arena.specs.Standing.{tree_of, used};
 ghost use Rattle.mst_change.specs.Split.{below, above};
 ghost use Rattle.mst_change.specs.Cost.{split_rows};
-ghost use Rattle.mst_path.specs.Takes.{FreeIsBlank};
+ghost use Rattle.mst_path.specs.Takes.{IsWritable, StaysBeside};
 ghost use Rattle.mst_path.specs.Making.{Grown};
 ghost use Rattle.mst_path.specs.Frames.{Framed, in_frame};
-ghost use Rattle.mst_path.specs.Joining.{TwoTrees, in_both, height};
+ghost use Rattle.mst_path.specs.Joining.{MetTrees, in_both, height};
 ghost use Rattle.mst_path.specs.RemovePath.{SearchTree};
 ghost use Rattle.mst_path.specs.Splitting.{ToSplit};
 ghost use Rattle.mst_path.specs.PutPath.{TwoStand, in_two, tree_with, with_rows, RisingTree, in_rising, with_pair, pair_rows, IsPutStep};
@@ -96,15 +96,13 @@ fn put_between<R: Rows, A: Allocator>(
     requires trees { TwoStand format (R.content rows.old) desk.old lower.now upper.now }
     requires low { layer ≤ 128 }
     requires room { 2 ≤ free_count desk.old.lives }
-    requires few { length desk.old.lives ≤ 65535 }
-    requires free { FreeIsBlank desk.old.lives (R.blank rows.old) }
+    requires ready { IsWritable desk.old.lives (R.blank rows.old) }
     ensures made { (t : TwoStand format (R.content rows.old) desk.old lower.now upper.now)
         → Grown format (R.content rows.old) (R.content rows.new) desk.old desk.new
         (node format layer
         (entry (tree_of format t.lower) key.now value.now (last (tree_of format t.upper)))) result
         (in_two format t) 2 }
-    ensures blank { R.blank rows.new ≡ R.blank rows.old }
-    ensures kept { R.kept rows.new ≡ R.kept rows.old }
+    ensures beside { StaysBeside R.blank R.kept rows.old rows.new }
 {
     let parts = Parts {
         layer,
@@ -130,8 +128,7 @@ fn put_on_top<R: Rows, A: Allocator>(
     requires tree { (t : ToSplit format (R.content rows.old) desk.old link key.now)
         × (2 + split_rows key.now (tree_of format t.tree.placed) ≤ free_count desk.old.lives) }
     requires low { layer ≤ 128 }
-    requires few { length desk.old.lives ≤ 65535 }
-    requires free { FreeIsBlank desk.old.lives (R.blank rows.old) }
+    requires ready { IsWritable desk.old.lives (R.blank rows.old) }
     ensures made { (t : ToSplit format (R.content rows.old) desk.old link key.now)
         → Grown format (R.content rows.old) (R.content rows.new) desk.old desk.new
         (node format layer
@@ -139,8 +136,7 @@ fn put_on_top<R: Rows, A: Allocator>(
         (last (above key.now (tree_of format t.tree.placed))))) result
         (λ x. times x (used t.tree.placed)) (2 + split_rows key.now
         (tree_of format t.tree.placed)) }
-    ensures blank { R.blank rows.new ≡ R.blank rows.old }
-    ensures kept { R.kept rows.new ≡ R.kept rows.old }
+    ensures beside { StaysBeside R.blank R.kept rows.old rows.new }
 {
     let (lower, upper) = split(rows, desk, link, key, format);
     put_between(rows, desk, layer, &lower, &upper, key.key(), value, format)
@@ -162,16 +158,14 @@ fn close_with<R: Rows, A: Allocator>(
         × Framed format (R.content rows.old) desk.old frame.now (in_two format t) }
     requires low { frame.now.layer ≤ 128 }
     requires room { with_rows frame.now ≤ free_count desk.old.lives }
-    requires few { length desk.old.lives ≤ 65535 }
-    requires free { FreeIsBlank desk.old.lives (R.blank rows.old) }
+    requires ready { IsWritable desk.old.lives (R.blank rows.old) }
     ensures made { (t : TwoStand format (R.content rows.old) desk.old lower.now upper.now)
         (f : Framed format (R.content rows.old) desk.old frame.now (in_two format t))
         → Grown format (R.content rows.old) (R.content rows.new) desk.old desk.new
         (tree_with format f key.now value.now (tree_of format t.lower)
         (tree_of format t.upper)) result
         (λ x. in_two format t x + in_frame format f x) (with_rows frame.now) }
-    ensures blank { R.blank rows.new ≡ R.blank rows.old }
-    ensures kept { R.kept rows.new ≡ R.kept rows.old }
+    ensures beside { StaysBeside R.blank R.kept rows.old rows.new }
 {
     let parts = Parts {
         layer: frame.layer,
@@ -201,8 +195,7 @@ fn put_level<R: Rows, A: Allocator>(
         × (split_rows key.now (tree_of format t.tree.placed) + with_rows frame.now
         ≤ free_count desk.old.lives) }
     requires low { frame.now.layer ≤ 128 }
-    requires few { length desk.old.lives ≤ 65535 }
-    requires free { FreeIsBlank desk.old.lives (R.blank rows.old) }
+    requires ready { IsWritable desk.old.lives (R.blank rows.old) }
     ensures made { (t : ToSplit format (R.content rows.old) desk.old child key.now)
         (f : Framed format (R.content rows.old) desk.old frame.now (λ x. times x
         (used t.tree.placed)))
@@ -211,8 +204,7 @@ fn put_level<R: Rows, A: Allocator>(
         (above key.now (tree_of format t.tree.placed))) result
         (λ x. times x (used t.tree.placed) + in_frame format f x)
         (split_rows key.now (tree_of format t.tree.placed) + with_rows frame.now) }
-    ensures blank { R.blank rows.new ≡ R.blank rows.old }
-    ensures kept { R.kept rows.new ≡ R.kept rows.old }
+    ensures beside { StaysBeside R.blank R.kept rows.old rows.new }
 {
     let (lower, upper) = split(rows, desk, child, key, format);
     close_with(rows, desk, frame, &lower, &upper, key.key(), value, format)
@@ -227,19 +219,17 @@ fn put_value<R: Rows, A: Allocator>(
     value: &Value,
     format: Format,
 ) -> Root
-    requires met { (t : TwoTrees format (R.content rows.old) desk.old meeting.now.left meeting.now.right)
+    requires met { (t : MetTrees format (R.content rows.old) desk.old meeting.now)
         × Framed format (R.content rows.old) desk.old meeting.now.frame (in_both format t) }
     requires room { with_rows meeting.now.frame ≤ free_count desk.old.lives }
     requires low { meeting.now.frame.layer ≤ 128 }
-    requires few { length desk.old.lives ≤ 65535 }
-    requires free { FreeIsBlank desk.old.lives (R.blank rows.old) }
-    ensures made { (t : TwoTrees format (R.content rows.old) desk.old meeting.now.left meeting.now.right)
+    requires ready { IsWritable desk.old.lives (R.blank rows.old) }
+    ensures made { (t : MetTrees format (R.content rows.old) desk.old meeting.now)
         (f : Framed format (R.content rows.old) desk.old meeting.now.frame (in_both format t))
         → Grown format (R.content rows.old) (R.content rows.new) desk.old desk.new
         (tree_with format f key.now value.now (tree_of format t.a) (tree_of format t.b)) result
         (λ x. in_both format t x + in_frame format f x) (with_rows meeting.now.frame) }
-    ensures blank { R.blank rows.new ≡ R.blank rows.old }
-    ensures kept { R.kept rows.new ≡ R.kept rows.old }
+    ensures beside { StaysBeside R.blank R.kept rows.old rows.new }
 {
     let lower = root_at(rows, meeting.left);
     let upper = root_at(rows, meeting.right);
@@ -271,14 +261,12 @@ pub(crate) fn put_at<R: Rows, A: Allocator>(
         × (pair_rows format t layer key.now value.now ≤ free_count desk.old.lives) }
     requires layer { layer ≡ layer_in format key.now }
     requires low { layer ≤ 128 }
-    requires few { length desk.old.lives ≤ 65535 }
-    requires free { FreeIsBlank desk.old.lives (R.blank rows.old) }
+    requires ready { IsWritable desk.old.lives (R.blank rows.old) }
     ensures put { (t : RisingTree format (R.content rows.old) desk.old link)
         → Grown format (R.content rows.old) (R.content rows.new) desk.old desk.new
         (with_pair format t layer key.now value.now) result (in_rising format t)
         (pair_rows format t layer key.now value.now) }
-    ensures blank { R.blank rows.new ≡ R.blank rows.old }
-    ensures kept { R.kept rows.new ≡ R.kept rows.old }
+    ensures beside { StaysBeside R.blank R.kept rows.old rows.new }
 {
     match put_step(rows, link, layer, key) {
         PutStep::OnTop => put_on_top(rows, desk, link, layer, key, value, format),

@@ -1,16 +1,16 @@
 //! A key removed from a tree that stands: along the path to its entry each node is made anew, and
 //! the trees beside the entry are joined.
-ghost use Rattle.std.specs.Prelude.{◌≡◌, ◌≤◌, ◌<◌, ◌+◌, length, List};
+ghost use Rattle.std.specs.Prelude.{◌≡◌, ◌≤◌, ◌<◌, ◌+◌, List};
 ghost use Rattle.mst_key.specs.declared.format.Format.{Format};
 ghost use Rattle.mst_arena.specs.Lives.{State, free_count};
 ghost use Rattle.mst_arena.specs.Standing.{Placed, link_of, HasRows};
 ghost use Rattle.mst_path.specs.Cutting.{IsRunOf, gap_before};
 ghost use Rattle.mst_path.specs.Runs.{own_rows};
 ghost use Rattle.mst_path.specs.Writing.{PlacedEntry};
-ghost use Rattle.mst_path.specs.Takes.{FreeIsBlank};
+ghost use Rattle.mst_path.specs.Takes.{IsWritable, StaysBeside};
 ghost use Rattle.mst_path.specs.Making.{Grown};
 ghost use Rattle.mst_path.specs.Frames.{Framed, in_frame, tree_round, frame_rows};
-ghost use Rattle.mst_path.specs.Joining.{TwoTrees, in_both, both_joined, both_rows};
+ghost use Rattle.mst_path.specs.Joining.{MetTrees, in_both, both_joined, both_rows};
 ghost use Rattle.mst_path.specs.RemovePath.{SearchTree, in_tree, without, without_rows, IsStep};
 ghost use Rattle.mst_path.specs.Gaps.{IsOpened};
 
@@ -106,19 +106,18 @@ fn join_round<R: Rows, A: Allocator>(
     meeting: &Meeting,
     format: Format,
 ) -> Root
-    requires met { (t : TwoTrees format (R.content rows.old) desk.old meeting.now.left meeting.now.right)
+    requires met { (t : MetTrees format (R.content rows.old) desk.old meeting.now)
         × Framed format (R.content rows.old) desk.old meeting.now.frame (in_both format t)
         × (both_rows format t + frame_rows meeting.now.frame ≤ free_count desk.old.lives) }
     requires low { meeting.now.frame.layer ≤ 128 }
-    requires few { length desk.old.lives ≤ 65535 }
-    requires free { FreeIsBlank desk.old.lives (R.blank rows.old) }
-    ensures made { (t : TwoTrees format (R.content rows.old) desk.old meeting.now.left meeting.now.right)
+    requires ready { IsWritable desk.old.lives (R.blank rows.old) }
+    ensures made { (t : MetTrees format (R.content rows.old) desk.old meeting.now)
         (f : Framed format (R.content rows.old) desk.old meeting.now.frame (in_both format t))
         → Grown format (R.content rows.old) (R.content rows.new) desk.old desk.new
-        (tree_round format f (both_joined format t)) result (λ x. in_both format t x + in_frame format f x)
+        (tree_round format f (both_joined format t)) result
+        (λ x. in_both format t x + in_frame format f x)
         (both_rows format t + frame_rows meeting.now.frame) }
-    ensures blank { R.blank rows.new ≡ R.blank rows.old }
-    ensures kept { R.kept rows.new ≡ R.kept rows.old }
+    ensures beside { StaysBeside R.blank R.kept rows.old rows.new }
 {
     let seam = join(rows, desk, meeting.left, meeting.right, format);
     close(rows, desk, &meeting.frame, &seam, format)
@@ -135,13 +134,11 @@ pub(crate) fn remove_at<R: Rows, A: Allocator>(
 ) -> Root
     requires tree { (t : SearchTree format (R.content rows.old) desk.old link)
         × (without_rows format t key.now ≤ free_count desk.old.lives) }
-    requires few { length desk.old.lives ≤ 65535 }
-    requires free { FreeIsBlank desk.old.lives (R.blank rows.old) }
+    requires ready { IsWritable desk.old.lives (R.blank rows.old) }
     ensures removed { (t : SearchTree format (R.content rows.old) desk.old link)
         → Grown format (R.content rows.old) (R.content rows.new) desk.old desk.new
         (without format t key.now) result (in_tree format t) (without_rows format t key.now) }
-    ensures blank { R.blank rows.new ≡ R.blank rows.old }
-    ensures kept { R.kept rows.new ≡ R.kept rows.old }
+    ensures beside { StaysBeside R.blank R.kept rows.old rows.new }
 {
     if link == 0 {
         return root_at(rows, link);

@@ -1,5 +1,5 @@
 //! A tree, split at a key.
-ghost use Rattle.std.specs.Prelude.{◌≡◌, ◌≤◌, ◌+◌, length, true, false, ◌==◌, ◌&&◌};
+ghost use Rattle.std.specs.Prelude.{◌≡◌, ◌≤◌, ◌+◌, true, false, ◌==◌, ◌&&◌};
 ghost use Rattle.mst_key.specs.declared.format.Format.{Format};
 ghost use Rattle.mst_arena.specs.Lives.{free_count};
 ghost use Rattle.mst_arena.specs.Lists.{times};
@@ -7,7 +7,7 @@ ghost use Rattle.mst_arena.specs.Standing.{none, tree_of, used};
 ghost use Rattle.mst_change.specs.Split.{below, above};
 ghost use Rattle.mst_change.specs.Parts.{is_empty};
 ghost use Rattle.mst_change.specs.Cost.{side_rows, split_rows};
-ghost use Rattle.mst_path.specs.Takes.{FreeIsBlank};
+ghost use Rattle.mst_path.specs.Takes.{IsWritable, StaysBeside};
 ghost use Rattle.mst_path.specs.Writing.{IsRootOf};
 ghost use Rattle.mst_path.specs.Making.{PartsStand, in_parts, Grown, Split, tail_behind};
 ghost use Rattle.mst_path.specs.Splitting.{ToSplit, BothStand, side_of, in_both};
@@ -48,14 +48,12 @@ pub(crate) fn side<R: Rows, A: Allocator>(
     requires low { parts.now.layer ≤ 128 }
     requires room { side_rows (parts.now.front.count + parts.now.back.count) false
         ≤ free_count desk.old.lives }
-    requires few { length desk.old.lives ≤ 65535 }
-    requires free { FreeIsBlank desk.old.lives (R.blank rows.old) }
+    requires ready { IsWritable desk.old.lives (R.blank rows.old) }
     ensures made { (p : PartsStand format (R.content rows.old) desk.old parts.now)
         → Grown format (R.content rows.old) (R.content rows.new) desk.old desk.new
         (side_of format p) result
         (in_parts format p) (side_rows (parts.now.front.count + parts.now.back.count) false) }
-    ensures blank { R.blank rows.new ≡ R.blank rows.old }
-    ensures kept { R.kept rows.new ≡ R.kept rows.old }
+    ensures beside { StaysBeside R.blank R.kept rows.old rows.new }
 {
     if parts.front.count + parts.back.count == 0 {
         return parts.seam;
@@ -76,16 +74,14 @@ pub(crate) fn both_sides<R: Rows, A: Allocator>(
     requires low { (left.now.layer ≤ 128) × (right.now.layer ≤ 128) }
     requires room { side_rows (left.now.front.count + left.now.back.count) false + side_rows
         (right.now.front.count + right.now.back.count) false ≤ free_count desk.old.lives }
-    requires few { length desk.old.lives ≤ 65535 }
-    requires free { FreeIsBlank desk.old.lives (R.blank rows.old) }
+    requires ready { IsWritable desk.old.lives (R.blank rows.old) }
     ensures made { (b : BothStand format (R.content rows.old) desk.old row left.now right.now)
         → Split format (R.content rows.old) (R.content rows.new) desk.old desk.new
         (side_of format b.lower)
         (side_of format b.upper) result.0 result.1 (in_both format b)
         (side_rows (left.now.front.count + left.now.back.count) false + side_rows
         (right.now.front.count + right.now.back.count) false) }
-    ensures blank { R.blank rows.new ≡ R.blank rows.old }
-    ensures kept { R.kept rows.new ≡ R.kept rows.old }
+    ensures beside { StaysBeside R.blank R.kept rows.old rows.new }
 {
     let lower = side(rows, desk, left, format);
     let upper = side(rows, desk, right, format);
@@ -143,8 +139,7 @@ pub(crate) fn split<R: Rows, A: Allocator>(
 ) -> (Root, Root)
     requires tree { (t : ToSplit format (R.content rows.old) desk.old link key.now)
         × (split_rows key.now (tree_of format t.tree.placed) ≤ free_count desk.old.lives) }
-    requires few { length desk.old.lives ≤ 65535 }
-    requires free { FreeIsBlank desk.old.lives (R.blank rows.old) }
+    requires ready { IsWritable desk.old.lives (R.blank rows.old) }
     ensures split { (t : ToSplit format (R.content rows.old) desk.old link key.now)
         → Split format (R.content rows.old) (R.content rows.new) desk.old desk.new
         (below key.now (tree_of format t.tree.placed))
@@ -156,8 +151,7 @@ pub(crate) fn split<R: Rows, A: Allocator>(
     ensures shared_above { (t : ToSplit format (R.content rows.old) desk.old link key.now)
         → is_empty (below key.now (tree_of format t.tree.placed)) ≡ true → (rows.new ≡ rows.old)
         × (desk.new ≡ desk.old) }
-    ensures blank { R.blank rows.new ≡ R.blank rows.old }
-    ensures kept { R.kept rows.new ≡ R.kept rows.old }
+    ensures beside { StaysBeside R.blank R.kept rows.old rows.new }
 {
     if link == 0 {
         return (nothing(), nothing());

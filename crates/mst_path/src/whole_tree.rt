@@ -6,7 +6,7 @@ ghost use Rattle.mst_node.specs.Tree.{pairs, tree as tree_of_map, IsMst};
 ghost use Rattle.mst_node.specs.Shape.{tree_of, tree_of_child};
 ghost use Rattle.mst_arena.specs.Lives.{free_count};
 ghost use Rattle.mst_arena.specs.Standing.{Stands, numbers};
-ghost use Rattle.mst_path.specs.Takes.{Takes, KeepsBut, FreeIsBlank};
+ghost use Rattle.mst_path.specs.Takes.{Takes, KeepsBut, FreeIsBlank, IsWritable, StaysBeside};
 ghost use Rattle.mst_path.specs.Planting.{rows_needed, node_count, tree_at, IsTreeOf, Planted};
 
 use crate::faults::NoRoom;
@@ -53,12 +53,10 @@ fn plant_child<R: Rows, A: Allocator, B: Allocator>(
 ) -> Root
     requires tree { IsMst format (tree_of_child format child.now) }
     requires room { rows_needed (tree_of_child format child.now) ≤ free_count desk.old.lives }
-    requires few { length desk.old.lives ≤ 65535 }
-    requires blank { FreeIsBlank desk.old.lives (R.blank rows.old) }
+    requires ready { IsWritable desk.old.lives (R.blank rows.old) }
     ensures planted { Planted format desk.old desk.new (R.content rows.old) (R.content rows.new)
         (tree_of_child format child.now) result }
-    ensures blank { R.blank rows.new ≡ R.blank rows.old }
-    ensures kept { R.kept rows.new ≡ R.kept rows.old }
+    ensures beside { StaysBeside R.blank R.kept rows.old rows.new }
 {
     match child {
         None => Root {
@@ -79,12 +77,10 @@ fn plant_node<R: Rows, A: Allocator, B: Allocator>(
 ) -> Root
     requires tree { IsMst format (tree_of format node.now) }
     requires room { rows_needed (tree_of format node.now) ≤ free_count desk.old.lives }
-    requires few { length desk.old.lives ≤ 65535 }
-    requires blank { FreeIsBlank desk.old.lives (R.blank rows.old) }
+    requires ready { IsWritable desk.old.lives (R.blank rows.old) }
     ensures planted { Planted format desk.old desk.new (R.content rows.old) (R.content rows.new)
         (tree_of format node.now) result }
-    ensures blank { R.blank rows.new ≡ R.blank rows.old }
-    ensures kept { R.kept rows.new ≡ R.kept rows.old }
+    ensures beside { StaysBeside R.blank R.kept rows.old rows.new }
 {
     let mut writer = NodeWriter::begin(desk, node.layer, node.entries.len() as u32, format);
     for entry in &node.entries {
@@ -114,7 +110,7 @@ pub fn plant<R: Rows, A: Allocator, B: Allocator>(
     format: Format,
 ) -> Result<Root, NoRoom>
     requires tree { (m : List Pair) × IsTreeOf format (tree_at format (option_copied tree)) m }
-    requires blank { FreeIsBlank desk.old.lives (R.blank rows.old) }
+    requires free { FreeIsBlank desk.old.lives (R.blank rows.old) }
     ensures stands { IfOk result (λ root. (m : List Pair) → IsMap m
         → IsTreeOf format (tree_at format (option_copied tree.entry)) m
         → Stands format (R.content rows.new) root m) }
@@ -129,8 +125,7 @@ pub fn plant<R: Rows, A: Allocator, B: Allocator>(
         → IsTreeOf format (tree_at format (option_copied tree.entry)) m
         → free_count desk.new.lives + (length m + node_count (tree_of_map format m))
         ≡ free_count desk.old.lives) }
-    ensures blank { R.blank rows.new ≡ R.blank rows.old }
-    ensures kept { R.kept rows.new ≡ R.kept rows.old }
+    ensures beside { StaysBeside R.blank R.kept rows.old rows.new }
     ensures no_room { IfErr result (λ _. (m : List Pair)
         → IsTreeOf format (tree_at format (option_copied tree.entry)) m
         → free_count desk.old.lives < length m + node_count (tree_of_map format m)) }

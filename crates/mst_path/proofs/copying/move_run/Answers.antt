@@ -3,11 +3,11 @@ use Rattle.mst_key.specs.declared.format.Format.{Format}
 use Rattle.mst_arena.specs.Content.{Content, part_at}
 use Rattle.mst_arena.specs.Row.{entry_links}
 use Rattle.mst_arena.specs.Standing.{link_of, rows_of, HasRows}
-use Rattle.mst_path.specs.Takes.{KeepsBut, FreeIsBlank}
+use Rattle.mst_path.specs.Takes.{KeepsBut}
 use Rattle.mst_path.specs.Moves.{Moves}
 use Rattle.mst_path.specs.Writing.{ahead, link_from, IsWritten, IsRootOf}
 use Rattle.mst_path.specs.Copying.{Copying}
-use Rattle.mst_path.proofs.lemmas.rows.Copies.{Progress, Next, starts, ends, some_left, steps, next_run, link_is, link_less, row_there, row_old, links_there, links_are, value_there, next_some, one_ahead, row_out, small_link, old_alive, blank_free, blank_taken, blank_ahead}
+use Rattle.mst_path.proofs.lemmas.rows.Copies.{Progress, Next, starts, ends, some_left, steps, next_run, link_is, link_less, row_there, row_old, links_there, links_are, value_there, next_some, one_ahead, row_out, small_link, old_alive, still_writable, blank_taken, blank_ahead}
 use Rattle.mst_path.proofs.copying.move_run.Given.{Over}
 use Rattle.mst_path.proofs.copying.move_run.Goals.{In-loop, After-entry-entry, After-root_at-child}
 use Rattle.mst_path.proofs.copying.move_run.Goals as goal
@@ -18,11 +18,9 @@ loop-init g c = record {
   left = omega arith;
   node = (refl, refl, refl);
   room = c.requires.room;
-  few = c.requires.few;
-  same = refl;
-  kept = refl;
+  ready = c.requires.ready;
+  beside = (refl, refl);
   next = c.requires.blank;
-  free = c.requires.free;
   progress = λ format k. starts format k;
 }
 
@@ -106,7 +104,7 @@ pub move_entry-requires-clause-room : goal.move_entry-requires-clause-room
 move_entry-requires-clause-room g c = λ more. omega (arith, c.loop.invariant.room, more)
 
 pub move_entry-requires-clause-few : goal.move_entry-requires-clause-few
-move_entry-requires-clause-few g c = c.loop.invariant.few
+move_entry-requires-clause-few g c = c.loop.invariant.ready.few
 
 pub move_entry-requires-clause-blank : goal.move_entry-requires-clause-blank
 move_entry-requires-clause-blank g c =
@@ -128,7 +126,7 @@ move_entry-requires-clause-child g c =
       root.link,
       small_link c.loop.desk child.entry.child
           (λ r i. old_alive c.loop.desk r ((next_run format k child).gaps.0.old r i))
-          c.loop.invariant.few,
+          c.loop.invariant.ready.few,
     )
 
 pub move_entry-requires-clause-old : goal.move_entry-requires-clause-old
@@ -144,7 +142,7 @@ loop-preserved g c =
     ap g.R.Rows.content same in
     let moves = c.move_entry.ensures.moves in
     let blank : g.R.Rows.blank c.move_entry.new.rows ≡ g.R.Rows.blank c.loop.rows =
-    c.move_entry.ensures.blank ∙ ap g.R.Rows.blank same in
+    c.move_entry.ensures.beside.0 ∙ ap g.R.Rows.blank same in
     record {
       writer = c.move_entry.ensures.writer;
       left = omega (arith, c.move_entry.ensures.node.2, c.loop.invariant.left);
@@ -162,17 +160,17 @@ loop-preserved g c =
             c.loop.invariant.room,
             one_ahead c.move_entry.new.writer.next,
           );
-      few = omega (arith, moves.rows, c.loop.invariant.few);
-      same = blank ∙ c.loop.invariant.same;
-      kept = c.move_entry.ensures.kept ∙ ap g.R.Rows.kept same ∙ c.loop.invariant.kept;
+      ready = still_writable c.loop.desk c.move_entry.new.desk
+          (ahead c.move_entry.new.writer.next) _ _ _ moves blank c.loop.invariant.ready;
+      beside = (
+        blank ∙ c.loop.invariant.beside.0,
+        c.move_entry.ensures.beside.1 ∙ ap g.R.Rows.kept same ∙ c.loop.invariant.beside.1,
+      );
       next = subst (λ (b : ℕ → Bool). IfSome c.move_entry.new.writer.next (λ r. IsTrue (b r)))
           (sym blank)
           (blank_ahead c.move_entry.new.writer (g.R.Rows.blank c.loop.rows)
           (blank_taken c.loop.desk c.move_entry.new.desk (ahead c.move_entry.new.writer.next) _
-          moves (g.R.Rows.blank c.loop.rows) c.loop.invariant.free));
-      free = subst (FreeIsBlank c.move_entry.new.desk.lives) (sym blank)
-          (blank_free c.loop.desk c.move_entry.new.desk (ahead c.move_entry.new.writer.next) _ moves
-          (g.R.Rows.blank c.loop.rows) c.loop.invariant.free);
+          moves (g.R.Rows.blank c.loop.rows) c.loop.invariant.ready.free));
       progress = λ format k.
           let at = goal.at.loop-preserved g c in
           let n = next g at.In-loop format k in
@@ -227,11 +225,8 @@ returns-clause-node g c = (
   c.loop.invariant.node.2,
 )
 
-pub returns-clause-blank : goal.returns-clause-blank
-returns-clause-blank g c = c.loop.invariant.same
-
-pub returns-clause-kept : goal.returns-clause-kept
-returns-clause-kept g c = c.loop.invariant.kept
+pub returns-clause-beside : goal.returns-clause-beside
+returns-clause-beside g c = c.loop.invariant.beside
 
 pub returns-clause-next : goal.returns-clause-next
 returns-clause-next g c = c.loop.invariant.next

@@ -1,7 +1,7 @@
 use Rattle.mst_key.specs.declared.format.Format.{Format}
-use Rattle.std.proofs.Common.{◌≡◌, ◌≤◌, ◌+◌, IfSome, IsTrue, length}
+use Rattle.std.proofs.Common.{◌≡◌, ◌≤◌, ◌+◌, IfSome, IsTrue}
 use Rattle.mst_arena.specs.Lives.{free_count}
-use Rattle.mst_path.specs.Takes.{FreeIsBlank}
+use Rattle.mst_path.specs.Takes.{IsWritable, StaysBeside}
 use Rattle.mst_path.specs.Writing.{IsWriter}
 use Rattle.mst_path.specs.Copying.{Copying}
 use Rattle.mst_path.proofs.lemmas.rows.Copies.{Progress}
@@ -14,11 +14,9 @@ invariant-loop g l = record {
   node : (l.writer.layer ≡ l.fn.writer.layer) × (l.writer.count ≡ l.fn.writer.count)
       × (l.writer.head ≡ l.fn.writer.head);
   room : l.writer.left ≤ free_count l.desk.lives + 1;
-  few : length l.desk.lives ≤ 65535;
-  same : g.R.Rows.blank l.rows ≡ g.R.Rows.blank l.fn.rows;
-  kept : g.R.Rows.kept l.rows ≡ g.R.Rows.kept l.fn.rows;
+  ready : IsWritable l.desk.lives (g.R.Rows.blank l.rows);
+  beside : StaysBeside g.R.Rows.blank g.R.Rows.kept l.fn.rows l.rows;
   next : IfSome l.writer.next (λ r. IsTrue (g.R.Rows.blank l.rows r));
-  free : FreeIsBlank l.desk.lives (g.R.Rows.blank l.rows);
   progress : (format : Format)
       (k : Copying format l.fn.writer (g.R.Rows.content l.fn.rows) l.fn.desk l.fn.from l.fn.count)
       → Progress format k l.counter l.writer (g.R.Rows.content l.rows) l.desk l.link;

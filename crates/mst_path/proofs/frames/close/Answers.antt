@@ -25,17 +25,11 @@ fill-root-requires-clause-low g c = search rules
 pub fill-root-requires-clause-room : goal.fill-root-requires-clause-room
 fill-root-requires-clause-room g c = search rules
 
-pub fill-root-requires-clause-few : goal.fill-root-requires-clause-few
-fill-root-requires-clause-few g c = search rules
-
-pub fill-root-requires-clause-free : goal.fill-root-requires-clause-free
-fill-root-requires-clause-free g c = search rules
+pub fill-root-requires-clause-ready : goal.fill-root-requires-clause-ready
+fill-root-requires-clause-ready g c = search rules
 
 pub kill_both-requires-clause-once : goal.kill_both-requires-clause-once
 kill_both-requires-clause-once g c = search rules
 
-pub returns-clause-blank : goal.returns-clause-blank
-returns-clause-blank g c = search rules
-
-pub returns-clause-kept : goal.returns-clause-kept
-returns-clause-kept g c = search rules
+pub returns-clause-beside : goal.returns-clause-beside
+returns-clause-beside g c = search rules

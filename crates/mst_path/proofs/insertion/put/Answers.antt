@@ -229,11 +229,8 @@ returns-then-is_same-clause-versions g c = search rules
 pub returns-then-is_same-clause-same_value : goal.returns-then-is_same-clause-same_value
 returns-then-is_same-clause-same_value g c = search rules
 
-pub returns-then-is_same-clause-blank : goal.returns-then-is_same-clause-blank
-returns-then-is_same-clause-blank g c = search rules
-
-pub returns-then-is_same-clause-kept : goal.returns-then-is_same-clause-kept
-returns-then-is_same-clause-kept g c = search rules
+pub returns-then-is_same-clause-beside : goal.returns-then-is_same-clause-beside
+returns-then-is_same-clause-beside g c = search rules
 
 pub returns-then-is_same-clause-no_room : goal.returns-then-is_same-clause-no_room
 returns-then-is_same-clause-no_room g c = search rules
@@ -265,11 +262,8 @@ returns-then-put_cost-free-clause-made g c = search rules
 pub returns-then-put_cost-free-clause-same_value : goal.returns-then-put_cost-free-clause-same_value
 returns-then-put_cost-free-clause-same_value g c = search rules
 
-pub returns-then-put_cost-free-clause-blank : goal.returns-then-put_cost-free-clause-blank
-returns-then-put_cost-free-clause-blank g c = search rules
-
-pub returns-then-put_cost-free-clause-kept : goal.returns-then-put_cost-free-clause-kept
-returns-then-put_cost-free-clause-kept g c = search rules
+pub returns-then-put_cost-free-clause-beside : goal.returns-then-put_cost-free-clause-beside
+returns-then-put_cost-free-clause-beside g c = search rules
 
 pub returns-then-put_cost-free-clause-untouched : goal.returns-then-put_cost-free-clause-untouched
 returns-then-put_cost-free-clause-untouched g c = search rules
@@ -280,17 +274,11 @@ put_at-new-requires-clause-layer g c = search rules
 pub put_at-new-requires-clause-low : goal.put_at-new-requires-clause-low
 put_at-new-requires-clause-low g c = search rules
 
-pub put_at-new-requires-clause-few : goal.put_at-new-requires-clause-few
-put_at-new-requires-clause-few g c = search rules
+pub put_at-new-requires-clause-ready : goal.put_at-new-requires-clause-ready
+put_at-new-requires-clause-ready g c = record { few = search rules; free = search rules }
 
-pub put_at-new-requires-clause-free : goal.put_at-new-requires-clause-free
-put_at-new-requires-clause-free g c = search rules
-
-pub returns-clause-blank : goal.returns-clause-blank
-returns-clause-blank g c = search rules
-
-pub returns-clause-kept : goal.returns-clause-kept
-returns-clause-kept g c = search rules
+pub returns-clause-beside : goal.returns-clause-beside
+returns-clause-beside g c = search rules
 
 pub returns-clause-no_room : goal.returns-clause-no_room
 returns-clause-no_room g c = search rules

@@ -3,12 +3,12 @@ use Rattle.mst_arena.specs.Content.{Content}
 use Rattle.mst_arena.specs.Lives.{free_count}
 use Rattle.mst_arena.specs.Lists.{times}
 use Rattle.mst_arena.specs.Standing.{used}
-use Rattle.mst_path.specs.Takes.{FreeIsBlank}
+use Rattle.mst_path.specs.Takes.{IsWritable}
 use Rattle.mst_path.specs.Making.{Grown}
 use Rattle.mst_path.specs.Frames.{Framed, in_frame, tree_round, frame_rows}
 use Rattle.mst_path.specs.Joining.{TwoTrees, in_both, both_joined, both_rows, height_at, Met}
-use Rattle.mst_path.proofs.lemmas.rows.Copies.{blank_free}
-use Rattle.mst_path.proofs.lemmas.steps.Rounds.{regrown, frame_after, room_after, few_after, closed_round}
+use Rattle.mst_path.proofs.lemmas.rows.Copies.{still_writable}
+use Rattle.mst_path.proofs.lemmas.steps.Rounds.{regrown, frame_after, room_after, closed_round}
 use Rattle.mst_path.proofs.lemmas.trees.Joined.{left_none, right_none, lower_trees}
 use Rattle.mst_path.proofs.joining.+join.Given.{Over}
 use Rattle.mst_path.proofs.joining.+join.Goals.{After-join-seam}
@@ -58,11 +58,8 @@ join-seam-requires g t c κs within =
             subst (λ (x : Content). (y : TwoTrees c.args.format x c.args.desk.now m.left m.right)
                 × (both_rows c.args.format y ≤ free_count c.args.desk.now.lives)) (sym same)
                 (met.inner, omega (arith, c.requires.trees.1, met.rows)),
-            (
-              c.requires.few,
-              subst (FreeIsBlank c.args.desk.now.lives)
-                  (sym (ap g.R.Rows.blank c.meet-meeting.ensures.same)) c.requires.free,
-            ),
+            subst (IsWritable c.args.desk.now.lives)
+                (sym (ap g.R.Rows.blank c.meet-meeting.ensures.same)) c.requires.ready,
           ),
         ),
       ),
@@ -110,20 +107,12 @@ close-requires-clause-room g t c =
     room_after c.args.format (grown g t at c.requires.trees.0) where_met.framed
     (omega (arith, c.requires.trees.1, where_met.rows))
 
-pub close-requires-clause-few : goal.close-requires-clause-few
-close-requires-clause-few g t c =
-    let at = (goal.at.close-requires-clause-few g t c).After-join-seam in
-    few_after c.args.format (grown g t at c.requires.trees.0) (met g t at c.requires.trees.0).framed
-    c.requires.few
-
-pub close-requires-clause-free : goal.close-requires-clause-free
-close-requires-clause-free g t c =
-    let made = grown g t (goal.at.close-requires-clause-free g t c).After-join-seam
+pub close-requires-clause-ready : goal.close-requires-clause-ready
+close-requires-clause-ready g t c =
+    let made = grown g t (goal.at.close-requires-clause-ready g t c).After-join-seam
     c.requires.trees.0 in
-    let same = c.join-seam.ensures.blank ∙ ap g.R.Rows.blank c.meet-meeting.ensures.same in
-    subst (FreeIsBlank c.join-seam.new.desk.lives) (sym same)
-    (blank_free c.args.desk.now c.join-seam.new.desk made.taken made.killed made.moves
-    (g.R.Rows.blank c.args.rows.now) c.requires.free)
+    still_writable c.args.desk.now c.join-seam.new.desk made.taken made.killed _ _ made.moves
+    (c.join-seam.ensures.beside.0 ∙ ap g.R.Rows.blank c.meet-meeting.ensures.same) c.requires.ready
 
 pub returns-clause-joined : goal.returns-clause-joined
 returns-clause-joined g t c = λ z.

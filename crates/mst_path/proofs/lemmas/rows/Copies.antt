@@ -17,7 +17,7 @@ use Rattle.mst_arena.specs.declared.life.Life.TheVariants.{Born}
 use Rattle.mst_arena.specs.Standing.{Placed, none as no_tree, head as tree_head, used, link_of, HasRows}
 use Rattle.mst_arena.proofs.ListLemmas.{times-append}
 use Rattle.mst_arena.proofs.Stands.{placed_frame}
-use Rattle.mst_path.specs.Takes.{IsOut, KeepsBut, FreeIsBlank}
+use Rattle.mst_path.specs.Takes.{IsOut, KeepsBut, FreeIsBlank, FewRows, IsWritable}
 use Rattle.mst_path.specs.Moves.{IsAlive, IsOld, Moves, IsNew}
 use Rattle.mst_path.specs.Made.{AreMade}
 use Rattle.mst_path.specs.Runs.{OldPiece, Run, own_rows, own, gaps_used, EachGap, AreCopies}
@@ -486,8 +486,8 @@ module _ (format : Format) {w0 : NodeWriter} {c0 : Content} {s0 : State} {from c
 -- ---- what stays possible
 
 -- a link of a tree on rows of the desk
-pub small_link : (s : State) (p : Placed) → ((r : ℕ) → In r (used p) → IsAlive s r) → length s.lives
-    ≤ 65535 → link_of p ≤ 65535
+pub small_link : (s : State) (p : Placed) → ((r : ℕ) → In r (used p) → IsAlive s r)
+    → FewRows s.lives → link_of p ≤ 65535
 small_link s no_tree alive few = omega arith
 small_link s (tree_head at layer chain) alive few =
     let here = alive at (omega (arith, at_self at)) in
@@ -508,6 +508,14 @@ module _ (s s' : State) (t k : List ℕ) (m : Moves s s' t k) (blank : ℕ → B
 
   pub blank_taken : (r : ℕ) → In r t → IsTrue (blank r)
   blank_taken r i = free r (m.free r i)
+
+-- rows may be taken and written still
+pub still_writable : (s s' : State) (t k : List ℕ) (blank blank' : ℕ → Bool) → Moves s s' t k
+    → blank' ≡ blank → IsWritable s.lives blank → IsWritable s'.lives blank'
+still_writable s s' t k blank blank' m same ready = record {
+  few = omega (arith, ready.few, m.rows);
+  free = subst (FreeIsBlank s'.lives) (sym same) (blank_free s s' t k m blank ready.free);
+}
 
 pub blank_ahead : (w : NodeWriter) (blank : ℕ → Bool)
     → ((r : ℕ) → In r (ahead w.next) → IsTrue (blank r)) → IfSome w.next (λ r. IsTrue (blank r))

@@ -1,5 +1,5 @@
 -- What is known of rows that were taken.
-use Rattle.std.proofs.Common.{◌≡◌, ◌≢◌, ℕ, zero, suc, ◌+◌, ◌<◌, ◌≤◌, Bool, IsTrue, cond, List, [], ◌∷◌, ◌++◌, length, Some, refl, sym, ◌∙◌, ap, subst, arith}
+use Rattle.std.proofs.Common.{◌≡◌, ◌≢◌, ℕ, zero, suc, ◌+◌, ◌<◌, Bool, IsTrue, cond, List, [], ◌∷◌, ◌++◌, length, Some, refl, sym, ◌∙◌, ap, subst, arith}
 use Rattle.std.specs.Prelude.{slice_get, slice_set}
 use Rattle.std.specs.List.{AllByRecursion}
 use Rattle.std.proofs.lemmas.List.Recursion.{is_count_by}
@@ -9,7 +9,7 @@ use Rattle.mst_arena.specs.Standing.{IsDistinct}
 use Rattle.mst_arena.specs.declared.life.Life.{Life}
 use Rattle.mst_arena.specs.declared.life.Life.TheVariants.{Free, Born, Dead}
 use Rattle.mst_arena.proofs.Stands.{all-append, all-front, all-back}
-use Rattle.mst_path.specs.Takes.{born_with, Takes, IsOut, KeepsBut, FreeIsBlank}
+use Rattle.mst_path.specs.Takes.{born_with, Takes, IsOut, KeepsBut, FreeIsBlank, FewRows}
 
 -- ---- numbers in lists
 
@@ -206,7 +206,7 @@ pub takes_length : (a b : State) (xs : List ℕ) → Takes a b xs → length b.l
 takes_length a b xs takes = ap (λ (s : State). length s.lives) takes.born ∙ born_length (next a) xs
     a.lives
 
-pub takes_small : (a b : State) (xs : List ℕ) → Takes a b xs → length a.lives ≤ 65535
+pub takes_small : (a b : State) (xs : List ℕ) → Takes a b xs → FewRows a.lives
     → AllByRecursion (λ r. r < 65535) xs
 takes_small a b xs takes few = go xs takes.free
   where
@@ -214,13 +214,6 @@ takes_small a b xs takes few = go xs takes.free
         → AllByRecursion (λ r. r < 65535) ys
     go [] free = tt
     go (y ∷ ys) free = (omega (arith, within_length a.lives y free.0, few), go ys free.1)
-
--- what is free afterwards was free before, and may be written as before
-pub takes_blank : (a b : State) (xs : List ℕ) (blank : ℕ → Bool) → Takes a b xs
-    → FreeIsBlank a.lives blank → FreeIsBlank b.lives blank
-takes_blank a b xs blank takes free k is =
-    free k (born_free (next a) xs a.lives k
-    (subst (λ (s : State). slice_get s.lives k ≡ Some Free) takes.born is)).1
 
 pub taken_blank : (a b : State) (xs : List ℕ) (blank : ℕ → Bool) → Takes a b xs
     → FreeIsBlank a.lives blank → AllByRecursion (λ r. IsTrue (blank r)) xs

@@ -1,6 +1,6 @@
 -- A tree is made in a gap, and the frame round it is closed.
 use Rattle.mst_key.specs.declared.format.Format.{Format}
-use Rattle.std.proofs.Common.{◌≡◌, ℕ, ◌+◌, ◌<◌, ◌≤◌, List, length, refl, sym, ◌∙◌, ap, arith}
+use Rattle.std.proofs.Common.{◌≡◌, ℕ, ◌+◌, ◌<◌, ◌≤◌, List, refl, sym, ◌∙◌, ap, arith}
 use Rattle.mst_node.specs.Tree.{Tree}
 use Rattle.mst_arena.specs.Content.{Content}
 use Rattle.mst_arena.specs.Lives.{State, free_count}
@@ -45,9 +45,6 @@ module _ (format : Format) {c c1 : Content} {s s1 : State} {u : Tree} {at : Root
   pub room_after : n + frame_rows frame ≤ free_count s.lives → frame_rows frame ≤ free_count
       s1.lives
   room_after room = omega (arith, room, g.moves.room, g.counted)
-
-  pub few_after : length s.lives ≤ 65535 → length s1.lives ≤ 65535
-  few_after few = omega (arith, few, g.moves.rows)
 
   pub closed_round : {c2 : Content} {s2 : State} {root : Root} → Grown format c1 c2 s1 s2
       (tree_round format frame_after (tree_of format g.placed)) root

@@ -11,7 +11,7 @@ use Rattle.mst_arena.specs.declared.row.Root.{Root}
 use Rattle.mst_arena.specs.Standing.{Placed, none, head, tree_of, entries_of, link_of, rows_of, used, chain_used, HasRows, IsDistinct}
 use Rattle.mst_arena.proofs.Stands.{all-front, all-back}
 use Rattle.mst_path.specs.declared.node_writer.NodeWriter.{NodeWriter}
-use Rattle.mst_path.specs.Takes.{Takes, IsOut, KeepsBut}
+use Rattle.mst_path.specs.Takes.{Takes, IsOut, KeepsBut, FewRows}
 use Rattle.mst_path.specs.Writing.{PlacedEntry, chain_of, entries_used, IsRootOf, ahead, link_to, IsAhead, IsWritten}
 use Rattle.mst_path.specs.Planting.{rows_needed, Planted}
 use Rattle.mst_path.proofs.lemmas.rows.Taking.{Apart, takes_append, takes_count, takes_small, keeps_append, kept, distinct-apart, distinct_front, apart_one, out_back, out_front, out_both}
@@ -91,8 +91,7 @@ link_small none all = omega arith
 link_small (head at l chain) all = omega (arith, all.0)
 
 pub root_small : (format : Format) (old new : State) (before after : Content) (t : tree.Tree)
-    (at : Root) → Planted format old new before after t at → length old.lives ≤ 65535
-    → at.link ≤ 65535
+    (at : Root) → Planted format old new before after t at → FewRows old.lives → at.link ≤ 65535
 root_small format old new before after t at q few =
     omega (
       arith,

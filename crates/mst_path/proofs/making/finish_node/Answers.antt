@@ -12,7 +12,7 @@ finish-requires-clause-tail g c =
       arith,
       r.seam_at.link,
       small_link c.args.desk.now r.seam
-          (piece_alive format r.seam_piece) c.requires.few,
+          (piece_alive format r.seam_piece) c.requires.ready.few,
     )
 
 pub returns-then-parts-eq0-clause-finished : goal.returns-then-parts-eq0-clause-finished

@@ -26,7 +26,7 @@ move_entry-requires-clause-child g c =
       arith,
       c.requires.rest.1.seam_at.link,
       small_link c.args.desk.now c.requires.rest.1.seam
-          (piece_alive format c.requires.rest.1.seam_piece) c.requires.few,
+          (piece_alive format c.requires.rest.1.seam_piece) c.requires.ready.few,
     )
 
 pub move_entry-requires-clause-old : goal.move_entry-requires-clause-old
@@ -167,7 +167,7 @@ finish-requires-clause-tail g c =
       link,
       small_link c.move_run.new.desk r.tail
           (λ x i. old_alive c.move_run.new.desk x (stays.old x i))
-          (omega (arith, seam.moves.rows, run.moves.rows, c.requires.few)),
+          (omega (arith, seam.moves.rows, run.moves.rows, c.requires.ready.few)),
     )
 
 pub returns-clause-finished : goal.returns-clause-finished

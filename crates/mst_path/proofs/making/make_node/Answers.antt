@@ -1,9 +1,9 @@
-use Rattle.std.proofs.Common.{◌≡◌, ◌∷◌, [], length, sym, ◌∙◌, subst, arith}
-use Rattle.mst_path.specs.Takes.{FreeIsBlank}
+use Rattle.std.proofs.Common.{◌≡◌, ◌∷◌, [], length, refl, ◌∙◌, arith}
+use Rattle.mst_path.specs.Takes.{IsWritable}
 use Rattle.mst_path.specs.Writing.{ahead}
 use Rattle.mst_path.specs.Copying.{Copied}
 use Rattle.mst_path.specs.Making.{PartsStand}
-use Rattle.mst_path.proofs.lemmas.rows.Copies.{blank_free}
+use Rattle.mst_path.proofs.lemmas.rows.Copies.{still_writable}
 use Rattle.mst_path.proofs.lemmas.steps.Finishing.{ahead_length, ahead_min}
 use Rattle.mst_path.proofs.lemmas.steps.Whole.{Begun, begun_by, begins_copying, front_rest, made}
 use Rattle.mst_path.proofs.making.make_node.Given.{Over}
@@ -24,10 +24,10 @@ module _ (g : Over) (c : goal.After-begin-writer g) where
       c.begin-writer.ensures.writer.reserved).1
       (omega (arith, c.begin-writer.ensures.node, c.requires.some))
 
-  blank_begun : FreeIsBlank c.begin-writer.new.desk.lives (g.R.Rows.blank c.args.rows.now)
-  blank_begun = blank_free c.args.desk.now c.begin-writer.new.desk
-      (c.begin-writer.result.head ∷ ahead c.begin-writer.result.next) [] begun.moves
-      (g.R.Rows.blank c.args.rows.now) c.requires.free
+  ready : IsWritable c.begin-writer.new.desk.lives (g.R.Rows.blank c.args.rows.now)
+  ready = still_writable c.args.desk.now c.begin-writer.new.desk
+      (c.begin-writer.result.head ∷ ahead c.begin-writer.result.next) [] _ _ begun.moves refl
+      c.requires.ready
 
 pub move_run-requires-clause-copying : goal.move_run-requires-clause-copying
 move_run-requires-clause-copying g c = (
@@ -47,9 +47,9 @@ move_run-requires-clause-room g c =
       c.requires.room,
     )
 
-pub move_run-requires-clause-free : goal.move_run-requires-clause-free
-move_run-requires-clause-free g c =
-    blank_begun g (goal.at.move_run-requires-clause-free g c).After-begin-writer
+pub move_run-requires-clause-ready : goal.move_run-requires-clause-ready
+move_run-requires-clause-ready g c =
+    ready g (goal.at.move_run-requires-clause-ready g c).After-begin-writer
 
 -- ---- the front is copied
 
@@ -94,24 +94,12 @@ finish_node-requires-clause-room g c =
       c.move_run.ensures.node.2,
     )
 
-pub finish_node-requires-clause-few : goal.finish_node-requires-clause-few
-finish_node-requires-clause-few g c =
-    let at = goal.at.finish_node-requires-clause-few g c in
-    let b = begun g at.After-begin-writer in
-    omega (
-      arith,
-      b.moves.rows,
-      (copied g at.After-move_run c.requires.parts b).moves.rows,
-      c.requires.few,
-    )
-
-pub finish_node-requires-clause-free : goal.finish_node-requires-clause-free
-finish_node-requires-clause-free g c =
-    let at = goal.at.finish_node-requires-clause-free g c in
+pub finish_node-requires-clause-ready : goal.finish_node-requires-clause-ready
+finish_node-requires-clause-ready g c =
+    let at = goal.at.finish_node-requires-clause-ready g c in
     let k = copied g at.After-move_run c.requires.parts (begun g at.After-begin-writer) in
-    subst (FreeIsBlank c.move_run.new.desk.lives) (sym c.move_run.ensures.blank)
-    (blank_free c.begin-writer.new.desk c.move_run.new.desk k.taken _ k.moves
-    (g.R.Rows.blank c.args.rows.now) (blank_begun g at.After-begin-writer))
+    still_writable c.begin-writer.new.desk c.move_run.new.desk k.taken _ _ _ k.moves
+    c.move_run.ensures.beside.0 (ready g at.After-begin-writer)
 
 pub returns-clause-made : goal.returns-clause-made
 returns-clause-made g c = λ p.

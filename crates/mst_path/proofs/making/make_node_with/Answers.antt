@@ -1,15 +1,15 @@
-use Rattle.std.proofs.Common.{◌≡◌, ◌<◌, ◌≤◌, ◌+◌, ℕ, Bool, Some, ◌∷◌, [], ◌++◌, length, IfSome, IsTrue, sym, ◌∙◌, subst, arith}
+use Rattle.std.proofs.Common.{◌≡◌, ◌<◌, ◌≤◌, ◌+◌, ℕ, Bool, Some, ◌∷◌, [], ◌++◌, length, IfSome, IsTrue, refl, sym, ◌∙◌, subst, arith}
 use Rattle.mst_arena.specs.Lives.{free_count}
 use Rattle.mst_arena.specs.Lists.{times}
 use Rattle.mst_arena.specs.Standing.{Placed, used}
-use Rattle.mst_path.specs.Takes.{FreeIsBlank}
+use Rattle.mst_path.specs.Takes.{IsWritable}
 use Rattle.mst_path.specs.Moves.{Moves}
 use Rattle.mst_path.specs.Runs.{Piece}
 use Rattle.mst_path.specs.Writing.{ahead, IsRootOf, IsWritten}
 use Rattle.mst_path.specs.Copying.{Copied}
 use Rattle.mst_path.specs.Making.{PartsStand, in_parts}
 use Rattle.mst_path.proofs.lemmas.rows.Moving.{moves_takes}
-use Rattle.mst_path.proofs.lemmas.rows.Copies.{blank_free, blank_taken, blank_ahead, next_some, small_link}
+use Rattle.mst_path.proofs.lemmas.rows.Copies.{still_writable, blank_taken, blank_ahead, next_some, small_link}
 use Rattle.mst_path.proofs.lemmas.steps.Finishing.{ahead_length, ahead_min}
 use Rattle.mst_path.proofs.lemmas.steps.Whole.{Begun, begun_by, begins_copying, child_later, with_out, rest_three, made_with}
 use Rattle.mst_path.proofs.lemmas.trees.Made.{piece_alive}
@@ -30,10 +30,10 @@ module _ (g : Over) (c : goal.After-begin-writer g) where
       (ahead_length c.begin-writer.result.next c.begin-writer.result.left
       c.begin-writer.ensures.writer.reserved).1 (omega (arith, c.begin-writer.ensures.node))
 
-  blank_begun : FreeIsBlank c.begin-writer.new.desk.lives (g.R.Rows.blank c.args.rows.now)
-  blank_begun = blank_free c.args.desk.now c.begin-writer.new.desk
-      (c.begin-writer.result.head ∷ ahead c.begin-writer.result.next) [] begun.moves
-      (g.R.Rows.blank c.args.rows.now) c.requires.free
+  ready : IsWritable c.begin-writer.new.desk.lives (g.R.Rows.blank c.args.rows.now)
+  ready = still_writable c.args.desk.now c.begin-writer.new.desk
+      (c.begin-writer.result.head ∷ ahead c.begin-writer.result.next) [] _ _ begun.moves refl
+      c.requires.ready
 
 pub move_run-requires-clause-copying : goal.move_run-requires-clause-copying
 move_run-requires-clause-copying g c = (
@@ -53,9 +53,9 @@ move_run-requires-clause-room g c =
       c.requires.room,
     )
 
-pub move_run-requires-clause-free : goal.move_run-requires-clause-free
-move_run-requires-clause-free g c =
-    blank_begun g (goal.at.move_run-requires-clause-free g c).After-begin-writer
+pub move_run-requires-clause-ready : goal.move_run-requires-clause-ready
+move_run-requires-clause-ready g c =
+    ready g (goal.at.move_run-requires-clause-ready g c).After-begin-writer
 
 -- ---- the front is copied
 
@@ -95,13 +95,10 @@ module _ (g : Over) (c : goal.After-move_run g)
         c.move_run.ensures.node.2,
       )
 
-  few_rows : length c.move_run.new.desk.lives ≤ 65535
-  few_rows = omega (arith, b.moves.rows, copied.moves.rows, c.requires.few)
-
-  blank_copied : FreeIsBlank c.begin-writer.new.desk.lives (g.R.Rows.blank c.args.rows.now)
-      → FreeIsBlank c.move_run.new.desk.lives (g.R.Rows.blank c.args.rows.now)
-  blank_copied = blank_free c.begin-writer.new.desk c.move_run.new.desk copied.taken _ copied.moves
-      (g.R.Rows.blank c.args.rows.now)
+  still_ready : IsWritable c.begin-writer.new.desk.lives (g.R.Rows.blank c.args.rows.now)
+      → IsWritable c.move_run.new.desk.lives (g.R.Rows.blank c.move_run.new.rows)
+  still_ready = still_writable c.begin-writer.new.desk c.move_run.new.desk copied.taken _ _ _
+      copied.moves c.move_run.ensures.beside.0
 
 pub entry-requires-clause-room : goal.entry-requires-clause-room
 entry-requires-clause-room g c =
@@ -113,7 +110,8 @@ entry-requires-clause-room g c =
 pub entry-requires-clause-few : goal.entry-requires-clause-few
 entry-requires-clause-few g c =
     let at = goal.at.entry-requires-clause-few g c in
-    few_rows g at.After-move_run c.requires.parts.0 (begun g at.After-begin-writer)
+    (still_ready g at.After-move_run c.requires.parts.0 (begun g at.After-begin-writer)
+    (ready g at.After-begin-writer)).few
 
 pub entry-requires-clause-child : goal.entry-requires-clause-child
 entry-requires-clause-child g c =
@@ -121,7 +119,7 @@ entry-requires-clause-child g c =
       arith,
       c.requires.parts.2.link,
       small_link c.args.desk.now c.requires.parts.1
-          (piece_alive c.args.format c.requires.parts.3) c.requires.few,
+          (piece_alive c.args.format c.requires.parts.3) c.requires.ready.few,
     )
 
 -- ---- the new entry is written
@@ -191,35 +189,24 @@ finish_node-requires-clause-room g c =
       c.entry.ensures.node.2,
     )
 
-pub finish_node-requires-clause-few : goal.finish_node-requires-clause-few
-finish_node-requires-clause-few g c =
-    let at = goal.at.finish_node-requires-clause-few g c in
-    omega (
-      arith,
-      few_rows g at.After-move_run c.requires.parts.0 (begun g at.After-begin-writer),
-      (moves_entry g at.After-entry).rows,
-    )
+pub finish_node-requires-clause-ready : goal.finish_node-requires-clause-ready
+finish_node-requires-clause-ready g c =
+    let at = goal.at.finish_node-requires-clause-ready g c in
+    let before = still_ready g at.After-move_run c.requires.parts.0 (begun g at.After-begin-writer)
+    (ready g at.After-begin-writer) in
+    still_writable c.move_run.new.desk c.entry.new.desk (ahead c.entry.new.self.next) [] _ _
+    (moves_entry g at.After-entry) c.entry.ensures.beside.0 before
 
 pub finish_node-requires-clause-blank : goal.finish_node-requires-clause-blank
 finish_node-requires-clause-blank g c =
     let at = goal.at.finish_node-requires-clause-blank g c in
-    let free = blank_copied g at.After-move_run c.requires.parts.0 (begun g at.After-begin-writer)
-    (blank_begun g at.After-begin-writer) in
+    let before = still_ready g at.After-move_run c.requires.parts.0 (begun g at.After-begin-writer)
+    (ready g at.After-begin-writer) in
     let taken = blank_taken c.move_run.new.desk c.entry.new.desk (ahead c.entry.new.self.next) []
-    (moves_entry g at.After-entry) (g.R.Rows.blank c.args.rows.now) free in
+    (moves_entry g at.After-entry) (g.R.Rows.blank c.move_run.new.rows) before.free in
     subst (λ (b : ℕ → Bool). IfSome c.entry.new.self.next (λ r. IsTrue (b r)))
-    (sym (c.entry.ensures.blank ∙ c.move_run.ensures.blank))
-    (blank_ahead c.entry.new.self (g.R.Rows.blank c.args.rows.now) taken)
-
-pub finish_node-requires-clause-free : goal.finish_node-requires-clause-free
-finish_node-requires-clause-free g c =
-    let at = goal.at.finish_node-requires-clause-free g c in
-    let free = blank_copied g at.After-move_run c.requires.parts.0 (begun g at.After-begin-writer)
-    (blank_begun g at.After-begin-writer) in
-    subst (FreeIsBlank c.entry.new.desk.lives)
-    (sym (c.entry.ensures.blank ∙ c.move_run.ensures.blank))
-    (blank_free c.move_run.new.desk c.entry.new.desk (ahead c.entry.new.self.next) []
-    (moves_entry g at.After-entry) (g.R.Rows.blank c.args.rows.now) free)
+    (sym c.entry.ensures.beside.0)
+    (blank_ahead c.entry.new.self (g.R.Rows.blank c.move_run.new.rows) taken)
 
 pub returns-clause-made : goal.returns-clause-made
 unfolding rest_three

@@ -1,4 +1,4 @@
-use Rattle.std.proofs.Common.{◌∙◌, ◌≤◌, ◌<◌, ◌+◌, ℕ, length, sym, ap, subst, arith, rules}
+use Rattle.std.proofs.Common.{◌∙◌, ◌≤◌, ◌<◌, ◌+◌, ℕ, sym, ap, subst, arith, rules}
 use Rattle.mst_arena.specs.Content.{Content}
 use Rattle.mst_arena.specs.Lives.{free_count}
 use Rattle.mst_arena.specs.Lists.{times}
@@ -6,14 +6,14 @@ use Rattle.mst_arena.specs.Standing.{tree_of, used}
 use Rattle.mst_node.specs.Tree.{node, entry, last}
 use Rattle.mst_change.specs.Split.{below, above}
 use Rattle.mst_change.specs.Cost.{split_rows}
-use Rattle.mst_path.specs.Takes.{FreeIsBlank}
+use Rattle.mst_path.specs.Takes.{IsWritable}
 use Rattle.mst_path.specs.Making.{Grown}
 use Rattle.mst_path.specs.Frames.{Framed, in_frame, tree_round, frame_rows}
 use Rattle.mst_path.specs.Joining.{TwoTrees, in_both, height, height_at}
 use Rattle.mst_path.specs.Splitting.{ToSplit}
 use Rattle.mst_path.specs.PutPath.{RisingTree, in_rising, with_pair, pair_rows, tree_with, with_rows, IsPutStep, PutsDown, PutsBetween, PutsAnew}
-use Rattle.mst_path.proofs.lemmas.rows.Copies.{blank_free}
-use Rattle.mst_path.proofs.lemmas.steps.Rounds.{regrown, frame_after, room_after, few_after, closed_round}
+use Rattle.mst_path.proofs.lemmas.rows.Copies.{still_writable}
+use Rattle.mst_path.proofs.lemmas.steps.Rounds.{regrown, frame_after, room_after, closed_round}
 use Rattle.mst_path.proofs.lemmas.steps.PutGaps.{whole_split, put_top, put_top_rows, falls_at}
 use Rattle.mst_path.proofs.put_path.+put_at.Given.{Over}
 use Rattle.mst_path.proofs.put_path.+put_at.Goals.{In-OnTop, In-Down, After-put_at-seam, In-Between, In-Anew}
@@ -117,14 +117,10 @@ module _ (g : Over) (n : ℕ) (c : goal.After-put_at-seam g n)
   room enough =
       room_after c.args.format grown d.framed (omega (arith, enough, d.rows c.args.value.now))
 
-  few : length c.put_at-seam.new.desk.lives ≤ 65535
-  few = few_after c.args.format grown d.framed c.requires.few
-
-  free : FreeIsBlank c.put_at-seam.new.desk.lives (g.R.Rows.blank c.put_at-seam.new.rows)
-  free = subst (FreeIsBlank c.put_at-seam.new.desk.lives)
-      (sym (c.put_at-seam.ensures.blank ∙ ap g.R.Rows.blank c.put_step.ensures.same))
-      (blank_free c.args.desk.now c.put_at-seam.new.desk grown.taken grown.killed grown.moves
-      (g.R.Rows.blank c.args.rows.now) c.requires.free)
+  ready : IsWritable c.put_at-seam.new.desk.lives (g.R.Rows.blank c.put_at-seam.new.rows)
+  ready = still_writable c.args.desk.now c.put_at-seam.new.desk grown.taken grown.killed _ _
+      grown.moves (c.put_at-seam.ensures.beside.0 ∙ ap g.R.Rows.blank c.put_step.ensures.same)
+      c.requires.ready
 
 pub put_at-seam-requires : goal.put_at-seam-requires
 put_at-seam-requires g t c κs within =
@@ -150,11 +146,8 @@ put_at-seam-requires g t c κs within =
               c.requires.layer,
               (
                 c.requires.low,
-                (
-                  c.requires.few,
-                  subst (FreeIsBlank c.args.desk.now.lives)
-                      (sym (ap g.R.Rows.blank c.put_step.ensures.same)) c.requires.free,
-                ),
+                subst (IsWritable c.args.desk.now.lives)
+                    (sym (ap g.R.Rows.blank c.put_step.ensures.same)) c.requires.ready,
               ),
             ),
           ),
@@ -179,15 +172,10 @@ close-requires-clause-room g t c =
     room g t at.After-put_at-seam c.requires.tree.0 (down g t at.In-Down c.requires.tree.0)
     c.requires.tree.1
 
-pub close-requires-clause-few : goal.close-requires-clause-few
-close-requires-clause-few g t c =
-    let at = goal.at.close-requires-clause-few g t c in
-    few g t at.After-put_at-seam c.requires.tree.0 (down g t at.In-Down c.requires.tree.0)
-
-pub close-requires-clause-free : goal.close-requires-clause-free
-close-requires-clause-free g t c =
-    let at = goal.at.close-requires-clause-free g t c in
-    free g t at.After-put_at-seam c.requires.tree.0 (down g t at.In-Down c.requires.tree.0)
+pub close-requires-clause-ready : goal.close-requires-clause-ready
+close-requires-clause-ready g t c =
+    let at = goal.at.close-requires-clause-ready g t c in
+    ready g t at.After-put_at-seam c.requires.tree.0 (down g t at.In-Down c.requires.tree.0)
 
 pub returns-in-Down-clause-put : goal.returns-in-Down-clause-put
 returns-in-Down-clause-put g t c = λ z.

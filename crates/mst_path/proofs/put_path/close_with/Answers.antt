@@ -65,14 +65,8 @@ make_node_with-root-requires-clause-low g c = search rules
 pub make_node_with-root-requires-clause-room : goal.make_node_with-root-requires-clause-room
 make_node_with-root-requires-clause-room g c = search rules
 
-pub make_node_with-root-requires-clause-few : goal.make_node_with-root-requires-clause-few
-make_node_with-root-requires-clause-few g c = search rules
+pub make_node_with-root-requires-clause-ready : goal.make_node_with-root-requires-clause-ready
+make_node_with-root-requires-clause-ready g c = search rules
 
-pub make_node_with-root-requires-clause-free : goal.make_node_with-root-requires-clause-free
-make_node_with-root-requires-clause-free g c = search rules
-
-pub returns-clause-blank : goal.returns-clause-blank
-returns-clause-blank g c = search rules
-
-pub returns-clause-kept : goal.returns-clause-kept
-returns-clause-kept g c = search rules
+pub returns-clause-beside : goal.returns-clause-beside
+returns-clause-beside g c = search rules

@@ -1,12 +1,11 @@
-use Rattle.std.proofs.Common.{ℕ, ◌<◌, sym, subst, arith}
+use Rattle.std.proofs.Common.{ℕ, ◌<◌, arith}
 use Rattle.mst_arena.specs.Lists.{times}
 use Rattle.mst_arena.specs.Standing.{used}
-use Rattle.mst_path.specs.Takes.{FreeIsBlank}
 use Rattle.mst_path.specs.Moves.{IsAlive}
 use Rattle.mst_path.specs.Frames.{Framed}
 use Rattle.mst_path.specs.Splitting.{ToSplit}
 use Rattle.mst_path.specs.PutPath.{TwoStand, in_two}
-use Rattle.mst_path.proofs.lemmas.rows.Copies.{blank_free, old_alive}
+use Rattle.mst_path.proofs.lemmas.rows.Copies.{old_alive, still_writable}
 use Rattle.mst_path.proofs.lemmas.steps.PutFrames.{two, level_frame, level_made}
 use Rattle.mst_path.proofs.put_path.put_level.Given.{Over}
 use Rattle.mst_path.proofs.put_path.put_level.Goals.{After-split}
@@ -44,15 +43,11 @@ close_with-requires-clause-room g c =
     let r = c.split.ensures.split c.requires.gap.0 in
     omega (arith, c.requires.gap.2, r.moves.room, r.counted)
 
-pub close_with-requires-clause-few : goal.close_with-requires-clause-few
-close_with-requires-clause-few g c =
-    omega (arith, c.requires.few, (c.split.ensures.split c.requires.gap.0).moves.rows)
-
-pub close_with-requires-clause-free : goal.close_with-requires-clause-free
-close_with-requires-clause-free g c =
-    subst (FreeIsBlank c.split.new.desk.lives) (sym c.split.ensures.blank)
-    (blank_free _ _ _ _ (c.split.ensures.split c.requires.gap.0).moves
-    (g.R.Rows.blank c.args.rows.now) c.requires.free)
+pub close_with-requires-clause-ready : goal.close_with-requires-clause-ready
+close_with-requires-clause-ready g c =
+    still_writable _ _ _ _ _ _ (c.split.ensures.split c.requires.gap.0).moves
+    c.split.ensures.beside.0
+    c.requires.ready
 
 pub returns-clause-made : goal.returns-clause-made
 returns-clause-made g c = λ t f.

@@ -1,6 +1,5 @@
-use Rattle.std.proofs.Common.{sym, subst, arith}
-use Rattle.mst_path.specs.Takes.{FreeIsBlank}
-use Rattle.mst_path.proofs.lemmas.rows.Copies.{blank_free, old_alive}
+use Rattle.std.proofs.Common.{arith}
+use Rattle.mst_path.proofs.lemmas.rows.Copies.{old_alive, still_writable}
 use Rattle.mst_path.proofs.lemmas.steps.NewEntry.{sides_stand, on_top}
 use Rattle.mst_path.proofs.put_path.put_on_top.Goals as goal
 
@@ -18,15 +17,11 @@ put_between-requires-clause-room g c =
     let r = c.split.ensures.split c.requires.tree.0 in
     omega (arith, c.requires.tree.1, r.moves.room, r.counted)
 
-pub put_between-requires-clause-few : goal.put_between-requires-clause-few
-put_between-requires-clause-few g c =
-    omega (arith, c.requires.few, (c.split.ensures.split c.requires.tree.0).moves.rows)
-
-pub put_between-requires-clause-free : goal.put_between-requires-clause-free
-put_between-requires-clause-free g c =
-    subst (FreeIsBlank c.split.new.desk.lives) (sym c.split.ensures.blank)
-    (blank_free _ _ _ _ (c.split.ensures.split c.requires.tree.0).moves
-    (g.R.Rows.blank c.args.rows.now) c.requires.free)
+pub put_between-requires-clause-ready : goal.put_between-requires-clause-ready
+put_between-requires-clause-ready g c =
+    still_writable _ _ _ _ _ _ (c.split.ensures.split c.requires.tree.0).moves
+    c.split.ensures.beside.0
+    c.requires.ready
 
 pub returns-clause-made : goal.returns-clause-made
 returns-clause-made g c t =

@@ -205,11 +205,8 @@ returns-in_default-clause-versions g c = search rules
 pub returns-in_default-clause-absent : goal.returns-in_default-clause-absent
 returns-in_default-clause-absent g c = search rules
 
-pub returns-in_default-clause-blank : goal.returns-in_default-clause-blank
-returns-in_default-clause-blank g c = search rules
-
-pub returns-in_default-clause-kept : goal.returns-in_default-clause-kept
-returns-in_default-clause-kept g c = search rules
+pub returns-in_default-clause-beside : goal.returns-in_default-clause-beside
+returns-in_default-clause-beside g c = search rules
 
 pub returns-in_default-clause-no_room : goal.returns-in_default-clause-no_room
 returns-in_default-clause-no_room g c = search rules
@@ -242,27 +239,18 @@ returns-then-remove_cost-free-clause-made g c = search rules
 pub returns-then-remove_cost-free-clause-absent : goal.returns-then-remove_cost-free-clause-absent
 returns-then-remove_cost-free-clause-absent g c = search rules
 
-pub returns-then-remove_cost-free-clause-blank : goal.returns-then-remove_cost-free-clause-blank
-returns-then-remove_cost-free-clause-blank g c = search rules
-
-pub returns-then-remove_cost-free-clause-kept : goal.returns-then-remove_cost-free-clause-kept
-returns-then-remove_cost-free-clause-kept g c = search rules
+pub returns-then-remove_cost-free-clause-beside : goal.returns-then-remove_cost-free-clause-beside
+returns-then-remove_cost-free-clause-beside g c = search rules
 
 pub returns-then-remove_cost-free-clause-untouched :
     goal.returns-then-remove_cost-free-clause-untouched
 returns-then-remove_cost-free-clause-untouched g c = search rules
 
-pub remove_at-new-requires-clause-few : goal.remove_at-new-requires-clause-few
-remove_at-new-requires-clause-few g c = search rules
+pub remove_at-new-requires-clause-ready : goal.remove_at-new-requires-clause-ready
+remove_at-new-requires-clause-ready g c = record { few = search rules; free = search rules }
 
-pub remove_at-new-requires-clause-free : goal.remove_at-new-requires-clause-free
-remove_at-new-requires-clause-free g c = search rules
-
-pub returns-clause-blank : goal.returns-clause-blank
-returns-clause-blank g c = search rules
-
-pub returns-clause-kept : goal.returns-clause-kept
-returns-clause-kept g c = search rules
+pub returns-clause-beside : goal.returns-clause-beside
+returns-clause-beside g c = search rules
 
 pub returns-clause-no_room : goal.returns-clause-no_room
 returns-clause-no_room g c = search rules

@@ -1,15 +1,15 @@
-use Rattle.std.proofs.Common.{◌∙◌, ◌≤◌, ◌<◌, ◌+◌, ℕ, length, sym, ap, subst, arith, rules}
+use Rattle.std.proofs.Common.{◌∙◌, ◌≤◌, ◌<◌, ◌+◌, ℕ, sym, ap, subst, arith, rules}
 use Rattle.mst_arena.specs.Content.{Content}
 use Rattle.mst_arena.specs.Lives.{free_count}
 use Rattle.mst_arena.specs.Lists.{times}
 use Rattle.mst_arena.specs.Standing.{used}
-use Rattle.mst_path.specs.Takes.{FreeIsBlank}
+use Rattle.mst_path.specs.Takes.{IsWritable}
 use Rattle.mst_path.specs.Making.{Grown}
 use Rattle.mst_path.specs.Frames.{Framed, in_frame, tree_round, frame_rows}
 use Rattle.mst_path.specs.Joining.{TwoTrees, in_both, both_joined, both_rows, height_at}
 use Rattle.mst_path.specs.RemovePath.{SearchTree, in_tree, without, without_rows, IsStep, StepsDown, StepsHere}
-use Rattle.mst_path.proofs.lemmas.rows.Copies.{blank_free}
-use Rattle.mst_path.proofs.lemmas.steps.Rounds.{regrown, frame_after, room_after, few_after, closed_round, none_without, lower_tree}
+use Rattle.mst_path.proofs.lemmas.rows.Copies.{still_writable}
+use Rattle.mst_path.proofs.lemmas.steps.Rounds.{regrown, frame_after, room_after, closed_round, none_without, lower_tree}
 use Rattle.mst_path.proofs.remove_path.+remove_at.Given.{Over}
 use Rattle.mst_path.proofs.remove_path.+remove_at.Goals.{In-Down, After-remove_at-seam, In-Here}
 use Rattle.mst_path.proofs.remove_path.+remove_at.Goals as goal
@@ -57,14 +57,10 @@ module _ (g : Over) (n : ℕ) (c : goal.After-remove_at-seam g n)
       → frame_rows c.in-Down.frame ≤ free_count c.remove_at-seam.new.desk.lives
   room enough = room_after c.args.format grown d.framed (omega (arith, enough, d.rows))
 
-  few : length c.remove_at-seam.new.desk.lives ≤ 65535
-  few = few_after c.args.format grown d.framed c.requires.few
-
-  free : FreeIsBlank c.remove_at-seam.new.desk.lives (g.R.Rows.blank c.remove_at-seam.new.rows)
-  free = subst (FreeIsBlank c.remove_at-seam.new.desk.lives)
-      (sym (c.remove_at-seam.ensures.blank ∙ ap g.R.Rows.blank c.top_step.ensures.same))
-      (blank_free c.args.desk.now c.remove_at-seam.new.desk grown.taken grown.killed grown.moves
-      (g.R.Rows.blank c.args.rows.now) c.requires.free)
+  ready : IsWritable c.remove_at-seam.new.desk.lives (g.R.Rows.blank c.remove_at-seam.new.rows)
+  ready = still_writable c.args.desk.now c.remove_at-seam.new.desk grown.taken grown.killed _ _
+      grown.moves (c.remove_at-seam.ensures.beside.0 ∙ ap g.R.Rows.blank c.top_step.ensures.same)
+      c.requires.ready
 
 pub remove_at-seam-requires : goal.remove_at-seam-requires
 remove_at-seam-requires g t c κs within =
@@ -85,11 +81,8 @@ remove_at-seam-requires g t c κs within =
             subst (λ (x : Content). (y : SearchTree c.args.format x c.args.desk.now c.in-Down.child)
                 × (without_rows c.args.format y c.args.key.now ≤ free_count c.args.desk.now.lives))
                 (sym same) (d.inner, omega (arith, c.requires.tree.1, d.rows)),
-            (
-              c.requires.few,
-              subst (FreeIsBlank c.args.desk.now.lives)
-                  (sym (ap g.R.Rows.blank c.top_step.ensures.same)) c.requires.free,
-            ),
+            subst (IsWritable c.args.desk.now.lives)
+                (sym (ap g.R.Rows.blank c.top_step.ensures.same)) c.requires.ready,
           ),
         ),
       ),
@@ -114,15 +107,10 @@ close-requires-clause-room g t c =
     room g t at.After-remove_at-seam c.requires.tree.0 (down g t at.In-Down c.requires.tree.0)
     c.requires.tree.1
 
-pub close-requires-clause-few : goal.close-requires-clause-few
-close-requires-clause-few g t c =
-    let at = goal.at.close-requires-clause-few g t c in
-    few g t at.After-remove_at-seam c.requires.tree.0 (down g t at.In-Down c.requires.tree.0)
-
-pub close-requires-clause-free : goal.close-requires-clause-free
-close-requires-clause-free g t c =
-    let at = goal.at.close-requires-clause-free g t c in
-    free g t at.After-remove_at-seam c.requires.tree.0 (down g t at.In-Down c.requires.tree.0)
+pub close-requires-clause-ready : goal.close-requires-clause-ready
+close-requires-clause-ready g t c =
+    let at = goal.at.close-requires-clause-ready g t c in
+    ready g t at.After-remove_at-seam c.requires.tree.0 (down g t at.In-Down c.requires.tree.0)
 
 pub returns-in-Down-clause-removed : goal.returns-in-Down-clause-removed
 returns-in-Down-clause-removed g t c = λ z.

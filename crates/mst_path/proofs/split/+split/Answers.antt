@@ -7,11 +7,11 @@ use Rattle.mst_arena.specs.Standing.{tree_of, used, rows_of, HasRows}
 use Rattle.mst_change.specs.Split.{below, above}
 use Rattle.mst_change.specs.Parts.{is_empty}
 use Rattle.mst_change.specs.Cost.{split_rows}
-use Rattle.mst_path.specs.Takes.{FreeIsBlank}
+use Rattle.mst_path.specs.Takes.{IsWritable}
 use Rattle.mst_path.specs.Making.{Split}
 use Rattle.mst_path.specs.Cutting.{EntriesLie, CutGap, IsCut}
 use Rattle.mst_path.specs.Splitting.{ToSplit}
-use Rattle.mst_path.proofs.lemmas.rows.Copies.{blank_free}
+use Rattle.mst_path.proofs.lemmas.rows.Copies.{still_writable}
 use Rattle.mst_path.proofs.lemmas.trees.Heights.{height}
 use Rattle.mst_path.proofs.lemmas.steps.Splitting.{AtHead, split_none, o, lies_in, tail_behind_is, layer_low, not_held, gap_of, in_gap, gap_to_split, gap_falls, gap_room, above_empty, below_empty, and_right, all_below, all_above, both, count_is, split_made, shared_made_below, shared_made_above}
 use Rattle.mst_path.proofs.split.+split.Given.{Over}
@@ -97,12 +97,9 @@ split-requires g n c κs within =
                   gap_to_split c.args.format here cut,
                   omega (arith, c.requires.tree.1, gap_room c.args.format here cut),
                 ),
-            (
-              c.requires.few,
-              subst (FreeIsBlank s.lives)
-                  (sym (ap g.R.Rows.blank (c.cut_at.ensures.same ∙ c.head-head.ensures.same)))
-                  c.requires.free,
-            ),
+            subst (IsWritable s.lives)
+                (sym (ap g.R.Rows.blank (c.cut_at.ensures.same ∙ c.head-head.ensures.same)))
+                c.requires.ready,
           ),
         ),
       ),
@@ -293,20 +290,14 @@ both_sides-requires-clause-room g n c =
           (sym c.is_none-2.ensures.none ∙ c.if-is_none-2.false),
     )))
 
-pub both_sides-requires-clause-few : goal.both_sides-requires-clause-few
-both_sides-requires-clause-few g n c =
-    let r = parted g n (goal.at.both_sides-requires-clause-few g n c).After-split c.requires.tree.0
-    in
-    omega (arith, c.requires.few, r.moves.rows)
-
-pub both_sides-requires-clause-free : goal.both_sides-requires-clause-free
-both_sides-requires-clause-free g n c =
-    let r = parted g n (goal.at.both_sides-requires-clause-free g n c).After-split c.requires.tree.0
-    in
-    subst (FreeIsBlank c.split.new.desk.lives)
-    (sym (c.split.ensures.blank ∙ ap g.R.Rows.blank
-    (c.cut_at.ensures.same ∙ c.head-head.ensures.same)))
-    (blank_free _ _ _ _ r.moves (g.R.Rows.blank c.args.rows.now) c.requires.free)
+pub both_sides-requires-clause-ready : goal.both_sides-requires-clause-ready
+both_sides-requires-clause-ready g n c =
+    let r = parted g n (goal.at.both_sides-requires-clause-ready g n c).After-split
+    c.requires.tree.0 in
+    still_writable _ _ _ _ _ _ r.moves
+    (c.split.ensures.beside.0 ∙ ap g.R.Rows.blank
+    (c.cut_at.ensures.same ∙ c.head-head.ensures.same))
+    c.requires.ready
 
 pub returns-clause-split : goal.returns-clause-split
 returns-clause-split g n c t =

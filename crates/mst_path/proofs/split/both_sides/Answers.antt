@@ -1,8 +1,7 @@
-use Rattle.std.proofs.Common.{refl, sym, subst}
-use Rattle.mst_path.specs.Takes.{FreeIsBlank}
+use Rattle.std.proofs.Common.{refl}
 use Rattle.mst_path.specs.Making.{PartsStand}
 use Rattle.mst_path.specs.Splitting.{BothStand}
-use Rattle.mst_path.proofs.lemmas.rows.Copies.{blank_free}
+use Rattle.mst_path.proofs.lemmas.rows.Copies.{still_writable}
 use Rattle.mst_path.proofs.lemmas.steps.Sides.{upper_stands, row_still_old, both_made}
 use Rattle.mst_path.proofs.split.both_sides.Given.{Over}
 use Rattle.mst_path.proofs.split.both_sides.Goals.{After-side-lower}
@@ -21,11 +20,10 @@ pub side-upper-requires-clause-parts : goal.side-upper-requires-clause-parts
 side-upper-requires-clause-parts g c =
     upper_parts g (goal.at.side-upper-requires-clause-parts g c).After-side-lower c.requires.parts
 
-pub side-upper-requires-clause-free : goal.side-upper-requires-clause-free
-side-upper-requires-clause-free g c =
-    let one = c.side-lower.ensures.made c.requires.parts.lower in
-    subst (FreeIsBlank c.side-lower.new.desk.lives) (sym c.side-lower.ensures.blank)
-    (blank_free _ _ _ _ one.moves (g.R.Rows.blank c.args.rows.now) c.requires.free)
+pub side-upper-requires-clause-ready : goal.side-upper-requires-clause-ready
+side-upper-requires-clause-ready g c =
+    still_writable _ _ _ _ _ _ (c.side-lower.ensures.made c.requires.parts.lower).moves
+    c.side-lower.ensures.beside.0 c.requires.ready
 
 -- ---- both are made
 

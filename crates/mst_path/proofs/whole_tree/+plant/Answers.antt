@@ -9,10 +9,11 @@ use Rattle.mst_node.specs.declared.node.Entry.TheViews.{the_lemmas}
 use Rattle.mst_arena.specs.Lives.{is_free}
 use Rattle.mst_arena.specs.Standing.{none}
 use Rattle.mst_arena.proofs.Stands.{all-back}
-use Rattle.mst_path.specs.Takes.{FreeIsBlank}
 use Rattle.mst_path.specs.Writing.{ahead, entries_used}
 use Rattle.mst_path.specs.Planting.{rows_needed, Planted}
-use Rattle.mst_path.proofs.lemmas.rows.Taking.{takes_none, takes_length, takes_blank, taken_blank}
+use Rattle.mst_path.proofs.lemmas.rows.Taking.{takes_none, takes_length, taken_blank}
+use Rattle.mst_path.proofs.lemmas.rows.Moving.{moves_takes}
+use Rattle.mst_path.proofs.lemmas.rows.Copies.{still_writable}
 use Rattle.mst_path.proofs.lemmas.trees.Nodes.{items, tail, entries_needed, needed_ahead, needed_least, take_all, node_out, node_needed, node_some, node_layer, node_child, node_last, entries_more}
 use Rattle.mst_path.proofs.lemmas.trees.Growing.{PlantedSoFar, ahead_count, ahead_none, ahead_some, ahead_all, root_small, free_now, free_beside, entry_more, node_whole}
 use Rattle.mst_path.proofs.whole_tree.+plant.Given.{Over}
@@ -40,7 +41,7 @@ module _ (g : Over) (t : ℕ) (c : goal.plant_node-After-len g t) where
         (out-Node g.row.B.Denot c.args.node.now).entries.ok.0,
         needed_least c.args.format g.row.B.Denot c.args.node.now,
         c.requires.room,
-        c.requires.few,
+        c.requires.ready.few,
         count_by-le-length is_free c.args.desk.now.lives,
       )
 
@@ -91,8 +92,7 @@ plant_node-loop-entry-init g t c =
             c.len.ensures,
             (out-Node g.row.B.Denot c.args.node.now).entries.ok.0,
           );
-      blank = refl;
-      kept = refl;
+      beside = (refl, refl);
       so_far = record {
         es = [];
         is = refl;
@@ -151,11 +151,8 @@ plant_node-plant_child-child-requires g t c κs within =
                   inside g t here,
                   rows_ahead g t here,
                 ),
-                (
-                  omega (arith, c.requires.few, takes_length _ _ _ s.takes),
-                  subst (FreeIsBlank c.loop-entry.desk.lives) (sym c.loop-entry.invariant.blank)
-                      (takes_blank _ _ _ _ s.takes c.requires.blank),
-                ),
+                still_writable _ _ _ _ _ _ (moves_takes _ _ _ s.takes)
+                    c.loop-entry.invariant.beside.0 c.requires.ready,
               ),
             ),
           ),
@@ -184,7 +181,7 @@ pub plant_node-entry-requires-clause-few : goal.plant_node-entry-requires-clause
 plant_node-entry-requires-clause-few g t c =
     omega (
       arith,
-      c.requires.few,
+      c.requires.ready.few,
       takes_length _ _ _ c.loop-entry.invariant.so_far.takes,
       takes_length _ _ _ c.plant_child-child.ensures.planted.takes,
     )
@@ -193,8 +190,9 @@ pub plant_node-entry-requires-clause-blank : goal.plant_node-entry-requires-clau
 plant_node-entry-requires-clause-blank g t c =
     let next = c.loop-entry.writer.next in
     let blank = g.R.Rows.blank c.args.rows.now in
-    let old = taken_blank _ _ _ blank c.loop-entry.invariant.so_far.takes c.requires.blank in
-    let same = c.plant_child-child.ensures.blank ∙ c.loop-entry.invariant.blank in
+    let old = taken_blank _ _ _ blank c.loop-entry.invariant.so_far.takes c.requires.ready.free
+    in
+    let same = c.plant_child-child.ensures.beside.0 ∙ c.loop-entry.invariant.beside.0 in
     subst (λ (b : ℕ → Bool). Rattle.std.specs.Prelude.IfSome next (λ r. IsTrue (b r))) (sym same)
     (ahead_all (λ r. IsTrue (blank r)) next
     (all-back (λ r. IsTrue (blank r)) (entries_used c.loop-entry.invariant.so_far.es)
@@ -203,7 +201,7 @@ plant_node-entry-requires-clause-blank g t c =
 pub plant_node-entry-requires-clause-child : goal.plant_node-entry-requires-clause-child
 plant_node-entry-requires-clause-child g t c =
     root_small c.args.format _ _ _ _ _ _ c.plant_child-child.ensures.planted
-    (omega (arith, c.requires.few, takes_length _ _ _ c.loop-entry.invariant.so_far.takes))
+    (omega (arith, c.requires.ready.few, takes_length _ _ _ c.loop-entry.invariant.so_far.takes))
 
 pub plant_node-loop-entry-preserved : goal.plant_node-loop-entry-preserved
 plant_node-loop-entry-preserved g t c =
@@ -215,9 +213,12 @@ plant_node-loop-entry-preserved g t c =
       writer = c.entry.ensures.writer;
       layer = c.entry.ensures.node.0 ∙ c.loop-entry.invariant.layer;
       left = omega (arith, c.entry.ensures.node.2, c.loop-entry.invariant.left);
-      blank = c.entry.ensures.blank ∙ c.plant_child-child.ensures.blank
-          ∙ c.loop-entry.invariant.blank;
-      kept = c.entry.ensures.kept ∙ c.plant_child-child.ensures.kept ∙ c.loop-entry.invariant.kept;
+      beside = (
+        c.entry.ensures.beside.0 ∙ c.plant_child-child.ensures.beside.0
+            ∙ c.loop-entry.invariant.beside.0,
+        c.entry.ensures.beside.1 ∙ c.plant_child-child.ensures.beside.1
+            ∙ c.loop-entry.invariant.beside.1,
+      );
       so_far =
           subst (λ (xs : List TreeEntry). PlantedSoFar c.args.format c.args.desk.now
           c.entry.new.desk (g.R.Rows.content c.args.rows.now) (g.R.Rows.content c.entry.new.rows)
@@ -271,11 +272,8 @@ plant_node-plant_child-tail-requires g t c κs within =
                       c.args.node.now,
                   ap entries_needed (whole g t behind),
                 ),
-                (
-                  omega (arith, c.requires.few, takes_length _ _ _ so_far.takes),
-                  subst (FreeIsBlank c.loop-entry.desk.lives) (sym c.loop-entry.invariant.blank)
-                      (takes_blank _ _ _ _ so_far.takes c.requires.blank),
-                ),
+                still_writable _ _ _ _ _ _ (moves_takes _ _ _ so_far.takes)
+                    c.loop-entry.invariant.beside.0 c.requires.ready,
               ),
             ),
           ),
@@ -286,7 +284,7 @@ plant_node-plant_child-tail-requires g t c κs within =
 pub plant_node-finish-requires-clause-tail : goal.plant_node-finish-requires-clause-tail
 plant_node-finish-requires-clause-tail g t c =
     root_small c.args.format _ _ _ _ _ _ c.plant_child-tail.ensures.planted
-    (omega (arith, c.requires.few, takes_length _ _ _ c.loop-entry.invariant.so_far.takes))
+    (omega (arith, c.requires.ready.few, takes_length _ _ _ c.loop-entry.invariant.so_far.takes))
 
 pub plant_node-returns-clause-planted : goal.plant_node-returns-clause-planted
 plant_node-returns-clause-planted g t c =

@@ -1,6 +1,7 @@
 use Rattle.std.proofs.Common.{◌≡◌, ◌+◌, length, map, take}
 use Rattle.mst_node.specs.Shape.{tree_entry}
 use Rattle.mst_node.specs.declared.node.Node.{out-Node}
+use Rattle.mst_path.specs.Takes.{StaysBeside}
 use Rattle.mst_path.specs.Writing.{IsWriter}
 use Rattle.mst_path.proofs.lemmas.trees.Nodes.{items}
 use Rattle.mst_path.proofs.lemmas.trees.Growing.{PlantedSoFar}
@@ -12,8 +13,7 @@ invariant-plant_node-loop-entry g l = record {
   writer : IsWriter l.writer;
   layer : l.writer.layer ≡ (out-Node g.row.B.Denot l.node).layer;
   left : l.writer.left + l.entry-index ≡ length (items l.format g.row.B.Denot l.node);
-  blank : g.R.Rows.blank l.rows ≡ g.R.Rows.blank l.fn.rows;
-  kept : g.R.Rows.kept l.rows ≡ g.R.Rows.kept l.fn.rows;
+  beside : StaysBeside g.R.Rows.blank g.R.Rows.kept l.fn.rows l.rows;
   so_far : PlantedSoFar l.format l.fn.desk l.desk (g.R.Rows.content l.fn.rows)
       (g.R.Rows.content l.rows) l.writer
       (map (tree_entry l.format) (take l.entry-index (items l.format g.row.B.Denot l.node)));

@@ -127,11 +127,8 @@ returns-in_default-clause-takes g c = search rules
 pub returns-in_default-clause-keeps : goal.returns-in_default-clause-keeps
 returns-in_default-clause-keeps g c = search rules
 
-pub returns-in_default-clause-blank : goal.returns-in_default-clause-blank
-returns-in_default-clause-blank g c = search rules
-
-pub returns-in_default-clause-kept : goal.returns-in_default-clause-kept
-returns-in_default-clause-kept g c = search rules
+pub returns-in_default-clause-beside : goal.returns-in_default-clause-beside
+returns-in_default-clause-beside g c = search rules
 
 pub returns-in_default-clause-no_room : goal.returns-in_default-clause-no_room
 returns-in_default-clause-no_room g c = search rules
@@ -151,11 +148,8 @@ returns-then-rows_of_node-free-clause-keeps g c = search rules
 pub returns-then-rows_of_node-free-clause-count : goal.returns-then-rows_of_node-free-clause-count
 returns-then-rows_of_node-free-clause-count g c = search rules
 
-pub returns-then-rows_of_node-free-clause-blank : goal.returns-then-rows_of_node-free-clause-blank
-returns-then-rows_of_node-free-clause-blank g c = search rules
-
-pub returns-then-rows_of_node-free-clause-kept : goal.returns-then-rows_of_node-free-clause-kept
-returns-then-rows_of_node-free-clause-kept g c = search rules
+pub returns-then-rows_of_node-free-clause-beside : goal.returns-then-rows_of_node-free-clause-beside
+returns-then-rows_of_node-free-clause-beside g c = search rules
 
 pub returns-then-rows_of_node-free-clause-untouched :
     goal.returns-then-rows_of_node-free-clause-untouched
@@ -164,20 +158,14 @@ returns-then-rows_of_node-free-clause-untouched g c = search rules
 pub plant_node-requires-clause-room : goal.plant_node-requires-clause-room
 plant_node-requires-clause-room g c = search rules
 
-pub plant_node-requires-clause-few : goal.plant_node-requires-clause-few
-plant_node-requires-clause-few g c = search rules
-
-pub plant_node-requires-clause-blank : goal.plant_node-requires-clause-blank
-plant_node-requires-clause-blank g c = search rules
+pub plant_node-requires-clause-ready : goal.plant_node-requires-clause-ready
+plant_node-requires-clause-ready g c = record { few = search rules; free = search rules }
 
 pub returns-clause-stands : goal.returns-clause-stands
 returns-clause-stands g c = search rules
 
-pub returns-clause-blank : goal.returns-clause-blank
-returns-clause-blank g c = search rules
-
-pub returns-clause-kept : goal.returns-clause-kept
-returns-clause-kept g c = search rules
+pub returns-clause-beside : goal.returns-clause-beside
+returns-clause-beside g c = search rules
 
 pub returns-clause-no_room : goal.returns-clause-no_room
 returns-clause-no_room g c = search rules

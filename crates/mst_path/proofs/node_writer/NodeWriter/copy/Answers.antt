@@ -1,10 +1,9 @@
 use Rattle.std.proofs.Common.{rules}
 use Rattle.std.proofs.lemmas.Grind.{elements}
-use Rattle.std.proofs.Common.{◌≡◌, ◌≢◌, ◌+◌, ◌∷◌, [], ℕ, Bool, List, Option, Some, IfSome, IsSome, IsTrue, sym, ◌∙◌, ap, subst, arith, length-append}
+use Rattle.std.proofs.Common.{◌≡◌, ◌≢◌, ◌+◌, ◌∷◌, [], ℕ, List, Option, Some, IfSome, IsTrue, sym, ◌∙◌, ap, subst, arith, length-append}
 use Rattle.std.specs.List.{AllByRecursion}
 use Rattle.sha2.specs.Hashers.{Holds256}
-use Rattle.mst_arena.specs.Content.{Content, Writes, part_at, relinked}
-use Rattle.mst_arena.specs.Row.{entry_links}
+use Rattle.mst_arena.specs.Content.{Writes}
 use Rattle.mst_arena.specs.declared.row.Row.TheVariants.{Entry}
 use Rattle.mst_arena.specs.Standing.{rows_of, used, link_of, HasRows}
 use Rattle.mst_arena.proofs.Stands.{all-append, placed_frame, same_of_write}
@@ -12,35 +11,24 @@ use Rattle.mst_path.specs.Takes.{IsOut}
 use Rattle.mst_path.specs.Writing.{PlacedEntry, link_from, link_to, entry_rows, entries_used, ahead}
 use Rattle.mst_path.proofs.lemmas.rows.Taking.{out_front, out_back, out_flip}
 use Rattle.mst_path.proofs.lemmas.rows.Entries.{link_from-push, entry_rows-push, text_up_to-push, entries_frame, is_there, copy_is, copy_keeps}
-use Rattle.mst_path.proofs.node_writer.NodeWriter.copy.Given.{Over}
 use Rattle.mst_path.proofs.node_writer.NodeWriter.copy.Goals as goal
-use Rattle.mst_path.proofs.node_writer.NodeWriter.copy.Goals.{in-Some-next, in-None, After-copy_entry}
+use Rattle.mst_path.proofs.node_writer.NodeWriter.copy.Goals.{in-Some-next, in-None}
 
 same_entry : (a b n m : ℕ) (k v : List ℕ) → a ≡ b → n ≡ m → Some (Entry a n k v) ≡ Some
     (Entry b m k v)
 same_entry a b n m k v ab nm = cc
 
--- the entry is written, and all else is left
-module _ (g : Over) (c : goal.After-copy_entry g) where
-  copied : IfSome (g.R.Rows.content c.args.rows.now c.args.from)
-      (λ row. Writes (g.R.Rows.content c.args.rows.now) (g.R.Rows.content c.copy_entry.new.self)
-      c.in-Some.to (relinked c.args.child.now.link c.match-self-2.next row))
-  copied =
-      subst (λ (x : Content). IfSome (x c.args.from)
-      (λ row. Writes x (g.R.Rows.content c.copy_entry.new.self) c.in-Some.to
-      (relinked c.args.child.now.link c.match-self-2.next row)))
-      (ap g.R.Rows.content c.value-value.ensures.same) c.copy_entry.ensures.writes
-
 pub returns-clause-written : goal.returns-clause-written
 returns-clause-written g c format es p r v next has_value w root has out =
     let old = g.R.Rows.content c.args.rows.now in
-    let new = g.R.Rows.content c.copy_entry.new.self in
+    let new = g.R.Rows.content c.copy_entry-value.new.self in
     let k = c.args.entry.now.key in
     let layer = c.args.self.now.layer in
     let count = c.args.self.now.count in
     let e : PlacedEntry = record { at = r; child = p; key = k; value = v } in
-    let both : Some c.value-value.result ≡ Some v = sym c.value-value.ensures.value ∙ has_value in
-    let read : c.value-value.result ≡ v = cc in
+    let both : Some c.copy_entry-value.result ≡ Some v = sym c.copy_entry-value.ensures.value
+    ∙ has_value in
+    let read : c.copy_entry-value.result ≡ v = cc in
     let row : c.in-Some.to ≡ r = cc (c.in-Some.is, next) in
     let link : c.match-self-2.next ≡ link_to c.take_next-self.result = elim c.match-self-2.branch [
       | in-Some-next b ↦ b.next-is ∙ sym (ap link_to b.in-Some-next.is)
@@ -49,7 +37,7 @@ returns-clause-written g c format es p r v next has_value w root has out =
     let writes : Writes old new c.in-Some.to (Entry c.args.child.now.link c.match-self-2.next k v) =
     copy_is old new c.args.from c.in-Some.to c.args.child.now.link c.match-self-2.next
     c.args.entry.now v c.requires.entry has_value
-    (copied g (goal.at.returns-clause-written g c).After-copy_entry) in
+    c.copy_entry-value.ensures.writes in
     let begins : link_from (r + 1) es ≡ c.args.self.now.first + 1 =
     subst (λ (o : Option ℕ). link_from (link_to o) es ≡ c.args.self.now.first + 1) next w.begins
     in
@@ -86,13 +74,10 @@ returns-clause-written g c format es p r v next has_value w root has out =
 
 pub returns-clause-keeps : goal.returns-clause-keeps
 returns-clause-keeps g c = λ k out.
-    copy_keeps (g.R.Rows.content c.args.rows.now) (g.R.Rows.content c.copy_entry.new.self)
+    copy_keeps (g.R.Rows.content c.args.rows.now) (g.R.Rows.content c.copy_entry-value.new.self)
     c.args.from c.in-Some.to c.args.child.now.link c.match-self-2.next c.args.entry.now
-    c.requires.entry (copied g (goal.at.returns-clause-keeps g c).After-copy_entry) k
+    c.requires.entry c.copy_entry-value.ensures.writes k
     (subst (λ (o : Option ℕ). IsOut k (ahead o)) c.in-Some.is out).0
-
-pub value-value-requires : goal.value-value-requires
-value-value-requires g c = search rules
 
 pub overflow_sub-self : goal.overflow_sub-self
 overflow_sub-self g c = search rules
@@ -103,24 +88,19 @@ take_next-self-requires g c = search rules
 pub overflow_add-next : goal.overflow_add-next
 overflow_add-next g c = grind (arith, elements)
 
-pub copy_entry-requires-clause-there : goal.copy_entry-requires-clause-there
-copy_entry-requires-clause-there g c =
-    subst (λ (x : Content). IsSome (part_at entry_links x c.args.from))
-    (sym (ap g.R.Rows.content c.value-value.ensures.same)) (is_there _ _ c.requires.entry)
+pub copy_entry-value-requires-clause-there : goal.copy_entry-value-requires-clause-there
+copy_entry-value-requires-clause-there g c = is_there _ _ c.requires.entry
 
-pub copy_entry-requires-clause-blank : goal.copy_entry-requires-clause-blank
-copy_entry-requires-clause-blank g c =
-    let blank : IsTrue (g.R.Rows.blank c.args.rows.now c.in-Some.to) =
+pub copy_entry-value-requires-clause-blank : goal.copy_entry-value-requires-clause-blank
+copy_entry-value-requires-clause-blank g c =
     subst (λ (o : Option ℕ). IfSome o (λ r. IsTrue (g.R.Rows.blank c.args.rows.now r)))
-    c.in-Some.is c.requires.blank in
-    subst (λ (b : ℕ → Bool). IsTrue (b c.in-Some.to))
-    (sym (ap g.R.Rows.blank c.value-value.ensures.same)) blank
+    c.in-Some.is c.requires.blank
 
-pub copy_entry-requires-clause-child : goal.copy_entry-requires-clause-child
-copy_entry-requires-clause-child g c = search rules
+pub copy_entry-value-requires-clause-child : goal.copy_entry-value-requires-clause-child
+copy_entry-value-requires-clause-child g c = search rules
 
-pub copy_entry-requires-clause-next : goal.copy_entry-requires-clause-next
-copy_entry-requires-clause-next g c = grind (arith, elements)
+pub copy_entry-value-requires-clause-next : goal.copy_entry-value-requires-clause-next
+copy_entry-value-requires-clause-next g c = grind (arith, elements)
 
 pub entry-requires : goal.entry-requires
 entry-requires g c = search rules
@@ -134,8 +114,5 @@ returns-clause-node g c = search rules
 pub returns-clause-takes : goal.returns-clause-takes
 returns-clause-takes g c = search rules
 
-pub returns-clause-blank : goal.returns-clause-blank
-returns-clause-blank g c = c.copy_entry.ensures.blank ∙ ap g.R.Rows.blank c.value-value.ensures.same
-
-pub returns-clause-kept : goal.returns-clause-kept
-returns-clause-kept g c = c.copy_entry.ensures.kept ∙ ap g.R.Rows.kept c.value-value.ensures.same
+pub returns-clause-beside : goal.returns-clause-beside
+returns-clause-beside g c = (c.copy_entry-value.ensures.blank, c.copy_entry-value.ensures.kept)

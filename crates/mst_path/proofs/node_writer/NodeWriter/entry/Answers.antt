@@ -95,8 +95,5 @@ returns-clause-takes g c = search rules
 pub returns-clause-keeps : goal.returns-clause-keeps
 returns-clause-keeps g c = search rules
 
-pub returns-clause-blank : goal.returns-clause-blank
-returns-clause-blank g c = search rules
-
-pub returns-clause-kept : goal.returns-clause-kept
-returns-clause-kept g c = search rules
+pub returns-clause-beside : goal.returns-clause-beside
+returns-clause-beside g c = search rules
