@@ -1,5 +1,5 @@
 -- What a pass may read and write of the rows, as the steps ask for it.
-use Rattle.std.proofs.Common.{◌≡◌, ℕ, zero, suc, ◌+◌, ◌*◌, ◌<◌, ◌≤◌, ◌≢◌, ◌⊎◌, inl, inr, Bool, true, false, not, ◌&&◌, ◌||◌, eqb, is_some, is_none, nat_lt, Option, Some, None, IsSome, IfSome, List, [], length, map, take, set, get_or, refl, sym, ap, ◌∙◌, arith, ⊎_elim, if◌then◌else◌, length-set, get_or-set_same, get_or-set_other}
+use Rattle.std.proofs.Common.{◌≡◌, ℕ, zero, suc, ◌+◌, ◌*◌, ◌<◌, ◌≤◌, ◌≢◌, ◌⊎◌, inl, inr, Bool, true, false, not, ◌&&◌, ◌||◌, eqb, is_some, is_none, nat_lt, Option, Some, None, IsSome, IfSome, List, [], length, map, take, set, get_or, replicate, subst, refl, sym, ap, ◌∙◌, arith, ⊎_elim, if◌then◌else◌, length-set, get_or-set_same, get_or-set_other}
 use Rattle.std.specs.Prelude.{option_and_then}
 use Rattle.std.specs.List.{list_any, range_with_len}
 use mathlib.Core.Logic.{dite}
@@ -7,6 +7,8 @@ use native.Mathlib.Decide.{ℕ_discrete}
 use Rattle.std.proofs.lemmas.Bool.{ltb-true, lt-ltb}
 use Rattle.std.proofs.lemmas.List.{ext_get_or, get_or-take, length-take-le}
 use Rattle.std.proofs.lemmas.List.FromFn.{fill_by_all, length-map-range_with_len, get_or-map-range_with_len}
+use Rattle.atomic_table.specs.Seated.{TableId}
+use Rattle.atomic_table.specs.Table.{Me}
 use Rattle.mst_arena.specs.Lives as lives
 use Rattle.mst_arena.specs.Content.{Writes, part_at, relinked}
 use Rattle.mst_arena.specs.Row.{entry_links}
@@ -20,7 +22,7 @@ use Rattle.mst_words.specs.Records as records
 use Rattle.mst_words.specs.Records.{IsBlank}
 use Rattle.mst_words.specs.Steps.{IsReadable, IsWritable}
 use Rattle.mst_words.specs.Stored.{stored, rows_in, version_of}
-use Rattle.mst_words.specs.Access.{Seated, with_words, beside, may_read, content_of, all_below, is_unreached, is_blank}
+use Rattle.mst_words.specs.Access.{Seated, with_words, beside, may_read, content_of, all_below, is_unreached, is_blank, RowStored}
 use Rattle.mst_words.proofs.Framed.{same_row}
 
 both : (a b : Bool) → (a && b) ≡ true → (a ≡ true) × (b ≡ true)
@@ -115,14 +117,8 @@ pub writable : (v : View) (x k : ℕ) → is_blank v x ≡ true → k < row_word
     → IsWritable (stored v.format) v (row_word x k)
 writable v x k h lt = inl (x, k, blank_row v x h, lt, refl)
 
--- a row whose sixteen words were stored
-pub record Stored (x n : ℕ) (words old new : List ℕ) : Type 0 where
-  pub long : length new ≡ length old
-  pub so_far : (k : ℕ) → k < n → records.row new x k ≡ get_or words k 0
-  pub others : (i : ℕ) → ((k : ℕ) → k < row_words → i ≢ row_word x k) → get_or new i 0 ≡ get_or old
-      i 0
-
-pub stored_none : (x : ℕ) (words old : List ℕ) → Stored x 0 words old old
+-- a row whose words were stored, one after the other
+pub stored_none : (x : ℕ) (words old : List ℕ) → RowStored x 0 words old old
 stored_none x words old = record {
   long = refl;
   so_far = λ k l. absurd (omega arith);
@@ -130,9 +126,9 @@ stored_none x words old = record {
       λ i _. refl;
 }
 
-pub stored_more : (x n : ℕ) (words old new : List ℕ) → Stored x n words old new → n < row_words
+pub stored_more : (x n : ℕ) (words old new : List ℕ) → RowStored x n words old new → n < row_words
     → x * 16 + 294 ≤ length old → (value : ℕ) → value ≡ get_or words n 0
-    → Stored x (n + 1) words old (set new (row_word x n) value)
+    → RowStored x (n + 1) words old (set new (row_word x n) value)
 stored_more x n words old new s lt wide value is = let long = s.long in record {
   long = length-set new (row_word x n) value ∙ s.long;
   so_far = λ k l. dite (ℕ_discrete k n)
@@ -141,12 +137,81 @@ stored_more x n words old new s lt wide value is = let long = s.long in record {
       ∙ ap (λ (j : ℕ). get_or words j 0) (sym same))
       (λ other. get_or-set_other new (row_word x n) (row_word x k) value 0
       (λ e. other (omega arith)) ∙ s.so_far k (omega arith));
-  others = λ i away. get_or-set_other new (row_word x n) i value 0 (away n lt) ∙ s.others i away;
+  others = λ i away. get_or-set_other new (row_word x n) i value 0 (away n (omega arith))
+      ∙ s.others i (λ k l. away k (omega (arith, l)));
 }
+
+-- what a seat is beside the words that it knows stays when one of them is stored
+pub stored_once : (old now new : Me (Option lives.State) View) (i value : ℕ)
+    → now ≡ (record old.0 { known_words = now.0.known_words }, old.1)
+    → new ≡ (record now.0 { known_words = set now.0.known_words i value }, now.1)
+    → new ≡ (record old.0 { known_words = new.0.known_words }, old.1)
+stored_once old now new i value kept s =
+    s ∙ ap (λ (z : Me (Option lives.State) View).
+    (record z.0 { known_words = set now.0.known_words i value }, z.1)) kept
+    ∙ ap (λ (h : List ℕ). (record old.0 { known_words = h }, old.1))
+    (sym (ap (λ (z : Me (Option lives.State) View). z.0.known_words) s))
+
+-- and the row has one word more
+pub stored_next : (old now new : Me (Option lives.State) View) (x n value : ℕ) (words : List ℕ)
+    → new ≡ (record now.0 { known_words = set now.0.known_words (row_word x n) value }, now.1)
+    → RowStored x n words old.0.known_words now.0.known_words → n < row_words
+    → row_word x 15 < length now.0.known_words → value ≡ get_or words n 0
+    → RowStored x (n + 1) words old.0.known_words new.0.known_words
+stored_next old now new x n value words s so_far lt room is =
+    subst (λ (h : List ℕ). RowStored x (n + 1) words old.0.known_words h)
+    (sym (ap (λ (z : Me (Option lives.State) View). z.0.known_words) s))
+    (stored_more x n words old.0.known_words now.0.known_words so_far lt
+    (omega (arith, room, so_far.long)) value is)
+
+-- words that are those of another list as far as they were stored
+pub stored_as : (x n : ℕ) (words others old new : List ℕ) → RowStored x n words old new
+    → ((k : ℕ) → k < n → get_or words k 0 ≡ get_or others k 0) → RowStored x n others old new
+stored_as x n words others old new s same = record {
+  long = s.long;
+  so_far = λ k l. s.so_far k l ∙ same k l;
+  others = s.others;
+}
+
+-- the words of an entry with another child and another next
+abbrev pub relinked_list : (ℕ → ℕ) → ℕ → ℕ → List ℕ
+relinked_list f child next = set (set (map f (range_with_len 0 16)) 1 child) 2 next
+
+pub front_words : (f : ℕ → ℕ) (kind child next : ℕ) → kind ≡ f 0 → (k : ℕ) → k < 3
+    → get_or (set (set (set (replicate 16 0) 0 kind) 1 child) 2 next) k 0
+    ≡ get_or (relinked_list f child next) k 0
+front_words f kind child next is zero lt = is
+front_words f kind child next is (suc zero) lt = refl
+front_words f kind child next is (suc (suc zero)) lt = refl
+front_words f kind child next is (suc (suc (suc k))) lt = absurd (omega arith)
+
+pub back_words : (f : ℕ → ℕ) (child next k : ℕ) → 3 ≤ k → k < 16
+    → get_or (relinked_list f child next) k 0 ≡ f k
+back_words f child next k ge lt =
+    get_or-set_other (set (map f (range_with_len 0 16)) 1 child) 2 k next 0
+    (λ e. absurd (omega (arith, e, ge)))
+    ∙ get_or-set_other (map f (range_with_len 0 16)) 1 k child 0
+    (λ e. absurd (omega (arith, e, ge)))
+    ∙ get_or-map-range_with_len f 0 16 k k 0 lt (omega arith)
+
+-- a word of any row that was not yet reached is as before, also where it is of the same row
+pub not_reached : (x n from : ℕ) (words old new : List ℕ) → RowStored x n words old new
+    → n < row_words → records.row new from n ≡ records.row old from n
+not_reached x n from words old new s lt = s.others (row_word from n) (λ k l e. absurd
+    (omega (arith, l, e)))
+
+-- a list that is filled up to one word more
+pub filled_more : (words others : List ℕ) (n value : ℕ) → n < length words
+    → ((k : ℕ) → k < n → get_or words k 0 ≡ get_or others k 0) → value ≡ get_or others n 0
+    → (k : ℕ) → k < n + 1 → get_or (set words n value) k 0 ≡ get_or others k 0
+filled_more words others n value lt so_far is k l = dite (ℕ_discrete k n)
+    (λ same. ap (λ (j : ℕ). get_or (set words n value) j 0) same
+    ∙ get_or-set_same words n value 0 lt ∙ is ∙ ap (λ (j : ℕ). get_or others j 0) (sym same))
+    (λ other. get_or-set_other words n k value 0 other ∙ so_far k (omega (arith, l, other)))
 
 -- the rows are as before but for the one that was written
 pub written : (v : View) (x : ℕ) (value : Row) (words held : List ℕ) → is_blank v x ≡ true
-    → length words ≡ 16 → row_in words ≡ Some value → Stored x 16 words v.known_words held
+    → length words ≡ 16 → row_in words ≡ Some value → RowStored x 16 words v.known_words held
     → Writes (content_of v) (content_of (record v { known_words = held })) x value
 written v x value words held blank long spelt s = let b = blank_parts v x blank in record {
   here = may (record v { known_words = held }) x b.inside b.on ∙ ap row_in (sym all) ∙ spelt;
@@ -173,6 +238,15 @@ written v x value words held blank long spelt s = let b = blank_parts v x blank 
     elsewhere k other = same_row (records.row v.known_words) (records.row held) k
         (λ j lt. same_word k j other lt)
 
+pub row_written : (old new : Me (Option lives.State) View) (x : ℕ) (value : Row) (words : List ℕ)
+    → new ≡ (record old.0 { known_words = new.0.known_words }, old.1) → is_blank old.0 x ≡ true
+    → length words ≡ 16 → row_in words ≡ Some value
+    → RowStored x 16 words old.0.known_words new.0.known_words
+    → Writes (content_of old.0) (content_of new.0) x value
+row_written old new x value words kept blank long spelt s =
+    subst (λ (z : Me (Option lives.State) View). Writes (content_of old.0) (content_of z.0) x value)
+    (sym kept) (written old.0 x value words new.0.known_words blank long spelt s)
+
 -- a list that is known index by index, from some number on
 pub fill_from : (f : ℕ → ℕ) (xs : List ℕ) (a n : ℕ) → length xs ≡ n
     → ((k : ℕ) → k < n → get_or xs k 0 ≡ f (a + k)) → xs ≡ map f (range_with_len a n)
@@ -198,9 +272,19 @@ same_front n xs ys le long h = let a = length-take-le n xs le in let b =
     (λ i lt. let small : i < n = omega (arith, lt, b) in get_or-take n ys i 0 small ∙ h i small
     ∙ sym (get_or-take n xs i 0 small))
 
+-- two seats that have the same parts
+pub same_seated : (s : Seated) (table : TableId) (id : ℕ) (me : Me (Option lives.State) View)
+    → table ≡ s.table → id ≡ s.id → me ≡ s.me
+    → record { table = table; id = id; me = me } ≡ s
+same_seated s table id me t i m =
+    ap {B = Seated} (λ (x : TableId). record { table = x; id = id; me = me }) t
+    ∙ ap {B = Seated} (λ (x : ℕ). record { table = s.table; id = x; me = me }) i
+    ∙ ap {B = Seated} (λ (x : Me (Option lives.State) View).
+    record { table = s.table; id = s.id; me = x }) m
+
 -- what the seat is beside its rows depends on no word of a row
 pub beside_stays : (s t : Seated) (x : ℕ) (words : List ℕ) → t ≡ with_words t.me.0.known_words s
-    → first_row ≤ length s.me.0.known_words → Stored x 16 words s.me.0.known_words
+    → first_row ≤ length s.me.0.known_words → RowStored x 16 words s.me.0.known_words
     t.me.0.known_words → beside t ≡ beside s
 beside_stays s t x words same wide stored =
     let held = t.me.0.known_words in

@@ -1,5 +1,5 @@
 -- What a pass may read and write of the rows, by what it knows of the words.
-use Rattle.std.specs.Prelude.{◌≡◌, length, take, List, [], ℕ, zero, suc, ◌+◌, is_some, is_none, Bool, true, ◌&&◌, ◌||◌, not, nat_lt, eqb, if◌then◌else◌, Option, None}
+use Rattle.std.specs.Prelude.{◌≡◌, ◌≢◌, ◌<◌, length, take, slice_index, List, [], ℕ, zero, suc, ◌+◌, is_some, is_none, Bool, true, ◌&&◌, ◌||◌, not, nat_lt, eqb, if◌then◌else◌, Option, None}
 use Rattle.std.specs.List.{list_any}
 use Rattle.atomic_table.specs.Seated.{TableId}
 use Rattle.atomic_table.specs.Table.{Me}
@@ -61,3 +61,10 @@ is_unreached v x = all_below (v.passes + 2) (λ r. list_any (eqb r) v.drained
 abbrev pub is_blank : View → ℕ → Bool
 is_blank v x = nat_lt (row_word x 15) (length v.known_words) && nat_lt x v.rows && v.turn
     && is_none v.pin && is_none v.due && is_unreached v x
+
+-- the first n words of a row are those of a list, and no other word has changed
+pub record RowStored (x n : ℕ) (words old new : List ℕ) : Type 0 where
+  pub long : length new ≡ length old
+  pub so_far : (k : ℕ) → k < n → row new x k ≡ slice_index words k
+  pub others : (i : ℕ) → ((k : ℕ) → k < n → i ≢ row_word x k)
+      → slice_index new i ≡ slice_index old i

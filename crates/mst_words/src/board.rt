@@ -95,7 +95,8 @@ impl<A: Allocator + Copy> Board<A> {
         requires wide { self.now.words ≡ table_words seat.old.me.0.rows }
         requires free { IsFree number seat.old.me }
         ensures same { (seat.new.table_id ≡ seat.old.table_id) × (seat.new.id ≡ seat.old.id) }
-        ensures taken { result ≡ true → Takes (stored seat.old.me.0.format) seat.old.me seat.new.me }
+        ensures taken { result ≡ true
+            → Takes (stored seat.old.me.0.format) seat.old.me seat.new.me }
         ensures missed { result ≡ false → Misses seat.old.me seat.new.me }
     {
         let found = self

@@ -31,6 +31,7 @@ mod notes;
 mod pins;
 mod plays;
 mod publishing;
+mod row_words;
 mod rows;
 mod rule;
 mod seat;

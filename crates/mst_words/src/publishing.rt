@@ -39,7 +39,8 @@ impl<A: Allocator + Copy> Board<A> {
         requires new { In which seat.old.me.0.blocked → ⊥ }
         ensures same { (seat.new.table_id ≡ seat.old.table_id) × (seat.new.id ≡ seat.old.id) }
         ensures drained { result ≡ true → Drained which seat.old.me seat.new.me }
-        ensures blocked { result ≡ false → Blocked (stored seat.old.me.0.format) which seat.old.me seat.new.me }
+        ensures blocked { result ≡ false → Blocked (stored seat.old.me.0.format) which seat.old.me
+            seat.new.me }
     {
         self.table
             .shared

@@ -1,5 +1,5 @@
 //! The rows of the table, as a pass reads and writes them.
-ghost use Rattle.std.specs.Prelude.{◌≡◌, ◌+◌, ◌%◌, ◌<◌, ◌≤◌, length, map, slice_set, true, IsTrue, Some};
+ghost use Rattle.std.specs.Prelude.{◌≡◌, ◌+◌, ◌%◌, ◌<◌, ◌≤◌, map, slice_set, true, IsTrue, Some};
 ghost use Rattle.std.specs.List.{range_with_len};
 ghost use Rattle.std.specs.Ordering.{nat_cmp, ordering_then};
 ghost use Rattle.std.specs.declared.cmp.Ordering.TheVariants.{Equal};
@@ -8,11 +8,11 @@ ghost use Rattle.mst_arena.specs.Content.{Writes};
 ghost use Rattle.mst_arena.specs.Ways.{words_order};
 ghost use Rattle.mst_arena.specs.Words.{row_in, word_from};
 ghost use Rattle.mst_arena.specs.declared.row.Row.{Row};
-ghost use Rattle.mst_words.specs.Layout.{row_words, row_word};
+ghost use Rattle.mst_words.specs.Layout.{row_words};
 ghost use Rattle.mst_words.specs.Records as records;
 ghost use Rattle.mst_words.specs.Access.{may_read, is_blank, content_of, beside};
 
-use crate::layout::{ROW_WORDS, row_word};
+use crate::layout::ROW_WORDS;
 use crate::seat::PassSeat;
 use mst_arena::{EntryLinks, HeadLinks, Row, Rows, Sought, Way};
 use mst_key::Value;
@@ -27,7 +27,7 @@ impl<'a, A: Allocator + Copy> PassSeat<'a, A> {
         ensures word { result ≡ records.row self.old.me.0.known_words row k }
         ensures same { self.new ≡ self.old }
     {
-        self.load(row_word(row, k))
+        self.board.word(&mut self.token, row, k)
     }
 
     // The words of a row from one on: a load for each.
@@ -38,11 +38,7 @@ impl<'a, A: Allocator + Copy> PassSeat<'a, A> {
             ≡ map (records.row self.old.me.0.known_words row) (range_with_len from N) }
         ensures same { self.new ≡ self.old }
     {
-        let mut words = [0; N];
-        for k in 0..N {
-            words[k] = self.word(row, from + k);
-        }
-        words
+        self.board.words(&mut self.token, row, from)
     }
 
     // The order of what was compared before, and where that is the same, of a number and word k of
@@ -76,8 +72,8 @@ impl<'a, A: Allocator + Copy> PassSeat<'a, A> {
         }
     }
 
-    // The order of a key and that of an entry whose first words are the same: words are loaded until
-    // two differ.
+    // The order of a key and that of an entry whose first words are the same: words are loaded
+    // until two differ.
     fn order_behind(&mut self, row: u32, key: &Sought) -> Ordering
         requires readable { may_read self.old.me.0 row ≡ true }
         ensures order { nat_cmp (word_from key.now 0) (records.row self.old.me.0.known_words row 4)
@@ -110,26 +106,6 @@ impl<'a, A: Allocator + Copy> PassSeat<'a, A> {
         }
     }
 
-    // Makes word k of a blank row this one: one load, and a store where another word stands there,
-    // since a store costs some twenty times as much as a load.
-    fn store_word(&mut self, row: u32, k: usize, value: u64)
-        requires blank { IsTrue (is_blank self.old.me.0 row) }
-        requires there { k < row_words }
-        ensures stored { self.new ≡ record self.old {
-          me = (
-            record self.old.me.0 {
-              known_words = slice_set self.old.me.0.known_words (row_word row k) value;
-            },
-            self.old.me.1,
-          );
-        } }
-        ensures wide { row_word row 15 < length self.old.me.0.known_words }
-    {
-        if self.word(row, k) != value {
-            self.store(row_word(row, k), value);
-        }
-    }
-
     // Makes the words of a blank row these.
     fn store_words(&mut self, row: u32, words: &[u64; ROW_WORDS])
         requires blank { IsTrue (is_blank self.old.me.0 row) }
@@ -138,9 +114,24 @@ impl<'a, A: Allocator + Copy> PassSeat<'a, A> {
         ensures blank { is_blank self.new.me.0 ≡ is_blank self.old.me.0 }
         ensures kept { beside self.new ≡ beside self.old }
     {
-        for k in 0..ROW_WORDS {
-            self.store_word(row, k, words[k]);
-        }
+        self.board.store_words(&mut self.token, row, words);
+    }
+
+    // Copies an entry's words into a blank row, with another child and another next. It answers
+    // the words of the copy.
+    fn copy_words(&mut self, from: u32, to: u32, child: u32, next: u32) -> [u64; ROW_WORDS]
+        requires readable { may_read self.old.me.0 from ≡ true }
+        requires blank { IsTrue (is_blank self.old.me.0 to) }
+        ensures words { result ≡ slice_set (slice_set
+            (map (records.row self.old.me.0.known_words from) (range_with_len 0 row_words))
+            1 child) 2 next }
+        ensures writes { (value : Row) → row_in result ≡ Some value
+            → Writes (content_of self.old.me.0) (content_of self.new.me.0) to value }
+        ensures blank { is_blank self.new.me.0 ≡ is_blank self.old.me.0 }
+        ensures kept { beside self.new ≡ beside self.old }
+    {
+        self.board
+            .copy_words(&mut self.token, from, to, child, next)
     }
 }
 
@@ -167,11 +158,13 @@ impl<'a, A: Allocator + Copy> Rows for PassSeat<'a, A> {
         self.store_words(row, &words);
     }
 
-    fn copy_entry(&mut self, from: u32, to: u32, child: u32, next: u32) {
-        let mut words: [u64; ROW_WORDS] = self.words(from, 0);
-        words[1] = u64::from(child);
-        words[2] = u64::from(next);
-        self.store_words(to, &words);
+    fn copy_entry(&mut self, from: u32, to: u32, child: u32, next: u32) -> Value {
+        let words = self.copy_words(from, to, child, next);
+        let [_, _, _, lengths, _, _, _, _, a, b, c, d, e, f, g, h] = words;
+        match Row::read_value(lengths, &[a, b, c, d, e, f, g, h]) {
+            Some(value) => value,
+            None => unreachable!(),
+        }
     }
 
     fn head(&mut self, row: u32) -> HeadLinks {

@@ -87,7 +87,8 @@ impl<'a, A: Allocator + Copy> PassSeat<'a, A> {
     pub fn take_turn(&mut self, number: u32) -> bool
         requires free { IsFree number self.old.me }
         ensures same { IsSameSeat self.old self.new }
-        ensures taken { result ≡ true → Takes (stored self.old.me.0.format) self.old.me self.new.me }
+        ensures taken { result ≡ true
+            → Takes (stored self.old.me.0.format) self.old.me self.new.me }
         ensures missed { result ≡ false → Misses self.old.me self.new.me }
     {
         self.board.take_turn(&mut self.token, number)
@@ -201,7 +202,8 @@ impl<'a, A: Allocator + Copy> PassSeat<'a, A> {
         requires new { In which self.old.me.0.blocked → ⊥ }
         ensures same { IsSameSeat self.old self.new }
         ensures drained { result ≡ true → Drained which self.old.me self.new.me }
-        ensures blocked { result ≡ false → Blocked (stored self.old.me.0.format) which self.old.me self.new.me }
+        ensures blocked { result ≡ false → Blocked (stored self.old.me.0.format) which self.old.me
+            self.new.me }
     {
         self.board.ask(&mut self.token, which)
     }

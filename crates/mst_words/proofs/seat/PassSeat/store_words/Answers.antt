@@ -1,69 +1,60 @@
-use Rattle.std.proofs.Common.{◌≡◌, ℕ, ◌+◌, ◌*◌, List, set, get_or, rules, arith, sym, refl, ap, ◌∙◌, subst}
-use Rattle.mst_arena.specs.Content.{Writes}
-use Rattle.mst_words.specs.Access.{Seated, content_of}
-use Rattle.mst_words.proofs.Accesses.{Stored, stored_more, written, blank_stays, blank_parts, beside_stays}
+use Rattle.std.proofs.Common.{◌≡◌, ◌∙◌, Option, ap, arith, rules, subst}
+use Rattle.atomic_table.specs.Table.{Me}
+use Rattle.mst_arena.specs.Lives as lives
+use Rattle.mst_words.specs.declared.view.View.{View}
+use Rattle.mst_words.specs.Access.{Seated, with_words, RowStored}
+use Rattle.mst_words.proofs.Accesses.{row_written, blank_stays, blank_parts, beside_stays, same_seated}
+use Rattle.mst_words.proofs.seat.PassSeat.store_words.Given.{Over}
 use Rattle.mst_words.proofs.seat.PassSeat.store_words.Goals as goal
 
-pub loop-k-preserved : goal.loop-k-preserved
-loop-k-preserved g c = let old : Seated = c.args.self.now in let now : Seated =
-    c.loop-k.self in let s = c.store_word.ensures.stored in let held =
-    ap (λ (z : Seated). z.me.0.known_words) s in let k = c.loop-k.invariant in record {
-      kept =
-          s ∙ ap (λ (z : Seated).
-          record z {
-            me = (
-              record z.me.0 {
-                known_words = set now.me.0.known_words (c.args.row * 16 + c.loop-k.k + 278)
-                    (get_or c.args.words.now c.loop-k.k 0);
-              },
-              z.me.1,
-            );
-          }) k.kept
-          ∙ ap (λ (h : List ℕ). record old { me = (record old.me.0 { known_words = h }, old.me.1) })
-          (sym held);
-      stored =
-          subst (λ (h : List ℕ). Stored c.args.row (c.loop-k.k + 1) c.args.words.now
-          old.me.0.known_words h) (sym held)
-          (stored_more c.args.row c.loop-k.k c.args.words.now old.me.0.known_words
-          now.me.0.known_words
-          k.stored (omega arith) (let w = c.store_word.ensures.wide in let l =
-          k.stored.long in omega arith) (get_or c.args.words.now c.loop-k.k 0) refl);
-    }
+-- what the board says of the token, said of the seat
+module _ (g : Over) (c : goal.After-store_words g) where
+  same_me : c.self.inside.token.me ≡ c.args.self.now.me
+  same_me = ap (λ (z : Seated). z.me) c.self.view_is
+
+  kept : c.store_words.new.seat.me ≡ (
+    record c.args.self.now.me.0 { known_words = c.store_words.new.seat.me.0.known_words },
+    c.args.self.now.me.1,
+  )
+  kept = subst (λ (m : Me (Option lives.State) View). c.store_words.new.seat.me
+      ≡ (record m.0 { known_words = c.store_words.new.seat.me.0.known_words }, m.1)) same_me
+      c.store_words.ensures.same.2
+
+  stored : RowStored c.args.row 16 c.args.words.now c.args.self.now.me.0.known_words
+      c.store_words.new.seat.me.0.known_words
+  stored = subst (λ (m : Me (Option lives.State) View). RowStored c.args.row 16 c.args.words.now
+      m.0.known_words c.store_words.new.seat.me.0.known_words) same_me c.store_words.ensures.stored
 
 pub returns-clause-writes : goal.returns-clause-writes
-returns-clause-writes g c value spelt = let k = c.loop-k.invariant in
-    subst (λ (z : Seated). Writes (content_of c.args.self.now.me.0) (content_of z.me.0) c.args.row
-    value) (sym k.kept)
-    (written c.args.self.now.me.0 c.args.row value c.args.words.now c.loop-k.self.me.0.known_words
-    c.requires.blank (search rules) spelt (let e : c.loop-k.k ≡ 16 =
-    (omega arith) in
-    subst (λ (n : ℕ). Stored c.args.row n c.args.words.now c.args.self.now.me.0.known_words
-    c.loop-k.self.me.0.known_words) e k.stored))
+returns-clause-writes g c value spelt =
+    row_written c.args.self.now.me c.store_words.new.seat.me c.args.row value c.args.words.now
+    (kept g c) c.requires.blank (search rules) spelt (stored g c)
 
 pub returns-clause-blank : goal.returns-clause-blank
-returns-clause-blank g c = blank_stays c.args.self.now.me.0 c.loop-k.self.me.0
-    (ap (λ (z : Seated). z.me.0) c.loop-k.invariant.kept) c.loop-k.invariant.stored.long
+returns-clause-blank g c =
+    blank_stays c.args.self.now.me.0 c.store_words.new.seat.me.0
+    (ap (λ (z : Me (Option lives.State) View). z.0) (kept g c)) (stored g c).long
 
 pub returns-clause-kept : goal.returns-clause-kept
-returns-clause-kept g c = let b =
-    (blank_parts c.args.self.now.me.0 c.args.row c.requires.blank).known in
-    beside_stays c.args.self.now c.loop-k.self c.args.row c.args.words.now c.loop-k.invariant.kept
-    (omega (arith, b)) (let e : c.loop-k.k ≡ 16 =
-    (omega arith) in
-    subst (λ (n : ℕ). Stored c.args.row n c.args.words.now c.args.self.now.me.0.known_words
-    c.loop-k.self.me.0.known_words) e c.loop-k.invariant.stored)
+returns-clause-kept g c =
+    let s = c.store_words.ensures.same in
+    let seat = c.store_words.new.seat in
+    let new : Seated = record { table = seat.table_id; id = seat.id; me = seat.me } in
+    let known = (blank_parts c.args.self.now.me.0 c.args.row c.requires.blank).known in
+    beside_stays c.args.self.now new c.args.row c.args.words.now
+    (same_seated (with_words seat.me.0.known_words c.args.self.now) seat.table_id seat.id seat.me
+    (s.0 ∙ ap (λ (z : Seated). z.table) c.self.view_is)
+    (s.1 ∙ ap (λ (z : Seated). z.id) c.self.view_is) (kept g c)) (omega (arith, known))
+    (stored g c)
 
-pub loop-k-init : goal.loop-k-init
-loop-k-init g c = search rules
+pub store_words-requires-clause-own : goal.store_words-requires-clause-own
+store_words-requires-clause-own g c = search rules
 
-pub bounds-words-k : goal.bounds-words-k
-bounds-words-k g c = search rules
+pub store_words-requires-clause-wide : goal.store_words-requires-clause-wide
+store_words-requires-clause-wide g c = search rules
 
-pub store_word-requires-clause-blank : goal.store_word-requires-clause-blank
-store_word-requires-clause-blank g c = search rules
+pub store_words-requires-clause-blank : goal.store_words-requires-clause-blank
+store_words-requires-clause-blank g c = search rules
 
-pub store_word-requires-clause-there : goal.store_word-requires-clause-there
-store_word-requires-clause-there g c = search rules
-
-pub offset_bounds-words-k : goal.offset_bounds-words-k
-offset_bounds-words-k g c = search rules
+pub invariant_of-self : goal.invariant_of-self
+invariant_of-self g c = search rules

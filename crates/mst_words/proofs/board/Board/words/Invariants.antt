@@ -1,13 +1,15 @@
 use Rattle.std.proofs.Common.{◌≡◌, ◌+◌, ◌<◌, ℕ, length, get_or}
 use Rattle.mst_words.specs.Records as records
-use Rattle.mst_words.proofs.seat.PassSeat.words.Given as goal
+use Rattle.mst_words.proofs.board.Board.words.Given as goal
 
 abbrev pub invariant-loop-k : goal.invariant-loop-k
 invariant-loop-k g l =
     record {
-      kept : l.self ≡ l.fn.self;
+      table : l.seat.table_id ≡ l.fn.seat.table_id;
+      id : l.seat.id ≡ l.fn.seat.id;
+      me : l.seat.me ≡ l.fn.seat.me;
       length : length l.words ≡ g.row.N;
       so_far : (j : ℕ)
-          → j < l.k → get_or l.words j 0 ≡ records.row l.fn.self.me.0.known_words l.row
+          → j < l.k → get_or l.words j 0 ≡ records.row l.fn.seat.me.0.known_words l.row
           (l.from + j);
     }
