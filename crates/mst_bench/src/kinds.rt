@@ -36,8 +36,8 @@ pub const KINDS: &[(Kind, &str)] = &[
     (Kind::Verify, "verify"),
 ];
 
-/// What lines call a migration of a full store. Those of `KINDS` are timed over all sizes, and at the
-/// greatest the rows do not suffice for two trees.
+/// What lines call a migration of a full store. Those of `KINDS` are timed over all sizes, and at
+/// the greatest the rows do not suffice for two trees.
 const MIGRATION: &str = "migrate";
 
 /// The kind with this name, and what lines call it.

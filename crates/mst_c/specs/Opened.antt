@@ -10,7 +10,8 @@ use Rattle.mst_c.specs.Formats.{format_named}
 abbrev pub Opened : ℕ → ℕ → List Hand → Type 0
 Opened format rows hands = (s : StoreId) × (format_named format ≡ Some s.format)
     × (s.rows ≡ rows) × (s.passes ≡ length hands)
-    × ((k : ℕ) (h : Hand) → k < length hands → (get_or hands k h).held ≡ Some (Free (new_pass s (k + 1))))
+    × ((k : ℕ) (h : Hand) → k < length hands
+    → (get_or hands k h).held ≡ Some (Free (new_pass s (k + 1))))
 
 -- the size that a store can have
 abbrev pub IsSize : ℕ → ℕ → Type 0

@@ -53,7 +53,8 @@ abbrev pub GetTold : Option State → List ℕ → List ℕ → ℤ → List ℕ
 GetTold None key room code room' hand = Nothing (negsuc 6) None room code room' hand
 GetTold (Some s) key room code room' hand =
     (¬ (IsKey key) → Nothing (negsuc 4) (Some s) room code room' hand)
-    × (IsKey key → (a : Option (List ℕ)) × (t : State) × (hand ≡ Some t) × Reads (λ _ m. map_get m key) s a t
+    × (IsKey key → (a : Option (List ℕ)) × (t : State) × (hand ≡ Some t)
+    × Reads (λ _ m. map_get m key) s a t
     × (code ≡ value_code (length room) a) × (room' ≡ room_after room a))
 
 -- -7 for an empty hand, -5 for what is no key, -6 for what is no value, else what the pass did
@@ -62,8 +63,10 @@ PutTold None key value room code room' hand = Nothing (negsuc 6) None room code 
 PutTold (Some s) key value room code room' hand =
     (¬ (IsKey key) → Nothing (negsuc 4) (Some s) room code room' hand)
     × (IsKey key → ¬ (IsValue value) → Nothing (negsuc 5) (Some s) room code room' hand)
-    × (IsKey key → IsValue value → (r : Result (Option (List ℕ)) Unwritten) × (t : State) × (hand ≡ Some t)
-    × Writes (Put key value) s r t × (code ≡ write_code (length room) r) × (room' ≡ write_room room r))
+    × (IsKey key → IsValue value → (r : Result (Option (List ℕ)) Unwritten) × (t : State)
+    × (hand ≡ Some t)
+    × Writes (Put key value) s r t × (code ≡ write_code (length room) r)
+    × (room' ≡ write_room room r))
 
 abbrev pub done_code : Bool → ℤ
 done_code true = pos 0
@@ -92,7 +95,8 @@ RootTold (Some s) room code room' hand =
     × (32 ≤ length room → (digest : List ℕ) × (t : State) × (hand ≡ Some t) × Reads root s digest t
     × (code ≡ pos 32) × (room' ≡ digest ++ drop 32 room))
 
--- the answer to a question for a proof: none where memory was refused, and a free pass has asked then
+-- the answer to a question for a proof: none where memory was refused, and a free pass has asked
+-- then
 abbrev pub Proves : List ℕ → State → Option (List ℕ) → State → Type 0
 Proves key s None t = Forgets s t
 Proves key s (Some proof) t = Reads (λ f m. proof_text f m key) s proof t
@@ -109,11 +113,13 @@ size_after size (Some bytes) = length bytes
 
 -- -7 for an empty hand, -5 for what is no key, else the answer of the pass
 abbrev pub ProveTold : Option State → List ℕ → List ℕ → ℕ → ℤ → List ℕ → ℕ → Option State → Type 0
-ProveTold None key room size code room' size' hand = Nothing (negsuc 6) None room code room' hand × (size' ≡ size)
+ProveTold None key room size code room' size' hand = Nothing (negsuc 6) None room code room' hand
+    × (size' ≡ size)
 ProveTold (Some s) key room size code room' size' hand =
     (¬ (IsKey key) → Nothing (negsuc 4) (Some s) room code room' hand × (size' ≡ size))
     × (IsKey key → (r : Option (List ℕ)) × (t : State) × (hand ≡ Some t) × Proves key s r t
-    × (code ≡ bytes_code (length room) r) × (room' ≡ room_after room r) × (size' ≡ size_after size r))
+    × (code ≡ bytes_code (length room) r) × (room' ≡ room_after room r)
+    × (size' ≡ size_after size r))
 
 -- -7 for an empty hand, -5 for what is no key, else what the pass did
 abbrev pub RemoveTold : Option State → List ℕ → List ℕ → ℤ → List ℕ → Option State → Type 0
@@ -179,12 +185,15 @@ key_size_after keys values size (Some (key, value)) =
     else if nat_lt (length values) (length value) then size else length key
 
 -- -7 for an empty hand, -5 for what is no bound, else the answer of the pass
-abbrev pub NextTold : Option State → List ℕ → List ℕ → ℕ → List ℕ → ℤ → List ℕ → ℕ → List ℕ → Option State → Type 0
+abbrev pub NextTold : Option State → List ℕ → List ℕ → ℕ → List ℕ → ℤ → List ℕ → ℕ → List ℕ
+    → Option State → Type 0
 NextTold None key keys size values code keys' size' values' hand =
     Nothing (negsuc 6) None values code values' hand × (keys' ≡ keys) × (size' ≡ size)
 NextTold (Some s) key keys size values code keys' size' values' hand =
-    (¬ (IsBound key) → Nothing (negsuc 4) (Some s) values code values' hand × (keys' ≡ keys) × (size' ≡ size))
+    (¬ (IsBound key) → Nothing (negsuc 4) (Some s) values code values' hand × (keys' ≡ keys)
+    × (size' ≡ size))
     × (IsBound key → (pair : Option Pair) × (t : State) × (hand ≡ Some t)
-    × Reads (λ _ m. map_next m (bound_of key)) s pair t × (code ≡ pair_code (length keys) (length values) pair)
+    × Reads (λ _ m. map_next m (bound_of key)) s pair t
+    × (code ≡ pair_code (length keys) (length values) pair)
     × (keys' ≡ key_room_after keys values pair) × (size' ≡ key_size_after keys values size pair)
     × (values' ≡ value_room_after keys values pair))

@@ -39,9 +39,9 @@ mod telling;
 use hand::Hand;
 use std::alloc::Global;
 
-/// Opens a store of the empty map in the format 1 or 2, with so many rows, and puts a pass into each
-/// of the hands. What a hand held before is closed. 0; -3 for another format; -10; -9. After another
-/// answer than 0 all hands are empty.
+/// Opens a store of the empty map in the format 1 or 2, with so many rows, and puts a pass into
+/// each of the hands. What a hand held before is closed. 0; -3 for another format; -10; -9. After
+/// another answer than 0 all hands are empty.
 #[unsafe(no_mangle)]
 pub extern "C" fn mst_open(alloc: Global, format: u32, rows: u32, hands: &mut [Hand]) -> i32
     ensures opened { result ≡ pos 0 → Opened format rows hands.new }
@@ -98,7 +98,8 @@ pub extern "C" fn mst_prove(
     room: &mut [u8],
     length: &mut usize,
 ) -> i32
-    ensures told { ProveTold hand.old.held key.now room.old length.old result room.new length.new hand.new.held }
+    ensures told { ProveTold hand.old.held key.now room.old length.old result room.new
+        length.new hand.new.held }
 {
     telling::prove(alloc, hand, key, room, length)
 }

@@ -182,7 +182,8 @@ pub(crate) fn prove(
     room: &mut [u8],
     size: &mut usize,
 ) -> i32
-    ensures told { ProveTold hand.old.held key.now room.old size.old result room.new size.new hand.new.held }
+    ensures told { ProveTold hand.old.held key.now room.old size.old result room.new
+        size.new hand.new.held }
 {
     let Some(mut held) = take(alloc, hand) else {
         return NO_HAND;

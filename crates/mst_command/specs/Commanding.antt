@@ -181,8 +181,9 @@ IsSized words (Load size) = NamesLoad words size
 IsSized words task = Unit {0}
 
 -- The words ask for this task: some word for help, or the first for the version, in no plain form,
--- with a text that they may be told, and else the first word behind the program's name for the rest.
--- Neither a replay nor a load has a format, so that their words ask for none that there is not.
+-- with a text that they may be told, and else the first word behind the program's name for the
+-- rest. Neither a replay nor a load has a format, so that their words ask for none that there is
+-- not.
 abbrev pub AsksFor : List (Bor (List ℕ)) → Task → Type 0
 AsksFor words (Help text) =
     AskText words × ¬ (IsPlain words) × IsTold words (string_bytes text)

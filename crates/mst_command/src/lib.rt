@@ -14,7 +14,8 @@
 //! [`plain_task`] reads words of a plain form, where each option stands once and in full, and
 //! [`execute`] does a task: it answers a script, judges a proof, replays the core of pins, runs a
 //! load, or writes a text. `specs/Programs.antt` says what each task reads and writes,
-//! `specs/Commanding.antt` what words ask for and how a program ends early, `specs/Options.antt` what they say by options.
+//! `specs/Commanding.antt` what words ask for and how a program ends early, `specs/Options.antt`
+//! what they say by options.
 //!
 //! Words of any other form are for `mst_program`, which reads them by `clap`. Nothing here takes
 //! the terminal or the program's own arguments.

@@ -116,9 +116,9 @@ fn show<W: Sink>(out: &mut W, text: &str) -> Result<Ending, Refusal>
 ///
 /// `Shape` comes for a size out of the store's limits, for an unknown format and for numbers that a
 /// load may not have, `BadRoot` and then `BadKey` for words that spell no root digest and no key,
-/// all before anything is read or run. `Memory` comes where a growth was refused or a thread could not be started:
-/// nothing was written then, and nothing read but a proof. `Device` comes where a read or a write
-/// failed.
+/// all before anything is read or run. `Memory` comes where a growth was refused or a thread could
+/// not be started: nothing was written then, and nothing read but a proof. `Device` comes where a
+/// read or a write failed.
 pub fn execute<R, A: Allocator + Copy, G: Gate + Sync, S: Source, W: Sink>(
     rt: &R,
     alloc: A,

@@ -38,8 +38,8 @@ fn digest_at<R: Rows>(rows: &mut R, link: u32) -> Option<[u8; 32]>
     }
 }
 
-/// Writes the text of the node behind the head: at most 37 bytes, and at most 131 for each entry. It
-/// asks at once for 64 bytes an entry, which most texts do not exceed.
+/// Writes the text of the node behind the head: at most 37 bytes, and at most 131 for each entry.
+/// It asks at once for 64 bytes an entry, which most texts do not exceed.
 fn write_node<R: Rows, A: Allocator>(
     rows: &mut R,
     head: &HeadLinks,
@@ -149,8 +149,8 @@ fn push_answer<R: Rows, A: Allocator>(
 /// The proof has fewer than 2^32 bytes. `Memory` comes only where a growth was refused, and changes
 /// nothing.
 ///
-/// It reads the nodes on the way to the key, at most 65 in format 1 and 129 in format 2: of each all
-/// entries with their values, and the digests of its children. In format 2 it then looks up the
+/// It reads the nodes on the way to the key, at most 65 in format 1 and 129 in format 2: of each
+/// all entries with their values, and the digests of its children. In format 2 it then looks up the
 /// key's value.
 pub fn prove_below<R: Rows, A: Allocator + Copy>(
     alloc: A,

@@ -28,11 +28,12 @@ abbrev pub said_of : Format → List ℕ → List ℕ → Result (List ℕ) From
 said_of format root k (Ok proof) = said (verdict format root k proof)
 said_of format root k (Err e) = NotHex
 
--- what is said of the text of a proof in a format, for a root digest and a key: its length is tested first, then
--- its digits, then the proof that they spell
+-- what is said of the text of a proof in a format, for a root digest and a key: its length is
+-- tested first, then its digits, then the proof that they spell
 abbrev pub report_of : Format → List ℕ → List ℕ → List ℕ → Report
 report_of format root k text =
-    if nat_lt limit (length text) then Long else said_of format root k (decode_of (without_newline text))
+    if nat_lt limit (length text) then Long
+    else said_of format root k (decode_of (without_newline text))
 
 -- ---- as it is written
 

@@ -79,8 +79,8 @@ HasNoTree store to h text = (format_after store.format h ≢ to) × (length h < 
 
 -- ---- writes and counts
 
--- The event is added, and the answer is what the history replies: the value that its key had, or the
--- format that was left. There is a next version, and room.
+-- The event is added, and the answer is what the history replies: the value that its key had, or
+-- the format that was left. There is a next version, and room.
 pub record Adds (store : StoreId) (e : Event) (h : History) (text : List ℕ)
     (new : History) : Type 0 where
   pub answer : text ≡ line_of (reply_words (reply store.format h e))

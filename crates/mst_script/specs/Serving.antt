@@ -97,8 +97,8 @@ abbrev pub is_unpin : Command → Bool
 is_unpin Unpin = true
 is_unpin _ = false
 
--- Of a proof that a map gives for a key in a format, whichever these are, the text is the line of the
--- top node of the map's tree; or memory was refused.
+-- Of a proof that a map gives for a key in a format, whichever these are, the text is the line of
+-- the top node of the map's tree; or memory was refused.
 abbrev pub Tops : List ℕ → List ℕ → Type 0
 Tops proof text = (f : Format) (m : List Pair) (k : List ℕ) → proof ≡ proof_text f m k
     → (text ≡ line_of (top_words (tree f m))) ⊎ LacksMemory text

@@ -18,8 +18,8 @@ abbrev pub format_pinned : View → Format
 format_pinned v = format_after v.format v.pinned_history
 
 -- The record is pinned. The map of the history at the pin stands at the link, on rows that the pass
--- may read, its root digest and the number of its format stand in the record, and the version is the
--- number of events.
+-- may read, its root digest and the number of its format stand in the record, and the version is
+-- the number of events.
 pub record HasPinned (at : PinnedRoot) (v : View) : Type 0 where
   pub pin : v.pin ≡ Some at.pinned
   pub there : at.pinned < v.passes + 2

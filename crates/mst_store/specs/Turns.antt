@@ -72,12 +72,12 @@ pub record LeavesFree (first : Format) (lives : List Life)
   pub as_many : length found + 1 ≡ kept
   pub left : free_count lives + held first log (length log ∷ found) ≡ rows
 
--- The map of the whole history stands at the root, in the format that the history leaves, on exactly
--- the rows that the current version reaches, and no write is under way. The rows that may be written are free, and no others: all
--- rows but those that the versions together reach that are kept: the current one and those of the
--- records that were found pinned, each of which stood for a map. These are fewer than the passes,
--- and their number is known; what they hold is not free, and all else is. The age of each row of
--- the map is known
+-- The map of the whole history stands at the root, in the format that the history leaves, on
+-- exactly the rows that the current version reaches, and no write is under way. The rows that may
+-- be written are free, and no others: all rows but those that the versions together reach that are
+-- kept: the current one and those of the records that were found pinned, each of which stood for a
+-- map. These are fewer than the passes, and their number is known; what they hold is not free, and
+-- all else is. The age of each row of the map is known
 pub record HasTurn {A : Type 0} (t : Turn A) (m : Seat) : Type 0 where
   pub holds : HoldsDesk t m
   pub settled : IsSettled t.desk
@@ -158,8 +158,8 @@ IsNotBegun Busy m m' = Misses m m'
 IsNotBegun VersionsSpent m m' = Spent m m'
 
 -- A change is made, and not yet published: the map of the history with the event stands at a root,
--- in the format that the event leaves, on exactly the rows that the version to come reaches, and the
--- age of each is known
+-- in the format that the event leaves, on exactly the rows that the version to come reaches, and
+-- the age of each is known
 pub record HasMade {A : Type 0} (t : Turn A) (root : Root) (format : Format)
     (e : Event) (m : Seat) : Type 0 where
   pub holds : HoldsDesk t m

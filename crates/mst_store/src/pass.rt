@@ -166,7 +166,8 @@ impl<'a, A: Allocator + Copy> Pass<'a, A> {
     pub fn rows(&mut self) -> Result<Option<u32>, Busy>
         ensures looks { OnOk result (Looks self.old self.new) }
         ensures some { IfOk result
-            (λ found. IfSome found (λ n. n ≡ rows_of (format_seen self.new) (after self.new.seen))) }
+            (λ found. IfSome found
+            (λ n. n ≡ rows_of (format_seen self.new) (after self.new.seen))) }
         ensures alone { IfOk result (λ found. self.old.store.passes ≡ 1 → IsSome found) }
         ensures exact { IfOk result (λ found. IsSome found ↔ (self.new.found ≡ [])) }
         ensures found { OnOk result

@@ -84,7 +84,8 @@ pub(crate) fn format<A: Allocator + Copy>(seat: &mut PassSeat<'_, A>, at: &Pinne
 /// The root digest of the pinned version's map: four loads.
 pub(crate) fn root<A: Allocator + Copy>(seat: &mut PassSeat<'_, A>, at: &PinnedRoot) -> [u8; 32]
     requires pinned { HasPinned at.now seat.old.me.0 }
-    ensures found { result ≡ text.root (format_pinned seat.old.me.0) (after seat.old.me.0.pinned_history) }
+    ensures found { result
+        ≡ text.root (format_pinned seat.old.me.0) (after seat.old.me.0.pinned_history) }
     ensures same { seat.new ≡ seat.old }
 {
     read_digest(seat, at.pinned)

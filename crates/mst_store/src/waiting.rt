@@ -26,7 +26,8 @@ impl<'a, A: Allocator + Copy> Pass<'a, A> {
         value: &Value,
     ) -> Result<Option<Value>, ChangeFault>
         ensures ok { IfOk result
-            (λ old. WroteAfter (made_by self.old (Put key.now value.now)) self.old (had old) self.new) }
+            (λ old. WroteAfter (made_by self.old (Put key.now value.now)) self.old (had old)
+            self.new) }
         ensures err { IfErr result
             (λ fault. RefusesAfter fault (Put key.now value.now) self.old self.new) }
     {

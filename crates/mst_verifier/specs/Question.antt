@@ -17,7 +17,8 @@ format_named number = if number == 1 then Some One else if number == 2 then Some
 
 -- a root digest has 32 bytes, a key has 1 to 32; the first that is not so is told, else what the
 -- proof comes to
-abbrev pub answer_in : Option TreeFormat → List ℕ → List ℕ → List ℕ → Result (Option (List ℕ)) Refusal
+abbrev pub answer_in : Option TreeFormat → List ℕ → List ℕ → List ℕ
+    → Result (Option (List ℕ)) Refusal
 answer_in None root key proof = Err Format
 answer_in (Some format) root key proof =
     if length root == 32

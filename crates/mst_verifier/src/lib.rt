@@ -31,9 +31,9 @@ pub use laws::{code_laws, top_laws, worked_codes};
 use mst_node::top_text;
 use telling::tell;
 
-/// What a proof of format 1 or 2 shows of a key in the map with this root digest: the length of the key's value,
-/// which then stands first in the room, or the number of another answer. The room keeps all other
-/// bytes.
+/// What a proof of format 1 or 2 shows of a key in the map with this root digest: the length of the
+/// key's value, which then stands first in the room, or the number of another answer. The room
+/// keeps all other bytes.
 #[unsafe(no_mangle)]
 pub extern "C" fn mst_verify(
     format: u32,

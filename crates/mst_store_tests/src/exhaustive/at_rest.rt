@@ -2,8 +2,8 @@
 //! with migrations, over stores of 4 to 8 rows, each compared with plain sets of versions.
 //!
 //! A call is one of four of a pass: it pins, or ends its pin; it puts a first or a second value at
-//! the key a; it counts the rows. A fifth one migrates to the other format. A pinned pass leaves out
-//! all but the first.
+//! the key a; it counts the rows. A fifth one migrates to the other format. A pinned pass leaves
+//! out all but the first.
 use crate::fixtures::{is_value, other, still_gets};
 use crate::stores::{Seat, dealt, opened};
 use mst_key::{Format, Key, Value};

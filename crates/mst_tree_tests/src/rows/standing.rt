@@ -60,7 +60,8 @@ impl<A: Allocator + Copy> StandingMap<A> {
         tree: Option<&Node<B>>,
         size: u32,
     ) -> Result<StandingMap<A>, Memory>
-        requires tree { (m : List Pair) × IsMap m × IsTreeOf One (tree_at One (option_copied tree)) m }
+        requires tree { (m : List Pair) × IsMap m
+            × IsTreeOf One (tree_at One (option_copied tree)) m }
         requires some { 0 < size }
         requires few { size ≤ 65535 }
     {

@@ -35,5 +35,5 @@ returns-clause-made g c =
     subst (λ (z : Seated). Made (Migrate c.args.to) t s.me c.in-Ok.root (was t.format)
     (record t { desk = c.fell.new.desk }) z.me) (sym c.fell.ensures.same)
     (moved_made t s c.plant.new.rows h c.args.to c.plant.new.desk c.in-Ok.root done.takes done.keeps
-    w c.fell.new.desk c.fell.ensures.fells c.requires.other done.kept c.requires.open
+    w c.fell.new.desk c.fell.ensures.fells c.requires.other done.beside.1 c.requires.open
     (done.count m c.requires.tree))

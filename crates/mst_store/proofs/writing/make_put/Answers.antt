@@ -15,7 +15,7 @@ put-requires g c =
     }
 
 pub returns-clause-same : goal.returns-clause-same
-returns-clause-same g c = same_seat c.args.seat.now c.put.new.rows c.put.ensures.kept
+returns-clause-same g c = same_seat c.args.seat.now c.put.new.rows c.put.ensures.beside.1
 
 pub returns-clause-made : goal.returns-clause-made
 returns-clause-made g c =
@@ -28,7 +28,7 @@ returns-clause-made g c =
     let n = changed m change in
     let z = c.put.new.rows in
     let d = c.put.new.desk in
-    change_made t s z h c.in-Ok.root (had c.in-Ok.old) d change done.kept c.requires.open
+    change_made t s z h c.in-Ok.root (had c.in-Ok.old) d change done.beside.1 c.requires.open
     (done.stands m h.stands) (λ n stands. done.changes m n h.stands stands)
     (ap (λ (o : Option (List ℕ)). had o) (done.value m h.stands)) (done.cost m h.stands)
     (λ stands. key_aged t s.me h (content_of z.me.0) c.in-Ok.root d n stands

@@ -4,9 +4,9 @@
 //! The rows are of 300 pairs in three layers, with the numbers in three bytes as keys. The counts
 //! were worked out apart, from the layers of these keys (Python's hashlib): the head of each node
 //! that is met, its entries up to the one that ends the search in it, and the value of each pair of
-//! the answer. An entry whose way was asked is read once more where its key or its links are needed:
-//! the entry of a next pair and that of the bound, and of a range that has a lower bound the first
-//! entry that is not below it in each node on the way whose pairs are added.
+//! the answer. An entry whose way was asked is read once more where its key or its links are
+//! needed: the entry of a next pair and that of the bound, and of a range that has a lower bound
+//! the first entry that is not below it in each node on the way whose pairs are added.
 use crate::pairs::{key_of, numbered, numbered_key};
 use crate::rows::counted::Reads;
 use crate::rows::standing::StandingMap;

@@ -6,8 +6,8 @@ use Rattle.mst_arena.specs.declared.life.Life.TheVariants.{Free}
 use Rattle.mst_path.proofs.lemmas.rows.Taking.{within_length}
 use Rattle.mst_tree_tests.proofs.rows.planting.planted.Goals as goal
 
-pub plant-root-requires-clause-blank : goal.plant-root-requires-clause-blank
-plant-root-requires-clause-blank g c k is =
+pub plant-root-requires-clause-free : goal.plant-root-requires-clause-free
+plant-root-requires-clause-free g c k is =
     let lives : length c.in_ok-desk.desk.lives ≡ c.args.size =
     ap (λ (s : State). length s.lives) c.in_ok-desk.ensures.ok ∙ length-replicate c.args.size
     Free in

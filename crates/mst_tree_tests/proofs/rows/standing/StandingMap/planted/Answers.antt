@@ -32,4 +32,4 @@ invariant_of-result g c =
     ready_after places c.plant.new.rows s c.plant.new.desk c.publish.new.desk c.in-Ok.root m stands
     change c.publish.ensures.published
     (within_new s places c.args.size (lives_of s c.args.size is) c.in_ok-rows.ensures.ok)
-    c.in-Ok.ensures.blank
+    c.in-Ok.ensures.beside.0

@@ -13,4 +13,4 @@ invariant_of-self-2 g c =
     let change = changes_of s c.remove.new.desk (numbers one.1) (numbers new) all.taken all.killed
     all.others one.2 e.versions in
     ready_after places c.remove.new.rows s c.remove.new.desk c.publish.new.desk c.in-Ok.done.0 _ new
-    change c.publish.ensures.published c.self.invariant.within e.blank
+    change c.publish.ensures.published c.self.invariant.within e.beside.0
