@@ -45,7 +45,7 @@ pub trait Rows {
         ensures kept { kept self.new ≡ kept self.old };
 
     /// Copies the entry at a number into a blank row, with another child and another next. It
-    /// answers the entry's value, so that whoever needs it does not load its words once more.
+    /// returns the entry's value, so that a caller does not load its words once more.
     fn copy_entry(&mut self, from: u32, to: u32, child: u32, next: u32) -> Value
         requires there { IsSome (part_at entry_links (content self.old) from) }
         requires blank { IsTrue (blank self.old to) }

@@ -88,7 +88,7 @@ impl<A: Allocator + Copy> Board<A> {
         }
     }
 
-    /// Copies the words of a row into a blank row, with another child and another next. It answers
+    /// Copies the words of a row into a blank row, with another child and another next. It returns
     /// the words of the copy.
     ///
     /// Each word is stored as soon as it is loaded, so no list of them is filled first and read

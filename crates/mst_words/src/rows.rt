@@ -117,7 +117,7 @@ impl<'a, A: Allocator + Copy> PassSeat<'a, A> {
         self.board.store_words(&mut self.token, row, words);
     }
 
-    // Copies an entry's words into a blank row, with another child and another next. It answers
+    // Copies an entry's words into a blank row, with another child and another next. It returns
     // the words of the copy.
     fn copy_words(&mut self, from: u32, to: u32, child: u32, next: u32) -> [u64; ROW_WORDS]
         requires readable { may_read self.old.me.0 from ≡ true }
