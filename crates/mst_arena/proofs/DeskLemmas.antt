@@ -85,7 +85,7 @@ module _ (current : ℕ) (versions : List ℕ) (lives : List Life) (free : List 
   not_free_life r x at taken = ap (λ (f : List Bool). slice_get f r) desk.free_rows
       ∙ slice_get-map is_free lives r ∙ ap (option_map is_free) at ∙ ap Some taken
 
-  -- the row that dies comes to the list
+  -- the row that dies is added to the list
   pub desk_kill : (r b d : ℕ) → slice_get lives r ≡ Some (Born b) → IsDesk current versions
       (slice_set lives r (Dead b d)) free (dead ++ r ∷ []) held last dc hc
   desk_kill r b d at =
@@ -228,7 +228,7 @@ kept_reached live lives new held is lists r x at some =
 module _ (current : ℕ) (versions : List ℕ) (lives : List Life) (free : List Bool)
     (dead held last : List ℕ) (dc hc : ℕ)
     (desk : IsDesk current versions lives free dead held last dc hc) where
-  -- a sweep leaves each row alone that it does not look at
+  -- a sweep leaves alone each row that it does not look at
   pub stay_but : (live dead' held' : List ℕ)
       → ((r : ℕ) → times r (dead' ++ held') ≡ times r (dead ++ held))
       → ((held' ≡ [])

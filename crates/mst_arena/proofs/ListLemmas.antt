@@ -73,7 +73,7 @@ lists_leave is lives r x y xs ys at was will lists =
     go true n m e = rw (was, will) (omega arith)
     go false n m e = omega arith
 
--- a row comes to the end of the list
+-- a row is added at the end of the list
 pub lists_come : (is : Life → Bool) (lives : List Life) (r : ℕ) (x y : Life) (xs : List ℕ)
     → slice_get lives r ≡ Some x → is x ≡ false → is y ≡ true → Lists is lives xs
     → Lists is (slice_set lives r y) (xs ++ r ∷ [])

@@ -14,7 +14,7 @@ use Rattle.mst_arena.specs.declared.life.Life.{Life}
 use Rattle.mst_arena.specs.Lives.{reaches_life}
 use Rattle.mst_arena.specs.Lists.{is_older, AllReached, AllOlder}
 
--- where the versions rise, one that is not the newest stands in front of the last
+-- if the versions rise, one that is not the newest stands in front of the last
 pub older_in_front : (P : ℕ → Bool) (xs : List ℕ) → IsNonDecreasing xs
     → list_any (λ v. P v && is_older xs v) xs ≡ true → list_any P (take (length xs - 1) xs) ≡ true
 older_in_front P xs rising e = found (Any-from_list_any (λ v. P v && is_older xs v) xs e)

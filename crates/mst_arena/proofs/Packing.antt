@@ -91,7 +91,7 @@ bytes_back n bytes all le = ext_get_or 0 _ bytes
     (omega arith)
     ∙ byte_back n bytes i all (omega arith))
 
--- the same, where more bytes were read than are of the list
+-- the same, if more bytes were read than the list has
 pub front_back : (n m : ℕ) (bytes : List ℕ) → IsBytes bytes → length bytes ≤ m → m ≤ 8 * n
     → take (length bytes) (map (byte_of_words (packed n bytes)) (range_with_len 0 m)) ≡ bytes
 front_back n m bytes all le few = take-map-range_with_len (byte_of_words (packed n bytes)) 0 m

@@ -63,7 +63,7 @@ died b d v le = go (nat_le b v) (nat_lt v d) refl
     go true false e = refl
     go false false e = refl
 
--- ---- who reaches a row that was born
+-- ---- which versions reach a row that was born
 
 pub born_on : (b v : ℕ) → b ≤ v → reaches_life (Born b) v ≡ true
 born_on b v le = grind (arith, nat_tests)

@@ -256,7 +256,7 @@ ReadsValue words v = (all : List ℕ) → slice_index words 3 ≡ slice_index al
 is_some_of : {A : Type 0} (o : Option A) (x : A) → o ≡ Some x → IsSome o
 is_some_of o x e = cc
 
--- what an answer says of each list of sixteen words that has the words which were read
+-- what a result says of each list of sixteen words that has the words which were read
 abbrev pub Reads : {A : Type 0} → (Row → Option A) → ℕ → ℕ → List ℕ → Option A → Type 0
 Reads part a b words o = (all : List ℕ) → words ≡ slice_range all a b → IsSome (part_in part all)
     → part_in part all ≡ o

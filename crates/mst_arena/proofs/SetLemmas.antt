@@ -157,7 +157,7 @@ module _ (rows count at : ℕ) (words sums : List ℕ) (set : IsSet rows count a
   set_bit_flag row is = flag_at rows words row (bit_there row is) ∙ ap (λ (x : ℕ). Some (eqb x 1))
       is
 
-  -- where all words are 0, no row is in the set
+  -- if all words are 0, no row is in the set
   pub set_none : ((w : ℕ) → slice_index words w ≡ 0) → count_true (flags rows words) ≡ 0
   set_none none =
       count_none (flags rows words)

@@ -167,8 +167,8 @@ from_exact words o exact some = go (row_in words) refl some
         let parts : IsRow row × HasBytes row × (words_of row ≡ words) = words_of_row words row e in
         e ∙ sym (exact row parts.0 parts.1 parts.2)
 
--- words spell none where the only row that they may be of is none, or is not within its limits, or
--- has other words
+-- words spell no row if the only row that they may be of is none, is not within its limits, or has
+-- other words
 pub none_found : (words : List ℕ) (o : Option Row) → (IsSome (row_in words) → row_in words ≡ o)
     → ((row : Row) → o ≡ Some row → IsRow row → words_of row ≡ words → ⊥) → None ≡ row_in words
 none_found words o exact other = go (row_in words) refl exact

@@ -64,7 +64,7 @@ mutual
       (all-back _ (rows_of format q) (chain_rows format d) b.1) in
       cc
 
--- ---- what stands stays where its rows stay
+-- ---- what stands stays if its rows stay
 
 mutual
   pub placed_frame : (format : Format) (old new : Content) (p : Placed)

@@ -27,7 +27,7 @@ from_links k (Some (Entry child next key value)) e is =
     let fields : record { child = child; next = next; key = key } ≡ e = cc in
     ap (λ (x : EntryLinks). Some (way_at k x.child x.next x.key)) fields
 
--- the way that was answered is that from the entry
+-- the way that was returned is that from the entry
 pub way_is : (content : Content) (row : ℕ) (k : List ℕ) (e : EntryLinks) (w : Way)
     → part_at entry_links content row ≡ Some e → part_at (entry_way k) content row ≡ Some w
     → way_at k e.child e.next e.key ≡ w

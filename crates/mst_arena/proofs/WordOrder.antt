@@ -1,4 +1,4 @@
--- The order of two keys is that of their words, and where these are the same, of their lengths.
+-- The order of two keys is that of their words, and if these are the same, of their lengths.
 use Rattle.std.proofs.Common.{◌≡◌, ℕ, zero, suc, ◌+◌, ◌%◌, ◌<◌, ◌≤◌, List, [], ◌∷◌, length, refl, sym, ◌∙◌, ap, arith, Ordering, Less, Equal, Greater, nat_cmp}
 use Rattle.std.specs.Prelude.{slice_index}
 use Rattle.std.specs.Ordering.{ordering_then}

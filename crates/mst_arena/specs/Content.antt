@@ -7,7 +7,7 @@ use Rattle.mst_arena.specs.declared.row.Row.TheVariants.{Entry, Head}
 abbrev pub Content : Type 0
 Content = ℕ → Option Row
 
--- a part of the row at a number, where there is a row that has this part
+-- a part of the row at a number, if there is a row that has this part
 abbrev pub part_at : {A : Type 0} → (Row → Option A) → Content → ℕ → Option A
 part_at part content row = option_and_then part (content row)
 

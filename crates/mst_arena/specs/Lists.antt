@@ -27,11 +27,11 @@ times r (x ∷ xs) = bit (eqb r x) + times r xs
 abbrev pub In : ℕ → List ℕ → Type 0
 In r rows = 0 < times r rows
 
--- the list has a row once if its life is of the kind, and else not
+-- the list has a row once if its life is of the kind, and otherwise not
 abbrev pub Lists : (Life → Bool) → List Life → List ℕ → Type 0
 Lists is lives rows = (r : ℕ) → times r rows ≡ bit (is_at is (slice_get lives r))
 
--- a sweep leaves each row alone that is not in the list
+-- a sweep leaves alone each row that is not in the list
 abbrev pub StayBut : List ℕ → List Life → List ℕ → Type 0
 StayBut live lives rows =
     (r : ℕ) (x : Life) → slice_get lives r ≡ Some x → times r rows ≡ 0 → swept_life live x ≡ x

@@ -14,13 +14,13 @@ use Rattle.mst_arena.specs.declared.sought.Way.TheVariants.{Child, Here, Next}
 abbrev pub way_at : List ℕ → ℕ → ℕ → List ℕ → Way
 way_at k child next key = by_order (key_cmp k key) (Child child) Here (Next next)
 
--- the way to a key from a row, where it is an entry
+-- the way to a key from a row, if it is an entry
 abbrev pub entry_way : List ℕ → Row → Option Way
 entry_way k (Entry child next key value) = Some (way_at k child next key)
 entry_way k (Head layer count first tail digest) = None
 
 -- the order of a key and of that whose length and bytes stand in words 3 to 7: the first words that
--- differ decide, and else the lengths
+-- differ decide, or the lengths if no words differ
 abbrev pub words_order : List ℕ → (ℕ → ℕ) → Ordering
 words_order k word =
     ordering_then (ordering_then (ordering_then (ordering_then

@@ -57,7 +57,7 @@ head_in words = Head
     (slice_index words 4)
     (bytes_in (slice_range words 5 9))
 
--- the only row that words may be of: an entry where the first of them is 1, and else a head
+-- the only row that words may be of: an entry if the first of them is 1, and otherwise a head
 abbrev pub candidate : List ℕ → Row
 candidate words = if slice_index words 0 == 1 then entry_in words else head_in words
 
@@ -71,13 +71,13 @@ has_limits (Head layer count first tail digest) =
     nat_le layer 128 && nat_lt 0 count && nat_le count 65534
     && nat_lt 0 first && nat_le first 65535 && nat_le tail 65535 && length digest == 32
 
--- the row that sixteen words spell: the only one that they may be of, where it is within its limits
+-- the row that sixteen words spell: the only one that they may be of, if it is within its limits
 -- and has exactly these words
 unfoldable pub row_in : List ℕ → Option Row
 row_in words = if has_limits (candidate words) && same_words (words_of (candidate words)) words
     then Some (candidate words) else None
 
--- a part of the row that words spell, where they spell one that has this part
+-- a part of the row that words spell, if they spell one that has this part
 abbrev pub part_in : {A : Type 0} → (Row → Option A) → List ℕ → Option A
 part_in part words = option_and_then part (row_in words)
 

@@ -11,7 +11,7 @@ fn set_bit(words: &mut [u64], index: usize)
     words[index / 64] |= 1 << (index % 64);
 }
 
-/// Clears a bit, and answers whether its word is now 0.
+/// Clears a bit, and returns whether its word is now 0.
 fn clear_bit(words: &mut [u64], index: usize) -> bool
     requires there { index < 64 * length words.old }
     ensures written { BitWritten words.old words.new index 0 }
@@ -62,7 +62,8 @@ fn word_in_use(words: &[u64], summary: &[u64], at: usize) -> Option<usize>
     }
 }
 
-/// A bit that is set: the lowest of word `at`, and where that is 0, of the next word that is not.
+/// A bit that is set: the lowest of word `at`, or if that is 0, of the next word that is not.
+/// Returns `None` if all words are 0.
 pub fn bit_in_use(words: &[u64], summary: &[u64], at: usize) -> Option<usize>
     requires sums { Sums words.now summary.now }
     requires few { length words.now < 2 ^ 32 }

@@ -19,13 +19,13 @@ const LAST_VERSION: u64 = 9_223_372_036_854_775_807;
 #[error("version numbers are spent")]
 pub struct VersionsSpent;
 
-/// Which rows are free, and from which version to which the others are reached; which record is the
-/// current one, and which version each record holds.
+/// Which rows are free, and from which version to which the others are reached. It also knows which
+/// record is the current one, and which version each record holds.
 ///
-/// Version v reaches a row that was born with version b, and did not die, exactly where b <= v, and
-/// one that died with version d exactly where b <= v < d. A write takes rows for the version to
-/// come, [`Desk::next_version`], and kills rows of the current one; then it advances. `life_laws`
-/// says what that does to the rows that a version reaches.
+/// Version v reaches a row that was born with version b, and did not die, exactly if b <= v, and
+/// one that died with version d exactly if b <= v < d. A write takes rows for the version to come,
+/// [`Desk::next_version`], and kills rows of the current one; then it advances. `life_laws` says
+/// what that does to the rows that a version reaches.
 #[derive(Drop)]
 pub struct Desk<A: Allocator> {
     current: u32,
@@ -82,7 +82,7 @@ impl<A: Allocator + Copy> Desk<A> {
     /// A desk with so many rows, 1 to 65,535, all of them free, and so many records, 2 to 34.
     /// Record 0 is the current one, with version `first`, at most 2^63 - 1.
     ///
-    /// `Memory` comes where a growth was refused. No later call takes memory.
+    /// Returns `Memory` if a growth was refused. No later call takes memory.
     pub fn new(alloc: A, rows: u32, records: u32, first: u64) -> Result<Desk<A>, Memory>
         requires some_rows { 0 < rows }
         requires few_rows { rows ≤ 65535 }
@@ -126,7 +126,7 @@ impl<A: Allocator> Desk<A> {
         self.versions[of as usize]
     }
 
-    /// The number of the version to come. `VersionsSpent` comes exactly where the current version
+    /// The number of the version to come. Returns `VersionsSpent` exactly if the current version
     /// has the last number.
     pub fn next_version(&self) -> Result<u64, VersionsSpent>
         ensures answer { MatchResult result (λ v. (v ≡ next self.now)
@@ -148,7 +148,7 @@ impl<A: Allocator> Desk<A> {
         self.free.count()
     }
 
-    /// A free row, born with the version to come. `None` comes exactly where no row is free.
+    /// Takes a free row, born with the version to come. Returns `None` exactly if no row is free.
     pub fn take(&mut self) -> Option<u32>
         ensures some { IfSome result (λ r. (slice_get self.old.lives r ≡ Some Free)
             × (self.new ≡ with_life self.old r (Born (next self.old)))) }
@@ -204,8 +204,8 @@ impl<A: Allocator> Desk<A> {
     /// Frees the dead rows that no live version reaches.
     ///
     /// It looks at the rows killed since the last sweep, with one search among the live versions
-    /// for each. At the other dead rows it looks only where a version that held one of them then is
-    /// no longer live, or is the newest. It never looks at rows that are not dead.
+    /// for each. It looks at the other dead rows only if a version that held one of them then is no
+    /// longer live, or is the newest. It never looks at rows that are not dead.
     pub fn sweep(&mut self, live: &[u64])
         ensures swept { self.new ≡ record self.old {
           lives = map

@@ -51,7 +51,7 @@ pub fn life_laws()
     // a row that is taken is reached by the version to come, and by each after it
     ensures taken { (lives : List Life) (row next v : ℕ) → slice_get lives row ≡ Some Free
         → next ≤ v → reaches (slice_set lives row (Born next)) v row ≡ true }
-    // until it is killed: then still by each version from its own up to the one that is to come
+    // until it is killed: then still by each version from its own to before the version to come
     ensures killed { (lives : List Life) (row b next v : ℕ) → slice_get lives row ≡ Some (Born b)
         → b ≤ v → v < next → reaches (slice_set lives row (Dead b next)) v row ≡ true }
     // what is done to other rows, and a sweep, leave a row as it was

@@ -19,8 +19,8 @@
 //! `specs/` defines what the contracts speak of; `words_laws`, `life_laws` and `standing_laws`
 //! prove what these definitions should satisfy.
 //!
-//! The desk does not know which versions are live: its caller tells it. It takes memory when it is
-//! made, and never again. [`PlainRows`] are rows of one thread; those that threads share are in
+//! The desk does not know which versions are live: its caller names them. It takes memory when it
+//! is made, and never again. [`PlainRows`] are rows of one thread; those that threads share are in
 //! `mst_words`.
 #![tactic(auto)]
 

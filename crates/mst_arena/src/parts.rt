@@ -46,10 +46,10 @@ fn bytes_of_two(words: &[u64; 2]) -> [u8; 16]
     bytes
 }
 
-/// The key of the first bytes of words, so many.
+/// The key of the first `len` bytes of words.
 ///
 /// Keys of 16 and of 32 bytes have an arm of their own, in which the compiled code knows how many
-/// bytes it copies: there it moves words, and else it calls what copies any number.
+/// bytes it copies: there it moves words, and otherwise it calls what copies any number.
 fn key_of(words: &[u64; 4], len: usize) -> Result<Key, KeySize>
     requires few { len ≤ 32 }
     ensures ok { IfOk result
@@ -65,7 +65,7 @@ fn key_of(words: &[u64; 4], len: usize) -> Result<Key, KeySize>
     }
 }
 
-/// The value of the first bytes of words, so many; of 32 and of 64 bytes as in [`key_of`].
+/// The value of the first `len` bytes of words; 32 and 64 bytes have an arm as in [`key_of`].
 fn value_of(words: &[u64; 8], len: usize) -> Result<Value, ValueSize>
     requires few { len ≤ 64 }
     ensures ok { IfOk result
@@ -85,7 +85,7 @@ impl HeadLinks {
     /// The layer, the count and the links of a head, from words 1 to 4 of its sixteen.
     ///
     /// They are these four numbers if the first fits one byte and each other four bytes, and
-    /// otherwise none. Whether they are within the limits of a head is not asked.
+    /// otherwise none. Whether they are within the limits of a head is not tested.
     pub fn read(words: &[u64; 4]) -> Option<HeadLinks>
         ensures some { IfSome result (λ head. (head.layer ≡ slice_index words.now 0)
             × (head.count ≡ slice_index words.now 1) × (head.first ≡ slice_index words.now 2)
@@ -110,7 +110,7 @@ impl EntryLinks {
     ///
     /// The links are the first two of these words. The key is the first bytes of the last four, as
     /// many as the low byte of the third word says. The result is `None` exactly if a link does not
-    /// fit four bytes, or the key would have no byte or more than 32.
+    /// fit four bytes, or the key would have no bytes or more than 32.
     pub fn read(words: &[u64; 7]) -> Option<EntryLinks>
         ensures some { IfSome result (λ entry. (entry.child ≡ slice_index words.now 0)
             × (entry.next ≡ slice_index words.now 1)

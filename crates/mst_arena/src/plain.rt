@@ -15,7 +15,7 @@ pub struct PlainRows<A: Allocator> {
 }
 
 /// Contracts see the list of the places, each with its row, which is within its limits, or with
-/// none.
+/// `None`.
 impl<A: Allocator> Model for PlainRows<A> {
     ghost use Rattle.std.specs.Prelude.{List, Option, All, IfSome};
     ghost use Rattle.mst_arena.specs.declared.row.Row.{Row};
@@ -31,7 +31,7 @@ impl<A: Allocator> Model for PlainRows<A> {
 impl<A: Allocator> PlainRows<A> {
     /// So many rows, none of them written.
     ///
-    /// `Memory` comes where a growth was refused.
+    /// Returns `Memory` if a growth was refused.
     pub fn new(alloc: A, rows: u32) -> Result<PlainRows<A>, Memory>
         requires some { 0 < rows }
         requires few { rows ≤ 65535 }

@@ -20,7 +20,7 @@ pub enum Row {
     },
     /// What a node has once.
     Head {
-        /// The layer of the node's keys, 0 to 64, in format 2 to 128.
+        /// The layer of the node's keys: 0 to 64 in format 1, 0 to 128 in format 2.
         layer: u8,
         /// The number of the node's entries, 1 to 65,534.
         count: u32,
@@ -53,14 +53,14 @@ pub struct EntryLinks {
 /// Where a tree stands, and its digest.
 #[derive(Clone, Copy, Debug, PartialEq, Eq)]
 pub struct Root {
-    /// The link of the head of the top node, and 0 for the empty tree.
+    /// The link of the head of the top node, or 0 for the empty tree.
     pub link: u32,
-    /// The digest of the top node's text, and of the empty text for the empty tree.
+    /// The digest of the top node's text, or of the empty text for the empty tree.
     pub digest: [u8; 32],
 }
 
 impl Row {
-    /// The same row once more. It takes no memory.
+    /// A copy of the row. It takes no memory.
     pub fn copy(&self) -> Row
         ensures same { result ≡ self.now }
     {

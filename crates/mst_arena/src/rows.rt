@@ -11,9 +11,9 @@ use mst_key::Value;
 /// Rows that the holder may read, and blank rows that it may write.
 ///
 /// The content has a row at each number that the holder may read. Reading changes nothing; a write
-/// changes the content at the row that is written and nowhere else, and what the holder is beside
-/// its rows stays. Beside whole rows the parts of them can be read, so that an implementation loads
-/// no more words than a search needs: the default bodies read the whole row.
+/// changes the content only at the row that is written, and keeps what the holder has beside its
+/// rows. Parts of a row can be read too, so that an implementation loads no more words than a
+/// search needs: the default bodies read the whole row.
 pub trait Rows {
     ghost use Rattle.std.specs.Prelude.{ℕ, Bool};
     ghost use Rattle.mst_arena.specs.Content.{Content};
@@ -24,7 +24,7 @@ pub trait Rows {
     // Whether a row is blank: the holder may write it.
     ghost blank: { Self → ℕ → Bool };
 
-    // What the holder is beside its rows: what a write leaves as it is.
+    // What the holder has beside its rows: a write leaves it as it is.
     ghost Kept: { Type 0 } = { Unit {0} };
 
     ghost kept: { Self → Self.Kept };

@@ -12,7 +12,7 @@ use crate::life::Life;
 use std::alloc::Allocator;
 use std::mem;
 
-/// Whether a live version reaches a row that was born and died with these versions. Where the live
+/// Whether a live version reaches a row that was born and died with these versions. If the live
 /// versions rise, one search finds the first that is not below the birth.
 fn is_reached(birth: u64, death: u64, live: &[u64], rising: bool) -> bool
     requires rising { rising ≡ true → IsNonDecreasing live.now }
@@ -42,7 +42,8 @@ fn after_sweep(life: Life, live: &[u64], rising: bool) -> Life
     }
 }
 
-/// Whether a version that is not the newest of the live ones reaches a dead row, where these rise.
+/// Whether a live version other than the last of the list reaches a dead row. If these rise, the
+/// last is the newest.
 fn is_older_kept(life: Life, live: &[u64], rising: bool) -> bool
     requires rising { rising ≡ true → IsNonDecreasing live.now }
     ensures kept { is_dead life ≡ true
@@ -108,8 +109,8 @@ pub fn look_again<A: Allocator>(
     }
 }
 
-/// Remembers the live versions of this sweep, in rising order. Where there is no room for them it
-/// remembers none, and answers that.
+/// Remembers the live versions of this sweep, in rising order. If there is no room for them, it
+/// remembers none and returns `false`.
 fn remember<A: Allocator>(last: &mut Vec<u64, A>, live: &[u64]) -> bool
     ensures remembered { MatchBool result (IsPermutation live.now last.new.items
         × IsNonDecreasing last.new.items) (last.new.items ≡ []) }
@@ -129,8 +130,8 @@ fn remember<A: Allocator>(last: &mut Vec<u64, A>, live: &[u64]) -> bool
 /// Frees the rows of `dead` that no live version reaches, and moves the others to `held`. No other
 /// row is looked at.
 ///
-/// It answers whether each of those is reached by a version that is not the newest of the live
-/// ones.
+/// Returns whether each row that it moves is reached by a version that is not the newest of the
+/// live ones.
 fn free_unreached<A: Allocator>(
     lives: &mut [Life],
     free: &mut FreeRows<A>,
@@ -170,13 +171,13 @@ fn free_unreached<A: Allocator>(
 }
 
 /// Frees the rows of `dead` that no live version reaches, and remembers the live versions that hold
-/// the others: all of them, or all but the newest where it holds none alone. In a store that is the
-/// current version, which reaches no dead row; so held rows are not looked at again with each
-/// write, but only once a pin ends. Where there was no room to remember the live versions, the next
-/// sweep looks at each dead row.
+/// the others: all of them, or all but the newest if no row is held by that one alone. In a store
+/// that is the current version, which reaches no dead row; so held rows are not looked at again
+/// with each write, but only once a pin ends. If there was no room to remember the live versions,
+/// the next sweep looks at each dead row.
 ///
-/// A row that is looked at costs one search among the live versions, or two where it stays. Only
-/// with more live versions than there is room for they are asked one by one.
+/// A row that is looked at costs one search among the live versions, or two if it stays. Only if
+/// there are more live versions than there is room for, they are compared one by one.
 pub fn sweep_dead<A: Allocator>(
     lives: &mut [Life],
     free: &mut FreeRows<A>,

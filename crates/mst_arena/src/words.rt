@@ -8,15 +8,15 @@ use crate::parts::bytes_of_four;
 use crate::row::{EntryLinks, HeadLinks, Root, Row};
 use mst_key::{Key, Value};
 
-/// The byte at an index, and 0 past the end.
+/// The byte at an index, or 0 past the end.
 fn byte_or_zero(bytes: &[u8], index: usize) -> u8
     ensures byte { result ≡ slice_index bytes.now index }
 {
     if index < bytes.len() { bytes[index] } else { 0 }
 }
 
-/// The word of the eight bytes from an index on, the first of them highest, where the bytes end
-/// before those eight do. Bytes past the end are 0.
+/// The word of the eight bytes from an index on, the first of them highest, if fewer than eight
+/// bytes are left. Bytes past the end are 0.
 fn last_word(bytes: &[u8], index: usize) -> u64
     requires small { index < 64 }
     ensures word { result ≡ word_from bytes.now index }
@@ -129,10 +129,10 @@ fn candidate(words: &[u64; 16]) -> Option<Row>
 impl Row {
     /// The sixteen words of a row.
     ///
-    /// The first is 1 for an entry and 2 for a head. An entry goes on with child, next, key length
-    /// + 256 * value length, the key in four words and the value in eight; a head with layer,
-    /// count, first, tail, and the digest in four words. Bytes are packed big-endian, eight a word,
-    /// and what is left over is 0.
+    /// The first is 1 for an entry and 2 for a head. An entry goes on with child, next, the key
+    /// length plus 256 times the value length, the key in four words and the value in eight; a head
+    /// with layer, count, first, tail, and the digest in four words. Bytes are packed big-endian,
+    /// eight a word, and what is left over is 0.
     pub fn words(&self) -> [u64; 16]
         requires limits { IsRow self.now }
         ensures words { result ≡ words_of self.now }
@@ -155,7 +155,7 @@ impl Row {
         }
     }
 
-    /// The row of these words, for exactly the words that [`Row::words`] gives of some row.
+    /// The row of these words. Returns `None` exactly if no row has them as its [`Row::words`].
     pub fn read(words: &[u64; 16]) -> Option<Row>
         ensures some { IfSome result (λ row. IsRow row × (words_of row ≡ words.now)) }
         ensures none { IfNone result ((row : Row) → IsRow row → HasBytes row

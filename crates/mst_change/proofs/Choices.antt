@@ -47,7 +47,7 @@ at_layer {A} P j l a b c less same more =
 pub chosen : {A : Type 0} (r s : Ordering) (a b c : A) → r ≡ s → by_order r a b c ≡ by_order s a b c
 chosen r s a b c e = ap (λ (x : Ordering). by_order x a b c) e
 
--- a choice by layers, where their order is known
+-- a choice by layers, if their order is known
 pub chosen_higher : {A : Type 0} (j l : ℕ) (a b c : A) → j < l → cond (nat_lt j l) a
     (cond (j == l) b c) ≡ a
 chosen_higher j l a b c h = let e : nat_lt j l ≡ true = grind (arith, nat_tests) in rw e

@@ -1,4 +1,4 @@
--- To the format that stands a migration costs nothing.
+-- A migration to the format that the tree has costs nothing.
 use Rattle.std.proofs.Common.{◌≡◌, ℕ, ◌+◌, Bool, true, not, cond, ◌||◌, List, [], ◌∷◌, inl, inr, refl, sym, ◌∙◌, ap, arith}
 use Rattle.std.specs.Prelude.{Contains}
 use Rattle.std.specs.List.{list_any}

@@ -7,7 +7,7 @@ use Rattle.mst_node.specs.Tree.{Tree, empty, node, Entries, last, entry, entry_c
 use Rattle.mst_node.specs.Shape.{TreeEntry, with_entries}
 use Rattle.mst_change.specs.Parts.{cells, last_child, first_child, with_first, node_of, is_empty}
 
--- ---- entries behind cells
+-- ---- entries after cells
 
 pub cells_back : (es : Entries) → with_entries (cells es) (last (last_child es)) ≡ es
 cells_back (last child) = refl

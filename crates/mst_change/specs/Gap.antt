@@ -22,7 +22,7 @@ pub record IsGap (k : List ℕ) (es : Entries) (front : List TreeEntry)
   pub low : CellsBelow k front
   pub high : FallsFirst k back
 
--- The key's entry stands behind these cells, between this child and these entries.
+-- The key's entry stands after these cells, between this child and these entries.
 pub record IsAt (k : List ℕ) (es : Entries) (front : List TreeEntry) (child : Tree) (value : List ℕ)
     (back : Entries) : Type 0 where
   pub whole : es ≡ with_entries front (entry child k value back)

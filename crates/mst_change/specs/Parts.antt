@@ -21,7 +21,7 @@ abbrev pub with_first : Tree → Entries → Entries
 with_first new (last child) = last new
 with_first new (entry child key value rest) = entry new key value rest
 
--- a node of these entries; where there is none, the child alone
+-- a node of these entries; if there is none, the child alone
 abbrev pub node_of : Format → ℕ → Entries → Tree
 node_of format l (last child) = child
 node_of format l (entry child key value rest) = node format l (entry child key value rest)

@@ -15,7 +15,7 @@ put_among k v es = with_entries (cells (entries_below k es))
     (entry (last_child (entries_below k es)) k v (entries_above k es))
 
 -- The tree in which the key, whose layer is l, has the value: in a node of its layer it stands
--- among the entries, a tree of lower layers it splits, and in a node of a higher layer it goes into
+-- among the entries, it splits a tree of lower layers, and in a node of a higher layer it goes into
 -- the child of its gap.
 abbrev mutual
   pub put_at : Format → ℕ → List ℕ → List ℕ → Tree → Tree

@@ -15,7 +15,7 @@ ghost use Rattle.mst_change.specs.Remove.{tree_remove};
 ghost use Rattle.mst_change.specs.Cost.{put_cost, remove_cost};
 
 /// A tree split at a key: two search trees of no higher layers, with the pairs below the key and
-/// the pairs above it. Where all goes to one side, that side is the tree itself.
+/// the pairs above it. If all goes to one side, that side is the tree itself.
 pub fn split_laws()
     ensures below { (t : Tree) (k : List ℕ) → IsAscending (pairs t)
         → pairs (below k t) ≡ filter (λ p. is_lt (key_cmp p.0 k)) (pairs t) }
@@ -73,7 +73,7 @@ pub fn cost_laws()
         → cost format m (map.put m k v) ≤ weight format m k + 2 }
     ensures remove_bound { (format : Format) (m : List Pair) (k : List ℕ) → IsMap m
         → cost format m (map.remove m k) ≤ weight format (map.remove m k) k + 2 }
-    // a map that goes to another format takes a row for each pair and each node; to the same, none
+    // a map that goes to another format takes a row for each pair and each node; to its own, none
     ensures moved { (f g : Format) (m : List Pair) → same_format g f ≡ false
         → new_rows (tree f m) (tree g m) ≡ length m + length (subtrees (tree g m)) }
     ensures stays { (t : Tree) → new_rows t t ≡ 0 }

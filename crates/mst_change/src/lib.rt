@@ -1,7 +1,7 @@
 //! What a put and a remove do to the Merkle search tree of a map, and what they cost.
 //!
 //! The tree of the map after a put or a remove is made from the old one along one path, which is
-//! split or joined from the top down; all beside the path stays (Auvolat and Taïani 2019).
+//! split or joined from the top down; everything beside the path stays (Auvolat and Taïani 2019).
 //!
 //! ```
 //! // the tree of two keys a and c of layer 0 is one node; b has layer 1, and so splits it

@@ -45,7 +45,7 @@ module _ {X : Type 0} where
       cond_both (test x) (x ∷ filter test xs) (filter test xs) (AllByRecursion (λ y. test y ≡ true))
       (λ e. (e, alls-passes test xs)) (λ e. alls-passes test xs)
 
-  -- a filter keeps the whole list where each element passes, and nothing where none does
+  -- a filter keeps the whole list if each element passes, and nothing if none does
   pub filter-whole : (test : X → Bool) (xs : List X) → AllByRecursion (λ x. test x ≡ true) xs
       → filter test xs ≡ xs
   filter-whole test [] a = refl

@@ -36,7 +36,7 @@ map_get-above m k above =
     (alls-weaker (λ p. key_cmp k p.0 ≡ Less) (λ p. p.0 ≢ k)
     (λ p less same. other_from_less k p.0 less (sym same)) m above)
 
--- where the front does not have the key, the back decides
+-- if the front does not have the key, the back decides
 pub map_get-append_absent : (front back : List Pair) (k : List ℕ) → map_get front k ≡ None
     → map_get (front ++ back) k ≡ map_get back k
 map_get-append_absent [] back k none = refl
@@ -49,7 +49,7 @@ map_get-append_absent (p ∷ front) back k none =
     go true e f = cc
     go false e f = f e
 
--- and where the back does not, the front
+-- and if the back does not, the front
 pub map_get-append_nothing : (front back : List Pair) (k : List ℕ) → map_get back k ≡ None
     → map_get (front ++ back) k ≡ map_get front k
 map_get-append_nothing [] back k none = none

@@ -208,8 +208,8 @@ remove-parts (p ∷ m) k rise =
     above-stays (p ∷ m) k above
     ∙ (λ i. sym (above-dropped (p ∷ m) k above) i ++ sym (above-kept (p ∷ m) k above) i))
 
--- an ascending list is the pairs below a key, the key's own pair where it has one, and the pairs
--- above it
+-- an ascending list is the pairs below a key, the key's own pair if it has one, and the pairs above
+-- it
 pub parts_absent : (m : List Pair) (k : List ℕ) → IsAscending m → map_get m k ≡ None
     → m ≡ filter (λ p. is_lt (key_cmp p.0 k)) m ++ filter (λ p. is_gt (key_cmp p.0 k)) m
 parts_absent m k rise none = sym (remove-unchanged m k rise none) ∙ remove-parts m k rise

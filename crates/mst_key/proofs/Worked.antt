@@ -111,7 +111,7 @@ after_first = refl
 after_whole : after whole ≡ (b, z) ∷ []
 after_whole = refl
 
--- a write answers the value that its key had, a repeated one too
+-- a write returns the value that its key had, a repeated one too
 reply_new : reply One first (record { pass = 3; change = Put c x }) ≡ had None
 reply_new = refl
 
@@ -121,7 +121,7 @@ reply_old = refl
 reply_remove : reply One first (record { pass = 3; change = Remove a }) ≡ had (Some y)
 reply_remove = refl
 
--- a migration leaves the map, and is answered the format before it; the last one counts
+-- a migration leaves the map as it is, and returns the format before it; the last one counts
 abbrev moved : History
 moved = first ++ record { pass = 2; change = Migrate Two } ∷ []
 

@@ -34,24 +34,24 @@ after_from m (e ∷ es) = after_from (changed m e.change) es
 abbrev pub after : History → List Pair
 after h = after_from [] h
 
--- the format after the events: that of the last migration, and else the one before them
+-- the format after the events: that of the last migration, or the one before them if there is none
 abbrev pub format_after : Format → History → Format
 format_after first [] = first
 format_after first (e ∷ es) = format_after (changed_format first e.change) es
 
--- What a write is answered: the value that its key had, and none where it had none; a migration the
--- format that was left.
+-- What a write returns: the value that its key had, or none if it had none; a migration returns the
+-- format before it.
 pub data Reply : Type 0 where
   had : (old : Option (List ℕ)) → Reply
   was : (format : Format) → Reply
 
--- what a change is answered of a map in a format
+-- what a change of a map in a format returns
 abbrev pub reply_of : Format → List Pair → Change → Reply
 reply_of format m (Put k v) = had (map_get m k)
 reply_of format m (Remove k) = had (map_get m k)
 reply_of format m (Migrate to) = was format
 
--- what the write answers that adds this event to the history
+-- what the write that adds this event to the history returns
 abbrev pub reply : Format → History → Event → Reply
 reply first h e = reply_of (format_after first h) (after h) e.change
 

@@ -13,7 +13,7 @@ use Rattle.mst_key.specs.Bytes.{IsKey, IsValue}
 abbrev pub Pair : Type 0
 Pair = List ℕ × List ℕ
 
--- the order of keys: bytewise, the shorter first on a common front
+-- the order of keys: bytewise, a proper prefix of a key before the key
 abbrev pub key_cmp : List ℕ → List ℕ → Ordering
 key_cmp = slice_cmp nat_cmp
 
@@ -35,7 +35,7 @@ pub record IsMap (m : List Pair) : Type 0 where
   pub ascending : IsAscending m
   pub limits : AllByRecursion (λ p. IsKey p.0 × IsValue p.1) m
 
--- the value of the key, and `None` where no pair has the key
+-- the value of the key, or `None` if no pair has the key
 abbrev pub map_get : List Pair → List ℕ → Option (List ℕ)
 map_get [] k = None
 map_get (p ∷ m) k = if is_eq (key_cmp p.0 k) then Some p.1 else map_get m k
@@ -48,8 +48,7 @@ put m k v = filter (λ p. is_lt (key_cmp p.0 k)) m ++ (k, v) ∷ filter (λ p. i
 abbrev pub remove : List Pair → List ℕ → List Pair
 remove m k = filter (λ p. not (is_eq (key_cmp p.0 k))) m
 
--- whether the key is above the bound; at least the bound; below it. A bound that is not there does
--- not bind
+-- whether the key is above the bound; at least the bound; below it. `None` as a bound does not bind
 abbrev pub above : Option (List ℕ) → List ℕ → Bool
 above bound k = option_map_or (λ b. is_gt (key_cmp k b)) bound true
 

@@ -8,7 +8,7 @@ use std::cmp::Ordering;
 use std::marker::Model;
 use thiserror::Error;
 
-/// A key of no byte or of more than 32 bytes was refused.
+/// A key of no bytes, or of more than 32 bytes, was refused.
 #[derive(Clone, Copy, Debug, PartialEq, Eq, Error)]
 #[error("a key has 1 to 32 bytes")]
 pub struct KeySize;
@@ -33,7 +33,7 @@ impl Model for Key {
     ghost inverse = { λ xs. record { bytes = record { items = xs } } };
 }
 
-/// Keys are ordered bytewise, the shorter first on a common front.
+/// Keys are ordered bytewise; a proper prefix of a key is less than the key.
 impl Ord for Key {
     ghost use Rattle.mst_key.specs.Map.{key_cmp};
     ghost use Rattle.std.proofs.Common.{refl};
@@ -77,7 +77,7 @@ impl Clone for Key {
 }
 
 impl Key {
-    /// The key of these bytes. `KeySize` comes exactly where there is none or more than 32 of them.
+    /// The key of these bytes. Returns `KeySize` exactly if there are none or more than 32.
     pub fn new(bytes: &[u8]) -> Result<Key, KeySize>
         ensures ok { IfOk result (λ key. key ≡ bytes.now) }
         ensures when { IsOk result ↔ IsKey bytes.now }
@@ -100,7 +100,7 @@ impl Key {
         self.bytes.as_slice()
     }
 
-    /// The same key once more, as by `clone`, but with no error: it takes no memory.
+    /// A copy of the key, as by `clone`, but without an error: it takes no memory.
     pub fn copy(&self) -> Key
         ensures same { result ≡ self.now }
     {

@@ -14,7 +14,7 @@ ghost use Rattle.mst_key.specs.declared.history.Change.TheVariants.{Put, Remove,
 ghost use Rattle.mst_key.specs.declared.history.Event.{Event};
 ghost use Rattle.mst_key.specs.History.{History, changed, changed_format, after, format_after, events_of, IsPrefix, LeavesAlone, KeepsFormat, IsPossible};
 
-/// The order of keys is total and bytewise, with the shorter key first on a common front.
+/// The order of keys is total and bytewise; a proper prefix of a key is less than the key.
 pub fn order_laws()
     ensures total { IsTotalOrder key_cmp }
     ensures equal { (a b : List ℕ) → (key_cmp a b ≡ Equal) ↔ (a ≡ b) }
@@ -64,13 +64,13 @@ pub fn map_laws()
 pub fn history_laws()
     ensures map { (h : History) → IsPossible h → IsMap (after h) }
     ensures step { (h : History) (e : Event) → after (h ++ e ∷ []) ≡ changed (after h) e.change }
-    // a key has the value that the last change of it left, and none where it was never changed
+    // a key has the value that the last change of it left, and none if it was never changed
     ensures last_put { (g h : History) (pass : ℕ) (k v : List ℕ) → LeavesAlone h k
         → map_get (after (g ++ record { pass = pass; change = Put k v } ∷ h)) k ≡ Some v }
     ensures last_remove { (g h : History) (pass : ℕ) (k : List ℕ) → LeavesAlone h k
         → map_get (after (g ++ record { pass = pass; change = Remove k } ∷ h)) k ≡ None }
     ensures no_change { (h : History) (k : List ℕ) → LeavesAlone h k → map_get (after h) k ≡ None }
-    // the format is that of the last migration, and the first one where there was none
+    // the format is that of the last migration, or the first one if there was none
     ensures format_step { (first : Format) (h : History) (e : Event)
         → format_after first (h ++ e ∷ []) ≡ changed_format (format_after first h) e.change }
     ensures last_migration { (first to : Format) (g h : History) (pass : ℕ) → KeepsFormat h
@@ -90,8 +90,8 @@ pub fn history_laws()
         → events_of pass f ≡ mine → events_of pass h ≡ mine → events_of pass g ≡ mine }
 {}
 
-/// The pair of the least key above a bound, and the first pairs between two bounds. A bound that is
-/// not there does not bind.
+/// The pair of the least key above a bound, and the first pairs between two bounds. `None` as a
+/// bound does not bind.
 pub fn range_laws()
     // the next pair stands in the map, above the bound, and before each other pair above it
     ensures next_above { (m : List Pair) (bound : Option (List ℕ)) (p : Pair)
@@ -99,7 +99,7 @@ pub fn range_laws()
     ensures next_least { (m : List Pair) (bound : Option (List ℕ)) (p q : Pair) → IsMap m
         → map_next m bound ≡ Some p → Contains m q → IfSome bound (λ b. key_cmp b q.0 ≡ Less)
         → (q ≡ p) ⊎ (key_cmp p.0 q.0 ≡ Less) }
-    // where there is none, no pair stands above the bound
+    // if there is none, no pair stands above the bound
     ensures next_none { (m : List Pair) (bound : Option (List ℕ)) (q : Pair)
         → map_next m bound ≡ None → Contains m q → IfSome bound (λ b. key_cmp b q.0 ≡ Less) → ⊥ }
     // a span has pairs of the map in their order, at least `from`, below `to`, and no more than the

@@ -30,7 +30,7 @@ impl Key {
 }
 
 /// The layer in a format of the key that has these bytes. It is inlined, since the reading of a
-/// text asks it for each key.
+/// text calls it for each key.
 #[inline(always)]
 #[tactic(auto, unfolding(crate::specs::Layer::layer_in))]
 pub fn layer_of(format: Format, key: &[u8]) -> u8

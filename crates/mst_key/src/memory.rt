@@ -1,5 +1,5 @@
-//! The refusal of memory. This file alone makes one, and only from what the library answers where
-//! it was refused memory.
+//! The refusal of memory. Only this file makes one, and only from what the library returns if it
+//! was refused memory.
 ghost use Rattle.std.specs.Prelude.{◌≡◌, ◌↔◌, IsSome};
 ghost use Rattle.hex.specs.declared.error.FromHexError.TheVariants.{OutOfMemory};
 ghost use Rattle.std.specs.IoError.{error_kind};
@@ -43,7 +43,8 @@ impl From<Memory> for io::Error {
 }
 
 impl Memory {
-    /// The refusal of memory that kept hexadecimal digits from being decoded, if it was one.
+    /// The refusal of memory that kept hexadecimal digits from being decoded, or `None` for any
+    /// other error.
     pub fn of_digits(error: FromHexError) -> Option<Memory>
         ensures exact { IsSome result ↔ error ≡ OutOfMemory }
     {
@@ -55,7 +56,7 @@ impl Memory {
         }
     }
 
-    /// The refusal of memory that kept a call of the system from its work, if it was one.
+    /// The refusal of memory that made a call of the system fail, or `None` for any other error.
     pub fn of_call(error: &io::Error) -> Option<Memory>
         ensures exact { IsSome result ↔ error_kind error.now ≡ kind.OutOfMemory }
     {

@@ -43,7 +43,7 @@ impl Clone for Value {
 }
 
 impl Value {
-    /// The value of these bytes. `ValueSize` comes exactly where there are more than 64 of them.
+    /// The value of these bytes. Returns `ValueSize` exactly if there are more than 64.
     pub fn new(bytes: &[u8]) -> Result<Value, ValueSize>
         ensures ok { IfOk result (λ value. value ≡ bytes.now) }
         ensures when { IsOk result ↔ IsValue bytes.now }
@@ -63,7 +63,7 @@ impl Value {
         self.bytes.as_slice()
     }
 
-    /// The same value once more, as by `clone`, but with no error: it takes no memory.
+    /// A copy of the value, as by `clone`, but without an error: it takes no memory.
     pub fn copy(&self) -> Value
         ensures same { result ≡ self.now }
     {

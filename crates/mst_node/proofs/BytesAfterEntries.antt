@@ -1,4 +1,4 @@
--- What lies behind entries, and the body that is read through it.
+-- What lies after entries, and the body that is read through it.
 use Rattle.std.proofs.Common.{◌≡◌, ℕ, zero, suc, ◌≤◌, ◌-◌, List, [], ◌∷◌, length, take, drop, get_or, Option, Some, None, true, false, cond, ◌==◌, refl, sym, ◌∙◌, ap, arith}
 use Rattle.std.specs.Prelude.{option_map, is_some}
 use Rattle.std.specs.Int.{w16, from_be_bytes}
@@ -19,7 +19,7 @@ behind_more format (suc n) k bytes p e h =
     ap (λ (j : ℕ). behind_at format j p.1) same
     ∙ sym (ap (λ (r : Option (FlatEntry × List ℕ)). r >>= λ x. behind_at format n x.1) h)
 
--- the bytes behind entries are those that reading the entries leaves
+-- the bytes after entries are those that reading the entries leaves
 pub behind-entries : (format : Format) (n : ℕ) (bytes : List ℕ) → behind_at format n bytes
     ≡ option_map (λ (p : List FlatEntry × List ℕ). p.1) (entries_at format n bytes)
 unfolding behind_at entries_at
@@ -40,7 +40,7 @@ behind-entries format (suc n) bytes = go (behind-entries format n) (entry_at for
     go next None = refl
     go next (Some e) = next e.1 ∙ on e.0 (entries_at format n e.1)
 
--- ---- the body of a text, by what lies behind its entries
+-- ---- the body of a text, by what lies after its entries
 
 -- no entries, no body
 pub body-none : (format : Format) (n : ℕ) (bytes : List ℕ) → behind_at format n bytes ≡ None
@@ -55,7 +55,7 @@ body-none format n bytes h =
     go None e = refl
     go (Some es) e = absurd (cc)
 
--- behind the entries stands the last child, if there is a body
+-- after the entries stands the last child, if there is a body
 pub body-child : (format : Format) (n : ℕ) (bytes rest : List ℕ) → behind_at format n bytes ≡ Some
     rest → is_some (body_at format n bytes) ≡ is_some (child_at rest >>= whole)
 unfolding body_at

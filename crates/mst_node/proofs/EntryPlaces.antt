@@ -20,7 +20,7 @@ entries-count format (suc n) bytes p h =
     (sym (some_same (r1.0.0 ∷ r2.0.0, r2.0.1) p r2.2))
     ∙ ap suc (entries-count format n r1.0.1 r2.0 r2.1)
 
--- an entry is read behind those before it
+-- an entry is read after those before it
 pub record Place (format : Format) (bytes : List ℕ) (i : ℕ) (es : List FlatEntry) : Type 0 where
   pub rest : List ℕ
   pub entry : FlatEntry × List ℕ
@@ -94,7 +94,7 @@ parts format n bytes some = go (body_at format n bytes) refl some
     go None e some = absurd (search rules)
     go (Some b) e some = parts_of format n bytes b e
 
--- behind all entries lies the last child
+-- after all entries lies the last child
 pub parts-behind : (format : Format) (n : ℕ) (bytes : List ℕ) (b : List FlatEntry × Option (List ℕ))
     (p : Parts format n bytes b) → behind_at format n bytes ≡ Some p.rest
 parts-behind format n bytes b p = behind-entries format n bytes

@@ -46,7 +46,7 @@ fits-back format None l (e ∷ es) fits = let rest = fits-back format (Some e.ke
 fits-back format (Some k) l (e ∷ es) fits = let rest = fits-back format (Some e.key) l es fits.2 in
     ((fits.1, above-trans k e.key es fits.1 rest.0), (fits.0, rest.1), (rest.0, rest.2))
 
--- the keys fit where the test passes from the first on
+-- the keys fit if the test passes from the first on
 pub fits-all : (format : Format) (l : ℕ) (b : List FlatEntry × Option (List ℕ))
     → KeysFit (node_of format l b) ↔ FitsFrom format None l b.0
 fits-all format l b = (
@@ -55,7 +55,7 @@ fits-all format l b = (
       record { at_layer = back.1; rising = back.2 },
 )
 
--- the first entry, and the entries behind it
+-- the first entry, and the entries after it
 pub entries-step : (format : Format) (n k : ℕ) (bytes : List ℕ) (p : List FlatEntry × List ℕ)
     (q : FlatEntry × List ℕ) → entries_at format n bytes ≡ Some p → n ≡ suc k
     → entry_at format bytes ≡ Some q → (es : List FlatEntry) × (p.0 ≡ q.0 ∷ es)

@@ -93,7 +93,7 @@ ascending-back : (xs ys : List Pair) → IsAscending (xs ++ ys) → IsAscending 
 ascending-back [] ys rise = rise
 ascending-back (x ∷ xs) ys rise = ascending-back xs ys rise.1
 
--- what comes before all pairs comes before all entries
+-- what is before all pairs is before all entries
 entries_above : (format : Format) (k : List ℕ) (es : Entries)
     → AllByRecursion (λ (p : Pair). key_cmp k p.0 ≡ Less) (entries_pairs es)
     → AllByRecursion (λ (p : Pair). key_cmp k p.0 ≡ Less) (flat_pairs (flat_entries format es))

@@ -37,7 +37,7 @@ rising-at (p ∷ q ∷ m) (suc i) x y rise h is js =
     let js2 : y ≡ get_or (q ∷ m) (i + 1) y = js ∙ ap (λ (j : ℕ). get_or (p ∷ q ∷ m) j y) e in
     rising-at (q ∷ m) i x y rise.1 (omega arith) is js2
 
--- the first i + 1 pairs rise where the first i do, and the last two of them
+-- the first i + 1 pairs rise if the first i do, and the last two of them
 pub rising-more : (m : List Pair) (i : ℕ) (x y : Pair) → IsAscending (take i m) → 0 < i
     → i < length m → x ≡ get_or m (i - 1) x → y ≡ get_or m i y → key_cmp x.0 y.0 ≡ Less
     → IsAscending (take (i + 1) m)

@@ -1,4 +1,4 @@
--- The test of two trees answers whether they are the same.
+-- The test of two trees returns whether they are the same.
 use Rattle.std.proofs.Common.{◌≡◌, ℕ, Bool, true, false, ◌&&◌, ◌==◌, refl, sym, ap, ◌∙◌, arith, true≢false}
 use Rattle.std.proofs.lemmas.Bool.Decides.{nat_tests}
 use Rattle.mst_key.specs.declared.format.Format.{Format}

@@ -110,7 +110,7 @@ scan_more format l k p q (suc n) m bytes e h r fits is =
     ∙ sym (ap (λ (o : Option (FlatEntry × List ℕ)). o >>= λ x. cond
     (fits_behind format l p.last x.0.key) (scan_at format l k (pass_at k p x.0) n x.1) None) r)
 
--- a scan ends where an entry is not read, or does not fit
+-- a scan ends at an entry that is not read, or does not fit
 pub scan_unread : (format : Format) (l : ℕ) (k : List ℕ) (p : Passing) (n : ℕ) (bytes : List ℕ)
     → 0 < n → entry_at format bytes ≡ None → scan_at format l k p n bytes ≡ None
 unfolding scan_at

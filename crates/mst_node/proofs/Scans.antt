@@ -78,7 +78,7 @@ passing-last : (k : List ℕ) (p : Passing) (e : FlatEntry) (es : List FlatEntry
 passing-last k p e [] = refl
 passing-last k p e (f ∷ es) = passing-last k (pass_at k p e) f es
 
--- ---- rising keys lie in a span where the first and the last one do
+-- ---- rising keys lie in a span if the first and the last one do
 
 abbrev Above : List ℕ → List FlatEntry → Type 0
 Above b es = AllByRecursion (λ x. key_cmp b x.key ≡ Less) es

@@ -57,7 +57,7 @@ scan_stop format l k last s (suc n) bytes e some r stops =
         (fits_behind format l last x.0.key)
         (scan_at format l k (pass_at k (passed_to last o) x.0) n x.1) None) r
 
--- where the search has come to a key not below the sought one, it stops there
+-- if the search has reached a key not below the sought one, it stops there
 pub stops_at : (format : Format) (l : ℕ) (k : List ℕ) (c : Coming) (s : Stop) (below : Bool)
     (rest : List ℕ) → 0 < c.left → entry_at format c.rest.now ≡ Some (seen s.entry, rest)
     → Halts format k None c.rest.now → Decides below (key_cmp k (seen s.entry).key ≡ Less)

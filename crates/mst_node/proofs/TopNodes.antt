@@ -112,7 +112,7 @@ pub child_digest_some : (format : Format) (m : List Pair) → 0 < length m
 child_digest_some format m some = ap child_digest (tree_some format m some)
     ∙ sym (ap (λ (t : Tree). Some (digest t)) (tree_some format m some))
 
--- the text goes on behind an entry: the digest of its gap, its key and its value
+-- the text goes on after an entry: the digest of its gap, its key and its value
 pub text_at : (format : Format) (m : List Pair) (x : Pair) (start i l : ℕ) (front whole : List ℕ)
     (d : Option (List ℕ)) (k v : List ℕ) → i < length m → x ≡ get_or m i x → layer_in format x.0 ≡ l
     → d ≡ child_digest (tree format (slice_range m start i)) → k ≡ counted x.0
@@ -133,7 +133,7 @@ text_at format m x start i l front whole d k v within is at child key held befor
     rw (child, key, held) (simp append_assoc) in
     moved ∙ ap (λ (es : Entries). front ++ entries_text format es) opened ∙ before
 
--- where the pair has another layer, the gap goes on
+-- if the pair has another layer, the gap goes on
 pub text_other : (format : Format) (m : List Pair) (x : Pair) (start i l : ℕ) (front whole : List ℕ)
     → start ≤ i → i < length m → x ≡ get_or m i x → layer_in format x.0 ≢ l → front ++ entries_text
     format (entries_of (layer_in format) (tree format) l (slice_range m start i) (drop i m)) ≡ whole
@@ -146,7 +146,7 @@ text_other format m x start i l front whole s within is other before =
     (step_other format m x start i l [] (E (slice_range m start i) (drop i m)) s within is other
     refl) ∙ before
 
--- behind the last pair the digest of the last gap ends the text
+-- after the last pair the digest of the last gap ends the text
 pub text_end : (format : Format) (m : List Pair) (start i l : ℕ) (front whole : List ℕ)
     (d : Option (List ℕ)) → i ≡ length m → d ≡ child_digest
     (tree format (slice_range m start (length m))) → front ++ entries_text format

@@ -45,7 +45,7 @@ entries_same layer a b l k same gap (p ∷ m) h =
     (omega (arith, length-append gap (p ∷ []))) in
     cc
 
--- where a pair has the layer, each gap is shorter than the list
+-- if a pair has the layer, each gap is shorter than the list
 pub entries_same_has : (layer : List ℕ → ℕ) (a b : List Pair → Tree) (l k : ℕ)
     → ((g : List Pair) → length g ≤ k → a g ≡ b g) → (gap m : List Pair) → Has layer l m
     → length gap + length m ≤ suc k → entries_of layer a l gap m ≡ entries_of layer b l gap m

@@ -26,7 +26,7 @@ high = 0x33 ∷ 0x39 ∷ []
 abbrev there_and_back : History
 there_and_back = puts one (0x78 ∷ []) ∷ puts one (0x79 ∷ []) ∷ puts one (0x78 ∷ []) ∷ []
 
--- a node above two others, of which the second comes last
+-- a node above two others, of which the second is last
 abbrev grows : History
 grows = puts high (0x78 ∷ []) ∷ puts one (0x79 ∷ []) ∷ puts other (0x7a ∷ []) ∷ []
 
@@ -60,7 +60,7 @@ unfolding layer_in sha256 first_words schedule rounds compress hash_after digest
     tree_within entries_of
 alone = refl
 
--- a subtree that goes and comes again stays twice
+-- a subtree that goes and comes back stays twice
 comes_again : held One there_and_back (3 ∷ 1 ∷ []) ≡ 4
 unfolding layer_in sha256 first_words schedule rounds compress hash_after digest_bytes tree
     tree_within entries_of
@@ -95,7 +95,7 @@ unfolding layer_in sha256 first_words schedule rounds compress hash_after digest
     tree_within entries_of
 over_it = refl
 
--- one to the format that stands holds nothing more
+-- one to the format that the tree has holds nothing more
 no_move : held One (puts one (0x61 ∷ []) ∷ record { pass = 1; change = Migrate One } ∷ [])
     (1 ∷ 2 ∷ []) ≡ 2
 unfolding layer_in sha256 first_words schedule rounds compress hash_after digest_bytes tree

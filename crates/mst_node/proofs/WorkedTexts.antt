@@ -1,5 +1,5 @@
--- Worked examples, computed here through SHA-256: of format 2, which no call answers yet, and
--- proofs. The values are from another program (Python's hashlib).
+-- Worked examples, computed here through SHA-256: of format 2, and proofs. The values are from
+-- another program (Python's hashlib).
 use Rattle.std.proofs.Common.{◌≡◌, [], ◌∷◌, refl}
 use Rattle.sha2.specs.Sha256.{sha256, first_words, schedule, rounds, compress, hash_after, digest_bytes}
 use Rattle.mst_key.specs.declared.format.Format.TheVariants.{One, Two}

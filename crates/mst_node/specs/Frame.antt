@@ -3,7 +3,7 @@ use Rattle.std.specs.Prelude.{◌≡◌, ℕ, ◌<◌, ◌^◌, List, ◌∷◌,
 use Rattle.std.specs.Int.{w32, to_be_bytes}
 
 -- the bytes begin with a version of any number, a number of texts that is not 0, and this text
--- behind its length in four bytes, the high one first
+-- after its length in four bytes, the high one first
 pub record FramesFirst (bytes text : List ℕ) : Type 0 where
   pub version : ℕ
   pub count : ℕ

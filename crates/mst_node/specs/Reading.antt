@@ -1,5 +1,5 @@
 -- How a flat node is read off its text, from left to right. A reading gives what was read and the
--- bytes behind it, or none.
+-- bytes after it, or none.
 use Rattle.std.specs.Prelude.{◌≡◌, ℕ, zero, suc, ◌==◌, nat_lt, if◌then◌else◌, List, [], ◌∷◌, length, take, drop, Option, Some, None, unwrap_or}
 use Rattle.std.specs.Int.{w16, w32, from_be_bytes}
 use Rattle.mst_key.specs.declared.format.Format.{Format}
@@ -11,7 +11,7 @@ abbrev pub ◌>>=◌ : {A B : Type 0} → Option A → (A → Option B) → Opti
 None >>= f = None
 (Some x) >>= f = f x
 
--- a call answered what the reading gives, seen by `view`
+-- a call returned what the reading gives, seen by `view`
 abbrev pub Gives : {X Y : Type 0} → (X → Y) → Option X → Option Y → Type 0
 Gives view None reading = reading ≡ None
 Gives view (Some x) reading = reading ≡ Some (view x)
@@ -28,7 +28,7 @@ child_at (b ∷ bytes) =
     else if b == 1 then (part_at 32 bytes >>= λ d. Some (Some d.0, d.1))
     else None
 
--- bytes behind their number, which lies between two limits
+-- bytes after their number, which lies between two limits
 unfoldable pub counted_at : ℕ → ℕ → List ℕ → Option (List ℕ × List ℕ)
 counted_at low high [] = None
 counted_at low high (n ∷ bytes) =
@@ -54,17 +54,17 @@ entries_at format (suc n) bytes =
     entries_at format n e.1 >>= λ es.
     Some (e.0 ∷ es.0, es.1)
 
--- the bytes behind so many entries
+-- the bytes after so many entries
 unfoldable pub behind_at : Format → ℕ → List ℕ → Option (List ℕ)
 behind_at format zero bytes = Some bytes
 behind_at format (suc n) bytes = entry_at format bytes >>= λ e. behind_at format n e.1
 
--- what is read at last: nothing may be left over
+-- what is read at the end: nothing may be left over
 abbrev pub whole : {A : Type 0} → A × List ℕ → Option A
 whole (x, []) = Some x
 whole (x, b ∷ bytes) = None
 
--- so many entries and the last child, with nothing behind them
+-- so many entries and the last child, with nothing after them
 unfoldable pub body_at : Format → ℕ → List ℕ → Option (List FlatEntry × Option (List ℕ))
 body_at format n bytes =
     entries_at format n bytes >>= λ es.
@@ -89,12 +89,12 @@ node_at format (v ∷ l ∷ h ∷ k ∷ bytes) =
     then (if n == 0 then None else (body_at format n bytes >>= λ b. Some (node_of format l b)))
     else None
 
--- the body that is read, or an empty one where none is
+-- the body that is read, or an empty one if none is
 abbrev pub body_or_empty : Format → ℕ → List ℕ → List FlatEntry × Option (List ℕ)
 body_or_empty format n bytes = unwrap_or (body_at format n bytes) ([], None)
 
--- the first text of a proof: behind the version, the number of texts, which is not 0, and the
--- length of the text in four bytes
+-- the first text of a proof: after the version, the number of texts, which is not 0, and the length
+-- of the text in four bytes
 unfoldable pub first_text_at : List ℕ → Option (List ℕ × List ℕ)
 first_text_at [] = None
 first_text_at (v ∷ []) = None

@@ -40,12 +40,12 @@ seen_passed p = record { last = option_copied p.last; stop = option_map seen_sto
 abbrev pub start : Passing
 start = record { last = None; stop = None }
 
--- the key before, which is empty where there is none
+-- the key before, which is empty if there is none
 abbrev pub key_before : List ℕ → Option (List ℕ)
 key_before [] = None
 key_before (b ∷ bytes) = Some (b ∷ bytes)
 
--- what was passed where this key stands before
+-- what was passed if this key stands before
 abbrev pub passing_from : List ℕ → Option Stop → Passing
 passing_from last stop = record { last = key_before last; stop = option_map seen_stop stop }
 
@@ -60,24 +60,24 @@ abbrev pub pass_at : List ℕ → Passing → FlatEntry → Passing
 pass_at k p e =
     record { last = Some e.key; stop = stop_at p.stop p.last e (key_cmp k e.key) }
 
--- whether a key has the layer of its node, and comes after the one before
+-- whether a key has the layer of its node, and is greater than the one before
 abbrev pub fits_behind : Format → ℕ → Option (List ℕ) → List ℕ → Bool
 fits_behind format l last k =
     layer_in format k == l && option_map_or (λ b. is_lt (key_cmp b k)) last true
 
--- so many entries whose keys fit, with the bytes behind them
+-- so many entries whose keys fit, with the bytes after them
 unfoldable pub scan_at : Format → ℕ → List ℕ → Passing → ℕ → List ℕ → Option (Passing × List ℕ)
 scan_at format l k p zero bytes = Some (p, bytes)
 scan_at format l k p (suc n) bytes =
     entry_at format bytes >>= λ e.
     if fits_behind format l p.last e.0.key then scan_at format l k (pass_at k p e.0) n e.1 else None
 
--- what scanning the entries to come gives, where the search has this stop
+-- what scanning the entries to come gives, if the search has this stop
 abbrev pub scan_from : Format → ℕ → List ℕ → Option Stop → Coming → Option (Passing × List ℕ)
 scan_from format l k stop c =
     scan_at format l k (passing_from c.last.now stop) c.left c.rest.now
 
--- why a search leaves entries, from these bytes on: it has come to a key not below the sought one
+-- why a search leaves entries, from these bytes on: it has reached a key not below the sought one
 abbrev pub Halts : Format → List ℕ → Option Stop → List ℕ → Type 0
 Halts format k (Some s) bytes = ⊥
 Halts format k None bytes =
@@ -88,7 +88,7 @@ Halts format k None bytes =
 abbrev pub first_at : Format → List ℕ → Option (List ℕ)
 first_at format bytes = option_map (λ e. e.0.key) (entry_at format bytes)
 
--- so many entries and the last child, with nothing behind them
+-- so many entries and the last child, with nothing after them
 unfoldable pub body_scan_at : Format → ℕ → List ℕ → ℕ → List ℕ → Option (Passing × Option (List ℕ))
 body_scan_at format l k n bytes =
     scan_at format l k start n bytes >>= λ p.

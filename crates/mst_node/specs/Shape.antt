@@ -31,15 +31,15 @@ abbrev pub node_step : (A : Type 0) → Format → Node-F A TreeEntry Tree → T
 node_step A format n =
     node format n.layer (with_entries n.entries.items (last (boxed_tree A n.tail)))
 
--- the tree that a node is, in a format
+-- the tree of a node, in a format
 abbrev pub tree_of : {A : Type 0} → Format → Node A → Tree
 tree_of {A} format n = fold-Node A TreeEntry Tree (entry_step A) (node_step A format) n
 
--- the entry of a tree that an entry is
+-- the entry of a tree that an entry of the program stands for
 abbrev pub tree_entry : {A : Type 0} → Format → Entry A → TreeEntry
 tree_entry {A} format e = fold-Entry A TreeEntry Tree (entry_step A) (node_step A format) e
 
--- the tree that a node is which need not be there
+-- the tree of an optional node
 abbrev pub tree_of_child : {A : Type 0} → Format → Option (Box (Node A) A) → Tree
 tree_of_child format None = empty
 tree_of_child format (Some b) = tree_of format b.value

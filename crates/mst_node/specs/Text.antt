@@ -28,12 +28,12 @@ abbrev pub version : Format → ℕ
 version One = 1
 version Two = 2
 
--- a byte 1 and the digest of the child, or a byte 0 where there is none
+-- a byte 1 and the digest of the child, or a byte 0 if there is none
 abbrev pub child_text : Option (List ℕ) → List ℕ
 child_text None = 0 ∷ []
 child_text (Some d) = 1 ∷ d
 
--- bytes behind their number
+-- bytes after their number
 abbrev pub counted : List ℕ → List ℕ
 counted bytes = length bytes ∷ bytes
 
@@ -106,7 +106,7 @@ digest t = sha256 (text t)
 abbrev pub root : Format → List Pair → List ℕ
 root format m = digest (tree format m)
 
--- the digest of the child before entry i, or of the last child behind all entries
+-- the digest of the child before entry i, or of the last child after all entries
 abbrev pub child_before : List FlatEntry → Option (List ℕ) → ℕ → Option (List ℕ)
 child_before [] tail i = tail
 child_before (e ∷ es) tail zero = e.child

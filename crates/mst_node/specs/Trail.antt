@@ -33,12 +33,12 @@ abbrev mutual
 abbrev pub trail : Format → List Pair → List ℕ → List Tree
 trail format m k = nodes_met k (tree format m)
 
--- each text behind its length in four bytes, the high one first
+-- each text after its length in four bytes, the high one first
 abbrev pub framed : List (List ℕ) → List ℕ
 framed texts = flat_map (λ t. to_be_bytes w32 (length t) ++ t) texts
 
 -- what follows the texts: nothing in format 1; in format 2 a byte 0 for absence, or a byte 1 and
--- the value behind its length
+-- the value after its length
 abbrev pub answer_text : Format → Option (List ℕ) → List ℕ
 answer_text One answer = []
 answer_text Two None = 0 ∷ []

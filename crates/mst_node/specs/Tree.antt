@@ -5,7 +5,7 @@ use Rattle.mst_key.specs.Layer.{layer_in}
 use Rattle.mst_key.specs.Map.{Pair}
 
 -- A tree is empty, or a node of a layer with its entries from left to right. Each entry stands
--- behind the tree of the gap before it, and the tree of the last gap ends them.
+-- after the tree of the gap before it, and the tree of the last gap ends them.
 mutual
   pub data Tree : Type 0 where
     empty : Tree
@@ -27,7 +27,7 @@ greatest [] = 0
 greatest (l ∷ ls) = max l (greatest ls)
 
 -- The entries are the pairs of layer l, and each gap between them is given to `below`. The gap so
--- far comes first.
+-- far is first.
 unfoldable pub entries_of : (List ℕ → ℕ) → (List Pair → Tree) → ℕ → List Pair → List Pair → Entries
 entries_of layer below l gap [] = last (below gap)
 entries_of layer below l gap (p ∷ m) =

@@ -43,7 +43,7 @@ pub(crate) struct Passed<'a> {
     pub stop: Option<Stop<'a>>,
 }
 
-/// The entries to come: the key before them, empty where there is none, their number, and the bytes
+/// The entries to come: the key before them, empty if there is none, their number, and the bytes
 /// from the first of them on. A search that goes over entries carries no more than this.
 #[derive(Clone, Copy)]
 pub(crate) struct Coming<'a> {
@@ -52,7 +52,7 @@ pub(crate) struct Coming<'a> {
     pub rest: &'a [u8],
 }
 
-/// The key of these bytes, or another where there are none.
+/// The key of these bytes, or another if there are none.
 fn bound_of(bytes: Option<&[u8]>, other: Option<Key>) -> Option<Key>
     requires key { IfSome (option_copied bytes) IsKey }
     ensures bound { result ≡ option_or (option_copied bytes.entry) other }
@@ -66,7 +66,7 @@ fn bound_of(bytes: Option<&[u8]>, other: Option<Key>) -> Option<Key>
     }
 }
 
-/// Whether a key lies above a bound, where both are there.
+/// Whether a key lies above a bound, if both are there.
 fn is_above(key: Option<&[u8]>, low: &Option<Key>) -> bool
     ensures above { IsTrue result ↔ IfSome (option_copied key.entry)
         (λ k. IfSome low.now (λ b. key_cmp b k ≡ Less)) }
@@ -80,7 +80,7 @@ fn is_above(key: Option<&[u8]>, low: &Option<Key>) -> bool
     }
 }
 
-/// Whether a key lies below a bound, where both are there.
+/// Whether a key lies below a bound, if both are there.
 fn is_below(key: Option<&[u8]>, high: &Option<Key>) -> bool
     ensures below { IsTrue result ↔ IfSome (option_copied key.entry)
         (λ k. IfSome high.now (λ b. key_cmp k b ≡ Less)) }
@@ -153,7 +153,7 @@ fn before(last: &[u8]) -> Option<&[u8]>
     if last.is_empty() { None } else { Some(last) }
 }
 
-/// Whether a key has the layer of its node, and comes after the key before.
+/// Whether a key has the layer of its node, and is greater than the key before.
 fn follows(format: Format, layer: u8, last: &[u8], key: &[u8]) -> bool
     requires key { IsKey key.now }
     ensures fits { IsTrue result ↔ ((layer_in format key.now ≡ layer)
@@ -228,7 +228,7 @@ fn stop_of<'a>(format: Format, key: &[u8], coming: Coming<'a>) -> Option<Stop<'a
     Some(Stop { low, entry, here })
 }
 
-/// So many entries whose keys fit, with the bytes behind them.
+/// So many entries whose keys fit, with the bytes after them.
 fn scan<'a>(
     format: Format,
     layer: u8,
@@ -263,7 +263,7 @@ fn first_key(format: Format, bytes: &[u8]) -> Option<&[u8]>
     }
 }
 
-/// So many entries and the last child, with nothing behind them.
+/// So many entries and the last child, with nothing after them.
 #[tactic(auto, unfolding(crate::specs::Scan::body_scan_at))]
 fn body_scan<'a>(
     format: Format,
@@ -311,8 +311,8 @@ fn text_scan<'a>(
 }
 
 /// What a text says of a key, if it is a node's: what `read_text_in`, `Flat::lies_within` and
-/// `Flat::locate` say, from one reading in which each key is hashed once. `None` comes exactly
-/// where the bytes are not in the grammar of node texts.
+/// `Flat::locate` say, from one reading in which each key is hashed once. Returns `None` exactly if
+/// the bytes are not in the grammar of node texts.
 pub fn find_in_text(format: Format, text: &[u8], key: &Key, span: Span) -> Option<Finding>
     ensures found { IfSome result (λ f. (n : FlatNode) × (n.format ≡ format) × IsFlatNode n
         × (text.now ≡ spelling n) × IsFound key.now span n f) }

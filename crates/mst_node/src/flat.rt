@@ -44,7 +44,7 @@ impl<'a> Model for Flat<'a> {
     ghost invariant = { λ f. IsSome (body_at f.format f.count f.body.now) };
 }
 
-/// Whether the bytes are so many entries and a last child, with nothing behind them.
+/// Whether the bytes are so many entries and a last child, with nothing after them.
 fn has_body(format: Format, bytes: &[u8], count: usize) -> bool
     ensures reading { result ≡ is_some (body_at format count bytes.now) }
 {
@@ -83,7 +83,7 @@ pub(crate) fn flat_of(format: Format, text: &[u8]) -> Option<Flat<'_>>
     }
 }
 
-/// Whether the key of an entry has the layer of its node, and comes after the key of the entry
+/// Whether the key of an entry has the layer of its node, and is greater than the key of the entry
 /// before.
 pub(crate) fn fits(format: Format, layer: u8, last: Option<&[u8]>, key: &[u8]) -> bool
     ensures fits { IsTrue result ↔ ((layer_in format key.now ≡ layer)
@@ -132,7 +132,7 @@ impl<'a> Flat<'a> {
         self.count as usize
     }
 
-    /// Entry i, where it lies. It is found by going over the entries before it.
+    /// Entry i, borrowed from the text. It is found by going over the entries before it.
     fn entry(&self, i: usize) -> EntryBytes<'a>
         requires inside { i < length self.now.entries }
         ensures entry { slice_get self.now.entries i ≡ Some (seen result) }
@@ -149,7 +149,7 @@ impl<'a> Flat<'a> {
         }
     }
 
-    /// The digest of the last child, where it lies.
+    /// The digest of the last child, borrowed from the text.
     fn tail(&self) -> Option<&'a [u8; 32]>
         ensures tail { option_copied result ≡ self.now.tail }
     {
@@ -197,8 +197,8 @@ impl<'a> Flat<'a> {
         }
     }
 
-    /// The digest of child i, if it is there: child i stands before entry i, and the last one
-    /// behind all entries. It is found by going over the entries before it.
+    /// The digest of child i, if it is there: child i stands before entry i, and the last one after
+    /// all entries. It is found by going over the entries before it.
     pub fn child(&self, i: usize) -> Option<[u8; 32]>
         requires inside { i ≤ length self.now.entries }
         ensures child { result ≡ child_before self.now.entries self.now.tail i }

@@ -5,7 +5,7 @@ ghost use Rattle.mst_node.specs.Reading.{Gives, first_text_at};
 
 use crate::reading::part_of;
 
-/// The first text of a proof, and the bytes behind it.
+/// The first text of a proof, and the bytes after it.
 #[tactic(auto, unfolding(crate::specs::Reading::first_text_at))]
 fn first_text(proof: &[u8]) -> Option<(&[u8], &[u8])>
     ensures reading { Gives (λ x. (x.0.now, x.1.now)) result (first_text_at proof.now) }
@@ -20,9 +20,9 @@ fn first_text(proof: &[u8]) -> Option<(&[u8], &[u8])>
     }
 }
 
-/// The first text that a proof frames: behind a byte for the version, whatever it is, and a byte
-/// for the number of texts, each text stands behind its length in four bytes, the high one first.
-/// `None` comes exactly where the number of texts is 0, or anything up to the end of the first text
+/// The first text that a proof frames: after a byte for the version, whatever it is, and a byte for
+/// the number of texts, each text stands after its length in four bytes, the high one first.
+/// Returns `None` exactly if the number of texts is 0, or anything up to the end of the first text
 /// is cut short.
 pub fn top_text(proof: &[u8]) -> Option<&[u8]>
     ensures text { IfSome result (λ text. FramesFirst proof.now text.now) }

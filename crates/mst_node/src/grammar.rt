@@ -13,14 +13,14 @@ use thiserror::Error;
 #[error("not a node text")]
 pub struct NodeFault;
 
-/// The flat node that the bytes spell in format 1, borrowed from them. `NodeFault` comes exactly
-/// where the bytes are not in the grammar of node texts: the version 1; the layer; the number of
+/// The flat node that the bytes spell in format 1, borrowed from them. Returns `NodeFault` exactly
+/// if the bytes are not in the grammar of node texts: the version 1; the layer; the number of
 /// entries, 1 to 65,535, in two bytes, the high one first; the first child; then for each entry the
 /// length of its key, 1 to 32, the key, the length of its value, 0 to 64, the value, and the child
-/// behind it, with no byte left over. A child is the byte 00, or the byte 01 and 32 bytes. The keys
+/// after it, with no byte left over. A child is the byte 00, or the byte 01 and 32 bytes. The keys
 /// rise strictly, and the layer of each is that of the node.
 pub fn read_text(bytes: &[u8]) -> Result<Flat<'_>, NodeFault>
-    // The bytes spell the flat node, each of them.
+    // Every byte is part of the flat node's text.
     ensures spelling { IfOk result (λ n. (n.format ≡ One) × IsFlatNode n
         × (bytes.now ≡ spelling n)) }
     ensures grammar { IsOk result ↔ InGrammar One bytes.now }

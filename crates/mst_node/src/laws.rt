@@ -40,7 +40,7 @@ pub fn order_of_tree()
     ensures layers { (format : Format) (m : List Pair) → LayersFall (tree format m) }
     ensures gaps { (format : Format) (m : List Pair) → IsAscending m
         → LiesBetween None None (tree format m) }
-    // where layers fall, each node below another, however far, has a lesser layer
+    // if layers fall, each node below another, however far, has a lesser layer
     ensures below { (format other : Format) (l k : ℕ) (es below : Entries)
         → LayersFall (node format l es) → Contains (nodes_below es) (node other k below) → k < l }
 {}
@@ -56,7 +56,7 @@ pub fn one_text()
         → length (pairs t) ≤ 65535 → InGrammar format (text t) }
 {}
 
-/// A text is read as the flat node that it spells, if its keys fit, and as none exactly where it is
+/// A text is read as the flat node that it spells, if its keys fit, and as none exactly if it is
 /// not in the grammar of the format.
 pub fn text_by_grammar()
     ensures found { (format : Format) (text : List ℕ) (n : FlatNode) → IsBytes text
@@ -67,7 +67,7 @@ pub fn text_by_grammar()
         ↔ (InGrammar format text → ⊥) }
 {}
 
-/// Texts have a collision exactly where two of them differ and have one SHA-256. A text alone has
+/// Texts have a collision exactly if two of them differ and have one SHA-256. A single text has
 /// none.
 pub fn collision_of_two()
     ensures two { (texts : List (List ℕ)) → HasCollision texts

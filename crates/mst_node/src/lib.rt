@@ -19,14 +19,14 @@
 //! ```
 //!
 //! `build` makes the tree, `text` a node's text, and `read_text` reads one. `root_of` gives the
-//! root digest with no tree and no memory. Crates that keep nodes in another form spell their texts
+//! root digest with no tree and no memory. Crates that keep nodes in another form write their texts
 //! by [`TextSink`], for a hasher or in memory. The definitions that the contracts cite stand in
 //! `specs/`: `Tree`, `Gaps`, `Text`, `Grammar`, `Frame`; `Cost` says what a change of the map makes
-//! anew, and `Stays` what kept versions of a history hold.
+//! new, and `Stays` what kept versions of a history hold.
 //!
 //! Nothing here changes a tree: `mst_path` does, in rows. `release` gives a tree's memory back with
-//! no more calls below each other than `build` makes. The pairs of a map come in rising order
-//! of their keys, which `is_map` tests and the calls do not.
+//! no more nested calls than `build` makes. The pairs of a map have to be in rising order of their
+//! keys; `is_map` tests this, and the other calls do not.
 #![tactic(auto)]
 
 mod finding;

@@ -25,7 +25,7 @@ fn layers_of<A: Allocator>(
     Ok(layers)
 }
 
-/// The greatest of the layers, 0 where there is none.
+/// The greatest of the layers, 0 if there is none.
 fn greatest_of(layers: &[u8]) -> u8
     ensures greatest { result ≡ greatest layers.now }
 {
@@ -36,7 +36,7 @@ fn greatest_of(layers: &[u8]) -> u8
     top
 }
 
-/// The entry of a pair, behind the tree of the gap before it.
+/// The entry of a pair, after the tree of the gap before it.
 fn entry_of<A: Allocator>(child: Option<Box<Node<A>, A>>, pair: &(Key, Value)) -> Entry<A>
     ensures entry { (format : Format) → tree_entry format result
         ≡ record { child = tree_of_child format child; key = pair.now.0; value = pair.now.1 } }
@@ -94,11 +94,11 @@ fn subtree<A: Allocator + Copy>(
     Ok(Some(node_of(alloc, top, entries, tail)?))
 }
 
-/// The tree of the pairs of a map: none for the empty map, else the top node. `Memory` comes only
-/// where a growth was refused, and then nothing is kept.
+/// The tree of the pairs of a map: `None` for the empty map, otherwise the top node. Returns
+/// `Memory` only if a growth was refused, and then nothing is kept.
 ///
 /// Each key is hashed once, and a pair is looked at once for each node in whose span it lies. Calls
-/// nest no deeper than the layers, 65 at the most.
+/// nest no deeper than the layers, at most 65.
 pub fn build<A: Allocator + Copy>(
     alloc: A,
     pairs: &[(Key, Value)],
@@ -110,7 +110,7 @@ pub fn build<A: Allocator + Copy>(
 }
 
 /// The tree of the pairs of a map in a format, as `build` is in format 1. Calls nest no deeper than
-/// the layers, in format 2 129 at the most.
+/// the layers, at most 129 in format 2.
 pub fn build_in<A: Allocator + Copy>(
     alloc: A,
     format: Format,

@@ -9,13 +9,13 @@ use std::alloc::{Allocator, Global};
 pub struct Node<A: Allocator = Global> {
     /// The layer of each key of the node: 0 to 64 in format 1, 0 to 128 in format 2.
     pub layer: u8,
-    /// At least one.
+    /// The pairs of the node, at least one.
     pub entries: Vec<Entry<A>, A>,
     /// The tree of the gap after the last entry.
     pub tail: Option<Box<Node<A>, A>>,
 }
 
-/// A pair of a node, behind the tree of the gap before it.
+/// A pair of a node, after the tree of the gap before it.
 #[cycle(node)]
 #[derive(Debug, Drop)]
 pub struct Entry<A: Allocator = Global> {

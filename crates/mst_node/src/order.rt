@@ -7,8 +7,8 @@ ghost use Rattle.mst_key.specs.Map.{key_cmp, IsAscending, IsMap};
 use mst_key::{Key, Value};
 use std::cmp::Ordering;
 
-/// The first eight bytes of each as a number, where both have as many. Numbers that differ decide
-/// the order.
+/// The first eight bytes of each as a number, if both have as many. Numbers that differ decide the
+/// order.
 fn first_words(one: &[u8], other: &[u8]) -> Option<(u64, u64)>
     ensures less { IfSome result (λ w. w.0 < w.1 → key_cmp one.now other.now ≡ Less) }
     ensures greater { IfSome result (λ w. w.1 < w.0 → key_cmp one.now other.now ≡ Greater) }

@@ -5,8 +5,8 @@ ghost use Rattle.mst_node.specs.Gaps.{IsBetween};
 use crate::order::precedes;
 use mst_key::{Key, Value};
 
-/// The keys strictly between two keys, each of which need not be there: those of a node, or of a
-/// gap between its entries.
+/// The keys strictly between two bounds, each of them optional: those of a node, or of a gap
+/// between its entries.
 #[derive(Debug, Drop)]
 pub struct Span {
     pub low: Option<Key>,

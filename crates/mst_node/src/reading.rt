@@ -1,5 +1,5 @@
-//! Reading the parts of a node text, from left to right. Each call answers what it read and the
-//! bytes behind it, or `None`.
+//! Reading the parts of a node text, from left to right. Each call returns what it read and the
+//! bytes after it, or `None`.
 ghost use Rattle.std.specs.Prelude.{◌≡◌, ◌≤◌, length, IfSome, option_copied};
 ghost use Rattle.mst_key.specs.Bytes.{IsKey, IsValue};
 ghost use Rattle.mst_node.specs.Reading.{Gives, part_at, child_at, counted_at, held_at, entry_at, behind_at};
@@ -44,7 +44,7 @@ pub(crate) fn child_of(bytes: &[u8]) -> Option<(Option<&[u8; 32]>, &[u8])>
     }
 }
 
-/// Bytes behind their number, which is at least `low` and at most `high`.
+/// Bytes after their number, which is at least `low` and at most `high`.
 #[tactic(auto, unfolding(crate::specs::Reading::counted_at))]
 fn counted_of(bytes: &[u8], low: u8, high: u8) -> Option<(&[u8], &[u8])>
     ensures reading { Gives (λ x. (x.0.now, x.1.now)) result (counted_at low high bytes.now) }
@@ -62,7 +62,7 @@ fn counted_of(bytes: &[u8], low: u8, high: u8) -> Option<(&[u8], &[u8])>
     }
 }
 
-/// What stands for a value: bytes behind their number, or in format 2 a digest.
+/// What stands for a value: bytes after their number, or in format 2 a digest.
 fn held_of(format: Format, bytes: &[u8]) -> Option<(&[u8], &[u8])>
     ensures reading { Gives (λ x. (x.0.now, x.1.now)) result (held_at format bytes.now) }
     ensures value { IfSome result (λ x. IsValue x.0.now) }
@@ -88,7 +88,7 @@ pub(crate) fn entry_of(format: Format, bytes: &[u8]) -> Option<(EntryBytes<'_>, 
     Some((EntryBytes { child, key, value }, rest))
 }
 
-/// The bytes behind so many entries.
+/// The bytes after so many entries.
 #[tactic(auto, unfolding(crate::specs::Reading::behind_at))]
 pub(crate) fn behind(format: Format, bytes: &[u8], count: usize) -> Option<&[u8]>
     ensures reading { Gives (λ x. x.now) result (behind_at format count bytes.now) }

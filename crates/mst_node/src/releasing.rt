@@ -1,10 +1,10 @@
-//! The memory of a tree, given back.
+//! Giving the memory of a tree back.
 use crate::node::{Entry, Node};
 use std::alloc::Allocator;
 
 /// Gives the memory of a tree back. Calls nest no deeper than the layers, as those of `build_in`
-/// do. The drop that each value has of itself takes three functions for a node below another, so
-/// that it nests up to three times as deep; it comes only where `build_in` is refused memory.
+/// do. The drop that a value has by itself takes three functions for a node below another, so it
+/// nests up to three times as deep; it runs only if `build_in` is refused memory.
 pub fn release<A: Allocator>(tree: Option<Box<Node<A>, A>>) {
     let Some(node) = tree else {
         return;

@@ -107,7 +107,7 @@ fn digest_of(format: Format, pairs: &[(Key, Value)], top: Top) -> [u8; 32]
 ///
 /// The texts are fed to the hash piece by piece, and no tree is built: the call takes no memory. A
 /// key is hashed once to find the top node, and once for each node in whose span it lies; nothing
-/// is fed twice. Calls nest no deeper than the layers, 65 at the most.
+/// is fed twice. Calls nest no deeper than the layers, at most 65.
 pub fn root_of(pairs: &[(Key, Value)]) -> [u8; 32]
     requires few { length pairs.now ≤ 65535 }
     ensures root { result ≡ root_digest One pairs.now }
@@ -116,7 +116,7 @@ pub fn root_of(pairs: &[(Key, Value)]) -> [u8; 32]
 }
 
 /// The root digest of the map of these pairs in a format, as `root_of` is in format 1. Calls nest
-/// no deeper than the layers, in format 2 129 at the most.
+/// no deeper than the layers, at most 129 in format 2.
 pub fn root_of_in(format: Format, pairs: &[(Key, Value)]) -> [u8; 32]
     requires few { length pairs.now ≤ 65535 }
     ensures root { result ≡ root_digest format pairs.now }

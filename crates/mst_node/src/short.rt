@@ -6,7 +6,7 @@ use arrayvec::ArrayVec;
 use std::marker::Model;
 
 /// The most bytes that an entry of a node has: a byte and a digest, the longest key and the longest
-/// value behind their lengths.
+/// value after their lengths.
 const LONGEST: usize = 131;
 
 /// The text of an entry, or only that it is longer than a node's entries are.
@@ -16,7 +16,7 @@ pub struct ShortText {
     is_long: bool,
 }
 
-/// Contracts see the bytes, and none where they are too many.
+/// Contracts see the bytes, or `None` if they are too many.
 impl Model for ShortText {
     ghost use Rattle.std.specs.Prelude.{List, ℕ, Option, Some, None, cond};
 
@@ -36,7 +36,7 @@ impl ShortText {
         }
     }
 
-    /// The bytes, unless they are too many.
+    /// The bytes, or `None` if they are too many.
     pub fn bytes(&self) -> Option<&[u8]>
         ensures bytes { MatchOption result (self.now ≡ None) (λ bytes. self.now ≡ Some bytes.now) }
     {

@@ -10,13 +10,13 @@ use sha2::{Digest, Sha256};
 use std::alloc::Allocator;
 use std::marker::Model;
 
-/// What takes the text of a node piece by piece: a hasher, or a text in memory. How a piece is
-/// spelt stands here and nowhere else.
+/// What takes the text of a node piece by piece: a hasher, or a text in memory. Only this trait
+/// says how a piece is spelt.
 pub trait TextSink: Drop {
     // These are the bytes that it took.
     ghost took: { Self → List ℕ → Type 0 };
 
-    /// Takes bytes behind those that it took.
+    /// Takes bytes after those that it took.
     fn take(&mut self, bytes: &[u8])
         ensures took { (m : List ℕ) → took self.old m → took self.new (m ++ bytes.now) };
 
@@ -82,7 +82,7 @@ pub fn take_entry<S: TextSink>(
     take_held(sink, format, value);
 }
 
-/// Hands over bytes behind their number, at most 255.
+/// Hands over bytes after their number, at most 255.
 fn take_counted<S: TextSink>(sink: &mut S, bytes: &[u8])
     requires few { length bytes.now ≤ 255 }
     ensures counted { (m : List ℕ) → S.took sink.old m → S.took sink.new (m ++ counted bytes.now) }
@@ -121,14 +121,14 @@ impl TextSink for Sha256 {
     }
 }
 
-/// A text that grows in memory. A refused growth ends it, and is told by `finish`.
+/// A text that grows in memory. A refused growth ends it, and `finish` then returns `Memory`.
 #[derive(Drop)]
 pub struct TextBuffer<A: Allocator> {
     bytes: Vec<u8, A>,
     refused: Option<Memory>,
 }
 
-/// Contracts see the bytes; none once a growth was refused.
+/// Contracts see the bytes, or `None` once a growth was refused.
 impl<A: Allocator> Model for TextBuffer<A> {
     ghost use Rattle.std.specs.Prelude.{List, ℕ, Option, Some, None, cond, is_some};
 
@@ -148,7 +148,7 @@ impl<A: Allocator> TextBuffer<A> {
         }
     }
 
-    /// The bytes. `Memory` comes only where a growth was refused.
+    /// The bytes. Returns `Memory` only if a growth was refused.
     pub fn finish(self) -> Result<Vec<u8, A>, Memory>
         ensures bytes { IfOk result (λ bytes. self ≡ Some bytes.items) }
         ensures refused { OnErr result (self ≡ None) }

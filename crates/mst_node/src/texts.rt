@@ -46,9 +46,9 @@ fn node_digest<A: Allocator>(format: Format, node: &Node<A>) -> [u8; 32]
 
 /// The text of a node in format 1: the version 1, the layer, the number of entries in two bytes,
 /// the high one first, then each child and each pair from left to right. A child is the byte 00 for
-/// none, or the byte 01 and its digest; a key and a value stand behind their length in one byte.
+/// none, or the byte 01 and its digest; a key and a value stand after their length in one byte.
 ///
-/// The node is one of a tree of at most 65,535 pairs. `Memory` comes only where a growth was
+/// The node is one of a tree of at most 65,535 pairs. Returns `Memory` only if a growth was
 /// refused. The work is linear in the pairs below the node.
 pub fn text<A: Allocator>(alloc: A, node: &Node<A>) -> Result<Vec<u8, A>, Memory>
     requires few { length (pairs (tree_of One node.now)) ≤ 65535 }
@@ -60,7 +60,7 @@ pub fn text<A: Allocator>(alloc: A, node: &Node<A>) -> Result<Vec<u8, A>, Memory
 /// The text of a node in a format, as `text` is in format 1. In format 2 it begins with the version
 /// 2, and the SHA-256 of each value stands in place of the value and its length.
 ///
-/// The node is one of a tree of at most 65,535 pairs. `Memory` comes only where a growth was
+/// The node is one of a tree of at most 65,535 pairs. Returns `Memory` only if a growth was
 /// refused. The work is linear in the pairs below the node.
 pub fn text_in<A: Allocator>(alloc: A, format: Format, node: &Node<A>) -> Result<Vec<u8, A>, Memory>
     requires few { length (pairs (tree_of format node.now)) ≤ 65535 }

@@ -21,7 +21,7 @@ pub record Going (format : Format) (w : NodeWriter) (content : Content) (s : Sta
   pub made : AreMade s ws
   pub new : (r : ℕ) → In r (ahead w.next) → IsNew s r
 
--- So many entries from a link on are to be copied behind those that are written, and no row stands
+-- So many entries from a link on are to be copied after those that are written, and no row stands
 -- twice in all of them.
 pub record Copying (format : Format) (w : NodeWriter) (content : Content) (s : State)
     (link count : ℕ) : Type 0 where

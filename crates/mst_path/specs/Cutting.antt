@@ -12,7 +12,7 @@ use Rattle.mst_path.specs.Runs.{own_rows}
 use Rattle.mst_path.specs.Writing.{PlacedEntry, link_from}
 use Rattle.mst_path.specs.Making.{cells_of, entries_to}
 
--- these are the entries behind a head: their rows are in the content
+-- these are the entries after a head: their rows are in the content
 pub record EntriesLie (content : Content) (links : HeadLinks) (es : List PlacedEntry) : Type 0 where
   pub first : link_from 0 es ≡ links.first
   pub count : length es ≡ links.count
@@ -23,7 +23,7 @@ abbrev pub gap_before : List PlacedEntry → Placed → Placed
 gap_before [] tail = tail
 gap_before (e ∷ es) tail = e.child
 
--- the run has these entries, up to the link behind them
+-- the run has these entries, up to the link after them
 pub record IsRunOf (run : Run) (behind : ℕ) (es : List PlacedEntry) : Type 0 where
   pub counted : length es ≡ run.count
   pub begins : link_from behind es ≡ run.first
@@ -40,7 +40,7 @@ pub record CutGap (format : Format) (k : List ℕ) (es : List PlacedEntry) (tail
   pub gap : IsGap k (entries_to format es tail) (cells_of format before)
       (entries_to format behind tail)
 
--- the key's entry stands in the row between two parts of the entries, behind the tree at the link
+-- the key's entry stands in the row between two parts of the entries, after the tree at the link
 pub record CutHeld (format : Format) (k : List ℕ) (es : List PlacedEntry) (tail : Placed)
     (front : Run) (row child : ℕ) (back : Run) : Type 0 where
   pub before : List PlacedEntry

@@ -1,5 +1,5 @@
 -- What is left of nodes round a gap, once the tree in the gap is made anew: entries in front of it
--- and entries behind it, which are moved into a new node, and rows that go.
+-- and entries after it, which are moved into a new node, and rows that go.
 use Rattle.mst_key.specs.declared.format.Format.{Format}
 use Rattle.std.specs.Prelude.{◌≤◌, ◌<◌, ◌+◌, ℕ, false, List, ◌∷◌}
 use Rattle.mst_node.specs.Tree.{Tree}
@@ -20,7 +20,7 @@ use Rattle.mst_path.specs.Writing.{PlacedEntry, ahead}
 abbrev pub spare : Frame → List ℕ
 spare frame = frame.head ∷ ahead frame.other
 
--- the rows of the new node: none where it has no entry
+-- the rows of the new node: none if it has no entry
 abbrev pub frame_rows : Frame → ℕ
 frame_rows frame = side_rows (frame.front.count + frame.back.count) false
 

@@ -1,4 +1,4 @@
--- A new node that is made of parts of nodes that stand: entries in front, a tree in the gap behind
+-- A new node that is made of parts of nodes that stand: entries in front, a tree in the gap after
 -- them, and the entries at the back with the tree in the last gap.
 use Rattle.mst_key.specs.declared.format.Format.{Format}
 use Rattle.std.specs.Prelude.{◌≡◌, ◌≤◌, ◌+◌, min, ℕ, zero, suc, List, [], ◌∷◌, ◌++◌, length, map}
@@ -29,17 +29,17 @@ cells_of format es = map (cell_of format) es
 abbrev pub entries_to : (format : Format) → List PlacedEntry → Placed → Entries
 entries_to format es tail = with_entries (cells_of format es) (last (tree_of format tail))
 
--- the entries behind the first
+-- the entries after the first
 abbrev pub others : List PlacedEntry → List PlacedEntry
 others [] = []
 others (e ∷ es) = es
 
--- the link of the last tree, where there are so many entries in front of it
+-- the link of the last tree, if there are so many entries in front of it
 abbrev pub tail_behind : ℕ → ℕ → ℕ
 tail_behind zero tail = 0
 tail_behind (suc n) tail = tail
 
--- where there are no entries at the back there is no tree behind them
+-- if there are no entries at the back there is no tree after them
 abbrev pub HasTail : List PlacedEntry → Placed → Type 0
 HasTail [] tail = tail ≡ none
 HasTail (e ∷ es) tail = Unit {0}

@@ -26,7 +26,7 @@ abbrev mutual
 abbrev pub rows_needed : Tree → ℕ
 rows_needed t = length (pairs t) + node_count t
 
--- the tree at a node which need not be there
+-- the tree of an optional node
 abbrev pub tree_at : (format : Format) {A : Type 0} → Option (Node A) → Tree
 tree_at format None = empty
 tree_at format (Some n) = tree_of_node format n

@@ -118,7 +118,7 @@ pub record PutsAnew (format : Format) (content : Content) (s : State) (link : �
   pub given : (x : ℕ) → in_rising format t x ≡ in_both format inner x + in_frame format framed x
   pub low : m.frame.layer ≤ 128
 
--- where the pair stands on top, all keys are of lower layers
+-- if the pair stands on top, all keys are of lower layers
 abbrev pub IsPutStep : (format : Format) (content : Content) (s : State) (link : ℕ)
     → RisingTree format content s link → ℕ → List ℕ → PutStep → Type 0
 IsPutStep format content s link t l k OnTop = height (tree_of format t.tree.placed) ≤ l

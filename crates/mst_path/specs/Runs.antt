@@ -1,4 +1,4 @@
--- Entries of a node that stand one behind another, as parts of a tree that is taken apart.
+-- Entries of a node that stand one after another, as parts of a tree that is taken apart.
 use Rattle.mst_key.specs.declared.format.Format.{Format}
 use Rattle.std.specs.Prelude.{◌≡◌, ℕ, List, [], ◌∷◌, ◌++◌, length}
 use Rattle.mst_arena.specs.Content.{Content}
@@ -43,7 +43,7 @@ abbrev pub EachGap : (Placed → Type 0) → List PlacedEntry → Type 0
 EachGap P [] = Unit {0}
 EachGap P (e ∷ es) = P e.child × EachGap P es
 
--- So many entries stand from a link on, up to the link behind them: their rows are of the current
+-- So many entries stand from a link on, up to the link after them: their rows are of the current
 -- version and older ones, and so are the trees before them.
 pub record Run (format : Format) (content : Content) (s : State) (link count behind : ℕ)
     (es : List PlacedEntry) : Type 0 where

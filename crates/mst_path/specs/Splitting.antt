@@ -26,7 +26,7 @@ pub record SearchUnder (format : Format) (content : Content) (s : State) (link l
 abbrev pub ToSplit : (format : Format) → Content → State → ℕ → List ℕ → Type 0
 ToSplit format content s link k = SearchUnder format content s link (layer_in format k)
 
--- what a side is made of parts: a node, or the tree in the seam where there are no entries
+-- what a side of parts is: a node, or the tree in the seam if there are no entries
 abbrev pub side_of : (format : Format) {content : Content} {s : State} {parts : Parts}
     → PartsStand format content s parts → Tree
 side_of format {parts = parts} p = node_of format parts.layer

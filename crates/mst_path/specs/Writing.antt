@@ -12,7 +12,7 @@ use Rattle.mst_arena.specs.declared.row.Row.TheVariants.{Entry}
 use Rattle.mst_arena.specs.Standing.{Placed, Chain, end, cell, tree_of, link_of, rows_of, used, HasRows}
 use Rattle.mst_path.specs.declared.node_writer.NodeWriter.{NodeWriter}
 
--- An entry with the number of its row, behind the placed tree of the gap before it.
+-- An entry with the number of its row, after the placed tree of the gap before it.
 pub record PlacedEntry : Type 0 where
   pub at : ℕ
   pub child : Placed
@@ -24,7 +24,7 @@ abbrev pub chain_of : List PlacedEntry → Placed → Chain
 chain_of [] tail = end tail
 chain_of (e ∷ es) tail = cell e.at e.child e.key e.value (chain_of es tail)
 
--- the link of the first of these entries, or the link to what comes behind them
+-- the link of the first of these entries, or the link to what follows them
 abbrev pub link_from : ℕ → List PlacedEntry → ℕ
 link_from behind [] = behind
 link_from behind (e ∷ es) = e.at + 1
@@ -71,7 +71,7 @@ abbrev pub link_to : Option ℕ → ℕ
 link_to None = 0
 link_to (Some r) = r + 1
 
--- there is a row for the next entry where some are left
+-- there is a row for the next entry if some are left
 abbrev pub IsAhead : Option ℕ → ℕ → Type 0
 IsAhead None left = left ≡ 0
 IsAhead (Some r) left = 0 < left

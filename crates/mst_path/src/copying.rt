@@ -71,8 +71,8 @@ pub(crate) fn move_entry<R: Rows, A: Allocator>(
     desk.kill(row);
 }
 
-/// Moves so many entries from a link on into the node, each with the tree in the gap before it. It
-/// answers the link behind them.
+/// Moves so many entries from a link on into the node, each with the tree in the gap before it.
+/// Returns the link after them.
 pub(crate) fn move_run<R: Rows, A: Allocator>(
     rows: &mut R,
     desk: &mut Desk<A>,

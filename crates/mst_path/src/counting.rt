@@ -60,7 +60,7 @@ fn rows_with_entry(frame: &Frame) -> u32
     frame.front.count + frame.back.count + 2
 }
 
-/// How many rows a split takes. It reads along its path alone.
+/// How many rows a split takes. It reads only along its path.
 pub(crate) fn split_cost<R: Rows>(rows: &mut R, link: u32, key: &Sought) -> SplitCost
     requires tree { (format : Format) × (s : State)
         × (t : ToSplit format (R.content rows.old) s link key.now)
@@ -98,8 +98,8 @@ pub(crate) fn split_cost<R: Rows>(rows: &mut R, link: u32, key: &Sought) -> Spli
     }
 }
 
-/// How many rows a put takes of a key that has this layer, where the value is not the one that the
-/// key has. It reads along its path alone.
+/// How many rows a put of a key that has this layer takes, if the value is not the one that the key
+/// has. It reads only along its path.
 pub(crate) fn put_cost<R: Rows>(rows: &mut R, link: u32, layer: u8, key: &Sought) -> u32
     requires tree { (format : Format) × (s : State)
         × (t : RisingTree format (R.content rows.old) s link) × (v : List ℕ)

@@ -1,4 +1,4 @@
-//! A tree that stands, given up whole: all its rows die.
+//! A tree that stands, given up as a whole: all its rows die.
 ghost use Rattle.std.specs.Prelude.{◌≡◌, List, []};
 ghost use Rattle.mst_key.specs.Map.{Pair};
 ghost use Rattle.mst_key.specs.declared.format.Format.{Format};

@@ -11,7 +11,7 @@ use crate::cut::{Cut, cut_at};
 use mst_arena::{Rows, Sought};
 use mst_key::Value;
 
-/// The value of a key in the tree at a link. It reads along the path to the key alone.
+/// The value of a key in the tree at a link. It reads only along the path to the key.
 pub(crate) fn find<R: Rows>(rows: &mut R, link: u32, key: &Sought) -> Option<Value>
     requires tree { (format : Format) × (s : State) × (t : SearchTree format
         (R.content rows.old) s link)

@@ -22,9 +22,9 @@ pub(crate) struct Frame {
     pub(crate) layer: u8,
     /// The entries in front of the gap.
     pub(crate) front: Run,
-    /// The entries behind it, up to the end of their node.
+    /// The entries after it, up to the end of their node.
     pub(crate) back: Run,
-    /// The link of the tree in the last gap, where there are entries at the back, and else 0.
+    /// The link of the tree in the last gap if there are entries at the back, otherwise 0.
     pub(crate) tail: u32,
     /// The row of the head, which goes.
     pub(crate) head: u32,
@@ -33,7 +33,7 @@ pub(crate) struct Frame {
 }
 
 impl Frame {
-    /// How many rows its node takes: none where it has no entry.
+    /// How many rows its node takes: none if it has no entry.
     pub(crate) fn rows(&self) -> u32
         requires few { frame_rows self.now ≤ 4294967295 }
         ensures rows { result ≡ frame_rows self.now }
@@ -55,8 +55,7 @@ pub(crate) fn kill_both<A: Allocator>(desk: &mut Desk<A>, row: u32, other: Optio
     }
 }
 
-/// The node of the frame with the tree in its gap, and that tree alone where the frame has no
-/// entry.
+/// The node of the frame with the tree in its gap, or that tree alone if the frame has no entry.
 fn fill<R: Rows, A: Allocator>(
     rows: &mut R,
     desk: &mut Desk<A>,
@@ -92,7 +91,7 @@ fn fill<R: Rows, A: Allocator>(
     make_node(rows, desk, &parts, format)
 }
 
-/// Makes the node of the frame with the tree in its gap, or leaves that tree alone where the frame
+/// Makes the node of the frame with the tree in its gap, or returns that tree as it is if the frame
 /// has no entry. The rows that the frame names die.
 pub(crate) fn close<R: Rows, A: Allocator>(
     rows: &mut R,

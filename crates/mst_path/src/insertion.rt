@@ -40,22 +40,22 @@ fn is_same(found: &Option<Value>, value: &Value) -> bool
     }
 }
 
-/// Puts a pair into the map that stands at a root as a tree of a format. It answers the root at
-/// which the map with the pair stands, in this format, and the value that the key had.
+/// Puts a pair into the map that stands at a root as a tree of a format. Returns the root at which
+/// the map with the pair stands, in this format, and the value that the key had.
 ///
 /// The rows that stand at the root were born with the current version or an earlier one and are not
 /// dead, and the desk's free rows may be written. Nodes along the path to the key's place, and
 /// along the path on which the tree below that place is split, are made anew, in rows that are born
-/// with the version to come; the rows that only the old tree uses die with that version. All else
-/// is shared. Where the key has this value already nothing is changed, and the root stays.
+/// with the version to come; the rows that only the old tree uses die with that version. Everything
+/// else is shared. If the key already has this value, nothing is changed, and the root stays.
 ///
-/// It takes exactly one row for each entry and one for each node that is made anew. `NoRoom` comes
-/// exactly where fewer rows are free; then rows and desk are as before.
+/// It takes exactly one row for each entry and one for each node that is made anew. Returns
+/// `NoRoom` exactly if fewer rows are free; then rows and desk are as before.
 ///
-/// No memory is taken, and calls nest no deeper than the layers, 65 at the most in format 1 and 129
-/// in format 2. The path is read three times: for the value, to count, and to make the new nodes;
-/// only the last time hashes nodes, each new one once, and in format 2 the value of each entry that
-/// is written. The key is hashed once, for its layer.
+/// No memory is taken, and calls nest no deeper than the layers, at most 65 in format 1 and 129 in
+/// format 2. The path is read three times: for the value, to count, and to make the new nodes; only
+/// the last time hashes nodes, each new one once, and in format 2 the value of each entry that is
+/// written. The key is hashed once, for its layer.
 pub fn put<R: Rows, A: Allocator>(
     rows: &mut R,
     desk: &mut Desk<A>,

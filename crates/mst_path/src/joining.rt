@@ -25,7 +25,7 @@ pub(crate) struct Meeting {
 }
 
 /// Joins two trees, all keys of the left one below those of the right one. The nodes along the path
-/// where they meet are made anew, their rows die, and all beside that path is shared.
+/// where they meet are made anew, their rows die, and everything beside that path is shared.
 pub(crate) fn join<R: Rows, A: Allocator>(
     rows: &mut R,
     desk: &mut Desk<A>,
@@ -73,7 +73,7 @@ pub(crate) fn join_cost<R: Rows>(rows: &mut R, left: u32, right: u32) -> u32
 }
 
 /// Where two trees meet, neither of them empty. It reads their heads, and the first entry of the
-/// right one where its node is made anew.
+/// right one if its node is made anew.
 fn meet<R: Rows>(rows: &mut R, left: u32, right: u32) -> Meeting
     requires trees { (format : Format) × (s : State) × TwoTrees format
         (R.content rows.old) s left right }

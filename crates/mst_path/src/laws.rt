@@ -24,11 +24,11 @@ ghost use Rattle.mst_path.specs.Planting.{IsTreeOf, node_count};
 ghost use Rattle.mst_path.specs.Reached.{ReachesExactly, TogetherReach, Changes, advanced, swept_by, IsSettled};
 ghost use Rattle.mst_path.specs.Versions.{HasMap, Kept, numbers_kept, AreNumbers, rows_kept, Keeps};
 
-/// Which rows a version reaches after a put or a remove, the advance behind it, and a sweep; for
-/// any set of versions that are live.
+/// Which rows a version reaches after a put or a remove, the advance after it, and a sweep; for any
+/// set of versions that are live.
 ///
 /// `before` and `after` are the numbers of the rows that stand before and after the change. A state
-/// is settled where no write is under way.
+/// is settled if no write is under way.
 pub fn reach_laws()
     // each version up to the current one reaches the rows that it reached before
     ensures older { (old new : State) (before after : List ℕ) (into : ℕ)
@@ -64,8 +64,8 @@ pub fn reach_laws()
         → SameReach (λ v. In v live) s.lives (swept_by live s).lives }
     ensures settled_sweep { (s : State) (live : List ℕ) → IsSettled s
         → IsSettled (swept_by live s) }
-    // after a sweep by versions of which the current one is one, a row is free exactly where none
-    // of them reaches it
+    // after a sweep by versions of which the current one is one, a row is free exactly if none of
+    // them reaches it
     ensures free { (s : State) (live : List ℕ) (r : ℕ) → IsSettled s → In (version s) live
         → r < length s.lives → slice_get (swept_by live s).lives r ≡ Some Free
         ↔ ((v : ℕ) → In v live → reaches s.lives v r ≡ false) }
@@ -79,7 +79,8 @@ pub fn reach_laws()
 {}
 
 /// The maps of versions, from one write to the next. The map of a version that is live stays as it
-/// is, whatever is written after it, and rows are free that no map of a live version stands on.
+/// is, whatever is written after it, and the rows on which no map of a live version stands are
+/// free.
 ///
 /// `kept` are the versions that are kept, each with its root and its map: the current one and any
 /// earlier ones. Each law holds for the trees of either format.
@@ -99,7 +100,7 @@ pub fn version_laws()
         → OnlyFreeWritten old before after → into < length old.versions → Keeps f before old kept
         → Keeps f after (advanced into new)
         (record { number = next old; root = at; pairs = n } ∷ kept) }
-    // and so does a map that is planted where the empty map stands
+    // and so does a map that is planted in place of the empty map
     ensures plant { (f : Format) (old new : State) (before after : Content) (root at : Root)
         (n : List Pair)
         (kept : List Kept) (into : ℕ) (stands : Stands f after at n)
@@ -115,7 +116,7 @@ pub fn version_laws()
     // a sweep by the versions that are kept leaves their maps
     ensures sweep { (f : Format) (content : Content) (s : State) (live : List ℕ) (kept : List Kept)
         → AreNumbers live kept → Keeps f content s kept → Keeps f content (swept_by live s) kept }
-    // after it a row is free exactly where none of their maps stands on it
+    // after it a row is free exactly if none of their maps stands on it
     ensures free { (f : Format) (content : Content) (s : State) (live : List ℕ) (kept : List Kept)
         (r : ℕ)
         → AreNumbers live kept → (keeps : Keeps f content s kept) → r < length s.lives
@@ -126,8 +127,8 @@ pub fn version_laws()
         → AreNumbers live kept → (keeps : Keeps f content s kept) → IsDistinct rows
         → ((r : ℕ) → In r rows ↔ In r (rows_kept f content s.lives kept keeps.maps))
         → free_count (swept_by live s).lives + length rows ≡ length s.lives }
-    // a map stands on a row for each pair and one for each node; where no other version is kept,
-    // all others are free
+    // a map stands on a row for each pair and one for each node; if no other version is kept, all
+    // others are free
     ensures rows { (f : Format) (content : Content) (at : Root) (m : List Pair)
         (stands : Stands f content at m)
         → length (numbers stands) ≡ length m + node_count (tree f m) }
@@ -139,7 +140,7 @@ pub fn version_laws()
 {}
 
 /// How old the rows of a node are. A put or a remove leaves a node on the rows on which it stood,
-/// or makes it anew in new rows, and the latter only where its tree did not stand before. So the
+/// or makes it anew in new rows, and the latter only if its tree did not stand before. So the
 /// versions that reach a row of a node are those since which the node's tree has stood.
 pub fn age_laws()
     ensures node { (f : Format) (old new : State) (before after : Content) (root at : Root)
@@ -188,11 +189,11 @@ pub fn room_laws()
         → free_count (swept_by live s).lives + held first h live ≡ length s.lives }
 {}
 
-/// What the calls and the laws ask for can be had.
+/// What the calls and the laws require can be met.
 pub fn premises_can_be_met()
     // each map of at most 65,535 pairs has its tree, which may be planted
     ensures tree { (f : Format) (m : List Pair) → length m ≤ 65535 → IsTreeOf f (tree f m) m }
-    // where no write is under way, the map of the current version stands and may be changed
+    // if no write is under way, the map of the current version stands and may be changed
     ensures stands { (f : Format) (content : Content) (s : State) (at : Root) (m : List Pair)
         → IsSettled s → HasMap f content s.lives (version s) at m → MapStands f content s at }
     // the versions that are kept have a list of their numbers, and its parts may change places

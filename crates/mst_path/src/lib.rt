@@ -16,12 +16,12 @@
 //! ```
 //!
 //! The calls write rows for the version to come and publish nothing: their caller advances the
-//! desk, and sweeps. A change of too few free rows is refused before a row is written, by
-//! [`NoRoom`].
+//! desk, and sweeps. A change for which too few rows are free is refused with [`NoRoom`] before a
+//! row is written.
 //!
 //! The tree of the map after a put or a remove is made from the old one along one path, which is
-//! split or joined from the top down; all beside the path is shared. `mst_change` defines these
-//! trees and counts the rows of the nodes that are made new. [`reach_laws`] says which rows a
+//! split or joined from the top down; everything beside the path is shared. `mst_change` defines
+//! these trees and counts the rows of the nodes that are made new. [`reach_laws`] says which rows a
 //! version reaches after such a change, [`version_laws`] that the map of each version that is kept
 //! stays as it is, [`age_laws`] how old the rows of a node are, and [`room_laws`] how many rows
 //! kept versions leave free.
@@ -30,9 +30,8 @@
 //!
 //! - `insertion` and `removal` look for the key (`finding`), count the rows that are needed
 //!   (`counting`, `remove_path`), and only then write.
-//! - `put_path`, `split`, `remove_path` and `joining` go down the path, with where the key stands
-//!   among
-//!   the entries of a node (`cut`).
+//! - `put_path`, `split`, `remove_path` and `joining` go down the path; `cut` says where the key
+//!   stands among the entries of a node.
 //! - `frames` has what is left of a node round the gap whose tree changes; `making` makes a new
 //!   node of such parts.
 //! - `node_writer` writes the rows of one node, for `copying`, which moves the entries of an old

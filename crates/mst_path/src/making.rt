@@ -18,7 +18,7 @@ use mst_arena::{Desk, Root, Rows};
 use mst_key::{Format, Key, Value};
 use std::alloc::Allocator;
 
-/// Entries of a node, one behind another.
+/// Entries of a node, one after another.
 #[derive(Clone, Copy)]
 pub(crate) struct Run {
     /// The link of the first of them.
@@ -33,7 +33,7 @@ pub(crate) fn no_run() -> Run
     Run { first: 0, count: 0 }
 }
 
-/// The link of the last tree that is kept behind so many entries: none where there are no entries.
+/// The link of the last tree that is kept after so many entries: none if there are no entries.
 pub(crate) fn kept_tail(count: u32, tail: u32) -> u32
     ensures tail { result ≡ tail_behind count tail }
 {
@@ -46,11 +46,11 @@ pub(crate) struct Parts {
     pub(crate) layer: u8,
     /// The entries in front.
     pub(crate) front: Run,
-    /// The tree in the gap behind them.
+    /// The tree in the gap after them.
     pub(crate) seam: Root,
     /// The entries at the back, up to the end of their node.
     pub(crate) back: Run,
-    /// The link of the tree in the last gap, where there are entries at the back, and else 0.
+    /// The link of the tree in the last gap if there are entries at the back, otherwise 0.
     pub(crate) tail: u32,
 }
 
@@ -129,7 +129,7 @@ pub(crate) fn make_node_with<R: Rows, A: Allocator>(
     finish_node(rows, desk, writer, parts)
 }
 
-/// Writes what is behind the front of the node, and answers where it stands.
+/// Writes what is after the front of the node, and returns where the node stands.
 fn finish_node<R: Rows, A: Allocator>(
     rows: &mut R,
     desk: &mut Desk<A>,

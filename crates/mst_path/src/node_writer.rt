@@ -15,7 +15,7 @@ use mst_node::TextSink;
 use sha2::{Digest, Sha256};
 use std::alloc::Allocator;
 
-/// A free row. There is one.
+/// Takes a free row. There is one.
 fn take_row<A: Allocator>(desk: &mut Desk<A>) -> u32
     requires room { 0 < free_count desk.old.lives }
     ensures takes { Takes desk.old desk.new (result ∷ []) }
@@ -26,7 +26,7 @@ fn take_row<A: Allocator>(desk: &mut Desk<A>) -> u32
     }
 }
 
-/// A free row for the next entry, where some are left.
+/// Takes a free row for the next entry, if some are left.
 fn take_next<A: Allocator>(desk: &mut Desk<A>, left: u32) -> Option<u32>
     requires room { 0 < left → 0 < free_count desk.old.lives }
     ensures takes { Takes desk.old desk.new (ahead result) }
@@ -39,8 +39,8 @@ fn take_next<A: Allocator>(desk: &mut Desk<A>, left: u32) -> Option<u32>
     }
 }
 
-/// The digest of the tree at a root, as it stands in the text of the node above; none for the empty
-/// tree.
+/// The digest of the tree at a root, as it stands in the text of the node above; `None` for the
+/// empty tree.
 fn digest_at(root: &Root) -> Option<[u8; 32]>
     ensures digest { (format : Format) (p : Placed) → IsRootOf format p root.now
         → result ≡ child_digest (tree_of format p) }
@@ -70,7 +70,7 @@ pub(crate) struct NodeWriter {
     head: u32,
     /// The row of the first entry.
     first: u32,
-    /// The row of the next entry, where some are left.
+    /// The row of the next entry, if some are left.
     next: Option<u32>,
 }
 
@@ -109,8 +109,7 @@ impl NodeWriter {
         }
     }
 
-    /// Writes the next entry, behind the tree at `child`. It takes a row where a further entry is
-    /// left.
+    /// Writes the next entry, after the tree at `child`. It takes a row if a further entry is left.
     pub(crate) fn entry<R: Rows, A: Allocator>(
         &mut self,
         rows: &mut R,
@@ -126,7 +125,7 @@ impl NodeWriter {
         requires blank { IfSome self.old.next (λ r. IsTrue (R.blank rows.old r)) }
         requires child { child.now.link ≤ 65535 }
         ensures writer { IsWriter self.new }
-        // behind the entries that are written stands the new one, if the row that was taken for it
+        // after the entries that are written stands the new one, if the row that was taken for it
         // is none of theirs and none of its child's
         ensures written { (format : Format) (es : List PlacedEntry) (p : Placed) (r : ℕ)
             → self.old.next ≡ Some r
@@ -158,8 +157,8 @@ impl NodeWriter {
             .entry(self.format, digest_at(child), key.bytes(), value.bytes());
     }
 
-    /// Writes the next entry, behind the tree at `child`: that in a row, which has these links and
-    /// this key. It takes a row where a further entry is left.
+    /// Writes the next entry, after the tree at `child`, as a copy of the entry in a row, which has
+    /// these links and this key. It takes a row if a further entry is left.
     pub(crate) fn copy<R: Rows, A: Allocator>(
         &mut self,
         rows: &mut R,
@@ -206,8 +205,8 @@ impl NodeWriter {
         );
     }
 
-    /// Writes the head, once all entries are written, with the tree at `tail` in the last gap. It
-    /// answers where the node stands.
+    /// Writes the head, once all entries are written, with the tree at `tail` in the last gap.
+    /// Returns where the node stands.
     pub(crate) fn finish<R: Rows>(mut self, rows: &mut R, tail: &Root) -> Root
         requires writer { IsWriter self }
         requires all { self.left ≡ 0 }

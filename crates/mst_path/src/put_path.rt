@@ -1,5 +1,5 @@
-//! The tree after a put: along the path to the key's place each node is made anew, and where the
-//! pair comes to stand the tree below it is split.
+//! The tree after a put: along the path to the key's place each node is made anew, and the tree
+//! below the pair's place is split.
 ghost use Rattle.std.specs.Prelude.{◌≡◌, ◌≤◌, ◌<◌, ◌+◌, true, false};
 ghost use Rattle.mst_key.specs.declared.format.Format.{Format};
 ghost use Rattle.mst_key.specs.Layer.{layer_in};
@@ -246,8 +246,8 @@ fn put_value<R: Rows, A: Allocator>(
 }
 
 /// Puts a pair, whose key is of this layer, into the tree at a link. The nodes along the path to
-/// its place, and along the path of the split below it, are made anew; their rows die, and all
-/// beside that path is shared.
+/// its place, and along the path of the split below it, are made anew; their rows die, and
+/// everything beside that path is shared.
 pub(crate) fn put_at<R: Rows, A: Allocator>(
     rows: &mut R,
     desk: &mut Desk<A>,

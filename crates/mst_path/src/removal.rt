@@ -18,21 +18,21 @@ use mst_arena::{Desk, Root, Rows, Sought};
 use mst_key::{Format, Key, Value};
 use std::alloc::Allocator;
 
-/// Removes a key from the map that stands at a root as a tree of a format. It answers the root at
+/// Removes a key from the map that stands at a root as a tree of a format. Returns the root at
 /// which the map without the key stands, in this format, and the value that the key had.
 ///
 /// The rows that stand at the root were born with the current version or an earlier one and are not
 /// dead, and the desk's free rows may be written. Nodes along the path to the key, and where the
 /// trees beside it meet, are made anew, in rows that are born with the version to come; the rows
-/// that only the old tree uses die with that version. All else is shared. Where the key has no
-/// value nothing is changed, and the root stays.
+/// that only the old tree uses die with that version. Everything else is shared. If the key has no
+/// value, nothing is changed, and the root stays.
 ///
-/// It takes exactly one row for each entry and one for each node that is made anew. `NoRoom` comes
-/// exactly where fewer rows are free; then rows and desk are as before.
+/// It takes exactly one row for each entry and one for each node that is made anew. Returns
+/// `NoRoom` exactly if fewer rows are free; then rows and desk are as before.
 ///
-/// No memory is taken, and calls nest no deeper than the layers, 65 at the most in format 1 and 129
-/// in format 2. The path is read three times: for the value, to count, and to make the new nodes;
-/// only the last time hashes, each new node once, and in format 2 the value of each entry that is
+/// No memory is taken, and calls nest no deeper than the layers, at most 65 in format 1 and 129 in
+/// format 2. The path is read three times: for the value, to count, and to make the new nodes; only
+/// the last time hashes, each new node once, and in format 2 the value of each entry that is
 /// written.
 pub fn remove<R: Rows, A: Allocator>(
     rows: &mut R,

@@ -32,8 +32,8 @@ pub(crate) enum Step {
     Here { meeting: Meeting },
 }
 
-/// The link of the tree in front of these entries, the last ones of their node: its last tree,
-/// where there are none.
+/// The link of the tree in front of these entries, the last ones of their node; its last tree if
+/// there are none.
 fn first_tree<R: Rows>(rows: &mut R, back: Run, tail: u32) -> u32
     requires run { (es : List PlacedEntry) × IsRunOf back 0 es
         × HasRows (R.content rows.old) (own_rows 0 es) }
@@ -124,7 +124,7 @@ fn join_round<R: Rows, A: Allocator>(
 }
 
 /// Removes a key from the tree at a link. The nodes along the path to its entry, and where the
-/// trees beside it meet, are made anew; their rows die, and all beside that path is shared.
+/// trees beside it meet, are made anew; their rows die, and everything beside that path is shared.
 pub(crate) fn remove_at<R: Rows, A: Allocator>(
     rows: &mut R,
     desk: &mut Desk<A>,
@@ -152,7 +152,7 @@ pub(crate) fn remove_at<R: Rows, A: Allocator>(
     }
 }
 
-/// How many rows [`remove_at`] takes. It reads along the path alone.
+/// How many rows [`remove_at`] takes. It reads only along the path.
 pub(crate) fn remove_cost<R: Rows>(rows: &mut R, link: u32, key: &Sought) -> u32
     requires tree { (format : Format) × (s : State) × (t : SearchTree format
         (R.content rows.old) s link)

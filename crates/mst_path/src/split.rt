@@ -37,7 +37,7 @@ fn is_none(run: &Run, beside: &Root) -> bool
     run.count == 0 && beside.link == 0
 }
 
-/// The node of the parts; where they have no entries, the tree in the seam alone.
+/// The node of the parts; if they have no entries, the tree in the seam alone.
 pub(crate) fn side<R: Rows, A: Allocator>(
     rows: &mut R,
     desk: &mut Desk<A>,
@@ -89,7 +89,7 @@ pub(crate) fn both_sides<R: Rows, A: Allocator>(
     (lower, upper)
 }
 
-/// The part of a node in front of a gap, with a tree behind it.
+/// The part of a node in front of a gap, with a tree after it.
 fn front_part(layer: u8, front: Run, seam: Root) -> Parts
     ensures part { result ≡ record {
       layer = layer;
@@ -108,7 +108,7 @@ fn front_part(layer: u8, front: Run, seam: Root) -> Parts
     }
 }
 
-/// The part of a node behind a gap, with a tree in front of it.
+/// The part of a node after a gap, with a tree in front of it.
 fn back_part(head: &HeadLinks, back: Run, seam: Root) -> Parts
     ensures part { result ≡ record {
       layer = head.now.layer;
@@ -128,8 +128,8 @@ fn back_part(head: &HeadLinks, back: Run, seam: Root) -> Parts
 }
 
 /// The two sides of a tree at a key that is of a higher layer than all its keys. Along the path to
-/// the key each node is made anew, in at most two parts; all beside the path is shared, and so is a
-/// tree that is all on one side of the key.
+/// the key each node is made anew, in at most two parts; everything beside the path is shared, and
+/// so is a tree that is all on one side of the key.
 pub(crate) fn split<R: Rows, A: Allocator>(
     rows: &mut R,
     desk: &mut Desk<A>,

@@ -43,7 +43,7 @@ fn rows_of_node<B: Allocator>(node: &Node<B>) -> u32
     rows + rows_of_child(&node.tail)
 }
 
-/// Writes the tree of a gap. It answers where it stands.
+/// Writes the tree of a gap. Returns where it stands.
 #[cycle(plant)]
 fn plant_child<R: Rows, A: Allocator, B: Allocator>(
     rows: &mut R,
@@ -67,7 +67,7 @@ fn plant_child<R: Rows, A: Allocator, B: Allocator>(
     }
 }
 
-/// Writes a node with all below it. It answers where it stands.
+/// Writes a node with all below it. Returns where it stands.
 #[cycle(plant)]
 fn plant_node<R: Rows, A: Allocator, B: Allocator>(
     rows: &mut R,
@@ -92,17 +92,17 @@ fn plant_node<R: Rows, A: Allocator, B: Allocator>(
 }
 
 /// Writes a whole tree into free rows. It takes exactly one row for each entry and each node, and
-/// writes no other; the rows then stand for the tree at the root that it answers, and for the empty
-/// tree at link 0.
+/// writes no other row. Returns the root at which the rows then stand for the tree; its link is 0
+/// for the empty tree.
 ///
 /// The tree is one that `build_in` gave in this format of at most 65,535 pairs, and the desk's free
 /// rows may be written. The rows are born with the version to come.
 ///
-/// `NoRoom` comes exactly where fewer rows are free than the tree takes. Nothing was taken or
-/// written then.
+/// Returns `NoRoom` exactly if fewer rows are free than the tree takes. Then nothing was taken or
+/// written.
 ///
 /// No memory is taken. Each text is fed to the hash while its node is written, and nothing is read.
-/// Calls nest no deeper than the layers, 65 at the most in format 1 and 129 in format 2.
+/// Calls nest no deeper than the layers, at most 65 in format 1 and 129 in format 2.
 pub fn plant<R: Rows, A: Allocator, B: Allocator>(
     rows: &mut R,
     desk: &mut Desk<A>,

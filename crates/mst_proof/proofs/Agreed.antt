@@ -1,4 +1,4 @@
--- The verdict is an answer exactly where the proof is accepted with it.
+-- The verdict is an answer exactly if the proof is accepted with it.
 use Rattle.mst_key.specs.declared.format.Format.{Format}
 use Rattle.std.proofs.Common.{◌≡◌, ℕ, suc, ◌<◌, Bool, true, false, List, [], ◌∷◌, ◌++◌, length, map, Option, Some, None, refl, sym, ◌∙◌, ap, subst}
 use Rattle.std.specs.List.{list_all, AllByRecursion}
@@ -150,7 +150,7 @@ pub held_one : (a : Option (List ℕ)) → a ≡ held_answer One a
 held_one None = refl
 held_one (Some v) = refl
 
--- what the claim and what is held come to
+-- what the claim and what is held give together
 pub settled_done : (format : Format) (claim : Claim) (held a : Option (List ℕ))
     → settled format claim held ≡ Ok a → (format ≡ Two → claim ≡ claim_of format a)
     × (held ≡ held_answer format a)

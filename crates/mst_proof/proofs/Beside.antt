@@ -16,7 +16,7 @@ use Rattle.mst_proof.specs.Beside.{gap_in, gap_tree, held_in, held_value}
 
 -- ---- entries of the program
 
--- the next entry in front of those behind it
+-- the next entry in front of those after it
 opened : (A : Type 0) (items es : List (Entry A)) (i : ℕ) (e : Entry A) → items ≡ es
     → i < length items → e ≡ get_or items i e → drop i es ≡ e ∷ drop (i + 1) es
 opened A items es i e all h is =
@@ -25,7 +25,7 @@ opened A items es i e all h is =
     let f = drop-cons es i e within in
     rw add-one (f ∙ ap (λ (y : Entry A). y ∷ drop (suc i) es) (sym at))
 
--- behind all entries there is none
+-- after all entries there is none
 ended : (A : Type 0) (items es : List (Entry A)) (i : ℕ) → items ≡ es → i ≡ length items
     → drop i es ≡ []
 ended A items es i all end =
@@ -61,7 +61,7 @@ gap_step format A k items es i e tail r whole all h is order before =
     (sym (opened A items es i e all h is))
     ∙ before
 
--- behind all entries the gap is the last one
+-- after all entries the gap is the last one
 pub gap_end : (format : Format) (A : Type 0) (k : List ℕ) (items es : List (Entry A)) (i : ℕ)
     (tail whole : Tree) → items ≡ es → i ≡ length items → gap_among format A k (drop i es) tail
     ≡ whole → tail ≡ whole
@@ -97,7 +97,7 @@ held_step format A k items es i e tail r whole all h is order before =
     (sym (opened A items es i e all h is))
     ∙ before
 
--- behind all entries none holds the key
+-- after all entries none holds the key
 pub held_end : (format : Format) (A : Type 0) (k : List ℕ) (items es : List (Entry A)) (i : ℕ)
     (tail : Tree) (whole : Option (List ℕ)) → items ≡ es → i ≡ length items → held_among format A k
     (drop i es) tail ≡ whole → None ≡ whole

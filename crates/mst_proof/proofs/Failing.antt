@@ -49,7 +49,7 @@ value_behind value rest =
     let behind : drop (length value) (value ++ rest) ≡ rest = drop-append_seam value rest in
     rw (whole, front, behind)
 
--- a tail claims something, whatever stands behind it
+-- a tail claims something, whatever stands after it
 pub claim_behind : (format : Format) (tail : List ℕ) → IsTail format tail → (claim : Claim)
     × ((rest : List ℕ) → claim_at format (tail ++ rest) ≡ alone claim rest)
 claim_behind One tail is =
@@ -67,7 +67,7 @@ claim_behind Two tail (inr t) = (
   λ rest. ap (λ (xs : List ℕ). claim_at Two (xs ++ rest)) t.1 ∙ value_behind t.0 rest,
 )
 
--- of bytes that frame texts and a tail these texts are read, and then what stands behind them
+-- of bytes that frame texts and a tail these texts are read, and then what stands after them
 pub framed_read : (format : Format) (bytes : List ℕ) (texts : List (List ℕ)) (tail rest : List ℕ)
     → Frames format bytes texts tail rest → frame_at format bytes ≡ claimed_at format
     (Some (texts, tail ++ rest))

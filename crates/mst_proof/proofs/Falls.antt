@@ -118,7 +118,7 @@ falls_at format k low high child key value rest r e =
       gap = ap (λ (o : Ordering). by_order o child empty (gap_in k rest)) e;
     }
 
--- behind the entry the map says of the key what the rest says
+-- after the entry the map says of the key what the rest says
 looks_behind : (k : List ℕ) (child : Tree) (key value : List ℕ) (rest : Entries)
     → Round (pairs child) (key, value) (entries_pairs rest) → key_cmp k key ≡ Greater
     → map_get (entries_pairs (entry child key value rest)) k ≡ map_get (entries_pairs rest) k

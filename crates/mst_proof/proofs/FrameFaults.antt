@@ -1,4 +1,4 @@
--- Where no texts and no claim are read of a proof, its frame fails the test whose fault is told.
+-- If no texts and no claim are read from a proof, its frame fails the test whose fault is returned.
 use Rattle.mst_key.specs.declared.format.Format.{Format}
 use Rattle.mst_key.specs.declared.format.Format.TheVariants.{One, Two}
 use Rattle.std.proofs.Common.{◌≡◌, ◌≤◌, ◌<◌, ℕ, Bool, true, false, ◌==◌, cond, List, [], ◌∷◌, ◌++◌, length, Option, Some, None, ◌⊎◌, inl, inr, refl, sym, ◌∙◌, ap, subst, arith, length-append, take, drop}
@@ -73,14 +73,14 @@ is_tail Two (b ∷ bytes) claim e = go (b == 1) refl e
               (alone_done (cond (b == 0) Absence Unfit) claim bytes e).0,
         )
 
--- no front of the bytes is a tail, or a byte stands behind one
+-- no front of the bytes is a tail, or a byte stands after one
 abbrev ClaimFails : Format → List ℕ → ProofFault → Type 0
 ClaimFails format rest fault =
     ((fault ≡ CutShort) × ((tail more : List ℕ) → IsTail format tail → rest ≡ tail ++ more → ⊥))
     ⊎ ((fault ≡ LeftOver) × (tail : List ℕ) × (b : ℕ) × (more : List ℕ) × IsTail format tail
     × (rest ≡ tail ++ b ∷ more))
 
--- a byte behind a claim
+-- a byte after a claim
 alone_fault : (claim : Claim) (rest : List ℕ) (fault : ProofFault) → alone claim rest ≡ Err fault
     → (fault ≡ LeftOver) × (b : ℕ) × (more : List ℕ) × (rest ≡ b ∷ more)
 alone_fault claim [] fault e = absurd (cc (e))
@@ -168,7 +168,7 @@ version_cut format v one = (
   λ texts tail rest is e. let f = (same_head v (version format) [] _ e.whole).1 in absurd (cc (f)),
 )
 
--- of bytes that frame texts and a tail these texts are read, and the tail stands behind them
+-- of bytes that frame texts and a tail these texts are read, and the tail stands after them
 read_again : (format : Format) (v n : ℕ) (xs : List ℕ) (texts : List (List ℕ)) (tail rest : List ℕ)
     → Frames format (v ∷ n ∷ xs) texts tail rest → texts_at n xs ≡ Some (texts, tail ++ rest)
 read_again format v n xs texts tail rest e =
@@ -250,7 +250,7 @@ frame_fault format (v ∷ bytes) fault b e = go (v == version format) refl bytes
         left n xs (let one : v ≡ version format = grind (arith, nat_tests) in one) b.1.1
         (texts_at n xs) refl e
 
--- bytes that are read as texts and a claim frame the texts and a tail, and nothing behind it
+-- bytes that are read as texts and a claim frame the texts and a tail, and nothing after it
 pub frame_whole : (format : Format) (bytes : List ℕ) (ts : List (List ℕ)) (claim : Claim)
     (frame : IsFrame format bytes ts claim) → Frames format bytes ts frame.rest []
 frame_whole format bytes ts claim frame =

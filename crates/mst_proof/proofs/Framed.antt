@@ -100,7 +100,7 @@ pub bind_done : {A B : Type 0} (r : Result A ProofFault) (g : A → Result B Pro
 bind_done (Err f) g y e = absurd (cc)
 bind_done (Ok x) g y e = (x, refl, e)
 
--- what is claimed behind texts
+-- what is claimed after texts
 claimed_done : (format : Format) (r : Option (List (List ℕ) × List ℕ)) (f : List (List ℕ) × Claim)
     → claimed_at format r ≡ Ok f → (rest : List ℕ) × (r ≡ Some (f.0, rest))
     × (claim_at format rest ≡ Ok f.1)

@@ -30,7 +30,7 @@ is_none (suc n) bytes e = absurd (omega (arith, e))
 pub is_empty : (n : ℕ) (ts : List (List ℕ)) → length ts ≡ n → (n == 0) ≡ (length ts == 0)
 is_empty n ts e = ap (λ (k : ℕ). k == 0) (sym e)
 
--- the first text, and the texts behind it
+-- the first text, and the texts after it
 pub texts-step : (n k : ℕ) (bytes : List ℕ) (p : List (List ℕ) × List ℕ) (t : List ℕ × List ℕ)
     → texts_at n bytes ≡ Some p → n ≡ suc k → text_at bytes ≡ Some t → (us : List (List ℕ))
     × (p.0 ≡ t.0 ∷ us) × (texts_at k t.1 ≡ Some (us, p.1))
@@ -70,7 +70,7 @@ pub holds_texts : (n : ℕ) (bytes : List ℕ) (ts : List (List ℕ)) (left : Li
 holds_texts n bytes ts left h = h ∙ ap (λ (x : List (List ℕ)). Some (x, left))
     (sym (seen_texts n bytes ts left h))
 
--- ---- the bytes behind the texts
+-- ---- the bytes after the texts
 
 pub rest_more : (n k : ℕ) (bytes : List ℕ) (t : List ℕ × List ℕ) → n ≡ suc k → text_at bytes ≡ Some
     t → rest_at k t.1 ≡ rest_at n bytes
@@ -107,7 +107,7 @@ rest-texts (suc n) bytes = go (rest-texts n) (text_at bytes)
     go next None = refl
     go next (Some t) = next t.1 ∙ on t.0 (texts_at n t.1)
 
--- ---- the frame, by what lies behind the texts
+-- ---- the frame, by what lies after the texts
 
 pub texts-short : (format : Format) (n : ℕ) (bytes : List ℕ) → rest_at n bytes ≡ None
     → claimed_at format (texts_at n bytes) ≡ Err CutShort

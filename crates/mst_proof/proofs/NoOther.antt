@@ -1,5 +1,5 @@
--- Texts beside the nodes of a tree: where no text differs from its node's with one digest, and the
--- claimed value not from the map's, no other answer is shown.
+-- Texts beside the nodes of a tree: if no text differs from its node's text with one digest, nor
+-- the claimed value from the map's, no other answer is shown.
 use Rattle.std.proofs.Common.{◌≡◌, ◌≢◌, ℕ, List, [], ◌∷◌, Option, Some, None, ◌⊎◌, inl, inr, refl, sym, ◌∙◌, ap, subst}
 use Rattle.std.specs.declared.result.Result.{Result}
 use Rattle.std.specs.declared.result.Result.TheVariants.{Ok}
@@ -32,7 +32,7 @@ use Rattle.mst_proof.proofs.Truth.{one_answer}
 abbrev pub IsFree : Claim → Option (List ℕ) → Type 0
 IsFree claim value = (one other : List ℕ) → ValuesCollide claim value one other → ⊥
 
--- where the map's answer is held, the claim comes to no other
+-- if the map's answer is held, the claim gives no other
 pub settled_same : (format : Format) (claim : Claim) (held a b : Option (List ℕ))
     → held ≡ held_answer format b → settled format claim held ≡ Ok a → IsFree claim b → a ≡ b
 settled_same One claim held a b is e free = sym (ok_same held a e) ∙ is ∙ sym (held_one b)

@@ -1,4 +1,4 @@
--- The verifier's theorem: the proof that a map gives is accepted with the map's answer, and where
+-- The verifier's theorem: the proof that a map gives is accepted with the map's answer, and if
 -- another answer is accepted for the map's root there is a collision.
 use Rattle.mst_key.specs.declared.format.Format.{Format}
 use Rattle.mst_key.specs.declared.format.Format.TheVariants.{One, Two}

@@ -107,7 +107,7 @@ gap_looks format k (node f l es) small some =
       | inr g ↦ g.looks ∙ ap (λ (c : Tree). map_get (pairs c) k) (sym g.gap)
     ]
 
--- where the gap has no child, the entry decides the key
+-- if the gap has no child, the entry decides the key
 gap_decides : (format : Format) (k : List ℕ) (t : Tree) → IsSmall format t → gap_tree k t ≡ empty
     → held_value k t ≡ map_get (pairs t) k
 gap_decides format k empty small none = refl
@@ -291,7 +291,7 @@ unless_none : (b : Bool) (a : Option (List ℕ)) → unless b OtherDigest (Ok No
 unless_none true a e = (refl, sym (ok_same None a e))
 unless_none false a e = absurd (cc)
 
--- where the empty map's answer is held, it is absence
+-- if the empty map's answer is held, it is absence
 none_held : (format : Format) (a : Option (List ℕ)) → held_answer format a ≡ None → a ≡ None
 none_held format None e = refl
 none_held format (Some v) e = absurd (cc)

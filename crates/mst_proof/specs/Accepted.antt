@@ -31,13 +31,13 @@ pub record Holds (n : FlatNode) (k v : List ℕ) : Type 0 where
   pub value : entry.held ≡ v
 
 -- the key lies in the gap between these entries of the flat node: above the keys before it, and
--- below those behind it
+-- below those after it
 pub record IsInGap (n : FlatNode) (k : List ℕ) (before behind : List FlatEntry) : Type 0 where
   pub entries : n.entries ≡ before ++ behind
   pub lesser : AllByRecursion (λ e. key_cmp e.key k ≡ Less) before
   pub greater : AllByRecursion (λ e. key_cmp k e.key ≡ Less) behind
 
--- the child in a gap, by the entries behind it: that of the first, or the node's last child
+-- the child in a gap, by the entries after it: that of the first, or the node's last child
 abbrev pub gap_child : List FlatEntry → Option (List ℕ) → Option (List ℕ)
 gap_child [] tail = tail
 gap_child (e ∷ behind) tail = e.child
@@ -70,7 +70,7 @@ LeadsOn k low high n rest = (before : List FlatEntry) × (behind : List FlatEntr
     × IsInGap n k before behind × (gap_child behind n.tail ≡ Some d)
     × rest d (Some n.layer) (gap_low low before) (gap_high behind high)
 
--- the flat nodes lead to the answer, where this digest, upper layer and bounds are expected of the
+-- the flat nodes lead to the answer, if this digest, upper layer and bounds are expected of the
 -- first
 abbrev pub Leads : List ℕ → List ℕ → Option ℕ → Option (List ℕ) → Option (List ℕ)
     → List FlatNode → Option (List ℕ) → Type 0

@@ -17,12 +17,12 @@ use Rattle.mst_proof.specs.declared.claim.Claim.TheVariants.{Given}
 use Rattle.mst_proof.specs.Frame.{◌>>◌}
 use Rattle.mst_proof.specs.Verdict.{followed, settled, verdict}
 
--- the tree below a node, which need not be there
+-- the tree of an optional node
 abbrev pub top_of : (format : Format) {A : Type 0} → Option (Node A) → Tree
 top_of format None = empty
 top_of format (Some n) = tree_of format n
 
--- the tree in the key's gap; none where an entry holds the key
+-- the tree in the key's gap; none if an entry holds the key
 abbrev pub gap_in : List ℕ → Entries → Tree
 gap_in k (last child) = child
 gap_in k (entry child key value rest) = by_order (key_cmp k key) child empty (gap_in k rest)
@@ -31,7 +31,7 @@ abbrev pub gap_tree : List ℕ → Tree → Tree
 gap_tree k empty = empty
 gap_tree k (node format l es) = gap_in k es
 
--- the value of the entry that holds the key; none where the key lies in a gap
+-- the value of the entry that holds the key; none if the key lies in a gap
 abbrev pub held_in : List ℕ → Entries → Option (List ℕ)
 held_in k (last child) = None
 held_in k (entry child key value rest) = by_order (key_cmp k key) None (Some value) (held_in k rest)

@@ -1,4 +1,4 @@
--- Which tests a proof has passed when a fault is answered: those of its frame, then those of each
+-- Which tests a proof has passed when a fault is returned: those of its frame, then those of each
 -- text in turn, and last that of its claim.
 use Rattle.mst_key.specs.declared.format.Format.{Format}
 use Rattle.std.specs.Prelude.{◌≡◌, ◌≢◌, ◌⊎◌, ◌<◌, ◌^◌, ℕ, List, [], ◌∷◌, ◌++◌, Option, None, length, map, IfSome}
@@ -15,7 +15,7 @@ use Rattle.mst_proof.specs.Accepted.{IsExpected, Holds, IsInGap, gap_child, Lead
 -- ---- the frame
 
 -- A tail, which claims an answer. In format 1 it has no byte. In format 2 it is one byte that is
--- not 1, or a byte 1 and a value behind its length
+-- not 1, or a byte 1 and a value after its length
 abbrev pub IsTail : Format → List ℕ → Type 0
 IsTail One tail = tail ≡ []
 IsTail Two tail = ((b : ℕ) × (b ≢ 1) × (tail ≡ b ∷ []))
@@ -25,7 +25,7 @@ IsTail Two tail = ((b : ℕ) × (b ≢ 1) × (tail ≡ b ∷ []))
 abbrev pub IsShort : List ℕ → Type 0
 IsShort text = length text < 2 ^ 32
 
--- the bytes are the version, the number of these texts, the texts, each behind its length in four
+-- the bytes are the version, the number of these texts, the texts, each after its length in four
 -- bytes, the tail, and the rest
 pub record Frames (format : Format) (bytes : List ℕ) (texts : List (List ℕ)) (tail rest : List ℕ)
     : Type 0 where
@@ -58,7 +58,7 @@ FrameFails format bytes OtherValue = ⊥
 abbrev pub Spells : (format : Format) → List ℕ → FlatNode → Type 0
 Spells format text n = (n.format ≡ format) × IsFlatNode n × (text ≡ spelling n)
 
--- the text has passed the tests that come before the one of the fault, and fails that one
+-- the text has passed the tests before the one of the fault, and fails that one
 abbrev pub FailsBy : (format : Format) → List ℕ → Option ℕ → Option (List ℕ) → Option (List ℕ)
     → List ℕ → ProofFault → Type 0
 FailsBy format d upper low high text NoNode = InGrammar format text → ⊥
@@ -96,7 +96,7 @@ FailAt format k d upper low high (t ∷ ts) fault =
     × ((Decides k n × (ts ≢ []) × (fault ≡ TextBehind)) ⊎ LeadsOn k low high n
     (λ d u l h. FailAt format k d u l h ts fault)))
 
--- where there are no texts the root is not that of the empty map
+-- there are no texts, and the root is not that of the empty map
 abbrev pub TextsFail : (format : Format) → List ℕ → List ℕ → List (List ℕ) → ProofFault → Type 0
 TextsFail format root k [] fault = (root ≢ digest_of []) × (fault ≡ OtherDigest)
 TextsFail format root k (t ∷ ts) fault = FailAt format k root None None None (t ∷ ts) fault

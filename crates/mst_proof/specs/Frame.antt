@@ -12,14 +12,14 @@ use Rattle.mst_node.specs.Reading.{◌>>=◌, part_at}
 use Rattle.mst_proof.specs.declared.fault.ProofFault.{ProofFault}
 use Rattle.mst_proof.specs.declared.fault.ProofFault.TheVariants.{Version, CutShort, LeftOver}
 
--- what comes of a result, where it is no fault
+-- the step after a result, if that is no fault
 infixl 10 ◌>>◌
 abbrev pub ◌>>◌ : {A B : Type 0} → Result A ProofFault → (A → Result B ProofFault)
     → Result B ProofFault
 (Err f) >> g = Err f
 (Ok x) >> g = g x
 
--- a text behind its length in four bytes, the high one first, and the bytes behind it
+-- a text after its length in four bytes, the high one first, and the bytes after it
 unfoldable pub text_at : List ℕ → Option (List ℕ × List ℕ)
 text_at [] = None
 text_at (a ∷ []) = None
@@ -27,26 +27,26 @@ text_at (a ∷ b ∷ []) = None
 text_at (a ∷ b ∷ c ∷ []) = None
 text_at (a ∷ b ∷ c ∷ d ∷ bytes) = part_at (from_be_bytes w32 (a ∷ b ∷ c ∷ d ∷ [])) bytes
 
--- so many texts, and the bytes behind them
+-- so many texts, and the bytes after them
 unfoldable pub texts_at : ℕ → List ℕ → Option (List (List ℕ) × List ℕ)
 texts_at zero bytes = Some ([], bytes)
 texts_at (suc n) bytes = text_at bytes >>= λ t. texts_at n t.1 >>= λ ts. Some (t.0 ∷ ts.0, ts.1)
 
--- the bytes behind so many texts
+-- the bytes after so many texts
 unfoldable pub rest_at : ℕ → List ℕ → Option (List ℕ)
 rest_at zero bytes = Some bytes
 rest_at (suc n) bytes = text_at bytes >>= λ t. rest_at n t.1
 
--- the texts that are read, or none where a text is cut short
+-- the texts that are read, or none if a text is cut short
 abbrev pub texts_or_none : ℕ → List ℕ → List (List ℕ)
 texts_or_none n bytes = (unwrap_or (texts_at n bytes) ([], [])).0
 
--- the number of texts, and the bytes behind it
+-- the number of texts, and the bytes after it
 abbrev pub count_at : List ℕ → Result (ℕ × List ℕ) ProofFault
 count_at [] = Err CutShort
 count_at (n ∷ bytes) = Ok (n, bytes)
 
--- behind the version: the number of texts, and the bytes that frame them
+-- after the version: the number of texts, and the bytes that frame them
 abbrev pub heading_at : Format → List ℕ → Result (ℕ × List ℕ) ProofFault
 heading_at format [] = Err CutShort
 heading_at format (v ∷ bytes) = if v == version_of format then count_at bytes else Err Version
@@ -62,14 +62,14 @@ alone claim (b ∷ bytes) = Err LeftOver
 abbrev pub given : List ℕ → Claim
 given value = if nat_le (length value) 64 then Given value else Unfit
 
--- the claim of a value behind its length
+-- the claim of a value after its length
 abbrev pub value_at : List ℕ → Result Claim ProofFault
 value_at [] = Err CutShort
 value_at (n ∷ bytes) =
     if nat_lt (length bytes) n then Err CutShort else alone (given (take n bytes)) (drop n bytes)
 
--- what stands behind the texts: nothing in format 1; in format 2 a byte 0 for absence, or a byte 1
--- and a value behind its length
+-- what stands after the texts: nothing in format 1; in format 2 a byte 0 for absence, or a byte 1
+-- and a value after its length
 abbrev pub claim_at : Format → List ℕ → Result Claim ProofFault
 claim_at One bytes = alone Nothing bytes
 claim_at Two [] = Err CutShort
@@ -78,7 +78,7 @@ claim_at Two (b ∷ bytes) =
 
 -- ---- the frame
 
--- texts, and the claim behind them
+-- texts, and the claim after them
 abbrev pub claimed_at : Format → Option (List (List ℕ) × List ℕ)
     → Result (List (List ℕ) × Claim) ProofFault
 claimed_at format None = Err CutShort

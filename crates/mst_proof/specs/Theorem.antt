@@ -1,5 +1,5 @@
--- What a proof shows of the map that has the root digest, and what is known where it shows
--- something else.
+-- What a proof shows of the map that has the root digest, and what is known if it shows something
+-- else.
 use Rattle.mst_key.specs.declared.format.Format.{Format}
 use Rattle.std.specs.Prelude.{◌≡◌, ◌≤◌, ℕ, List, [], ◌∷◌, ◌++◌, length, map}
 use Rattle.std.specs.declared.result.Result.{Result}

@@ -103,11 +103,11 @@ judgement format root k (t ∷ ts) = followed format k (first_expected root) (t 
 
 -- ---- the answer
 
--- the value that is claimed, where its SHA-256 is what is held
+-- the value that is claimed, if its SHA-256 is what is held
 abbrev pub opened : List ℕ → List ℕ → Result (Option (List ℕ)) ProofFault
 opened value held = unless (bytes_eq (digest_of value) held) OtherValue (Ok (Some value))
 
--- What the claim and what is held of the key come to. In format 1 a node holds the value
+-- What the claim and what is held of the key give together. In format 1 a node holds the value
 abbrev pub settled : Format → Claim → Option (List ℕ) → Result (Option (List ℕ)) ProofFault
 settled One claim held = Ok held
 settled Two Absence None = Ok None

@@ -1,4 +1,4 @@
-//! What a proof claims of the key behind its texts.
+//! What a proof claims of the key, after its texts.
 ghost use Rattle.std.specs.Prelude.{◌≡◌};
 ghost use Rattle.mst_proof.specs.Frame as spec;
 
@@ -18,7 +18,7 @@ pub(crate) enum Claim {
     Unfit,
 }
 
-/// The claim, if nothing is left over behind it.
+/// The claim, if nothing is left over after it.
 fn alone(claim: Claim, rest: &[u8]) -> Result<Claim, ProofFault>
     ensures alone { result ≡ spec.alone claim rest.now }
 {
@@ -38,7 +38,7 @@ fn given(value: &[u8]) -> Claim
     }
 }
 
-/// The claim of a value behind its length.
+/// The claim of a value after its length.
 fn value_of(bytes: &[u8]) -> Result<Claim, ProofFault>
     ensures value { result ≡ spec.value_at bytes.now }
 {
@@ -56,7 +56,7 @@ fn value_of(bytes: &[u8]) -> Result<Claim, ProofFault>
     }
 }
 
-/// What the bytes behind the texts claim, or the fault of the frame there.
+/// What the bytes after the texts claim, or the fault of the frame there.
 pub(crate) fn claim_of(format: Format, bytes: &[u8]) -> Result<Claim, ProofFault>
     ensures claim { result ≡ spec.claim_at format bytes.now }
 {

@@ -74,7 +74,7 @@ fn value_pair<A: Allocator + Copy>(
     pair_of(alloc, claimed.bytes(), value)
 }
 
-/// A child, where it lies.
+/// A child, borrowed from its box.
 fn node_in<B: Allocator>(child: &Option<Box<Node<B>, B>>) -> Option<&Node<B>>
     ensures child { (format : Format) → top_of format (option_copied result)
         ≡ tree_of_child format child.now }
@@ -116,7 +116,7 @@ fn value_for<'a, B: Allocator>(node: &'a Node<B>, key: &Key) -> Option<&'a Value
 }
 
 /// Follows the texts and the nodes from a node down, up to the first text that is not its node's.
-/// Where all are, the claimed value is compared with that of the node's entry.
+/// If each text is its node's, the claimed value is compared with that of the node's entry.
 fn walk<A: Allocator + Copy>(
     alloc: A,
     format: Format,
@@ -149,10 +149,10 @@ fn walk<A: Allocator + Copy>(
 /// them a text of the proof, the text of a node of the tree, or the empty text. The tree is that of
 /// a map of at most 65,535 pairs.
 ///
-/// Where `verify` shows of the key, for the map's root digest, another answer than the map's, there
-/// is such a pair and it is found: `None` comes only where the proof shows no other answer.
-/// `Memory` comes only where a growth was refused: never where the proof's frame is broken, and
-/// without a tree only where the pair stands. The texts of the nodes that a search for the key
+/// If `verify` returns another answer than the map's for the key and the map's root digest, there
+/// is such a pair, and it is found: `collide` returns `None` only if the proof shows no other
+/// answer. Returns `Memory` only if a growth was refused: never if the proof's frame is broken, and
+/// without a tree only if there is such a pair. The texts of the nodes that a search for the key
 /// meets are made one after another, up to the first that is not the proof's.
 pub fn collide<A: Allocator + Copy>(
     alloc: A,
@@ -181,9 +181,9 @@ pub fn collide<A: Allocator + Copy>(
 /// The collision behind a false answer in a format, as `collide` finds it in format 1. The tree is
 /// that of the map in this format.
 ///
-/// In format 2 a node's text holds the SHA-256 of a value. So where all texts of the proof are
-/// their nodes' texts, the value that the proof claims may be another one with the same SHA-256: it
-/// is compared with the map's value of the key, and the pair may be these two values.
+/// In format 2 a node's text holds the SHA-256 of a value. So if each text of the proof is its
+/// node's text, the value that the proof claims may be another one with the same SHA-256: it is
+/// compared with the map's value of the key, and the pair may be these two values.
 pub fn collide_in<A: Allocator + Copy>(
     alloc: A,
     format: Format,

@@ -48,7 +48,7 @@ impl Step {
     }
 }
 
-/// Whether a layer lies below another, which need not be there.
+/// Whether a layer lies below another one, if that is there.
 fn is_under(upper: Option<u8>, layer: u8) -> bool
     ensures under { result ≡ under upper layer }
 {
@@ -58,8 +58,8 @@ fn is_under(upper: Option<u8>, layer: u8) -> bool
     }
 }
 
-/// Whether a text has a digest. The two are compared as slices, so where they lie: as arrays they
-/// would be put together byte by byte first.
+/// Whether a text has a digest. The two are compared as slices, in place: as arrays they would
+/// first be copied byte by byte.
 fn has_digest(text: &[u8], expected: &[u8; 32]) -> bool
     ensures same { result ≡ bytes_eq (digest_of text.now) expected.now }
 {

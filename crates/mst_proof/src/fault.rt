@@ -11,14 +11,14 @@ pub enum ProofFault {
     /// The version, the number of texts, a length or a text is cut short.
     #[error("P2")]
     CutShort,
-    /// Bytes are left over behind the last text.
+    /// Bytes are left over after the last text.
     #[error("P3")]
     LeftOver,
     /// A text is not that of a node.
     #[error("P4")]
     NoNode,
     /// The digest of a text is not the expected one: the root, or that of the child in the node
-    /// above. So too where there is no text, and the root is not that of the empty map.
+    /// above. Also if there is no text, and the root is not that of the empty map.
     #[error("P5")]
     OtherDigest,
     /// The layer of a node is not below that of the node above.
@@ -35,7 +35,7 @@ pub enum ProofFault {
     TextBehind,
     /// The tail does not claim what the texts show: its first byte is neither 00 nor 01, it has a
     /// value of more than 64 bytes or one for an absent key, or the value is not the one whose
-    /// SHA-256 the last text holds. In format 2 alone.
+    /// SHA-256 the last text holds. In format 2 only.
     #[error("P10")]
     OtherValue,
 }

@@ -27,8 +27,7 @@ pub fn trail_by_spans()
 {}
 
 /// A trail has at most 65 nodes in format 1, and 129 in format 2: layers fall from node to node,
-/// from 64 at most or from 128. So the number of its texts fits the one byte that a proof has for
-/// it.
+/// from at most 64 or 128. So the number of its texts fits the one byte that a proof has for it.
 pub fn trail_is_short()
     ensures few { (m : List Pair) (k : List ℕ) → length (trail One m k) ≤ 65 }
     ensures few_in_format_2 { (m : List Pair) (k : List ℕ) → length (trail Two m k) ≤ 129 }
@@ -43,8 +42,8 @@ pub fn each_map_has_its_root()
         → d ≡ root_of format m }
 {}
 
-/// Two texts collide among others exactly where both are of them, differ, and have one SHA-256.
-/// Then those others have a collision.
+/// Two texts collide among others exactly if both are of them, differ, and have one SHA-256. Then
+/// those others have a collision.
 pub fn collisions_among()
     ensures two { (texts : List (List ℕ)) (one other : List ℕ) → CollidesAmong texts one other
         ↔ (Contains texts one × Contains texts other × (one ≢ other)
@@ -53,7 +52,7 @@ pub fn collisions_among()
         → HasCollision texts }
 {}
 
-/// A text is read as the one flat node that it spells, and as none exactly where it is not in the
+/// A text is read as the one flat node that it spells, and as none exactly if it is not in the
 /// grammar.
 pub fn texts_by_grammar()
     ensures found { (format : Format) (text : List ℕ) (n : FlatNode) → IsBytes text
@@ -66,8 +65,8 @@ pub fn texts_by_grammar()
 /// each text before the next, and of one text the grammar, then the digest, then the layer, then
 /// the keys. In format 2 the claim of the tail is compared last.
 pub fn faults_in_order()
-    // a text is refused with a fault exactly where it has passed the tests before that one, and
-    // fails that one
+    // a text is refused with a fault exactly if it has passed the tests before that one, and fails
+    // that one
     ensures text { (format : Format) (k : List ℕ) (x : Expected) (text : List ℕ)
         (fault : ProofFault) → IsBytes text → (step_at format k x text ≡ Err fault)
         ↔ FailsBy format x.digest x.upper x.span.low x.span.high text fault }

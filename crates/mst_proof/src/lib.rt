@@ -12,9 +12,9 @@
 //! }
 //! ```
 //!
-//! An answer is worth what its root digest is: who made that, and when, is not told here. Where an
-//! answer is false, `collide` names two texts with one SHA-256. `verify_in` and `collide_in` are
-//! the same in either format. Proofs are made by `mst_read` and `mst_store`.
+//! An answer is only as good as its root digest: who made that, and when, is not known here. If an
+//! answer is false, `collide` names two texts with one SHA-256. `verify_in` and `collide_in` do the
+//! same in either format. Proofs are made by `mst_read` and `mst_store`.
 //!
 //! The definitions that the contracts cite stand in `specs/`: `Verdict`, `Accepted`, `Frame`, and
 //! in `mst_node` `Trail`.

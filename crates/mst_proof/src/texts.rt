@@ -1,4 +1,4 @@
-//! The texts that a proof frames, each where it lies.
+//! The texts that a proof frames, each borrowed from its bytes.
 ghost use Rattle.std.specs.Prelude.{◌≡◌, ◌==◌, ◌∷◌, [], length, MatchOption, IfOk, IfErr, IfSome};
 ghost use Rattle.mst_key.specs.Bytes.{IsBytes};
 ghost use Rattle.std.specs.declared.result.Result.TheVariants.{Ok, Err};
@@ -11,7 +11,7 @@ use mst_key::Format;
 use mst_node::format_byte;
 use std::marker::Model;
 
-/// Texts, one behind another, each behind its length in four bytes.
+/// Texts, one after another, each after its length in four bytes.
 #[derive(Debug, Drop)]
 pub(crate) struct Texts<'a> {
     count: u8,
@@ -31,7 +31,7 @@ impl<'a> Model for Texts<'a> {
         × (texts_at t.count t.bytes.now ≡ Some (texts_or_none t.count t.bytes.now, rest)) };
 }
 
-/// The first text, and the bytes behind it.
+/// The first text, and the bytes after it.
 #[tactic(auto, unfolding(crate::specs::Frame::text_at, mst_node::specs::Reading::part_at))]
 fn text_of(bytes: &[u8]) -> Option<(&[u8], &[u8])>
     ensures reading { Gives (λ x. (x.0.now, x.1.now)) result (text_at bytes.now) }
@@ -50,7 +50,7 @@ fn text_of(bytes: &[u8]) -> Option<(&[u8], &[u8])>
     }
 }
 
-/// The bytes behind so many texts.
+/// The bytes after so many texts.
 #[tactic(auto, unfolding(crate::specs::Frame::rest_at))]
 fn behind(bytes: &[u8], count: u8) -> Option<&[u8]>
     ensures reading { Gives (λ x. x.now) result (rest_at count bytes.now) }
@@ -63,7 +63,7 @@ fn behind(bytes: &[u8], count: u8) -> Option<&[u8]>
     Some(rest)
 }
 
-/// Behind the version: the number of texts, and the bytes that frame them.
+/// After the version: the number of texts, and the bytes that frame them.
 fn heading(format: Format, proof: &[u8]) -> Result<(u8, &[u8]), ProofFault>
     ensures ok { IfOk result (λ x. heading_at format proof.now ≡ Ok (x.0, x.1.now)) }
     ensures fault { IfErr result (λ fault. heading_at format proof.now ≡ Err fault) }

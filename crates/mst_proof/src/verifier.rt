@@ -51,7 +51,7 @@ fn follow(
     Err(ProofFault::Unfinished)
 }
 
-/// The value that is claimed, where its SHA-256 is what is held.
+/// The value that is claimed, if its SHA-256 is what is held.
 fn open(value: Value, held: &Value) -> Result<Option<Value>, ProofFault>
     ensures opened { result ≡ opened value held.now }
 {
@@ -62,7 +62,7 @@ fn open(value: Value, held: &Value) -> Result<Option<Value>, ProofFault>
     }
 }
 
-/// What the claim and what is held of the key come to.
+/// What the claim and what is held of the key give together.
 fn settle(format: Format, claim: Claim, held: Option<Value>) -> Result<Option<Value>, ProofFault>
     ensures settled { result ≡ settled format claim held }
 {
@@ -98,24 +98,24 @@ fn judge(
 }
 
 /// What the proof shows of the key in the map with this root digest: its value, or `None` for its
-/// absence, or else the first test that the proof fails.
+/// absence. If the proof fails a test, returns the first test that it fails.
 ///
-/// A proof is the version 01, the number of texts in one byte, and the texts, each behind its
-/// length in four bytes, the high one first. The texts are those of the nodes that a search for the
-/// key meets, from the top down to the one that decides: the one that holds the key, or whose gap
-/// for the key has no child. The frame is tested before any text is hashed. Then each text is read
-/// where it lies, and hashed once, as is each of its keys; the call takes no memory.
+/// A proof is the version 01, the number of texts in one byte, and the texts, each after its length
+/// in four bytes, the high one first. The texts are those of the nodes that a search for the key
+/// meets, from the top down to the one that decides: the one that holds the key, or whose gap for
+/// the key has no child. The frame is tested before any text is hashed. Then each text is read in
+/// place, and hashed once, as is each of its keys; the call takes no memory.
 pub fn verify(root: &[u8; 32], key: &Key, proof: &[u8]) -> Result<Option<Value>, ProofFault>
     ensures verdict { result ≡ verdict One root.now key.now proof.now }
-    // An answer comes exactly where the proof is accepted with it.
+    // An answer is returned exactly if the proof is accepted with it.
     ensures accepted { (answer : Option (List ℕ)) → (result ≡ Ok answer)
         ↔ Accepted One root.now key.now proof.now answer }
     // The proof that a map gives shows the map's answer.
     ensures complete { (m : List Pair) → HasRoot One m root.now → proof.now ≡ proof_text One m
         key.now
         → result ≡ Ok (map_get m key.now) }
-    // Where a proof shows another answer for a map's root, two different texts have one SHA-256:
-    // two of those of the proof, those of the nodes of the map's tree, and the empty text.
+    // If a proof shows another answer for a map's root, two different texts have one SHA-256: two
+    // of those of the proof, those of the nodes of the map's tree, and the empty text.
     ensures sound { (m : List Pair) (answer : Option (List ℕ)) → HasRoot One m root.now
         → result ≡ Ok answer → answer ≢ map_get m key.now
         → HasCollision (texts_named One proof.now (tree One m)) }
@@ -123,8 +123,8 @@ pub fn verify(root: &[u8; 32], key: &Key, proof: &[u8]) -> Result<Option<Value>,
     verify_in(Format::One, root, key, proof)
 }
 
-/// What the proof shows of the key in the map with this root digest in a format, as `verify` says
-/// it in format 1.
+/// What the proof shows of the key in the map with this root digest in a format, as `verify` does
+/// in format 1.
 ///
 /// In format 2 a proof begins with the version 02, and a tail follows its texts: 00 for an absent
 /// key, or 01, the length of the value in one byte, and the value. The last text holds the SHA-256

@@ -35,7 +35,7 @@ pub record Reached (format : Format) (content : Content) (top : Option HeadLinks
   pub rise : IsAscending (pairs (tree_of format placed))
   pub holds : P (pairs (tree_of format placed))
 
--- the node behind a head that was read
+-- the node of a head that was read
 pub record Inside (format : Format) (content : Content) (links : HeadLinks)
     (P : List Pair → Type 0) : Type 0 where
   pub chain : Chain

@@ -1,4 +1,4 @@
--- What a range that is gathered part by part comes to.
+-- What a range is that is gathered part by part.
 use Rattle.std.proofs.Common.{◌≡◌, ℕ, zero, suc, ◌+◌, ◌-◌, ◌<◌, ◌≤◌, ◌⊎◌, inl, inr, Bool, true, false, cond, not, List, [], ◌∷◌, ◌++◌, length, take, filter, Option, Some, None, refl, sym, ◌∙◌, ap, subst, arith, append_assoc, length-append, is_lt, true≢false}
 use Rattle.std.specs.Prelude.{◌&&◌}
 use Rattle.std.proofs.lemmas.Bool.{cond-true}
@@ -82,7 +82,7 @@ none_from k key front to less low =
     go (inl more) x e = less_chain x key k e more
     go (inr same) x e = subst (λ (y : List ℕ). key_cmp x y ≡ Less) same e
 
--- the pairs of a list within the bounds, where none is below the lower one
+-- the pairs of a list within the bounds, if none is below the lower one
 same_filter : (from to : Option (List ℕ)) (m : List Pair)
     → AllByRecursion (λ p. from_on from p.0 ≡ true) m → filter (within from to) m ≡ filter
     (within None to) m

@@ -17,7 +17,7 @@ use Rattle.mst_read.proofs.Walk.{Onward, AtCell, AtEnd, at_cell, entry_left, chi
 use Rattle.mst_read.proofs.Fillings.{filled-append, filled-full, filled-nothing, outside-above}
 
 module _ (to : Option (List ℕ)) (limit : ℕ) (format : Format) (layer : ℕ) where
-  -- the rest of a part, with what is found so far, comes to what the whole part comes to
+  -- the rest of a part, with what is found so far, gives what the whole part gives
   pub record Rest (found whole : List Pair) (rest : Chain) : Type 0 where
     pub mst : IsMstEntries format layer (entries_of format rest)
     pub rise : IsAscending (entries_pairs (entries_of format rest))
@@ -29,7 +29,7 @@ pub cell_value : {format : Format} {content : Content} {tail row done all : ℕ}
     → part_at entry_value content row ≡ Some a.value
 cell_value a = ap (option_and_then entry_value) a.here
 
--- some part of a node stands in the rows behind these links
+-- some part of a node stands in the rows after these links
 abbrev pub SomePart : Content → HeadLinks → Type 0
 SomePart content part = (f : Format) × (c : Chain) × PartStands f content part c
 
@@ -116,7 +116,7 @@ module _ {to : Option (List ℕ)} {limit : ℕ} {format : Format} {content : Con
         in
         further a (Rest to limit format layer last whole) rest
 
-    -- nothing behind the entry is within the range
+    -- nothing after the entry is within the range
     pub stops : (limit ≤ length last) ⊎ (below to e.key ≡ false) → last ≡ whole
     stops (inl full) = sym (filled-full None to limit last back full) ∙ after_entry
     stops (inr past) =
@@ -142,7 +142,7 @@ module _ {to : Option (List ℕ)} {limit : ℕ} {format : Format} {content : Con
   pub tail_falls : depth top < layer + 1
   tail_falls = falls format layer a.child top a.holds.mst.0 tail_is
 
--- the pairs of a part behind its first gap
+-- the pairs of a part after its first gap
 module _ {format : Format} {content : Content} {part : HeadLinks} {c : Chain}
     (s : PartStands format content part c) where
   pub no_entries : part.count ≡ 0 → past_gap format c ≡ []

@@ -1,4 +1,4 @@
--- What the place that a search for a key comes to says of the pairs of the node.
+-- What the place at which a search for a key ends says of the pairs of the node.
 use Rattle.std.proofs.Common.{◌≡◌, ℕ, List, ◌∷◌, ◌++◌, Option, Some, IsSome, option_and_then, refl, sym, ◌∙◌, ap, subst}
 use Rattle.std.specs.declared.cmp.Ordering.{Ordering}
 use Rattle.std.specs.declared.cmp.Ordering.TheVariants.{Less, Equal, Greater}
@@ -160,7 +160,7 @@ module _ (format : Format) (content : Content) (k : List ℕ) where
           subst There (sym there) refl
       go Greater is further = further is
 
--- what the place that the search comes to says in a node, while the rows are the same
+-- what the place at which the search ends says in a node, while the rows are the same
 module _ {format : Format} {content : Content} {links : HeadLinks} (k : List ℕ) (m : List Pair)
     (d : Inside format content links (Finds k m)) {after : Content} {found : Place}
     (same : after ≡ content) (answer : (f : Format) (c : Chain) → LiesBehind f after links c

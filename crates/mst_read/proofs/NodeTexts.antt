@@ -68,7 +68,7 @@ held_short : (format : Format) (v : List ℕ) → length v ≤ 64
 held_short One v few = omega (arith, few)
 held_short Two v few = omega (arith, length-sha256 v)
 
--- an entry: a child, the key behind its length, and what stands for the value
+-- an entry: a child, the key after its length, and what stands for the value
 pub entry_length : (format : Format) (out d x y : List ℕ) → length y ≤ 64
     → length (((out ++ d) ++ counted x) ++ held_text format (held_of format y)) ≤ length out
     + length d + (1 + length x) + 65

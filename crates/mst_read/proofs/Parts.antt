@@ -27,7 +27,7 @@ use Rattle.mst_read.proofs.Fillings.{from_less, from_same, not_from_more, all_fr
 
 -- ---- the search for the cut
 
--- the rest of a chain is cut where the whole is
+-- the rest of a chain is cut at the place where the whole is
 pub record Cuts (k : List ℕ) (whole rest : Chain) : Type 0 where
   pub gap : gap_placed k rest ≡ gap_placed k whole
   pub part : rest_from k rest ≡ rest_from k whole
@@ -41,7 +41,7 @@ link_left {next = next} {done} {all} o lt = go o.rest o.first_is o.left
     go (end p) first left = absurd (omega arith)
     go (cell at p key v c) first left = omega arith
 
--- the link of the tree in the gap, and the part behind it
+-- the link of the tree in the gap, and the part after it
 abbrev pub CutIs : List ℕ → ℕ → Chain → ℕ × HeadLinks → Type 0
 CutIs k layer whole found =
     found ≡ (link_of (gap_placed k whole), chain_links layer (rest_from k whole))
@@ -243,7 +243,7 @@ module _ (format : Format) (content : Content) (layer : ℕ) (k : List ℕ) wher
                 ∙ sym (filled-append (Some k) to limit found front ((key, v) ∷ back));
           }
 
--- ---- the node behind a head that was read
+-- ---- the node of a head that was read
 
 pub record Opened (format : Format) (content : Content) (links : HeadLinks) (p : Placed) : Type 0
   where
@@ -337,7 +337,7 @@ module _ {format : Format} {content : Content} {top : Option HeadLinks} {links :
         rise = cut.rest_rise;
       }))
 
-  -- the tree in the gap is gathered, and then the part behind it
+  -- the tree in the gap is gathered, and then the part after it
   pub sums : (to : Option (List ℕ)) (limit : ℕ) (before next : List Pair) → next ≡ filled (Some k)
       to limit before (pairs (tree_of format gap)) → filled None to limit next
       (past_gap format rest) ≡ filled (Some k) to limit before (pairs (tree_of format p))

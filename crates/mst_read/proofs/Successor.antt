@@ -88,8 +88,8 @@ pair_read (Some (Entry child next key value)) e v links is =
     let same : value ≡ v = cc in
     ap (λ (x : EntryLinks). Some (x.key, value)) fields ∙ ap (λ (x : List ℕ). Some (e.key, x)) same
 
--- the least key above the bound is in the tree under the search, or else it is that of the entry to
--- the right
+-- the least key above the bound is in the tree under the search; otherwise it is that of the entry
+-- to the right
 abbrev pub Answers : Content → Option (List ℕ) → Option ℕ → List Pair → List Pair → Type 0
 Answers content bound right m ps = option_or (map_next ps bound) (pair_at content right) ≡ map_next
     m bound
@@ -108,7 +108,7 @@ pub at_start : (content : Content) (bound : Option (List ℕ)) (m : List Pair) �
 at_start content bound m = or_none (map_next m bound)
 
 module _ (format : Format) (content : Content) (bound : Option (List ℕ)) where
-  -- the tree in the last gap, where no key of the node is above the bound
+  -- the tree in the last gap, if no key of the node is above the bound
   in_tail_of : (l : ℕ) (c : Chain) → HasRows content (chain_rows format c) → IsMstEntries format l
       (entries_of format c) → IsAscending (entries_pairs (entries_of format c))
       → entry_above bound c ≡ None → Ahead format content l (tail_of c)
@@ -219,8 +219,8 @@ module _ (format : Format) (content : Content) (bound : Option (List ℕ)) where
             };
           }
 
--- a node in which the answer is, or else it is the pair to the right; its first entry above the
--- bound was looked for, while the rows are the same
+-- a node that has the answer, or otherwise the answer is the pair to the right; its first entry
+-- above the bound was looked for, while the rows are the same
 module _ {format : Format} {content : Content} {links : HeadLinks} (bound : Option (List ℕ))
     (right : Option ℕ) (m : List Pair)
     (d : Inside format content links (Answers content bound right m)) {after : Content}
@@ -230,7 +230,7 @@ module _ {format : Format} {content : Content} {links : HeadLinks} (bound : Opti
     first_is : entry_above bound d.chain ≡ found
     first_is = sym (answer format d.chain (behind_still same d.lies))
 
-    -- where no key of the node is above the bound, its last gap has the answer
+    -- if no key of the node is above the bound, its last gap has the answer
     pub in_tail : found ≡ None → Ahead format content links.layer links.tail
         (Answers content bound right m)
     in_tail is =
@@ -240,7 +240,7 @@ module _ {format : Format} {content : Content} {links : HeadLinks} (bound : Opti
         (first_is ∙ is)) (Answers content bound right m)
         (λ ps e. ap (λ (o : Option Pair). option_or o (pair_at content right)) e ∙ d.holds))
 
-    -- else the gap before the first key above it, or it is the pair of this key
+    -- otherwise the gap before the first key above it has it, or it is the pair of this key
     met_at : {row child : ℕ} → found ≡ Some (row, child) → EntryMet format content bound links.layer
         row child (entries_pairs (entries_of format d.chain))
     met_at {row} {child} is = entry_met format content bound links.layer row child d.chain

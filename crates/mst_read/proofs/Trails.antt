@@ -85,7 +85,7 @@ in_gap format content k l (cell at p key v c) rows mst =
     go Equal further = record { rows = tt; mst = tt; under = tt; trail = refl }
     go Greater further = further
 
--- a text behind its length in four bytes
+-- a text after its length in four bytes
 pub framed_length : (texts next t : List ℕ) → next ≡ texts ++ (to_be_bytes w32 (length t) ++ t)
     → length next ≡ length texts + (4 + length t)
 framed_length texts next t is =

@@ -11,8 +11,8 @@ use Rattle.mst_arena.proofs.Stands.{all-front, all-back}
 use Rattle.mst_read.specs.Search.{Lies}
 use Rattle.mst_read.proofs.Still.{lies_still, read_before}
 
--- the rest of a chain behind as many entries as are done: it begins at the link, and something
--- holds of it
+-- the rest of a chain after as many entries as are done: it begins at the link, and something holds
+-- of it
 pub record Onward (format : Format) (content : Content) (tail next done all : ℕ)
     (P : Chain → Type 0) : Type 0 where
   pub rest : Chain
@@ -108,7 +108,7 @@ module _ {format : Format} {content : Content} {tail next done all : ℕ} {P : C
           record { child = p; child_is = tail_is; rows = rows; holds = holds }
       go (cell at p key v c) tail_is left rows holds = absurd (omega arith)
 
-  -- where entries are left, there is one at the link
+  -- if entries are left, there is one at the link
   pub entry_left : done < all → (e : EntryLinks) × (part_at entry_links content (next - 1) ≡ Some e)
   entry_left lt = go o.rest o.first_is o.left o.rows
     where

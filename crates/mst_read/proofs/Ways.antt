@@ -18,7 +18,7 @@ use Rattle.mst_read.specs.declared.lookup.Place.TheVariants.{Held, Gap}
 use Rattle.mst_read.proofs.Still.{read_before}
 use Rattle.mst_read.proofs.Walk.{Onward, AtCell, at_cell, further, entry_left}
 
--- the search in the rest of a chain comes to where the search in the whole comes to
+-- the search in the rest of a chain ends at the place where the search in the whole ends
 abbrev pub ComesTo : List ℕ → Chain → Chain → Type 0
 ComesTo k whole rest = place k rest ≡ place k whole
 
@@ -111,7 +111,7 @@ module _ {format : Format} {content : Content} {tail next done all : ℕ} (k : L
       ap is_gt (equal_from_same e.key k (sym (same_from_equal k e.key equal))) in
       past there low
 
--- the first entry of a node, where no bound is given
+-- the first entry of a node, if no bound is given
 module _ {format : Format} {content : Content} {links : HeadLinks} {c : Chain}
     (lies : LiesBehind format content links c) (some : 0 < links.count) where
   all_left : Onward format content links.tail links.first 0 links.count (BeginsAbove None c)

@@ -1,4 +1,4 @@
--- Rows that stand for a map at a root, and where a search comes to in the rows of a node.
+-- Rows that stand for a map at a root, and where a search in the rows of a node ends.
 use Rattle.std.specs.Prelude.{◌≡◌, ℕ, if◌then◌else◌, List, Option, Some, None}
 use Rattle.mst_key.specs.declared.format.Format.{Format}
 use Rattle.mst_key.specs.Map.{Pair, key_cmp, above}
@@ -24,7 +24,7 @@ StandsBelow format content link m =
 abbrev pub LinkStands : Content → ℕ → Type 0
 LinkStands content link = (format : Format) × (m : List Pair) × StandsBelow format content link m
 
--- ---- the rows of a tree, and those of a node behind its head
+-- ---- the rows of a tree, and those of a node after its head
 
 -- the rows of the placed tree are in the content, and this is its link
 pub record Lies (format : Format) (content : Content) (link : ℕ) (p : Placed) : Type 0 where
@@ -55,12 +55,12 @@ chain_links layer chain = record {
   tail = tail_of chain;
 }
 
--- what a search reads of a tree's head: none of the empty tree
+-- what a search reads of a tree's head: `None` for the empty tree
 abbrev pub head_of : Placed → Option HeadLinks
 head_of none = None
 head_of (head at layer chain) = Some (chain_links layer chain)
 
--- ---- where a search comes to
+-- ---- where a search ends
 
 -- the row that has the key, or the link of the tree in the gap in which the key would lie
 abbrev pub place : List ℕ → Chain → Place
@@ -75,7 +75,7 @@ entry_above bound (end child) = None
 entry_above bound (cell at child key value rest) =
     if above bound key then Some (at, link_of child) else entry_above bound rest
 
--- the tree in the gap in which the key would lie; the empty tree where an entry has the key
+-- the tree in the gap in which the key would lie; the empty tree if an entry has the key
 abbrev pub gap_placed : List ℕ → Chain → Placed
 gap_placed k (end child) = child
 gap_placed k (cell at child key value rest) =

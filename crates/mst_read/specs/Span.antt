@@ -13,7 +13,7 @@ use Rattle.mst_read.specs.Search.{LiesBehind, head_of}
 abbrev pub within : Option (List ℕ) → Option (List ℕ) → Pair → Bool
 within from to p = from_on from p.0 && below to p.0
 
--- the pairs found so far and behind them those of the list that are within the bounds, until there
+-- the pairs found so far and after them those of the list that are within the bounds, until there
 -- are as many as the limit
 unfoldable pub filled : Option (List ℕ) → Option (List ℕ) → ℕ → List Pair → List Pair → List Pair
 filled from to limit found m = found ++ take (limit - length found) (filter (within from to) m)
@@ -28,7 +28,7 @@ pub record HeadStands (format : Format) (content : Content) (top : Option HeadLi
   pub rise : IsAscending (pairs (tree_of format p))
 
 -- a part of a node, from an entry with the gap before it on to the last gap, stands in rows of the
--- content behind these links, and its keys rise
+-- content after these links, and its keys rise
 pub record PartStands (format : Format) (content : Content) (part : HeadLinks)
     (chain : Chain) : Type 0 where
   pub lies : LiesBehind format content part chain
@@ -42,7 +42,7 @@ rest_from k (cell at child key value rest) =
     by_order (key_cmp k key) (cell at child key value rest) (cell at child key value rest)
     (rest_from k rest)
 
--- its pairs behind the first gap
+-- its pairs after the first gap
 abbrev pub past_gap : Format → Chain → List Pair
 past_gap format (end child) = []
 past_gap format (cell at child key value rest) =

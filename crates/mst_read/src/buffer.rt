@@ -1,4 +1,4 @@
-//! The texts of nodes in memory, one after the other.
+//! The texts of nodes in memory, one after another.
 ghost use Rattle.std.specs.Prelude.{◌≡◌, [], Some, IfOk, IfSome};
 
 use mst_key::Memory;
@@ -7,14 +7,14 @@ use std::alloc::Allocator;
 use std::marker::Model;
 
 /// The text of one node after another, each in the room of those before. A refused growth ends it,
-/// and is told by `bytes`.
+/// and `bytes` then returns `Memory`.
 #[derive(Drop)]
 pub struct NodeBuffer<A: Allocator> {
     bytes: Vec<u8, A>,
     refused: Option<Memory>,
 }
 
-/// Contracts see the bytes of the text at hand; none once a growth was refused.
+/// Contracts see the bytes of the current text, or `None` once a growth was refused.
 impl<A: Allocator> Model for NodeBuffer<A> {
     ghost use Rattle.std.specs.Prelude.{List, ℕ, Option, Some, None, cond, is_some};
 
@@ -45,7 +45,7 @@ impl<A: Allocator> NodeBuffer<A> {
         }
     }
 
-    /// The bytes. `Memory` comes only where a growth was refused.
+    /// The bytes of the current text. Returns `Memory` only if a growth was refused.
     pub fn bytes(&self) -> Result<&[u8], Memory>
         ensures bytes { IfOk result (λ bytes. self.now ≡ Some bytes.now) }
     {

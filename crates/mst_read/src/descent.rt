@@ -7,7 +7,7 @@ ghost use Rattle.mst_read.specs.Search.{Lies, TreeLies, head_of};
 
 use mst_arena::{HeadLinks, Rows};
 
-/// The head of the tree at the link; none of the empty tree, for which no row is read.
+/// The head of the tree at the link, or `None` for the empty tree, for which no row is read.
 pub fn head_at<R: Rows>(rows: &mut R, link: u32) -> Option<HeadLinks>
     requires lies { TreeLies (R.content rows.old) link }
     ensures head { (f : Format) (p : Placed) → Lies f (R.content rows.old) link p

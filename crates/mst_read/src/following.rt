@@ -21,8 +21,8 @@ fn sought(bound: Option<&Key>) -> Option<Sought>
     }
 }
 
-/// The row of the first entry of a node whose key is above the bound, and the link of its child. No
-/// bytes are made of a key that is passed by.
+/// The row of the first entry of a node whose key is above the bound, and the link of its child. A
+/// key that is passed by is not made into bytes.
 fn first_above<R: Rows>(rows: &mut R, head: &HeadLinks, bound: &Sought) -> Option<(u32, u32)>
     requires lies { ChainLies (R.content rows.old) head.now }
     ensures first { (f : Format) (c : Chain) → LiesBehind f (R.content rows.old) head.now c
@@ -41,7 +41,7 @@ fn first_above<R: Rows>(rows: &mut R, head: &HeadLinks, bound: &Sought) -> Optio
     None
 }
 
-/// The same by a bound that may not be given, and then does not bind.
+/// The same by an optional bound; `None` does not bind.
 fn first_entry<R: Rows>(
     rows: &mut R,
     head: &HeadLinks,
@@ -62,12 +62,12 @@ fn first_entry<R: Rows>(
     }
 }
 
-/// The pair of the least key above the bound, in the map that stands at the link; with no bound, of
-/// the least key.
+/// The pair of the least key above the bound, in the map that stands at the link; without a bound,
+/// the pair of the least key. Returns `None` if no key is above the bound.
 ///
-/// It reads the head of each node on the way to the place just above the bound, 129 at most, and of
-/// the entries of these nodes those with keys up to the first that is above the bound; and at last
-/// the key and the value of the pair, once.
+/// It reads the head of each node on the way to the place just above the bound, at most 129, and of
+/// the entries of these nodes those with keys up to the first that is above the bound; and at the
+/// end the key and the value of the pair, once.
 pub fn next_below<R: Rows>(rows: &mut R, link: u32, after: Option<&Key>) -> Option<(Key, Value)>
     requires stands { LinkStands (R.content rows.old) link }
     ensures found { (f : Format) (m : List Pair) → StandsBelow f (R.content rows.old) link m

@@ -2,8 +2,8 @@
 //!
 //! Each call is exact by the sorted list of the map's pairs, and walks the rows of the tree without
 //! making that list: [`get`], [`next`] and [`prove`] go down one path, [`range`] visits only the
-//! nodes that its answer meets. Of a root only [`root`] needs more than the link: the others have a
-//! twin that takes the link alone.
+//! nodes that its answer meets. Only [`root`] needs more of a root than its link: each other call
+//! has a twin that takes only the link.
 //!
 //! ```
 //! get(&mut rows, &root, &apple)                              // Some(30)
@@ -12,10 +12,10 @@
 //! prove(alloc, &mut rows, &root, &apple)?                    // for mst_proof::verify
 //! ```
 //!
-//! `specs/` defines where a search comes to in the rows of a node.
+//! `specs/` defines where a search in the rows of a node ends.
 //!
-//! A read writes no row and does not know of versions: its caller sees to it that the rows stay
-//! while it reads. Only [`range`] and [`prove`] take memory, for what they answer.
+//! A read writes no row and does not know of versions: its caller makes sure that the rows stay
+//! while it reads. Only [`range`] and [`prove`] take memory, for what they return.
 #![tactic(auto)]
 
 mod buffer;

@@ -9,7 +9,7 @@ use crate::descent::head_at;
 use mst_arena::{HeadLinks, Root, Rows, Sought, Way};
 use mst_key::{Key, Value};
 
-/// Where a search comes to in a node.
+/// Where a search in a node ends.
 #[derive(Clone, Copy, Debug)]
 pub enum Place {
     /// The row of the entry that has the key.
@@ -37,10 +37,11 @@ pub fn seek<R: Rows>(rows: &mut R, head: &HeadLinks, key: &Sought) -> Place
     Place::Gap(head.tail)
 }
 
-/// The value of the key in the map that stands at the link.
+/// The value of the key in the map that stands at the link, or `None` if the map does not have the
+/// key.
 ///
 /// It reads the head of each node on the way to the key, at most 129, and of the entries of these
-/// nodes those with keys up to the first that is not below the key; and at last the key's value,
+/// nodes those with keys up to the first that is not below the key; and at the end the key's value,
 /// once.
 pub fn get_below<R: Rows>(rows: &mut R, link: u32, key: &Key) -> Option<Value>
     requires stands { LinkStands (R.content rows.old) link }

@@ -1,4 +1,4 @@
-//! The proof of a key's answer.
+//! The proof of the answer for a key.
 ghost use Rattle.std.specs.Prelude.{◌≡◌, ◌≤◌, ◌<◌, ◌+◌, ◌^◌, ◌++◌, ◌∷◌, ℕ, List, length, OnOk, IfOk, IfSome};
 ghost use Rattle.mst_key.specs.declared.format.Format.TheVariants.{Two};
 ghost use Rattle.mst_key.specs.Map.{Pair, map_get};
@@ -22,7 +22,7 @@ use std::alloc::Allocator;
 /// How many bytes a proof asks room for at first.
 const FIRST_ROOM: usize = 2_048;
 
-/// The digest of the tree at the link, as it stands in the text of the node above; none for the
+/// The digest of the tree at the link, as it stands in the text of the node above; `None` for the
 /// empty tree.
 fn digest_at<R: Rows>(rows: &mut R, link: u32) -> Option<[u8; 32]>
     requires lies { (f : Format) × (p : Placed) × Lies f (R.content rows.old) link p }
@@ -38,8 +38,8 @@ fn digest_at<R: Rows>(rows: &mut R, link: u32) -> Option<[u8; 32]>
     }
 }
 
-/// Writes the text of the node behind the head: at most 37 bytes, and at most 131 for each entry.
-/// It asks at once for 64 bytes an entry, which most texts do not exceed.
+/// Writes the text of the node of the head: at most 37 bytes, and at most 131 for each entry. It
+/// asks at once for 64 bytes an entry, which most texts do not exceed.
 fn write_node<R: Rows, A: Allocator>(
     rows: &mut R,
     head: &HeadLinks,
@@ -67,7 +67,7 @@ fn write_node<R: Rows, A: Allocator>(
     out.child(digest_at(rows, head.tail));
 }
 
-/// Appends a text, of fewer than 2^32 bytes, behind its length in four bytes, the high one first.
+/// Appends a text, of fewer than 2^32 bytes, after its length in four bytes, the high one first.
 fn push_framed<A: Allocator>(out: &mut Vec<u8, A>, text: &[u8]) -> Result<(), Memory>
     requires short { length text.now < 2 ^ 32 }
     ensures ok { OnOk result
@@ -78,7 +78,7 @@ fn push_framed<A: Allocator>(out: &mut Vec<u8, A>, text: &[u8]) -> Result<(), Me
     Ok(())
 }
 
-/// Writes the number of texts behind the format, where room for it stands.
+/// Writes the number of texts after the format, into the byte that is kept for it.
 fn write_count<A: Allocator>(out: &mut Vec<u8, A>, count: u8)
     requires room { 2 ≤ length out.old.items }
     ensures count { (format room : ℕ) (texts : List ℕ) → out.old.items ≡ format ∷ room ∷ texts
@@ -87,7 +87,7 @@ fn write_count<A: Allocator>(out: &mut Vec<u8, A>, count: u8)
     out[1] = count;
 }
 
-/// The head of the tree in the gap in which the key would lie; none where the node has the key, or
+/// The head of the tree in the gap in which the key would lie; `None` if the node has the key, or
 /// the gap no tree.
 fn gap_met<R: Rows>(rows: &mut R, head: &HeadLinks, key: &Sought) -> Option<HeadLinks>
     requires lies { ChainLies (R.content rows.old) head.now }
@@ -102,8 +102,8 @@ fn gap_met<R: Rows>(rows: &mut R, head: &HeadLinks, key: &Sought) -> Option<Head
     }
 }
 
-/// Appends what a proof of format 2 claims: a byte 0 where the key has no value, and else a byte 1
-/// and the value behind its length in one byte.
+/// Appends what a proof of format 2 claims: a byte 0 if the key has no value, otherwise a byte 1
+/// and the value after its length in one byte.
 fn push_claim<A: Allocator>(out: &mut Vec<u8, A>, answer: &Option<Value>) -> Result<(), Memory>
     ensures ok { OnOk result (out.new.items ≡ out.old.items ++ answer_text Two answer.now) }
     ensures short { OnOk result (length out.new.items ≤ length out.old.items + 66) }
@@ -142,12 +142,11 @@ fn push_answer<R: Rows, A: Allocator>(
 
 /// The proof of the answer for the key of the map that stands at the link in a format: the number
 /// of the format, the number of texts, and the texts of the nodes that the search for the key
-/// meets, from the top down, each behind its length in four bytes. In format 2 the answer follows:
-/// a byte 0 where the key has no value, and else a byte 1 and the value behind its length in one
-/// byte.
+/// meets, from the top down, each after its length in four bytes. In format 2 the answer follows: a
+/// byte 0 if the key has no value, otherwise a byte 1 and the value after its length in one byte.
 ///
-/// The proof has fewer than 2^32 bytes. `Memory` comes only where a growth was refused, and changes
-/// nothing.
+/// The proof has fewer than 2^32 bytes. Returns `Memory` only if a growth was refused, and then
+/// changes nothing.
 ///
 /// It reads the nodes on the way to the key, at most 65 in format 1 and 129 in format 2: of each
 /// all entries with their values, and the digests of its children. In format 2 it then looks up the

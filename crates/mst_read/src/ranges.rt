@@ -15,7 +15,7 @@ use mst_arena::{HeadLinks, Root, Rows, Sought, Way};
 use mst_key::{Key, Memory, Value};
 use std::alloc::Allocator;
 
-/// Whether the key is below the bound. A bound that is not given does not bind.
+/// Whether the key is below the bound. `None` as a bound does not bind.
 fn is_below(key: &Key, bound: Option<&Key>) -> bool
     ensures { result ≡ below (option_copied bound.entry) key.now }
 {
@@ -25,9 +25,9 @@ fn is_below(key: &Key, bound: Option<&Key>) -> bool
     }
 }
 
-/// The link of the tree in the gap in which a key would lie, and 0 where an entry of the node has
-/// the key; and the part of the node from the first entry on whose key is not below it. No bytes
-/// are made of a key that is passed by.
+/// The link of the tree in the gap in which a key would lie, or 0 if an entry of the node has the
+/// key; and the part of the node from the first entry on whose key is not below it. A key that is
+/// passed by is not made into bytes.
 fn part_from<R: Rows>(rows: &mut R, head: &HeadLinks, from: &Sought) -> (u32, HeadLinks)
     requires lies { ChainLies (R.content rows.old) head.now }
     ensures part { (f : Format) (c : Chain) → LiesBehind f (R.content rows.old) head.now c
@@ -61,7 +61,7 @@ fn part_of(head: &HeadLinks, first: u32, count: u32) -> HeadLinks
     }
 }
 
-/// Whether the pair of a key is to be added behind those that were found: they are fewer than the
+/// Whether the pair of a key is to be added after those that were found: they are fewer than the
 /// limit, and the key is below the upper bound.
 fn is_wanted<A: Allocator>(
     key: &Key,
@@ -202,15 +202,14 @@ fn gather<R: Rows, A: Allocator>(
 }
 
 /// The first pairs, at most `limit`, of the keys that are at least `from` and below `to`, in the
-/// map that stands at the link, in the order of their keys. A bound that is not given does not
-/// bind.
+/// map that stands at the link, in the order of their keys. `None` as a bound does not bind.
 ///
-/// `Memory` comes only where a growth of the list was refused, and changes nothing.
+/// Returns `Memory` only if a growth of the list was refused, and then changes nothing.
 ///
 /// It visits the nodes on the way to the two bounds, at most 129 each, and of the nodes between
 /// them only those that hold a pair of the answer; it reads the head of each node once and of its
 /// entries those up to the upper bound, and the value of each pair of the answer once. It stops at
-/// the limit, and reads nothing where that is 0.
+/// the limit, and reads nothing if that is 0.
 pub fn range_below<R: Rows, A: Allocator>(
     alloc: A,
     rows: &mut R,
@@ -238,7 +237,7 @@ pub fn range_below<R: Rows, A: Allocator>(
 /// The first pairs between two bounds in the map that stands at the root, as [`range_below`] has
 /// them at a link.
 ///
-/// `Memory` comes only where a growth of the list was refused, and changes nothing.
+/// Returns `Memory` only if a growth of the list was refused, and then changes nothing.
 pub fn range<R: Rows, A: Allocator>(
     alloc: A,
     rows: &mut R,

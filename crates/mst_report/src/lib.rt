@@ -8,10 +8,10 @@
 //! report.is_refusal()     // false of the first two
 //! ```
 //!
-//! `specs/Report.antt` defines what a text, a root digest and a key come to, by the verdict on
-//! proofs of `mst_proof`.
+//! `specs/Report.antt` defines what is said of a text for a root digest and a key, by the verdict
+//! on proofs of `mst_proof`.
 //!
-//! It reads no device, and has no opinion on the root digest: both are its caller's.
+//! It reads no device and does not judge the root digest: both are left to its caller.
 #![tactic(auto)]
 
 mod report;

@@ -80,10 +80,10 @@ fn unread(error: FromHexError) -> Result<Report, Memory>
 }
 
 /// What a text says of the key in the map with this root digest in this format: the hexadecimal
-/// digits of a proof, in either case, with at most one newline behind them.
+/// digits of a proof, in either case, with at most one newline after them.
 ///
-/// `Memory` comes only where the room for the proof was refused. A text that is too long, or no
-/// even number of digits, takes no memory.
+/// Returns `Memory` only if the room for the proof was refused. A text that is too long, or is not
+/// an even number of digits, takes no memory.
 pub fn report_on<A: Allocator>(
     alloc: A,
     format: Format,
@@ -158,8 +158,8 @@ fn extend_digits(line: &mut Line, value: &Value)
 }
 
 impl Report {
-    /// The line that says it, with its newline: `present` and the value in lower case, `-` where it
-    /// is empty, `absent`, `P1` to `P10`, `fault hex` or `fault long`.
+    /// The report as a line, with its newline: `present` and the value in lower case, `-` if it is
+    /// empty; `absent`; `P1` to `P10`; `fault hex`; or `fault long`.
     #[tactic(auto, unfolding(crate::specs::Report::line_of))]
     pub fn line(&self) -> Line
         ensures line { result.items ≡ line_of self.now }
@@ -179,7 +179,7 @@ impl Report {
         line
     }
 
-    /// Whether the text is no proof of an answer.
+    /// Whether the text proves no answer: true for all but `Present` and `Absent`.
     pub fn is_refusal(&self) -> bool
         ensures refusal { result ≡ is_refusal self.now }
     {

@@ -21,11 +21,11 @@ use Rattle.mst_path.specs.Takes.{Takes}
 use Rattle.mst_path.specs.Changing.{AreOld, AreTaken, AreKilled, OthersLive, SameVersions}
 use Rattle.mst_tree_tests.specs.Ready.{AreWithin, IsReady, IsPublished}
 
--- the row is alive, born with the version to come at the latest
+-- the row is alive, born with the version to come or an earlier one
 abbrev pub IsYoung : State → State → ℕ → Type 0
 IsYoung s s1 r = (b : ℕ) × (slice_get s1.lives r ≡ Some (Born b)) × (b ≤ next s)
 
--- what a change of rows comes to, of the rows that stand afterwards
+-- what a change of rows does, by the rows that stand afterwards
 pub record Changes (s s1 : State) (after : List ℕ) : Type 0 where
   pub young : (r : ℕ) → In r after → IsYoung s s1 r
   pub there : (r : ℕ) (life : Life) → slice_get s1.lives r ≡ Some life → (old : Life)

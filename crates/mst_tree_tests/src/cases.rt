@@ -1,6 +1,7 @@
-//! Questions as data, each with what it is to answer, so that a test is a table of them.
+//! Questions as data, each with its expected answer, so that a test is a table of them.
 //!
-//! A table that is a constant costs its test's proof next to nothing, and the runner is paid once.
+//! A table that is a constant costs its test's proof next to nothing, and the runner is proved
+//! once.
 use crate::keys::{events_are_compared, has_layer, has_sizes, key_is_cloned, value_is_cloned};
 use crate::nodes::{
     has_entries, has_text, is_first, is_text_of_39, numbers_are_rooted, one_gap_is_rooted,
@@ -20,10 +21,10 @@ type Bytes = &'static [u8];
 
 type Text = &'static str;
 
-/// A question, and what it is to answer.
+/// A question with its expected answer.
 #[derive(Clone, Copy)]
 pub enum Case {
-    /// Whether so many bytes are a key, and whether they are a value.
+    /// A number of bytes, whether they are a key, and whether they are a value.
     Sizes(usize, bool, bool),
     /// The layer of a key.
     Layer(Text, u8),
@@ -40,7 +41,7 @@ pub enum Case {
     NodeFaultPrints(Text),
     /// What a fault of a proof prints.
     FaultPrints(ProofFault, Text),
-    /// The root digest of the first numbers, so many of them.
+    /// The root digest of the first so many numbers.
     NumbersRoot(u32, Text),
     /// The root digest of a and abc.
     TwoRoot(Text),
@@ -50,7 +51,7 @@ pub enum Case {
     ThreeText(Text),
     /// A text of a node of 39 between those of 1 and of a.
     NodeOf39(Text),
-    /// How many entries a text's node has; none where it is no text of a node.
+    /// How many entries a text's node has; `None` if it is no text of a node.
     Entries(Text, Option<usize>),
     /// The first text of a proof.
     First(Text, Option<Text>),
@@ -62,18 +63,18 @@ pub enum Case {
     Forged(Text, &'static [Text], Text),
     /// What is said of a text for a key, and whether it is a refusal.
     Said(Text, Bytes, Text, bool),
-    /// What is said, as a refusal, of a text of the largest size and what stands behind it.
+    /// What is said, as a refusal, of a text of the largest size and what stands after it.
     SaidBehind(Bytes, Text),
     /// Whether a word names a root digest.
     Root(Text, bool),
     /// The key that a word names.
     Key(Text, Option<Bytes>),
-    /// Whether so many zeros and what stands behind them are said to be no hexadecimal text in a
-    /// heap of 64 bytes; none where memory is refused.
+    /// Whether so many zeros and what stands after them are said to be no hexadecimal text in a
+    /// heap of 64 bytes; `None` if memory is refused.
     NotHex(usize, Bytes, Option<bool>),
 }
 
-/// Whether a question of what is said of a proof has its answer.
+/// Whether a question of what is said of a proof has its answer; false for any other question.
 fn reports_hold(rt: &impl Abort, alloc: Global, case: Case) -> bool {
     match case {
         Case::Said(key, text, line, refused) => is_said(rt, alloc, key, text, line, refused),
@@ -85,7 +86,7 @@ fn reports_hold(rt: &impl Abort, alloc: Global, case: Case) -> bool {
     }
 }
 
-/// Whether a question of a proof has its answer, or else one of what is said of a proof.
+/// Whether a question of a proof has its answer; others are left to `reports_hold`.
 fn proofs_hold(rt: &impl Abort, alloc: Global, case: Case) -> bool {
     match case {
         Case::Verdict(root, key, proof, words) => is_verdict_in(rt, alloc, root, key, proof, words),
@@ -95,7 +96,7 @@ fn proofs_hold(rt: &impl Abort, alloc: Global, case: Case) -> bool {
     }
 }
 
-/// Whether a question of a text has its answer, or else one of a proof.
+/// Whether a question of a text has its answer; others are left to `proofs_hold`.
 fn texts_hold(rt: &impl Abort, alloc: Global, case: Case) -> bool {
     match case {
         Case::ThreeText(digits) => has_text(rt, alloc, digits),
@@ -106,7 +107,7 @@ fn texts_hold(rt: &impl Abort, alloc: Global, case: Case) -> bool {
     }
 }
 
-/// Whether a question of a list has its answer, or else one of a text.
+/// Whether a question of a list has its answer; others are left to `texts_hold`.
 fn roots_hold(rt: &impl Abort, alloc: Global, case: Case) -> bool {
     match case {
         Case::NumbersRoot(count, digits) => numbers_are_rooted(rt, alloc, count, digits),
@@ -116,7 +117,7 @@ fn roots_hold(rt: &impl Abort, alloc: Global, case: Case) -> bool {
     }
 }
 
-/// Whether something prints so, or else a question of a list has its answer.
+/// Whether a question of what is printed has its answer; others are left to `roots_hold`.
 fn prints_hold(rt: &impl Abort, alloc: Global, case: Case) -> bool {
     match case {
         Case::KeySizePrints(text) => prints(rt, alloc, &KeySize, text),
@@ -128,7 +129,7 @@ fn prints_hold(rt: &impl Abort, alloc: Global, case: Case) -> bool {
     }
 }
 
-/// Whether a question of keys and values has its answer, or else one of what is printed.
+/// Whether a question of keys and values has its answer; others are left to `prints_hold`.
 fn holds(rt: &impl Abort, alloc: Global, case: Case) -> bool {
     match case {
         Case::Sizes(len, is_key, is_value) => has_sizes(len, is_key, is_value),
@@ -140,7 +141,7 @@ fn holds(rt: &impl Abort, alloc: Global, case: Case) -> bool {
     }
 }
 
-/// Asks each question.
+/// Asks each question, and ends the test at the first that does not have its answer.
 pub fn ask(rt: &(impl Abort + AllocGlobal), cases: &[Case]) {
     for (place, case) in cases.iter().enumerate() {
         assert!(rt; holds(rt, rt.alloc(), *case), "case {place}");

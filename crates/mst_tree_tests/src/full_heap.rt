@@ -17,7 +17,7 @@ fn left() -> [u8; 32] {
     digest(b"\x01\x00\x00\x01\x00\x011\x01x\x00")
 }
 
-/// The digest of the node of the key a, which stands behind 39.
+/// The digest of the node of the key a, which stands after 39.
 fn right() -> [u8; 32] {
     digest(b"\x01\x00\x00\x01\x00\x01a\x01z\x00")
 }

@@ -29,8 +29,8 @@ pub fn heap_of(rt: &impl Abort, alloc: Global, bytes: usize) -> LocalHeap {
     LocalHeap::new(alloc, bytes).expect(rt, "memory")
 }
 
-/// Whether something was made in the heap, and rightly: what was found is none where memory was
-/// refused for it. The heap keeps nothing of it.
+/// Whether something was made in the heap. What was found is `None` if memory was refused for it.
+/// Ends the test if it was made wrongly, or if the heap keeps anything of it.
 pub fn is_made(rt: &impl Abort, heap: &LocalHeap, found: Option<bool>) -> bool {
     assert!(rt; found != Some(false), "made wrongly");
     assert!(rt; heap.used() == 0, "nothing is kept");

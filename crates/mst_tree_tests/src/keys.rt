@@ -1,5 +1,5 @@
-//! What no clause says: printed texts, and rows worked out elsewhere. The functions above the tests
-//! show by their clauses what a caller knows of `==` and `cmp`.
+//! What no clause says: printed texts, and examples worked out elsewhere. The functions above the
+//! tests show by their clauses what a caller knows of `==` and `cmp`.
 ghost use Rattle.std.specs.Prelude.{◌≡◌, ◌↔◌, IsTrue, OnOk, IsSorted};
 ghost use Rattle.std.specs.declared.cmp.Ordering.TheVariants.{Less};
 ghost use Rattle.mst_key.specs.Map.{key_cmp};
@@ -18,7 +18,7 @@ fn order_of<K: Ord>(one: &K, other: &K) -> Ordering
     one.cmp(other)
 }
 
-/// At keys that order is `key_cmp`.
+/// For keys that order is `key_cmp`.
 fn key_order(one: &Key, other: &Key) -> Ordering
     ensures { result ≡ key_cmp one.now other.now }
 {
@@ -105,7 +105,7 @@ const RISING: &[&[u8]] = &[
     b"\x80",
 ];
 
-/// Whether the key of the least bytes comes first when the two are sorted.
+/// Whether the key of the least bytes is first when the two are sorted.
 fn comes_first(rt: &impl Abort, alloc: Global, one: &[u8], other: &[u8], least: &[u8]) -> bool {
     let mut pair = [key_of(rt, other), key_of(rt, one)];
     sort_keys(alloc, &mut pair).expect(rt, "memory");

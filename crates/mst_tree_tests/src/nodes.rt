@@ -57,7 +57,7 @@ fn roots(rt: HostRuntime) {
     ask(&rt, ROOTS);
 }
 
-/// The pairs of keys of layer 0 alone, of the numbers below the end in three bytes.
+/// The pairs of the numbers below the end, in three bytes, whose keys are of layer 0.
 fn pairs_of_layer_0(rt: &impl Abort, alloc: Global, end: u32) -> Vec<(Key, Value)> {
     let mut pairs = Vec::new(alloc);
     for (key, value) in numbered(rt, alloc, end) {
@@ -68,8 +68,8 @@ fn pairs_of_layer_0(rt: &impl Abort, alloc: Global, end: u32) -> Vec<(Key, Value
     pairs
 }
 
-/// Whether keys that but for the last are of layer 0, and lie in the one gap before it, have this
-/// root digest.
+/// Whether keys have this root digest, of which all but the last are of layer 0 and lie in the one
+/// gap before it.
 pub fn one_gap_is_rooted(rt: &impl Abort, alloc: Global, digits: &str) -> bool {
     let mut pairs = pairs_of_layer_0(rt, alloc, 69_815);
     pairs.push(pair(rt, b"39", b"y")).expect(rt, "memory");
@@ -152,8 +152,7 @@ const OUTSIDE: &[Case] = &[
     Case::Entries("0100000100036162630178", None),
 ];
 
-/// Whether the node of a hexadecimal text has so many entries; none where that is no text of a
-/// node.
+/// Whether the node of a hexadecimal text has so many entries; `None` stands for no text of a node.
 pub fn has_entries(rt: &impl Abort, alloc: Global, text: &str, count: Option<usize>) -> bool {
     let bytes = bytes_of(rt, alloc, text);
     match read_text(bytes.as_slice()) {
@@ -199,7 +198,7 @@ fn first_texts(rt: HostRuntime) {
     ask(&rt, FIRST);
 }
 
-/// Whether the text that is made in the heap is this one; none where memory is refused.
+/// Whether the text that is made in the heap is this one; `None` if memory is refused.
 fn text_in(heap: &LocalHeap, pairs: &[(Key, Value)], want: &[u8]) -> Option<bool> {
     if pairs.len() > 65535 {
         return Some(false);
@@ -224,8 +223,8 @@ fn are_enough(
     is_made(rt, &heap, found)
 }
 
-/// The least number of units of 16 bytes that are enough for the text of these pairs: 2,048 where
-/// each heap refused it.
+/// The least number of units of 16 bytes that are enough for the text of these pairs: 2,048 if each
+/// heap refused it.
 fn least_units(rt: &impl Abort, alloc: Global, pairs: &[(Key, Value)]) -> usize {
     let want = text_of(rt, alloc, pairs);
     for units in 1..2048usize {

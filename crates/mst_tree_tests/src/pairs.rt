@@ -1,4 +1,4 @@
-//! Keys and pairs for the tests, the text of their tree's top node, and what a value prints. Where
+//! Keys and pairs for the tests, the text of their tree's top node, and what a value prints. If
 //! memory is refused for them, the test ends.
 ghost use Rattle.std.specs.Prelude.{◌≤◌, length};
 
@@ -109,7 +109,7 @@ pub fn prints<T: Display>(rt: &impl Abort, alloc: Global, shown: &T, text: &str)
     printed.as_str() == text
 }
 
-/// The next of a row of random numbers.
+/// The next of a sequence of random numbers.
 pub fn next_random(state: u64) -> u64 {
     state
         .wrapping_mul(6_364_136_223_846_793_005)

@@ -39,7 +39,7 @@ fn root_in(rt: &impl Abort, alloc: Global, digits: &str) -> [u8; 32] {
     *bytes.as_slice().first_chunk::<32>().expect(rt, "a digest")
 }
 
-/// Whether these words tell the presence of this value.
+/// Whether these words say that this value is present.
 fn tell_value(rt: &impl Abort, alloc: Global, words: &str, value: &Value) -> bool {
     match words.strip_prefix("present ") {
         Some(digits) => are_digits(rt, alloc, value.bytes(), digits),
@@ -47,7 +47,7 @@ fn tell_value(rt: &impl Abort, alloc: Global, words: &str, value: &Value) -> boo
     }
 }
 
-/// Whether these words tell this verdict.
+/// Whether these words say this verdict.
 fn tell(
     rt: &impl Abort,
     alloc: Global,
@@ -97,7 +97,7 @@ fn greatest_layer(format: Format, pairs: &[(Key, Value)]) -> u8 {
     greatest
 }
 
-/// The pairs in the key's gap among those of the greatest layer, or none where one of these has the
+/// The pairs in the key's gap among those of the greatest layer, or `None` if one of these has the
 /// key.
 fn gap_of<'a>(format: Format, pairs: &'a [(Key, Value)], key: &Key) -> Option<&'a [(Key, Value)]> {
     let greatest = greatest_layer(format, pairs);
@@ -142,7 +142,7 @@ fn push_top(
     }
 }
 
-/// Adds the texts of the proof for the key, made from the lists in its gaps, and gives their
+/// Adds the texts of the proof for the key, made from the lists in its gaps, and returns their
 /// number.
 fn push_texts(
     rt: &impl Abort,
@@ -175,7 +175,7 @@ fn value_in<'a>(pairs: &'a [(Key, Value)], key: &Key) -> Option<&'a [u8]> {
     None
 }
 
-/// Adds what claims this answer: in format 1 nothing.
+/// Adds the claim of this answer: nothing in format 1.
 fn push_claim(rt: &impl Abort, format: Format, proof: &mut Vec<u8>, answer: Option<&[u8]>) {
     match (format, answer) {
         (Format::One, _) => {}
@@ -266,8 +266,8 @@ fn fill_but<'h>(
 }
 
 /// Whether `collide_in` finds a pair of texts beside the tree of the list, in a heap of which only
-/// so many blocks of 16 bytes are free once the tree stands. None where the list is empty, or the
-/// heap too small for the tree.
+/// so many blocks of 16 bytes are free once the tree stands. Returns `None` if the list is empty,
+/// or the heap is too small for the tree.
 fn collided_in(
     rt: &impl Abort,
     alloc: Global,
@@ -294,8 +294,8 @@ fn collided_in(
     })
 }
 
-/// Whether `collide_in` finds a pair of texts beside the tree of the map, in a heap of so many
-/// bytes as above. The heap keeps nothing of what was asked.
+/// Whether `collide_in` finds a pair of texts beside the tree of the map, as above, in a heap of so
+/// many bytes. The heap keeps nothing of what was asked.
 fn collided(
     rt: &impl Abort,
     alloc: Global,

@@ -52,7 +52,7 @@ fn texts_and_lines(rt: HostRuntime) {
     ask(&rt, TEXTS);
 }
 
-/// So many times this byte, and what stands behind it.
+/// So many times this byte, and what stands after it.
 fn text_of(rt: &impl Abort, alloc: Global, byte: u8, count: usize, more: &[u8]) -> Vec<u8> {
     let mut text = Vec::new(alloc);
     text.resize(count, byte).expect(rt, "memory");
@@ -60,8 +60,7 @@ fn text_of(rt: &impl Abort, alloc: Global, byte: u8, count: usize, more: &[u8]) 
     text
 }
 
-/// Whether this line is said, as a refusal, of a text of the largest size and what stands behind
-/// it.
+/// Whether this line is said, as a refusal, of a text of the largest size and what stands after it.
 pub fn is_said_behind(rt: &impl Abort, alloc: Global, more: &[u8], line: &str) -> bool {
     let text = text_of(rt, alloc, b'x', LIMIT, more);
     is_said(rt, alloc, "62", text.as_slice(), line, true)
@@ -82,7 +81,7 @@ pub fn is_root(word: &str) -> bool {
     root_in(word).is_some()
 }
 
-/// Whether the word names the key of these bytes, or none where none are given.
+/// Whether the word names the key of these bytes, or no key if none are given.
 pub fn is_key(word: &str, bytes: Option<&[u8]>) -> bool {
     match (key_in(word), bytes) {
         (Some(key), Some(bytes)) => key.bytes() == bytes,
@@ -127,8 +126,8 @@ fn words(rt: HostRuntime) {
     ask(&rt, WORDS);
 }
 
-/// Whether so many zeros, and what stands behind them, are said to be no hexadecimal text in a heap
-/// of 64 bytes; none where memory is refused.
+/// Whether so many zeros, and what stands after them, are said to be no hexadecimal text in a heap
+/// of 64 bytes; `None` if memory is refused.
 pub fn is_not_hex(rt: &impl Abort, alloc: Global, zeros: usize, more: &[u8]) -> Option<bool> {
     let text = text_of(rt, alloc, b'0', zeros, more);
     let heap = heap_of(rt, alloc, 64);
@@ -141,7 +140,7 @@ pub fn is_not_hex(rt: &impl Abort, alloc: Global, zeros: usize, more: &[u8]) -> 
 
 const IN_64_BYTES: &[Case] = &[
     Case::NotHex(8_000, b"", None),
-    // what is no even number of digits takes no room
+    // a text that is not an even number of digits takes no room
     Case::NotHex(0, b"0", Some(true)),
     Case::NotHex(8_000, b"0", Some(true)),
     Case::NotHex(8_000, b"0g", Some(true)),

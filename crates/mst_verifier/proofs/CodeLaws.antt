@@ -1,4 +1,4 @@
--- The numbers of refusals, one for each, by what is refused.
+-- The numbers of refusals: one for each reason.
 use Rattle.std.proofs.Common.{◌≡◌, ℕ, ◌+◌, ◌<◌, List, Option, Some, None, refl, sym, ◌∙◌, ap, subst}
 use Rattle.std.proofs.lemmas.Option.{same_Some}
 use Rattle.std.specs.Prelude.{ℤ, pos, negsuc, ◌==◌, ◌≢◌, if◌then◌else◌, IfSome}
@@ -55,7 +55,7 @@ named (Proof OtherValue) = refl
 pub differ : (a b : Refusal) → refusal_code a ≡ refusal_code b → a ≡ b
 differ a b e = same_Some a b (sym (named a) ∙ ap (λ (z : ℤ). refusal_at (place z)) e ∙ named b)
 
--- ---- none is that of an answer
+-- ---- none is the number of an answer
 
 pub apart : (r : Refusal) → (n : ℕ) × (refusal_code r ≡ negsuc (2 + n))
 apart Format = (0, refl)

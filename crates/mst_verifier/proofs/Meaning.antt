@@ -1,4 +1,4 @@
--- What is told is what the proof comes to.
+-- What the library returns is what the proof comes to.
 use Rattle.std.proofs.Common.{◌≡◌, ◌≤◌, ℕ, zero, suc, Bool, true, false, List, ◌++◌, length, take, drop, Option, Some, None, refl, sym, ◌∙◌, ap, subst, rules, tests}
 use Rattle.std.proofs.lemmas.List.{take_at}
 use Rattle.std.specs.Prelude.{ℤ, pos, negsuc, ◌==◌, ◌&&◌, nat_le, nat_lt, if◌then◌else◌, Result, Ok, Err, IfSome}
@@ -13,7 +13,7 @@ use Rattle.mst_verifier.specs.Question.{with_refusal, format_named, answer_in, a
 use Rattle.mst_verifier.specs.Codes.{refusal_code, code_of, room_after}
 use Rattle.mst_verifier.specs.Told.{Tells}
 
--- ---- a refusal tells nothing
+-- ---- a refusal says nothing of the key
 
 -- the codes of answers: those from 0 on, and that of absence
 abbrev is_answer : ℤ → Bool
@@ -41,7 +41,7 @@ refused r z is e =
     let both : false ≡ true = sym (no_answer r) ∙ ap is_answer e ∙ is in
     cc both
 
--- ---- an answer tells itself alone
+-- ---- a result says no other answer
 
 value_in : (b : Bool) (room v w : List ℕ) → (if b then negsuc 1 else pos (length v)) ≡ pos
     (length w) → take (length w) (if b then room else v ++ drop (length v) room) ≡ w → v ≡ w
@@ -93,7 +93,7 @@ of_named : (named : Option TreeFormat) (root key proof : List ℕ) (a : Option (
 of_named None root key proof a e = absurd (cc)
 of_named (Some f) root key proof a e = (f, refl, of_format f root key proof a e)
 
--- what is told is an answer to the question
+-- what is returned is an answer to the question
 answer_told : (number : ℕ) (root key proof room after : List ℕ) (code : ℤ) (a : Option (List ℕ))
     → code ≡ code_of (length room) (answer_of number root key proof) → after ≡ room_after room
     (answer_of number root key proof) → Tells code after a → answer_of number root key proof ≡ Ok a
@@ -103,7 +103,7 @@ answer_told number root key proof room after code a is left t =
     let at_room = subst (λ (r : List ℕ). Tells (code_of (length room) x) r a) left at_code in
     told room x a at_room
 
--- what is told is the verdict's answer, in the format that has the number
+-- what is returned is the verdict's answer, in the format that has the number
 pub format_told : (number : ℕ) (root key proof room after : List ℕ) (code : ℤ) (a : Option (List ℕ))
     → code ≡ code_of (length room) (answer_of number root key proof) → after ≡ room_after room
     (answer_of number root key proof) → Tells code after a → (f : TreeFormat)
@@ -141,7 +141,7 @@ tells room None fits = refl
 tells room (Some v) fits = value_told (nat_lt (length room) (length v)) room v
     (search (tests, rules))
 
--- the verdict's answer is told, where it fits
+-- the verdict's answer is returned if it fits
 pub tells_verdict : (number : ℕ) (format : TreeFormat) (root key proof room after : List ℕ)
     (code : ℤ) (a : Option (List ℕ)) → format_named number ≡ Some format → length root ≡ 32
     → IsKey key → IfSome a (λ v. length v ≤ length room) → code ≡ code_of (length room)

@@ -1,4 +1,4 @@
--- A proof frames one first text at most, so that one length is told of it.
+-- A proof frames one first text at most, so one length is returned for it.
 use Rattle.std.proofs.Common.{◌≡◌, ℕ, zero, suc, List, length, sym, ◌∙◌, ap}
 use Rattle.std.specs.Prelude.{pos, negsuc}
 use Rattle.std.proofs.lemmas.Option.{same_Some}

@@ -51,7 +51,7 @@ other_digest root size other =
 
 -- ---- texts whose digest is the root
 
--- what is told where a first text is passed, by the step that it makes
+-- what is returned if a first text is passed, by the step that it makes
 abbrev told_by : {S : Type 0} → (S → Result (Option (List ℕ)) ProofFault)
     → (Option (List ℕ) → Result (Option (List ℕ)) ProofFault) → ℕ → Result S ProofFault → ℤ
 told_by next settle size step =
@@ -117,7 +117,7 @@ module _ (format : TreeFormat) (key text : List ℕ) (layer : ℕ) (held : List 
         (λ s. by_step s (answer_at_end behind) (λ x. followed format key x behind))
         settle 32 r) step_is
 
--- the gap of a key behind `8` has a child, and no text follows
+-- the gap of a key after `8` has a child, and no text follows
 pub unfinished : told_of (0x39 ∷ []) 1 (digest_of parent) (1 ∷ 1 ∷ 0 ∷ 0 ∷ 0 ∷ 42 ∷ parent) ≡ negsuc
     17
 unfolding texts_at text_at part_at

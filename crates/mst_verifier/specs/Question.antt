@@ -15,8 +15,8 @@ with_refusal (Err fault) = Err (Proof fault)
 abbrev pub format_named : ℕ → Option TreeFormat
 format_named number = if number == 1 then Some One else if number == 2 then Some Two else None
 
--- a root digest has 32 bytes, a key has 1 to 32; the first that is not so is told, else what the
--- proof comes to
+-- a root digest has 32 bytes, a key has 1 to 32; the first that does not is refused; otherwise the
+-- result is what the proof comes to
 abbrev pub answer_in : Option TreeFormat → List ℕ → List ℕ → List ℕ
     → Result (Option (List ℕ)) Refusal
 answer_in None root key proof = Err Format

@@ -1,4 +1,4 @@
--- What an answer by number tells of a key.
+-- What a number that the library returns says of a key.
 use Rattle.std.specs.Prelude.{◌≡◌, ℕ, ℤ, pos, negsuc, List, length, take, Option, Some, None}
 
 -- absence, or the value that stands first in the room

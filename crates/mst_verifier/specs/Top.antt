@@ -1,8 +1,8 @@
--- What is told of the first text that a proof frames.
+-- What is returned for the first text that a proof frames.
 use Rattle.std.specs.Prelude.{◌≡◌, ℕ, zero, suc, ℤ, pos, negsuc, List, length}
 use Rattle.mst_node.specs.Frame.{FramesFirst}
 
--- its length, or -1 where the proof frames none
+-- its length, or -1 if the proof frames none
 abbrev pub TellsTop : List ℕ → ℤ → Type 0
 TellsTop proof (pos n) = (text : List ℕ) × FramesFirst proof text × (length text ≡ n)
 TellsTop proof (negsuc zero) = (text : List ℕ) → FramesFirst proof text → ⊥

@@ -3,11 +3,11 @@ use Rattle.std.specs.Prelude.{ℕ, ℤ, List, [], ◌∷◌, ◌++◌, replicate
 use Rattle.mst_verifier.specs.Codes.{code_of}
 use Rattle.mst_verifier.specs.Question.{answer_of}
 
--- what is told of a key, with no room for a value
+-- what is returned for a key, with no room for a value
 abbrev pub told_of : List ℕ → ℕ → List ℕ → List ℕ → ℤ
 told_of key number root proof = code_of 0 (answer_of number root key proof)
 
--- what is told of the key `8`
+-- what is returned for the key `8`
 abbrev pub told : ℕ → List ℕ → List ℕ → ℤ
 told = told_of (0x38 ∷ [])
 
@@ -19,7 +19,7 @@ zeros = replicate 32 0
 abbrev pub leaf : List ℕ
 leaf = 1 ∷ 0 ∷ 0 ∷ 1 ∷ 0 ∷ 1 ∷ 0x38 ∷ 1 ∷ 0x78 ∷ 0 ∷ []
 
--- the same with a child behind it
+-- the same with a child after it
 abbrev pub parent : List ℕ
 parent = 1 ∷ 0 ∷ 0 ∷ 1 ∷ 0 ∷ 1 ∷ 0x38 ∷ 1 ∷ 0x78 ∷ 1 ∷ zeros
 

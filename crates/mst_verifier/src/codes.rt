@@ -1,4 +1,4 @@
-//! The numbers in which the library answers.
+//! The numbers that the library returns.
 ghost use Rattle.std.specs.Prelude.{◌≡◌};
 ghost use Rattle.mst_verifier.specs.Codes.{refusal_code as code_of_refusal};
 

@@ -1,4 +1,4 @@
-//! Laws of what the library tells. Each function does nothing: its contract is the law.
+//! Laws of what the library returns. Each function does nothing: its contract is the law.
 ghost use Rattle.std.specs.Prelude.{◌≡◌, ◌≢◌, ◌<◌, ◌+◌, ℕ, List, [], ◌∷◌, ◌++◌, Option, map, pos, negsuc, length, IfSome};
 ghost use Rattle.std.specs.List.{AllByRecursion};
 ghost use Rattle.mst_key.specs.declared.format.Format.{Format};
@@ -70,8 +70,8 @@ pub fn worked_codes()
         (2 ∷ 1 ∷ 0 ∷ 0 ∷ 0 ∷ 40 ∷ leaf_in_format_2 ++ (0 ∷ [])) ≡ negsuc 19 }
 {}
 
-/// What is told of a proof's first text is its length and no other number, and -1 only where there
-/// is none.
+/// What is returned for a proof's first text is its length and no other number, and -1 only if
+/// there is none.
 pub fn top_laws()
     ensures length { (proof text : List ℕ) (n : ℕ) → FramesFirst proof text
         → TellsTop proof (pos n) → n ≡ length text }

@@ -1,7 +1,7 @@
 //! The verifier of proofs for C, and for every language that calls C.
 //!
 //! A static library over `mst_proof`: it takes no memory, keeps no state and starts no thread.
-//! `include/mst_verifier.h` declares its calls. Their answers are numbers that never change
+//! `include/mst_verifier.h` declares its calls. They return numbers that never change
 //! (`specs/Codes.antt`).
 #![tactic(auto)]
 
@@ -32,8 +32,10 @@ use mst_node::top_text;
 use telling::tell;
 
 /// What a proof of format 1 or 2 shows of a key in the map with this root digest: the length of the
-/// key's value, which then stands first in the room, or the number of another answer. The room
-/// keeps all other bytes.
+/// key's value, which then stands first in the room, or a negative number: -1 if the key is absent,
+/// -2 if the room is too small for the value, -3 for an unknown format, -4 if the root digest does
+/// not have 32 bytes, -5 if the key does not have 1 to 32 bytes, and -11 to -20 if P1 to P10 is the
+/// first test that the proof fails. The room keeps all other bytes.
 #[unsafe(no_mangle)]
 pub extern "C" fn mst_verify(
     format: u32,
@@ -45,18 +47,18 @@ pub extern "C" fn mst_verify(
     ensures code { result ≡ code_of (length room.old)
         (answer_of format root.now key.now proof.now) }
     ensures room { room.new ≡ room_after room.old (answer_of format root.now key.now proof.now) }
-    // What is told is what the proof is accepted with, in the format that has the number.
+    // What is returned is what the proof is accepted with, in the format that has the number.
     ensures accepted { (a : Option (List ℕ)) → Tells result room.new a
         → (f : Format) × (format_named format ≡ Some f) × Accepted f root.now key.now proof.now a }
-    // The map's answer is told where the proof is the map's and the room takes the value.
+    // The map's answer is returned if the proof is the map's and the value fits into the room.
     ensures complete { (f : Format) (m : List Pair) → format_named format ≡ Some f
         → length root.now ≡ 32 → IsKey key.now → HasRoot f m root.now
         → proof.now ≡ proof_text f m key.now
         → IfSome (map_get m key.now) (λ v. length v ≤ length room.old)
         → Tells result room.new (map_get m key.now) }
-    // Where another answer is told for a map's root, two different texts have one SHA-256: two of
-    // those of the proof, those of the nodes of the map's tree, the empty text, and in format 2
-    // the values of the proof and of the map.
+    // If another answer is returned for a map's root, two different texts have one SHA-256: two of
+    // those of the proof, those of the nodes of the map's tree, the empty text, and in format 2 the
+    // values of the proof and of the map.
     ensures sound { (f : Format) (m : List Pair) (a : Option (List ℕ))
         → format_named format ≡ Some f → HasRoot f m root.now → Tells result room.new a
         → a ≢ map_get m key.now → HasCollision (texts_named f proof.now (tree f m)) }
@@ -64,8 +66,8 @@ pub extern "C" fn mst_verify(
     tell(format, root, key, proof, room)
 }
 
-/// The length of the first text that a proof frames, which stands behind the proof's first six
-/// bytes, or -1 where there is none. The proof is not verified.
+/// The length of the first text that a proof frames, which stands after the proof's first six
+/// bytes, or -1 if there is none. The proof is not verified.
 #[unsafe(no_mangle)]
 pub extern "C" fn mst_top_text(proof: &[u8]) -> i64
     ensures text { TellsTop proof.now result }

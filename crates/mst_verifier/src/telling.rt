@@ -1,4 +1,4 @@
-//! An answer as it is told to C.
+//! An answer as it is returned to C.
 ghost use Rattle.std.specs.Prelude.{◌≡◌, ◌≤◌, ◌++◌, length, drop};
 ghost use Rattle.mst_verifier.specs.Codes.{code_of, room_after};
 ghost use Rattle.mst_verifier.specs.Question.{answer_of};
@@ -6,7 +6,7 @@ ghost use Rattle.mst_verifier.specs.Question.{answer_of};
 use crate::codes::{ABSENT, NO_ROOM, refusal_code};
 use crate::question::answer;
 
-/// Puts bytes first, and keeps those behind them.
+/// Puts the bytes first, and keeps those after them.
 fn put(room: &mut [u8], bytes: &[u8])
     requires fits { length bytes.now ≤ length room.old }
     ensures room { room.new ≡ bytes.now ++ drop (length bytes.now) room.old }
@@ -14,7 +14,7 @@ fn put(room: &mut [u8], bytes: &[u8])
     room[..bytes.len()].copy_from_slice(bytes);
 }
 
-/// The code of the answer. The value that it shows stands first in the room then, if it fits.
+/// The code of the answer. The value that it shows then stands first in the room, if it fits.
 pub(crate) fn tell(format: u32, root: &[u8], key: &[u8], proof: &[u8], room: &mut [u8]) -> i32
     ensures code { result ≡ code_of (length room.old)
         (answer_of format root.now key.now proof.now) }

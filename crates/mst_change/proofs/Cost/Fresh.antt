@@ -122,7 +122,7 @@ fresh_node old g l es absent =
     (cond-false (is_subtree (node g l es) old) 0 (entry_count es + 1)
     (is_new (node g l es) old absent))
 
--- a side of a node, where it is known of the node whether it is old
+-- a side of a node, if it is known of the node whether it is old
 pub fresh_side : (es : Entries) (old : Tree) (g : Format) (l : ℕ) (whole : Bool)
     → (0 < entry_count es → is_subtree (node_of g l es) old ≡ whole) → fresh old (node_of g l es)
     ≡ side_rows (entry_count es) whole + fresh_in old es

@@ -23,7 +23,7 @@ use Rattle.mst_node.proofs.InTrees.{InTree, is_old, is_new}
 use Rattle.mst_change.proofs.Cost.Home.{some_key, node_of_key, below_key, above_key, one_home}
 use Rattle.mst_change.proofs.Cost.Fresh.{fresh, fresh_in, Stands, StandIn, entries_stand, node_stands, child_stands, rest_stands, fresh_none, fresh_in_none, fresh_side}
 
--- ---- search trees are told apart by their pairs
+-- ---- search trees with the same pairs are the same
 
 pub same_from_pairs : (t u : Tree) (format : Format) → IsMst format t → IsMst format u
     → pairs t ≡ pairs u → t ≡ u
@@ -34,7 +34,7 @@ pub empty_from_pairs : (t : Tree) (format : Format) → IsMst format t → lengt
     → t ≡ empty
 empty_from_pairs t format is e = sym (tree_unique t format is) ∙ tree-no_pairs format (pairs t) e
 
--- ---- a side is the whole tree exactly where the other side is empty
+-- ---- a side is the whole tree exactly if the other side is empty
 
 -- no pair of a tree of lower layers has the key
 pub absent_under : (t : Tree) (format : Format) (k : List ℕ) (l : ℕ) → IsMst format t → IsUnder l t

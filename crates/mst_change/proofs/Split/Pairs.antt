@@ -40,7 +40,7 @@ greater-right xs ys k low = filter-append (λ (p : Pair). is_gt (key_cmp p.0 k))
 
 module _ (xs : List Pair) (p : Pair) (ys : List Pair) (k : List ℕ)
     (rise : IsAscending (xs ++ p ∷ ys)) where
-  -- the key is below the pair's: so are the pairs behind
+  -- the key is below the pair's, and below those of the pairs after it
   pub behind_above : key_cmp k p.0 ≡ Less → AllAbove (p ∷ ys) k
   behind_above less = (less, AllAbove-less ys k p.0 less (IsAscending-above xs ys p rise))
 

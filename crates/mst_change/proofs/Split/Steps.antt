@@ -1,4 +1,4 @@
--- One node of a split: the key falls into the gap between some cells and the entries behind them.
+-- One node of a split: the key falls into the gap between some cells and the entries after them.
 use Rattle.std.proofs.Common.{◌≡◌, ℕ, ◌+◌, ◌==◌, ◌&&◌, List, length, ap, ◌∙◌, arith}
 use Rattle.mst_key.specs.declared.format.Format.{Format}
 use Rattle.mst_node.specs.Tree.{Tree, node, Entries, last, entry_count}

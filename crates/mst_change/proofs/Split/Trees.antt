@@ -10,7 +10,7 @@ use Rattle.mst_change.proofs.Choices.{at_key}
 use Rattle.mst_change.proofs.Parts.{node_of_pairs, node_of_mst, node_of_under}
 use Rattle.mst_change.proofs.Split.Pairs.{lesser, greater, lesser_before, lesser_same, lesser_behind, greater_before, greater_same, greater_behind}
 
--- the entries behind an entry rise too
+-- the entries after an entry rise too
 pub rest_rises : (child : Tree) (key value : List ℕ) (rest : Entries)
     → IsAscending (entries_pairs (entry child key value rest)) → IsAscending (entries_pairs rest)
 rest_rises child key value rest rise = IsAscending-back ((key, value) ∷ []) (entries_pairs rest)

@@ -1,4 +1,4 @@
--- Trees that stand in rows: their nodes and gaps, joined, parted and searched.
+-- Trees that stand in rows: their nodes and gaps, joined, separated and searched.
 pub mod Nodes
 pub mod Growing
 pub mod Opening

@@ -39,7 +39,7 @@ fn is_refused_longer(rt: &impl Abort, alloc: Global, root: &[u8; 32], proof: &[u
     found_in(root, longer.as_slice()) == Err(ProofFault::LeftOver)
 }
 
-/// Whether the proof is refused where it is cut before this byte.
+/// Whether the proof is refused if it is cut before this byte.
 fn is_refused_cut(root: &[u8; 32], proof: &[u8], place: usize) -> bool {
     match proof.get(..place) {
         Some(front) => found_in(root, front) == Err(ProofFault::CutShort),
@@ -101,7 +101,7 @@ const OUT_OF_PLACE: &[Case] = &[
         ],
         "P6",
     ),
-    // the child's key lies behind the gap
+    // the child's key lies after the gap
     Case::Forged(
         "1",
         &[

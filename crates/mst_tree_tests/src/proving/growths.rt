@@ -7,8 +7,8 @@ use mst_key::{Format, Key, Value};
 use std::alloc::Global;
 use std::process::Abort;
 
-/// The least number of free blocks in which the search ends with no collision: 1,024 where each
-/// heap refused it.
+/// The least number of free blocks in which the search ends with no collision: 1,024 if each heap
+/// refused it.
 fn least_blocks(
     rt: &impl Abort,
     alloc: Global,
@@ -48,7 +48,7 @@ fn each_growth_of_the_search_is_refused(rt: HostRuntime) {
     }
 }
 
-/// Whether the text that is made in the heap is this one; none where memory is refused.
+/// Whether the text that is made in the heap is this one; `None` if memory is refused.
 fn text_made(
     rt: &impl Abort,
     heap: &LocalHeap,
@@ -78,8 +78,8 @@ fn are_enough(
     is_made(rt, &heap, found)
 }
 
-/// The least number of units of 16 bytes that are enough for the tree and its text: 2,048 where
-/// each heap refused it.
+/// The least number of units of 16 bytes that are enough for the tree and its text: 2,048 if each
+/// heap refused it.
 fn least_units(rt: &impl Abort, alloc: Global, format: Format, pairs: &[(Key, Value)]) -> usize {
     assert!(rt; pairs.len() <= 65_535);
     let text = top_in(alloc, format, pairs).expect(rt, "memory");

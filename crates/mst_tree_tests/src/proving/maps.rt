@@ -5,8 +5,8 @@ use mst_key::{Format, Key, Value};
 use std::alloc::Global;
 use std::process::Abort;
 
-/// Whether nothing in the proof for the key collides beside the tree of the map. Of no pairs there
-/// is none.
+/// Whether nothing in the proof for the key collides beside the tree of the map. For no pairs there
+/// is no tree.
 fn is_free(
     rt: &impl Abort,
     alloc: Global,
@@ -29,8 +29,8 @@ fn is_free(
     }
 }
 
-/// Whether the map of some numbers proves its value of a number, and that it has no key behind it,
-/// where nothing collides.
+/// Whether the map of some numbers proves its value of a number and the absence of the number's
+/// four bytes as a key, and nothing collides.
 fn is_proved(
     rt: &impl Abort,
     alloc: Global,

@@ -1,5 +1,5 @@
 //! Maps of many sizes, and nodes of many entries with long values, in ample memory: no call may
-//! answer that memory was refused.
+//! return that memory was refused.
 ghost use Rattle.std.specs.Prelude.{◌≡◌, ◌≤◌, length};
 ghost use Rattle.mst_key.specs.Map.{IsMap};
 ghost use Rattle.mst_key.specs.declared.format.Format.TheVariants.{One};
@@ -80,8 +80,8 @@ fn has_pairs(flat: &Flat<'_>, pairs: &[(Key, Value)], step: usize) -> bool
     flat.child(flat.len()).is_none()
 }
 
-/// Whether two texts among those of the proof and of the tree of the pairs collide. Of no pairs
-/// there are none.
+/// Whether two texts among those of the proof and of the tree of the pairs collide. For no pairs
+/// there is no tree.
 fn collides(alloc: Global, pairs: &[(Key, Value)], key: &Key, proof: &[u8]) -> Result<bool, Memory>
     requires few { length pairs.now ≤ 65535 }
     requires map { IsMap pairs.now }
@@ -101,10 +101,10 @@ fn text_has_pairs(rt: &impl Abort, alloc: Global, pairs: &[(Key, Value)], step: 
     has_pairs(&flat, pairs, step)
 }
 
-/// A key behind all.
+/// A key after all others.
 pub const ABSENT: &[u8] = &[0xff];
 
-/// Whether the pair in the middle is proved, and the absence of a key behind all.
+/// Whether the pair in the middle is proved, and the absence of a key after all others.
 fn middle_is_proved(rt: &impl Abort, alloc: Global, pairs: &[(Key, Value)]) -> bool {
     let (held, value) = pairs.get(pairs.len() / 2).expect(rt, "a pair");
     proves(
@@ -117,7 +117,7 @@ fn middle_is_proved(rt: &impl Abort, alloc: Global, pairs: &[(Key, Value)]) -> b
     ) && proves(rt, alloc, Format::One, pairs, ABSENT, None)
 }
 
-/// Whether no texts of this proof for the key behind all and of the map's tree collide.
+/// Whether no texts of this proof for the key after all others and of the map's tree collide.
 pub fn is_free(rt: &impl Abort, alloc: Global, pairs: &[(Key, Value)], proof: &[u8]) -> bool {
     assert!(rt; pairs.len() <= 65_535);
     assert!(rt; is_map(pairs));
@@ -128,7 +128,7 @@ pub fn is_free(rt: &impl Abort, alloc: Global, pairs: &[(Key, Value)], proof: &[
 fn proofs_are_free(rt: &impl Abort, alloc: Global, pairs: &[(Key, Value)]) -> bool {
     let mut proof = proof_for(rt, alloc, Format::One, pairs, ABSENT);
     let own = is_free(rt, alloc, pairs, proof.as_slice());
-    // the last byte says that no child stands behind the last entry
+    // the last byte says that no child stands after the last entry
     let none = proof.pop() == Some(0);
     proof.push(1).expect(rt, "memory");
     own && none && is_free(rt, alloc, pairs, proof.as_slice())

@@ -51,8 +51,8 @@ fn changed(
     new
 }
 
-/// Gives a key of the map this value, or none, and compares the old value with that of the list. It
-/// answers whether there was room for that.
+/// Gives a key of the map this value, or none, and compares the old value with that of the list.
+/// Returns whether there was room for that.
 fn is_changed(
     rt: &impl Abort,
     map: &mut StandingMap,
@@ -82,7 +82,7 @@ fn agrees(rt: &impl Abort, map: &mut StandingMap, pairs: &[(Key, Value)]) {
     }
 }
 
-/// Compares what follows on each key with the list, and which pair is the first.
+/// Compares the pair that follows each key with the list, and which pair is the first.
 fn follow(rt: &impl Abort, map: &mut StandingMap, pairs: &[(Key, Value)]) {
     assert!(rt; map.has_next(None, pairs.first()));
     for (i, pair) in pairs.iter().enumerate() {
@@ -104,7 +104,7 @@ impl Both {
         Both { map, list }
     }
 
-    /// The map of no pair in so many rows.
+    /// The map of no pairs in so many rows.
     pub fn empty(rt: &impl Abort, alloc: Global, rows: u32) -> Both {
         Both::new(rt, alloc, Vec::new(alloc), rows)
     }
@@ -119,8 +119,8 @@ impl Both {
         self.list.len()
     }
 
-    /// Gives a key this value, or none, in the rows and in the list. It answers whether there was
-    /// room for that.
+    /// Gives a key this value, or none, in the rows and in the list. Returns whether there was room
+    /// for that.
     pub fn change(
         &mut self,
         rt: &impl Abort,

@@ -10,8 +10,8 @@ fn two_pairs(rt: &impl Abort, alloc: Global) -> Vec<(Key, Value)> {
     spelt(rt, alloc, &[("1", "x"), ("a", "z")])
 }
 
-/// Gives the key 39 this value, or none, in the map of these pairs, where so many rows of all are
-/// free. It answers whether there was room for that, and how many rows are free then.
+/// Gives the key 39 this value, or none, in the map of these pairs in so many rows, of which so
+/// many are free. Returns whether there was room for that, and how many rows are free then.
 fn changed_in(
     rt: &impl Abort,
     alloc: Global,
@@ -26,7 +26,7 @@ fn changed_in(
     (fits, both.free())
 }
 
-/// What comes of a put in the map of two pairs beside so many free rows.
+/// The result of a put in the map of two pairs beside so many free rows.
 fn put_beside(rt: &impl Abort, alloc: Global, free: u32) -> (bool, u32) {
     let pairs = two_pairs(rt, alloc);
     changed_in(
@@ -38,7 +38,7 @@ fn put_beside(rt: &impl Abort, alloc: Global, free: u32) -> (bool, u32) {
     )
 }
 
-/// What comes of a remove in the map of three pairs beside so many free rows.
+/// The result of a remove in the map of three pairs beside so many free rows.
 fn remove_beside(rt: &impl Abort, alloc: Global, free: u32) -> (bool, u32) {
     let pairs = spelt(rt, alloc, THREE_PAIRS);
     changed_in(rt, alloc, pairs, (6_u32.saturating_add(free), free), None)
@@ -67,7 +67,7 @@ fn a_remove_takes_exactly_three_rows(rt: HostRuntime) {
     assert!(rt; remove_beside(&rt, rt.alloc(), 3) == (true, 6));
 }
 
-/// A key, its value to be or none, and whether there is room for that in full rows.
+/// A key, its new value or none, and whether there is room for that in full rows.
 const IN_FULL_ROWS: &[(&str, Option<&str>, bool)] = &[
     // the value that it has
     ("a", Some("z"), true),
@@ -131,8 +131,8 @@ fn layered_keys(rt: &impl Abort, alloc: Global) -> Vec<Key> {
     keys
 }
 
-/// Puts to one of the keys, in three of five cases, or removes it, as the random number says. It
-/// answers whether there was room for that.
+/// Puts a value at one of the keys, in three of five cases, or removes it, as the random number
+/// says. Returns whether there was room for that.
 fn random_change(
     rt: &impl Abort,
     alloc: Global,
@@ -149,7 +149,7 @@ fn random_change(
     both.change(rt, alloc, key, if put { Some(&value) } else { None })
 }
 
-/// Random changes of a map in so many rows, which begins with no pair. It answers how many were
+/// Random changes of a map in so many rows, which begins with no pairs. Returns how many were
 /// refused.
 fn random_changes(rt: &impl Abort, alloc: Global, rows: u32, seed: u64) -> u32 {
     let keys = layered_keys(rt, alloc);

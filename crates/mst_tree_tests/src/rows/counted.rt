@@ -32,7 +32,7 @@ pub struct CountedRows<A: Allocator = Global> {
     reads: Reads,
 }
 
-/// Contracts see the rows alone.
+/// Contracts see only the rows.
 impl<A: Allocator> Model for CountedRows<A> {
     ghost use Rattle.std.specs.Prelude.{List, Option};
     ghost use Rattle.mst_arena.specs.declared.row.Row.{Row};
@@ -43,7 +43,7 @@ impl<A: Allocator> Model for CountedRows<A> {
 }
 
 impl<A: Allocator> CountedRows<A> {
-    /// So many rows, none of them written, of which nothing was read.
+    /// So many rows, none of them written, from which nothing was read.
     pub fn new(alloc: A, rows: u32) -> Result<CountedRows<A>, Memory>
         requires some { 0 < rows }
         requires few { rows ≤ 65535 }
@@ -61,7 +61,7 @@ impl<A: Allocator> CountedRows<A> {
         self.reads
     }
 
-    /// The counts begin anew.
+    /// Sets the counts to 0.
     pub fn forget_reads(&mut self)
         ensures same { self.new ≡ self.old }
     {

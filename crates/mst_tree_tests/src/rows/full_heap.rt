@@ -102,7 +102,7 @@ fn plain_rows_go_on_over_a_full_heap(rt: HostRuntime) {
     assert!(rt; is_full(&heap));
 }
 
-/// Whether the map has this value at the key and this pair behind it, by its root and by its link.
+/// Whether the map has this value at the key and this pair after it, by its root and by its link.
 fn has_both(
     map: &mut StandingMap<&LocalHeap>,
     key: &Key,
@@ -122,7 +122,7 @@ fn spelt_value(rt: &impl Abort, text: Option<&str>) -> Option<Value> {
     }
 }
 
-/// The same of the key 1 and of a value and a pair of these texts.
+/// The same for the key 1, and for a value and a pair of these texts.
 fn reads(
     rt: &impl Abort,
     map: &mut StandingMap<&LocalHeap>,
@@ -134,7 +134,7 @@ fn reads(
     has_both(map, &key, spelt_value(rt, value).as_ref(), Some(&next))
 }
 
-/// Whether what was found is the value of this text, or nothing where there is none.
+/// Whether what was found is the value of this text, or nothing if there is none.
 fn is_value(found: &Option<Value>, wanted: Option<&str>) -> bool {
     match (found, wanted) {
         (Some(value), Some(text)) => value.bytes() == text.as_bytes(),
@@ -143,7 +143,7 @@ fn is_value(found: &Option<Value>, wanted: Option<&str>) -> bool {
     }
 }
 
-/// Whether a put answers this old value, or a remove where no value is given.
+/// Whether a put returns this old value, or a remove if no value is given.
 fn changes(
     rt: &impl Abort,
     map: &mut StandingMap<&LocalHeap>,
@@ -166,7 +166,7 @@ const CHANGES: &[(&str, Option<&str>, Option<&str>)] = &[
     ("1", None, Some("z")),
 ];
 
-/// Puts and removes, after which the map has a alone.
+/// Puts and removes, after which the map has only a.
 fn change_each(rt: &impl Abort, map: &mut StandingMap<&LocalHeap>) {
     for (place, (key, value, old)) in CHANGES.iter().enumerate() {
         assert!(rt; changes(rt, map, key, *value, *old), "change {place}");

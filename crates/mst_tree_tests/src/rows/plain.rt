@@ -1,4 +1,4 @@
-//! What no clause says: worked rows, printed text, and each growth refused in turn.
+//! What no clause says: worked examples, printed text, and each growth refused in turn.
 ghost use Rattle.std.specs.Prelude.{◌≡◌, IsSome, replicate};
 ghost use Rattle.mst_arena.specs.Content.{part_at};
 ghost use Rattle.mst_arena.specs.Row.{IsRow, entry_links};
@@ -20,7 +20,7 @@ const HEAD: Row = Row::Head {
     digest: [0xd1; 32],
 };
 
-/// Whether a row comes back from its words.
+/// Whether a row is read back from its words.
 fn comes_back(row: &Row) -> bool
     requires limits { IsRow row.now }
 {
@@ -75,7 +75,7 @@ fn copied_entry_has_other_links_alone(rt: HostRuntime) {
     );
 }
 
-/// Rows that are read and written whole. Their parts come from the default bodies.
+/// Rows that are read and written whole. Their parts are read by the default bodies.
 #[derive(Drop)]
 struct WholeRows {
     rows: PlainRows<Global>,
@@ -121,7 +121,7 @@ fn way_is<R: Rows>(rt: &impl Abort, rows: &mut R, key: &[u8], wanted: Way) -> bo
     rows.way(0, &Sought::new(&key_of(rt, key))) == wanted
 }
 
-// A key that is a front of the entry's is below it, also where the bytes behind it are 0.
+// A key that is a prefix of the entry's is below it, also if the bytes after it are 0.
 #[test]
 fn the_way_from_an_entry_is_by_the_order_of_keys(rt: HostRuntime) {
     let row = entry_of(&rt, 7, 9, b"ab\0", b"xyz");
@@ -161,7 +161,7 @@ fn two_rows_die(rt: &impl Abort, desk: &mut Desk<Global>)
     desk.advance(0);
 }
 
-// The worked rows of the desk.
+// The worked example of the desk.
 #[test]
 fn rows_between_two_live_versions_stay(rt: HostRuntime) {
     let Ok(mut desk) = Desk::new(rt.alloc(), 4, 3, 0) else {
@@ -174,7 +174,7 @@ fn rows_between_two_live_versions_stay(rt: HostRuntime) {
     assert!(rt; desk.current() == (0, 3));
 }
 
-/// The version that follows on this one.
+/// The version that follows this one.
 fn next_from(rt: &impl Abort, alloc: Global, first: u64) -> Result<u64, VersionsSpent> {
     assert!(rt; first <= 9_223_372_036_854_775_807);
     let Ok(desk) = Desk::new(alloc, 4, 3, first) else {
@@ -199,7 +199,7 @@ fn sweeps_in_place(desk: &mut Desk<&LocalHeap>, heap: &LocalHeap) -> bool {
     heap.used() == used
 }
 
-// Whether sweeps of a desk of 100 rows in this heap take no memory; none where it is not made.
+// Whether sweeps of a desk of 100 rows in this heap take no memory; `None` if it is not made.
 fn desk_in(heap: &LocalHeap) -> Option<bool> {
     match Desk::new(heap, 100, 3, 0) {
         Ok(mut desk) => Some(sweeps_in_place(&mut desk, heap)),
@@ -214,7 +214,7 @@ fn desk_fits(rt: &impl Abort, alloc: Global, bytes: usize) -> bool {
     is_made(rt, &heap, found)
 }
 
-// True where three plain rows are made in this heap, else none.
+// `Some(true)` if three plain rows are made in this heap, otherwise `None`.
 fn rows_in(heap: &LocalHeap) -> Option<bool> {
     match PlainRows::new(heap, 3) {
         Ok(_) => Some(true),
@@ -232,7 +232,7 @@ fn rows_fit(rt: &impl Abort, alloc: Global, bytes: usize) -> bool {
 #[test]
 fn each_growth_is_refused_in_turn(rt: HostRuntime) {
     // a desk of 100 rows takes 24 bytes a row for lives and 8 for lists, and less than 200 bytes
-    // beside
+    // more
     let mut refused = 0u32;
     for step in 1..300usize {
         if !desk_fits(&rt, rt.alloc(), step * 16) {

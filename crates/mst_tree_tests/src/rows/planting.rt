@@ -17,7 +17,7 @@ struct OpenRows {
 }
 
 /// Contracts see the list of the places, each with its row, which is within its limits, or with
-/// none.
+/// `None`.
 impl Model for OpenRows {
     ghost use Rattle.std.specs.Prelude.{List, Option, All, IfSome};
     ghost use Rattle.mst_arena.specs.declared.row.Row.{Row};

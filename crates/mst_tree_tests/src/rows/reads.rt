@@ -14,7 +14,7 @@ use std::alloc::Global;
 use std::process::Abort;
 
 /// The key of a place in a list, and its value: a number that rises by 1 to 31 from key to key, in
-/// three bytes, and up to four random bytes behind it.
+/// three bytes, and up to four random bytes after it.
 fn random_pair(rt: &impl Abort, alloc: Global, place: u32, random: u32) -> (Key, Value) {
     let tail = random.to_be_bytes();
     let number = place
@@ -49,7 +49,7 @@ fn just_above(rt: &impl Abort, alloc: Global, key: &Key) -> Key {
     key_of(rt, bytes.as_slice())
 }
 
-/// Whether the key has this value, or none, which is also proved, and this pair follows on it.
+/// Whether the key has this value, or none, which is also proved, and this pair follows it.
 fn reads_key(
     rt: &impl Abort,
     alloc: Global,
@@ -62,7 +62,7 @@ fn reads_key(
         && planted.has_next(Some(key), following)
 }
 
-/// Looks up the key, the key just above it, which the map lacks, and what follows on each.
+/// Looks up the key, the key just above it, which the map lacks, and what follows each.
 fn reads_at(
     rt: &impl Abort,
     alloc: Global,
@@ -115,7 +115,7 @@ fn below(pairs: &[(Key, Value)], place: Option<usize>) -> usize {
     }
 }
 
-/// The part of a list between two places, so many pairs at most.
+/// The part of a list between two places, at most so many pairs.
 fn part<'a>(
     rt: &impl Abort,
     pairs: &'a [(Key, Value)],
@@ -170,7 +170,7 @@ fn ranges_at(
     );
 }
 
-/// No bound, and each so many of the places of a list.
+/// No bound, and every so-many-th of the places of a list.
 fn places(rt: &impl Abort, alloc: Global, count: usize, step: usize) -> Vec<Option<usize>> {
     let mut places = Vec::new(alloc);
     places.push(None).expect(rt, "memory");
@@ -245,7 +245,7 @@ fn twenty_thousand_pairs(rt: HostRuntime) {
     reads_a_map(&rt, rt.alloc(), 20_000, 997, 7_919);
 }
 
-/// Whether the range of all pairs that is made in this heap is the list; none where memory is
+/// Whether the range of all pairs that is made in this heap is the list; `None` if memory is
 /// refused.
 fn range_in(heap: &LocalHeap, planted: &mut StandingMap, pairs: &[(Key, Value)]) -> Option<bool> {
     match planted.range(heap, None, None, usize::MAX) {
@@ -279,8 +279,8 @@ fn range_fits(
     fits
 }
 
-/// How many units of 256 bytes the least heap has in which the range of all pairs is made: 256
-/// where each heap refused it.
+/// How many units of 256 bytes the least heap has in which the range of all pairs is made: 256 if
+/// each heap refused it.
 fn units_of_range(
     rt: &impl Abort,
     alloc: Global,

@@ -76,7 +76,7 @@ impl<A: Allocator + Copy> StandingMap<A> {
 
     /// The map of these pairs, planted in so many rows. Its tree is built in memory of its own.
     ///
-    /// `Memory` comes where a growth was refused.
+    /// Returns `Memory` if a growth was refused.
     pub fn new_beside<B: Allocator + Copy>(
         rt: &impl Abort,
         trees: B,
@@ -109,12 +109,12 @@ impl<A: Allocator + Copy> StandingMap<A> {
         self.rows.reads()
     }
 
-    /// The counts of what was read begin anew.
+    /// Sets the counts of what was read to 0.
     pub fn forget_reads(&mut self) {
         self.rows.forget_reads();
     }
 
-    /// Puts a pair, and answers the value that the key had.
+    /// Puts a pair, and returns the value that the key had.
     fn put(
         &mut self,
         key: &Key,
@@ -137,7 +137,7 @@ impl<A: Allocator + Copy> StandingMap<A> {
         Ok(Ok(old))
     }
 
-    /// Removes a key, and answers the value that it had.
+    /// Removes a key, and returns the value that it had.
     fn remove(&mut self, key: &Key) -> Result<Result<Option<Value>, NoRoom>, VersionsSpent> {
         self.desk.next_version()?;
         let (root, old) = match remove(
@@ -155,7 +155,7 @@ impl<A: Allocator + Copy> StandingMap<A> {
         Ok(Ok(old))
     }
 
-    /// Puts the value at the key, or removes the key where no value is given.
+    /// Puts the value at the key, or removes the key if no value is given.
     pub fn change(
         &mut self,
         key: &Key,
@@ -187,7 +187,7 @@ impl<A: Allocator + Copy> StandingMap<A> {
         self.next(after).as_ref() == pair
     }
 
-    /// The value of a key, and the pair of the next key, by the link of the root alone.
+    /// The value of a key, and the pair of the next key, by only the link of the root.
     pub fn get_and_next(&mut self, key: &Key) -> (Option<Value>, Option<(Key, Value)>) {
         let found = mst_read::get_below(&mut self.rows, self.root.link, key);
         (
@@ -196,7 +196,7 @@ impl<A: Allocator + Copy> StandingMap<A> {
         )
     }
 
-    /// The pairs between two bounds, so many at most.
+    /// The pairs between two bounds, at most so many.
     pub fn range<B: Allocator>(
         &mut self,
         alloc: B,

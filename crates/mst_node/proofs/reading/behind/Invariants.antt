@@ -2,7 +2,7 @@ use Rattle.std.proofs.Common.{◌≡◌, ◌-◌}
 use Rattle.mst_node.specs.Reading.{behind_at}
 use Rattle.mst_node.proofs.reading.behind.Given as goal
 
--- what lies behind the entries to come lies behind all
+-- what lies after the entries to come lies after all
 abbrev pub invariant-loop : goal.invariant-loop
 invariant-loop l = behind_at l.format (l.count - l.counter) l.rest ≡ behind_at l.format l.count
     l.bytes

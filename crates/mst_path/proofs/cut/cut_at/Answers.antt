@@ -19,7 +19,7 @@ pub loop-count-init : goal.loop-count-init
 loop-count-init g c =
     record { same = refl; onward = λ format es lie. onward_starts format _ _ _ es lie }
 
--- ---- the entry that comes next; no format matters to where it stands, so format 1 serves
+-- ---- the next entry; where it stands does not depend on the format, so format 1 serves
 
 module _ (g : Over) (c : goal.In-loop-count g) where
   next : AtEntry One (g.R.Rows.content c.args.rows.now) c.args.key.now c.requires.lies.0

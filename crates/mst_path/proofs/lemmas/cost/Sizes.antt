@@ -1,4 +1,4 @@
--- A remove makes no more rows new than its tree has, and a put no more than twice as many and two.
+-- A remove makes no more new rows than its tree has, and a put no more than twice as many and two.
 use Rattle.mst_key.specs.declared.format.Format.{Format}
 use Rattle.std.proofs.Common.{◌≡◌, ℕ, ◌+◌, ◌*◌, ◌≤◌, false, List, length, refl, arith, length-append}
 use Rattle.mst_node.specs.Tree.{Tree, empty, node, Entries, last, entry, entry_count}
@@ -40,7 +40,7 @@ mutual
             (chain_used rest),
       )
 
--- ---- the entries of a node, and the tree before or behind them
+-- ---- the entries of a node, and the tree before or after them
 
 with_last : (es : Entries) → entry_count es + size (last_child es) ≤ entries_size es
 with_last (last child) = omega arith
@@ -55,7 +55,7 @@ with_first_size (entry child key value rest) = omega (arith, counted rest)
 
 -- ---- join
 
--- what a join of the last child takes at the most, over a number
+-- what a join of the last child takes at most, over a number
 abbrev Takes : ℕ → (Tree → ℕ) → Type 0
 Takes m inner = (b : Tree) → inner b ≤ m + size b
 

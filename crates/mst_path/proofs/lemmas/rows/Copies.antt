@@ -509,7 +509,7 @@ module _ (s s' : State) (t k : List ℕ) (m : Moves s s' t k) (blank : ℕ → B
   pub blank_taken : (r : ℕ) → In r t → IsTrue (blank r)
   blank_taken r i = free r (m.free r i)
 
--- rows may be taken and written still
+-- rows may still be taken and written
 pub still_writable : (s s' : State) (t k : List ℕ) (blank blank' : ℕ → Bool) → Moves s s' t k
     → blank' ≡ blank → IsWritable s.lives blank → IsWritable s'.lives blank'
 still_writable s s' t k blank blank' m same ready = record {

@@ -1,4 +1,4 @@
--- How many rows are free, where a list has each of the other rows once.
+-- How many rows are free, if a list has each of the other rows once.
 use Rattle.std.proofs.Common.{◌≡◌, ℕ, zero, suc, ◌+◌, ◌<◌, ◌≤◌, Bool, true, false, cond, eqb, List, [], ◌∷◌, length, map, filter, Option, Some, None, refl, sym, ◌∙◌, ap, arith}
 use Rattle.std.specs.Prelude.{◌↔◌, slice_get, option_map}
 use Rattle.std.specs.List.{list_any}
@@ -120,7 +120,7 @@ none_of : (n : ℕ) → (0 < n → ⊥) → n ≡ 0
 none_of zero not = refl
 none_of (suc n) not = absurd (not (omega arith))
 
--- a row has one place in the list if its life after the sweep is in use, and else none
+-- a row has one place in the list if its life after the sweep is in use, and otherwise none
 used_swept : (live : List ℕ) (now : ℕ) (o : Option Life) (n : ℕ) → In now live → IsPast now o
     → n ≤ 1 → ((v : ℕ) × In v live × (reached_at o v ≡ true)) ↔ 0 < n
     → n ≡ bit (is_at is_used (option_map (swept_life live) o))

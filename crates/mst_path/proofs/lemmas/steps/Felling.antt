@@ -72,7 +72,7 @@ lower format content layer (head at l chain) has under =
     (option_and_then head_links o) 0) has.0 in
     omega (arith, ap (height_at content) number, h, under)
 
--- a head that was read tells the height
+-- a head that was read gives the height
 pub height_read : (content : Content) (link : ℕ) (h : HeadLinks) → 0 < link
     → part_at head_links content (link - 1) ≡ Some h → height_at content link ≡ h.layer + 1
 height_read content zero h some read = absurd (omega (arith, some))
@@ -168,7 +168,7 @@ nothing_falls content s link t is = go t.placed t.at
 
 -- ---- the next entry
 
--- the entry that was read, with the tree before it, and what is left behind it
+-- the entry that was read, with the tree before it, and what is left after it
 pub record AtEntry (format : Format) (content : Content) (s s' : State) (layer : ℕ) (whole : List ℕ)
     (tail row done all : ℕ) (e : EntryLinks) : Type 0 where
   pub dies : IsOld s' row

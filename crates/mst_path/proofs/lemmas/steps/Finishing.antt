@@ -289,8 +289,8 @@ first_back format w c s parts r some = go r.back refl r.back_run
           old = subst (IsOld s) (sym link) (run.old e.at (omega (arith, at_self e.at)));
         }
 
--- The first entry at the back is written behind the seam, in the new row, and its old row is
--- killed; the entries behind it are at the link.
+-- The first entry at the back is written after the seam, in the new row, and its old row is killed;
+-- the entries after it are at the link.
 pub record Seamed (format : Format) (w w1 : NodeWriter) (c c1 : Content) (s s1 : State)
     (parts : Parts) (r : Rest format w c s parts) (link : ℕ) : Type 0 where
   pub back : FirstBack format w c s parts r

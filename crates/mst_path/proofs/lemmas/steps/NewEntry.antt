@@ -47,7 +47,7 @@ bare_parts format c s left right t l a b a_is b_is = record {
   once = λ x. omega (arith, t.once x);
 }
 
--- the same growth, told otherwise
+-- the same growth, in other words
 pub grown_as : (format : Format) (c c' : Content) (s s' : State) (t u : Tree) (at : Root)
     (given also : ℕ → ℕ) (n m : ℕ) → t ≡ u → ((x : ℕ) → given x ≡ also x) → n ≡ m
     → Grown format c c' s s' t at given n → Grown format c c' s s' u at also m

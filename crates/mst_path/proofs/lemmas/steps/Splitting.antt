@@ -164,7 +164,7 @@ module _ (format : Format) {c : Content} {s : State} {link : ℕ} {k : List ℕ}
         rows = o.rows;
       }
 
-  -- the same behind reads that leave the rows
+  -- the same after reads that leave the rows as they are
   pub lies_in : (c' : Content) → c' ≡ c → EntriesLie c' h o.es
   lies_in c' same = subst (λ (x : Content). EntriesLie x h o.es) (sym same) lies_behind
 

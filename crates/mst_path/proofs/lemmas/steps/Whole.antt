@@ -349,7 +349,7 @@ module _ (format : Format) {w : NodeWriter} {c : Content} {s s1 : State} {parts 
           none_of,
         ))
 
-    -- ---- with a new entry behind the front
+    -- ---- with a new entry after the front
     module _ {child : Placed} (key value : List ℕ) {r2 : ℕ} (next2 : w2.next ≡ Some r2)
         (child_piece : Piece format c s child)
         (apart : (x : ℕ) → in_parts format p x + times x (used child) ≤ 1) {w3 : NodeWriter}

@@ -49,7 +49,7 @@ onward_starts format content k links es lie =
       rows = lie.rows;
     }
 
--- the entry that comes next
+-- the next entry
 pub record AtEntry (format : Format) (content : Content) (k : List ℕ) (es : List PlacedEntry)
     (link done all : ℕ) (o : Onward format content k es link done all) : Type 0 where
   pub here : PlacedEntry
@@ -84,7 +84,7 @@ at_entry format content k es link done all o lt = go o.rest refl
           rows = rows.1;
         }
 
--- the links and the key of the entry that comes next
+-- the links and the key of the next entry
 pub next_links : (format : Format) (content : Content) (k : List ℕ) (es : List PlacedEntry)
     (link done all : ℕ) → Onward format content k es link done all → done < all → (e : EntryLinks)
     × (part_at entry_links content (link - 1) ≡ Some e)

@@ -18,7 +18,7 @@ abbrev pub depth : Option HeadLinks → ℕ
 depth None = 0
 depth (Some links) = links.layer + 1
 
--- one more than the layer of the tree at a link, and 0 where there is none
+-- one more than the layer of the tree at a link, and 0 if there is none
 abbrev pub height : Content → ℕ → ℕ
 height c link = cond (link == 0) 0 (depth (part_at head_links c (link - 1)))
 

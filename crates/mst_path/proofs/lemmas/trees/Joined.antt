@@ -1,5 +1,5 @@
--- Two trees that are joined: where one of them is empty, and where the trees that meet are joined
--- already.
+-- Two trees that are joined: if one of them is empty, and if the trees that meet are already
+-- joined.
 use Rattle.mst_key.specs.declared.format.Format.{Format}
 use Rattle.std.proofs.Common.{◌≡◌, ℕ, ◌+◌, ◌<◌, [], refl, sym, ◌∙◌, ap, arith}
 use Rattle.mst_node.specs.Tree.{Tree, empty}

@@ -1,4 +1,4 @@
--- Trees of which each node is wholly old or made anew: how they come about, and that they stay so.
+-- Trees of which each node is wholly old or made anew: how they are made, and that they stay so.
 use Rattle.mst_key.specs.declared.format.Format.{Format}
 use Rattle.std.proofs.Common.{◌≡◌, ℕ, ◌+◌, ◌<◌, eqb, Bool, true, false, List, [], ◌∷◌, ◌++◌, Some, refl, sym, ◌∙◌, ap, subst, arith, inl, inr}
 use Rattle.std.proofs.lemmas.Bool.Decides.{nat_tests}

@@ -168,7 +168,7 @@ opened format c s link t some = go t.placed t.at t.piece
 
 -- ---- the node round the gap before some of its entries
 
--- the tree in the last gap, where there are entries before it
+-- the tree in the last gap, if there are entries before it
 abbrev pub last_of : List PlacedEntry → Placed → Placed
 last_of [] tail = none
 last_of (e ∷ es) tail = tail
@@ -255,7 +255,7 @@ around at before behind tail x = times x (at ∷ []) + times x (own before) + ti
     (gaps_used before) + times x (own behind) + times x (gaps_used (others behind)) + times x
     (used tail)
 
--- a node with a gap: what stands before it, in it and behind it
+-- a node with a gap: what stands before it, in it and after it
 pub record Round (format : Format) (c : Content) (s : State) (at : ℕ) (front back : Entries_at)
     (tail_link : ℕ) (before behind : List PlacedEntry) (tail : Placed) : Type 0 where
   pub head_old : IsOld s at

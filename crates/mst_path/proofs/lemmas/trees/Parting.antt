@@ -1,5 +1,5 @@
--- The entries of a node that is opened, parted at a gap: those in front of it, the tree in it, and
--- those behind it.
+-- The entries of a node that is opened, separated at a gap: those in front of it, the tree in it,
+-- and those after it.
 use Rattle.mst_key.specs.declared.format.Format.{Format}
 use Rattle.std.proofs.Common.{◌≡◌, ℕ, zero, suc, ◌+◌, ◌<◌, ◌≤◌, List, [], ◌∷◌, ◌++◌, length, Some, refl, sym, ◌∙◌, ap, subst, arith}
 use Rattle.mst_node.specs.Tree.{Tree, Entries, entry_count, IsMst, IsMstEntries}
@@ -78,7 +78,7 @@ module _ (format : Format) (c : Content) (s : State) (link count : ℕ) (xs ys :
   pub back_old : (r : ℕ) → In r (own ys) → IsOld s r
   back_old r i = run.old r (omega (arith, i, own_both r xs ys))
 
--- ---- the tree in a gap, and what is behind it
+-- ---- the tree in a gap, and what is after it
 
 -- The tree in the gap before these entries or in the last gap, and these entries with what they
 -- keep of the last tree.
@@ -149,7 +149,7 @@ behind format c s layer link count tail_link (e ∷ ys) tail counted begins rows
     some_behind zero h = absurd (omega (arith, h))
     some_behind (suc n) h = refl
 
--- the entries behind some of a search tree's node
+-- the entries after some of a search tree's node
 pub back_search : (format : Format) (layer : ℕ) (xs : List PlacedEntry) (es : Entries)
     → IsMstEntries format layer (with_entries (cells_of format xs) es) → IsMstEntries format layer
     es

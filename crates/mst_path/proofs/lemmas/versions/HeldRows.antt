@@ -75,8 +75,8 @@ module _ (N : Type 0) (rows : N → List ℕ) (nodes : ℕ → List N) (lasts : 
   rows_below zero = []
   rows_below (suc n) = all_rows (pick (live n) (firsts n (nodes n))) ++ rows_below n
 
-  -- each row of each of these nodes is reached by an earlier version exactly where the node's run
-  -- goes back so far
+  -- each row of each of these nodes is reached by an earlier version exactly if the node's run goes
+  -- back so far
   abbrev pub Aged : (ℕ → ℕ → Bool) → ℕ → ℕ → List N → Type 0
   Aged reach w v [] = Unit {0}
   Aged reach w v (t ∷ ts) = ((x : ℕ) → 0 < times x (rows t) → reach v x ≡ lasts v w t)

@@ -1,5 +1,5 @@
 -- How old the nodes are after a change of a key: those that stood stay on their rows, and the
--- others have new rows and stood not.
+-- others have new rows and did not stand.
 use Rattle.std.proofs.Common.{◌≡◌, ℕ, ◌+◌, List, sym, ap, ◌∙◌}
 use Rattle.std.specs.List.{AllByRecursion}
 use Rattle.mst_key.specs.Map.{Pair}

@@ -1,5 +1,5 @@
 -- A whole tree is planted beside the one that stands, which is felled: what that does to lives, and
--- how old the rows of the new tree are where it is of another format.
+-- how old the rows of the new tree are if it is of another format.
 use Rattle.std.proofs.Common.{◌≡◌, ℕ, ◌+◌, Bool, true, false, ◌&&◌, ◌||◌, List, [], ◌∷◌, ◌++◌, Some, inl, inr, refl, sym, ◌∙◌, ap, subst, true≢false}
 use Rattle.std.specs.Prelude.{Contains, ◌==◌}
 use Rattle.std.specs.List.{AllByRecursion, list_any}

@@ -1,5 +1,5 @@
--- After a change of the tree each node has the rows that it had before, or new rows alone; and the
--- latter only where its tree did not stand before.
+-- After a change of the tree each node has the rows that it had before, or only new rows; and the
+-- latter only if its tree did not stand before.
 use Rattle.std.proofs.Common.{◌≡◌, ℕ, zero, suc, ◌+◌, ◌<◌, ◌≤◌, ◌⊎◌, inl, inr, eqb, Bool, true, false, cond, List, [], ◌∷◌, ◌++◌, length, filter, Some, refl, sym, ap, subst, arith}
 use Rattle.std.specs.Prelude.{Contains}
 use Rattle.std.specs.List.{AllByRecursion}
@@ -141,7 +141,7 @@ module _ (format : Format) where
   over_le f g [] all = omega arith
   over_le f g (p ∷ ps) all = omega (arith, all.0, over_le f g ps all.1)
 
-  -- what is nowhere less, and not less in sum, is everywhere the same
+  -- what is nowhere less, and in sum not more, is everywhere the same
   squeezed : (f g : Placed → ℕ) (ps : List Placed) → AllByRecursion (λ p. g p ≤ f p) ps
       → over f ps ≤ over g ps → AllByRecursion (λ p. f p ≡ g p) ps
   squeezed f g [] all le = tt

@@ -1,4 +1,4 @@
--- Which rows a version reaches after a put or a remove, the advance behind it, and a sweep.
+-- Which rows a version reaches after a put or a remove, the advance after it, and a sweep.
 use Rattle.std.proofs.Common.{◌≡◌, ℕ, zero, suc, ◌+◌, ◌<◌, ◌≤◌, Bool, true, false, cond, eqb, List, [], ◌∷◌, length, map, Option, Some, None, refl, sym, ◌∙◌, ap, subst, arith}
 use Rattle.std.specs.Prelude.{◌↔◌, slice_get, ◌==◌, option_map}
 use Rattle.std.specs.List.{list_any}

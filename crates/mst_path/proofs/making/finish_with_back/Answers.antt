@@ -17,7 +17,7 @@ use Rattle.mst_path.proofs.making.finish_with_back.Given.{Over}
 use Rattle.mst_path.proofs.making.finish_with_back.Goals.{After-move_entry, After-move_run, After-root_at-tail}
 use Rattle.mst_path.proofs.making.finish_with_back.Goals as goal
 
--- ---- the first entry at the back is moved behind the seam
+-- ---- the first entry at the back is moved after the seam
 
 pub move_entry-requires-clause-child : goal.move_entry-requires-clause-child
 move_entry-requires-clause-child g c =
@@ -89,7 +89,7 @@ move_run-requires-clause-copying g c =
           c.requires.rest.1) (c.args.parts.now.back.count - 1) (omega (arith, c.requires.some)),
     )
 
--- ---- the entries behind it are moved
+-- ---- the entries after it are moved
 
 module _ (g : Over) (c : goal.After-move_run g) where
   same_head : c.move_run.new.writer.head ≡ c.args.writer.head

@@ -100,7 +100,7 @@ rows_of_node-loop-entry-preserved g t c = λ format.
       c.rows_of_child.ensures.rows format,
     )
 
--- ---- the tree behind the entries
+-- ---- the tree after the entries
 
 pub rows_of_node-rows_of_child-requires-2 : goal.rows_of_node-rows_of_child-requires-2
 rows_of_node-rows_of_child-requires-2 g t c κs within =

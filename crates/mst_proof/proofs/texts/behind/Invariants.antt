@@ -2,6 +2,6 @@ use Rattle.std.proofs.Common.{◌≡◌, ◌-◌}
 use Rattle.mst_proof.specs.Frame.{rest_at}
 use Rattle.mst_proof.proofs.texts.behind.Given as goal
 
--- what lies behind the texts to come lies behind all
+-- what lies after the texts to come lies after all
 abbrev pub invariant-loop : goal.invariant-loop
 invariant-loop l = rest_at (l.count - l.counter) l.rest ≡ rest_at l.count l.bytes

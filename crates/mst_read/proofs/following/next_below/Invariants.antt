@@ -7,7 +7,7 @@ use Rattle.mst_read.proofs.Descend.{Reached, depth}
 use Rattle.mst_read.proofs.Successor.{Answers, HasPair}
 use Rattle.mst_read.proofs.following.next_below.Given as goal
 
--- the answer is in the tree under the search, or else it is the pair to the right
+-- the answer is in the tree under the search, or otherwise it is the pair to the right
 abbrev pub invariant-loop-top : goal.invariant-loop-top
 invariant-loop-top g l = record {
   same : l.rows ≡ l.fn.rows;

@@ -6,7 +6,7 @@ use Rattle.mst_read.proofs.Walk.{Onward}
 use Rattle.mst_read.proofs.Ways.{ComesTo}
 use Rattle.mst_read.proofs.lookup.seek.Given as goal
 
--- the search in the rest of the entries comes to where the search in all comes to
+-- the search in the rest of the entries ends at the place where the search in all ends
 abbrev pub invariant-loop : goal.invariant-loop
 invariant-loop g l = record {
   same : l.rows ≡ l.initial.rows;

@@ -9,7 +9,7 @@ use Rattle.mst_read.proofs.Descend.{depth}
 use Rattle.mst_read.proofs.Trails.{Met}
 use Rattle.mst_read.proofs.proving.prove_below.Given as goal
 
--- behind the format and room for a number the texts so far begin those of the trail; no text is
+-- after the format and room for a number the texts so far begin those of the trail; no text is
 -- longer than the entries of one node make it, and a layer is left for each node to come
 abbrev pub invariant-loop-top : goal.invariant-loop-top
 invariant-loop-top g l = record {

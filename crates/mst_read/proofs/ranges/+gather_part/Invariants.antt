@@ -11,7 +11,7 @@ use Rattle.mst_read.proofs.ranges.+gather_part.Given as goal
 abbrev pub decreases-gather_part : goal.decreases-gather_part
 decreases-gather_part g l = l.part.now.layer
 
--- what is found so far, with what the rest of the part adds, is what the whole part comes to
+-- what is found so far, with what the rest of the part adds, is what the whole part gives
 abbrev pub invariant-loop : goal.invariant-loop
 invariant-loop g l = record {
   same : l.rows ≡ l.fn.rows;

@@ -6,7 +6,7 @@ use Rattle.mst_read.proofs.Walk.{Onward}
 use Rattle.mst_read.proofs.Parts.{Cuts}
 use Rattle.mst_read.proofs.ranges.part_from.Given as goal
 
--- the rest of the entries is cut where all are
+-- the rest of the entries is cut at the place where all are
 abbrev pub invariant-loop-passed : goal.invariant-loop-passed
 invariant-loop-passed g l = record {
   same : l.rows ≡ l.initial.rows;

@@ -1,12 +1,12 @@
-//! What the reads take of the rows: a range no more than its limit needs, a look-up and a next pair
-//! one path.
+//! What the calls read from the rows: a range no more than its limit needs, a look-up and a next
+//! pair one path.
 //!
 //! The rows are of 300 pairs in three layers, with the numbers in three bytes as keys. The counts
-//! were worked out apart, from the layers of these keys (Python's hashlib): the head of each node
-//! that is met, its entries up to the one that ends the search in it, and the value of each pair of
-//! the answer. An entry whose way was asked is read once more where its key or its links are
-//! needed: the entry of a next pair and that of the bound, and of a range that has a lower bound
-//! the first entry that is not below it in each node on the way whose pairs are added.
+//! were worked out separately, from the layers of these keys (Python's hashlib): the head of each
+//! node that is met, its entries up to the one that ends the search in it, and the value of each
+//! pair of the answer. An entry whose way was asked for is read once more if its key or its links
+//! are needed: the entry of a next pair and that of the bound, and of a range that has a lower
+//! bound the first entry that is not below it in each node on the way whose pairs are added.
 use crate::pairs::{key_of, numbered, numbered_key};
 use crate::rows::counted::Reads;
 use crate::rows::standing::StandingMap;
@@ -33,11 +33,11 @@ fn bound(rt: &impl Abort, number: Option<u32>) -> Option<Key> {
 /// What is asked of the map.
 #[derive(Clone, Copy)]
 enum Ask {
-    /// The pairs between two numbers, so many at most.
+    /// The pairs between two numbers, at most so many.
     Range(Option<u32>, Option<u32>, usize),
     /// The value of a number's key.
     Get(u32),
-    /// The value of the key just behind that of 49, which the map lacks.
+    /// The value of the key just after that of 49, which the map lacks.
     GetBehind49,
     /// The next pair above a number's key.
     Next(Option<u32>),
@@ -45,7 +45,7 @@ enum Ask {
     Root,
 }
 
-/// How many pairs stand between two keys, so many at most.
+/// How many pairs stand between two keys, at most so many.
 fn range_of(
     rt: &impl Abort,
     alloc: Global,

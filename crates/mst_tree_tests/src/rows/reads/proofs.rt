@@ -38,7 +38,7 @@ fn proves_around(
         && proves(rt, alloc, planted, &above, None)
 }
 
-/// Each pair is proved, and that none stands just beside it.
+/// Each pair is proved, and so is that no key stands just beside it.
 fn proves_all(rt: &impl Abort, alloc: Global, planted: &mut StandingMap, pairs: &[(Key, Value)]) {
     for (key, value) in pairs {
         assert!(rt; proves_around(rt, alloc, planted, key, value));
@@ -64,7 +64,7 @@ fn ten_thousand_pairs(rt: HostRuntime) {
     assert!(rt; proves_ends(&rt, alloc, &mut planted));
 }
 
-/// Whether the proof for the key that is made in this heap is the wanted one; none where memory is
+/// Whether the proof for the key that is made in this heap is the wanted one; `None` if memory is
 /// refused.
 fn proof_in(heap: &LocalHeap, planted: &mut StandingMap, key: &Key, wanted: &[u8]) -> Option<bool> {
     match planted.prove(heap, key) {
@@ -86,8 +86,8 @@ fn proof_fits(
     is_made(rt, &heap, found)
 }
 
-/// How many units of 64 bytes the least heap has in which the proof for a key is made: 256 where
-/// each heap refused it.
+/// How many units of 64 bytes the least heap has in which the proof for a key is made: 256 if each
+/// heap refused it.
 fn units_of_proof(rt: &impl Abort, alloc: Global, planted: &mut StandingMap, key: &Key) -> usize {
     let wanted = planted.prove(alloc, key).expect(rt, "memory");
     for units in 1..256usize {

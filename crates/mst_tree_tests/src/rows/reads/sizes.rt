@@ -1,4 +1,4 @@
-//! Maps of many sizes, in ample memory: no call may answer that memory was refused.
+//! Maps of many sizes, in ample memory: no call may return that memory was refused.
 use super::{generated, proves, ranges_at};
 use crate::pairs::key_of;
 use crate::proving::sizes::{ABSENT, is_free, pairs_of_one_node};
@@ -81,7 +81,7 @@ fn large_maps_and_nodes(rt: HostRuntime) {
 }
 
 /// Asks for ranges whose first keys stand far inside a map: a key in the middle, one just above a
-/// key there, and one above all keys; three pairs of them, and up to some keys behind.
+/// key there, and one above all keys; three pairs of them, and up to some keys after.
 fn ranges_inside(rt: &impl Abort, alloc: Global, map: &mut StandingMap, pairs: &[(Key, Value)]) {
     let middle = pairs.len();
     for place in [

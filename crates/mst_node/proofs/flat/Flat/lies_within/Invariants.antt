@@ -6,7 +6,7 @@ use Rattle.mst_node.specs.Text.{FlatEntry}
 use Rattle.mst_node.specs.Reading.{entries_at}
 use Rattle.mst_node.proofs.flat.Flat.lies_within.Given as goal
 
--- the entries to come are read from the rest, and all keys lie in the span where theirs do
+-- the entries to come are read from the rest, and all keys lie in the span if theirs do
 abbrev pub invariant-loop : goal.invariant-loop
 invariant-loop l = (p : List FlatEntry × List ℕ)
     × (entries_at l.self-inside.format (l.end - l.counter) l.rest ≡ Some p)

@@ -10,7 +10,7 @@ use Rattle.mst_path.proofs.lemmas.rows.Taking.{out_front, out_back, out_flip}
 use Rattle.mst_path.proofs.lemmas.rows.Entries.{entries_frame, first_chain, tail_chain, count_chain, rows_chain, text_chain}
 use Rattle.mst_path.proofs.node_writer.NodeWriter.finish.Goals as goal
 
--- no row is ahead where nothing is left
+-- no row is ahead if nothing is left
 none_ahead : (next : Option ℕ) (left : ℕ) → IsAhead next left → left ≡ 0 → link_to next ≡ 0
 none_ahead None left is none = refl
 none_ahead (Some r) left is none = absurd (omega (arith, is, none))
