@@ -1,6 +1,6 @@
 -- A node that is written entry by entry, from left to right.
 use Rattle.mst_key.specs.declared.format.Format.{Format}
-use Rattle.std.specs.Prelude.{◌≡◌, ◌≤◌, ◌<◌, ◌+◌, ℕ, List, [], ◌∷◌, ◌++◌, length, map, Option, Some, None}
+use Rattle.std.specs.Prelude.{◌≡◌, ◌≤◌, ◌<◌, ◌+◌, ℕ, Bool, IsTrue, List, [], ◌∷◌, ◌++◌, length, map, Option, Some, None, IfSome}
 use Rattle.std.specs.Int.{w16, to_be_bytes}
 use Rattle.std.specs.List.{AllByRecursion, flat_map}
 use Rattle.sha2.specs.Hashers.{Holds256}
@@ -70,6 +70,10 @@ ahead (Some r) = r ∷ []
 abbrev pub link_to : Option ℕ → ℕ
 link_to None = 0
 link_to (Some r) = r + 1
+
+-- if there is a next entry, its row may be written
+abbrev pub IsNextBlank : Option ℕ → (ℕ → Bool) → Type 0
+IsNextBlank next blank = IfSome next (λ r. IsTrue (blank r))
 
 -- there is a row for the next entry if some are left
 abbrev pub IsAhead : Option ℕ → ℕ → Type 0

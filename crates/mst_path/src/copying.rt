@@ -1,12 +1,12 @@
 //! Entries of a node, copied into a node that is being written.
-ghost use Rattle.std.specs.Prelude.{◌≡◌, ◌≤◌, ◌<◌, ◌+◌, ℕ, List, [], ◌∷◌, ◌++◌, Some, IfSome, IsTrue, IsSome};
+ghost use Rattle.std.specs.Prelude.{◌≡◌, ◌≤◌, ◌<◌, ◌+◌, ℕ, List, [], ◌∷◌, ◌++◌, Some};
 ghost use Rattle.mst_key.specs.declared.format.Format.{Format};
 ghost use Rattle.mst_arena.specs.Lives.{free_count};
 ghost use Rattle.mst_arena.specs.Content.{part_at};
 ghost use Rattle.mst_arena.specs.Row.{entry_links, entry_value};
 ghost use Rattle.mst_arena.specs.Standing.{Placed, link_of, rows_of, used, HasRows};
 ghost use Rattle.mst_path.specs.Takes.{IsOut, KeepsBut, FewRows, IsWritable, StaysBeside};
-ghost use Rattle.mst_path.specs.Writing.{PlacedEntry, entries_used, IsRootOf, ahead, IsWriter, IsWritten};
+ghost use Rattle.mst_path.specs.Writing.{PlacedEntry, entries_used, IsRootOf, ahead, IsNextBlank, IsWriter, IsWritten};
 ghost use Rattle.mst_path.specs.Moves.{IsOld, Moves};
 ghost use Rattle.mst_path.specs.Copying.{Copying, Copied};
 
@@ -49,10 +49,9 @@ pub(crate) fn move_entry<R: Rows, A: Allocator>(
     requires some { 0 < writer.old.left }
     requires room { 1 < writer.old.left → 0 < free_count desk.old.lives }
     requires few { FewRows desk.old.lives }
-    requires blank { IfSome writer.old.next (λ r. IsTrue (R.blank rows.old r)) }
+    requires blank { IsNextBlank writer.old.next (R.blank rows.old) }
     requires child { child.now.link ≤ 65535 }
     requires entry { part_at entry_links (R.content rows.old) row ≡ Some entry.now }
-    requires value { IsSome (part_at entry_value (R.content rows.old) row) }
     requires old { IsOld desk.old row }
     ensures writer { IsWriter writer.new }
     ensures written { (format : Format) (es : List PlacedEntry) (p : Placed) (r : ℕ) (v : List ℕ)
@@ -86,7 +85,7 @@ pub(crate) fn move_run<R: Rows, A: Allocator>(
     requires left { count ≤ writer.old.left }
     requires room { writer.old.left ≤ free_count desk.old.lives + 1 }
     requires ready { IsWritable desk.old.lives (R.blank rows.old) }
-    requires blank { IfSome writer.old.next (λ r. IsTrue (R.blank rows.old r)) }
+    requires blank { IsNextBlank writer.old.next (R.blank rows.old) }
     ensures writer { IsWriter writer.new }
     ensures copied { (format : Format)
         (k : Copying format writer.old (R.content rows.old) desk.old from count)
@@ -96,7 +95,7 @@ pub(crate) fn move_run<R: Rows, A: Allocator>(
     ensures node { (writer.new.layer ≡ writer.old.layer) × (writer.new.count ≡ writer.old.count)
         × (writer.new.left + count ≡ writer.old.left) × (writer.new.head ≡ writer.old.head) }
     ensures beside { StaysBeside R.blank R.kept rows.old rows.new }
-    ensures next { IfSome writer.new.next (λ r. IsTrue (R.blank rows.new r)) }
+    ensures next { IsNextBlank writer.new.next (R.blank rows.new) }
 {
     let mut link = from;
     for _ in 0..count {

@@ -1,5 +1,5 @@
 //! A new node, made of parts of nodes that stand.
-ghost use Rattle.std.specs.Prelude.{◌≡◌, ◌≤◌, ◌<◌, ◌+◌, ℕ, IfSome, IsTrue};
+ghost use Rattle.std.specs.Prelude.{◌≡◌, ◌≤◌, ◌<◌, ◌+◌, ℕ, IsTrue};
 ghost use Rattle.mst_key.specs.declared.format.Format.{Format};
 ghost use Rattle.mst_node.specs.Tree.{node, entry};
 ghost use Rattle.mst_node.specs.Shape.{with_entries};
@@ -9,7 +9,7 @@ ghost use Rattle.mst_arena.specs.Standing.{Placed, tree_of, used};
 ghost use Rattle.mst_change.specs.Parts.{with_first};
 ghost use Rattle.mst_path.specs.Takes.{IsWritable, StaysBeside};
 ghost use Rattle.mst_path.specs.Runs.{Piece};
-ghost use Rattle.mst_path.specs.Writing.{IsRootOf, IsWriter};
+ghost use Rattle.mst_path.specs.Writing.{IsRootOf, IsNextBlank, IsWriter};
 ghost use Rattle.mst_path.specs.Making.{PartsStand, in_parts, cells_of, entries_to, Grown, Rest, Finished, tail_behind};
 
 use crate::copying::{move_entry, move_run, root_at};
@@ -141,7 +141,7 @@ fn finish_node<R: Rows, A: Allocator>(
     requires left { writer.left ≡ parts.now.back.count }
     requires room { writer.left ≤ free_count desk.old.lives + 1 }
     requires ready { IsWritable desk.old.lives (R.blank rows.old) }
-    requires blank { IfSome writer.next (λ r. IsTrue (R.blank rows.old r)) }
+    requires blank { IsNextBlank writer.next (R.blank rows.old) }
     requires head { IsTrue (R.blank rows.old writer.head) }
     ensures finished { (format : Format) (r : Rest format writer
         (R.content rows.old) desk.old parts.now)
@@ -169,7 +169,7 @@ fn finish_with_back<R: Rows, A: Allocator>(
     requires left { writer.left ≡ parts.now.back.count }
     requires room { writer.left ≤ free_count desk.old.lives + 1 }
     requires ready { IsWritable desk.old.lives (R.blank rows.old) }
-    requires blank { IfSome writer.next (λ r. IsTrue (R.blank rows.old r)) }
+    requires blank { IsNextBlank writer.next (R.blank rows.old) }
     requires head { IsTrue (R.blank rows.old writer.head) }
     ensures finished { (format : Format) (r : Rest format writer
         (R.content rows.old) desk.old parts.now)

@@ -1,5 +1,5 @@
 //! One node, written into rows entry by entry.
-ghost use Rattle.std.specs.Prelude.{◌≡◌, ◌≤◌, ◌<◌, ◌+◌, ℕ, List, [], ◌∷◌, ◌++◌, Some, IfSome, IsTrue, IsSome};
+ghost use Rattle.std.specs.Prelude.{◌≡◌, ◌≤◌, ◌<◌, ◌+◌, ℕ, List, [], ◌∷◌, ◌++◌, Some, IsTrue};
 ghost use Rattle.mst_node.specs.Text.{child_digest};
 ghost use Rattle.mst_key.specs.declared.format.Format.{Format};
 ghost use Rattle.mst_arena.specs.Lives.{free_count};
@@ -7,7 +7,7 @@ ghost use Rattle.mst_arena.specs.Content.{Content, part_at};
 ghost use Rattle.mst_arena.specs.Row.{entry_links, entry_value};
 ghost use Rattle.mst_arena.specs.Standing.{Placed, head, tree_of, rows_of, used, HasRows};
 ghost use Rattle.mst_path.specs.Takes.{Takes, IsOut, KeepsBut, FewRows, StaysBeside};
-ghost use Rattle.mst_path.specs.Writing.{PlacedEntry, chain_of, entries_used, IsRootOf, ahead, IsAhead, IsWriter, IsWritten};
+ghost use Rattle.mst_path.specs.Writing.{PlacedEntry, chain_of, entries_used, IsRootOf, ahead, IsNextBlank, IsAhead, IsWriter, IsWritten};
 
 use mst_arena::{Desk, EntryLinks, Root, Row, Rows};
 use mst_key::{Format, Key, Value};
@@ -122,7 +122,7 @@ impl NodeWriter {
         requires some { 0 < self.old.left }
         requires room { 1 < self.old.left → 0 < free_count desk.old.lives }
         requires few { FewRows desk.old.lives }
-        requires blank { IfSome self.old.next (λ r. IsTrue (R.blank rows.old r)) }
+        requires blank { IsNextBlank self.old.next (R.blank rows.old) }
         requires child { child.now.link ≤ 65535 }
         ensures writer { IsWriter self.new }
         // after the entries that are written stands the new one, if the row that was taken for it
@@ -171,10 +171,9 @@ impl NodeWriter {
         requires some { 0 < self.old.left }
         requires room { 1 < self.old.left → 0 < free_count desk.old.lives }
         requires few { FewRows desk.old.lives }
-        requires blank { IfSome self.old.next (λ r. IsTrue (R.blank rows.old r)) }
+        requires blank { IsNextBlank self.old.next (R.blank rows.old) }
         requires child { child.now.link ≤ 65535 }
         requires entry { part_at entry_links (R.content rows.old) from ≡ Some entry.now }
-        requires value { IsSome (part_at entry_value (R.content rows.old) from) }
         ensures writer { IsWriter self.new }
         ensures written { (format : Format) (es : List PlacedEntry) (p : Placed) (r : ℕ)
             (v : List ℕ) → self.old.next ≡ Some r

@@ -41,9 +41,6 @@ copy-requires-clause-child g c = search rules
 pub copy-requires-clause-entry : goal.copy-requires-clause-entry
 copy-requires-clause-entry g c = c.requires.entry
 
-pub copy-requires-clause-value : goal.copy-requires-clause-value
-copy-requires-clause-value g c = c.requires.value
-
 pub kill-requires : goal.kill-requires
 kill-requires g c = grind (arith, elements)
 

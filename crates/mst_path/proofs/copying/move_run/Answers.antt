@@ -231,9 +231,6 @@ returns-clause-beside g c = c.loop.invariant.beside
 pub returns-clause-next : goal.returns-clause-next
 returns-clause-next g c = c.loop.invariant.next
 
-pub move_entry-requires-clause-value : goal.move_entry-requires-clause-value
-move_entry-requires-clause-value g c = search rules
-
 pub move_entry-requires-clause-entry : goal.move_entry-requires-clause-entry
 move_entry-requires-clause-entry g c =
     subst (λ (x : Content). part_at entry_links x (c.loop.link - 1) ≡ Some c.entry-entry.result)

@@ -1,8 +1,8 @@
 use Rattle.mst_key.specs.declared.format.Format.{Format}
-use Rattle.std.proofs.Common.{◌≡◌, ◌≤◌, ◌+◌, IfSome, IsTrue}
+use Rattle.std.proofs.Common.{◌≡◌, ◌≤◌, ◌+◌}
 use Rattle.mst_arena.specs.Lives.{free_count}
 use Rattle.mst_path.specs.Takes.{IsWritable, StaysBeside}
-use Rattle.mst_path.specs.Writing.{IsWriter}
+use Rattle.mst_path.specs.Writing.{IsNextBlank, IsWriter}
 use Rattle.mst_path.specs.Copying.{Copying}
 use Rattle.mst_path.proofs.lemmas.rows.Copies.{Progress}
 use Rattle.mst_path.proofs.copying.move_run.Given as goal
@@ -16,7 +16,7 @@ invariant-loop g l = record {
   room : l.writer.left ≤ free_count l.desk.lives + 1;
   ready : IsWritable l.desk.lives (g.R.Rows.blank l.rows);
   beside : StaysBeside g.R.Rows.blank g.R.Rows.kept l.fn.rows l.rows;
-  next : IfSome l.writer.next (λ r. IsTrue (g.R.Rows.blank l.rows r));
+  next : IsNextBlank l.writer.next (g.R.Rows.blank l.rows);
   progress : (format : Format)
       (k : Copying format l.fn.writer (g.R.Rows.content l.fn.rows) l.fn.desk l.fn.from l.fn.count)
       → Progress format k l.counter l.writer (g.R.Rows.content l.rows) l.desk l.link;
