@@ -59,14 +59,19 @@ class Canvas:
         place += f' width="{2 * size}" height="{2 * size}"'
         self.shapes.append(f'<rect {place} fill="black"{turned}/>')
 
-    def text(self, x, y, text, size=17, at="start", code=False, bold=False, within=None):
-        """Writes a text whose base line is at y. It has to fit into `within` pixels, if given."""
+    def text(
+        self, x, y, text, size=17, at="start", code=False, bold=False, within=None, halo=False
+    ):
+        """Writes a text whose base line is at y. It has to fit into `within` pixels, if given. With
+        a halo, lines below it end before they touch it."""
         width = width_of(text, size, code, bold)
         left = x - {"start": 0, "middle": width / 2, "end": width}[at]
         self.fits(text, size, width, left, y, within)
         look = f'font-size="{size}" text-anchor="{at}"' + (' font-weight="bold"' if bold else "")
         if code:
             look += f' font-family="{CODE}"'
+        if halo:
+            look += ' stroke="white" stroke-width="8" paint-order="stroke"'
         place = f'x="{number(x)}" y="{number(y)}"'
         shape = f"<text {place} {look}>{escape(text)}</text>"
         self.texts.append(((left, y - size, left + width, y), text, shape))

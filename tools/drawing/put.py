@@ -2,12 +2,13 @@
 from .canvas import WIDTH, Canvas
 
 READER, WRITER = 2, 1  # passes
+ASKED = (1, 2, 3)  # records; the version goes into the last one that is found drained
 LEFT = {
     "step": 52, "turn": 476, "slot": 548, "current": 640, "done": 800, "record": 908, "pins": 1096,
 }
 HEADS = {
     "turn": ("", "turn"), "slot": ("", "slot"), "current": ("", "current"),
-    "done": ("done of", "record 0"), "record": ("record 1,", "free rows"),
+    "done": ("done of", "record 0"), "record": (f"record {ASKED[-1]},", "free rows"),
     "pins": ("who pins", "record 0"),
 }
 FIRST, APART = 96, 38
@@ -48,7 +49,7 @@ class Table:
         self.current = (self.current[0], self.current[1] ^ mask(READER))
 
     def publish(self):
-        self.due, self.current = self.current[1], (1, 0)
+        self.due, self.current = self.current[1], (ASKED[-1], 0)
         self.record = "current"
 
     def transfer(self):

@@ -61,7 +61,7 @@ def draw_curve(canvas, rows, index, call):
     for (x, y), row in zip(places, rows):
         canvas.mark(x, y, MARKS[index - 1])
         is_close = any(0 < y - up(time) < 50 for time in row[1:])
-        canvas.text(x, y + 28 if is_close else y - 14, row[index], 16, "middle")
+        canvas.text(x, y + 28 if is_close else y - 14, row[index], 16, "middle", halo=True)
     x, y = places[-1]
     canvas.line([(x + 14, y), (RIGHT + 14, y)], "faint")
     canvas.text(RIGHT + 20, y + 6, call, 17, bold=True)
