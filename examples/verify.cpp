@@ -19,7 +19,7 @@ constexpr std::array<std::uint8_t, 32> root = {
     0x0b, 0xe5, 0x47, 0x2e, 0x47, 0xb7, 0x25, 0x03,
 };
 
-// The value of a key, or none where it is absent; an exception where the proof shows neither.
+// Returns the value of a key, or none if it is absent. Throws if the proof shows neither.
 std::optional<std::string> look(std::string_view key, const std::vector<std::uint8_t> &proof)
 {
     std::array<std::uint8_t, MST_VALUE_ROOM> value;

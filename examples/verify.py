@@ -34,7 +34,7 @@ def open_library(path):
 
 
 def verify(call, root, key, proof):
-    """The value of the key, or None where it is absent."""
+    """Returns the value of the key, or None if it is absent."""
     room = ctypes.create_string_buffer(ROOM)
     told = call(1, root, len(root), key, len(key), proof, len(proof), room, ROOM)
     if told >= 0:

@@ -27,7 +27,7 @@ fn bytes(digits: &str) -> Vec<u8> {
     (0..digits.len()).step_by(2).map(pair).collect()
 }
 
-/// The value of the key, `None` where it is absent, or the number of the refusal.
+/// Returns the value of the key, `None` if it is absent, or the number of the refusal.
 fn verify(root: &[u8], key: &[u8], proof: &[u8]) -> Result<Option<Vec<u8>>, i32> {
     let mut room = [0; 64];
     // Each pointer goes with the length of its slice, and the room is ours alone.

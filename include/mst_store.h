@@ -2,10 +2,10 @@
  * The store, for C: an in-memory ordered map of short keys and values, with a root digest, proofs,
  * and versions that stay readable while they are pinned.
  *
- * A store is reached by its passes alone. mst_open makes a store of the empty map and puts a pass
+ * A store is used through its passes alone. mst_open makes a store of the empty map and puts a pass
  * into each hand of an array; a thread works through a hand of its own. Reads wait for no one. One
- * write at a time goes on; another thread's try is then told MST_BUSY, and mst_put, mst_remove and
- * mst_migrate below try again. The store goes when its last pass is closed.
+ * write runs at a time. Meanwhile the try of another thread returns MST_BUSY, and mst_put,
+ * mst_remove and mst_migrate below try again. The store is freed when its last pass is closed.
  *
  *     mst_pass passes[2] = {MST_PASS_CLOSED, MST_PASS_CLOSED};
  *     uint8_t old[MST_VALUE_LONGEST], root[MST_ROOT_LENGTH];
@@ -19,16 +19,16 @@
  * What a caller owes, and nothing checks:
  *   - a hand is MST_PASS_CLOSED before its first call, and is neither copied nor written by the
  *     caller;
- *   - a hand is in one call at a time. Where it goes from one thread to another, it goes with a
- *     lock, with the start or the end of a thread, or with a sequentially consistent atomic;
+ *   - a hand is in one call at a time. If it goes from one thread to another, it goes with a lock,
+ *     with the start or the end of a thread, or with a sequentially consistent atomic;
  *   - pointers are valid for their lengths, and what a call writes overlaps nothing else that it is
- *     given. Where a length is 0, the pointer is not read and may be null;
+ *     given. If a length is 0, the pointer is not read and may be null;
  *   - malloc, realloc and free are of one allocator and align to 16 bytes;
- *   - no call comes from a signal handler, or from the forked child of a process with threads.
+ *   - no call is made in a signal handler, or in the forked child of a process with threads.
  *
- * Bytes of any kind and any length get an answer by number. Keys have 1 to 32 bytes, values 0 to
- * 64. The numbers below never change, and those of mst_verifier.h have the same meaning here. Where
- * several refusals are due, the order is that in which a call's comment lists them.
+ * A call returns a number, for bytes of any kind and any length. Keys have 1 to 32 bytes, values 0
+ * to 64. The numbers below never change, and those of mst_verifier.h have the same meaning here. If
+ * several refusals apply, a call returns the one that its comment lists first.
  *
  * Link with libmst_store.a, which `make -C bindings` makes. docs/STORE_C.md has examples.
  */
@@ -64,12 +64,12 @@ typedef struct mst_pass {
 #define MST_PASSES_MOST 32
 
 /*
- * What was asked is done. Instead, mst_get, mst_next, mst_root, puts and removes tell a length,
+ * What was asked is done. Instead, mst_get, mst_next, mst_root, puts and removes return a length,
  * mst_format and migrations a format.
  */
 #define MST_OK 0
 
-/* There is no such key. This is an answer, and no refusal. */
+/* There is no such key. This is an answer, not a refusal. */
 #define MST_ABSENT (-1)
 
 /* The room is too short for the answer. */
@@ -114,135 +114,139 @@ typedef struct mst_pass {
 /* ---- opening and closing ---- */
 
 /*
- * Opens a store of the empty map in the format 1 or 2 and puts a pass into each of the `count`
- * hands; what a hand held before is closed, with each answer. MST_UNKNOWN_FORMAT for another
- * format; MST_BAD_SHAPE where rows or count are out of their limits; MST_MEMORY. After any answer
- * but MST_OK all hands are empty.
+ * Opens a store of the empty map in format 1 or 2, with `rows` rows, and puts a pass into each of
+ * the `count` hands. What a hand held before is closed, whatever the call returns. Returns MST_OK;
+ * MST_UNKNOWN_FORMAT for another format; MST_BAD_SHAPE if rows or count are out of their limits;
+ * MST_MEMORY. If it does not return MST_OK, all hands are empty.
  */
 int32_t mst_open(uint32_t format, uint32_t rows, mst_pass *passes, size_t count);
 
 /*
- * Lets the pass go, and ends its pin if it has one: MST_OK, and then the hand is empty, or
- * MST_CLOSED. The store goes with its last pass.
+ * Closes the pass, and ends its pin if it has one. Returns MST_OK, and then the hand is empty, or
+ * MST_CLOSED. The store is freed with its last pass.
  */
 int32_t mst_close(mst_pass *pass);
 
 /* ---- reads: of the current version by a free pass, of the pinned one by a pinned pass ---- */
 
 /*
- * The value of the key: its length, 0 to 64, and its bytes stand first in the room. MST_CLOSED,
- * MST_BAD_KEY; MST_ABSENT; MST_NO_ROOM where the room is shorter than the value. Then the room is
- * as it was.
+ * Returns the length of the key's value, 0 to 64, and its bytes stand first in the room. Otherwise
+ * returns MST_CLOSED; MST_BAD_KEY; MST_ABSENT; MST_NO_ROOM if the room is shorter than the value.
+ * With each of these the room is as it was.
  */
 int32_t mst_get(mst_pass *pass, const uint8_t *key, size_t key_length,
                 uint8_t *room, size_t room_length);
 
 /*
- * The pair of the least key above `key`; with key_length 0 of the least key of all. The answer is
- * the value's length; its bytes stand first in room, those of the key first in key_room, and
- * *next_length is the key's length. MST_CLOSED; MST_BAD_KEY where the key is longer than 32 bytes;
- * MST_ABSENT where there is none; MST_NO_ROOM where one of the two rooms is short. Then both rooms
- * and *next_length are as they were.
+ * Finds the pair of the least key above `key`, or of the least key of all if key_length is 0.
+ * Returns the value's length: its bytes stand first in room, those of the key first in key_room,
+ * and *next_length is the key's length. Otherwise returns MST_CLOSED; MST_BAD_KEY if the key is
+ * longer than 32 bytes; MST_ABSENT if there is no such pair; MST_NO_ROOM if one of the two rooms is
+ * too short. With each of these both rooms and *next_length are as they were.
  */
 int32_t mst_next(mst_pass *pass, const uint8_t *key, size_t key_length,
                  uint8_t *key_room, size_t key_room_length, size_t *next_length,
                  uint8_t *room, size_t room_length);
 
 /*
- * The first pairs, at most `limit`, of the keys that are at least `from` and below `to`, by rising
- * keys. A bound of length 0 does not bind. MST_OK: *count is the number of the pairs and *length
- * that of their bytes, which stand first in the room, one pair after the other: the length of the
- * key in two bytes, the high one first, that of the value in two bytes, the key, the value.
- * mst_pair_at below reads them. MST_CLOSED; MST_BAD_KEY where a bound is longer than 32 bytes;
- * MST_MEMORY: the room, *count and *length are as they were. MST_NO_ROOM: *count and *length tell
- * of all these pairs, and the room is as it was.
+ * Finds the first pairs, at most `limit`, whose keys are at least `from` and below `to`, by rising
+ * keys. A bound of length 0 does not bind. Returns MST_OK: *count is the number of the pairs and
+ * *length that of their bytes, which stand first in the room, one pair after the other: the length
+ * of the key in two bytes, the high one first, that of the value in two bytes, the key, the value.
+ * mst_pair_at below reads them. Returns MST_CLOSED; MST_BAD_KEY if a bound is longer than 32 bytes;
+ * MST_MEMORY: the room, *count and *length are as they were. Returns MST_NO_ROOM if the room is too
+ * short: *count and *length are those of all these pairs, and the room is as it was.
  */
 int32_t mst_range(mst_pass *pass, const uint8_t *from, size_t from_length,
                   const uint8_t *to, size_t to_length, uint32_t limit,
                   uint8_t *room, size_t room_length, size_t *count, size_t *length);
 
 /*
- * The root digest in the format of the version: 32, its length, and its bytes stand first in
- * `root`. MST_CLOSED, MST_NO_ROOM.
+ * Returns 32, the length of the root digest in the format of the version, and its bytes stand first
+ * in `root`. Otherwise returns MST_CLOSED; MST_NO_ROOM if root_length is less than 32.
  */
 int32_t mst_root(mst_pass *pass, uint8_t *root, size_t root_length);
 
 /*
- * The proof of the key's answer, which mst_verify judges in the format and by the root digest of
- * the same version: MST_OK, its bytes stand first in the room, and *length is their number.
- * MST_CLOSED, MST_BAD_KEY, MST_MEMORY: room and *length are as they were. MST_NO_ROOM: *length
- * tells how long the proof is, and the room is as it was.
+ * Makes the proof of the key's answer, which mst_verify judges in the format and by the root digest
+ * of the same version. Returns MST_OK: its bytes stand first in the room, and *length is their
+ * number. Returns MST_CLOSED, MST_BAD_KEY, MST_MEMORY: room and *length are as they were. Returns
+ * MST_NO_ROOM if the room is too short: *length is the length of the proof, and the room is as it
+ * was.
  */
 int32_t mst_prove(mst_pass *pass, const uint8_t *key, size_t key_length,
                   uint8_t *room, size_t room_length, size_t *length);
 
 /*
- * The number of the version, which is the number of writes and migrations before it: MST_OK or
- * MST_CLOSED.
+ * Sets *version to the number of the version, which is the number of writes and migrations before
+ * it. Returns MST_OK or MST_CLOSED.
  */
 int32_t mst_version(mst_pass *pass, uint64_t *version);
 
-/* The format of the version, in which its root digest and its proofs are: 1 or 2. MST_CLOSED. */
+/*
+ * Returns the format of the version, 1 or 2, in which its root digest and its proofs are. Otherwise
+ * returns MST_CLOSED.
+ */
 int32_t mst_format(mst_pass *pass);
 
 /*
- * How many rows the current version takes: MST_OK. MST_CLOSED; MST_WRONG_STATE by a pinned pass;
- * MST_BUSY; MST_ROWS_PINNED.
+ * Sets *rows to the number of rows that the current version takes. Returns MST_OK; MST_CLOSED;
+ * MST_WRONG_STATE for a pinned pass; MST_BUSY; MST_ROWS_PINNED.
  */
 int32_t mst_rows(mst_pass *pass, uint32_t *rows);
 
 /* ---- writes, which make a version each: puts, removes and migrations ---- */
 
 /*
- * Gives the key the value, if no other pass writes. The answer is that of mst_get for the key
- * before: a length and the bytes of the old value, or MST_ABSENT where the key is new; MST_NO_ROOM
- * where the old value did not fit: the key has its new value all the same. MST_CLOSED, MST_BAD_KEY,
- * MST_BAD_VALUE, MST_WRONG_STATE by a pinned pass, MST_BUSY, MST_VERSIONS_SPENT, MST_ROWS_SPENT:
+ * Gives the key the value, if no other pass writes. Returns what mst_get would return before it: a
+ * length and the bytes of the old value, or MST_ABSENT if the key is new; MST_NO_ROOM if the old
+ * value did not fit: the key has its new value all the same. Returns MST_CLOSED, MST_BAD_KEY,
+ * MST_BAD_VALUE, MST_WRONG_STATE for a pinned pass, MST_BUSY, MST_VERSIONS_SPENT, MST_ROWS_SPENT:
  * nothing is written.
  */
 int32_t mst_try_put(mst_pass *pass, const uint8_t *key, size_t key_length,
                     const uint8_t *value, size_t value_length, uint8_t *room, size_t room_length);
 
 /*
- * Takes the key out, if no other pass writes. The answers are those of mst_try_put, without
+ * Takes the key out, if no other pass writes. Returns what mst_try_put returns, without
  * MST_BAD_VALUE.
  */
 int32_t mst_try_remove(mst_pass *pass, const uint8_t *key, size_t key_length,
                        uint8_t *room, size_t room_length);
 
 /*
- * Turns the tree of the map to the format 1 or 2, if no other pass writes. The map stays, and so do
- * the pinned versions, each in its format. The answer is the format before: 1 or 2. MST_CLOSED;
- * MST_UNKNOWN_FORMAT for another format; MST_WRONG_STATE by a pinned pass, MST_BUSY,
+ * Turns the tree of the map to format 1 or 2, if no other pass writes. The map stays, and so do the
+ * pinned versions, each in its format. Returns the format before: 1 or 2. Returns MST_CLOSED;
+ * MST_UNKNOWN_FORMAT for another format; MST_WRONG_STATE for a pinned pass, MST_BUSY,
  * MST_VERSIONS_SPENT, MST_MEMORY, MST_ROWS_SPENT: nothing is written.
  *
  * It takes a row for each pair and each node of the new tree, beside the rows of the old one, and
- * memory for the pairs and that tree, which it gives back. To the format that stands it takes no
- * row and no memory.
+ * memory for the pairs and that tree, which it gives back. A migration to the current format takes
+ * no row and no memory.
  */
 int32_t mst_try_migrate(mst_pass *pass, uint32_t format);
 
 /* ---- pins ---- */
 
 /*
- * Pins the current version: until mst_unpin each read by this pass is of it. MST_OK, MST_CLOSED,
- * MST_WRONG_STATE.
+ * Pins the current version: until mst_unpin each read by this pass is of it. Returns MST_OK,
+ * MST_CLOSED, or MST_WRONG_STATE if the pass is pinned already.
  */
 int32_t mst_pin(mst_pass *pass);
 
-/* Ends the pin: MST_OK, MST_CLOSED, MST_WRONG_STATE. */
+/* Ends the pin. Returns MST_OK, MST_CLOSED, or MST_WRONG_STATE if the pass is not pinned. */
 int32_t mst_unpin(mst_pass *pass);
 
 /* ---- pairs in the room of mst_range ---- */
 
-/* A pair as it stands there. */
+/* A pair in that room. */
 typedef struct mst_pair {
     const uint8_t *key, *value;
     size_t key_length, value_length;
 } mst_pair;
 
 /*
- * Reads the pair that begins `at` bytes into the room, and returns where the next one begins: after
+ * Reads the pair that begins `at` bytes into the room, and returns where the next one begins. After
  * the last pair that is the *length of mst_range.
  *
  *     for (size_t at = 0; at < length;) {
@@ -263,8 +267,8 @@ static inline size_t mst_pair_at(const uint8_t *room, size_t at, mst_pair *pair)
 /* ---- writes that try until no other pass writes ---- */
 
 /*
- * What goes on between two tries. Define it before this file for a pause of your own, sched_yield()
- * say.
+ * What is done between two tries. Define it before this file for a pause of your own, such as
+ * sched_yield().
  */
 #ifndef MST_PAUSE
 #if defined(__x86_64__) && defined(__GNUC__)
@@ -274,7 +278,7 @@ static inline size_t mst_pair_at(const uint8_t *room, size_t at, mst_pair *pair)
 #endif
 #endif
 
-/* As mst_try_put, but never MST_BUSY. */
+/* As mst_try_put, but tries again instead of returning MST_BUSY. */
 static inline int32_t mst_put(mst_pass *pass, const uint8_t *key, size_t key_length,
                               const uint8_t *value, size_t value_length,
                               uint8_t *room, size_t room_length) {
@@ -285,7 +289,7 @@ static inline int32_t mst_put(mst_pass *pass, const uint8_t *key, size_t key_len
     return told;
 }
 
-/* As mst_try_remove, but never MST_BUSY. */
+/* As mst_try_remove, but tries again instead of returning MST_BUSY. */
 static inline int32_t mst_remove(mst_pass *pass, const uint8_t *key, size_t key_length,
                                  uint8_t *room, size_t room_length) {
     int32_t told;
@@ -294,7 +298,7 @@ static inline int32_t mst_remove(mst_pass *pass, const uint8_t *key, size_t key_
     return told;
 }
 
-/* As mst_try_migrate, but never MST_BUSY. */
+/* As mst_try_migrate, but tries again instead of returning MST_BUSY. */
 static inline int32_t mst_migrate(mst_pass *pass, uint32_t format) {
     int32_t told;
     while ((told = mst_try_migrate(pass, format)) == MST_BUSY)

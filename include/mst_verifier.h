@@ -2,17 +2,17 @@
  * The verifier of proofs, for C.
  *
  * A map of short keys and values has a root digest of 32 bytes. Its store gives, with an answer for
- * a key, a proof of it. With the root digest, the key and the proof at hand, mst_verify tells what
- * the proof shows: the key's value, or that the key is absent, or which test the proof fails. It
- * needs neither the store nor the map. docs/FORMAT.md has the bytes of a proof and the tests.
+ * a key, a proof of it. From the root digest, the key and the proof, mst_verify says what the proof
+ * shows: the key's value, or that the key is absent, or which test the proof fails. It needs
+ * neither the store nor the map. docs/FORMAT.md has the bytes of a proof and the tests.
  *
  * The library takes no memory, keeps no state and starts no thread. Its calls may be made from any
  * threads at once, as long as no two of them write to the same room; from a signal handler too.
- * They only read what is const here. They call the C library for no more than memcpy, memmove,
- * memset and memcmp, if for anything.
+ * They only read what is const here. Of the C library they call at most memcpy, memmove, memset and
+ * memcmp.
  *
- * Bytes of any kind and any length get an answer by number. Pointers are to be valid for their
- * lengths; where a length is 0, the pointer is not read and may be null. The room may not overlap
+ * A call returns a number, for bytes of any kind and any length. Pointers must be valid for their
+ * lengths; if a length is 0, the pointer is not read and may be null. The room must not overlap
  * what is read. The numbers below never change.
  *
  *     uint8_t value[MST_VALUE_ROOM];
@@ -40,9 +40,9 @@ extern "C" {
 /* Room for every value: values have 0 to 64 bytes. Keys have 1 to 32. */
 #define MST_VALUE_ROOM 64
 
-/* The answers of mst_verify below 0. */
+/* What mst_verify returns below 0. */
 
-/* The proof shows that the map has no such key. This is an answer, and no refusal. */
+/* The proof shows that the map has no such key. This is an answer, not a refusal. */
 #define MST_ABSENT (-1)
 
 /* The proof shows a value that is longer than the room. MST_VALUE_ROOM is always enough. */
@@ -72,12 +72,12 @@ extern "C" {
 #define MST_P10_OTHER_VALUE (-20)    /* format 2: the answer claimed is not what is held */
 
 /*
- * What the proof shows of the key, in the map with this root digest.
+ * Says what the proof shows of the key, in the map with this root digest.
  *
- * 0 to 64: the key has a value of so many bytes, which now stands first in the room. All other
- * answers are the numbers above. The format is tested first, then the root digest, the key, the
- * proof, and the room last. The room's bytes after the value stay, and all of them do where no
- * value is told.
+ * Returns 0 to 64 if the key has a value of so many bytes, which now stands first in the room. All
+ * other results are the numbers above. The format is tested first, then the root digest, the key,
+ * the proof, and the room last. The room's bytes after the value stay, and all of them stay if no
+ * value is returned.
  */
 int32_t mst_verify(uint32_t format,
                    const uint8_t *root, size_t root_length,
@@ -89,11 +89,11 @@ int32_t mst_verify(uint32_t format,
 #define MST_TOP_TEXT_AT 6
 
 /*
- * The length of the first text that a proof frames, which is the text of the top node of its map's
- * tree where the proof is a true one: the text is proof[MST_TOP_TEXT_AT] and what follows. -1 where
- * the proof frames no text, as that of the empty map, or the first is cut short. Nothing is
- * verified: only the bytes up to the end of that text are looked at, and of the version and the
- * count no more than whether the count is 0.
+ * Returns the length of the first text that a proof frames: proof[MST_TOP_TEXT_AT] and what
+ * follows. If the proof is a true one, this is the text of the top node of its map's tree. Returns
+ * -1 if the proof frames no text, as that of the empty map, or if the first is cut short. Nothing
+ * is verified: only the bytes up to the end of that text are looked at, and of the version and the
+ * count only whether the count is 0.
  */
 int64_t mst_top_text(const uint8_t *proof, size_t proof_length);
 

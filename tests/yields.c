@@ -1,5 +1,5 @@
 /*
- * Counts how often a program gives its processor up (POSIX's sched_yield), where it is started with
+ * Counts how often a program gives its processor up (POSIX's sched_yield), if it is started with
  * this library in LD_PRELOAD. The number stands in the file that YIELDS names, in eight bytes.
  */
 #include <fcntl.h>

@@ -29,7 +29,7 @@ ROOT = subprocess.run(
 
 
 def crate_named(name):
-    """Returns the crate, with all crates below it built where they changed."""
+    """Returns the crate, with all crates below it built if they changed."""
     made = rt.rtlib.Crate.__init__
 
     def make(self, *given, **named):
@@ -72,7 +72,7 @@ def seconds():
 
 
 def enclosing_function(text, at):
-    """Returns the type (with the trait's name behind it) and the name of the function that stands
+    """Returns the type (with the trait's name after it) and the name of the function that stands
     before a place in a file, or None."""
     head = r"(?m)^( *)(?:pub(?:\([a-z]+\))? )?(?:const )?(?:extern \"C\" )?fn (\w+)"
     found = list(re.finditer(head, text[:at]))

@@ -1,6 +1,6 @@
 /*
  * What is timed: a map of keys of 16 bytes and values of 32, through seats, one for each thread.
- * Each call ends the program where the map answers otherwise than it has to.
+ * Each call ends the program if the map returns anything other than it has to.
  */
 #ifndef ENGINE_H
 #define ENGINE_H
@@ -26,7 +26,7 @@ struct engine {
     void (*begin)(int seat);
     void (*end)(int seat);
     void (*get_within)(int seat, const uint8_t *key);
-    /* the proof of the key's answer; null where the engine has none */
+    /* the proof of the key's answer; null if the engine has none */
     void (*prove)(int seat, const uint8_t *key);
 };
 

@@ -70,7 +70,7 @@ static MDB_val bytes(const uint8_t *at, size_t length) {
 static void put(int seat, const uint8_t *key, const uint8_t *value) {
     MDB_val at = bytes(key, KEY_LENGTH), given = bytes(value, VALUE_LENGTH), old;
     MDB_txn *txn = writing();
-    int code = mdb_get(txn, dbi, &at, &old); /* the store's put answers the old value too */
+    int code = mdb_get(txn, dbi, &at, &old); /* the store's put returns the old value too */
     if (code == MDB_SUCCESS)
         memcpy(rooms[seat], old.mv_data, old.mv_size);
     else if (code != MDB_NOTFOUND)

@@ -15,7 +15,7 @@
 #include <string.h>
 #include <time.h>
 
-/* Where valgrind's header is there, callgrind counts the rounds alone (--instr-atstart=no). */
+/* If valgrind's header is there, callgrind counts the rounds alone (--instr-atstart=no). */
 #if defined(__has_include)
 #if __has_include(<valgrind/callgrind.h>)
 #include <valgrind/callgrind.h>

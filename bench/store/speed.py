@@ -80,7 +80,7 @@ class Lmdb:
 
 
 def opened(engine: str):
-    """The engine with its map, or None where it is not there."""
+    """The engine with its map, or None if it is not there."""
     try:
         return {"store": Store, "lmdb": Lmdb}[engine]()
     except ModuleNotFoundError:

@@ -6,10 +6,10 @@
 //     auto value = passes[1].get("apple");        // std::optional<std::string>
 //     passes[0].migrate(mst::format::two);        // shorter proofs; a store opens in format one
 //
-// A pass is one thread's at a time; it is moved, never copied, and closes itself. The store goes
-// with its last pass. Refusals are exceptions of the class mst::refused; that another pass has the
-// turn is none, but an answer of the calls that try. Keys have 1 to 32 bytes, values 0 to 64. What
-// the header mst_store.h says that a caller owes, callers of this one owe too.
+// A pass is one thread's at a time; it is moved, never copied, and closes itself. The store is
+// freed with its last pass. Refusals are exceptions of the class mst::refused. That another pass
+// has the turn is no refusal: the calls that try return it. Keys have 1 to 32 bytes, values 0 to
+// 64. What the header mst_store.h says that a caller owes, callers of this one owe too.
 #pragma once
 #include "mst_store.h"
 
@@ -81,12 +81,12 @@ struct migrated {
 // What a count of rows has found.
 struct counted {
     bool is_busy = false;              // another pass has the turn, and nothing is counted
-    std::optional<std::uint32_t> rows; // nothing where some pass pins a version
+    std::optional<std::uint32_t> rows; // nothing if some pass pins a version
 
     explicit operator bool() const noexcept { return !is_busy; }
 };
 
-// The reads, which a pass and a pinned pass both have. The hand stands on the heap, so that a pass
+// The reads, which a pass and a pinned pass both have. The hand lies on the heap, so that a pass
 // may be moved while it is pinned.
 class reader {
 protected:
@@ -135,13 +135,14 @@ public:
     reader(const reader &) = delete;
     reader &operator=(const reader &) = delete;
 
-    // The value of the key, or nothing.
+    // Returns the value of the key, or nothing if the key is absent.
     std::optional<std::string> get(std::string_view key) {
         std::uint8_t room[MST_VALUE_LONGEST];
         return told(mst_get(at(), bytes(key), key.size(), room, sizeof room), room);
     }
 
-    // The pair of the least key above `after`; with no bound, of the least key of all.
+    // Returns the pair of the least key above `after`, or of the least key of all if `after` is
+    // empty; nothing if there is no such pair.
     std::optional<pair> next(std::string_view after = {}) {
         std::uint8_t key[MST_KEY_LONGEST], room[MST_VALUE_LONGEST];
         std::size_t length = 0;
@@ -151,8 +152,8 @@ public:
         return pair(text(key, length), std::move(*value));
     }
 
-    // The first pairs, at most `limit`, with from <= key < to, all of one version. An empty bound
-    // does not bind.
+    // Returns the first pairs, at most `limit`, with from <= key < to, all of one version. An empty
+    // bound does not bind.
     std::vector<pair> range(std::string_view from = {}, std::string_view to = {},
                             std::size_t limit = SIZE_MAX) {
         auto most = static_cast<std::uint32_t>(std::min<std::size_t>(limit, UINT32_MAX));
@@ -167,7 +168,7 @@ public:
         }
     }
 
-    // The root digest of the version. It depends on its pairs and its format alone.
+    // Returns the root digest of the version. It depends on its pairs and its format alone.
     digest root() {
         digest root;
         int code = mst_root(at(), root.data(), root.size());
@@ -175,8 +176,8 @@ public:
         return root;
     }
 
-    // The proof of the key's answer, for mst_verify and the format and root digest of the same
-    // version.
+    // Returns the proof of the key's answer, for mst_verify and the format and root digest of the
+    // same version.
     std::vector<std::uint8_t> prove(std::string_view key) {
         std::vector<std::uint8_t> proof(4096);
         for (;;) {
@@ -188,14 +189,14 @@ public:
         }
     }
 
-    // The number of the version: how many writes and migrations there were before it.
+    // Returns the number of the version: how many writes and migrations there were before it.
     std::uint64_t version() {
         std::uint64_t number = 0;
         require_done(mst_version(at(), &number));
         return number;
     }
 
-    // The format of the version, in which its root digest and its proofs are.
+    // Returns the format of the version, in which its root digest and its proofs are.
     mst::format format() {
         int code = mst_format(at());
         if (code < 0) throw refused(code);
@@ -214,7 +215,7 @@ public:
     pinned &operator=(pinned &&) = delete;
     ~pinned() { unpin(); }
 
-    // Ends the pin before the object does. No read follows.
+    // Ends the pin before the object ends. No read may follow: it is refused.
     void unpin() noexcept {
         if (mst_pass *of = std::exchange(hand, nullptr)) mst_unpin(of);
     }
@@ -243,14 +244,14 @@ public:
     }
     ~pass() { close(); }
 
-    // Lets the pass go before the object does. All calls are refused from then on.
+    // Closes the pass before the object ends. All later calls are refused.
     void close() noexcept {
         if (hand == nullptr) return;
         mst_close(hand);
         delete std::exchange(hand, nullptr);
     }
 
-    // How many rows the current version takes.
+    // Returns how many rows the current version takes.
     counted rows() {
         counted answer;
         std::uint32_t rows = 0;
@@ -279,12 +280,12 @@ public:
         return tried{false, told(code, room)};
     }
 
-    // As try_put, waiting for the turn: the value that the key had before.
+    // As try_put, but waits for the turn. Returns the value that the key had before.
     std::optional<std::string> put(std::string_view key, std::string_view value) {
         return wait([&] { return try_put(key, value); }).old;
     }
 
-    // As try_remove, waiting for the turn: the value that the key had before.
+    // As try_remove, but waits for the turn. Returns the value that the key had before.
     std::optional<std::string> remove(std::string_view key) {
         return wait([&] { return try_remove(key); }).old;
     }
@@ -298,7 +299,7 @@ public:
         return migrated{false, static_cast<mst::format>(code)};
     }
 
-    // As try_migrate, waiting for the turn: the format before.
+    // As try_migrate, but waits for the turn. Returns the format before.
     mst::format migrate(mst::format to) {
         return *wait([&] { return try_migrate(to); }).was;
     }
@@ -307,8 +308,8 @@ public:
     pinned pin() { return pinned(at()); }
 };
 
-// Opens a store of the empty map, with 4 to 65,535 rows and 1 to 32 passes. A map takes a row for
-// each of its pairs and nodes.
+// Opens a store of the empty map, with 4 to 65,535 rows and 1 to 32 passes, and returns its passes.
+// A map takes a row for each of its pairs and nodes.
 inline std::vector<pass> open(std::uint32_t rows, std::size_t passes, format in = format::one) {
     if (passes > MST_PASSES_MOST) throw refused(MST_BAD_SHAPE);
     std::vector<pass> all(passes);

@@ -34,7 +34,7 @@ def _record(contents, name):
 
 
 def build_wheel(wheel_directory, config_settings=None, metadata_directory=None):
-    """The hook of PEP 517: writes the wheel into the folder, and answers its name."""
+    """The hook of PEP 517: writes the wheel into the folder, and returns its name."""
     name, version = _field("name"), _field("version")
     tag = "py3-none-" + re.sub(r"[-.]", "_", sysconfig.get_platform())
     info = f"{name}-{version}.dist-info"

@@ -1,8 +1,8 @@
 """An in-memory ordered map of short keys and values, with a root digest, proofs, and pinned
 versions.
 
-A store is reached by its passes alone. Reads wait for no one; one write at a time goes on. The
-store goes with its last pass.
+A store is used through its passes alone. Reads wait for no one; one write runs at a time. The
+store is freed with its last pass.
 
     writer, reader = open_store(rows=1000, passes=2)
     writer.put(b"apple", b"30")
@@ -128,8 +128,8 @@ def _signatures() -> dict:
 
 
 def _path() -> str:
-    """The shared library: in the folder MST_STORE_DIR; else beside this file, or where make puts
-    it."""
+    """Returns the path of the shared library: in the folder MST_STORE_DIR if that is set, otherwise
+    beside this file, or where make puts it."""
     here = os.path.dirname(os.path.abspath(__file__))
     named = os.environ.get("MST_STORE_DIR")
     folders = [named] if named else [here, os.path.join(here, "..", "out")]
@@ -183,13 +183,14 @@ class Pass:
         return None
 
     def get(self, key: Octets) -> Optional[bytes]:
-        """The value of the key, or None where the key is absent."""
+        """Returns the value of the key, or None if the key is absent."""
         key = _octets(key)
         with self._lock:
             return self._value(_lib.mst_get(self._hand, key, len(key), self._room, VALUE_LONGEST))
 
     def next(self, key: Octets = b"") -> Optional[Tuple[bytes, bytes]]:
-        """The pair of the least key above `key`; with an empty key that of the least key of all."""
+        """Returns the pair of the least key above `key`, or of the least key of all if `key` is
+        empty; None if there is no such pair."""
         key, length = _octets(key), ctypes.c_size_t()
         with self._lock:
             value = self._value(_lib.mst_next(
@@ -201,9 +202,9 @@ class Pass:
     def range(
         self, start: Octets = b"", stop: Octets = b"", limit: int = 2**32 - 1
     ) -> List[Tuple[bytes, bytes]]:
-        """The first pairs, at most `limit`, with start <= key < stop, all of one version.
+        """Returns the first pairs, at most `limit`, with start <= key < stop, all of one version.
 
-        They come by rising keys. An empty bound does not bind.
+        They are in the order of rising keys. An empty bound does not bind.
         """
         start, stop = _octets(start), _octets(stop)
         limit = min(max(limit, 0), 2**32 - 1)
@@ -223,15 +224,15 @@ class Pass:
                 self._long_room = ctypes.create_string_buffer(length.value)
 
     def items(self) -> Iterator[Tuple[bytes, bytes]]:
-        """The pairs by rising keys: of one version while the pass is pinned; else it asks anew for
-        each."""
+        """Yields the pairs by rising keys: of one version while the pass is pinned; otherwise it
+        asks anew for each."""
         pair = self.next()
         while pair is not None:
             yield pair
             pair = self.next(pair[0])
 
     def root(self) -> bytes:
-        """The root digest, of 32 bytes, in the format of the version."""
+        """Returns the root digest, of 32 bytes, in the format of the version."""
         with self._lock:
             code = _lib.mst_root(self._hand, self._room, VALUE_LONGEST)
             if code < 0:
@@ -239,8 +240,8 @@ class Pass:
             return self._room.raw[:ROOT_LENGTH]
 
     def prove(self, key: Octets) -> bytes:
-        """The proof of the key's answer, for a verifier and the format and root digest of the same
-        version."""
+        """Returns the proof of the key's answer, for a verifier and the format and root digest of
+        the same version."""
         key, length = _octets(key), ctypes.c_size_t()
         with self._lock:
             while True:
@@ -255,17 +256,17 @@ class Pass:
                 self._long_room = ctypes.create_string_buffer(length.value)
 
     def version(self) -> int:
-        """The number of the version, which is the number of writes and migrations before it."""
+        """Returns the number of the version: the number of writes and migrations before it."""
         return self._number(_lib.mst_version, ctypes.c_uint64())
 
     def format(self) -> Format:
-        """The format of the version, in which its root digest and its proofs are."""
+        """Returns the format of the version, in which its root digest and its proofs are."""
         with self._lock:
             return _format(_lib.mst_format(self._hand))
 
     def try_rows(self) -> int:
-        """How many rows the current version takes, if no other pass writes (else Busy) and none
-        pins."""
+        """Returns how many rows the current version takes; raises Busy if another pass writes, and
+        Refused if some pass pins."""
         return self._number(_lib.mst_rows, ctypes.c_uint32())
 
     def _number(self, call: Callable, number) -> int:
@@ -276,7 +277,7 @@ class Pass:
         return number.value
 
     def try_put(self, key: Octets, value: Octets) -> Optional[bytes]:
-        """Gives the key the value, or raises Busy: the value before, or None where the key is
+        """Gives the key the value, or raises Busy. Returns the value before, or None if the key is
         new."""
         key, value = _octets(key), _octets(value)
         with self._lock:
@@ -284,14 +285,15 @@ class Pass:
                 self._hand, key, len(key), value, len(value), self._room, VALUE_LONGEST))
 
     def try_remove(self, key: Octets) -> Optional[bytes]:
-        """Takes the key out, or raises Busy: the value that it had, or None where it was absent."""
+        """Takes the key out, or raises Busy. Returns the value that it had, or None if it was
+        absent."""
         key = _octets(key)
         with self._lock:
             return self._value(_lib.mst_try_remove(
                 self._hand, key, len(key), self._room, VALUE_LONGEST))
 
     def try_migrate(self, to: int) -> Format:
-        """Turns the tree of the map to a format, or raises Busy: the format before.
+        """Turns the tree of the map to a format, or raises Busy. Returns the format before.
 
         The map stays, and so do the pinned versions, each in its format.
         """
@@ -320,12 +322,12 @@ class Pass:
         try:
             yield self
         finally:
-            # A pass that was closed inside is told so here, and has nothing to unpin.
+            # If the pass was closed inside, this call is refused, and there is nothing to unpin.
             with self._lock:
                 _lib.mst_unpin(self._hand)
 
     def close(self) -> None:
-        """Lets the pass go. Later calls raise Refused with CLOSED; a second close has no effect."""
+        """Closes the pass. Later calls raise Refused with CLOSED; a second close has no effect."""
         with self._lock:
             _lib.mst_close(self._hand)
 
@@ -366,9 +368,10 @@ def _until_free(call: Callable[..., Answer], *given) -> Answer:
 
 
 def open_store(rows: int, passes: int, format: int = Format.ONE) -> List[Pass]:
-    """Opens a store of the empty map: its passes. It has 4 to 65,535 rows and 1 to 32 passes.
+    """Opens a store of the empty map and returns its passes.
 
-    A map takes a row for each of its pairs and nodes.
+    It has 4 to 65,535 rows and 1 to 32 passes; other numbers raise Refused. A map takes a row for
+    each of its pairs and nodes.
     """
     # 33 hands are as refused as any greater number.
     count = min(max(passes, 0), 33)

@@ -68,7 +68,7 @@ static void sha256(const uint8_t *bytes, size_t length, uint8_t digest[32])
 
 struct text { const uint8_t *at; size_t left; };
 
-/* So many bytes from the front, or null where fewer are left. */
+/* So many bytes from the front, or null if fewer are left. */
 static const uint8_t *take(struct text *from, size_t count)
 {
     const uint8_t *at = from->at;
@@ -108,7 +108,7 @@ struct found {
     struct bound low, high, first, last;
 };
 
-/* Reads a child; 0 where the text is cut short or the flag is none. */
+/* Reads a child; 0 if the text is cut short or the flag is none. */
 static int read_child(struct text *text, const uint8_t **child)
 {
     const uint8_t *flag = take(text, 1);
@@ -129,7 +129,7 @@ static const uint8_t *read_held(uint32_t format, struct text *text, size_t *leng
 /* What a proof of format 2 claims: its value's length, -1 for absence, -2 for no answer at all. */
 struct claim { const uint8_t *value; int length; };
 
-/* Reads the tail of a proof; 0 where it is cut short. */
+/* Reads the tail of a proof; 0 if it is cut short. */
 static int read_tail(struct text *text, struct claim *to)
 {
     const uint8_t *first = take(text, 1), *n;
@@ -144,7 +144,7 @@ static int read_tail(struct text *text, struct claim *to)
     return 1;
 }
 
-/* Whether the claim is that of an answer of which this is held, or of absence where it is NULL. */
+/* Whether the claim is that of an answer of which this is held, or of absence if it is NULL. */
 static int is_opened(const struct claim *claim, const uint8_t *held)
 {
     uint8_t digest[32];
@@ -154,7 +154,7 @@ static int is_opened(const struct claim *claim, const uint8_t *held)
     return memcmp(digest, held, 32) == 0;
 }
 
-/* Reads a node text whole; 0 where it is outside the grammar. */
+/* Reads a node text whole; 0 if it is outside the grammar. */
 static int read_node(uint32_t format, struct text text, struct bound key, struct found *to)
 {
     const uint8_t *head = take(&text, 4), *child;

@@ -88,7 +88,7 @@ UNFIT = object()
 
 
 def read_tail(proof):
-    """The answer that a proof of format 2 claims: None, a value, or UNFIT where it can be no
+    """The answer that a proof of format 2 claims: None, a value, or UNFIT if it can be no
     answer."""
     first = proof.number(1)
     if first == 1:
@@ -113,8 +113,8 @@ def read_frame(format, whole):
 
 
 def verify(format, root, key, proof):
-    """The key's value in the map with this root digest, or None where the key is absent; else
-    Refused."""
+    """Returns the key's value in the map with this root digest, or None if the key is absent.
+    Raises Refused if the proof fails a test."""
     if format not in (1, 2):
         raise ValueError("there are formats 1 and 2")
     if len(root) != 32 or not 1 <= len(key) <= 32:
@@ -125,7 +125,7 @@ def verify(format, root, key, proof):
 
 
 def opened(claim, held):
-    """The claimed answer, where its SHA-256 is what is held."""
+    """The claimed answer, if its SHA-256 is what is held."""
     if claim is UNFIT or (claim is None) != (held is None):
         raise Refused("P10")
     if claim is not None and sha256(claim).digest() != held:
@@ -134,7 +134,7 @@ def opened(claim, held):
 
 
 def follow(format, root, key, texts):
-    """What the texts show that a node holds of the key, or None where it is absent."""
+    """What the texts show that a node holds of the key, or None if it is absent."""
     if not texts:
         if root != sha256(b"").digest():
             raise Refused("P5")

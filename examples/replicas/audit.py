@@ -52,7 +52,7 @@ def service(pinned):
 
 
 def ask(port, key):
-    """What a service answers: a value or None, and a proof."""
+    """Returns what a service answers: a value or None, and a proof."""
     with urllib.request.urlopen(f"http://127.0.0.1:{port}/{key.hex()}") as answer:
         told = json.load(answer)
     value = told["value"]
@@ -60,8 +60,8 @@ def ask(port, key):
 
 
 def fault(port, root, key):
-    """Why the service's answer for the key is not that of the map with this root digest; None where
-    it is."""
+    """Why the service's answer for the key is not that of the map with this root digest; None if it
+    is."""
     value, proof = ask(port, key)
     try:
         shown = mst_verifier.verify(FORMAT, root, key, proof)

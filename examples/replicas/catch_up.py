@@ -66,8 +66,8 @@ class Tree:
         return read_node(1, self.texts[digest])
 
     def walk(self, digest, low=b"", skip=()):
-        """Goes over the pairs below a node, in order; in place of a subtree in `skip` comes (its
-        low key, None)."""
+        """Goes over the pairs below a node, in order; in place of a subtree in `skip` it yields
+        (its low key, None)."""
         _, keys, values, children = self.node(digest, low)
         for child, (key, value) in zip(children, list(zip(keys, values)) + [(None, None)]):
             if child in skip:
@@ -81,7 +81,7 @@ class Tree:
 
 def mirror(mine, root, prove):
     """Makes a store's map the one with this root digest. Returns how many pairs changed and how
-    many texts came."""
+    many texts were read."""
     if mine.root() == root:
         return 0, 0
     own, theirs = Tree(mine.prove), Tree(prove)

@@ -71,12 +71,12 @@ def intervals(client):
 
 
 def tell_root(client, number, name, root):
-    """Tells the root digest of a replica at a checkpoint."""
+    """Publishes the root digest of a replica at a checkpoint."""
     client.hset(f"roots {number}", name, root)
 
 
 def roots(client, number, names):
-    """The root digests that these replicas told at a checkpoint, once all have."""
+    """The root digests that these replicas published at a checkpoint, once all have."""
     for _ in range(1200):
         told = client.hgetall(f"roots {number}")
         if all(name.encode() in told for name in names):

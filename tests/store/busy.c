@@ -1,7 +1,7 @@
 /*
  * Calls while another pass has the turn. A migration asks for memory while it has the turn. This
  * malloc, which stands before glibc's own, then makes calls by another hand: those that need the
- * turn are told MST_BUSY, and the reads go on. Calls that try again, in a thread of their own,
+ * turn return MST_BUSY, and the reads go on. Calls that try again, in a thread of their own,
  * go through once the migration has ended.
  */
 #include <stdatomic.h>

@@ -2,7 +2,7 @@
  * How deep calls nest, and the stack that they take, over trees in format 2 of 3, of 9 and of 15
  * nodes one below the other. Each call runs step by step in a process of its own, where its calls
  * and returns are counted, and then in a thread whose stack is filled with a pattern first, so the
- * bytes that it has written are counted. What six nodes more cost tells what 129 would, the most
+ * bytes that it has written are counted. What six nodes more cost says what 129 would, the most
  * that a tree can have on one path. Such a tree cannot be had: a key of layer 128 is one of 2 to
  * the power of 256.
  */
@@ -155,7 +155,7 @@ static void measure(int nodes, struct cost *costs) {
     EXPECT(mst_close(&pass) == MST_OK);
 }
 
-/* Tells the bytes of a call, and returns those that 129 nodes take at most. */
+/* Prints the bytes of a call, and returns those that 129 nodes take at most. */
 static size_t tells_bytes(const char *name, size_t few, size_t some, size_t most) {
     size_t more = most > some ? most - some : 0;
     size_t whole = most + (more + 5) / 6 * (MOST_NODES - NODES);
@@ -165,7 +165,7 @@ static size_t tells_bytes(const char *name, size_t few, size_t some, size_t most
     return whole;
 }
 
-/* Tells the depth of a call, and returns that over 129 nodes: at most one more for each node. */
+/* Prints the depth of a call, and returns that over 129 nodes: at most one more for each node. */
 static int tells_depth(const char *name, int few, int some, int most) {
     if (few < 0) {
         printf("%s: no process may be traced here, so its depth was not counted\n", name);

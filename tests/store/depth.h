@@ -37,7 +37,7 @@ static void run_traced(void *(*run)(void *), volatile int *running) {
 }
 
 /* How many functions stand one below the other at most while `run` runs, itself not counted, in a
- * process that has a copy of all memory; -1 where no process may be traced. */
+ * process that has a copy of all memory; -1 if no process may be traced. */
 static int depth_of(void *(*run)(void *)) {
     volatile int *running =
         mmap(NULL, sizeof *running, PROT_READ | PROT_WRITE, MAP_SHARED | MAP_ANONYMOUS, -1, 0);

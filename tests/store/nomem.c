@@ -12,7 +12,7 @@ extern void __libc_free(void *at);
 
 static int counting = 0;
 static long live = 0;  /* what was taken and not given back while counting */
-static long left = -1; /* how many calls more are answered; -1: all */
+static long left = -1; /* how many calls more are granted; -1: all */
 
 static int refuses(void) {
     return counting && left >= 0 && left-- == 0;

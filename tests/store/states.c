@@ -237,7 +237,7 @@ static void formats(void) {
     EXPECT(mst_version(pass, &version) == MST_OK && version == 2);
     EXPECT(mst_version(other, &version) == MST_OK && version == 1);
     EXPECT(mst_unpin(other) == MST_OK && mst_format(other) == 2 && has_root(other, two));
-    /* to the format that stands, which makes a version too */
+    /* to the current format, which makes a version too */
     EXPECT(mst_migrate(other, 2) == 2 && has_root(pass, two));
     EXPECT(mst_version(pass, &version) == MST_OK && version == 3);
     EXPECT(mst_migrate(other, 1) == 2 && mst_format(pass) == 1 && has_root(pass, one));

@@ -1,4 +1,4 @@
-/* What the tests share: a count of what is wrong, told with the line. */
+/* What the tests share: a count of what is wrong, printed with the line. */
 #ifndef TESTS_H
 #define TESTS_H
 
@@ -11,7 +11,7 @@ static int tried = 0;
 
 #define EXPECT(holds) expect((holds), #holds, __LINE__)
 
-/* Does not stop the test: the next lines may tell more. */
+/* Does not stop the test: the next lines may say more. */
 static inline void expect(int holds, const char *text, int line) {
     tried++;
     if (!holds) {

@@ -64,7 +64,7 @@ static void *writer(void *pass) {
         uint64_t value = (uint64_t)i;
         key_bytes(key, (uint32_t)(i % KEYS));
         int32_t told = mst_put(pass, key, 4, (const uint8_t *)&value, 8, old, sizeof old);
-        while (told == MST_ROWS_SPENT) { /* a pinned version holds them: they come back */
+        while (told == MST_ROWS_SPENT) { /* a pinned version holds them: they will be free again */
             sched_yield();
             told = mst_put(pass, key, 4, (const uint8_t *)&value, 8, old, sizeof old);
         }
@@ -91,7 +91,7 @@ static void keep_proof(mst_pass *pass, const uint8_t *root, const uint8_t *key,
         fail("prove", code);
 }
 
-/* One pin: what is read under it is of one version. Answers how many reads there were. */
+/* One pin: what is read under it is of one version. Returns how many reads there were. */
 static int pinned_reads(mst_pass *pass) {
     uint8_t root[32], again[32], key[4], value[MST_VALUE_LONGEST];
     int reads = 0;

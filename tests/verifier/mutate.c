@@ -1,7 +1,7 @@
 /*
  * Mutated proofs: bits flipped, bytes set, cut, doubled, parts of two proofs put together, texts of
- * two proofs framed anew; a million unless told otherwise. Of each, mst_verify may tell nothing but
- * a refusal or what the line's map has.
+ * two proofs framed anew; a million unless COUNT is given. For each, mst_verify may return nothing
+ * but a refusal or what the line's map has.
  *
  *     cc -O2 -I../../include mutate.c ../../crates/mst_verifier/out/libmst_verifier.a -o mutate
  *     ./mutate FILE [COUNT]

@@ -1,4 +1,4 @@
-/* Lines of vectors: a format, a root digest, a key, a proof and an answer, parted by tabs. */
+/* Lines of vectors: a format, a root digest, a key, a proof and an answer, separated by tabs. */
 #ifndef VECTORS_H
 #define VECTORS_H
 
@@ -37,7 +37,7 @@ static inline uint8_t *bytes_of(const char *word, size_t *length)
     return bytes;
 }
 
-/* What mst_verify tells where a line has this answer; a value goes to `value`. */
+/* What mst_verify returns if a line has this answer; a value goes to `value`. */
 static inline int32_t told_by(const char *answer, uint8_t *value)
 {
     if (strcmp(answer, "absent") == 0)
@@ -83,7 +83,7 @@ static inline void free_vector(struct vector *it)
     free(it->proof);
 }
 
-/* Whether mst_verify tells what the vector has, and leaves all else in the room as it was. */
+/* Whether mst_verify returns what the vector has, and leaves all else in the room as it was. */
 static inline int tells(const struct vector *it, size_t room_length)
 {
     uint8_t room[MST_VALUE_ROOM + 16], wanted[MST_VALUE_ROOM + 16];

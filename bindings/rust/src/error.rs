@@ -1,7 +1,7 @@
 //! What the store refuses.
 use std::fmt;
 
-/// A refusal. Nothing has changed where a call gives one.
+/// A refusal. If a call returns one, nothing has changed.
 #[derive(Debug, Clone, Copy, PartialEq, Eq, Hash)]
 #[non_exhaustive]
 pub enum Error {
@@ -93,7 +93,7 @@ impl std::error::Error for Error {}
 pub enum TryError {
     /// Another pass writes, or works between two steps of a write. Nothing has changed: try again.
     Busy,
-    /// Any other refusal. Trying again is no help by itself.
+    /// Any other refusal. Trying again does not help by itself.
     Refused(Error),
 }
 

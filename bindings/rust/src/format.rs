@@ -11,12 +11,12 @@ pub enum Format {
 }
 
 impl Format {
-    /// Its number, as verifiers take it.
+    /// Returns its number, as verifiers take it.
     pub fn number(self) -> u32 {
         self as u32
     }
 
-    /// The format by the answer of a call, or the number of a refusal.
+    /// Returns the format for the code that a call returned, or the number of a refusal.
     pub(crate) fn told(code: i32) -> Result<Format, i32> {
         match code {
             1 => Ok(Format::One),

@@ -1,8 +1,9 @@
 //! An in-memory ordered map of short keys and values, with a root digest, proofs, and versions that
 //! stay readable while they are pinned.
 //!
-//! A store is reached by its passes alone. [`open`] gives them; a thread works through a pass of
-//! its own. Reads wait for no one. One write at a time goes on. The store goes with its last pass.
+//! A store is used through its passes alone. [`open`] returns them; a thread works through a pass
+//! of its own. Reads wait for no one. One write runs at a time. The store is freed with its last
+//! pass.
 //!
 //! ```
 //! use mst_store::Reads;
@@ -67,7 +68,7 @@ pub const VALUE_LONGEST: usize = 64;
 /// The bytes of a root digest.
 pub const ROOT_LENGTH: usize = 32;
 
-/// Opens a store of the empty map in format 1: its passes, as many as are asked for.
+/// Opens a store of the empty map in format 1, and returns its passes, as many as are asked for.
 ///
 /// A map takes a row for each of its pairs and nodes; a store has 4 to 65,535 rows and 1 to 32
 /// passes.
@@ -102,8 +103,8 @@ impl reads::Held for Pass {
 impl Reads for Pass {}
 
 impl Pass {
-    /// Gives the key the value, if no other pass writes: the value before, or None where the key is
-    /// new.
+    /// Gives the key the value, if no other pass writes. Returns the value before, or None if the
+    /// key is new; `Busy` if another pass writes.
     pub fn try_put(&mut self, key: &[u8], value: &[u8]) -> Result<Option<Vec<u8>>, TryError> {
         let mut room = [0; VALUE_LONGEST];
         // Safety: each pointer is valid for the length that goes with it, and the room is no
@@ -122,8 +123,8 @@ impl Pass {
         reads::value(code, &room).map_err(TryError::of)
     }
 
-    /// Takes the key out, if no other pass writes: the value that it had, or None where it was
-    /// absent.
+    /// Takes the key out, if no other pass writes. Returns the value that it had, or None if it was
+    /// absent; `Busy` if another pass writes.
     pub fn try_remove(&mut self, key: &[u8]) -> Result<Option<Vec<u8>>, TryError> {
         let mut room = [0; VALUE_LONGEST];
         // Safety: as in try_put.
@@ -143,8 +144,9 @@ impl Pass {
         until_free(|| self.try_remove(key))
     }
 
-    /// Turns the tree of the map to a format, if no other pass writes: the format before. The map
-    /// stays, and so do the pinned versions, each in its format.
+    /// Turns the tree of the map to a format, if no other pass writes. Returns the format before,
+    /// or `Busy` if another pass writes. The map stays, and so do the pinned versions, each in its
+    /// format.
     pub fn try_migrate(&mut self, to: Format) -> Result<Format, TryError> {
         // Safety: the hand is valid.
         let code = unsafe { raw::mst_try_migrate(&mut self.0, to.number()) };
@@ -156,7 +158,7 @@ impl Pass {
         until_free(|| self.try_migrate(to))
     }
 
-    /// How many rows the current version takes, if no other pass writes and none pins.
+    /// Returns how many rows the current version takes, if no other pass writes and none pins.
     pub fn try_rows(&mut self) -> Result<u32, TryError> {
         let mut rows = 0;
         // Safety: both pointers are valid.
@@ -166,10 +168,9 @@ impl Pass {
         }
     }
 
-    /// Pins the current version: until the answer is dropped, each read by it is of that version.
+    /// Pins the current version: until the result is dropped, each read by it is of that version.
     pub fn pin(&mut self) -> Pinned<'_> {
-        // Safety: the hand is valid. Where it pins already, a Pinned was leaked: that pin ends
-        // here.
+        // Safety: the hand is valid. If it pins already, a Pinned was leaked: that pin ends here.
         unsafe {
             if raw::mst_pin(&mut self.0) != 0 {
                 raw::mst_unpin(&mut self.0);
@@ -180,7 +181,7 @@ impl Pass {
     }
 }
 
-/// Tries until the answer is another than busy.
+/// Tries until the call returns something other than busy.
 fn until_free<T>(mut call: impl FnMut() -> Result<T, TryError>) -> Result<T, Error> {
     loop {
         match call() {

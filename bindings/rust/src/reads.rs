@@ -11,7 +11,7 @@ pub trait Held {
 /// A key and its value.
 pub type Pair = (Vec<u8>, Vec<u8>);
 
-/// A value by the answer of a call, or the number of a refusal.
+/// Returns the value for the code that a call returned, or the number of a refusal.
 pub(crate) fn value(code: i32, room: &[u8]) -> Result<Option<Vec<u8>>, i32> {
     match code {
         0.. => Ok(Some(room[..code as usize].to_vec())),
@@ -44,7 +44,7 @@ fn pairs(room: &[u8], count: usize) -> Vec<Pair> {
 /// The reads: of the current version by a free pass, of the pinned one by a pinned pass. They wait
 /// for no one.
 pub trait Reads: Held {
-    /// The value of the key, or None where the key is absent.
+    /// Returns the value of the key, or None if the key is absent.
     fn get(&mut self, key: &[u8]) -> Result<Option<Vec<u8>>, Error> {
         let mut room = [0; VALUE_LONGEST];
         // Safety: each pointer is valid for the length that goes with it, and the room is no
@@ -55,7 +55,8 @@ pub trait Reads: Held {
         value(code, &room).map_err(Error::of)
     }
 
-    /// The pair of the least key above `key`; with an empty key that of the least key of all.
+    /// Returns the pair of the least key above `key`, or of the least key of all if `key` is empty;
+    /// None if there is no such pair.
     fn next(&mut self, key: &[u8]) -> Result<Option<Pair>, Error> {
         let (mut room, mut found, mut length) = ([0; VALUE_LONGEST], [0; KEY_LONGEST], 0);
         // Safety: as in get.
@@ -75,7 +76,7 @@ pub trait Reads: Held {
         Ok(value.map(|value| (found[..length].to_vec(), value)))
     }
 
-    /// The first pairs, at most `limit`, of the keys that are at least `from` and below `to`, by
+    /// Returns the first pairs, at most `limit`, whose keys are at least `from` and below `to`, by
     /// rising keys and all of one version. An empty bound does not bind.
     fn range(&mut self, from: &[u8], to: &[u8], limit: usize) -> Result<Vec<Pair>, Error> {
         let most = u32::try_from(limit).unwrap_or(u32::MAX);
@@ -115,7 +116,7 @@ pub trait Reads: Held {
         Items { of: self, last: Some(Vec::new()) }
     }
 
-    /// The root digest, in the format of the version.
+    /// Returns the root digest, in the format of the version.
     fn root(&mut self) -> [u8; ROOT_LENGTH] {
         let mut root = [0; ROOT_LENGTH];
         // Safety: as in get. The hand holds a pass and the room is long enough, so nothing is
@@ -124,8 +125,8 @@ pub trait Reads: Held {
         root
     }
 
-    /// The proof of the key's answer, which a verifier judges by the format and the root digest of
-    /// the same version.
+    /// Returns the proof of the key's answer, which a verifier judges by the format and the root
+    /// digest of the same version.
     fn prove(&mut self, key: &[u8]) -> Result<Vec<u8>, Error> {
         let mut proof = vec![0; 4096];
         loop {
@@ -153,7 +154,7 @@ pub trait Reads: Held {
         }
     }
 
-    /// The number of the version, which is the number of writes and migrations before it.
+    /// Returns the number of the version: the number of writes and migrations before it.
     fn version(&mut self) -> u64 {
         let mut version = 0;
         // Safety: both pointers are valid. The hand holds a pass, so nothing is refused.
@@ -161,7 +162,7 @@ pub trait Reads: Held {
         version
     }
 
-    /// The format of the version, in which its root digest and its proofs are.
+    /// Returns the format of the version, in which its root digest and its proofs are.
     fn format(&mut self) -> Format {
         // Safety: the hand is valid. It holds a pass, so nothing is refused.
         let code = unsafe { raw::mst_format(self.hand()) };

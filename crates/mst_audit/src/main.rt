@@ -28,7 +28,7 @@ const SHAPE: Shape = Shape {
     format: Format::One,
 };
 
-// Writes a pair, of which no more is told than whether it went through.
+// Writes a pair, and returns only whether that went through.
 fn write(writer: &mut Pass<'_, Global>, key: &Key, value: &Value) -> Result<(), WriteFault> {
     match writer.try_put(key, value) {
         Ok(_) => Ok(()),

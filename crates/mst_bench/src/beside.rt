@@ -89,7 +89,7 @@ fn time_both(
     Ok(())
 }
 
-// Fills the map, times the calls, and tells the rows.
+// Fills the map, times the calls, and prints the rows.
 fn time_filled(
     rt: &HostRuntime,
     reader: Pass<'_, Global>,
@@ -115,7 +115,7 @@ fn time_filled(
 
 /// Times ten puts a key, first with nothing pinned and then while one version stays pinned, and
 /// gets of the pinned version. The store has rows for twice the map and one path, and each put has
-/// to find room: so never more rows are in use, which the last line tells.
+/// to find room: so no more rows are ever in use, as the last line says.
 pub fn run(rt: &HostRuntime, keys: &[Key], calls: u32, map_rows: u32) -> io::Result<()>
     requires some { 0 < length keys.now }
     requires few { length keys.now ≤ 65535 }

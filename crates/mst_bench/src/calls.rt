@@ -14,7 +14,7 @@ const STRIDE: usize = 7_919;
 /// have smaller numbers.
 pub const FIRST_NEW_VALUE: u64 = 1 << 40;
 
-/// Puts each key with its first value. True where each call went through.
+/// Puts each key with its first value. Returns true if each call went through.
 pub fn fill(pass: &mut Pass<'_, Global>, keys: &[Key]) -> bool {
     for (number, key) in keys.iter().enumerate() {
         if pass.try_put(key, &value(number as u64)).is_err() {
@@ -31,8 +31,8 @@ pub fn picked(keys: &[Key], call: u32) -> &Key
     &keys[call as usize * STRIDE % keys.len()]
 }
 
-/// Puts so many values, numbered from `first` on and other than those that stand, at keys that the
-/// map has. True where each call went through.
+/// Puts so many values, numbered from `first` on and other than the current ones, at keys that the
+/// map has. Returns true if each call went through.
 pub fn put(pass: &mut Pass<'_, Global>, keys: &[Key], calls: u32, first: u64) -> bool
     requires some { 0 < length keys.now }
     requires few { first ≤ 2 ^ 63 }
@@ -46,8 +46,8 @@ pub fn put(pass: &mut Pass<'_, Global>, keys: &[Key], calls: u32, first: u64) ->
     true
 }
 
-/// Removes so many keys, and puts each back before the next is removed. True where each call went
-/// through.
+/// Removes so many keys, and puts each back before the next is removed. Returns true if each call
+/// went through.
 pub fn remove_and_put_back(pass: &mut Pass<'_, Global>, keys: &[Key], calls: u32) -> bool
     requires some { 0 < length keys.now }
 {

@@ -3,11 +3,11 @@
 //! `mst_bench CALLS` fills stores of 1,000, 10,000 and 30,000 keys of 16 bytes with values of 32,
 //! makes so many calls of each kind, and prints a line for each kind and size: the call, the number
 //! of keys, the number of calls, and the nanoseconds that each took. Then, at each size, it times a
-//! migration to format 2 and one back, and says how many rows the map takes in format 2; where the
-//! rows do not suffice for both trees, it says so. Then it times ten puts a key with nothing
-//! pinned and ten beside a version that stays pinned, gets of that version, and says how many rows
-//! the map takes; and it times one to four readers, each on a thread of its own, without and with a
-//! writer. Keys, values and their order are the same in each run.
+//! migration to format 2 and one back, and says how many rows the map takes in format 2; if the
+//! rows do not suffice for both trees, it says so. Then it times ten puts a key with nothing pinned
+//! and ten beside a version that stays pinned, gets of that version, and says how many rows the map
+//! takes; and it times one to four readers, each on a thread of its own, without and with a writer.
+//! Keys, values and their order are the same in each run.
 //!
 //! `mst_bench KIND KEYS CALLS [1|2]` makes calls of one kind alone, in a store of format 1 or 2:
 //! `tools/counts` counts their instructions with it. With other words it says how it is called.

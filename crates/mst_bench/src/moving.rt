@@ -7,7 +7,7 @@ use std::alloc::Global;
 use std::io;
 use std::time::Instant;
 
-// Times a migration to a format. False where the rows do not suffice for both trees.
+// Times a migration to a format. Returns false if the rows do not suffice for both trees.
 fn time_move(
     rt: &HostRuntime,
     pass: &mut Pass<'_, Global>,
@@ -25,8 +25,8 @@ fn time_move(
     Ok(true)
 }
 
-/// Makes so many migrations, each to the format that does not stand. True where each call went
-/// through.
+/// Makes so many migrations, each to the format that is not the current one. Returns true if each
+/// call went through.
 pub fn to_and_fro(alloc: Global, pass: &mut Pass<'_, Global>, calls: u32) -> bool {
     for _ in 0..calls {
         let to = match pass.format() {

@@ -27,7 +27,7 @@ enum Work {
     Puts(u32),
 }
 
-// Makes the calls. True where each went through.
+// Makes the calls. Returns true if each went through.
 fn make(mut pass: Pass<'_, Global>, keys: &[Key], work: Work) -> bool
     requires some { 0 < length keys.now }
 {
@@ -76,7 +76,8 @@ fn start_all<'s, 'a: 's, E>(
     Ok(handles)
 }
 
-// Joins threads, the last one first, until so many are left. True where each call went through.
+// Joins threads, the last one first, until so many are left. Returns true if each call went
+// through.
 fn join_down_to<T: Threads>(threads: &T, handles: &mut Vec<JoinHandle<bool>>, left: usize) -> bool {
     let mut done = true;
     for _ in left..handles.len() {

@@ -9,7 +9,7 @@ pub fn nanos(time: Duration) -> u64 {
         .saturating_add(u64::from(time.subsec_nanos()))
 }
 
-/// Prints the line of calls that began at `start` and have ended; an error where one of them was
+/// Prints the line of calls that began at `start` and have ended; an error if one of them was
 /// refused.
 pub fn tell(
     rt: &HostRuntime,

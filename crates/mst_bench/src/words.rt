@@ -42,7 +42,7 @@ fn number(word: &str) -> Option<u32> {
     }
 }
 
-// The format that a word names, format 1 where there is none.
+// The format that a word names, format 1 if there is none.
 fn format(word: Option<&str>) -> Option<Format> {
     match word {
         None | Some("1") => Some(Format::One),
@@ -63,7 +63,7 @@ fn calls_of(kind: &str, keys: &str, calls: &str, last: Option<&str>) -> Option<T
     }))
 }
 
-/// What the command line asks for; help where no words do.
+/// What the command line asks for; help if no words do.
 pub fn asked(rt: &HostRuntime) -> io::Result<Task> {
     let mut words = env::args(rt)?;
     let _ = words.next();

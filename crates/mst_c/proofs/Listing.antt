@@ -1,4 +1,4 @@
--- Pairs in a room, one behind the other.
+-- Pairs in a room, one after the other.
 use Rattle.std.proofs.Common.{◌≡◌, ℕ, ◌+◌, ◌-◌, ◌<◌, ◌≤◌, List, [], ◌∷◌, ◌++◌, length, take, drop, get_or, sym, refl, ap, ◌∙◌, append_assoc, append-nil, arith}
 use Rattle.std.proofs.lemmas.List.{take_more, take_at, drop_at, take-append-drop, drop-drop, length-append, length-take, length-take-le, length-drop}
 use Rattle.std.proofs.lemmas.List.Concat.{flat_map-append}
@@ -7,7 +7,7 @@ use Rattle.std.specs.Prelude.{Option, filter, min, ◌&&◌}
 use Rattle.mst_key.specs.Map.{Pair, from_on, below, map_range}
 use Rattle.mst_c.specs.Ranges.{pair_bytes, pairs_bytes, written}
 
--- two pieces written one behind the other are one piece
+-- two pieces written one after the other are one piece
 pub written_more : (at : ℕ) (a b room : List ℕ) → at + length a ≤ length room
     → written (at + length a) b (written at a room) ≡ written at (a ++ b) room
 written_more at a b room fits =

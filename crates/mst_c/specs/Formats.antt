@@ -23,7 +23,7 @@ abbrev pub format_code : Format → ℤ
 format_code One = pos 1
 format_code Two = pos 2
 
--- -7 for an empty hand, else the number of the format of the version
+-- -7 for an empty hand, otherwise the number of the format of the version
 abbrev pub FormatTold : Option State → ℤ → Option State → Type 0
 FormatTold None code hand = (code ≡ negsuc 6) × (hand ≡ None)
 FormatTold (Some s) code hand =
@@ -52,7 +52,7 @@ abbrev pub move_code : Result Format Unmoved → ℤ
 move_code (Ok was) = format_code was
 move_code (Err fault) = unmoved_code fault
 
--- -7 for an empty hand, -3 for what is no format's number, else what the pass did
+-- -7 for an empty hand, -3 for what is no format's number, otherwise what the pass did
 abbrev pub MigrateTold : Option State → ℕ → ℤ → Option State → Type 0
 MigrateTold None number code hand = (code ≡ negsuc 6) × (hand ≡ None)
 MigrateTold (Some s) number code hand =

@@ -13,7 +13,7 @@ use Rattle.mst_c.specs.declared.held.Unwritten.TheVariants.{Pins, Store}
 use Rattle.mst_c.specs.declared.held.Uncounted.{Uncounted}
 use Rattle.mst_c.specs.declared.held.Uncounted.TheVariants as uncounted
 
--- A read answers what this question asks of a map and its format: a free pass of that which it
+-- A read returns what this question asks of a map and its format: a free pass of that which it
 -- finds now, a pinned one of that of its version
 abbrev pub Reads : {R : Type 0} → (Format → List Pair → R) → State → R → State → Type 0
 Reads question Away answer s = ⊥

@@ -14,7 +14,7 @@ use Rattle.mst_c.specs.Told.{Nothing, IsBound, bound_of, bytes_code, room_after,
 abbrev pub pair_bytes : Pair → List ℕ
 pair_bytes p = to_be_bytes w16 (length p.0) ++ to_be_bytes w16 (length p.1) ++ p.0 ++ p.1
 
--- pairs, one behind the other
+-- pairs, one after the other
 abbrev pub pairs_bytes : List Pair → List ℕ
 pairs_bytes ps = flat_map pair_bytes ps
 
@@ -22,7 +22,7 @@ pairs_bytes ps = flat_map pair_bytes ps
 abbrev pub written : ℕ → List ℕ → List ℕ → List ℕ
 written at bytes room = take at room ++ bytes ++ drop (at + length bytes) room
 
--- the answer to a question for pairs: none where memory was refused, and a free pass has asked then
+-- the answer to a question for pairs: none if memory was refused, and a free pass has asked then
 abbrev pub Ranges :
     Option (List ℕ) → Option (List ℕ) → ℕ → State → Option (List Pair) → State → Type 0
 Ranges from to limit s None t = Forgets s t
@@ -39,7 +39,7 @@ abbrev pub NoRange :
 NoRange wanted s room count size code room' count' size' hand =
     Nothing wanted (Some s) room code room' hand × (count' ≡ count) × (size' ≡ size)
 
--- -7 for an empty hand, -5 where one of the two is no bound, else the answer of the pass
+-- -7 for an empty hand, -5 if one of the two is no bound, otherwise the answer of the pass
 abbrev pub RangeTold : Option State → List ℕ → List ℕ → ℕ
     → List ℕ → ℕ → ℕ → ℤ → List ℕ → ℕ → ℕ → Option State → Type 0
 RangeTold None from to limit room count size code room' count' size' hand =

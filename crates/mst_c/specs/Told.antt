@@ -42,13 +42,13 @@ write_room room (Err fault) = room
 abbrev pub Nothing : ℤ → Option State → List ℕ → ℤ → List ℕ → Option State → Type 0
 Nothing wanted hand room code room' hand' = (code ≡ wanted) × (room' ≡ room) × (hand' ≡ hand)
 
--- a pass answers what the key's value is, and C is told of it
+-- a pass returns the key's value, and C is told of it
 abbrev pub ValueTold : List ℕ → State → List ℕ → ℤ → List ℕ → State → Type 0
 ValueTold key s room code room' t =
     (a : Option (List ℕ)) × Reads (λ _ m. map_get m key) s a t
     × (code ≡ value_code (length room) a) × (room' ≡ room_after room a)
 
--- -7 for an empty hand, -5 for what is no key, else the answer of the pass
+-- -7 for an empty hand, -5 for what is no key, otherwise the answer of the pass
 abbrev pub GetTold : Option State → List ℕ → List ℕ → ℤ → List ℕ → Option State → Type 0
 GetTold None key room code room' hand = Nothing (negsuc 6) None room code room' hand
 GetTold (Some s) key room code room' hand =
@@ -57,7 +57,7 @@ GetTold (Some s) key room code room' hand =
     × Reads (λ _ m. map_get m key) s a t
     × (code ≡ value_code (length room) a) × (room' ≡ room_after room a))
 
--- -7 for an empty hand, -5 for what is no key, -6 for what is no value, else what the pass did
+-- -7 for an empty hand, -5 for what is no key, -6 for what is no value, otherwise what the pass did
 abbrev pub PutTold : Option State → List ℕ → List ℕ → List ℕ → ℤ → List ℕ → Option State → Type 0
 PutTold None key value room code room' hand = Nothing (negsuc 6) None room code room' hand
 PutTold (Some s) key value room code room' hand =
@@ -87,7 +87,8 @@ abbrev pub CloseTold : Option State → ℤ → Option State → Type 0
 CloseTold None code hand = (code ≡ negsuc 6) × (hand ≡ None)
 CloseTold (Some s) code hand = (code ≡ pos 0) × (hand ≡ None)
 
--- -7 for an empty hand, -2 where the room is short of 32 bytes, else the digest stands first in it
+-- -7 for an empty hand, -2 if the room has less than 32 bytes, otherwise the digest stands first in
+-- it
 abbrev pub RootTold : Option State → List ℕ → ℤ → List ℕ → Option State → Type 0
 RootTold None room code room' hand = Nothing (negsuc 6) None room code room' hand
 RootTold (Some s) room code room' hand =
@@ -95,13 +96,12 @@ RootTold (Some s) room code room' hand =
     × (32 ≤ length room → (digest : List ℕ) × (t : State) × (hand ≡ Some t) × Reads root s digest t
     × (code ≡ pos 32) × (room' ≡ digest ++ drop 32 room))
 
--- the answer to a question for a proof: none where memory was refused, and a free pass has asked
--- then
+-- the answer to a question for a proof: none if memory was refused, and a free pass has asked then
 abbrev pub Proves : List ℕ → State → Option (List ℕ) → State → Type 0
 Proves key s None t = Forgets s t
 Proves key s (Some proof) t = Reads (λ f m. proof_text f m key) s proof t
 
--- 0 for bytes that there is room for, -2 where there is not, -9 where memory was refused
+-- 0 for bytes that there is room for, -2 if there is none, -9 if memory was refused
 abbrev pub bytes_code : ℕ → Option (List ℕ) → ℤ
 bytes_code room None = negsuc 8
 bytes_code room (Some bytes) = if nat_lt room (length bytes) then negsuc 1 else pos 0
@@ -111,7 +111,7 @@ abbrev pub size_after : ℕ → Option (List ℕ) → ℕ
 size_after size None = size
 size_after size (Some bytes) = length bytes
 
--- -7 for an empty hand, -5 for what is no key, else the answer of the pass
+-- -7 for an empty hand, -5 for what is no key, otherwise the answer of the pass
 abbrev pub ProveTold : Option State → List ℕ → List ℕ → ℕ → ℤ → List ℕ → ℕ → Option State → Type 0
 ProveTold None key room size code room' size' hand = Nothing (negsuc 6) None room code room' hand
     × (size' ≡ size)
@@ -121,7 +121,7 @@ ProveTold (Some s) key room size code room' size' hand =
     × (code ≡ bytes_code (length room) r) × (room' ≡ room_after room r)
     × (size' ≡ size_after size r))
 
--- -7 for an empty hand, -5 for what is no key, else what the pass did
+-- -7 for an empty hand, -5 for what is no key, otherwise what the pass did
 abbrev pub RemoveTold : Option State → List ℕ → List ℕ → ℤ → List ℕ → Option State → Type 0
 RemoveTold None key room code room' hand = Nothing (negsuc 6) None room code room' hand
 RemoveTold (Some s) key room code room' hand =
@@ -129,7 +129,7 @@ RemoveTold (Some s) key room code room' hand =
     × (IsKey key → (r : Result (Option (List ℕ)) Unwritten) × (t : State) × (hand ≡ Some t)
     × Writes (Remove key) s r t × (code ≡ write_code (length room) r) × (room' ≡ write_room room r))
 
--- -7 for an empty hand, else the number of the version is written
+-- -7 for an empty hand, otherwise the number of the version is written
 abbrev pub VersionTold : Option State → ℕ → ℤ → ℕ → Option State → Type 0
 VersionTold None number code number' hand = (code ≡ negsuc 6) × (number' ≡ number) × (hand ≡ None)
 VersionTold (Some s) number code number' hand =
@@ -147,7 +147,7 @@ count_after number (Ok (Some n)) = n
 count_after number (Ok None) = number
 count_after number (Err fault) = number
 
--- -7 for an empty hand, else what the pass found
+-- -7 for an empty hand, otherwise what the pass found
 abbrev pub RowsTold : Option State → ℕ → ℤ → ℕ → Option State → Type 0
 RowsTold None number code number' hand = (code ≡ negsuc 6) × (number' ≡ number) × (hand ≡ None)
 RowsTold (Some s) number code number' hand =
@@ -177,14 +177,14 @@ value_room_after keys values None = values
 value_room_after keys values (Some (key, value)) =
     if nat_lt (length keys) (length key) then values else room_after values (Some value)
 
--- how long the key is, where the pair was told
+-- how long the key is, if the pair was told
 abbrev pub key_size_after : List ℕ → List ℕ → ℕ → Option Pair → ℕ
 key_size_after keys values size None = size
 key_size_after keys values size (Some (key, value)) =
     if nat_lt (length keys) (length key) then size
     else if nat_lt (length values) (length value) then size else length key
 
--- -7 for an empty hand, -5 for what is no bound, else the answer of the pass
+-- -7 for an empty hand, -5 for what is no bound, otherwise the answer of the pass
 abbrev pub NextTold : Option State → List ℕ → List ℕ → ℕ → List ℕ → ℤ → List ℕ → ℕ → List ℕ
     → Option State → Type 0
 NextTold None key keys size values code keys' size' values' hand =

@@ -1,4 +1,5 @@
-//! What C is told of a key's value. It is told where it was read, so that it is not moved.
+//! What C is told of a key's value. The result is made where the value was read, so that the value
+//! is not moved.
 ghost use Rattle.std.specs.Prelude.{◌≡◌};
 ghost use Rattle.mst_c.specs.declared.held.State.TheVariants as state;
 ghost use Rattle.mst_c.specs.Told.{ValueTold};
@@ -8,7 +9,7 @@ use mst_key::Key;
 use mst_store::{Laid, LaidPinned, Store};
 use std::alloc::Global;
 
-/// Tells the value of the key that a free pass finds now.
+/// Gives C the value of the key that a free pass finds now.
 pub(crate) fn tell_now(
     store: &Store<Global>,
     laid: Laid<Global>,
@@ -25,7 +26,7 @@ pub(crate) fn tell_now(
     (pass.lay(), code)
 }
 
-/// Tells the value of the key in the version that a pass pins.
+/// Gives C the value of the key in the version that a pass pins.
 pub(crate) fn tell_pinned(
     store: &Store<Global>,
     laid: LaidPinned<Global>,

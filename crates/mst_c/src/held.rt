@@ -85,7 +85,8 @@ impl Held {
         }
     }
 
-    /// The code of the key's value, which is told where it was read, so that it is not moved.
+    /// Returns the code of the key's value. It is made where the value was read, so that the value
+    /// is not moved.
     pub(crate) fn get(&mut self, key: &Key, room: &mut [u8]) -> i32
         ensures told { ValueTold key.now self.old room.old result room.new self.new }
     {
@@ -202,7 +203,7 @@ impl Held {
         }
     }
 
-    /// Gives the key the value, where the pass is free.
+    /// Gives the key the value, if the pass is free.
     pub(crate) fn try_put(&mut self, key: &Key, value: &Value) -> Result<Option<Value>, Unwritten>
         ensures writes { Writes (Put key.now value.now) self.old result self.new }
     {
@@ -224,7 +225,7 @@ impl Held {
         }
     }
 
-    /// Pins the current version, where the pass is free.
+    /// Pins the current version, if the pass is free.
     pub(crate) fn pin(&mut self) -> bool
         ensures pins { PinsNow self.old result self.new }
     {
@@ -242,7 +243,7 @@ impl Held {
         }
     }
 
-    /// Ends the pin, where there is one.
+    /// Ends the pin, if there is one.
     pub(crate) fn unpin(&mut self) -> bool
         ensures unpins { Unpins self.old result self.new }
         ensures free { PinsNone self.new }
@@ -261,7 +262,7 @@ impl Held {
         }
     }
 
-    /// Takes the key out of the map, where the pass is free.
+    /// Takes the key out of the map, if the pass is free.
     pub(crate) fn try_remove(&mut self, key: &Key) -> Result<Option<Value>, Unwritten>
         ensures writes { Writes (Remove key.now) self.old result self.new }
     {
@@ -304,7 +305,7 @@ impl Held {
         }
     }
 
-    /// How many rows the map takes, where the pass is free; none where a pin was found.
+    /// How many rows the map takes, if the pass is free; none if a pin was found.
     pub(crate) fn rows(&mut self) -> Result<Option<u32>, Uncounted>
         ensures counts { Counts self.old result self.new }
     {
@@ -347,7 +348,7 @@ impl Held {
         }
     }
 
-    /// Turns the tree to a format, where the pass is free.
+    /// Turns the tree to a format, if the pass is free.
     pub(crate) fn try_migrate(&mut self, alloc: Global, to: Format) -> Result<Format, Unmoved>
         ensures moves { Moves to self.old result self.new }
     {

@@ -2,9 +2,9 @@
 //!
 //! A static library over `mst_store`. `include/mst_store.h` declares its calls.
 //!
-//! Each call answers by a number, and tells in its clause, for all arguments, the number, each
-//! byte that it writes, and what the hand holds after it. A number of 0 and more is an answer; -1
-//! says that there is no such key; the others refuse:
+//! Each call returns a number. Its contract says, for all arguments, this number, each byte that
+//! the call writes, and what the hand holds after it. A number of 0 or more is an answer; -1 says
+//! that there is no such key; the others are refusals:
 //!
 //! | Number | When |
 //! |---|---|
@@ -18,7 +18,7 @@
 //! | -21, -22, -23 | a write or a migration is refused as `Busy`, `VersionsSpent`, `NoRoom` |
 //! | -24 | rows are not counted, since some pass pins a version |
 //!
-//! The tests come in the order of the hand, the key, the value, the pass, and the rooms last.
+//! The tests are made in this order: the hand, the key, the value, the pass, and the rooms last.
 #![tactic(auto)]
 
 ghost use Rattle.std.specs.Prelude.{◌≡◌, ◌≢◌, ◌↔◌, pos, negsuc, length as count, None, IsSome};
@@ -39,9 +39,9 @@ mod telling;
 use hand::Hand;
 use std::alloc::Global;
 
-/// Opens a store of the empty map in the format 1 or 2, with so many rows, and puts a pass into
-/// each of the hands. What a hand held before is closed. 0; -3 for another format; -10; -9. After
-/// another answer than 0 all hands are empty.
+/// Opens a store of the empty map in format 1 or 2, with `rows` rows, and puts a pass into each of
+/// the hands. What a hand held before is closed. Returns 0; -3 for another format; -10; -9. If it
+/// does not return 0, all hands are empty.
 #[unsafe(no_mangle)]
 pub extern "C" fn mst_open(alloc: Global, format: u32, rows: u32, hands: &mut [Hand]) -> i32
     ensures opened { result ≡ pos 0 → Opened format rows hands.new }
@@ -53,8 +53,8 @@ pub extern "C" fn mst_open(alloc: Global, format: u32, rows: u32, hands: &mut [H
     opening::open(alloc, format, rows, hands)
 }
 
-/// The value of the key: its length, 0 to 64, and its bytes stand first in the room; -1 where the
-/// key is absent. -7, -5, -2; then the room stays.
+/// Returns the length of the key's value, 0 to 64, and its bytes stand first in the room. Returns
+/// -1 if the key is absent; -7, -5, -2. With each of these the room stays as it was.
 #[unsafe(no_mangle)]
 pub extern "C" fn mst_get(alloc: Global, hand: &mut Hand, key: &[u8], room: &mut [u8]) -> i32
     ensures told { GetTold hand.old.held key.now room.old result room.new hand.new.held }
@@ -62,9 +62,9 @@ pub extern "C" fn mst_get(alloc: Global, hand: &mut Hand, key: &[u8], room: &mut
     telling::get(alloc, hand, key, room)
 }
 
-/// Gives the key the value. The answer is that of `mst_get` before the write; with -2 the old value
-/// did not fit into the room, and the key has its new value all the same. -7, -5, -6, -8, -21, -22,
-/// -23: nothing is written.
+/// Gives the key the value. Returns what `mst_get` would have returned before the write; with -2
+/// the old value did not fit into the room, and the key has its new value all the same. Returns -7,
+/// -5, -6, -8, -21, -22, -23: then nothing is written.
 #[unsafe(no_mangle)]
 pub extern "C" fn mst_try_put(
     alloc: Global,
@@ -78,8 +78,8 @@ pub extern "C" fn mst_try_put(
     telling::try_put(alloc, hand, key, value, room)
 }
 
-/// The root digest: 32, and its bytes stand first in the room. -7, -2 for a room of less than 32
-/// bytes.
+/// Returns 32, the length of the root digest, and its bytes stand first in the room. Returns -7; -2
+/// for a room of less than 32 bytes.
 #[unsafe(no_mangle)]
 pub extern "C" fn mst_root(alloc: Global, hand: &mut Hand, root: &mut [u8]) -> i32
     ensures told { RootTold hand.old.held root.old result root.new hand.new.held }
@@ -87,9 +87,9 @@ pub extern "C" fn mst_root(alloc: Global, hand: &mut Hand, root: &mut [u8]) -> i
     telling::root(alloc, hand, root)
 }
 
-/// The proof of the key's answer against the root digest of the same version: 0, its bytes stand
-/// first in the room, and their number in `length`. -2: `length` tells how many they are, and the
-/// room stays. -7, -5, -9: both stay.
+/// Makes the proof of the key's answer against the root digest of the same version. Returns 0: its
+/// bytes stand first in the room, and their number in `length`. Returns -2: `length` is their
+/// number, and the room stays. Returns -7, -5, -9: both stay.
 #[unsafe(no_mangle)]
 pub extern "C" fn mst_prove(
     alloc: Global,
@@ -104,7 +104,8 @@ pub extern "C" fn mst_prove(
     telling::prove(alloc, hand, key, room, length)
 }
 
-/// Pins the current version, of which each read is until `mst_unpin`: 0. -7, -8.
+/// Pins the current version: each read is of it until `mst_unpin`. Returns 0; -7; -8 if the pass is
+/// pinned already.
 #[unsafe(no_mangle)]
 pub extern "C" fn mst_pin(alloc: Global, hand: &mut Hand) -> i32
     ensures told { PinTold hand.old.held result hand.new.held }
@@ -112,7 +113,7 @@ pub extern "C" fn mst_pin(alloc: Global, hand: &mut Hand) -> i32
     telling::pin(alloc, hand)
 }
 
-/// Ends the pin: 0. -7, -8.
+/// Ends the pin. Returns 0; -7; -8 if the pass is not pinned.
 #[unsafe(no_mangle)]
 pub extern "C" fn mst_unpin(alloc: Global, hand: &mut Hand) -> i32
     ensures told { UnpinTold hand.old.held result hand.new.held }
@@ -120,7 +121,8 @@ pub extern "C" fn mst_unpin(alloc: Global, hand: &mut Hand) -> i32
     telling::unpin(alloc, hand)
 }
 
-/// Lets the pass go, and ends its pin before: 0, or -7. The store goes with its last pass.
+/// Closes the pass, after ending its pin if it has one. Returns 0 or -7. The store is freed with
+/// its last pass.
 #[unsafe(no_mangle)]
 pub extern "C" fn mst_close(alloc: Global, hand: &mut Hand) -> i32
     ensures told { CloseTold hand.old.held result hand.new.held }
@@ -128,7 +130,7 @@ pub extern "C" fn mst_close(alloc: Global, hand: &mut Hand) -> i32
     telling::close(alloc, hand)
 }
 
-/// Takes the key out of the map. The answers are those of `mst_try_put`, without -6.
+/// Takes the key out of the map. Returns what `mst_try_put` returns, without -6.
 #[unsafe(no_mangle)]
 pub extern "C" fn mst_try_remove(alloc: Global, hand: &mut Hand, key: &[u8], room: &mut [u8]) -> i32
     ensures told { RemoveTold hand.old.held key.now room.old result room.new hand.new.held }
@@ -136,8 +138,8 @@ pub extern "C" fn mst_try_remove(alloc: Global, hand: &mut Hand, key: &[u8], roo
     telling::try_remove(alloc, hand, key, room)
 }
 
-/// The number of the version, which is that of the writes and migrations before it: 0. -7; then the
-/// number stays.
+/// Sets `number` to the number of the version, which is the number of writes and migrations before
+/// it. Returns 0; or -7, and then the number stays.
 #[unsafe(no_mangle)]
 pub extern "C" fn mst_version(alloc: Global, hand: &mut Hand, number: &mut u64) -> i32
     ensures told { VersionTold hand.old.held number.old result number.new hand.new.held }
@@ -145,7 +147,7 @@ pub extern "C" fn mst_version(alloc: Global, hand: &mut Hand, number: &mut u64) 
     telling::version(alloc, hand, number)
 }
 
-/// The number of the version's format: 1 or 2. -7.
+/// Returns the number of the version's format, 1 or 2; or -7.
 #[unsafe(no_mangle)]
 pub extern "C" fn mst_format(alloc: Global, hand: &mut Hand) -> i32
     ensures told { FormatTold hand.old.held result hand.new.held }
@@ -153,9 +155,9 @@ pub extern "C" fn mst_format(alloc: Global, hand: &mut Hand) -> i32
     formats::format(alloc, hand)
 }
 
-/// Turns the tree of the map to the format 1 or 2; the map stays. The number of the format that it
-/// had: 1 or 2. -7, -3 for another number, -8, -9, -21, -22, -23: nothing is changed. In the format
-/// that stands it takes no memory and no row.
+/// Turns the tree of the map to format 1 or 2; the map stays as it is. Returns the number of the
+/// format that it had, 1 or 2. Returns -7, -3 for another number, -8, -9, -21, -22, -23: then
+/// nothing is changed. A migration to the current format takes no memory and no row.
 #[unsafe(no_mangle)]
 pub extern "C" fn mst_try_migrate(alloc: Global, hand: &mut Hand, format: u32) -> i32
     ensures told { MigrateTold hand.old.held format result hand.new.held }
@@ -163,8 +165,8 @@ pub extern "C" fn mst_try_migrate(alloc: Global, hand: &mut Hand, format: u32) -
     formats::try_migrate(alloc, hand, format)
 }
 
-/// How many rows the map of the current version takes: 0. -7, -8 by a pinned pass, -21, -24; then
-/// the count stays.
+/// Sets `count` to the number of rows that the map of the current version takes. Returns 0; or -7,
+/// -8 for a pinned pass, -21, -24, and then the count stays.
 #[unsafe(no_mangle)]
 pub extern "C" fn mst_rows(alloc: Global, hand: &mut Hand, count: &mut u32) -> i32
     ensures told { RowsTold hand.old.held count.old result count.new hand.new.held }
@@ -172,10 +174,11 @@ pub extern "C" fn mst_rows(alloc: Global, hand: &mut Hand, count: &mut u32) -> i
     telling::rows(alloc, hand, count)
 }
 
-/// The pair of the least key above the bound, or of the least key where the bound has no bytes:
-/// the value's length, its bytes stand first in the room, those of the key in `key_room`, and
-/// `length` is the key's. -7, -5 for a bound of more than 32 bytes, -1 where there is none, -2
-/// where one of the two rooms is short; then both rooms and `length` stay.
+/// Finds the pair of the least key above the bound, or of the least key if the bound has no bytes.
+/// Returns the length of the value: its bytes stand first in the room, those of the key first in
+/// `key_room`, and `length` is the key's. Returns -7; -5 for a bound of more than 32 bytes; -1 if
+/// there is no such pair; -2 if one of the two rooms is too short. With each of these both rooms
+/// and `length` stay.
 #[unsafe(no_mangle)]
 pub extern "C" fn mst_next(
     alloc: Global,
@@ -191,11 +194,11 @@ pub extern "C" fn mst_next(
     telling::next(alloc, hand, key, key_room, length, room)
 }
 
-/// The first pairs, at most `limit`, of the keys that are at least `from` and below `to`; a bound
-/// of no bytes does not bind. 0: `count` is their number and `length` that of their bytes, which
-/// stand first in the room: for each pair the length of its key in two bytes, the high one first,
-/// that of its value in two, the key, the value. -2: both numbers are told, and the room stays. -7,
-/// -5 for a bound of more than 32 bytes, -9: all stay.
+/// Finds the first pairs, at most `limit`, whose keys are at least `from` and below `to`; a bound
+/// of no bytes does not bind. Returns 0: `count` is the number of the pairs and `length` that of
+/// their bytes, which stand first in the room: for each pair the length of its key in two bytes,
+/// the high one first, that of its value in two, the key, the value. Returns -2: both numbers are
+/// set so, and the room stays. Returns -7, -5 for a bound of more than 32 bytes, -9: all stay.
 #[unsafe(no_mangle)]
 pub extern "C" fn mst_range(
     alloc: Global,

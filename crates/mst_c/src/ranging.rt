@@ -28,7 +28,7 @@ fn pairs_size(pairs: &[(Key, Value)]) -> usize
     size
 }
 
-/// Puts bytes into the room from this place on, and answers where they end.
+/// Puts bytes into the room from this place on, and returns where they end.
 fn put_at(room: &mut [u8], at: usize, bytes: &[u8]) -> usize
     requires fits { at + length bytes.now ≤ length room.old }
     ensures room { room.new ≡ written at bytes.now room.old }
@@ -39,7 +39,7 @@ fn put_at(room: &mut [u8], at: usize, bytes: &[u8]) -> usize
     end
 }
 
-/// Puts a pair into the room from this place on, and answers where it ends.
+/// Puts a pair into the room from this place on, and returns where it ends.
 fn put_pair(room: &mut [u8], at: usize, key: &Key, value: &Value) -> usize
     requires fits { at + length (pair_bytes (key.now, value.now)) ≤ length room.old }
     ensures room { room.new ≡ written at (pair_bytes (key.now, value.now)) room.old }
@@ -57,7 +57,7 @@ fn put_pair(room: &mut [u8], at: usize, key: &Key, value: &Value) -> usize
     put_at(room, behind_key, value)
 }
 
-/// Puts the pairs first into the room, and keeps the bytes behind them.
+/// Puts the pairs first into the room, and keeps the bytes after them.
 fn put_pairs(room: &mut [u8], pairs: &[(Key, Value)])
     requires fits { length (pairs_bytes pairs.now) ≤ length room.old }
     ensures room { room.new
@@ -69,8 +69,8 @@ fn put_pairs(room: &mut [u8], pairs: &[(Key, Value)])
     }
 }
 
-/// How many pairs there are, and how many bytes they take, is told. They stand first in the room
-/// then, if they fit.
+/// Sets `count` to the number of pairs and `size` to the number of their bytes. They then stand
+/// first in the room, if they fit.
 fn tell_pairs(pairs: &[(Key, Value)], room: &mut [u8], count: &mut usize, size: &mut usize) -> i32
     requires few { length pairs.now < 2 ^ 32 }
     ensures code { result ≡ bytes_code (length room.old) (Some (pairs_bytes pairs.now)) }

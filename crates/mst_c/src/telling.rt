@@ -44,7 +44,7 @@ pub(crate) fn give(hand: &mut Hand, held: Box<Held, Global>)
     let _empty = replace(hand, Hand::of_box(held));
 }
 
-/// Puts bytes first, and keeps those behind them.
+/// Puts bytes first, and keeps those after them.
 fn put(room: &mut [u8], bytes: &[u8])
     requires fits { length bytes.now ≤ length room.old }
     ensures room { room.new ≡ bytes.now ++ drop (length bytes.now) room.old }
@@ -70,7 +70,7 @@ pub(crate) fn tell(value: &Option<Value>, room: &mut [u8]) -> i32
     }
 }
 
-/// The length of the proof is told. The proof stands first in the room then, if it fits.
+/// Sets `size` to the length of the proof. The proof then stands first in the room, if it fits.
 fn tell_proof(proof: &[u8], room: &mut [u8], size: &mut usize) -> i32
     ensures code { result ≡ bytes_code (length room.old) (Some proof.now) }
     ensures room { room.new ≡ room_after room.old (Some proof.now) }

@@ -182,7 +182,7 @@ no_words task BadKey ends of = of
 no_words task Device ends of = of
 no_words task (Memory refused) ends of = of
 
--- a task that is cut short is so for a reason that comes
+-- a task that is cut short is so for a reason that is possible
 pub task_comes : (words : List (Bor (List ℕ))) (task : Task) (r : Result Ending Refusal)
     → AsksFor words task → IsErrOf r Shape ↔ HasBadShape task → IsErrOf r BadRoot ↔ HasBadRoot task
     → IsErrOf r BadKey ↔ HasBadKey task →
@@ -204,7 +204,7 @@ task_comes words task (Err (Memory refused)) asked shape root key ends =
           (λ is. cc),
     )
 
--- words that are refused are so for a reason that comes
+-- words that are refused are so for a reason that is possible
 pub words_come : (words : List (Bor (List ℕ))) (why : Refusal) → EndsWords why → ¬ (IsPlain words)
     → Comes words why
 words_come words (Words text) h other = other

@@ -1,4 +1,4 @@
--- Errors that do not come.
+-- Errors that do not occur.
 use Rattle.std.proofs.Common.{◌↔◌, Result, IfErr, IsErrOf}
 use Rattle.std.proofs.lemmas.Result.{IfErr-at_err}
 use Rattle.mst_command.specs.Commanding.{EndsScript, EndsVerify, EndsReplay, EndsLoad, EndsHelp}

@@ -25,14 +25,14 @@ Word = Bor (List ℕ)
 abbrev Proof : Type 0
 Proof = Option Format × List ℕ × List ℕ
 
--- what the words behind `verify` name
+-- what the words after `verify` name
 abbrev proof_of : List Word → Proof
 proof_of words = (format_named words, operand_at 0 words, operand_at 1 words)
 
 abbrev Sizes : Type 0
 Sizes = List ℕ × List ℕ
 
--- the words for the size behind `run`
+-- the words for the size after `run`
 abbrev sizes_of : List Word → Sizes
 sizes_of words =
     (value_or (codes "1024") (codes "--rows") words, value_or (codes "4") (codes "--passes") words)

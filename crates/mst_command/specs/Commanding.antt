@@ -17,18 +17,18 @@ use Rattle.mst_command.specs.declared.task.Refusal.TheVariants.{Words, NotText, 
 use Rattle.mst_command.specs.Loading.{asks_load, IsLoadOf, NamesLoad}
 use Rattle.mst_command.specs.Options.{are_options, format_named, operand_at, value_of}
 
--- the first word behind the program's name is `replay`
+-- the first word after the program's name is `replay`
 abbrev pub asks_replay : List (Bor (List ℕ)) → Bool
 asks_replay (program ∷ name ∷ words) = bytes_eq name.now (codes "replay")
 asks_replay _ = false
 
--- the format that the words behind the command name
+-- the format that the words after the command name
 abbrev pub format_in : List (Bor (List ℕ)) → Option Format
 format_in (program ∷ name ∷ words) = format_named words
 format_in _ = Some One
 
--- the format, and the words for the root digest and the key, where the first word behind the
--- program's name is `verify`
+-- the format, and the words for the root digest and the key, if the first word after the program's
+-- name is `verify`
 abbrev pub asks_verify : List (Bor (List ℕ)) → Option (Option Format × List ℕ × List ℕ)
 asks_verify (program ∷ name ∷ words) =
     if bytes_eq name.now (codes "verify")
@@ -49,7 +49,7 @@ has_dash (Some word) = is_dashed word
 abbrev pub are_plain_options : List (Bor (List ℕ)) → Bool
 are_plain_options words = are_options words && not (has_dash (value_of (codes "--format") words))
 
--- the word behind the option, or else the usual one
+-- the word after the option, or else the usual one
 abbrev pub value_or : List ℕ → List ℕ → List (Bor (List ℕ)) → List ℕ
 value_or usual option words = unwrap_or (value_of option words) usual
 
@@ -126,12 +126,12 @@ AskHelp words = (word : Bor (List ℕ)) × Contains words word × IsHelp word.no
 abbrev pub IsVersion : List ℕ → Type 0
 IsVersion word = (word ≡ codes "--version") ⊎ ((rest : List ℕ) × (word ≡ codes "-V" ++ rest))
 
--- the first word behind the program's name asks for the version
+-- the first word after the program's name asks for the version
 abbrev pub AskVersion : List (Bor (List ℕ)) → Type 0
 AskVersion (program ∷ name ∷ words) = IsVersion name.now
 AskVersion _ = ⊥
 
--- the words ask for a text that tells of the program
+-- the words ask for a text about the program
 abbrev pub AskText : List (Bor (List ℕ)) → Type 0
 AskText words = AskHelp words ⊎ AskVersion words
 
@@ -165,7 +165,7 @@ asks_version_alone (program ∷ name ∷ []) =
     bytes_eq name.now (codes "--version") || bytes_eq name.now (codes "-V")
 asks_version_alone _ = false
 
--- what tells the version
+-- the text that says the version
 abbrev pub version_text : List ℕ
 version_text = codes "mst 0.2.0" ++ 10 ∷ []
 
@@ -181,7 +181,7 @@ IsSized words (Load size) = NamesLoad words size
 IsSized words task = Unit {0}
 
 -- The words ask for this task: some word for help, or the first for the version, in no plain form,
--- with a text that they may be told, and else the first word behind the program's name for the
+-- with a text that they may be told, and otherwise the first word after the program's name for the
 -- rest. Neither a replay nor a load has a format, so that their words ask for none that there is
 -- not.
 abbrev pub AsksFor : List (Bor (List ℕ)) → Task → Type 0
@@ -252,8 +252,8 @@ EndsWords (Words text) = Unit {0}
 EndsWords (Memory refused) = Unit {0}
 EndsWords _ = ⊥
 
--- how many reads and writes had failed before and after: more where this is the reason, and else as
--- many
+-- how many reads and writes had failed before and after: more if this is the reason, and otherwise
+-- as many
 abbrev pub IsDevice : Refusal → ℕ → ℕ → Type 0
 IsDevice Device before after = before < after
 IsDevice _ before after = after ≡ before

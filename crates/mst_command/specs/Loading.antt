@@ -8,7 +8,7 @@ use Rattle.mst_load.specs.Lines.{lines_of}
 use Rattle.mst_load.specs.Reports.{IsOneVersion}
 use Rattle.mst_command.specs.declared.task.Load.{Load}
 
--- the first word behind the program's name is `load`
+-- the first word after the program's name is `load`
 abbrev pub asks_load : List (Bor (List ℕ)) → Bool
 asks_load (program ∷ name ∷ words) = bytes_eq name.now (codes "load")
 asks_load _ = false
@@ -18,13 +18,13 @@ abbrev pub are_load_options : List ℕ → List ℕ → List ℕ → Bool
 are_load_options first second third = bytes_eq first (codes "--readers")
     && (bytes_eq second (codes "--writers") && bytes_eq third (codes "--calls"))
 
--- the words for the readers, the writers and the calls, behind these options
+-- the words for the readers, the writers and the calls, after these options
 abbrev pub three_options : List ℕ → List ℕ → List ℕ → List ℕ → List ℕ → List ℕ
     → Option (List ℕ × List ℕ × List ℕ)
 three_options first readers second writers third calls =
     if are_load_options first second third then Some (readers, writers, calls) else None
 
--- the same, for all words behind the command
+-- the same, for all words after the command
 abbrev pub load_options_of : List (Bor (List ℕ)) → Option (List ℕ × List ℕ × List ℕ)
 load_options_of (first ∷ readers ∷ second ∷ writers ∷ third ∷ calls ∷ []) =
     three_options first.now readers.now second.now writers.now third.now calls.now

@@ -1,4 +1,4 @@
--- What the words behind a command say by their options, and what they say beside them.
+-- What the words after a command say by their options, and what they say beside them.
 use Rattle.std.specs.Prelude.{ℕ, ◌==◌, ◌&&◌, ◌||◌, Bool, true, false, is_none, is_some, if◌then◌else◌, List, [], ◌∷◌, get_or, map, take, drop, Option, Some, None, codes}
 use Rattle.std.specs.Str.{bytes_eq}
 use denote.Ref.{Bor}
@@ -38,7 +38,7 @@ abbrev pub joined_format : List ℕ → Option (List ℕ)
 joined_format word =
     if bytes_eq (take 9 word) (codes "--format=") then Some (drop 9 word) else None
 
--- the format that a word names behind `--format=`, where it begins so, and else another one
+-- the format that a word names after `--format=`, if it begins so, and otherwise another one
 abbrev pub format_or : Option (List ℕ) → Option Format → Option Format
 format_or None other = other
 format_or (Some word) other = format_of word
@@ -54,7 +54,7 @@ format_named (word ∷ words) =
 
 -- ---- operands
 
--- The words but `--format F` and `--format=F`, and but the first `--`, behind which all are
+-- The words but `--format F` and `--format=F`, and but the first `--`, after which all are
 -- operands. Where `is_value`, the first word is the F of an option.
 abbrev pub operands : Bool → List (Bor (List ℕ)) → List (List ℕ)
 operands is_value [] = []
@@ -65,13 +65,13 @@ operands false (word ∷ words) =
     else if is_some (joined_format word.now) then operands false words
     else word.now ∷ operands false words
 
--- the operand at a place among the words behind a command
+-- the operand at a place among the words after a command
 abbrev pub operand_at : ℕ → List (Bor (List ℕ)) → List ℕ
 operand_at place words = get_or (operands false words) place []
 
 -- ---- options alone, each of them with its value
 
--- the word behind the option
+-- the word after the option
 abbrev pub value_of : List ℕ → List (Bor (List ℕ)) → Option (List ℕ)
 value_of option (name ∷ value ∷ words) =
     if bytes_eq name.now option then Some value.now else value_of option words

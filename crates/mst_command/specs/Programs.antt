@@ -182,8 +182,8 @@ Comes words BadKey = (task : Task) × AsksFor words task × HasBadKey task
 Comes words Device = Unit {0}
 Comes words (Memory refused) = IsPlain words → (task : Task) × AsksFor words task × ¬ (IsBad task)
 
--- The program ended early for a reason that comes for the words: what was read and what the sink
--- took then, and where a device failed, by which task.
+-- The program ended early for a reason that is possible for the words: what was read and what the
+-- sink took then, and if a device failed, by which task.
 pub record EndedEarly {S W : Type 0}
     (gives : Flow S) (left : S → ℕ) (takes : Flow W) (failures : W → ℕ)
     (words : List (Bor (List ℕ))) (why : Refusal)

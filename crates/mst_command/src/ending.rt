@@ -18,8 +18,8 @@ const DEVICE: u8 = 3;
 
 const MEMORY: u8 = 4;
 
-/// Says why a program ended early, and answers the exit status. Where the write of it fails, that
-/// is the status.
+/// Says why a program ended early, and returns the exit status. If the write of it fails, the
+/// status is that of a failed device.
 pub fn complain<W: Sink>(err: &mut W, why: &Refusal) -> u8
     requires { W.failures err.old < 2 ^ 64 - 1 }
     ensures status { (W.failures err.new ≡ W.failures err.old) → result ≡ status_of why.now }

@@ -90,8 +90,8 @@ fn drive<S: Source, W: Sink, A: Allocator>(
 /// Answers the events of the source into the sink, up to the end of the source or to the first
 /// failure of a device.
 ///
-/// `Memory` comes where a growth at the start was refused, before anything was read or written;
-/// `Device` where a read or a write failed.
+/// Returns `Memory` if a growth at the start was refused, before anything was read or written;
+/// `Device` if a read or a write failed.
 pub fn replay_events<S: Source, W: Sink, A: Allocator + Copy>(
     alloc: A,
     source: &mut S,

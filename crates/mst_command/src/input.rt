@@ -11,7 +11,7 @@ use std::alloc::{AllocError, Allocator};
 /// How many bytes are read at most at a time.
 const PIECE: usize = 4_096;
 
-// Appends bytes. Where the room is too small it is doubled, but is never more than `most`.
+// Appends bytes. If the room is too small it is doubled, but is never more than `most`.
 fn append<A: Allocator>(bytes: &mut Vec<u8, A>, more: &[u8], most: usize) -> Result<(), AllocError>
     requires fits { length bytes.old.items + length more.now ≤ most }
     ensures appended { OnOk result (bytes.new.items ≡ bytes.old.items ++ more.now) }
@@ -24,11 +24,11 @@ fn append<A: Allocator>(bytes: &mut Vec<u8, A>, more: &[u8], most: usize) -> Res
     bytes.extend_from_slice(more)
 }
 
-/// All bytes that the source gives, or `None` where they are more than `most`; then it is not read
-/// to its end, but by one piece of 4,096 bytes at most beyond that number. The memory grows with
+/// Returns all bytes that the source gives, or `None` if they are more than `most`; then it is not
+/// read to its end, but at most one piece of 4,096 bytes beyond that number. The memory grows with
 /// what is read, up to `most` bytes.
 ///
-/// `Device` comes where a read failed, and `Memory` where a growth was refused.
+/// Returns `Device` if a read failed, and `Memory` if a growth was refused.
 pub fn read_up_to<S: Source, A: Allocator>(
     alloc: A,
     source: &mut S,

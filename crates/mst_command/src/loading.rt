@@ -24,8 +24,8 @@ fn is_load_size(size: Load) -> bool
 /// Lets readers and writers work at one store at once, each in a thread of its own, and writes the
 /// four lines of the report. The gate is asked before each call and told after it.
 ///
-/// `Shape` comes before any thread is started, where a load may not have these numbers. `Memory`
-/// comes where a growth was refused or a thread could not be started: all threads that were started
+/// Returns `Shape`, before any thread is started, if a load may not have these numbers. Returns
+/// `Memory` if a growth was refused or a thread could not be started: all threads that were started
 /// have then returned.
 pub fn run_load<R, A: Allocator + Copy, G: Gate + Sync, W: Sink>(
     rt: &R,

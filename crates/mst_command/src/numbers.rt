@@ -13,7 +13,7 @@ fn are_load_options(first: &str, second: &str, third: &str) -> bool
     first == "--readers" && second == "--writers" && third == "--calls"
 }
 
-// The words for the readers, the writers and the calls, behind these options.
+// The words for the readers, the writers and the calls, after these options.
 fn three_options<'a>(
     first: &str,
     readers: &'a str,
@@ -33,7 +33,7 @@ fn three_options<'a>(
     }
 }
 
-// The same, of what stands behind `load`.
+// The same, of what stands after `load`.
 fn load_options<'a>(words: &[&'a str]) -> Option<(&'a str, &'a str, &'a str)>
     ensures { option_map (λ w. (w.0.now, w.1.now, w.2.now)) result ≡ load_options_of words.now }
 {
@@ -45,7 +45,7 @@ fn load_options<'a>(words: &[&'a str]) -> Option<(&'a str, &'a str, &'a str)>
     }
 }
 
-// The words for the readers, the writers and the calls, where the words are those of a load.
+// The words for the readers, the writers and the calls, if the words are those of a load.
 fn load_words<'a>(words: &[&'a str]) -> Option<(&'a str, &'a str, &'a str)>
     ensures { option_map (λ w. (w.0.now, w.1.now, w.2.now)) result ≡ words_of_load words.now }
 {

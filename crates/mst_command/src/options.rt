@@ -1,4 +1,4 @@
-//! What the words behind a command say by their options, and what they say beside them.
+//! What the words after a command say by their options, and what they say beside them.
 ghost use Rattle.std.specs.Prelude.{◌≡◌, List, Bool, [], ◌||◌, get_or, map, false};
 ghost use Rattle.std.specs.Option.{option_map};
 ghost use Rattle.mst_command.specs.Options.{are_options as are_named, format_at as named_at, format_named as named_by, format_of as named, is_option as is_named, joined_format as joined, operands, significant as zeroless, value_of as value_behind, without_plus as plusless};
@@ -56,8 +56,8 @@ fn joined_format(word: &str) -> Option<&[u8]>
     word.as_bytes().strip_prefix(b"--format=")
 }
 
-/// The format that words name by `--format F` or `--format=F` in front of a `--`: 1 where they name
-/// none, and `None` where F is neither 1 nor 2.
+/// The format that words name by `--format F` or `--format=F` in front of a `--`: 1 if they name
+/// none, and `None` if F is neither 1 nor 2.
 pub fn format_named(words: &[&str]) -> Option<Format>
     ensures { result ≡ named_by words.now }
 {
@@ -87,7 +87,7 @@ fn word_at<'a>(words: &[&'a str], place: usize) -> &'a str
 }
 
 /// The operand at this place, or none: a word that is no `--format F` and no `--format=F`, or any
-/// behind a `--`. Where `is_value`, the first word is the F of an option.
+/// after a `--`. If `is_value`, the first word is the F of an option.
 pub fn operand<'a>(words: &[&'a str], is_value: bool, place: usize) -> &'a str
     ensures { result.now ≡ get_or (operands is_value words.now) place [] }
 {
@@ -110,7 +110,7 @@ pub fn operand<'a>(words: &[&'a str], is_value: bool, place: usize) -> &'a str
     }
 }
 
-/// The word behind the option, of words that are options with their values.
+/// The word after the option, of words that are options with their values.
 pub fn value_of<'a>(option: &str, words: &[&'a str]) -> Option<&'a str>
     ensures { option_map (λ w. w.now) result ≡ value_behind option.now words.now }
 {

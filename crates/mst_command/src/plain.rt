@@ -36,14 +36,14 @@ fn are_plain_options(words: &[&str]) -> bool
     are_options(words) && !has_dash(value_of("--format", words))
 }
 
-// The word behind the option, or else the usual one.
+// The word after the option, or else the usual one.
 fn value_or<'a>(usual: &'a str, option: &str, words: &[&'a str]) -> &'a str
     ensures { result.now ≡ named_or usual.entry.now option.now words.now }
 {
     value_of(option, words).unwrap_or(usual)
 }
 
-// The words for the rows and the passes, where the words are those of a script.
+// The words for the rows and the passes, if the words are those of a script.
 fn run_words<'a>(words: &[&'a str]) -> Option<(&'a str, &'a str)>
     ensures { option_map (λ w. (w.0.now, w.1.now)) result ≡ asks_run words.now }
 {
@@ -130,7 +130,7 @@ fn is_plain_verify(words: &[&str]) -> bool
     }
 }
 
-// The task of the words of a proof, where they are plain.
+// The task of the words of a proof, if they are plain.
 fn plain_verify<'a>(words: &[&'a str]) -> Option<Task<'a>>
     ensures asked { IfSome result (λ task. AsksFor words.now task) }
     ensures plain { IfNone result (asks_verify_alone words.now ≡ false) }

@@ -21,7 +21,8 @@ use std::thread::Threads;
 
 /// Answers the lines of the source over a new store.
 ///
-/// `Shape` comes before anything is read, and `Memory` where a growth at the start was refused.
+/// Returns `Shape`, before anything is read, exactly if a store may not have this size; `Memory` if
+/// a growth at the start was refused; `Device` if a read or a write failed.
 pub fn run_script<A: Allocator + Copy, S: Source, W: Sink>(
     alloc: A,
     shape: Shape,
@@ -64,7 +65,7 @@ pub fn run_script<A: Allocator + Copy, S: Source, W: Sink>(
 
 /// Answers the events of the source, from no core on.
 ///
-/// `Memory` comes where a growth at the start was refused.
+/// Returns `Memory` if a growth at the start was refused; `Device` if a read or a write failed.
 pub fn run_replay<A: Allocator + Copy, S: Source, W: Sink>(
     alloc: A,
     source: &mut S,
@@ -114,11 +115,11 @@ fn show<W: Sink>(out: &mut W, text: &str) -> Result<Ending, Refusal>
 /// Does the task, and says how the program ends, or why it ends early. The gate is asked before
 /// each call of a load and told after it.
 ///
-/// `Shape` comes for a size out of the store's limits, for an unknown format and for numbers that a
-/// load may not have, `BadRoot` and then `BadKey` for words that spell no root digest and no key,
-/// all before anything is read or run. `Memory` comes where a growth was refused or a thread could
-/// not be started: nothing was written then, and nothing read but a proof. `Device` comes where a
-/// read or a write failed.
+/// Returns `Shape` for a size out of the store's limits, for an unknown format and for numbers that
+/// a load may not have, and `BadRoot` and then `BadKey` for words that spell no root digest and no
+/// key: all before anything is read or run. Returns `Memory` if a growth was refused or a thread
+/// could not be started: nothing was written then, and nothing read but a proof. Returns `Device`
+/// if a read or a write failed.
 pub fn execute<R, A: Allocator + Copy, G: Gate + Sync, S: Source, W: Sink>(
     rt: &R,
     alloc: A,

@@ -35,7 +35,7 @@ pub enum Task<'a> {
     Replay,
     /// To let readers and writers work at one store at once, and to report what they left.
     Load(Load),
-    /// To write this text, which tells of the words or of the program.
+    /// To write this text, which is about the words or the program.
     Help(String),
 }
 

@@ -52,7 +52,8 @@ fn read_report<A: Allocator + Copy, S: Source>(
 /// Says what the proof in this format that the source gives shows of a key, for the words of a root
 /// digest and of the key.
 ///
-/// `BadRoot` and then `BadKey` come before anything is read.
+/// Returns `BadRoot` if `root` spells no root digest, otherwise `BadKey` if `key` spells no key,
+/// both before anything is read.
 pub fn run_verify<A: Allocator + Copy, S: Source, W: Sink>(
     alloc: A,
     format: Format,

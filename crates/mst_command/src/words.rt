@@ -41,7 +41,7 @@ fn is_version(word: &str) -> bool
     }
 }
 
-// Whether the first word behind the program's name asks for the version.
+// Whether the first word after the program's name asks for the version.
 fn ask_version(words: &[&str]) -> bool
     ensures { (result ≡ true) ↔ AskVersion words.now }
 {
@@ -62,14 +62,14 @@ pub fn ask_version_alone(words: &[&str]) -> bool
     }
 }
 
-/// Whether some word asks for help, or the first behind the program's name for the version.
+/// Whether some word asks for help, or the first after the program's name for the version.
 pub fn ask_text(words: &[&str]) -> bool
     ensures { (result ≡ true) ↔ AskText words.now }
 {
     ask_help(words) || ask_version(words)
 }
 
-/// Whether the first word behind the program's name is `replay`.
+/// Whether the first word after the program's name is `replay`.
 pub fn names_replay(words: &[&str]) -> bool
     ensures { result ≡ asks_replay words.now }
 {
@@ -79,7 +79,7 @@ pub fn names_replay(words: &[&str]) -> bool
     }
 }
 
-// Whether the first word behind the program's name is `load`.
+// Whether the first word after the program's name is `load`.
 fn names_load(words: &[&str]) -> bool
     ensures { result ≡ asks_load words.now }
 {
@@ -89,7 +89,7 @@ fn names_load(words: &[&str]) -> bool
     }
 }
 
-// The format that the words behind the command name.
+// The format that the words after the command name.
 fn format_in(words: &[&str]) -> Option<Format>
     ensures { result ≡ named_format words.now }
 {
@@ -99,8 +99,8 @@ fn format_in(words: &[&str]) -> Option<Format>
     }
 }
 
-// The format, and the words for the root digest and the key, where the first word behind the
-// program's name is `verify`.
+// The format, and the words for the root digest and the key, if the first word after the program's
+// name is `verify`.
 fn verify_words<'a>(words: &[&'a str]) -> Option<(Option<Format>, &'a str, &'a str)>
     ensures { option_map (λ w. (w.0, w.1.now, w.2.now)) result ≡ asks_verify words.now }
 {
@@ -114,7 +114,7 @@ fn verify_words<'a>(words: &[&'a str]) -> Option<(Option<Format>, &'a str, &'a s
     }
 }
 
-/// The task of words whose first behind the program's name is `verify`.
+/// The task of words whose first after the program's name is `verify`.
 pub fn verify_task<'a>(words: &[&'a str]) -> Option<Task<'a>>
     ensures asked { IfSome result (λ task. AsksFor words.now task) }
     ensures numbers { IfSome result (λ task. (size load : _) → HasNumbers size load task) }
@@ -161,7 +161,7 @@ fn named_store(words: &[&str], size: Size, load: Load) -> Task<'static>
     }
 }
 
-/// The task of words of no plain form, which were found to name one, by the first word behind the
+/// The task of words of no plain form, which were found to name one, by the first word after the
 /// program's name. A script has this size, and a load these numbers.
 pub fn named_task<'a>(words: &[&'a str], size: Size, load: Load) -> Task<'a>
     requires { ¬ (IsPlain words.now) }

@@ -3,7 +3,7 @@ use Rattle.std.proofs.Common.{◌≡◌, ℕ, List, ◌++◌, Option, Some, None
 use Rattle.std.proofs.lemmas.Option.{none-some, same_Some}
 use Rattle.std.specs.Io.KnownBytes.{Appends}
 
--- behind what a writer held stands what it took
+-- after what a writer held stands what it took
 pub all_held : (held taken : List ℕ) (before after : Option (List ℕ)) → before ≡ Some held
     → Appends before after taken → after ≡ Some (held ++ taken)
 all_held held taken None after is took = absurd (none-some held is)

@@ -21,7 +21,7 @@ pub record Took {S : Type 0} (takes : Flow S)
   pub within : n ≤ length bytes
   pub taken : takes s (take n bytes) t
 
--- Where p waited before the sink, the text was put behind it: the sink took a front of both, and q
+-- Where p waited before the sink, the text was put after it: the sink took a front of both, and q
 -- waits now.
 pub record Puts {S : Type 0} (takes : Flow S)
     (s : S) (p text : List ℕ) (t : S) (q : List ℕ) : Type 0 where
@@ -56,8 +56,8 @@ pub record Counted : Type 0 where
 abbrev pub left_of : Counted → ℕ
 left_of s = if s.has_ended then 0 else s.left
 
--- These bytes were given: the first of those that the reader had left. It comes to its end only
--- where none of them is left, and gives nothing after it.
+-- These bytes were given: the first of those that the reader had left. It reaches its end only if
+-- none of them is left, and gives nothing after it.
 pub record GaveKnown (s : Counted) (xs : List ℕ) (t : Counted) : Type 0 where
   pub counted : t.left + length xs ≡ s.left
   pub known : Consumes s.known t.known xs
@@ -70,6 +70,6 @@ pub record Written : Type 0 where
   pub failures : ℕ
   pub known : Option (List ℕ)
 
--- these bytes were taken: they stand behind those that the writer held
+-- these bytes were taken: they stand after those that the writer held
 abbrev pub TookKnown : Written → List ℕ → Written → Type 0
 TookKnown s xs t = Appends s.known t.known xs

@@ -11,9 +11,9 @@
 //! sink.bytes()                                   // "xyz"
 //! ```
 //!
-//! A failure is told, and raises a count that contracts see; a device that failed may be asked
-//! again. What a terminal gives or takes no contract can say: of [`StdSource`] and [`StdSink`] it
-//! is known which reads and writes failed, and the bytes where std knows them.
+//! A failure is returned, and raises a count that contracts see; a device that failed may be asked
+//! again. No contract can say what a terminal gives or takes: of [`StdSource`] and [`StdSink`] it
+//! is known which reads and writes failed, and the bytes if std knows them.
 #![tactic(auto)]
 
 ghost use Rattle.std.specs.Prelude.{◌≡◌, ℕ, ◌+◌, ◌-◌, ◌^◌, ◌<◌, ◌≤◌, List, [], ◌++◌, length, IfOk, OnOk, OnErr};

@@ -68,7 +68,7 @@ impl<A: Allocator> Pending<A> {
         Ok(())
     }
 
-    // Whether there was room for the text, which then waits behind the rest.
+    // Whether there was room for the text, which then waits after the rest.
     fn append(&mut self, text: &[u8]) -> bool
         ensures waits { self.new ≡ (if result then self.old ++ text.now else self.old) }
         ensures few { length self.new ≤ 65536 }
@@ -79,8 +79,8 @@ impl<A: Allocator> Pending<A> {
         self.bytes.extend_from_slice(text).is_ok()
     }
 
-    /// Puts a text behind what waits, at most 65,536 bytes. Where there is no room for it, what
-    /// waits is written first.
+    /// Puts a text after what waits, at most 65,536 bytes. If there is no room for it, what waits
+    /// is written first.
     pub fn put<W: Sink>(&mut self, sink: &mut W, text: &[u8]) -> Result<(), Device>
         requires { W.failures sink.old < 2 ^ 64 - 1 }
         ensures ok { OnOk result (Puts W.takes sink.old self.old text.now sink.new self.new) }

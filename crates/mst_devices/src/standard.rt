@@ -32,8 +32,8 @@ impl<R: Read> Model for StdSource<R> {
 }
 
 impl<R: Read> StdSource<R> {
-    /// A source over standard input. Where std knows its bytes, and they are fewer than 2^64 - 1,
-    /// all of them are given up to the end.
+    /// A source over standard input. If std knows its bytes, and they are fewer than 2^64 - 1, all
+    /// of them are given up to the end.
     pub fn new(input: R) -> StdSource<R>
         ensures fresh { result ≡ record {
           left = u64.MAX;
@@ -107,8 +107,8 @@ pub struct StdSink<W: Write> {
 }
 
 impl<W: Write> StdSink<W> {
-    /// A sink over one of the two standard outputs. Where std knows the writer's bytes, it holds
-    /// what it held, and behind that all that the sink took.
+    /// A sink over one of the two standard outputs. If std knows the writer's bytes, the writer
+    /// holds what it held before, and after that all that the sink took.
     pub fn new(output: W) -> StdSink<W>
         ensures fresh { result ≡ record { failures = 0; known = W.contents output } }
         ensures whole { (held taken : _) (last : Written) → W.contents output ≡ Some held

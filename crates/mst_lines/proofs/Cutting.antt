@@ -25,7 +25,7 @@ joined bytes at k l is =
     (drop-cons bytes k 0 l ∙ ap (λ b. b ∷ drop (suc k) bytes)
     (eqb-true (get_or bytes k 0) at is) ∙ ap (λ i. at ∷ drop i bytes) n)
 
--- what stands behind the first newline of a part, counted from the end of the part
+-- what stands after the first newline of a part, counted from the end of the part
 pub behind : (items front others : List ℕ) (b at end : ℕ) → at ≤ end → end ≤ length items
     → take (end - at) (drop at items) ≡ front ++ b ∷ others →
     take (end - (end - length others)) (drop (end - length others) items) ≡ others

@@ -29,7 +29,7 @@ module _ {L : Type 0} (answers : L → Option (List ℕ) → List ℕ → L → 
   replies_more ls l a b c x y p q =
       replies_append ls (l ∷ []) a b c x y p (y, [], c, q, (refl, refl), sym (append-nil y))
 
--- what is kept is nothing exactly where the line is empty
+-- what is kept is nothing exactly if the line is empty
 some_kept : (b : ℕ) (bs : List ℕ) (t : Bool) → nat_lt 4096 (length (b ∷ bs)) ≡ t
     → kept (b ∷ bs) ≢ Some []
 some_kept b bs true is e = let x : None ≡ Some [] =
@@ -248,7 +248,7 @@ module _ {S W L : Type 0} (gives : S → List ℕ → S → Type 0)
 pub not_both : (b : Bool) → b ≡ true → b ≡ false → ⊥
 not_both b x y = let z : true ≡ false = sym x ∙ y in absurd cc
 
--- nothing stood behind the last line, and the sink took all that waited
+-- nothing stood after the last line, and the sink took all that waited
 pub nothing_closed : {W L : Type 0} (takes : W → List ℕ → W → Type 0)
     (answers : L → Option (List ℕ) → List ℕ → L → Type 0) (k : Option (List ℕ)) (s t : W)
     (p : List ℕ) (a : L) →

@@ -145,7 +145,7 @@ only_adds xs (y ∷ ys) =
           ∙ ap (λ (l : List (List ℕ)). l ++ p.0) o.1 ∙ append_assoc (complete xs) o.0 p.0,
     )
 
--- all lines where nothing stands behind the last newline, and where something does
+-- all lines where nothing stands after the last newline, and where something does
 pub lines_none : (input : List ℕ) → remainder input ≡ [] → lines_of input ≡ complete input
 lines_none input is = ap (λ (l : List ℕ). complete input ++ cond (length l == 0) [] (l ∷ [])) is
     ∙ append-nil (complete input)

@@ -1,4 +1,4 @@
--- How far a run has come at a point of it.
+-- How far a run is at a point of it.
 use Rattle.std.specs.Prelude.{◌≡◌, ◌≢◌, ℕ, List, [], ◌++◌, Option, Some}
 use Rattle.mst_devices.specs.Device.{Flow, Puts, Breaks}
 use Rattle.mst_lines.specs.Lines.{complete, remainder}

@@ -26,7 +26,7 @@ parts_of bytes = slice_split (λ b. b == 10) bytes
 unfoldable pub complete : List ℕ → List (List ℕ)
 complete bytes = all_but_last (parts_of bytes)
 
--- what stands behind the last newline
+-- what stands after the last newline
 unfoldable pub remainder : List ℕ → List ℕ
 remainder bytes = last_of (parts_of bytes)
 
@@ -39,7 +39,7 @@ lines_of bytes =
 abbrev pub kept : List ℕ → Option (List ℕ)
 kept line = if nat_lt 4096 (length line) then None else Some line
 
--- the same when more bytes come
+-- the same when more bytes follow
 abbrev pub kept_with : Option (List ℕ) → List ℕ → Option (List ℕ)
 kept_with None more = None
 kept_with (Some line) more = kept (line ++ more)

@@ -8,7 +8,7 @@ abbrev pub Answering : Type 0 → Type 1
 Answering L = L → Option (List ℕ) → List ℕ → L → Type 0
 
 -- From the one state to the other what answers gave one answer for each line, in their order, and
--- the text is the answers one behind another.
+-- the text is the answers one after another.
 abbrev pub Replies : {L : Type 0} → Answering L → L → List (List ℕ) → List ℕ → L → Type 0
 Replies answers a [] text b = (b ≡ a) × (text ≡ [])
 Replies answers a (line ∷ lines) text b = (first : List ℕ) × (rest : List ℕ) × (c : _)
@@ -25,7 +25,7 @@ pub record Ran {S W L : Type 0}
   pub taken : takes w text x
 
 -- A device failed: the sink took a beginning of the answers to some first lines of what was read,
--- and where it did not fail itself, all the answers to all complete lines.
+-- and if it did not fail itself, all the answers to all complete lines.
 pub record Stopped {S W L : Type 0}
     (gives : Flow S) (takes : Flow W) (failures : W → ℕ) (answers : Answering L)
     (s : S) (w : W) (a : L) (t : S) (x : W) (b : L) : Type 0 where

@@ -6,11 +6,11 @@
 //! while reader.next(&mut source, &mut sink, &mut pending, &mut line)? {
 //!     // answers line.bytes(), or a line that is too long, into pending
 //! }
-//! // then line has the rest behind the last newline
+//! // then line has the rest after the last newline
 //! ```
 //!
-//! What waits in `pending` is written before each read, so that whoever waits for an answer has it.
-//! Of a line of more than 4,096 bytes it is kept that it was long, and no more. `specs/Runs.antt`
+//! What waits in `pending` is written before each read, so that a user who waits for an answer has
+//! it. Of a line of more than 4,096 bytes nothing is kept but that it was long. `specs/Runs.antt`
 //! says what a run of answered lines is, whatever answers them.
 #![tactic(auto)]
 

@@ -15,7 +15,7 @@ pub struct LineBuffer {
     is_long: bool,
 }
 
-/// Contracts see the bytes, or none where they are too many.
+/// Contracts see the bytes, or none if they are too many.
 impl Model for LineBuffer {
     ghost use Rattle.std.specs.Prelude.{Option, Some, None, List, ℕ, if◌then◌else◌};
 
@@ -43,7 +43,7 @@ impl LineBuffer {
         self.is_long = false;
     }
 
-    /// More bytes of the line come.
+    /// Adds more bytes of the line.
     pub fn extend(&mut self, bytes: &[u8])
         ensures { self.new ≡ kept_with self.old bytes.now }
     {

@@ -53,8 +53,8 @@ impl<A: Allocator> Reader<A> {
         })
     }
 
-    // Whether a newline was left: what stands before it goes on with the line, and else all that is
-    // left.
+    // Whether a newline was left. What stands before it is added to the line, or all that is left
+    // if there is none.
     fn cut_line(&mut self, line: &mut LineBuffer) -> bool
         ensures cut { result ≡ true → (front : List ℕ) × IsWithout 10 front
             × (self.old ≡ front ++ 10 ∷ self.new) × (line.new ≡ kept_with line.old front) }
@@ -96,13 +96,13 @@ impl<A: Allocator> Reader<A> {
         Ok(count > 0)
     }
 
-    /// Whether there is one more line that ends in a newline; then the buffer keeps it, and else
-    /// the rest that the source ends in.
+    /// Returns whether there is one more line that ends in a newline. The buffer then keeps that
+    /// line, and otherwise the rest that the source ends in.
     ///
-    /// What waits before the sink is written before each read, so that nobody who reads the answers
-    /// before the next line has to wait for them: where a write failed, nothing was read, and where
-    /// something was read or a read failed, all was written. `Device` comes where a read or a write
-    /// failed.
+    /// What waits before the sink is written before each read, so that a user who reads the answers
+    /// before giving the next line does not have to wait for them. If a write failed, nothing was
+    /// read; if something was read or a read failed, all was written. Returns `Device` if a read or
+    /// a write failed.
     pub fn next<S: Source, W: Sink, B: Allocator>(
         &mut self,
         source: &mut S,

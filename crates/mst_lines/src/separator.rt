@@ -4,7 +4,7 @@ ghost use Rattle.mst_lines.specs.Lines.{IsWithout};
 
 use memchr::memchr;
 
-/// The bytes before the first stay of a byte, and those behind it.
+/// The bytes before the first stay of a byte, and those after it.
 pub fn cut(bytes: &[u8], at: u8) -> Option<(&[u8], &[u8])>
     ensures { MatchOption result (IsWithout at bytes.now) (λ r. IsWithout at r.0.now
         × (bytes.now ≡ r.0.now ++ at ∷ r.1.now)) }

@@ -73,7 +73,7 @@ made (suc n) p q none (r, before, last) = more (made n p r none before) last
           all = λ e. absurd (omega (arith, e, long, few));
         }
 
--- ---- what a truncated fact tells of numbers
+-- ---- what a truncated fact says of numbers
 
 le_stable : (a b : ℕ) → ((a ≤ b → ⊥) → ⊥) → a ≤ b
 le_stable a b h = dite (ℕ_discrete (a - b) 0) (λ (none : a - b ≡ 0). omega (arith, none))

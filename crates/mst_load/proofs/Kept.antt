@@ -120,7 +120,7 @@ log_keeps ps free held q each s = keeps_each s.log (λ k d below.
     (subst KeepsFormat (sym (settled_own ps free held s there.0 q there.1))
     (each there.0 q there.1)))
 
--- so the root digest that it tells is in that format
+-- so the root digest that it returns is in that format
 pub format_kept : (q : Known) → q.store.format ≡ One → KeepsFormat q.seen → format_seen q ≡ One
 format_kept q first keeps = format_after_none q.store.format q.seen keeps ∙ first
 
@@ -215,7 +215,7 @@ settled_back ps free held n s long =
     let least : length free ≤ n = omega (arith, same, long) in
     sym (take-append-le n free (drop (length free) ps) most ∙ take_all n free least)
 
--- what a report tells of them
+-- what a report says of them
 pub told_settled : (ps free held others : List Known) (p : Known) (events : ℕ) (digest : List ℕ)
     → (s : Settled ps [] free held) → others ++ p ∷ [] ≡ free →
     All (λ x. x.store.format ≡ One) ps → All (λ x. KeepsFormat x.mine) ps → events ≡ length p.seen

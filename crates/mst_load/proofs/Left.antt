@@ -119,7 +119,7 @@ put_round w n (suc p) low =
     put-left front here k v (pair_above w n p (suc n % 32) below)
     ∙ (λ i. put_round w n p below i ++ pair_left w (sym (last_before p n other) i)))
 
--- all calls of a writer behind pairs whose keys are below all of its own
+-- all calls of a writer after pairs whose keys are below all of its own
 writer_left : (front : List Pair) (w n : ℕ) → ((c : ℕ) → AllBelow front (w ∷ c ∷ []))
     → after_from front (calls_of w n) ≡ front ++ round_left w n 32
 writer_left front w zero below = sym (append-nil front) ∙ ap (λ (m : List Pair). front ++ m)

@@ -3,7 +3,7 @@ use Rattle.std.specs.Prelude.{ℕ, List, [], ◌∷◌, ◌++◌, codes, decimal
 use Rattle.hex.specs.Hex.{encode_lower}
 use Rattle.mst_load.specs.declared.engine.Report.{Report}
 
--- a line: its name, what it tells, and the newline
+-- a line: its name, what it says, and the newline
 abbrev pub line_of : List ℕ → List ℕ → List ℕ
 line_of name words = name ++ words ++ 10 ∷ []
 

@@ -1,4 +1,4 @@
--- What a load tells of the history that its workers made.
+-- What a load says of the history that its workers made.
 use Rattle.std.specs.Prelude.{◌≡◌, ℕ, ◌+◌, ◌<◌, List, length, get_or, All}
 use Rattle.mst_key.specs.History.{History, after, events_of, IsPrefix}
 use Rattle.mst_key.specs.declared.format.Format.TheVariants.{One}

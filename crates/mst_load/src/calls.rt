@@ -29,7 +29,7 @@ pub(crate) fn value(call: u32) -> Value
     value
 }
 
-// The last of so many calls that has this place in the round, where there is one.
+// The last of so many calls that has this place in the round, if there is one.
 #[tactic(auto, using(crate::proofs::Left::last_some, crate::proofs::Left::last_none))]
 fn last_call(place: u32, calls: u32) -> Option<u32>
     requires { place < 32 }
@@ -44,7 +44,7 @@ fn last_call(place: u32, calls: u32) -> Option<u32>
     }
 }
 
-// Appends the pair that a call of the writer leaves, where there is one.
+// Appends the pair that a call of the writer leaves, if there is one.
 fn append_pair<A: Allocator>(
     pairs: &mut Vec<(Key, Value), A>,
     writer: u32,

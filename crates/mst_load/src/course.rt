@@ -37,8 +37,8 @@ pub(crate) struct Newcomer<'a, C: Course> {
     pub ghost own: { IsNewOf C.store pass },
 }
 
-/// What comes back from a worker's thread: its pass, which has made all calls of the worker, and
-/// how often a version that it read was below an earlier one.
+/// What a worker's thread returns: its pass, which has made all calls of the worker, and how often
+/// a version that it read was below an earlier one.
 #[derive(Drop)]
 pub(crate) struct Worker<'a, C: Course> {
     pub(crate) pass: Pass<'a, Global>,

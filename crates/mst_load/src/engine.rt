@@ -38,7 +38,7 @@ pub struct Report {
     pub built: [u8; 32],
 }
 
-/// Why a load did not come to its end. All threads that were started had returned.
+/// Why a load did not finish. All threads that were started had returned.
 #[derive(Clone, Copy, Debug, PartialEq, Eq, Error)]
 pub enum LoadFault {
     /// A growth was refused.
@@ -124,13 +124,13 @@ fn opened<A: Allocator + Copy>(alloc: A, shape: Shape) -> Result<(Store<A>, Seat
 /// Call `c` of writer `w` puts the value `c` at the key of `w` and `c` by 32, and waits for its
 /// turn. None is refused: at most 256 keys take at most 512 rows in each version, and the store has
 /// 32,768 for the versions that at most 32 passes keep. So there are as many events as calls of
-/// writers, and the map is the one that they leave. A reader asks for the version and for a value
-/// in turns. Each worker asks the gate before each call and tells it after.
+/// writers, and the map is the one that they leave. A reader reads the version and a value in
+/// turns. Each worker asks the gate before each call and tells it after.
 ///
 /// There are at most 24 readers, 1 to 8 writers, and 1 to 100,000 calls of each worker. The store,
 /// which the threads share, lies in the runtime's memory, the lists of passes and threads in
-/// `alloc`. It returns when all threads have returned, also with a fault: `Memory` where a growth
-/// was refused, `Thread` where a thread could not be started.
+/// `alloc`. It returns when all threads have returned, also with a fault: `Memory` if a growth was
+/// refused, `Thread` if a thread could not be started.
 #[tactic(auto, using(crate::proofs::Returning::of_load, crate::proofs::Kept::settled_count))]
 pub fn load<R: Threads + Wait + AllocGlobal + Sync, A: Allocator + Copy, G: Gate + Sync>(
     rt: &R,

@@ -46,7 +46,7 @@ fn extend_digest(lines: &mut Lines, name: &[u8], digest: &[u8; 32])
 }
 
 impl Report {
-    /// The lines that tell it: `events`, `falls`, `root` and `built`, each with its number or its
+    /// The lines of the report: `events`, `falls`, `root` and `built`, each with its number or its
     /// digest in lower case.
     #[tactic(auto, unfolding(crate::specs::Lines::lines_of))]
     pub fn lines(&self) -> Lines

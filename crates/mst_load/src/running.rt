@@ -71,7 +71,7 @@ fn start_all<'s, 'a: 's, E, R: Wait + Sync, A: Allocator, G: Gate + Sync, C: Cou
 }
 
 // Joins the threads of all workers: their passes, and how often a version was below an earlier one.
-// The passes come back in the order of their numbers, since the threads were started so and each
+// The passes are returned in the order of their numbers, since the threads were started so and each
 // gives back its own.
 fn join_all<'a, R: Threads, A: Allocator, C: Course>(
     rt: &R,
@@ -104,8 +104,8 @@ fn join_all<'a, R: Threads, A: Allocator, C: Course>(
     Ok((passes, falls))
 }
 
-/// Runs a thread for each pass of the store, and returns when all have returned, also where one
-/// could not be started or a growth was refused.
+/// Runs a thread for each pass of the store, and returns when all have returned, also if one could
+/// not be started or a growth was refused.
 pub(crate) fn run_all<'a, R, A, G, C>(
     rt: &R,
     alloc: A,

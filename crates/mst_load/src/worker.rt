@@ -50,7 +50,7 @@ fn fetch(pass: &mut Pass<'_, Global>)
     let _ = pass.get(&key(1, 1));
 }
 
-// Makes a call of a reader: `version` and `get` in turns. It answers the newest version that was
+// Makes a call of a reader: `version` and `get` in turns. It returns the newest version that was
 // read.
 fn ask(pass: &mut Pass<'_, Global>, call: u32, newest: u64) -> u64
     requires newest { newest ≤ length pass.old.seen }
@@ -66,7 +66,7 @@ fn ask(pass: &mut Pass<'_, Global>, call: u32, newest: u64) -> u64
     }
 }
 
-// Makes the calls of a reader. It answers how often a version was below an earlier one.
+// Makes the calls of a reader. It returns how often a version was below an earlier one.
 #[tactic(auto, using(crate::proofs::Working::not_read, crate::proofs::Working::read_more))]
 fn read<G: Gate>(gate: &G, pass: &mut Pass<'_, Global>, calls: u32) -> u64
     ensures read { HasRead calls pass.old pass.new }
@@ -87,7 +87,7 @@ fn read<G: Gate>(gate: &G, pass: &mut Pass<'_, Global>, calls: u32) -> u64
     falls
 }
 
-// Makes all calls of the worker that has this pass. It answers how often a version was below an
+// Makes all calls of the worker that has this pass. It returns how often a version was below an
 // earlier one.
 fn make_calls<R: Wait, G: Gate>(rt: &R, gate: &G, pass: &mut Pass<'_, Global>, plan: Plan) -> u64
     requires few { plan.writers ≤ 8 }

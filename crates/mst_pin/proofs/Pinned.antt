@@ -55,7 +55,7 @@ pins_run p r rows (e ∷ events) (a ∷ answers) s t is kept ran =
     (λ n. subst (Pins p r rows) (sym n.2) is) ran.1)
     kept.1 ran.2
 
--- the state behind a pin
+-- the state after a pin
 pub pin_begins : (p r : ℕ) (s t : State) → Steps s (Pin p) (Record r) t → (r ≡ s.current)
     × Pins p r (s.rows r) t
 pin_begins p r s t (inl y) =

@@ -74,7 +74,7 @@ module _ (w : Words) (settled : w.returned ≡ None) where
   counted_spare r not = counted_else w r not ∙ ap (λ (z : Option Returned). returned_mask z r)
       settled
 
-  -- DONE alone tells who pins a record that is not current
+  -- DONE alone says who pins a record that is not current
   pub done_tells : (r : ℕ) → r ≢ record_of w.current → pinned_mask w r ≡ get_or w.done r 0
   done_tells r not = ap (λ (z : ℕ). bit_xor z (get_or w.done r 0)) (counted_spare r not)
       ∙ xor_zero_l (get_or w.done r 0)

@@ -12,7 +12,7 @@ abbrev pub WritesAreBlank : Type 0
 WritesAreBlank = (passes : ℕ) (events : List Event) (answers : List Answer) (s t : State) (row : ℕ)
     → Runs (opening passes) events answers s → Steps s (Write row) Done t → IsBlank s row
 
--- where nothing is due, some record can be published, whatever is pinned: with any rows that are
+-- if nothing is due, some record can be published, whatever is pinned: with any rows that are
 -- usable
 abbrev pub SomeRecordIsFree : Type 0
 SomeRecordIsFree = (passes : ℕ) (events : List Event) (answers : List Answer) (s : State)
@@ -35,8 +35,8 @@ abbrev pub WhilePinned : (ℕ → State → State → Type 0) → Type 0
 WhilePinned Holds = (p r : ℕ) (events : List Event) (answers : List Answer) (s t : State)
     → s.pins p ≡ Some r → KeepsPin p events → Runs s events answers t → Holds r s t
 
--- among the events is a pin of the pass that was answered with the record, and behind it no unpin
--- of the pass
+-- among the events is a pin of the pass that was answered with the record, and after it no unpin of
+-- the pass
 abbrev pub HasPinOf : ℕ → ℕ → List Event → List Answer → Type 0
 HasPinOf p r [] answers = ⊥
 HasPinOf p r (e ∷ events) [] = ⊥

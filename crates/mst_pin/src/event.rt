@@ -1,4 +1,4 @@
-//! What the core is told, and what it answers.
+//! The events that the core takes, and its answers.
 
 use std::alloc::AllocError;
 use thiserror::Error;
@@ -32,7 +32,7 @@ pub enum Answer {
     Yes,
     /// Some pass pins the record.
     No,
-    /// The event may not come here, and changed nothing.
+    /// The event is not allowed here, and changed nothing.
     Refused,
 }
 

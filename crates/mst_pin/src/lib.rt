@@ -16,10 +16,10 @@
 //!
 //! One writer publishes versions, each in a version record of its own. Any pass may pin the current
 //! record, and then reads its rows for as long as it likes. So a row may be written, and a record
-//! published over, only where no current and no pinned record has it. A pass pins by one xor into
-//! the word CURRENT, which tells it the record in the same step, and unpins by one xor into the
-//! record's word DONE. The publish swaps CURRENT, and the mask of pins that came back is then
-//! transferred into the old record's DONE.
+//! published over, only if no current and no pinned record has it. A pass pins by one xor into the
+//! word CURRENT, which returns the record in the same step, and unpins by one xor into the record's
+//! word DONE. The publish swaps CURRENT, and the mask of pins that it returns is then transferred
+//! into the old record's DONE.
 //!
 //! [`Core`] keeps those words as the shared store does, and takes events one at a time. What it
 //! says of them, [`pinned_rows_stay`] and [`writes_are_blank`] above all, is said of every order of
@@ -85,7 +85,7 @@ impl Core {
         })
     }
 
-    /// Takes one event and answers it, or refuses it.
+    /// Takes one event and returns the answer to it, or refuses it.
     pub fn step(&mut self, event: Event) -> Answer
         ensures step { Steps (state self.old) event result (state self.new) }
         ensures unchanged { result ≡ Answer.Refused → self.new ≡ self.old }
@@ -104,7 +104,7 @@ impl Core {
     }
 
     /// Takes events in order, and gives the answer to each. The memory for the answers is taken
-    /// before the first event, so after `Memory` the core is as before.
+    /// before the first event, so if it returns `Memory`, the core is as before.
     pub fn run<A: Allocator>(
         &mut self,
         alloc: A,

@@ -9,7 +9,7 @@ impl Core {
     ghost use Rattle.mst_pin.specs.State.{IsTaken, Answers, after};
     ghost use Rattle.mst_pin.specs.Core.{state};
 
-    /// A pin is one xor into CURRENT, whose answer tells the record that is pinned.
+    /// A pin is one xor into CURRENT, which returns the record that is pinned.
     pub(crate) fn pin(&mut self, pass: u8) -> Answer
         requires { IsTaken (state self.old) (Event.Pin pass) }
         ensures answer { Answers (state self.old) (Event.Pin pass) result }

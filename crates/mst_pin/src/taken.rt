@@ -8,7 +8,7 @@ impl Core {
     ghost use Rattle.mst_pin.specs.State.{IsPass, IsRecord, IsRow, IsDrained, IsPinned, IsBlank, AreUsable, IsTaken, IsHeld, row_set};
     ghost use Rattle.mst_pin.specs.Core.{state};
 
-    /// Whether the event may come here. What may not is refused.
+    /// Whether the event is allowed here. One that is not is refused.
     pub(crate) fn is_taken(&self, event: Event) -> bool
         ensures { IsTrue result ↔ IsTaken (state self.now) event }
     {
@@ -64,7 +64,7 @@ impl Core {
         number < self.passes as usize + 2 && number != self.words.record()
     }
 
-    /// Whether nobody pins a record that is not current. Once nothing is due, DONE alone tells.
+    /// Whether no pass pins a record that is not current. Once nothing is due, DONE alone says so.
     pub(crate) fn is_drained(&self, number: u8) -> bool
         requires settled { IsNone (state self.now).due }
         requires record_in { IsRecord (state self.now) number }

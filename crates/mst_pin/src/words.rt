@@ -81,7 +81,7 @@ impl Words {
         mask ^ self.done[number]
     }
 
-    /// One xor into CURRENT: answers the word from before.
+    /// One xor into CURRENT: returns the word from before.
     pub fn xor_current(&mut self, bits: u64) -> u64
         ensures before { result ≡ self.old.current }
         ensures after { self.new ≡ record self.old { current = bit_xor self.old.current bits } }
@@ -91,7 +91,7 @@ impl Words {
         before
     }
 
-    /// One swap of CURRENT: answers the word from before.
+    /// One swap of CURRENT: returns the word from before.
     pub fn swap_current(&mut self, word: u64) -> u64
         ensures before { result ≡ self.old.current }
         ensures after { self.new ≡ record self.old { current = word } }

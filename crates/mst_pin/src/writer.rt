@@ -11,7 +11,7 @@ impl Core {
     ghost use Rattle.mst_pin.specs.Core.{state};
 
     /// A publish is one swap of CURRENT: the new record begins with an empty mask, and the old
-    /// one's mask comes back.
+    /// one's mask is returned.
     pub(crate) fn publish(&mut self, into: u8, rows: u64) -> Answer
         requires { IsTaken (state self.old) (Event.Publish into rows) }
         ensures answer { Answers (state self.old) (Event.Publish into rows) result }

@@ -18,7 +18,7 @@ pub performed : {S W : Type 0} (gives : S → List ℕ → S → Type 0) (left :
 performed gives left takes words task (Ok ending) s t w x asked did = (task, asked, did)
 performed gives left takes words task (Err why) s t w x asked did = tt
 
--- the status tells the ending
+-- the status says the ending
 pub at_done : (P : Ending → Type 0) → P Done → (ending : Ending) → 0 ≡ status_at ending → P ending
 at_done P p Done is = p
 at_done P p ProofRefused is = absurd (omega (arith, is))

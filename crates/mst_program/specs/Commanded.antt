@@ -1,4 +1,4 @@
--- What the program comes to: its exit status, and what its devices gave and took.
+-- How the program ends: its exit status, and what its devices gave and took.
 use Rattle.std.specs.Prelude.{◌≡◌, ◌<◌, ◌+◌, ◌⊎◌, ◌↔◌, ℕ, List, [], map, None, string_bytes}
 use Rattle.std.specs.declared.string.String.{String}
 use Rattle.std.specs.declared.alloc.Global.{Global}
@@ -35,7 +35,7 @@ pub record Commanded {S O E : Type 0}
   pub refused : status ≡ 2 → (t ≡ s) × (x ≡ w)
   pub memory : status ≡ 4 → x ≡ w
   pub memory_unread : status ≡ 4 → asks_verify words ≡ None → t ≡ s
-  -- 3: exactly where a device failed
+  -- 3: exactly if a device failed
   pub device : (status ≡ 3)
       ↔ (reads s + writes w + losses e < reads t + writes x + losses f)
   pub stopped : status ≡ 3

@@ -11,12 +11,12 @@
 //!
 //! [`run_program`] is the whole program as a call, which `mst` makes over the words and the streams
 //! of the process; [`command`] is the same over words that are read, which tests make over bytes.
-//! The exit statuses are 0 to 4. [`Watch`] chooses who is told how far a load is, and [`Progress`]
-//! writes how many of its calls are answered.
+//! The exit statuses are 0 to 4. [`Watch`] says whether a user is told how far a load is, and
+//! [`Progress`] writes how many of its calls have returned.
 //!
-//! What clap writes of wrong words, and in a help text, no contract says. Words of a plain form are
-//! read without clap, and of those everything is said; `--version` or `-V` alone is told without
-//! it.
+//! No contract says what clap writes of wrong words and in a help text. Words of a plain form are
+//! read without clap, and contracts say everything of those; `--version` or `-V` alone is answered
+//! without it too.
 #![tactic(auto)]
 
 mod program;

@@ -66,7 +66,7 @@ fn perform<R: Threads + Wait + AllocGlobal + Sync, G: Gate + Sync, S: Source, W:
     }
 }
 
-/// Does what the words ask for, the first of which is the program's name, and answers the exit
+/// Does what the words ask for, the first of which is the program's name, and returns the exit
 /// status: 0 done, 1 a proof refused, 2 words refused, 3 a read or a write failed, 4 a growth was
 /// refused or a thread could not be started. With 2, 3 and 4 it says so on standard error, with 2
 /// by clap's own text, `shape`, `bad root` or `bad key`.

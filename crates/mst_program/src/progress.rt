@@ -1,4 +1,4 @@
-//! How far a load is, told line by line while its threads make their calls.
+//! How far a load is, written line by line while its threads make their calls.
 ghost use Rattle.std.specs.Prelude.{◌≡◌, ◌≢◌, ◌↔◌, ◌⊎◌, ◌%◌, true, false};
 ghost use Rattle.mst_command.specs.Loading.{asks_load};
 ghost use Rattle.mst_program.specs.declared.progress.Watch.TheVariants.{Silent};
@@ -7,17 +7,17 @@ use mst_load::Gate;
 use std::sync::atomic::AtomicU64;
 use std::sync::atomic::Ordering::SeqCst;
 
-/// How many calls are answered from a line to the next.
+/// How many calls return from one line to the next.
 const BETWEEN: u64 = 10_000;
 
-// Whether a line is written at this count of answered calls.
+// Whether a line is written at this count of calls that returned.
 fn is_shown(count: u64) -> bool
     ensures { (result ≡ true) ↔ (count % 10000 ≡ 0) }
 {
     count % BETWEEN == 0
 }
 
-/// The gate that holds nobody, and writes each 10,000th time how many calls are answered.
+/// The gate that holds no worker, and writes each 10,000th time how many calls have returned.
 ///
 /// The workers write themselves, each a line by one write, so that two lines may change places. A
 /// line that cannot be written is left out.
@@ -29,7 +29,7 @@ pub struct Progress<E: Eprint> {
 }
 
 impl<E: Eprint> Progress<E> {
-    /// A gate that nobody has come to.
+    /// A gate that no worker has called.
     pub fn new(errors: E) -> Progress<E> {
         Progress {
             errors,
@@ -69,7 +69,7 @@ pub enum Watch<E: Eprint> {
 }
 
 impl<E: Eprint + Drop> Watch<E> {
-    /// Somebody is told where the words ask for a load and its errors go to a terminal, and else
+    /// A user is told if the words ask for a load and its errors go to a terminal, and otherwise
     /// nobody.
     pub fn of(words: &[&str], is_terminal: bool, errors: E) -> Watch<E>
         ensures silent { (is_terminal ≡ false) ⊎ (asks_load words.now ≡ false) → result ≡ Silent }

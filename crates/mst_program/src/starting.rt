@@ -85,10 +85,10 @@ where
     command(rt, alloc, &words, &watch, source, out, err)
 }
 
-/// The whole program: it does what the words ask for that the system gave it, and answers the exit
-/// status, as [`command`] does. A load tells how far it is on `errors`, where that is a terminal.
+/// The whole program: it does what the words ask for that it got from the system, and returns the
+/// exit status, as [`command`] does. A load says on `errors` how far it is, if that is a terminal.
 ///
-/// Where memory for the words is refused, or one of them is not UTF-8, it says so on `err` and does
+/// If memory for the words is refused, or one of them is not UTF-8, it says so on `err` and does
 /// nothing else.
 pub fn run_program<R, P, S: Source, O: Sink, E: Sink>(
     rt: &R,

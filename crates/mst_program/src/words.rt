@@ -10,7 +10,7 @@ use mst_command::{Load, Refusal, Size, Task, ask_text, ask_version_alone, named_
 use mst_store::Memory;
 use std::alloc::{AllocError, Global};
 
-/// What the help says behind the commands and the options.
+/// What the help says after the commands and the options.
 const AFTER_HELP: &str = "Examples:
   mst run --rows 64 --passes 2 < script
   mst run --format 2 < script
@@ -28,7 +28,7 @@ Exit statuses:
 /// The number of the program's version.
 const VERSION: &str = "0.2.0";
 
-/// What tells the version where nothing else is asked.
+/// The text of the version, if nothing else is asked.
 const VERSION_TEXT: &str = "mst 0.2.0\n";
 
 // An option that is a number and has to be given.
@@ -53,8 +53,8 @@ fn usual_number<'a>(alloc: Global, name: &'a str, help: &'a str, usual: &'a str)
         .default_value(usual)
 }
 
-// The option that names a format. What else it is given than 1 and 2 is refused by the task that
-// its words ask for, and not by clap.
+// The option that names a format. Values other than 1 and 2 are refused by the task that the words
+// ask for, and not by clap.
 fn format_option<'a>(alloc: Global, help: &'a str) -> Arg<'a> {
     Arg::new(alloc, "format")
         .long("format")
@@ -134,8 +134,8 @@ fn program<'a>(alloc: Global) -> Result<Command<'a>, AllocError> {
     program.subcommand(load_command(alloc)?)
 }
 
-// The number that an option gives. Each option has a default or has to be given, so there is one
-// where its command is.
+// The number that an option gives. Each option has a default or has to be given, so there is one if
+// its command is there.
 fn number(matches: &ArgMatches<'_>, option: &str) -> u32 {
     matches.get_one::<u32>(option).unwrap_or_default()
 }
@@ -160,7 +160,7 @@ fn load_in(matches: &ArgMatches<'_>) -> Load {
 }
 
 // The task that clap finds in words of no plain form, with the program's name. The program has no
-// option of its own that takes a word, so that clap takes the first word behind its name for the
+// option of its own that takes a word, so that clap takes the first word after its name for the
 // command.
 fn task_in<'a>(alloc: Global, words: &[&'a str]) -> Result<Task<'a>, Error>
     requires { ¬ (IsPlain words.now) }
@@ -180,8 +180,8 @@ fn refusal_in(error: &Error) -> Option<Memory>
     }
 }
 
-// What clap answers words that name no task: help and the version that were asked for are one, and
-// all else is a refusal.
+// What clap returns for words that name no task: if they ask for help or the version, that is the
+// task, and all else is a refusal.
 fn answer_words<'a>(alloc: Global, words: &[&'a str], error: &Error) -> Result<Task<'a>, Refusal>
     requires plain { ¬ (IsPlain words.now) }
     requires version { asks_version_alone words.now ≡ false }
@@ -201,7 +201,7 @@ fn answer_words<'a>(alloc: Global, words: &[&'a str], error: &Error) -> Result<T
     Ok(Task::Help(text))
 }
 
-// The text that tells the version, which takes no clap.
+// The text of the version, which is made without clap.
 fn version_told(alloc: Global) -> Result<String, AllocError>
     ensures { IfOk result (λ text. string_bytes text ≡ version_text) }
 {
@@ -236,7 +236,7 @@ fn other_task<'a>(alloc: Global, words: &[&'a str]) -> Result<Task<'a>, Refusal>
     }
 }
 
-/// What all words ask for, with the program's name, or clap's own text where they are refused.
+/// Returns what all words ask for, with the program's name, or clap's own text if they are refused.
 /// Words of a plain form are never refused here, and take no memory.
 pub fn task_of<'a>(alloc: Global, words: &[&'a str]) -> Result<Task<'a>, Refusal>
     ensures asked { IfOk result (λ task. AsksFor words.now task) }

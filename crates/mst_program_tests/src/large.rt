@@ -29,7 +29,7 @@ fn value_of(number: &[u8; 2]) -> [u8; 64] {
 }
 
 // The text of the node of all keys: the format, the layer, how many entries there are, each entry
-// with no child before it, and no child behind them.
+// with no child before it, and no child after them.
 fn node_text(alloc: Global, numbers: &[[u8; 2]]) -> Result<Vec<u8>, Fail> {
     let mut text = Vec::new(alloc);
     text.extend_from_slice(&[1, 0])?;

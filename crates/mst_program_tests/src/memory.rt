@@ -58,8 +58,8 @@ impl Asked {
     }
 }
 
-/// What a task over this input comes to in a heap of so many bytes, and how many of them are then
-/// still taken.
+/// How a task over this input ends in a heap of so many bytes, and how many of them are then still
+/// taken.
 fn outcome_in<R: Threads + Wait + AllocGlobal + Sync>(
     rt: &R,
     size: usize,
@@ -71,8 +71,8 @@ fn outcome_in<R: Threads + Wait + AllocGlobal + Sync>(
     Ok((outcome, heap.used()))
 }
 
-/// Whether a heap of so many bytes serves, and not only refuses memory, which is told and changes
-/// nothing. None where it comes to anything else, or something of it is still taken.
+/// Whether a heap of so many bytes serves. If it does not, the program says that memory was refused
+/// and does nothing. None if the task ends otherwise, or something of the heap is still taken.
 fn serves<R: Threads + Wait + AllocGlobal + Sync>(
     rt: &R,
     size: usize,

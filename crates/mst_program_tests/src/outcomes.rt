@@ -1,4 +1,4 @@
-//! What a task of the program comes to over memory.
+//! How a task of the program ends over memory.
 use mst_command::{DONE, Ending, PROOF_REFUSED, Task, complain, execute};
 use mst_devices::{BytesSink, BytesSource};
 use mst_load::Open;

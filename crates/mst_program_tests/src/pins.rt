@@ -7,7 +7,7 @@ use std::alloc::Global;
 use std::process::Abort;
 use std::test::Fail;
 
-/// What an event is answered. It has no contract, so that what calls it is proved from few facts.
+/// The answer to an event. It has no contract, so that what calls it is proved from few facts.
 fn answer_to(core: &mut Core, event: Event) -> Answer {
     core.step(event)
 }

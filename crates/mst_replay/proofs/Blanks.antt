@@ -1,4 +1,4 @@
--- Fields parted by the first blank.
+-- Fields separated by the first blank.
 use Rattle.std.proofs.Common.{◌≡◌, ◌≢◌, ℕ, zero, suc, ◌+◌, ◌%◌, ◌<◌, ◌≤◌, ◌^◌, List, [], ◌∷◌, ◌++◌, length, get_or, take, drop, sym, refl, ap, ◌∙◌, arith, add-one, length-append, append_assoc, ◌-◌, take_all}
 use Rattle.std.proofs.Math.Seq.{take-nil}
 use Rattle.std.specs.Prelude.{codes}
@@ -19,7 +19,7 @@ pub decimal_no_blank : (n : ℕ) → n < 2 ^ 64 → HasNoBlank (decimal n)
 decimal_no_blank n l = decimal_by_steps (λ m ds. HasNoBlank ds) (λ m small. (λ e. omega arith, tt))
     (λ m ds big h. no_blank_push ds (48 + m % 10) h (λ e. omega arith)) n l
 
--- the blank that is found first stands behind the front
+-- the blank that is found first stands after the front
 pub first_at : (front rest : List ℕ) (b : ℕ) → HasNoBlank front
     → ((k : ℕ) → k < b → get_or (front ++ 32 ∷ rest) k 0 ≢ 32) → get_or (front ++ 32 ∷ rest) b 0
     ≡ 32 → b ≡ length front

@@ -16,7 +16,7 @@ use Rattle.mst_replay.specs.Line.{listed, rows_text}
 use Rattle.mst_replay.specs.Rest.{rest_text, IsRest}
 use Rattle.mst_replay.proofs.Numbers.{tail_same, cancel}
 
--- the text of the rows of s among the n from a on, each behind a comma
+-- the text of the rows of s among the n from a on, each after a comma
 abbrev pub part : ℕ → ℕ → ℕ → List ℕ
 part a n s = listed (filter (row_set s) (range_with_len a n))
 
@@ -74,7 +74,7 @@ begins a (suc n) s =
     )) (begins (a + 1) n s))
     (bool_cases (row_set s a))
 
--- ---- a numeral before a comma or the end tells its number
+-- ---- a numeral before a comma or the end says its number
 
 one_digit : (n : ℕ) → n < 10 → decimal n ≡ (48 + n) ∷ []
 one_digit n l = decimal_digit n l

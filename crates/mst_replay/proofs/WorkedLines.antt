@@ -145,7 +145,7 @@ module _ (line : List ℕ) where
 
 -- ---- numbers
 
--- the number that a line spells behind its word
+-- the number that a line spells after its word
 pub value : (word digits : List ℕ) (n : ℕ) → n < 256 → word ++ digits ≡ word ++ decimal n
     → digits_value 10 digits ≡ n
 value word digits n l e = ap (digits_value 10) (cancel word digits (decimal n) e)
@@ -153,7 +153,7 @@ value word digits n l e = ap (digits_value 10) (cancel word digits (decimal n) e
 
 -- ---- rows
 
--- behind the first row of the text stand later rows
+-- after the first row of the text stand later rows
 rows_behind : (a n s j : ℕ) (after : List ℕ) → a + n ≤ 64 → j < 64 → IsRest after
     → 44 ∷ (decimal j ++ after) ≡ part a n s → (m : ℕ) × (j + 1 + m ≤ 64)
     × (after ≡ part (j + 1) m s)
@@ -174,7 +174,7 @@ rows_behind a (suc n) s j after within small is e = ⊎_elim
     (e ∙ part_skips a n s not))
     (bool_cases (row_set s a))
 
--- row 0 does not come behind row 3
+-- row 0 does not come after row 3
 falling : (rows : ℕ) → rows < 2 ^ 64 → codes "3,0" ≡ rows_text rows → ⊥
 falling rows small e = dite (ℕ_discrete rows 0)
     (λ none. let f : 51 ≡ 45 = ap (λ (l : List ℕ). get_or l 0 0) (e ∙ text_of_zero rows none) in

@@ -10,11 +10,11 @@ use Rattle.mst_replay.specs.declared.command.Command.TheVariants.{Open, Take}
 abbrev pub members : ℕ → List ℕ
 members rows = filter (row_set rows) (range_with_len 0 64)
 
--- each row behind a comma
+-- each row after a comma
 abbrev pub listed : List ℕ → List ℕ
 listed xs = flat_map (λ x. 44 ∷ decimal x) xs
 
--- `-` for none, else the rows in ascending order, parted by commas
+-- `-` for none, otherwise the rows in ascending order, separated by commas
 abbrev pub rows_text : ℕ → List ℕ
 rows_text rows = if rows == 0 then codes "-" else drop 1 (listed (members rows))
 

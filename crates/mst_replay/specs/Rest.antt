@@ -1,4 +1,4 @@
--- What is left of a list of rows behind a number: nothing, or a comma and the rest.
+-- What is left of a list of rows after a number: nothing, or a comma and the rest.
 use Rattle.std.specs.Prelude.{◌≡◌, ℕ, List, [], ◌∷◌, Option, Some, None}
 use denote.Ref.{Bor}
 

@@ -68,7 +68,7 @@ fn publish(line: &[u8]) -> Option<(u8, u64)>
     Some((into, rows))
 }
 
-/// The index of the first blank, or the length where there is none.
+/// The index of the first blank, or the length if there is none.
 fn first_blank(bytes: &[u8]) -> usize
     ensures within { result ≤ length bytes.now }
     ensures before { (k : ℕ) → k < result → slice_index bytes.now k ≢ 32 }

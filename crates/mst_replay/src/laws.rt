@@ -11,7 +11,8 @@ ghost use Rattle.mst_replay.specs.Line.{IsSpelt};
 ghost use Rattle.mst_replay.specs.Replay.{Replays};
 
 /// A line that is no command's text, and before the first core each line that does not ask for a
-/// core, is answered `fault line` and changes nothing. Once there is a core a fault comes only so.
+/// core, is answered `fault line` and changes nothing. Once there is a core, no other line is a
+/// fault.
 pub fn fault_lines()
     ensures other { (s t : Option State) (line : List ℕ) (reply : Reply)
         → ((command : Command) → ¬ (IsSpelt command line)) → Replays s line reply t
@@ -25,7 +26,7 @@ pub fn fault_lines()
 
 /// Lines that were worked by hand, with all that each is answered.
 pub fn worked_lines()
-    // no word, another word, a blank too many before or behind
+    // no word, another word, a blank too many before or after
     ensures empty { IsFault [] }
     ensures word { IsFault (codes "pins 1") }
     ensures blank { IsFault (codes "pin  1") }

@@ -13,7 +13,7 @@
 //! ```
 //!
 //! `specs/Line.antt` has the one text of each command, `specs/Replay.antt` what a line does to the
-//! core. So what a core of `mst_pin` answers may be held against that of another program.
+//! core. So the answers of a core of `mst_pin` can be compared with those of another program.
 //!
 //! Lines are cut, and answers spelt, by `mst_command`.
 #![tactic(auto)]

@@ -1,5 +1,5 @@
-//! A set of rows as a line has it: `-`, or numbers of rows in strictly ascending order, parted by
-//! commas.
+//! A set of rows as a line has it: `-`, or numbers of rows in strictly ascending order, separated
+//! by commas.
 
 ghost use Rattle.std.specs.Prelude.{◌≡◌, ◌≢◌, ◌∷◌, ◌++◌, ◌^◌, ◌<◌, ℕ, List, Some, IfSome, IfNone, decimal};
 ghost use Rattle.mst_replay.specs.Line.{rows_text};

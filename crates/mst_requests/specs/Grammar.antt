@@ -18,14 +18,14 @@ use Rattle.mst_key.specs.declared.format.Format.TheVariants.{One, Two}
 abbrev pub fields_of : List ℕ → List (List ℕ)
 fields_of line = slice_split (λ b. b == 32) line
 
--- the fields of what stands behind a blank, if one does
+-- the fields of what stands after a blank, if one does
 abbrev pub fields_behind : Option (Bor (List ℕ)) → List (List ℕ)
 fields_behind None = []
 fields_behind (Some rest) = fields_of rest.now
 
 -- ---- what a field spells
 
--- the number that digits spell behind those of another number
+-- the number that digits spell after those of another number
 abbrev pub spelt : ℕ → List ℕ → ℕ
 spelt n [] = n
 spelt n (d ∷ ds) = spelt (n * 10 + (d - 48)) ds
@@ -72,7 +72,7 @@ has_key_size k = nat_le 1 (length k) && nat_le (length k) 32
 abbrev pub has_value_size : List ℕ → Bool
 has_value_size v = nat_le (length v) 64
 
--- no bytes are no bound; else a bound has the size of a key
+-- no bytes are no bound; otherwise a bound has the size of a key
 abbrev pub has_bound_size : List ℕ → Bool
 has_bound_size k = nat_le (length k) 32
 
@@ -80,7 +80,7 @@ abbrev pub bound_of : List ℕ → Option (List ℕ)
 bound_of [] = None
 bound_of (b ∷ bs) = Some (b ∷ bs)
 
--- ---- the commands, by the fields behind the name: first their number is tested, then whether each
+-- ---- the commands, by the fields after the name: first their number is tested, then whether each
 -- spells something, then the sizes of keys, then that of the value
 
 abbrev pub put_of : Option (List ℕ) → Option (List ℕ) → Result Command Fault

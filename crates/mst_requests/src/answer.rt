@@ -1,4 +1,4 @@
-//! What a line is answered.
+//! The answer to a line.
 ghost use Rattle.std.specs.Prelude.{◌≡◌, ◌≤◌, ◌<◌, ◌*◌, ◌+◌, ◌-◌, ◌^◌, ◌++◌, length, codes, decimal, OnOk, OnErr};
 ghost use Rattle.mst_devices.specs.Device.{Puts, Breaks};
 ghost use Rattle.hex.specs.Hex.{encode_lower};
@@ -13,7 +13,7 @@ use mst_devices::{Device, Pending, Sink};
 use mst_key::{Format, Key, Memory, Value};
 use std::alloc::Allocator;
 
-/// What a line is answered.
+/// The answer to a line.
 #[derive(Drop)]
 pub enum Answer<A: Allocator> {
     /// The line's fault.
@@ -30,7 +30,7 @@ pub enum Answer<A: Allocator> {
     Pinned(u64),
     /// The pin was ended.
     Unpinned,
-    /// How many rows the map takes; none where they are held.
+    /// How many rows the map takes; none if they are held.
     Rows(Option<u32>),
     /// The format of the tree.
     Format(Format),
@@ -284,7 +284,7 @@ fn put_digits<W: Sink, A: Allocator>(
     Ok(())
 }
 
-/// Puts an answer behind what waits, line by line.
+/// Puts an answer after what waits, line by line.
 pub fn put_answer<W: Sink, A: Allocator, B: Allocator>(
     sink: &mut W,
     pending: &mut Pending<A>,

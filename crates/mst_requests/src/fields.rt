@@ -7,7 +7,7 @@ use crate::request::Fault;
 use mst_key::{Format, Key, KeySize, Value, ValueSize};
 use mst_lines::cut;
 
-/// The first field, and what stands behind its blank.
+/// The first field, and what stands after its blank.
 pub fn first_field(line: &[u8]) -> (&[u8], Option<&[u8]>)
     ensures fields { fields_of line.now ≡ result.0.now ∷ fields_behind result.1 }
     ensures size { length result.0.now ≤ length line.now }
@@ -19,7 +19,7 @@ pub fn first_field(line: &[u8]) -> (&[u8], Option<&[u8]>)
     }
 }
 
-/// Nothing, where there are no fields.
+/// Nothing, if there are no fields.
 pub fn no_field(fields: Option<&[u8]>) -> Result<(), Fault>
     ensures { MatchResult result (λ _. fields_behind fields.entry ≡ [])
         (λ fault. (fault ≡ FieldCount) × (length (fields_behind fields.entry) ≢ 0)) }
@@ -30,7 +30,7 @@ pub fn no_field(fields: Option<&[u8]>) -> Result<(), Fault>
     }
 }
 
-/// The one field, where there is one.
+/// The one field, if there is one.
 pub fn one_field(fields: Option<&[u8]>) -> Result<&[u8], Fault>
     requires { IfSome fields (λ rest. length rest.now ≤ 4096) }
     ensures fields { MatchResult result (λ one. fields_behind fields.entry ≡ one.now ∷ [])
@@ -47,7 +47,7 @@ pub fn one_field(fields: Option<&[u8]>) -> Result<&[u8], Fault>
     }
 }
 
-/// The two fields, where there are two.
+/// The two fields, if there are two.
 pub fn two_fields(fields: Option<&[u8]>) -> Result<(&[u8], &[u8]), Fault>
     requires { IfSome fields (λ rest. length rest.now ≤ 4096) }
     ensures fields { MatchResult result
@@ -63,7 +63,7 @@ pub fn two_fields(fields: Option<&[u8]>) -> Result<(&[u8], &[u8]), Fault>
     Ok((one, other))
 }
 
-/// The three fields, where there are three.
+/// The three fields, if there are three.
 pub fn three_fields(fields: Option<&[u8]>) -> Result<(&[u8], &[u8], &[u8]), Fault>
     requires { IfSome fields (λ rest. length rest.now ≤ 4096) }
     ensures fields { MatchResult result
@@ -97,7 +97,8 @@ fn number_of(digits: &[u8], most: u32) -> Option<u32>
     Some(number as u32)
 }
 
-/// The pass that a field names, where so many are dealt: decimal digits without a leading zero.
+/// Returns the pass that a field names, if so many are dealt: decimal digits without a leading
+/// zero.
 pub fn pass_of(field: &[u8], passes: u32) -> Option<u32>
     ensures { result ≡ pass_in passes field.now }
 {

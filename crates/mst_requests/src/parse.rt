@@ -11,7 +11,7 @@ use crate::request::{Command, Fault, Request};
 use mst_key::Key;
 use mst_lines::LineBuffer;
 
-// What `put` asks for, by what stands behind it.
+// What `put` asks for, by what stands after it.
 fn put_command(fields: Option<&[u8]>) -> Result<Command, Fault>
     requires { IfSome fields (λ rest. length rest.now ≤ 4096) }
     ensures { result ≡ put_fields (fields_behind fields.entry) }
@@ -25,7 +25,7 @@ fn put_command(fields: Option<&[u8]>) -> Result<Command, Fault>
     }
 }
 
-// The key that stands alone behind a command.
+// The key that stands alone after a command.
 fn key_alone(fields: Option<&[u8]>) -> Result<Key, Fault>
     requires { IfSome fields (λ rest. length rest.now ≤ 4096) }
     ensures { result ≡ key_fields (fields_behind fields.entry) }
@@ -38,7 +38,7 @@ fn key_alone(fields: Option<&[u8]>) -> Result<Key, Fault>
     }
 }
 
-// What `del` asks for, by what stands behind it.
+// What `del` asks for, by what stands after it.
 fn remove_command(fields: Option<&[u8]>) -> Result<Command, Fault>
     requires { IfSome fields (λ rest. length rest.now ≤ 4096) }
     ensures { result ≡ about_key Remove (key_fields (fields_behind fields.entry)) }
@@ -46,7 +46,7 @@ fn remove_command(fields: Option<&[u8]>) -> Result<Command, Fault>
     Ok(Command::Remove(key_alone(fields)?))
 }
 
-// What `get` asks for, by what stands behind it.
+// What `get` asks for, by what stands after it.
 fn get_command(fields: Option<&[u8]>) -> Result<Command, Fault>
     requires { IfSome fields (λ rest. length rest.now ≤ 4096) }
     ensures { result ≡ about_key Get (key_fields (fields_behind fields.entry)) }
@@ -54,7 +54,7 @@ fn get_command(fields: Option<&[u8]>) -> Result<Command, Fault>
     Ok(Command::Get(key_alone(fields)?))
 }
 
-// What `prove` asks for, by what stands behind it.
+// What `prove` asks for, by what stands after it.
 fn prove_command(fields: Option<&[u8]>) -> Result<Command, Fault>
     requires { IfSome fields (λ rest. length rest.now ≤ 4096) }
     ensures { result ≡ about_key Prove (key_fields (fields_behind fields.entry)) }
@@ -62,7 +62,7 @@ fn prove_command(fields: Option<&[u8]>) -> Result<Command, Fault>
     Ok(Command::Prove(key_alone(fields)?))
 }
 
-// What `next` asks for, by what stands behind it.
+// What `next` asks for, by what stands after it.
 fn next_command(fields: Option<&[u8]>) -> Result<Command, Fault>
     requires { IfSome fields (λ rest. length rest.now ≤ 4096) }
     ensures { result ≡ next_fields (fields_behind fields.entry) }
@@ -75,7 +75,7 @@ fn next_command(fields: Option<&[u8]>) -> Result<Command, Fault>
     }
 }
 
-// What `range` asks for, by what stands behind it.
+// What `range` asks for, by what stands after it.
 fn range_command(fields: Option<&[u8]>) -> Result<Command, Fault>
     requires { IfSome fields (λ rest. length rest.now ≤ 4096) }
     ensures { result ≡ range_fields (fields_behind fields.entry) }
@@ -88,7 +88,7 @@ fn range_command(fields: Option<&[u8]>) -> Result<Command, Fault>
     }
 }
 
-// What `migrate` asks for, by what stands behind it.
+// What `migrate` asks for, by what stands after it.
 fn migrate_command(fields: Option<&[u8]>) -> Result<Command, Fault>
     requires { IfSome fields (λ rest. length rest.now ≤ 4096) }
     ensures { result ≡ migrate_fields (fields_behind fields.entry) }
@@ -100,7 +100,7 @@ fn migrate_command(fields: Option<&[u8]>) -> Result<Command, Fault>
     }
 }
 
-// The command, where nothing stands behind it.
+// The command, if nothing stands after it.
 fn without_fields(command: Command, fields: Option<&[u8]>) -> Result<Command, Fault>
     ensures { result ≡ no_fields command (fields_behind fields.entry) }
 {
@@ -108,7 +108,7 @@ fn without_fields(command: Command, fields: Option<&[u8]>) -> Result<Command, Fa
     Ok(command)
 }
 
-// What the command with this name asks for, by what stands behind it.
+// What the command with this name asks for, by what stands after it.
 fn command_named(name: &[u8], fields: Option<&[u8]>) -> Result<Command, Fault>
     requires { IfSome fields (λ rest. length rest.now ≤ 4096) }
     ensures { result ≡ named_command name.now (fields_behind fields.entry) }
@@ -180,9 +180,10 @@ fn request_of(line: &[u8], passes: u32) -> Result<Request, Fault>
     Ok(Request { pass, command })
 }
 
-/// What is asked for by what is kept of a line, where the passes 1 to `passes` are dealt.
+/// Returns what is asked for by what is kept of a line, if the passes 1 to `passes` are dealt.
 ///
-/// Each fault comes where none that stands before it in `Fault` does. `Pinning` never comes here.
+/// Returns each fault only if no fault that stands before it in `Fault` applies. It never returns
+/// `Pinning`.
 pub fn request_in(line: &LineBuffer, passes: u32) -> Result<Request, Fault>
     ensures asked { result ≡ asked passes line.now }
     ensures dealt { IfOk result (λ request. IsDealt passes request) }

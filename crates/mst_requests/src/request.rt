@@ -1,10 +1,10 @@
 //! What a line asks for.
 use mst_key::{Format, Key, Value};
 
-/// Why a line is refused. The first that holds is told, in this order.
+/// Why a line is refused. If several faults apply, the answer is the first in this order.
 ///
-/// All but `Pinning` are in the line alone; `Pinning` depends on the store, so whoever runs the
-/// line tells it.
+/// All but `Pinning` are in the line alone; `Pinning` depends on the store, so the caller that runs
+/// the line finds it.
 #[derive(Clone, Copy, Debug, PartialEq, Eq)]
 pub enum Fault {
     /// It has more bytes than a line may have.

@@ -91,7 +91,7 @@ most_seen (p ∷ ps) g h a b =
     more_seen p ps g h r x (All-head (λ (x : Known). IsPrefix x.seen h) p ps b)
     (IsPrefix-compare p.seen r.0 g x r.1)
 
--- a pass that has seen all its events has none behind what it has seen
+-- a pass that has seen all its events has none after what it has seen
 none_behind : (p : Known) (s h : History) → (b : IsPrefix s h) → IsPrefix p.seen s → SawItself p
     → events_of p.number h ≡ p.mine → HasNone b.0 p.number
 none_behind p s h b c itself own =

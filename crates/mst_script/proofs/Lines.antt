@@ -39,7 +39,7 @@ others_at (x ∷ xs) (suc i) p q l is =
           (IsPermutation-cons x (set xs i q) (q ∷ r.0) r.2) (front_two x q r.0),
     )
 
--- one was taken out of the first list and put, changed, behind the second
+-- one was taken out of the first list and put, changed, after the second
 pub moved_back : {X : Type 0} (xs ys rest : List X) (p : X) → IsPermutation xs (p ∷ rest)
     → IsPermutation (xs ++ ys) (p ∷ (rest ++ ys))
 moved_back xs ys rest p out = IsPermutation-append_left ys xs (p ∷ rest) out
@@ -51,7 +51,7 @@ now_back rest ys q = IsPermutation-trans (rest ++ (ys ++ q ∷ [])) (rest ++ (q 
     (IsPermutation-append_right rest (ys ++ q ∷ []) (q ∷ ys) (IsPermutation-to_front ys q))
     (IsPermutation-middle rest q ys)
 
--- one was taken out of the second list and put behind the first
+-- one was taken out of the second list and put after the first
 pub moved_front : {X : Type 0} (xs ys rest : List X) (p : X) → IsPermutation ys (p ∷ rest)
     → IsPermutation (xs ++ ys) (p ∷ (xs ++ rest))
 moved_front xs ys rest p out = IsPermutation-trans (xs ++ ys) (xs ++ (p ∷ rest)) (p ∷ (xs ++ rest))

@@ -1,4 +1,4 @@
--- What the machine answers in a store of one pass, to a line with a fault, and behind a put.
+-- What the machine answers in a store of one pass, to a line with a fault, and after a put.
 use Rattle.std.proofs.Common.{◌≡◌, ◌≢◌, ◌⊎◌, inl, inr, ℕ, ◌<◌, List, [], ◌∷◌, ◌++◌, Option, Some, None, Result, Ok, Err, codes, refl, sym, ap, ◌∙◌, subst, arith}
 use Rattle.mst_key.specs.declared.format.Format.{Format}
 use Rattle.mst_key.specs.declared.format.Format.TheVariants.{One, Two}
@@ -80,7 +80,7 @@ pub fault_told : (store : StoreId) (m new : Machine) (line : Option (List ℕ)) 
 fault_told store m new line text why is answered =
     subst (λ (r : Result Request Fault). AnswersRequest store r m text new) is answered
 
--- ---- a get behind a put
+-- ---- a get after a put
 
 step_of_line : (store : StoreId) (m new : Machine) (line : Option (List ℕ)) (text : List ℕ)
     (request : Request) → asked store.passes line ≡ Ok request → Line store m line text new

@@ -1,4 +1,4 @@
--- What the calls of a pass answer, as answers of lines.
+-- What the calls of a pass return, as answers to lines.
 use Rattle.std.specs.Prelude.{ℕ, List, Option, Result, Ok, Err}
 use Rattle.mst_store.specs.declared.faults.WriteFault.{WriteFault}
 use Rattle.mst_store.specs.declared.faults.WriteFault.TheVariants as write

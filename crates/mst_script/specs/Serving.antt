@@ -109,7 +109,7 @@ abbrev pub Serves : StoreId → Roster → Option (List ℕ) → List ℕ → Ro
 Serves store r line text s =
     (m : Machine) → Shows m r → (new : Machine) × Line store m line text new × Shows new s
 
--- the same for what the pass p is asked for, once the passes have settled that come of it
+-- the same for what the pass p is asked for, once the passes that result have settled
 abbrev pub Does : StoreId → ℕ → Command → Roster → List ℕ → Roster → Type 0
 Does store p command r text s =
     (m : Machine) → Shows m r → (t : Roster) → Settled s.free s.held t.free t.held

@@ -22,7 +22,7 @@ fn rows_answer_of<A: Allocator>(found: Result<Option<u32>, Busy>) -> Answer<A>
     }
 }
 
-// What a write answered, as an answer.
+// What a write returned, as an answer.
 fn write_answer_of<A: Allocator>(written: Result<Option<Value>, WriteFault>) -> Answer<A>
     ensures { result ≡ write_answer written }
 {
@@ -34,7 +34,7 @@ fn write_answer_of<A: Allocator>(written: Result<Option<Value>, WriteFault>) -> 
     }
 }
 
-// What a migration answered, as an answer.
+// What a migration returned, as an answer.
 fn migration_answer_of<A: Allocator>(migrated: Result<Format, MigrateFault>) -> Answer<A>
     ensures { result ≡ migration_answer migrated }
 {

@@ -27,7 +27,7 @@ pub fn script_laws()
     ensures fault { (store : StoreId) (m new : Machine) (line : Option (List ℕ)) (text : List ℕ)
         (why : Fault) → asked store.passes line ≡ Err why → Line store m line text new
         → (text ≡ line_of (fault_words why)) × (new ≡ m) }
-    // behind a put that was made, each pass with no pin is told the value that was put
+    // after a put that was made, each pass with no pin is told the value that was put
     ensures told { (store : StoreId) (m n o : Machine) (line next : Option (List ℕ))
         (text told : List ℕ) (p q : ℕ) (k v : List ℕ)
         → asked store.passes line ≡ Ok (record { pass = p; command = Put k v })

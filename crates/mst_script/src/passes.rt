@@ -54,7 +54,7 @@ impl<'a, A: Allocator, B: Allocator + Copy> Passes<'a, A, B> {
         Passes { free, held }
     }
 
-    /// The free passes, where no pass has a pin.
+    /// Returns the free passes, if no pass has a pin.
     pub fn into_free(self) -> Vec<Pass<'a, B>, B>
         ensures free { result.items ≡ self.entry.free }
     {
@@ -116,7 +116,7 @@ impl<'a, A: Allocator, B: Allocator + Copy> Passes<'a, A, B> {
         recall(alloc, &mut self.held[place], command)
     }
 
-    /// Pins the current version by the free pass at this place, and answers the version's number.
+    /// Pins the current version by the free pass at this place, and returns the version's number.
     pub fn pin(&mut self, place: usize) -> u64
         requires place { place < length self.old.free }
         ensures pins { Pins self.old place result self.new }

@@ -146,10 +146,10 @@ fn settle_and_drive<S: Source, W: Sink, A: Allocator + Copy, B: Allocator + Copy
 /// failure of a device. The passes settle before the first line and after each; at the end pins are
 /// ended, and they settle once more.
 ///
-/// The passes must be all those of the store, in any order, and so they are then in the vector
-/// again. `Memory` comes where a growth at the start was refused, before anything was read, written
-/// or changed; `Device` where a read or a write failed. A line takes memory for what its `range`,
-/// `prove` or `node` finds alone, and is answered `memory` where that is refused.
+/// The vector must have all passes of the store, in any order, and it has all of them again after
+/// the call. Returns `Memory` if a growth at the start was refused, before anything was read,
+/// written or changed; `Device` if a read or a write failed. A line takes memory only for what its
+/// `range`, `prove` or `node` finds, and is answered `memory` if that is refused.
 pub fn run<S: Source, W: Sink, A: Allocator + Copy, B: Allocator + Copy>(
     alloc: A,
     source: &mut S,

@@ -63,7 +63,7 @@ pub all_swapped : (ps qs : List Known) (a b : ℕ) → a < length ps → b < len
     → AreAllPasses ps → AreAllPasses qs
 all_swapped ps qs a b l m is = all_shuffled ps qs (IsPermutation-swap ps qs a b l m is)
 
--- and so they are where none of them pins a version
+-- and so they are if none of them pins a version
 pub none_held : (ps : List Known) → AreAllPasses ps → AreAllPasses (ps ++ [])
 none_held ps = subst AreAllPasses (sym (append-nil ps))
 

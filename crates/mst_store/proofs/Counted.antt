@@ -18,7 +18,7 @@ use Rattle.mst_store.specs.Counting.{Counts}
 use Rattle.mst_store.specs.Writes.{rows_of, AreFound}
 use Rattle.mst_store.proofs.Written.{room_left, room_alone_left, are_found}
 
--- what the holder of the turn has at hand does not hang on what it noted and found of pins
+-- what the holder of the turn has at hand does not depend on what it noted and found of pins
 still : {A : Type 0} (t : Turn A) (m : Seat) (noted : Option ℕ) (found : List ℕ) (asked : ℕ)
     → HoldsDesk t m → HoldsDesk t (record m.0 { noted = noted; found = found; asked = asked }, m.1)
 still t m noted found asked k =

@@ -18,7 +18,7 @@ use Rattle.mst_store.specs.Settling.{Met}
 abbrev pub IsOf : ℕ → Event → Type 0
 IsOf n e = (0 < e.pass) × (e.pass ≤ n)
 
--- where there is one pass, all events are its own
+-- if there is one pass, all events are its own
 pub own_all : (log : History) → IsOfPasses 1 log → events_of 1 log ≡ log
 own_all [] all = refl
 own_all (e ∷ es) all = let b = All-head (IsOf 1) e es all in let pos = b.0 in let low =
@@ -37,7 +37,7 @@ none_more : (p : ℕ) (e : Event) (es : History) → e.pass ≢ p → length (ev
 none_more p e es other = ap (λ (t : Bool). length (cond t (e ∷ events_of p es) (events_of p es)))
     (ne_eqb e.pass p other)
 
--- where there are two passes, each event is of the one or of the other
+-- if there are two passes, each event is of the one or of the other
 two_count : (log : History) → IsOfPasses 2 log → length log ≡ length (events_of 1 log) + length
     (events_of 2 log)
 two_count [] all = refl

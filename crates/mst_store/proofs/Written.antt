@@ -65,7 +65,7 @@ none_of : (r : ℕ) (xs : List ℕ) → length xs < 1 → In r xs → ⊥
 none_of r [] few within = in_nothing r within
 none_of r (x ∷ xs) few within = omega (arith, few)
 
--- where no other record was found pinned the current version alone is kept
+-- if no other record was found pinned, only the current version is kept
 alone_kept : {A : Type 0} (t : Turn A) (m : Seat) → HasTurn t m → length m.0.blocked < 1
     → AreKept t.desk m.0 (version t.desk ∷ [])
 alone_kept t m h none v = (

@@ -7,9 +7,9 @@ use Rattle.mst_store.specs.Writes.{rows_of, AreFound}
 
 -- The pass has now seen a history that begins with all that it had seen, its events in it are its
 -- own, and each event is of a pass of the store. A number that was found is that of the rows that
--- the map of this history takes; one is found exactly where no version was found pinned, and so in
--- a store of one pass. The turn was tried once and taken, each record but the current one asked
--- once, and the current one by two loads
+-- the map of this history takes; one is found exactly if no version was found pinned, and so in a
+-- store of one pass. The turn was tried once and taken, each record but the current one asked once,
+-- and the current one by two loads
 pub record Counts (m : Seat) (found : Option ℕ) (m' : Seat) : Type 0 where
   pub later : IsPrefix m.0.seen m'.0.seen
   pub own : events_of m.0.number m'.0.seen ≡ m.0.mine

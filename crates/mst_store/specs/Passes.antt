@@ -149,7 +149,7 @@ pub record Looks (p q : Known) : Type 0 where
 abbrev pub format_seen : Known → Format
 format_seen q = format_after q.store.format q.seen
 
--- A read answered what this question asks of the map of the history that the pass has now seen, and
+-- A read returned what this question asks of the map of the history that the pass has now seen, and
 -- of the format of its version
 pub record Answers {R : Type 0} (question : Format → List Pair → R)
     (p : Known) (answer : R) (q : Known) : Type 0 where
@@ -168,8 +168,8 @@ HasRoom rows format m change = rows_of format m + rows_taken format m change ≤
 abbrev pub LacksRoom : ℕ → Format → List Pair → Change → Type 0
 LacksRoom rows format m change = rows < rows_of format m + rows_taken format m change
 
--- A write added its event right behind a history that begins with all that the pass had seen, and
--- answered what that history replies. The pass has now seen both, its events there are its own, and
+-- A write added its event right after a history that begins with all that the pass had seen, and
+-- returned what that history replies. The pass has now seen both, its events there are its own, and
 -- each event is of a pass of the store. The change found room beside the versions that were found
 -- pinned. The pass tried the turn once and got it, asked each record but the current one once, and
 -- published once
@@ -192,9 +192,9 @@ pub record Wrote (e : Event) (p : Known) (answered : Reply) (q : Known) : Type 0
 abbrev pub FindsBusy : Known → Known → Type 0
 FindsBusy p q = (q ≡ having_missed 1 p) × (1 < p.store.passes)
 
--- Why a change was refused. Nothing was added to the history. There is no room exactly where the
--- last version and those that were found pinned hold too many rows. In a store of one pass this is
--- where the rows that the map leaves over are too few
+-- Why a change was refused. Nothing was added to the history. There is no room exactly if the last
+-- version and those that were found pinned hold too many rows. In a store of one pass this means
+-- that the rows that the map leaves over are too few
 abbrev pub Refuses : WriteFault → Change → Known → Known → Type 0
 Refuses Busy change p q = FindsBusy p q
 Refuses VersionsSpent change p q =

@@ -152,7 +152,7 @@ pub record Spent (m m' : Seat) : Type 0 where
     [],
   )
 
--- what is so where no write is begun
+-- what holds if no write is begun
 abbrev pub IsNotBegun : NotBegun → Seat → Seat → Type 0
 IsNotBegun Busy m m' = Misses m m'
 IsNotBegun VersionsSpent m m' = Spent m m'
@@ -171,8 +171,8 @@ pub record HasMade {A : Type 0} (t : Turn A) (root : Root) (format : Format)
   pub aged : HasAges m.0.format t.desk.lives (m.0.seen ++ e ∷ []) stands.tree.placed
   pub settled : IsSettled (advanced t.into t.desk)
 
--- The turn was given back, and the history has the event behind what the pass had seen. One step
--- was counted, the publication
+-- The turn was given back, and the history has the event after what the pass had seen. One step was
+-- counted, the publication
 pub record Added (e : Event) (m m' : Seat) : Type 0 where
   pub seen : m'.0.seen ≡ m.0.seen ++ e ∷ []
   pub mine : m'.0.mine ≡ m.0.mine ++ e ∷ []

@@ -53,7 +53,7 @@ pub record AreFound (n : ℕ) (log : History) (found : List ℕ) : Type 0 where
 abbrev pub rows_kept : Format → History → List ℕ → ℕ
 rows_kept first log found = held first log (length log ∷ found)
 
--- how many rows a change takes behind a history
+-- how many rows a change takes after a history
 abbrev pub rows_needed : Format → History → Change → ℕ
 rows_needed first log change = rows_taken (format_after first log) (after log) change
 
@@ -80,7 +80,7 @@ abbrev pub KeepsPass : Seat → Seat → Type 0
 KeepsPass m m' = (m'.0.number ≡ m.0.number) × (m'.0.rows ≡ m.0.rows)
     × (m'.0.passes ≡ m.0.passes) × (m'.0.format ≡ m.0.format) × (m'.0.told ≡ m.0.told)
 
--- The event stands right behind a history that begins with all that the pass had seen, and the
+-- The event stands right after a history that begins with all that the pass had seen, and the
 -- answer is what that history replies. The pass has now seen both, and each event there is of a
 -- pass of the store. It tried the turn once and got it, asked each record but the current one once,
 -- and published once
@@ -115,9 +115,9 @@ abbrev pub LacksAtSeat : Seat → Seat → Change → Type 0
 LacksAtSeat m m' change = m.0.rows < rows_of (format_after m.0.format m'.0.seen) (after m'.0.seen)
     + rows_taken (format_after m.0.format m'.0.seen) (after m'.0.seen) change
 
--- Why a change was refused. There is no room exactly where what is kept holds too many rows.
--- In a store of one pass the map alone is kept, so there is none exactly where the rows that it
--- leaves over are too few
+-- Why a change was refused. There is no room exactly if what is kept holds too many rows. In a
+-- store of one pass the map alone is kept, so there is none exactly if the rows that it leaves over
+-- are too few
 abbrev pub RefusesAtSeat : WriteFault → Change → Seat → Seat → Type 0
 RefusesAtSeat Busy change m m' = Misses m m'
 RefusesAtSeat VersionsSpent change m m' = Spent m m'

@@ -11,7 +11,7 @@ use mst_words::PassSeat;
 use mst_words::layout::MASKS;
 use std::alloc::Allocator;
 
-// The number, where one version is kept, and nobody was found to pin it: the mask of the current
+// The number, if one version is kept and no pass was found to pin it: the mask of the current
 // record, as it was noted, is then what its own word says.
 fn where_alone(used: u32, kept: u32, noted: u64, done: u64) -> Option<u32>
     ensures alone { kept ≡ 1 → noted % MASKS ≡ done → result ≡ Some used }
@@ -25,12 +25,12 @@ fn where_alone(used: u32, kept: u32, noted: u64, done: u64) -> Option<u32>
     }
 }
 
-/// How many rows the map of the current version takes: all rows but those that are free once no
-/// other version is kept. It answers `None` exactly where a version was found pinned; in a store of
-/// one pass it never does.
+/// Returns how many rows the map of the current version takes: all rows but those that are free
+/// once no other version is kept. It returns `None` exactly if a version was found pinned; in a
+/// store of one pass it never does.
 ///
 /// The turn is taken, each record is asked, the rows that no version reaches are freed, and the
-/// turn is given back. `Busy` comes only where another pass has the turn. It takes no memory.
+/// turn is given back. Returns `Busy` only if another pass has the turn. It takes no memory.
 pub(crate) fn rows<A: Allocator + Copy>(
     seat: &mut PassSeat<'_, A>,
     number: u32,

@@ -1,5 +1,5 @@
-//! A pass that is laid down: all of it but the reference to its store. So it can lie beside a share
-//! of the store, as whoever is no Rattle code has to hold it.
+//! A pass that is laid down: all of it but the reference to its store. So it can be kept beside a
+//! share of the store, as code that is not Rattle has to keep it.
 ghost use Rattle.std.specs.Prelude.{◌≡◌};
 
 use crate::pass::Pass;
@@ -83,7 +83,7 @@ impl<'a, A: Allocator + Copy> Pass<'a, A> {
 }
 
 impl<'a, A: Allocator + Copy> Pinned<'a, A> {
-    /// Lays the pinned pass down, which keeps its pin.
+    /// Lays the pinned pass down. It keeps its pin.
     pub fn lay(self) -> LaidPinned<A>
         ensures same { result ≡ self.entry }
     {
@@ -106,7 +106,7 @@ impl<'a, A: Allocator + Copy> Pinned<'a, A> {
 }
 
 impl<A: Allocator + Copy> Store<A> {
-    /// The pass that was laid down. It has to be one of this store.
+    /// Returns the pass that was laid down. It must be a pass of this store.
     pub fn lift<'a>(&'a self, laid: Laid<A>) -> Pass<'a, A>
         requires own { laid.store ≡ self.now }
         ensures same { result ≡ laid }
@@ -126,7 +126,7 @@ impl<A: Allocator + Copy> Store<A> {
         }
     }
 
-    /// The pinned pass that was laid down. It has to be one of this store.
+    /// Returns the pinned pass that was laid down. It must be a pass of this store.
     pub fn lift_pinned<'a>(&'a self, laid: LaidPinned<A>) -> Pinned<'a, A>
         requires own { laid.store ≡ self.now }
         ensures same { result ≡ laid }

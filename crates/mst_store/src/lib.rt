@@ -1,5 +1,5 @@
 //! A store: one ordered map that several passes, each in a thread of its own, read and write. Each
-//! read pins the current version by one step, and waits for nobody.
+//! read pins the current version in one step, and waits for no other pass.
 //!
 //! ```
 //! let (store, seats) = Store::open(rt.alloc(), Shape { rows: 16, passes: 2 })?;
@@ -12,10 +12,10 @@
 //! pinned.unpin().get(&apple)                       // Some(35)
 //! ```
 //!
-//! One pass at a time writes: another is answered [`Busy`](WriteFault::Busy) by [`Pass::try_put`]
-//! and [`Pass::try_remove`], and waits in [`Pass::put`] and [`Pass::remove`], which may then never
-//! return. What all passes saw and did is one history; [`meet`] and [`settle`] tell them of it.
-//! `specs/Passes.antt` has the definitions that the contracts cite.
+//! One pass at a time writes. Meanwhile [`Pass::try_put`] and [`Pass::try_remove`] of another pass
+//! return [`Busy`](WriteFault::Busy), and its [`Pass::put`] and [`Pass::remove`] wait and may never
+//! return. What all passes saw and did is one history; after [`meet`] or [`settle`] passes have
+//! seen the same part of it. `specs/Passes.antt` has the definitions that the contracts cite.
 //!
 //! A store does not grow, and does not outlive its process. The rows of a pinned version are not
 //! used again, so a pass that is dropped while it pins keeps them for good.

@@ -1,5 +1,5 @@
 //! A migration: the tree of the map in another format is planted in rows of its own, and the one
-//! that stood is felled, so that its rows are free as soon as nobody pins its version.
+//! that stood is felled, so that its rows are free as soon as no pass pins its version.
 ghost use Rattle.std.specs.Prelude.{◌≡◌, ◌≢◌, ◌<◌, ◌≤◌, length, IfOk, IfErr, OnErr};
 ghost use Rattle.std.specs.Option.{option_copied};
 ghost use Rattle.mst_key.specs.declared.history.Change.TheVariants.{Migrate};
@@ -54,7 +54,7 @@ fn tree_in<A: Allocator + Copy, B: Allocator + Copy>(
     build_in(alloc, to, pairs.as_slice())
 }
 
-// Plants the tree of the map in another format, and lets the one that stands die.
+// Plants the tree of the map in another format, and lets the current one die.
 fn move_tree<A: Allocator + Copy, B: Allocator>(
     seat: &mut PassSeat<'_, A>,
     turn: &mut Turn<A>,
@@ -78,8 +78,8 @@ fn move_tree<A: Allocator + Copy, B: Allocator>(
     Ok(root)
 }
 
-// Makes the tree of the current version's map in a format. In the format that stands it is the one
-// that stands: that takes no row and no memory.
+// Makes the tree of the current version's map in a format. In the current format it is the tree of
+// the current version, which takes no row and no memory.
 fn make_move<A: Allocator + Copy, B: Allocator + Copy>(
     seat: &mut PassSeat<'_, A>,
     alloc: B,
@@ -110,16 +110,16 @@ fn make_move<A: Allocator + Copy, B: Allocator + Copy>(
     }
 }
 
-/// Publishes the map that stands in a format as the next version, and answers the format that it
+/// Publishes the map that stands in a format as the next version, and returns the format that it
 /// had.
 ///
 /// The steps are those of a write. The pairs are listed and their tree is built in memory, which is
 /// given back before the version is published; the new tree takes a row for each pair and each
 /// node, and only then do the rows of the old one die.
 ///
-/// `Busy` comes only where another pass has the turn, else `VersionsSpent` exactly where the
-/// current version has the last number, else `Memory` where a growth was refused, else `NoRoom`
-/// exactly where fewer rows are free than the tree takes.
+/// Returns `Busy` only if another pass has the turn; otherwise `VersionsSpent` exactly if the
+/// current version has the last number; otherwise `Memory` if a growth was refused; otherwise
+/// `NoRoom` exactly if fewer rows are free than the tree takes.
 pub(crate) fn migrate<A: Allocator + Copy, B: Allocator + Copy>(
     seat: &mut PassSeat<'_, A>,
     alloc: B,

@@ -17,11 +17,11 @@ use mst_words::PassSeat;
 use std::alloc::Allocator;
 use std::marker::Model;
 
-/// A pass of a store. It may go to another thread, and each of its calls is one thread's.
+/// A pass of a store. It may be moved to another thread, and each of its calls runs in one thread.
 ///
-/// A read pins the current version by one step, reads it, and ends the pin. Its place in the
-/// history is the pin. No other pass can make it wait: of its steps the pin alone has an answer
-/// that depends on others (`once`).
+/// A read pins the current version in one step, reads it, and ends the pin. Its place in the
+/// history is that of the pin. No other pass can make it wait: the pin is its only step whose
+/// answer depends on other passes (`once`).
 #[derive(Drop)]
 pub struct Pass<'a, A: Allocator + Copy> {
     pub(crate) seat: PassSeat<'a, A>,
@@ -49,7 +49,8 @@ impl<'a, A: Allocator + Copy> Pass<'a, A> {
         self.number
     }
 
-    /// The value of the key. It takes no memory.
+    /// Returns the value of the key in the current version, or `None` if the key has no value. It
+    /// takes no memory.
     pub fn get(&mut self, key: &Key) -> Option<Value>
         ensures answers { Answers (λ _ m. map_get m key.now) self.old result self.new }
         ensures once { self.new.asked ≡ self.old.asked + 1 }
@@ -60,8 +61,8 @@ impl<'a, A: Allocator + Copy> Pass<'a, A> {
         value
     }
 
-    /// The pair of the least key above the bound; with no bound, of the least key. It takes no
-    /// memory.
+    /// Returns the pair of the least key above `after`, or the pair of the least key if `after` is
+    /// `None`. Returns `None` if there is no such pair. It takes no memory.
     pub fn next(&mut self, after: Option<&Key>) -> Option<(Key, Value)>
         ensures answers { Answers (λ _ m. map_next m (option_copied after.entry)) self.old result
             self.new }
@@ -73,10 +74,10 @@ impl<'a, A: Allocator + Copy> Pass<'a, A> {
         pair
     }
 
-    /// The first pairs, at most `limit`, of the keys that are at least `from` and below `to`, in
-    /// the order of their keys. A bound that is not given does not bind.
+    /// Returns the first pairs, at most `limit`, whose keys are at least `from` and below `to`, in
+    /// the order of their keys. A bound that is `None` does not bind.
     ///
-    /// `Memory` comes where the growth of the list was refused; the pass has then seen what it had
+    /// Returns `Memory` if the growth of the list was refused; the pass has then seen what it had
     /// seen before.
     pub fn range<B: Allocator>(
         &mut self,
@@ -106,8 +107,8 @@ impl<'a, A: Allocator + Copy> Pass<'a, A> {
         }
     }
 
-    /// The format of the version: that of the last migration, and else the one that the store was
-    /// opened with. It takes no memory.
+    /// Returns the format of the current version: that of the last migration, or the one that the
+    /// store was opened with if there was no migration. It takes no memory.
     pub fn format(&mut self) -> Format
         ensures answers { Answers (λ f _. f) self.old result self.new }
         ensures once { self.new.asked ≡ self.old.asked + 1 }
@@ -118,9 +119,9 @@ impl<'a, A: Allocator + Copy> Pass<'a, A> {
         format
     }
 
-    /// The root digest of the map in the version's format: the SHA-256 (FIPS 180-4) of the text of
-    /// its tree's top node, or of the empty string for the empty map. It depends on the format and
-    /// the pairs of the map alone. It takes no memory.
+    /// Returns the root digest of the map in the version's format: the SHA-256 (FIPS 180-4) of the
+    /// text of its tree's top node, or of the empty string for the empty map. It depends on nothing
+    /// but the format and the pairs of the map. It takes no memory.
     pub fn root(&mut self) -> [u8; 32]
         ensures answers { Answers root self.old result self.new }
         ensures once { self.new.asked ≡ self.old.asked + 1 }
@@ -131,12 +132,13 @@ impl<'a, A: Allocator + Copy> Pass<'a, A> {
         digest
     }
 
-    /// The proof of the map's answer for the key, value or absence, against the root digest: the
-    /// texts of the nodes that a search for the key meets, from the top down, each behind its
-    /// length in four bytes, and in front of them the number of the version's format and their
-    /// number. In format 2 the value itself, or that there is none, stands at the end.
+    /// Returns the proof of the map's answer for the key, value or absence, against the root
+    /// digest, in fewer than 2^32 bytes. It holds the texts of the nodes that a search for the key
+    /// meets, from the top down, each after its length in four bytes. Before them stand the number
+    /// of the version's format and the number of these texts. In format 2 the value itself, or that
+    /// there is none, stands at the end.
     ///
-    /// `Memory` comes where a growth was refused; the pass has then seen what it had seen before.
+    /// Returns `Memory` if a growth was refused; the pass has then seen what it had seen before.
     pub fn prove<B: Allocator + Copy>(&mut self, alloc: B, key: &Key) -> Result<Vec<u8, B>, Memory>
         ensures ok { IfOk result
             (λ found. Answers (λ f m. proof_text f m key.now) self.old found.items self.new) }
@@ -158,11 +160,11 @@ impl<'a, A: Allocator + Copy> Pass<'a, A> {
         }
     }
 
-    /// How many rows the map takes, one for each key and one for each node of its tree; or `None`
-    /// exactly where a version was found pinned, which never comes in a store of one pass. It takes
-    /// no memory.
+    /// Returns how many rows the map takes: one for each key and one for each node of its tree.
+    /// Returns `None` exactly if a version was found pinned, which never happens in a store of one
+    /// pass. It takes no memory.
     ///
-    /// `Busy` comes only where another pass has the turn.
+    /// Returns `Busy` only if another pass has the turn.
     pub fn rows(&mut self) -> Result<Option<u32>, Busy>
         ensures looks { OnOk result (Looks self.old self.new) }
         ensures some { IfOk result
@@ -178,7 +180,7 @@ impl<'a, A: Allocator + Copy> Pass<'a, A> {
         counting::rows(&mut self.seat, self.number, self.passes, self.rows)
     }
 
-    /// The number of the version: how many events there were. It takes no memory.
+    /// Returns the number of the current version: how many events led to it. It takes no memory.
     pub fn version(&mut self) -> u64
         ensures looks { Looks self.old self.new }
         ensures version { result ≡ length self.new.seen }
@@ -189,7 +191,7 @@ impl<'a, A: Allocator + Copy> Pass<'a, A> {
         at.version
     }
 
-    // Makes a change of a key, and answers the value that it had.
+    // Makes a change of a key, and returns the value that it had.
     fn write(&mut self, change: Change) -> Result<Option<Value>, WriteFault>
         requires keyed { IsMigration change → ⊥ }
         ensures ok { IfOk result
@@ -203,15 +205,18 @@ impl<'a, A: Allocator + Copy> Pass<'a, A> {
         writing::write(&mut self.seat, self.number, self.passes, &event)
     }
 
-    /// Gives the key the value, and answers the value that it had. It takes no memory.
+    /// Gives the key the value, and returns the value that the key had, or `None` if it had none.
+    /// It takes no memory.
     ///
-    /// `Busy` comes only where another pass has the turn, else `VersionsSpent` exactly where the
-    /// current version has the last number, else `NoRoom` exactly where too few rows are free for
-    /// the nodes that the write makes new. A write copies whole nodes along its path; its cost is a
-    /// row for each entry and one for each node that it makes new. All rows are free but those that
-    /// the kept versions hold: the current one, and those that were found pinned, at most one for
-    /// each other pass. A node that stays over several of them counts once. In a store of one pass
-    /// these are the rows of the map. A put of the value that stands costs nothing.
+    /// Returns `Busy` only if another pass has the turn; otherwise `VersionsSpent` exactly if the
+    /// current version has the last number; otherwise `NoRoom` exactly if too few rows are free for
+    /// the nodes that the write makes new.
+    ///
+    /// A write copies whole nodes along its path. It costs a row for each entry and one for each
+    /// node that it makes new. All rows are free but those that the kept versions hold: the current
+    /// one, and those that were found pinned, at most one for each other pass. A node that several
+    /// of them share counts once. In a store of one pass these are the rows of the map. A put of
+    /// the value that the key has costs nothing.
     pub fn try_put(&mut self, key: &Key, value: &Value) -> Result<Option<Value>, WriteFault>
         ensures ok { IfOk result
             (λ old. Wrote (made_by self.old (Put key.now value.now)) self.old (had old) self.new) }
@@ -221,9 +226,11 @@ impl<'a, A: Allocator + Copy> Pass<'a, A> {
         self.write(Change::Put(key.copy(), value.copy()))
     }
 
-    /// Takes the key out of the map, and answers the value that it had. It takes no memory.
+    /// Takes the key out of the map, and returns the value that the key had, or `None` if it had
+    /// none. It takes no memory.
     ///
-    /// The refusals come as those of [`Pass::try_put`]. A remove of an absent key costs nothing.
+    /// Returns the errors of [`Pass::try_put`], each under the same condition. A remove of an
+    /// absent key costs nothing.
     pub fn try_remove(&mut self, key: &Key) -> Result<Option<Value>, WriteFault>
         ensures ok { IfOk result
             (λ old. Wrote (made_by self.old (Remove key.now)) self.old (had old) self.new) }
@@ -232,17 +239,17 @@ impl<'a, A: Allocator + Copy> Pass<'a, A> {
         self.write(Change::Remove(key.copy()))
     }
 
-    /// Turns the tree of the map to a format, and answers the format that it had. The map stays,
-    /// and the history gets one event. Readers go on: a pass that pins an older version reads and
-    /// proves in that version's format.
+    /// Turns the tree of the map to the format `to`, and returns the format that it had. The map
+    /// stays as it is, and the history gets one event. Readers go on: a pass that pins an older
+    /// version reads and proves in that version's format.
     ///
-    /// To another format it takes a row for each pair and each node of the new tree, beside those
-    /// of the old one, and memory for the list of the pairs and for the tree, which is given back
-    /// before the call returns. To the format that stands it takes neither.
+    /// A migration to another format takes a row for each pair and each node of the new tree,
+    /// beside those of the old one, and memory for the list of the pairs and for the tree, which is
+    /// given back before the call returns. A migration to the current format takes neither.
     ///
-    /// `Busy` comes only where another pass has the turn, else `VersionsSpent` exactly where the
-    /// current version has the last number, else `Memory` where a growth was refused, else `NoRoom`
-    /// where too few rows are free, as [`Pass::try_put`] has it.
+    /// Returns `Busy` only if another pass has the turn; otherwise `VersionsSpent` exactly if the
+    /// current version has the last number; otherwise `Memory` if a growth was refused; otherwise
+    /// `NoRoom` if too few rows are free, as for [`Pass::try_put`].
     pub fn try_migrate<B: Allocator + Copy>(
         &mut self,
         alloc: B,

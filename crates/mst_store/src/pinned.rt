@@ -15,11 +15,11 @@ use mst_words::PassSeat;
 use std::alloc::Allocator;
 use std::marker::Model;
 
-/// A pass that pins a version. It may go to another thread, as a pass may.
+/// A pass that pins a version. It may be moved to another thread, as a pass may.
 ///
-/// Each of its calls answers for the history at the pin, and makes no step whose answer depends on
-/// other passes. The rows of its version are not used again before [`Pinned::unpin`]; a pinned pass
-/// that is dropped holds them for good.
+/// Each of its calls reads the version at the pin, and makes no step whose answer depends on other
+/// passes. The rows of its version are not used again before [`Pinned::unpin`]; a pinned pass that
+/// is dropped holds them for good.
 #[derive(Drop)]
 pub struct Pinned<'a, A: Allocator + Copy> {
     pub(crate) seat: PassSeat<'a, A>,
@@ -41,7 +41,7 @@ impl<'a, A: Allocator + Copy> Model for Pinned<'a, A> {
 }
 
 impl<'a, A: Allocator + Copy> Pass<'a, A> {
-    /// Pins the current version, by one step. The history at the pin begins with all that the pass
+    /// Pins the current version, in one step. The history at the pin begins with all that the pass
     /// had seen.
     pub fn pin(self) -> Pinned<'a, A>
         ensures looks { Looks self.entry result }
@@ -72,14 +72,15 @@ impl<'a, A: Allocator + Copy> Pinned<'a, A> {
         self.number
     }
 
-    /// The number of the pinned version: how many events led to it.
+    /// Returns the number of the pinned version: how many events led to it.
     pub fn version(&self) -> u64
         ensures version { result ≡ length self.now.seen }
     {
         self.at.version
     }
 
-    /// The value of the key in the pinned version. It takes no memory.
+    /// Returns the value of the key in the pinned version, or `None` if the key has no value there.
+    /// It takes no memory.
     pub fn get(&mut self, key: &Key) -> Option<Value>
         ensures found { result ≡ map_get (after_events self.old.seen) key.now }
         ensures same { self.new ≡ self.old }
@@ -87,8 +88,8 @@ impl<'a, A: Allocator + Copy> Pinned<'a, A> {
         reading::get(&mut self.seat, &self.at, key)
     }
 
-    /// The pair of the least key above the bound in the pinned version; with no bound, of the least
-    /// key. It takes no memory.
+    /// Returns the pair of the least key above `after` in the pinned version, or the pair of the
+    /// least key if `after` is `None`. Returns `None` if there is no such pair. It takes no memory.
     pub fn next(&mut self, after: Option<&Key>) -> Option<(Key, Value)>
         ensures found { result ≡ map_next (after_events self.old.seen) (option_copied after.entry) }
         ensures same { self.new ≡ self.old }
@@ -96,10 +97,10 @@ impl<'a, A: Allocator + Copy> Pinned<'a, A> {
         reading::next(&mut self.seat, &self.at, after)
     }
 
-    /// The first pairs of the pinned version, at most `limit`, of the keys that are at least `from`
-    /// and below `to`, in the order of their keys. A bound that is not given does not bind.
+    /// Returns the first pairs of the pinned version, at most `limit`, whose keys are at least
+    /// `from` and below `to`, in the order of their keys. A bound that is `None` does not bind.
     ///
-    /// `Memory` comes where the growth of the list was refused.
+    /// Returns `Memory` if the growth of the list was refused.
     pub fn range<B: Allocator>(
         &mut self,
         alloc: B,
@@ -115,7 +116,8 @@ impl<'a, A: Allocator + Copy> Pinned<'a, A> {
         reading::range(&mut self.seat, alloc, &self.at, from, to, limit)
     }
 
-    /// The format of the pinned version, whatever migrations came since. It takes no memory.
+    /// Returns the format of the pinned version, whatever migrations were made since the pin. It
+    /// takes no memory.
     pub fn format(&mut self) -> Format
         ensures found { result ≡ format_seen self.old }
         ensures same { self.new ≡ self.old }
@@ -123,7 +125,8 @@ impl<'a, A: Allocator + Copy> Pinned<'a, A> {
         reading::format(&mut self.seat, &self.at)
     }
 
-    /// The root digest of the pinned version, as [`Pass::root`] has it. It takes no memory.
+    /// Returns the root digest of the pinned version, as [`Pass::root`] does of the current one. It
+    /// takes no memory.
     pub fn root(&mut self) -> [u8; 32]
         ensures found { result ≡ text.root (format_seen self.old) (after_events self.old.seen) }
         ensures same { self.new ≡ self.old }
@@ -131,10 +134,10 @@ impl<'a, A: Allocator + Copy> Pinned<'a, A> {
         reading::root(&mut self.seat, &self.at)
     }
 
-    /// The proof of the pinned version's answer for the key against its root digest, as
-    /// [`Pass::prove`] has it, of fewer than 2^32 bytes.
+    /// Returns the proof of the pinned version's answer for the key against its root digest, in the
+    /// form that [`Pass::prove`] describes and in fewer than 2^32 bytes.
     ///
-    /// `Memory` comes where a growth was refused.
+    /// Returns `Memory` if a growth was refused.
     pub fn prove<B: Allocator + Copy>(&mut self, alloc: B, key: &Key) -> Result<Vec<u8, B>, Memory>
         ensures found { IfOk result
             (λ found. found.items
@@ -145,7 +148,7 @@ impl<'a, A: Allocator + Copy> Pinned<'a, A> {
         reading::prove(&mut self.seat, alloc, &self.at, key)
     }
 
-    /// Ends the pin, by one step. The pass has then seen the history at the pin.
+    /// Ends the pin, in one step, and returns the pass. It has then seen the history at the pin.
     pub fn unpin(self) -> Pass<'a, A>
         ensures same { result ≡ self.entry }
     {

@@ -22,7 +22,7 @@ pub(crate) struct PinnedRoot {
     pub(crate) pinned: u32,
     /// The number of the version: how many events led to it.
     pub(crate) version: u64,
-    /// The link of the tree of its map. The root digest is read where it is asked for.
+    /// The link of the tree of its map. The root digest is read when it is asked for.
     pub(crate) link: u32,
 }
 
@@ -57,8 +57,8 @@ pub(crate) fn get<A: Allocator + Copy>(
     mst_read::get_below(seat, at.link, key)
 }
 
-/// The pair of the least key above the bound in the pinned version; with no bound, of the least
-/// key.
+/// The pair of the least key above the bound in the pinned version, or of the least key if there is
+/// no bound.
 pub(crate) fn next<A: Allocator + Copy>(
     seat: &mut PassSeat<'_, A>,
     at: &PinnedRoot,
@@ -94,7 +94,7 @@ pub(crate) fn root<A: Allocator + Copy>(seat: &mut PassSeat<'_, A>, at: &PinnedR
 /// The first pairs of the pinned version, at most `limit`, of the keys that are at least `from` and
 /// below `to`. A bound that is not given does not bind.
 ///
-/// `Memory` comes where the growth of the list was refused.
+/// Returns `Memory` if the growth of the list was refused.
 pub(crate) fn range<A: Allocator + Copy, B: Allocator>(
     seat: &mut PassSeat<'_, A>,
     alloc: B,
@@ -115,7 +115,7 @@ pub(crate) fn range<A: Allocator + Copy, B: Allocator>(
 /// The proof of the pinned version's answer for the key, against its root digest, of fewer than
 /// 2^32 bytes, in its format.
 ///
-/// `Memory` comes where a growth was refused.
+/// Returns `Memory` if a growth was refused.
 pub(crate) fn prove<A: Allocator + Copy, B: Allocator + Copy>(
     seat: &mut PassSeat<'_, A>,
     alloc: B,

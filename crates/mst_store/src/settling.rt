@@ -15,8 +15,8 @@ use mst_words::PassSeat;
 use std::alloc::Allocator;
 use std::marker::Brand;
 
-/// Both passes have then seen one and the same history, which begins with all that either had seen.
-/// It takes no memory, and each step is one load.
+/// After the call both passes have seen one and the same history, which begins with all that either
+/// had seen. It takes no memory, and each step is one load.
 ///
 /// The passes must be of one store.
 pub fn meet<'a, A: Allocator + Copy>(one: &mut Pass<'a, A>, other: &mut Pass<'a, A>)
@@ -29,9 +29,9 @@ pub fn meet<'a, A: Allocator + Copy>(one: &mut Pass<'a, A>, other: &mut Pass<'a,
     deliver(other, &mut courier);
 }
 
-/// All passes of `free` have then seen one and the same history, which begins with all that each of
-/// them had seen and with the history at each pin of `held`, and has no events but those of the
-/// passes handed in. A pinned pass keeps its version. It takes no memory, and each step is one
+/// After the call all passes of `free` have seen one and the same history. It begins with all that
+/// each of them had seen and with the history at each pin of `held`, and has no events but those of
+/// the passes handed in. A pinned pass keeps its version. It takes no memory, and each step is one
 /// load: it neither takes the turn nor waits for it.
 ///
 /// The passes must be all those of one store, each free or pinned, in any order.
@@ -48,7 +48,7 @@ pub fn settle<'a, A: Allocator + Copy>(free: &mut [Pass<'a, A>], held: &mut [Pin
     deliver_held(held, &mut courier);
 }
 
-/// A courier from the first pass of the store, free or pinned. `None` comes where there is no pass.
+/// A courier from the first pass of the store, free or pinned. Returns `None` if there is no pass.
 fn first_courier<'a, A: Allocator + Copy>(
     free: &mut [Pass<'a, A>],
     held: &mut [Pinned<'a, A>],

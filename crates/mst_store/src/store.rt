@@ -68,11 +68,11 @@ fn is_shape(shape: Shape) -> bool
 }
 
 impl<A: Allocator + Copy> Store<A> {
-    /// A store of the empty map in the shape's format, and the right to deal its passes. All memory
-    /// of the store is taken here.
+    /// Opens a store of the empty map in the shape's format. Returns it with the right to deal its
+    /// passes. All memory of the store is taken here.
     ///
-    /// `Shape` comes exactly where the size is out of its limits, else `Memory` where a growth was
-    /// refused.
+    /// Returns `Shape` exactly if the size is out of its limits, 4 to 65,535 rows and 1 to 32
+    /// passes; otherwise `Memory` if a growth was refused.
     pub fn open(alloc: A, shape: Shape) -> Result<(Store<A>, Seats<A>), OpenFault>
         ensures shape { IsErrOf result OpenFault.Shape ↔ ¬ (IsShape shape) }
         ensures limits { OnOk result (IsShape shape) }
@@ -94,18 +94,18 @@ impl<A: Allocator + Copy> Store<A> {
         }
     }
 
-    /// How many passes the store has, 1 to 32.
+    /// Returns how many passes the store has, 1 to 32.
     pub fn passes(&self) -> u32
         ensures passes { result ≡ self.now.passes }
     {
         self.shape.passes
     }
 
-    /// The passes of the store, in the order of their numbers from 1. None of them has seen or done
-    /// anything.
+    /// Returns the passes of the store, in the order of their numbers from 1. None of them has seen
+    /// or done anything.
     ///
-    /// The seats must have come with this store. `Memory` comes where the growth was refused, and
-    /// gives the seats back.
+    /// The seats must be those that were opened with this store. Returns `Memory` if the growth was
+    /// refused, and gives the seats back.
     pub fn deal<B: Allocator>(
         &self,
         alloc: B,

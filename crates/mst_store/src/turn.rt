@@ -95,7 +95,7 @@ fn ask_others<A: Allocator + Copy>(seat: &mut PassSeat<'_, A>, desk: &Desk<A>, p
     asked
 }
 
-// Takes the turn, and the desk out of the slot. `None` comes where another pass has the turn.
+// Takes the turn, and the desk out of the slot. Returns `None` if another pass has the turn.
 fn take<A: Allocator + Copy>(seat: &mut PassSeat<'_, A>, number: u32) -> Option<Desk<A>>
     requires free { IsFree number seat.old.me }
     ensures same { IsSameSeat seat.old seat.new }
@@ -155,7 +155,7 @@ fn make_ready<A: Allocator + Copy>(
 
 /// Takes the turn, finds a record for a version to come, and frees the rows that no version
 /// reaches: one compare-exchange, one exchange, one load for each record but the current one, and
-/// seven loads more. `None` comes where another pass has the turn.
+/// seven loads more. Returns `None` if another pass has the turn.
 pub(crate) fn begin<A: Allocator + Copy>(
     seat: &mut PassSeat<'_, A>,
     number: u32,
@@ -175,7 +175,7 @@ pub(crate) fn begin<A: Allocator + Copy>(
     Some(make_ready(seat, desk, passes))
 }
 
-/// Begins a write: as [`begin`], but where the current version has the last number the turn is
+/// Begins a write as [`begin`] does. But if the current version has the last number, the turn is
 /// given back before any record is asked.
 pub(crate) fn begin_write<A: Allocator + Copy>(
     seat: &mut PassSeat<'_, A>,

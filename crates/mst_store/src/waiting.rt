@@ -14,10 +14,11 @@ use std::sync::Wait;
 
 impl<'a, A: Allocator + Copy> Pass<'a, A> {
     /// Gives the key the value as [`Pass::try_put`] does, and tries again for as long as another
-    /// pass has the turn, with a pause between two tries that grows. It takes no memory.
+    /// pass has the turn. The pause between two tries grows. It takes no memory.
     ///
-    /// It may wait forever: nothing is said of whether or when the turn comes. If it returns, it is
-    /// as a `try_put` that got the turn. In a store of one pass it never tries twice.
+    /// It may wait forever: no contract says whether or when it gets the turn. If it returns, its
+    /// result is that of a `try_put` that got the turn, with the same `VersionsSpent` and `NoRoom`.
+    /// In a store of one pass it never tries twice.
     #[tactic(auto, using(crate::proofs::Waits::all_tries))]
     pub fn put<R: Wait>(
         &mut self,
@@ -44,7 +45,7 @@ impl<'a, A: Allocator + Copy> Pass<'a, A> {
     }
 
     /// Takes the key out of the map as [`Pass::try_remove`] does, and waits for the turn as
-    /// [`Pass::put`] does.
+    /// [`Pass::put`] does. Its errors are those of [`Pass::put`].
     #[tactic(auto, using(crate::proofs::Waits::all_tries))]
     pub fn remove<R: Wait>(&mut self, rt: &R, key: &Key) -> Result<Option<Value>, ChangeFault>
         ensures ok { IfOk result

@@ -17,7 +17,7 @@ use mst_path::NoRoom;
 use mst_words::PassSeat;
 use std::alloc::Allocator;
 
-// Puts a pair into the map of the current version. It answers where the new map stands, and the
+// Puts a pair into the map of the current version. It returns where the new map stands, and the
 // value that the key had.
 fn make_put<A: Allocator + Copy>(
     seat: &mut PassSeat<'_, A>,
@@ -41,7 +41,7 @@ fn make_put<A: Allocator + Copy>(
     Ok((root, old))
 }
 
-// Takes a key out of the map of the current version. It answers where the new map stands, and the
+// Takes a key out of the map of the current version. It returns where the new map stands, and the
 // value that the key had.
 fn make_remove<A: Allocator + Copy>(
     seat: &mut PassSeat<'_, A>,
@@ -90,15 +90,15 @@ pub(crate) fn make<A: Allocator + Copy>(
 }
 
 /// Makes the change of the event, which is the pass's own, and publishes the version that it leads
-/// to. It answers the value that the change's key had.
+/// to. It returns the value that the change's key had.
 ///
 /// The steps, in this order: the turn is taken, the desk is taken, each record but the current one
 /// is asked, and the dead rows are freed that no version reaches which is kept; the nodes along the
 /// change's path are copied into free rows; then the version is published, the mask of the old
 /// record's pins is moved, and desk and turn go back. It takes no memory.
 ///
-/// `Busy` comes only where another pass has the turn, else `VersionsSpent` exactly where the
-/// current version has the last number, else `NoRoom` exactly where fewer rows are free than the
+/// Returns `Busy` only if another pass has the turn; otherwise `VersionsSpent` exactly if the
+/// current version has the last number; otherwise `NoRoom` exactly if fewer rows are free than the
 /// change takes: a row for each entry and one for each node that it makes new. All rows are free
 /// then but those that the kept versions hold: the current one and those that other passes pin. In
 /// a store of one pass these are the rows of the map.

@@ -1,4 +1,4 @@
-//! Where there is memory, no call is refused any, at sizes from a few rows to the most; and writes
+//! If there is memory, no call is refused any, at sizes from a few rows to the most; and writes
 //! take none of the memory that a heap has left.
 use crate::fixtures::{key, value};
 use crate::stores::{both_passes, dealt, heap_of, opened};
@@ -20,7 +20,7 @@ fn numbered(rt: &impl Abort, number: u32) -> (Key, Value) {
     (key(rt, &bytes), value(rt, &bytes))
 }
 
-// Puts the keys of the numbers below `count` with their values. True where each went through.
+// Puts the keys of the numbers below `count` with their values. Returns true if each went through.
 fn put_all<A: Allocator + Copy>(rt: &impl Abort, pass: &mut Pass<A>, count: u32) -> bool {
     for number in 0..count {
         let (key, value) = numbered(rt, number);
@@ -31,7 +31,8 @@ fn put_all<A: Allocator + Copy>(rt: &impl Abort, pass: &mut Pass<A>, count: u32)
     true
 }
 
-// Puts a value at one of twenty keys, or removes each seventh time. True where it went through.
+// Puts a value at one of twenty keys, or removes each seventh time. Returns true if it went
+// through.
 fn change<A: Allocator + Copy>(rt: &impl Abort, pass: &mut Pass<A>, number: u32) -> bool {
     let (key, _) = numbered(rt, number % 20);
     let (_, new) = numbered(rt, number);
@@ -97,8 +98,8 @@ fn are_given<A: Allocator>(found: Result<Vec<(Key, Value), A>, Memory>, count: u
 /// How many keys are passed over from one proof to the next.
 const STRIDE: usize = 97;
 
-// Whether a free pass gives all of so many pairs, none where it may give none, and proofs for some
-// of twice as many keys, half of which the map lacks.
+// Whether a free pass gives all of so many pairs, none if it may give none, and proofs for some of
+// twice as many keys, half of which the map lacks.
 fn answers(rt: &(impl Abort + AllocGlobal), pass: &mut Pass<Global>, count: u32) -> bool {
     for number in (0..count.saturating_mul(2)).step_by(STRIDE) {
         let (key, _) = numbered(rt, number);

@@ -22,8 +22,8 @@ const WRITES: u32 = 1_000;
 /// How often each auditor pins a version.
 const AUDITS: u32 = 500;
 
-// Whether the proof of the key is accepted in the format that the pinned pass tells, against the
-// root digest that it tells, with the value that it reads.
+// Whether the proof of the key is accepted in the format and against the root digest that the
+// pinned pass returns, with the value that it reads.
 fn is_proved(alloc: Global, pinned: &mut Pinned<Global>, key: &Key) -> bool {
     let (format, root) = (pinned.format(), pinned.root());
     let found = pinned.get(key);
@@ -33,7 +33,7 @@ fn is_proved(alloc: Global, pinned: &mut Pinned<Global>, key: &Key) -> bool {
     }
 }
 
-// Pins a version, and answers whether both its answers are proved.
+// Pins a version, and returns whether both its answers are proved.
 fn audit<'a>(
     alloc: Global,
     pass: Pass<'a, Global>,
@@ -58,7 +58,7 @@ fn audits(alloc: Global, pass: Pass<'_, Global>, one: &Key, other: &Key) -> bool
     true
 }
 
-// Whether a migration goes through once the turn is free, and answers that the format was this.
+// Whether a migration goes through once the turn is free, and returns that the format was this.
 fn moves(rt: &impl Wait, alloc: Global, pass: &mut Pass<Global>, to: Format, was: Format) -> bool {
     for _ in rt.forever() {
         match pass.try_migrate(alloc, to) {

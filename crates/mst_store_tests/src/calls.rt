@@ -19,7 +19,7 @@ type Bytes = &'static [u8];
 /// A call of a pass, and what it is to answer.
 #[derive(Clone, Copy)]
 pub(crate) enum Call {
-    /// A put at the key, of the value, where the key had the old one.
+    /// A put of the value at the key, which had the old one.
     Put(Bytes, Bytes, Option<Bytes>),
     /// A put at the key, of the value, that finds no room.
     PutInVain(Bytes, Bytes),
@@ -27,7 +27,7 @@ pub(crate) enum Call {
     Remove(Bytes, Option<Bytes>),
     /// A thousand puts at the key a, which had 1.
     PutMany,
-    /// A put that waits for the turn, where the key had no value.
+    /// A put that waits for the turn, at a key that had no value.
     PutInTurn(Bytes, Bytes),
     /// A remove that waits for the turn, of the key, which had this value.
     RemoveInTurn(Bytes, Option<Bytes>),
@@ -57,7 +57,7 @@ pub(crate) enum Call {
     /// Another root than this.
     OtherRoot([u8; 32]),
     Version(u64),
-    /// The rows that the map takes; none where a version is pinned.
+    /// The rows that the map takes; none if a version is pinned.
     Rows(Option<u32>),
     Number(u32),
     Pin,
@@ -69,7 +69,7 @@ pub(crate) enum Call {
 /// A call of the pass of this number.
 pub(crate) type Step = (u32, Call);
 
-// Whether a write of a free pass answers so.
+// Whether a write of a free pass returns what the call says.
 fn writes<A: Allocator + Copy>(rt: &impl Wait, pass: &mut Pass<A>, call: Call) -> bool {
     match call {
         Call::Put(key, value, old) => puts(pass, key, value, old),
@@ -83,7 +83,7 @@ fn writes<A: Allocator + Copy>(rt: &impl Wait, pass: &mut Pass<A>, call: Call) -
     }
 }
 
-// Whether a migration of a free pass answers so, or else a write.
+// Whether a migration of a free pass, or else a write, returns what the call says.
 fn moves<A: Allocator + Copy>(
     rt: &(impl AllocGlobal + Wait),
     pass: &mut Pass<A>,
@@ -97,7 +97,7 @@ fn moves<A: Allocator + Copy>(
     }
 }
 
-// Whether a read of a free pass answers so, or else a write.
+// Whether a read of a free pass, or else a write, returns what the call says.
 fn answers<A: Allocator + Copy>(
     rt: &(impl AllocGlobal + Wait),
     pass: &mut Pass<A>,
@@ -122,7 +122,7 @@ fn answers<A: Allocator + Copy>(
     }
 }
 
-// Whether a read of a pinned pass answers so.
+// Whether a read of a pinned pass returns what the call says.
 fn still_answers(alloc: Global, pinned: &mut Pinned<Global>, call: Call) -> bool {
     match call {
         Call::Get(key, value) => still_gets(pinned, key, value),
@@ -191,7 +191,8 @@ fn call_held<'a>(
     }
 }
 
-// Whether a call of the pass at this place answers so. It changes what stands there.
+// Whether a call of the pass at this place returns what the call says. It changes what stands
+// there.
 fn call_at(rt: &(impl AllocGlobal + Wait), place: &mut Option<Seat<'_>>, call: Call) -> bool {
     let (seat, right) = match place.take() {
         Some(Seat::Free(pass)) => call_free(rt, pass, call),
@@ -219,8 +220,8 @@ fn run_part(
     }
 }
 
-/// The calls of both passes of a new store of so many rows answer so, pins among them. The steps
-/// come in parts, one behind the other.
+/// The calls of both passes of a new store of so many rows, pins among them, return what the steps
+/// say. The steps come in parts, one after the other.
 pub(crate) fn script(rt: &(impl Abort + AllocGlobal + Wait), rows: u32, parts: &[&[Step]]) {
     let (store, seats) = opened(
         rt,

@@ -13,7 +13,7 @@ use std::alloc::Global;
 use std::process::Abort;
 
 /// A key of each layer in format 2, from 14 down to 0. Each lies between the two before it, so the
-/// nodes hang in turns before the entry of the node above and behind it.
+/// nodes hang in turns before the entry of the node above and after it.
 const DEEP: &[&[u8]] = &[
     b"z338499454",
     b"b12483696",

@@ -41,7 +41,7 @@ pub(crate) fn value(rt: &impl Abort, bytes: &[u8]) -> Value {
     value
 }
 
-/// Whether what was found is a value of these bytes, or nothing where none are given.
+/// Whether what was found is a value of these bytes, or nothing if none are given.
 pub(crate) fn is_value(found: &Option<Value>, wanted: Option<&[u8]>) -> bool {
     match (found, wanted) {
         (Some(value), Some(bytes)) => value.bytes() == bytes,
@@ -50,7 +50,7 @@ pub(crate) fn is_value(found: &Option<Value>, wanted: Option<&[u8]>) -> bool {
     }
 }
 
-/// Puts, or removes where no value is given.
+/// Puts, or removes if no value is given.
 pub(crate) fn write<A: Allocator + Copy>(
     pass: &mut Pass<A>,
     key: &Key,
@@ -62,7 +62,7 @@ pub(crate) fn write<A: Allocator + Copy>(
     }
 }
 
-/// Whether a put goes through, and answers this old value.
+/// Whether a put goes through, and returns this old value.
 pub(crate) fn puts<A: Allocator + Copy>(
     pass: &mut Pass<A>,
     key: &[u8],
@@ -91,7 +91,7 @@ pub(crate) fn put_fails<A: Allocator + Copy>(
     }
 }
 
-/// Whether a remove goes through, and answers this old value.
+/// Whether a remove goes through, and returns this old value.
 pub(crate) fn removes<A: Allocator + Copy>(
     pass: &mut Pass<A>,
     key: &[u8],
@@ -106,7 +106,7 @@ pub(crate) fn removes<A: Allocator + Copy>(
     }
 }
 
-/// Whether a migration goes through, and answers that the format was this one.
+/// Whether a migration goes through, and returns that the format was this one.
 pub(crate) fn migrates<A: Allocator + Copy, B: Allocator + Copy>(
     pass: &mut Pass<A>,
     alloc: B,
@@ -163,7 +163,7 @@ pub(crate) fn puts_many<A: Allocator + Copy>(pass: &mut Pass<A>) -> bool {
     true
 }
 
-/// Whether a put that waits goes through where the key had no value.
+/// Whether a put that waits goes through, and the key had no value.
 pub(crate) fn puts_in_turn<A: Allocator + Copy>(
     rt: &impl Wait,
     pass: &mut Pass<A>,
@@ -176,7 +176,7 @@ pub(crate) fn puts_in_turn<A: Allocator + Copy>(
     pass.put(rt, &key, &value) == Ok(None)
 }
 
-/// Whether a remove that waits goes through, and answers this old value.
+/// Whether a remove that waits goes through, and returns this old value.
 pub(crate) fn removes_in_turn<A: Allocator + Copy>(
     rt: &impl Wait,
     pass: &mut Pass<A>,
@@ -205,7 +205,7 @@ pub(crate) fn finds_no_room<A: Allocator + Copy>(
         && pass.remove(rt, &key).err() == Some(ChangeFault::NoRoom)
 }
 
-/// Whether the key has this value, or none where none is given.
+/// Whether the key has this value, or none if none is given.
 pub(crate) fn gets<A: Allocator + Copy>(
     pass: &mut Pass<A>,
     key: &[u8],
@@ -225,7 +225,7 @@ pub(crate) fn bound(bytes: Option<&[u8]>) -> Option<Key> {
     }
 }
 
-// Whether a pair that was found has this key, or there is none where none is given.
+// Whether a pair that was found has this key, or there is none if none is given.
 fn has_key(found: &Option<(Key, Value)>, wanted: Option<&[u8]>) -> bool {
     match (found, wanted) {
         (Some((key, _)), Some(bytes)) => key.bytes() == bytes,
@@ -234,7 +234,7 @@ fn has_key(found: &Option<(Key, Value)>, wanted: Option<&[u8]>) -> bool {
     }
 }
 
-/// Whether the next pair above the bound has this key, or there is none where none is given.
+/// Whether the next pair above the bound has this key, or there is none if none is given.
 pub(crate) fn next_is<A: Allocator + Copy>(
     pass: &mut Pass<A>,
     after: Option<&[u8]>,
@@ -259,7 +259,7 @@ pub(crate) fn counts<A: Allocator + Copy>(pass: &mut Pass<A>, rows: Option<u32>)
     pass.rows() == Ok(rows)
 }
 
-/// How many pairs of the keys between the bounds there are, up to the limit; none where memory was
+/// How many pairs of the keys between the bounds there are, up to the limit; none if memory was
 /// refused.
 pub(crate) fn count_pairs<A: Allocator + Copy, B: Allocator>(
     pass: &mut Pass<A>,
@@ -290,7 +290,7 @@ pub(crate) fn proves<A: Allocator + Copy, B: Allocator + Copy>(
     }
 }
 
-/// Whether the key has this value in the pinned version, or none where none is given.
+/// Whether the key has this value in the pinned version, or none if none is given.
 pub(crate) fn still_gets<A: Allocator + Copy>(
     pinned: &mut Pinned<A>,
     key: &[u8],
@@ -302,7 +302,7 @@ pub(crate) fn still_gets<A: Allocator + Copy>(
     }
 }
 
-/// Whether the next pair of the pinned version above the bound has this key, or there is none where
+/// Whether the next pair of the pinned version above the bound has this key, or there is none if
 /// none is given.
 pub(crate) fn still_next<A: Allocator + Copy>(
     pinned: &mut Pinned<A>,
@@ -312,8 +312,8 @@ pub(crate) fn still_next<A: Allocator + Copy>(
     has_key(&pinned.next(bound(after).as_ref()), wanted)
 }
 
-/// How many pairs of the keys between the bounds the pinned version has, up to the limit; none
-/// where memory was refused.
+/// How many pairs of the keys between the bounds the pinned version has, up to the limit; none if
+/// memory was refused.
 pub(crate) fn still_counts<A: Allocator + Copy, B: Allocator>(
     pinned: &mut Pinned<A>,
     alloc: B,

@@ -195,7 +195,7 @@ fn moves_beside(
     true
 }
 
-// Pins the version, and answers whether it stays while the other pass migrates.
+// Pins the version, and returns whether it stays while the other pass migrates.
 fn stays<'a>(
     alloc: Global,
     pass: Pass<'a, Global>,
@@ -223,8 +223,8 @@ fn a_thousand_migrations_beside_a_pin_take_six_rows(rt: HostRuntime) {
     assert!(rt; counts(&mut first, Some(2)) && has_version(&mut first, 1_001));
 }
 
-// Whether a migration in a heap of so many bytes goes through; none where memory was refused, and
-// then all is as before. It is wrong too where the heap is not empty behind it.
+// Whether a migration in a heap of so many bytes goes through; none if memory was refused, and then
+// all is as before. It is also wrong if the heap is not empty after it.
 fn migrated_in(alloc: Global, pass: &mut Pass<Global>, from: &Kept, bytes: usize) -> Option<bool> {
     let Ok(heap) = LocalHeap::new(alloc, bytes) else {
         return Some(false);
@@ -257,7 +257,7 @@ fn is_as_before(pass: &mut Pass<Global>, kept: &Kept) -> bool {
 }
 
 // In how many heaps, each of 16 bytes more than the one before, a migration found no memory; none
-// where something else went wrong.
+// if something else went wrong.
 fn refused_heaps(
     alloc: Global,
     first: &mut Pass<Global>,

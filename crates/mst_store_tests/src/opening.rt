@@ -1,4 +1,4 @@
-//! Stores are opened and their passes dealt, also where memory is refused.
+//! Stores are opened and their passes dealt, also if memory is refused.
 ghost use Rattle.std.specs.Prelude.{◌≡◌};
 
 use crate::calls::Call::{Get, Put};

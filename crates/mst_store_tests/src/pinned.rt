@@ -107,7 +107,7 @@ fn still_stands(pinned: &mut Pinned<Global>, root: &[u8; 32]) -> bool {
     pinned.version() == 1 && pinned.root() == *root && still_gets(pinned, b"a", Some(b"1"))
 }
 
-// Pins the version, and answers whether it stays while the other pass writes.
+// Pins the version, and returns whether it stays while the other pass writes.
 fn stays<'a>(pass: Pass<'a, Global>, other: &mut Pass<Global>) -> (Pass<'a, Global>, bool) {
     let mut pinned = pass.pin();
     let root = pinned.root();

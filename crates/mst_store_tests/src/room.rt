@@ -29,10 +29,10 @@ struct Listed {
     rows: usize,
 }
 
-/// What a write answers.
+/// What a write returns.
 type Answer = Result<Option<Value>, WriteFault>;
 
-/// What a migration answers.
+/// What a migration returns.
 type Move = Result<Format, MigrateFault>;
 
 impl Listed {
@@ -81,8 +81,8 @@ impl Listed {
     }
 }
 
-/// Puts, or removes where no value is given, and compares whether there was room and all that the
-/// store then tells of the map.
+/// Puts, or removes if no value is given. Compares whether there was room, and all that the store
+/// then says of the map.
 fn change(
     rt: &(impl Abort + AllocGlobal),
     pass: &mut Pass<Global>,
@@ -129,7 +129,7 @@ enum Wanted {
     NoRoom,
 }
 
-/// Whether a write answered what it was to answer.
+/// Whether a write returned what it should.
 fn is_wanted(answer: &Result<Option<Value>, WriteFault>, wanted: Wanted) -> bool {
     match (answer, wanted) {
         (Ok(found), Wanted::Nothing) => is_value(found, None),
@@ -318,8 +318,7 @@ fn random_calls(
     counts
 }
 
-/// Some random calls find no room, some migrations go through, and the map is not empty behind
-/// them.
+/// Some random calls find no room, some migrations go through, and the map is not empty after them.
 fn call_at_random(
     rt: &(impl Abort + AllocGlobal),
     passes: &mut [Pass<'_, Global>],

@@ -81,7 +81,7 @@ fn passes_that_write_in_turns_are_never_refused(rt: HostRuntime) {
     in_turns(&rt, Two, FROM_TWO);
 }
 
-// Migrates to the format until it goes through, and answers whether it did.
+// Migrates to the format until it goes through, and returns whether it did.
 fn moves_to(alloc: Global, pass: &mut Pass<Global>, to: Format) -> bool {
     for _ in 0..1_000_000u32 {
         match pass.try_migrate(alloc, to) {
@@ -93,7 +93,7 @@ fn moves_to(alloc: Global, pass: &mut Pass<Global>, to: Format) -> bool {
     false
 }
 
-// Puts the value at the key until it goes through, and answers whether it did.
+// Puts the value at the key until it goes through, and returns whether it did.
 fn puts_at(pass: &mut Pass<Global>, key: &Key, value: &Value) -> bool {
     for _ in 0..1_000_000u32 {
         match pass.try_put(key, value) {
@@ -106,7 +106,7 @@ fn puts_at(pass: &mut Pass<Global>, key: &Key, value: &Value) -> bool {
 }
 
 // Puts the values 0 to 99 at the key, each until it goes through, and migrates to and fro after
-// every tenth, at last to format 1. Answers whether all went through.
+// every tenth, at last to format 1. Returns whether all went through.
 fn put_all(alloc: Global, pass: &mut Pass<Global>, key: &Key) -> bool {
     for number in 0..100u8 {
         let Ok(value) = Value::new(&[number]) else {

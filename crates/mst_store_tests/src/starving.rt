@@ -39,7 +39,7 @@ pub(crate) fn still_starved<A: Allocator + Copy>(
         && matches!(pinned.prove(&heap, &key), Err(_))
 }
 
-// What a read answered in some heap: the right answer, or that there is no memory.
+// What a read returned in some heap: the right answer, or that there is no memory.
 #[derive(Clone, Copy)]
 enum Answered {
     Right,
@@ -63,8 +63,8 @@ fn proof_in<A: Allocator + Copy>(pass: &mut Pass<A>, heap: &LocalHeap, key: &Key
     }
 }
 
-// What a proof of the key answers in a heap of so many bytes, or with no key a range. It is wrong
-// too where the heap is not empty then.
+// What a proof of the key, or a range if there is no key, returns in a heap of so many bytes. It is
+// also wrong if the heap is not empty then.
 fn read_in<A: Allocator + Copy>(
     alloc: Global,
     pass: &mut Pass<A>,
@@ -85,8 +85,8 @@ fn read_in<A: Allocator + Copy>(
     }
 }
 
-/// Whether a proof of the key, or with none a range, answers in each heap of this many 16 bytes
-/// that there is no memory, up to one in which it answers right.
+/// Whether a proof of the key, or a range if there is no key, finds no memory in heaps of 16, 32,
+/// 48 .. bytes, up to one in which its answer is right.
 pub(crate) fn is_right_or_refused<A: Allocator + Copy>(
     alloc: Global,
     pass: &mut Pass<A>,

@@ -48,7 +48,7 @@ fn a_write_in_turn_that_finds_no_room_changes_nothing(rt: HostRuntime) {
     script(&rt, 6, &[STEPS]);
 }
 
-// Puts the values 0 to 99 at the key and removes each, and answers whether each write found what
+// Puts the values 0 to 99 at the key and removes each, and returns whether each write found what
 // the one before it left.
 fn put_and_remove_all(rt: &impl Wait, pass: &mut Pass<Global>, key: &Key) -> bool {
     for number in 0..100u8 {

@@ -60,7 +60,7 @@ impl List {
         self.changes
     }
 
-    // The place of the key, or the one where it would stand.
+    // The place of the key, or the one where it would be.
     fn find(&self, key: &Key) -> Result<usize, usize>
         ensures inside { IsSearchInRange result (vec_len self.now.pairs) }
     {
@@ -76,7 +76,7 @@ impl List {
         Some(value.copy())
     }
 
-    /// Gives the key the value or, where none is given, takes it out.
+    /// Gives the key the value or, if none is given, takes it out.
     pub fn change(&mut self, key: &Key, new: Option<&Value>) -> Result<(), AllocError> {
         match (self.find(key), new) {
             (Ok(place), Some(value)) => {

@@ -10,7 +10,7 @@ const KEY_BYTES: usize = 32;
 
 const VALUE_BYTES: usize = 64;
 
-// The next bytes by chance.
+// The next random bytes.
 fn bytes<const N: usize>(chance: &mut Chance) -> [u8; N] {
     let mut bytes = [0; N];
     for place in 0..N {

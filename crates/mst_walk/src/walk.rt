@@ -1,4 +1,4 @@
-//! The walk: one call after another, by chance.
+//! The walk: one random call after another.
 ghost use Rattle.std.specs.Prelude.{◌<◌, vec_len};
 
 use crate::chance::Chance;
@@ -39,7 +39,7 @@ pub struct Walk<'a> {
     tally: Tally,
 }
 
-// Puts the value at the key or, where none is given, removes the key.
+// Puts the value at the key or, if none is given, removes the key.
 fn change(
     pass: &mut Pass<'_, Global>,
     key: &Key,
@@ -51,8 +51,8 @@ fn change(
     }
 }
 
-// Writes by a free pass, and compares the old value with the list's. Where there is no room, which
-// comes only beside a pinned version, both stay.
+// Writes by a free pass, and compares the old value with the list's. If there is no room, which
+// happens only beside a pinned version, both stay.
 fn write(
     pass: &mut Pass<'_, Global>,
     list: &mut List,
@@ -104,7 +104,7 @@ fn migrate(
     Ok(())
 }
 
-// Whether the rows are counted exactly where no version is pinned, and are then no fewer than the
+// Whether the rows are counted exactly if no version is pinned, and are then no fewer than the
 // pairs.
 fn counts_rows(pass: &mut Pass<'_, Global>, list: &List, is_pinned: bool) -> bool {
     match pass.rows() {

@@ -1,5 +1,5 @@
 -- The steps of the laws, each of which keeps the history but a publication; what is writable; and
--- what the words tell.
+-- what the words say.
 use Rattle.std.proofs.Common.{◌≡◌, ◌⊎◌, ℕ, ◌+◌, ◌*◌, ◌<◌, inl, inr, true, Option, List, [], ◌∷◌, ◌++◌, length, set, sym, refl, ap, ◌∙◌, subst, ⊎_elim, arith}
 use mathlib.Core.Logic.{dite}
 use native.Mathlib.Decide.{ℕ_discrete}
@@ -89,7 +89,7 @@ module _ {S : Type 0} (T : Meaning S) (R N : ℕ) where
       (subst (λ (l : List View). World R N T.first b.parts.next b.parts.log l) views b.parts.world)
       a.seen.whole (subst (λ (l : List View). Whole b.parts.log l) views b.seen.whole) at quiet
 
-  -- a seat comes, and the history stays
+  -- a seat is added, and the history stays
   add_ruled : (s t : State S View) (a : Ruled T R N s) (b : Ruled T R N t) (id : ℕ) (v w x : View)
       → SeatAt s.views id v → t.views ≡ set s.views id w ++ x ∷ [] → w.number ≡ v.number
       → w.mine ≡ v.mine → w.seen ≡ v.seen → IsPrefix x.seen a.parts.log
@@ -113,7 +113,7 @@ module _ {S : Type 0} (T : Meaning S) (R N : ℕ) where
 
   -- ---- what is writable
 
-  -- the words of rows lie behind those of records
+  -- the words of rows lie after those of records
   behind : (r k x j n : ℕ) → r < n + 2 → n < 33 → k < record_words → record_word r k ≡ row_word x j
       → ⊥
   behind r k x j n inside few small same = omega (arith, inside, few, small, same)

@@ -55,7 +55,7 @@ four_set ws a b c d long =
     let at_d : get_or (set three 41 d) 41 0 ≡ d = get_or-set_same three 41 d 0 (omega arith) in
     λ i. bytes_in (at_a i ∷ at_b i ∷ at_c i ∷ at_d i ∷ [])
 
--- and a word behind them is as it was
+-- and a word after them is as it was
 pub behind_four : (ws : List ℕ) (a b c d : ℕ)
     → get_or (set (set (set (set ws 38 a) 39 b) 40 c) 41 d) 42 0 ≡ get_or ws 42 0
 behind_four ws a b c d =

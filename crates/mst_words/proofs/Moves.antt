@@ -53,7 +53,7 @@ current_stays : (z : Shape) (s t : Table) (a : IsRuled z s) (b : IsRuled z t) �
 current_stays z s t a b word = current_by z t b a.parts.cur a.parts.mask a.parts.pins.small
     (word ∙ a.parts.pins.current)
 
--- while the turn is free no transfer waits, else the one of which its holder knows
+-- while the turn is free no transfer waits, otherwise the one of which its holder knows
 due_free : (z : Shape) (t : Table) (b : IsRuled z t) → get_or t.words 0 0 ≡ 0 → b.parts.due ≡ None
 due_free z t b free = (b.parts.turn.free free).3
 
@@ -288,7 +288,7 @@ module _ (z : Shape) (s t : Table) (a : IsRuled z s) (b : IsRuled z t) (moves : 
 
     -- ---- the seats
 
-    -- a seat comes, which is no pass or the next one
+    -- a seat is added, which is no pass or the next one
     comes : (id : ℕ) (v w n : View) → SeatAt s.views id v → t.views ≡ set s.views id w ++ n ∷ []
         → t.words ≡ s.words → IsStill v w → n.pin ≡ None
         → (0 < n.number → (i : ℕ) (u : View) → SeatAt s.views i u → u.number ≡ n.number → ⊥)

@@ -98,7 +98,7 @@ begins log other vs us whole seen fits =
     subst (λ (l : History). IsPrefix l other) (w.3 ∙ t.3) (fits w.0 w.1 w.2)) whole
 
 module _ (rows passes : ℕ) (first : Format) where
-  -- where seats have seen the same, the histories are one
+  -- if seats have seen the same, the histories are one
   pub one_history : (m n : ℕ) (log other : History) (vs us : List View) → World rows passes first m
       log vs → World rows passes first n other us → Whole log vs → Whole other us → Seen vs us
       → Seen us vs → other ≡ log
@@ -106,7 +106,7 @@ module _ (rows passes : ℕ) (first : Format) where
       (begins other log us vs there back (λ j w e. (h.fits j w e).seen))
       (begins log other vs us here forth (λ j w e. (k.fits j w e).seen))
 
-  -- where passes have made the same events, both histories have these
+  -- if passes have made the same events, both histories have these
   pub same_events : (m n : ℕ) (log other : History) (vs us : List View) → World rows passes first m
       log vs → World rows passes first n other us → Made vs us → Made us vs → (p : ℕ)
       → events_of p other ≡ events_of p log
@@ -240,7 +240,7 @@ module _ (rows passes : ℕ) (first : Format) where
       (one_begins log other vs id v w here there (λ i u e. (h.fits i u e).seen)
       (λ i u e. (k.fits i u e).seen) at quiet)
 
-  -- and so it does where a seat comes that has seen some of it
+  -- and so it does if a seat is added that has seen some of it
   pub add_stays : (m n : ℕ) (log other : History) (vs : List View) (id : ℕ) (v w x : View)
       → World rows passes first m log vs → World rows passes first n other (set vs id w ++ x ∷ [])
       → Whole other (set vs id w ++ x ∷ []) → SeatAt vs id v

@@ -1,5 +1,5 @@
 -- The worked table is reached by the events of its steps: pass 1 pins record 0, record 1 is
--- published, and the pin is moved. It is not reached where one of them is left out.
+-- published, and the pin is moved. It is not reached if one of them is left out.
 use Rattle.std.proofs.Common.{◌≡◌, ℕ, inl, inr, Some, None, List, [], ◌∷◌, set, sym, refl, ap, ◌∙◌, subst, arith, lit<}
 use Rattle.std.specs.Prelude.{is_some}
 use Rattle.std.proofs.lemmas.Bool.{false≢true}

@@ -1,4 +1,4 @@
--- What keeps a world lawful: one view changes, an event comes, a pass is dealt.
+-- What keeps a world lawful: one view changes, an event is added, a pass is dealt.
 use Rattle.std.proofs.Common.{◌≡◌, ℕ, zero, suc, ◌+◌, ◌<◌, ◌≤◌, ◌≢◌, List, [], ◌∷◌, ◌++◌, length, set, sym, refl, ap, ◌∙◌, subst, ⊎_elim, arith, inl, inr, ◌⊎◌, None}
 use Rattle.std.specs.List.{All}
 use Rattle.std.proofs.lemmas.List.Elements.{All-append}

@@ -1,5 +1,5 @@
 -- What the laws of the rule speak of: the table of a store, what its seats have seen and made, what
--- its words tell, and its steps.
+-- its words say, and its steps.
 use Rattle.std.specs.Prelude.{◌≡◌, ◌⊎◌, ℕ, ◌+◌, ◌*◌, ◌<◌, true, List, [], ◌∷◌, ◌++◌, length, slice_index, slice_set, Option}
 use Rattle.atomic_table.specs.Table.{State, Me, Step}
 use Rattle.mst_key.specs.declared.history.Event.{Event}

@@ -1,6 +1,6 @@
 -- Where the words of a table lie, and how many there are. Word 0 is the turn, word 1 the current
--- record and the mask of its pins; then come a word DONE for each of the most records, the words of
--- these records, and the words of the rows.
+-- record and the mask of its pins; then follow a word DONE for each of the most records, the words
+-- of these records, and the words of the rows.
 use Rattle.std.specs.Prelude.{ℕ, ◌+◌, ◌*◌}
 
 -- the most passes that a table serves
@@ -36,7 +36,7 @@ done_word r = r + 2
 abbrev pub first_record : ℕ
 first_record = 36
 
--- the place of the first word of the first row, behind the records and four unused words
+-- the place of the first word of the first row, after the records and four unused words
 abbrev pub first_row : ℕ
 first_row = 278
 

@@ -1,6 +1,6 @@
 -- Which pass pins which record, read from the words. Beside each record's word DONE counts a mask:
 -- for the current record the one in the word CURRENT, for the record whose transfer waits the one
--- that came back from the publication, else none.
+-- that the publication returned, otherwise none.
 use Rattle.std.specs.Prelude.{◌≡◌, ◌≢◌, ◌⊎◌, ℕ, ◌+◌, ◌-◌, ◌*◌, ◌%◌, ◌<◌, ◌≤◌, true, List, [], ◌∷◌, slice_index, Option, Some, None}
 use Rattle.std.specs.Int.{bit_at}
 use Rattle.mst_arena.specs.Lists.{In}

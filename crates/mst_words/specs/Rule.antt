@@ -19,9 +19,9 @@ pub record Still (n word : ℕ) (views : List View) : Type 0 where
       → v.noted ≡ Some w → w ≡ word
 
 module _ {S : Type 0} (T : Meaning S) (R n : ℕ) where
-  -- While the turn is free, the slot is at home with the desk, and no transfer waits. Else the turn
-  -- names the one pass that has the slot, and that pass has seen the whole history and knows the
-  -- desk
+  -- While the turn is free, the slot is at home with the desk, and no transfer waits. Otherwise the
+  -- turn names the one pass that has the slot, and that pass has seen the whole history and knows
+  -- the desk
   pub record Turn (word : ℕ) (homes : List (mathlib.Core.Option.Option S)) (desk : DeskState)
       (due : Option ℕ) (log : History) (views : List View) : Type 0 where
     pub free : word ≡ 0 → (x : S) × (homes ≡ some x ∷ []) × T.IsDesk x R n desk × (due ≡ None)

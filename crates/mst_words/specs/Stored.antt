@@ -23,7 +23,7 @@ rows_in word x = row_in (word x 0 ∷ word x 1 ∷ word x 2 ∷ word x 3
     ∷ word x 8 ∷ word x 9 ∷ word x 10 ∷ word x 11
     ∷ word x 12 ∷ word x 13 ∷ word x 14 ∷ word x 15 ∷ [])
 
--- the root that the words of a record spell, behind its version number
+-- the root that the words of a record spell, after its version number
 abbrev pub root_in : (ℕ → ℕ) → Root
 root_in field = words.root_in (field 1 ∷ field 2 ∷ field 3 ∷ field 4 ∷ field 5 ∷ [])
 

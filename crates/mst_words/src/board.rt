@@ -55,7 +55,7 @@ fn one_slot<A: Allocator>(alloc: A, desk: Desk<A>) -> Result<Vec<Option<Desk<A>>
 }
 
 impl<A: Allocator + Copy> Board<A> {
-    /// A table with an empty history, and the dealer's seat. `Memory` comes where a growth was
+    /// A table with an empty history, and the dealer's seat. Returns `Memory` if a growth was
     /// refused.
     pub fn open(alloc: A, shape: Shape, desk: Desk<A>) -> Result<(Board<A>, Token<A>), Memory>
         requires some_rows { 0 < shape.rows }
@@ -88,8 +88,8 @@ impl<A: Allocator + Copy> Board<A> {
         self.table.shared.split_seat::<Deal>(seat)
     }
 
-    /// Takes the turn: one compare-exchange of its word from 0 to the pass's number. True where the
-    /// turn is then the pass's.
+    /// Takes the turn: one compare-exchange of its word from 0 to the pass's number. Returns true
+    /// if the turn is then the pass's.
     pub(crate) fn take_turn(&self, seat: &mut Token<A>, number: u32) -> bool
         requires own { seat.old.table_id ≡ self.now }
         requires wide { self.now.words ≡ table_words seat.old.me.0.rows }

@@ -19,10 +19,10 @@ ghost use Rattle.mst_words.specs.World.{SeatAt};
 
 /// What the rule says of the history and of what may be written.
 pub fn rule_laws()
-    // where seats have seen the same, there is one history
+    // if seats have seen the same, there is one history
     ensures one { (z : Shape) (s t : Table) (a : IsRuled z s) (b : IsRuled z t)
         → HaveSeen s t → HaveSeen t s → b.parts.log ≡ a.parts.log }
-    // where passes have made the same events, both histories have these, each pass's in its order
+    // if passes have made the same events, both histories have these, each pass's in its order
     ensures made { (z : Shape) (s t : Table) (a : IsRuled z s) (b : IsRuled z t)
         → HaveMade s t → HaveMade t s
         → (p : ℕ) → events_of p b.parts.log ≡ events_of p a.parts.log }
@@ -43,14 +43,14 @@ pub fn rule_laws()
         → IsPublication e s t → b.parts.log ≡ a.parts.log ++ e ∷ [] }
     ensures keeps { (z : Shape) (s t : Table) (a : IsRuled z s) (b : IsRuled z t)
         → IsOther s t → b.parts.log ≡ a.parts.log }
-    // the words tell what the history leaves
+    // the words say what the history leaves
     ensures words { (z : Shape) (s : Table) (a : IsRuled z s) → Tells z s a.parts.log }
 {}
 
-/// What the rule says of the core of pins: one list of its events comes to the table, and each step
+/// What the rule says of the core of pins: one list of its events leads to the table, and each step
 /// carries it on.
 pub fn path_laws()
-    // no event comes before the table as it is opened
+    // no event led to the table as it is opened
     ensures opens { (z : Shape) (s : Table) (a : IsRuled z s) → IsOpened z s
         → IsReachedBy z [] s a }
     // from each table that is as the rule says a seat can do each deed that it may do
@@ -73,14 +73,14 @@ pub fn path_laws()
     ensures publication { (z : Shape) (s t : Table) (a : IsRuled z s) (b : IsRuled z t)
         (moves : List core.Event) (into : ℕ) → MakesCurrent into s t → IsReachedBy z moves s a
         → IsReachedBy z (Publish into 0 ∷ moves) t b }
-    // a seat that comes or hears a note adds none
+    // a seat that is added or hears a note adds none
     ensures seats { (z : Shape) (s t : Table) (a : IsRuled z s) (b : IsRuled z t)
         (moves : List core.Event) → ChangesSeats s t → IsReachedBy z moves s a
         → IsReachedBy z moves t b }
     // so each table is reached by exactly the events of the steps that led to it
     ensures run { (z : Shape) (tables : List Table) (moves : List core.Event) (t : Table)
         (b : IsRuled z t) → IsLedTo z tables moves t → IsReachedBy z moves t b }
-    // one list comes to one current record
+    // one list leads to one current record
     ensures current { (z : Shape) (moves : List core.Event) (s t : Table) (a : IsRuled z s)
         (b : IsRuled z t) → IsReachedBy z moves s a → IsReachedBy z moves t b
         → b.parts.cur ≡ a.parts.cur }

@@ -1,6 +1,6 @@
 //! Where the words of a table lie, and how many there are.
 //!
-//! Word 0 is the turn, and word 1 names the current record. Then come a word DONE for each of the
+//! Word 0 is the turn, and word 1 names the current record. Then follow a word DONE for each of the
 //! most records that a table can have, the words of these records, and the words of the rows.
 ghost use Rattle.std.specs.Prelude.{◌≡◌, ◌<◌};
 ghost use Rattle.mst_words.specs.Layout.{record_word, row_word, table_words};
@@ -33,14 +33,14 @@ pub(crate) const FIRST_DONE: usize = 2;
 /// The place of the first word of record 0.
 const FIRST_RECORD: usize = FIRST_DONE + MOST_RECORDS;
 
-/// The place of the first word of the digest in record 0, behind the version and the link.
+/// The place of the first word of the digest in record 0, after the version and the link.
 pub(crate) const FIRST_DIGEST: usize = FIRST_RECORD + 2;
 
 /// The place of the word of the format in record 0.
 pub(crate) const FIRST_FORMAT: usize = FIRST_RECORD + 6;
 
-/// How many words lie unused behind the records. With them the first row begins at a cache line of
-/// 64 bytes where the allocator gives memory at 16 bytes behind one, as that of glibc does.
+/// How many words lie unused after the records. With them the first row begins at a cache line of
+/// 64 bytes if the allocator gives memory that begins 16 bytes after one, as that of glibc does.
 const SPARE_WORDS: usize = 4;
 
 /// The place of the first word of the first row.

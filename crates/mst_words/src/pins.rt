@@ -22,7 +22,7 @@ fn bit_of(number: u32) -> u64
 
 impl<A: Allocator + Copy> Board<A> {
     /// Pins the current record: one xor of the pass's bit into the word of the current record. It
-    /// answers the record.
+    /// returns the record.
     pub(crate) fn pin(&self, seat: &mut Token<A>, number: u32) -> u32
         requires own { seat.old.table_id ≡ self.now }
         requires wide { self.now.words ≡ table_words seat.old.me.0.rows }
@@ -107,11 +107,11 @@ impl<A: Allocator + Copy> Board<A> {
 
 impl<'a, A: Allocator + Copy> PassSeat<'a, A> {
     /// For tests: the passes that pin a record, by what the words say; pass p has bit p - 1.
-    /// Nothing is proved of its answer.
+    /// Nothing is proved of its result.
     ///
-    /// It loads two words, one after the other, so it tells the pins of one moment only while no
+    /// It loads two words, one after the other, so its result is right for one moment only while no
     /// pass makes a step. Between a publication and its transfer the mask of the old record stands
-    /// in no word, and the answer for that record lacks it.
+    /// in no word, and the result for that record lacks it.
     pub fn pins(&mut self, which: u32) -> u32
         requires there { which < most_records }
         ensures same { IsSameSeat self.old self.new }

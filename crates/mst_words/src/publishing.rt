@@ -49,7 +49,7 @@ impl<A: Allocator + Copy> Board<A> {
     }
 
     /// Publishes a drained record: one swap of the word of the current record, with an empty mask.
-    /// It answers the word that was there: the record that was current, and the mask of its pins.
+    /// It returns the word that was there: the record that was current, and the mask of its pins.
     pub(crate) fn publish<J: Naming>(
         &self,
         seat: &mut Token<A>,
@@ -87,7 +87,7 @@ impl<A: Allocator + Copy> Board<A> {
             .fetch_xor::<Transfer>(seat, old as usize + FIRST_DONE, mask);
     }
 
-    /// Notes the word of the current record: one load. It answers the word.
+    /// Notes the word of the current record: one load. It returns the word.
     pub(crate) fn note_current(&self, seat: &mut Token<A>) -> u64
         requires own { seat.old.table_id ≡ self.now }
         requires wide { self.now.words ≡ table_words seat.old.me.0.rows }

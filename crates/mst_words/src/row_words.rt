@@ -49,8 +49,8 @@ impl<A: Allocator + Copy> Board<A> {
         words
     }
 
-    /// Makes word k of a blank row this one: one load, and a store where another word stands there,
-    /// since a store costs some twenty times as much as a load.
+    /// Sets word k of a blank row to `value`: one load, and a store only if another word stands
+    /// there, since a store costs some twenty times as much as a load.
     fn store_word(&self, seat: &mut Token<A>, row: u32, k: usize, value: u64)
         requires own { seat.old.table_id ≡ self.now }
         requires wide { self.now.words ≡ table_words seat.old.me.0.rows }

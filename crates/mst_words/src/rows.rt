@@ -41,8 +41,8 @@ impl<'a, A: Allocator + Copy> PassSeat<'a, A> {
         self.board.words(&mut self.token, row, from)
     }
 
-    // The order of what was compared before, and where that is the same, of a number and word k of
-    // a row: one load at most.
+    // The order of what was compared before, and if that is equal, the order of a number and word k
+    // of a row: one load at most.
     fn next_order(&mut self, before: Ordering, number: u64, row: u32, k: usize) -> Ordering
         requires readable { may_read self.old.me.0 row ≡ true }
         requires there { k < row_words }
@@ -57,8 +57,8 @@ impl<'a, A: Allocator + Copy> PassSeat<'a, A> {
         }
     }
 
-    // The order of what was compared before, and where that is the same, of a length and that of
-    // the key of a row.
+    // The order of what was compared before, and if that is equal, the order of a length and that
+    // of the key of a row.
     fn length_order(&mut self, before: Ordering, len: u64, row: u32) -> Ordering
         requires readable { may_read self.old.me.0 row ≡ true }
         ensures order { result ≡ ordering_then before

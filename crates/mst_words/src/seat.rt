@@ -82,8 +82,8 @@ impl<'a, A: Allocator + Copy> PassSeat<'a, A> {
 }
 
 impl<'a, A: Allocator + Copy> PassSeat<'a, A> {
-    /// Takes the turn: one compare-exchange of its word from 0 to the pass's number. True where the
-    /// turn is then the pass's.
+    /// Takes the turn: one compare-exchange of its word from 0 to the pass's number. Returns true
+    /// if the turn is then the pass's.
     pub fn take_turn(&mut self, number: u32) -> bool
         requires free { IsFree number self.old.me }
         ensures same { IsSameSeat self.old self.new }
@@ -129,7 +129,7 @@ impl<'a, A: Allocator + Copy> PassSeat<'a, A> {
 
 impl<'a, A: Allocator + Copy> PassSeat<'a, A> {
     /// Pins the current record: one xor of the pass's bit into the word of the current record. It
-    /// answers the record.
+    /// returns the record.
     pub fn pin(&mut self, number: u32) -> u32
         requires free { IsFree number self.old.me }
         requires few { number ≤ most_passes }
@@ -209,7 +209,7 @@ impl<'a, A: Allocator + Copy> PassSeat<'a, A> {
     }
 
     /// Publishes a drained record: one swap of the word of the current record, with an empty mask.
-    /// It answers the word that was there: the record that was current, and the mask of its pins.
+    /// It returns the word that was there: the record that was current, and the mask of its pins.
     pub fn publish<J: Naming>(&mut self, into: u32, event: &Event, desk: &Desk<A>) -> u64
         requires named { (J.event ≡ event.now) × (J.desk ≡ desk_state desk.now) }
         requires ready { (used : List ℕ)
@@ -233,7 +233,7 @@ impl<'a, A: Allocator + Copy> PassSeat<'a, A> {
         self.board.transfer(&mut self.token, old, mask)
     }
 
-    /// Notes the word of the current record: one load. It answers the word.
+    /// Notes the word of the current record: one load. It returns the word.
     pub fn note_current(&mut self) -> u64
         requires holder { IsHolder self.old.me }
         ensures same { IsSameSeat self.old self.new }

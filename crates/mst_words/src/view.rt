@@ -31,7 +31,7 @@ pub struct View {
     pub passes: u32,
     /// The format of the store's version 0.
     pub format: Format,
-    /// At the dealer's seat the number of the next pass that it deals, else 0.
+    /// At the dealer's seat the number of the next pass that it deals, otherwise 0.
     pub deals: u32,
     /// The beginning of the history that the pass has seen.
     pub seen: LinkedList<Event>,

@@ -59,7 +59,7 @@ fn zeros<A: Allocator>(alloc: A, count: usize) -> Result<Vec<u64, A>, Memory>
 }
 
 /// The words of a new table: all of them 0, but for the digest in record 0, which is that of the
-/// empty text, and the number of its format. `Memory` comes where the growth was refused.
+/// empty text, and the number of its format. Returns `Memory` if the growth was refused.
 pub(crate) fn first_words<A: Allocator>(alloc: A, shape: Shape) -> Result<Vec<u64, A>, Memory>
     requires few { shape.rows ≤ 65535 }
     ensures long { IfOk result (λ v. length v.items ≡ table_words shape.rows) }

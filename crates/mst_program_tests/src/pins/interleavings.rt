@@ -78,7 +78,7 @@ fn rows_of(core: &Core) -> [bool; 2] {
     ]
 }
 
-/// What is current, where nothing is pinned: the record that a pin is told.
+/// What is current, if nothing is pinned: the record that a pin is told.
 fn current_of(core: &Core) -> Version {
     let told = answer_of(core, Event::Pin(1));
     Version {
@@ -117,7 +117,7 @@ struct Plain {
     told: [Answer; 3],
 }
 
-/// What a pass is told that pins now: the current record, where it pins nothing.
+/// What a pass is told that pins now: the current record, if it pins nothing.
 fn told_of(current: Version, pinned: Version) -> Answer {
     if pinned != NOTHING {
         return Answer::Refused;
@@ -188,7 +188,7 @@ impl Plain {
     }
 }
 
-/// What a core answers once all events have come.
+/// What a core answers after all events.
 const LAST: &[(Event, Answer)] = &[
     (Event::Ask(0), Answer::Yes),
     (Event::Ask(1), Answer::Yes),

@@ -31,7 +31,7 @@ fn steady(read_most: usize, write_most: usize) -> Devices {
     }
 }
 
-/// Runs a command over an input between such devices, and answers the exit status.
+/// Runs a command over an input between such devices, and returns the exit status.
 fn status_between<R: Threads + Wait + AllocGlobal + Sync>(
     rt: &R,
     words: &[&str],
@@ -61,8 +61,8 @@ fn status_between<R: Threads + Wait + AllocGlobal + Sync>(
 /// The words of a command, its input, and all that it answers.
 type Work = (&'static [&'static str], &'static str, &'static str);
 
-/// Whether a command comes to this status between such devices, and writes so many bytes of its
-/// answers, and `device` on standard error where the status tells that a device failed.
+/// Whether a command ends with this status between such devices, and writes so many bytes of its
+/// answers, and `device` on standard error if the status says that a device failed.
 fn comes_to<R: Threads + Wait + AllocGlobal + Sync>(
     rt: &R,
     (words, input, answers): Work,
@@ -241,7 +241,7 @@ fn devices_of_a_load_fail(rt: HostRuntime) {
     each_comes_to(&rt, LOAD, (9, 1), OF_A_LOAD);
 }
 
-// The status of the script where a read fails after so many, and each write of standard error.
+// The status of the script if a read fails after so many, and each write of standard error.
 fn status_with_no_errors<R: Threads + Wait + AllocGlobal + Sync>(rt: &R, reads: u64) -> u8 {
     let devices = Devices {
         reads,
@@ -252,7 +252,7 @@ fn status_with_no_errors<R: Threads + Wait + AllocGlobal + Sync>(rt: &R, reads: 
     status_between(rt, RUN.0, SCRIPT.as_bytes(), devices, &mut out, &mut err)
 }
 
-// Where standard error fails too, the status still says so.
+// If standard error fails too, the status still says so.
 #[test]
 fn standard_error_fails(rt: HostRuntime) {
     for (reads, status) in [(0, 3), (u64::MAX, 0)] {

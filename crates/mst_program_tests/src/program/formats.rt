@@ -178,8 +178,7 @@ fn words_at(
     }
 }
 
-/// Whether a proof is judged so with the option at this place, and not read where words are
-/// refused.
+/// Whether a proof is judged so with the option at this place, and not read if words are refused.
 fn verifies_at<R: Threads + Wait + AllocGlobal + Sync>(
     rt: &R,
     place: u8,
@@ -235,7 +234,7 @@ const IN_FORMAT_1: &[(&str, u8, &str, &str)] = &[
 /// The proof of the map of `a` and `abc` for any key.
 const PROOF_OF_TWO: &[u8] = b"0101000000110100000200016101310003616263017800";
 
-/// Whether a proof of format 1 is judged so behind these words.
+/// Whether a proof of format 1 is judged so after these words.
 fn judges<R: Threads + Wait + AllocGlobal + Sync>(
     rt: &R,
     words: &str,

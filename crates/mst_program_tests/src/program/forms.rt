@@ -40,8 +40,8 @@ fn left_of(source: &mut BytesSource<'_>) -> usize {
     source.read(&mut piece).unwrap_or(0)
 }
 
-/// What the program comes to over an input, how many bytes it leaves of that, and how many calls of
-/// a load there were. The words stand in one line, which is cut at each space.
+/// How the program ends over an input, how many bytes it leaves of that, and how many calls of a
+/// load there were. The words stand in one line, which is cut at each space.
 pub fn run_of<R: Threads + Wait + AllocGlobal + Sync>(
     rt: &R,
     line: &str,
@@ -278,7 +278,7 @@ fn three_options_of_a_load(rt: HostRuntime) {
 /// The proof of the map of `a` and `abc` for any key.
 const PROOF: &[u8] = b"0101000000110100000200016101310003616263017800";
 
-/// Where a `--` may stand: behind the command, behind the first word, behind the second.
+/// Where a `--` may stand: after the command, after the first word, after the second.
 const DASHES: &[(&str, &str, &str)] = &[
     ("", "", ""),
     (" --", "", ""),
@@ -297,7 +297,7 @@ const VERIFIED: &[(&str, &str, u8, &str, &str)] = &[
     (ROOT_OF_NONE, "6", 2, "", "bad key\n"),
 ];
 
-/// Whether these two words come to this with a `--` at each place.
+/// Whether these two words end so with a `--` at each place.
 fn verifies<R: Threads + Wait + AllocGlobal + Sync>(
     rt: &R,
     (root, key): (&str, &str),

@@ -1,4 +1,4 @@
-//! What a load tells of its calls while they are made.
+//! What a load says of its calls while they are made.
 use super::outcome_behind;
 use mst_load::Gate;
 use mst_program::Progress;
@@ -9,7 +9,7 @@ use std::sync::atomic::AtomicU64;
 use std::sync::atomic::Ordering::SeqCst;
 use std::test::Fail;
 
-/// Takes the lines in place of standard error: how many there were, and how many of them told ten
+/// Takes the lines in place of standard error: how many there were, and how many of them said ten
 /// thousand calls more than the one before.
 #[derive(Drop)]
 struct Lines {
@@ -92,7 +92,7 @@ const WORDS: &[&str] = &[
     "10000",
 ];
 
-// The calls of all workers count, and nothing comes to the sink for standard error.
+// The calls of all workers count, and nothing is written to the sink for standard error.
 #[test]
 fn a_load_tells_its_calls(rt: HostRuntime) -> Result<(), Fail> {
     let progress = Progress::new(Lines::new(rt.alloc()));

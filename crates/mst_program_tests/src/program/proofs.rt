@@ -91,7 +91,7 @@ const OF_TWO_NODES: &[(&str, &str, &str, &str, u8)] = &[
         "P6\n",
         1,
     ),
-    // the child's key lies behind the gap
+    // the child's key lies after the gap
     (
         "c16dbc427bb1069f94e13c7dca37c85ba8d6c0a56bfd54e235b8fbaf222d8b90",
         "31",
@@ -121,7 +121,7 @@ const TEXTS: &[(&str, &str, &str, &str, u8)] = &[
     (ROOT_OF_TWO, "61", "\n0101", "fault hex\n", 1),
 ];
 
-// Digits in either case, and one newline behind them.
+// Digits in either case, and one newline after them.
 #[test]
 fn texts_are_read(rt: HostRuntime) {
     compare(&rt, TEXTS);

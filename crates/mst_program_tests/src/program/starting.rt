@@ -17,7 +17,7 @@ fn given(alloc: Global, words: &[&str]) -> Result<Args, AllocError> {
     Ok(texts.into_iter())
 }
 
-/// Whether the program comes to this status where the system gives this, with this text on each of
+/// Whether the program ends with this status if the system gives this, with this text on each of
 /// the two outputs.
 fn comes_to<R, P>(
     rt: &R,

@@ -136,7 +136,7 @@ fn reads_fail(rt: HostRuntime) {
     }
 }
 
-/// The bytes of the line are read one by one behind those that were read, and each read fails in
+/// The bytes of the line are read one by one after those that were read, and each read fails in
 /// turn, with these bytes written before.
 fn each_read_fails(
     rt: &impl Abort,
@@ -201,7 +201,7 @@ fn writes_fail_under_pins(rt: HostRuntime) -> Result<(), Fail> {
     Ok(())
 }
 
-/// Whether the sink of a run over the script is full behind these bytes.
+/// Whether the sink of a run over the script is full after these bytes.
 fn is_full_behind(rt: &impl Abort, alloc: Global, written: &[u8]) -> Result<bool, AllocError> {
     let mut source = BytesSource::new(FIVE_LINES);
     let mut sink = BytesSink::new(alloc, written.len())?;

@@ -1,4 +1,4 @@
-//! What a run leaves behind: all passes, and none of them pinned.
+//! What a run leaves: all passes, and none of them pinned.
 ghost use Rattle.std.specs.Prelude.{◌<◌, ◌-◌, ◌^◌};
 ghost use Rattle.mst_script.specs.Serving.{AreAllOf};
 
@@ -20,10 +20,10 @@ const PINNED: &[u8] = b"pinned 0\nnone\npinned 1\nsome 30\nnone\npinned 2\nheld\
 const AGAIN: &[u8] =
     b"1 put 61 31\n1 rows\n2 put 61 32\n2 rows\n3 put 61 33\n3 rows\n4 put 61 34\n4 rows\n";
 
-// The answers behind the first, which is the value of an earlier run.
+// The answers after the first, which is the value of an earlier run.
 const SERVED: &[u8] = b"rows 2\nsome 31\nrows 2\nsome 32\nrows 2\nsome 33\nrows 2\n";
 
-/// How a run ended, and whether each pass serves again behind it.
+/// How a run ended, and whether each pass serves again after it.
 #[derive(Drop)]
 struct Ending {
     ended: Result<(), RunFault>,
@@ -87,7 +87,7 @@ fn ending_of<S: Source, W: Sink>(
     Ending { ended, all_serve }
 }
 
-// Whether the run writes what the script is answered, and all passes serve again behind it.
+// Whether the run writes what the script is answered, and all passes serve again after it.
 fn ends_with_the_script(rt: &impl Abort, alloc: Global) -> Result<bool, AllocError> {
     let mut source = BytesSource::new(PINS);
     let mut sink = BytesSink::new(alloc, 128)?;
@@ -100,7 +100,7 @@ fn pins_end_with_the_script(rt: HostRuntime) {
     assert!(rt; matches!(ends_with_the_script(&rt, rt.alloc()), Ok(true)));
 }
 
-// Whether the run between such devices ends by their fault, and all passes serve again behind it.
+// Whether the run between such devices ends by their fault, and all passes serve again after it.
 fn ends_by_fault(rt: &impl Abort, alloc: Global, reader: Reader<'_>, mut out: Writer) -> bool {
     let mut source = StdSource::new(reader);
     let mut sink = StdSink::new(&mut out);

@@ -121,7 +121,7 @@ const NOT_SO_MANY: &[&str] = &[
     "1 rows 1",
 ];
 
-// The number of fields is told before what they spell.
+// A wrong number of fields is answered before what they spell.
 #[test]
 fn fields_are_too_few_or_too_many(rt: HostRuntime) {
     each_is_answered(&rt, rt.alloc(), NOT_SO_MANY, "fault L4\n");
@@ -152,7 +152,7 @@ const RANGES_OF_NOTHING: &[&str] = &[
     "1 range 6 - 1",
 ];
 
-// What each field spells is told before the size of any.
+// A fault in what a field spells is answered before the size of any.
 #[test]
 fn fields_spell_nothing(rt: HostRuntime) {
     each_is_answered(&rt, rt.alloc(), SPELL_NOTHING, "fault L5\n");
@@ -166,7 +166,7 @@ fn key_is_empty(rt: HostRuntime) {
     each_is_answered(&rt, rt.alloc(), OF_EMPTY_KEY, "keysize\n");
 }
 
-// A line of a key of 32 bytes, what stands behind it, and a value of so many bytes.
+// A line of a key of 32 bytes, what stands after it, and a value of so many bytes.
 fn line_of(
     alloc: Global,
     name: &str,
@@ -240,7 +240,7 @@ fn long_get(alloc: Global, length: usize, more: &[u8]) -> Result<Vec<u8>, AllocE
     Ok(script)
 }
 
-// Whether a get of so many bytes in all, with these lines behind it, is answered so.
+// Whether a get of so many bytes in all, with these lines after it, is answered so.
 fn long_get_is_answered(
     rt: &impl Abort,
     alloc: Global,

@@ -19,7 +19,7 @@ const SHAPE: Shape = Shape {
 
 const NO_MEMORY: &[&[u8]] = &[b"none\nnone\nmemory\nfault L3\nsome 31\n"];
 
-/// A script, its answers where there is memory for all of them, and those where some is refused.
+/// A script, its answers if there is memory for all of them, and those if some is refused.
 #[derive(Drop)]
 struct Case<'a> {
     script: &'a [u8],
@@ -27,7 +27,7 @@ struct Case<'a> {
     less: &'a [&'a [u8]],
 }
 
-/// How a script is answered in a heap: not at all, where that is too small for the start.
+/// How a script is answered in a heap: not at all, if that is too small for the start.
 #[derive(Drop)]
 enum Answered {
     Nothing,
@@ -35,7 +35,7 @@ enum Answered {
     Whole,
 }
 
-// How the case is answered; none where that is no such answer.
+// How the case is answered; none if that is no such answer.
 fn judged(ran: Result<(), RunFault>, answers: &[u8], case: &Case<'_>) -> Option<Answered> {
     if matches!(ran, Err(RunFault::Memory(_))) && answers.is_empty() {
         return Some(Answered::Nothing);
@@ -52,7 +52,7 @@ fn judged(ran: Result<(), RunFault>, answers: &[u8], case: &Case<'_>) -> Option<
     None
 }
 
-// How the case is answered where such a heap gives the memory of the run.
+// How the case is answered if such a heap gives the memory of the run.
 fn answered_in(
     rt: &impl Abort,
     alloc: Global,
@@ -66,7 +66,7 @@ fn answered_in(
     Ok(judged(ran, sink.bytes(), case))
 }
 
-/// Which answers came in some heaps.
+/// Which answers there were in some heaps.
 #[derive(Drop)]
 struct Seen {
     nothing: bool,
@@ -74,7 +74,7 @@ struct Seen {
     whole: bool,
 }
 
-// What comes in heaps from a first size up to a last one, by such steps.
+// The answers in heaps from a first size up to a last one, by such steps.
 fn seen_in(
     rt: &impl Abort,
     alloc: Global,
@@ -211,8 +211,8 @@ const PIN: &[u8] = b"1 pin\n1 get 61\n1 unpin\n1 put 61 31\n1 pin\n1 get 61\n";
 
 const OF_PIN: &[u8] = b"pinned 0\nnone\nunpinned\nnone\npinned 1\nsome 31\n";
 
-// Whether a run over these passes starts where this heap gives its memory. If not, nothing was
-// read, written or changed: the same passes then serve the same devices. If so, pins take no more.
+// Whether a run over these passes starts if this heap gives its memory. If not, nothing was read,
+// written or changed: the same passes then serve the same devices. If so, pins take no more.
 fn starts_over(
     rt: &impl Abort,
     alloc: Global,
@@ -235,7 +235,7 @@ fn starts_over(
     Ok(first.is_ok())
 }
 
-// Whether a run of so many passes starts where a heap of so many bytes gives its memory.
+// Whether a run of so many passes starts if a heap of so many bytes gives its memory.
 fn starts_in(rt: &impl Abort, alloc: Global, bytes: usize, passes: u32) -> Result<bool, Fail> {
     let heap = LocalHeap::new(alloc, bytes)?;
     let (store, seats) = opened(

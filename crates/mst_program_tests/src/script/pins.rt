@@ -170,7 +170,7 @@ const REFUSED: &[(&str, &str)] = &[
     ("1 frob\n5 unpin\n", "fault L3\nfault L2\n"),
 ];
 
-// Where a pass is pinned is told after all that the line alone tells.
+// That a pass is pinned is answered only after all faults of the line alone.
 #[test]
 fn pinned_pass_neither_writes_nor_counts(rt: HostRuntime) {
     let first = ("1 put 61 31\n1 pin\n", "none\npinned 1\n");

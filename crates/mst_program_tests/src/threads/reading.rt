@@ -62,7 +62,7 @@ struct Crossing {
 }
 
 impl Crossing {
-    // Returns once the count has come so far, or gives up.
+    // Returns once the count has reached this, or gives up.
     fn hold(&self, count: &AtomicU32, least: u32) {
         for _ in 0..TURNS {
             if count.load(SeqCst) >= least {

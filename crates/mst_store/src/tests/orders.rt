@@ -66,7 +66,7 @@ impl<'a> Pass<'a, Global> {
 }
 
 impl<'a> Pinner<'a> {
-    // Pins, or reads and ends the pin. Whether the store and the core answer alike.
+    // Pins, or reads and ends the pin. Whether the store and the core agree.
     fn calls(&mut self, core: &mut Core, puts: u8) -> bool {
         match self.place.take() {
             Some(Place::Free(pass)) => {
@@ -102,7 +102,7 @@ impl<'a> Pinner<'a> {
 }
 
 impl<'a> World<'a> {
-    // Puts the number of the put, and answers whether the old value was right.
+    // Puts the number of the put, and returns whether the old value was right.
     fn puts(&mut self, pass: &mut Pass<'a, Global>) -> bool {
         let next = self.puts.saturating_add(1);
         let (Ok(key), Ok(value)) = (Key::new(b"a"), Value::new(&[next])) else {
@@ -116,8 +116,8 @@ impl<'a> World<'a> {
         right
     }
 
-    // The next write of the writer: a put, and where it is asked for a migration after it. Whether
-    // it was answered right.
+    // The next write of the writer: a put, and where it is asked for a migration after it. Returns
+    // whether the result was right.
     fn changes(&mut self, pass: &mut Pass<'a, Global>) -> bool {
         if self.puts == 1 && self.second == Second::Migration {
             return pass.try_migrate(self.alloc, Format::Two) == Ok(Format::One);
@@ -171,8 +171,8 @@ impl<'a> World<'a> {
         Some(pins)
     }
 
-    // Whether the words say of each record who pins it, and the core that it is drained where
-    // nobody does.
+    // Whether the words say of each record who pins it, and the core that it is drained if no pass
+    // does.
     fn agrees(&mut self) -> bool {
         for record in 0..5u8 {
             let Some(pins) = self.loads(record) else {
@@ -192,7 +192,7 @@ impl<'a> World<'a> {
     }
 }
 
-// The passes of the store: two that pin, and the writer behind them.
+// The passes of the store: two that pin, and the writer after them.
 fn begun<'a>(
     rt: &impl Abort,
     alloc: Global,

@@ -14,8 +14,8 @@ use std::alloc::Allocator;
 use std::marker::Brand;
 use std::test::Fail;
 
-// Publishes as `publish` does, up to the transfer. It answers who pins the record that was current,
-// before the transfer and behind it.
+// Publishes as `publish` does, up to the transfer. It returns who pins the record that was current,
+// before the transfer and after it.
 fn publish_by_steps<A: Allocator + Copy>(
     seat: &mut PassSeat<'_, A>,
     turn: Turn<A>,

@@ -1,5 +1,5 @@
 //! The turn: one pass has it until it is given back. Meanwhile writes of the others are refused,
-//! and their reads answer as ever.
+//! and their reads return what they returned before.
 ghost use Rattle.std.specs.Prelude.{◌≡◌};
 
 use crate::tests::tables::opened;
@@ -55,7 +55,7 @@ fn adds<A: Allocator + Copy>(pass: &mut Pass<A>, key: &Key, value: &Value) -> bo
     matches!(pass.try_put(key, value), Ok(None))
 }
 
-// Whether each call that needs the turn answers that another pass has it.
+// Whether each call that needs the turn returns that another pass has it.
 fn is_refused<A: Allocator + Copy>(pass: &mut Pass<A>, key: &Key, value: &Value) -> bool {
     pass.try_put(key, value).err() == Some(WriteFault::Busy)
         && pass.try_remove(key).err() == Some(WriteFault::Busy)
@@ -70,8 +70,7 @@ fn gets<A: Allocator + Copy>(pass: &mut Pass<A>, key: &Key, value: &Value, versi
     }
 }
 
-// The root digest, the proof of the key, and how many pairs there are; none where memory was
-// refused.
+// The root digest, the proof of the key, and how many pairs there are; none if memory was refused.
 fn shown<A: Allocator + Copy>(
     pass: &mut Pass<A>,
     alloc: Global,

@@ -69,7 +69,7 @@ impl<'a> World<'a> {
         held
     }
 
-    // Puts the value, and compares the answer: no room comes exactly where too few rows are free.
+    // Puts the value, and compares the answer: it is `NoRoom` exactly if too few rows are free.
     fn puts(&mut self, pass: &mut Pass<'a, Global>, byte: u8) -> bool {
         let cost = if self.current.value == Some(byte) {
             0
@@ -89,8 +89,8 @@ impl<'a> World<'a> {
         answered == Some(fits)
     }
 
-    // Migrates to the other format, and compares the answer: no room comes exactly where too few
-    // rows are free. The rows of the tree are made anew.
+    // Migrates to the other format, and compares the answer: it is `NoRoom` exactly if too few rows
+    // are free. The rows of the tree are made anew.
     fn moves(&mut self, pass: &mut Pass<'a, Global>) -> bool {
         let Version { made, format, .. } = self.current;
         let cost = if made == 0 { 0 } else { 2 };
@@ -108,14 +108,14 @@ impl<'a> World<'a> {
         answered == Ok(format)
     }
 
-    // Counts the rows, and compares the answer: none exactly where a version is pinned.
+    // Counts the rows, and compares the answer: none exactly if a version is pinned.
     fn counts(&self, pass: &mut Pass<'a, Global>) -> bool {
         let taken = if self.current.made == 0 { 0 } else { 2 };
         let wanted = if self.is_pinned() { None } else { Some(taken) };
         pass.rows() == Ok(wanted)
     }
 
-    // One call of a free pass. It answers whether the answer was right, the pass, and the version
+    // One call of a free pass. It returns whether the answer was right, the pass, and the version
     // that it pins then.
     fn call(&mut self, mut pass: Pass<'a, Global>, what: u32) -> (bool, Seat<'a>, Option<Version>) {
         let right = match what {
@@ -147,8 +147,8 @@ impl<'a> World<'a> {
         right
     }
 
-    // Whether a script is answered right: each call is a digit of base 12 or, with migrations, of
-    // base 15.
+    // Whether each call of a script returns the right answer. Each call is a digit of base 12 or,
+    // with migrations, of base 15.
     fn answers(&mut self, scripts: Scripts, script: u32) -> bool {
         let mut rest = script;
         for _ in 0..scripts.calls {
@@ -184,8 +184,8 @@ const MOVING: Scripts = Scripts {
     count: 50_625,
 };
 
-// Whether a put answered this old value; or false where there was no room, and nothing where it
-// answered anything else.
+// Whether a put returned this old value. It is false if there was no room, and `None` if the put
+// returned anything else.
 fn is_value_of(answer: Result<Option<Value>, WriteFault>, old: Option<&[u8]>) -> Option<bool> {
     match answer {
         Ok(found) if is_value(&found, old) => Some(true),
@@ -194,7 +194,8 @@ fn is_value_of(answer: Result<Option<Value>, WriteFault>, old: Option<&[u8]>) ->
     }
 }
 
-// Puts the value at the key a, which has the old one, and answers as `is_value_of` does.
+// Puts the value at the key a, which has the old one, and returns what `is_value_of` says of the
+// put.
 fn put_over(pass: &mut Pass<Global>, byte: u8, old: Option<u8>) -> Option<bool> {
     let (Ok(key), Ok(value)) = (Key::new(b"a"), Value::new(&[byte])) else {
         return None;
@@ -255,7 +256,7 @@ fn free_places<'a>(
     Ok(places)
 }
 
-// Whether a script is answered right over a new store.
+// Whether each call of a script returns the right answer over a new store.
 fn is_right(rt: &(impl Abort + AllocGlobal), rows: u32, scripts: Scripts, script: u32) -> bool {
     let (store, seats) = opened(
         rt,

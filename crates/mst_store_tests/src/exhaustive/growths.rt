@@ -19,7 +19,7 @@ fn all_read_nothing(passes: &mut [Pass<'_, Global>]) -> bool {
     true
 }
 
-// Deals the seats in a heap of ever more bytes, and answers how many heaps were too small. The
+// Deals the seats in a heap of ever more bytes, and returns how many heaps were too small. The
 // seats of a refusal are dealt again, and at last serve.
 fn refused_heaps(
     rt: &(impl Abort + AllocGlobal),
@@ -60,7 +60,7 @@ fn each_growth_of_deal_is_refused(rt: HostRuntime) {
     assert!(rt; 16 <= refused, "{refused} heaps were too small");
 }
 
-// Whether a range is right in this heap; none where memory was refused.
+// Whether a range is right in this heap; none if memory was refused.
 fn range_in(pinned: &mut Pinned<Global>, heap: &LocalHeap) -> Option<bool> {
     match pinned.range(heap, None, None, 10) {
         Ok(pairs) => Some(pairs.len() == 2),
@@ -68,7 +68,7 @@ fn range_in(pinned: &mut Pinned<Global>, heap: &LocalHeap) -> Option<bool> {
     }
 }
 
-// Whether a proof is right in this heap; none where memory was refused.
+// Whether a proof is right in this heap; none if memory was refused.
 fn proof_in(pinned: &mut Pinned<Global>, heap: &LocalHeap, key: &Key) -> Option<bool> {
     match pinned.prove(heap, key) {
         Ok(proof) => Some(proof.as_slice() == PROOF_OF_BOTH),
@@ -77,7 +77,7 @@ fn proof_in(pinned: &mut Pinned<Global>, heap: &LocalHeap, key: &Key) -> Option<
 }
 
 // Whether a proof of the key, or with no key a range, is right in a heap of so many bytes. It is
-// wrong too where the heap is not empty then.
+// wrong too if the heap is not empty then.
 fn read_in(
     alloc: Global,
     pinned: &mut Pinned<Global>,
@@ -94,8 +94,8 @@ fn read_in(
     if heap.used() == 0 { right } else { Some(false) }
 }
 
-// Whether the read of the pinned pass answers in each heap of this many 16 bytes that there is no
-// memory, up to one in which it answers right.
+// Whether the read of the pinned pass finds no memory in heaps of 16, 32, 48 .. bytes, up to one in
+// which its answer is right.
 fn is_right_or_refused(alloc: Global, pinned: &mut Pinned<Global>, key: Option<&Key>) -> bool {
     for units in 1..192usize {
         match read_in(alloc, pinned, key, units * 16) {
@@ -121,7 +121,7 @@ fn are_right_or_refused(alloc: Global, pinned: &mut Pinned<Global>) -> bool {
     }
 }
 
-// Pins the version of a with 1 and abc with x, and answers whether its reads are right while the
+// Pins the version of a with 1 and abc with x, and returns whether its reads are right while the
 // other pass writes.
 fn reads_pinned<'a>(
     alloc: Global,
@@ -159,7 +159,7 @@ fn all_go_on(pinned: &mut Pinned<&LocalHeap>, root: [u8; 32], heap: &LocalHeap) 
     found && next && refused && still_stands(pinned, root)
 }
 
-// Pins a version, and answers whether its calls go on over the full heap while the other pass
+// Pins a version, and returns whether its calls go on over the full heap while the other pass
 // writes.
 fn goes_on<'a, 'h>(
     pass: Pass<'a, &'h LocalHeap>,

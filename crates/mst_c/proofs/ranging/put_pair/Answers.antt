@@ -5,7 +5,7 @@ use Rattle.mst_c.specs.Ranges.{pair_bytes, written}
 use Rattle.mst_c.proofs.Listing.{pair_length, written_more}
 use Rattle.mst_c.proofs.ranging.put_pair.Goals as goal
 
--- the two lengths, the key and the value, one behind the other
+-- the two lengths, the key and the value, one after the other
 pub returns-clause-room : goal.returns-clause-room
 returns-clause-room c =
     let at : ℕ = c.args.at in let room : List ℕ = c.args.room.now in let key : List ℕ =

@@ -2,7 +2,7 @@ use Rattle.std.proofs.Common.{◌≡◌, length, take}
 use Rattle.mst_c.specs.Ranges.{pairs_bytes, written}
 use Rattle.mst_c.proofs.ranging.put_pairs.Given as goal
 
--- the pairs so far stand first, and the next one comes right behind them
+-- the pairs so far stand first, and the next one comes right after them
 abbrev pub invariant-loop-key : goal.invariant-loop-key
 invariant-loop-key l = record {
   at : l.at ≡ length (pairs_bytes (take l.key-index l.pairs));

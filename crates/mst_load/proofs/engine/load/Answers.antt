@@ -17,7 +17,7 @@ run_all-requires-clause-own g c κs within =
     (λ k d below. dealt_worker store dealt.passes.items k d dealt.ensures.ok
     (omega (arith, below, count)))
 
--- and those that come back are all of them
+-- and those that are returned are all of them
 pub report_of-requires : goal.report_of-requires
 report_of-requires g c =
     let store = c.in-Ok-opened.opened.0 in let back = c.in_ok-passes in let passes =

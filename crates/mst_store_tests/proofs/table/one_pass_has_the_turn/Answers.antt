@@ -7,7 +7,7 @@ use Rattle.mst_words.specs.Stored.{stored, state_of}
 use Rattle.mst_words.specs.Steps.{Takes}
 use Rattle.mst_store_tests.proofs.table.one_pass_has_the_turn.Goals as goal
 
--- the slot of whoever took the turn has the desk
+-- the slot of the pass that took the turn has the desk
 has_desk : (f : Format) (m m' : Me (Option State) View) → Takes (stored f) m m' → (d : State)
     × (m'.1 ≡ (0, Some d) ∷ [])
 has_desk f m m' t = (

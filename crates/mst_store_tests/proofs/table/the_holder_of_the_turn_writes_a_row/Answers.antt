@@ -14,7 +14,7 @@ use Rattle.mst_words.specs.Stored.{stored, state_of, version_of}
 use Rattle.mst_words.specs.Steps.{Takes}
 use Rattle.mst_store_tests.proofs.table.the_holder_of_the_turn_writes_a_row.Goals as goal
 
--- the slot of whoever took the turn has the desk
+-- the slot of the pass that took the turn has the desk
 has_desk : (f : Format) (m m' : Me (Option State) View) (t : Takes (stored f) m m')
     → m'.1 ≡ (0, Some (state_of t.desk)) ∷ []
 has_desk f m m' t = ap (λ (n : Me (Option State) View). n.1) t.is
@@ -33,7 +33,7 @@ each_below : (n : ℕ) (p : ℕ → Bool) → ((r : ℕ) → p r ≡ true) → a
 each_below zero p each = refl
 each_below (suc n) p each = and_both (p n) (all_below n p) (each n) (each_below n p each)
 
--- a free row is blank to whoever took the turn
+-- a free row is blank to the pass that took the turn
 free_is_blank : (f : Format) (m m' : Me (Option State) View) (t : Takes (stored f) m m')
     → m.0.pin ≡ None → (v : View) → v ≡ m'.0 → (d : State) → m'.1 ≡ (0, Some d) ∷ [] → (x : ℕ)
     → slice_get d.lives x ≡ Some Free → is_blank v x ≡ true
