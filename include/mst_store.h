@@ -4,7 +4,7 @@
  *
  * A store is used through its passes alone. mst_open makes a store of the empty map and puts a pass
  * into each hand of an array; a thread works through a hand of its own. Reads wait for no one. One
- * write runs at a time. Meanwhile the try of another thread returns MST_BUSY, and mst_put,
+ * pass at a time has the turn to write. Meanwhile a try of another one returns MST_BUSY; mst_put,
  * mst_remove and mst_migrate below try again. The store is freed when its last pass is closed.
  *
  *     mst_pass passes[2] = {MST_PASS_CLOSED, MST_PASS_CLOSED};
@@ -97,8 +97,7 @@ typedef struct mst_pass {
 #define MST_BAD_SHAPE (-10)
 
 /*
- * Another pass writes or migrates, or works between two steps of that. Nothing has changed: try
- * again.
+ * Another pass has the turn: it writes, migrates or counts rows. Nothing has changed: try again.
  */
 #define MST_BUSY (-21)
 
@@ -198,9 +197,9 @@ int32_t mst_rows(mst_pass *pass, uint32_t *rows);
 /* ---- writes, which make a version each: puts, removes and migrations ---- */
 
 /*
- * Gives the key the value, if no other pass writes. Returns what mst_get would return before it: a
- * length and the bytes of the old value, or MST_ABSENT if the key is new; MST_NO_ROOM if the old
- * value did not fit: the key has its new value all the same. Returns MST_CLOSED, MST_BAD_KEY,
+ * Gives the key the value, if no other pass has the turn. Returns what mst_get would return before
+ * it: a length and the bytes of the old value, or MST_ABSENT if the key is new; MST_NO_ROOM if the
+ * old value did not fit: the key has its new value all the same. Returns MST_CLOSED, MST_BAD_KEY,
  * MST_BAD_VALUE, MST_WRONG_STATE for a pinned pass, MST_BUSY, MST_VERSIONS_SPENT, MST_ROWS_SPENT:
  * nothing is written.
  */
@@ -208,16 +207,16 @@ int32_t mst_try_put(mst_pass *pass, const uint8_t *key, size_t key_length,
                     const uint8_t *value, size_t value_length, uint8_t *room, size_t room_length);
 
 /*
- * Takes the key out, if no other pass writes. Returns what mst_try_put returns, without
+ * Takes the key out, if no other pass has the turn. Returns what mst_try_put returns, without
  * MST_BAD_VALUE.
  */
 int32_t mst_try_remove(mst_pass *pass, const uint8_t *key, size_t key_length,
                        uint8_t *room, size_t room_length);
 
 /*
- * Turns the tree of the map to format 1 or 2, if no other pass writes. The map stays, and so do the
- * pinned versions, each in its format. Returns the format before: 1 or 2. Returns MST_CLOSED;
- * MST_UNKNOWN_FORMAT for another format; MST_WRONG_STATE for a pinned pass, MST_BUSY,
+ * Turns the tree of the map to format 1 or 2, if no other pass has the turn. The map stays, and so
+ * do the pinned versions, each in its format. Returns the format before: 1 or 2. Returns
+ * MST_CLOSED; MST_UNKNOWN_FORMAT for another format; MST_WRONG_STATE for a pinned pass, MST_BUSY,
  * MST_VERSIONS_SPENT, MST_MEMORY, MST_ROWS_SPENT: nothing is written.
  *
  * It takes a row for each pair and each node of the new tree, beside the rows of the old one, and
@@ -264,7 +263,7 @@ static inline size_t mst_pair_at(const uint8_t *room, size_t at, mst_pair *pair)
     return at + 4 + pair->key_length + pair->value_length;
 }
 
-/* ---- writes that try until no other pass writes ---- */
+/* ---- writes that try until they get the turn ---- */
 
 /*
  * What is done between two tries. Define it before this file for a pause of your own, such as

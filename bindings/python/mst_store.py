@@ -86,7 +86,7 @@ class Refused(Exception):
 
 
 class Busy(Refused):
-    """Another pass writes, or works between two steps of a write: try again."""
+    """Another pass has the turn: it writes, migrates or counts rows. Nothing has changed."""
 
     def __init__(self, code: int = BUSY) -> None:
         super().__init__(code)
@@ -265,8 +265,8 @@ class Pass:
             return _format(_lib.mst_format(self._hand))
 
     def try_rows(self) -> int:
-        """Returns how many rows the current version takes; raises Busy if another pass writes, and
-        Refused if some pass pins."""
+        """Returns how many rows the current version takes; raises Busy if another pass has the
+        turn, and Refused if some pass pins."""
         return self._number(_lib.mst_rows, ctypes.c_uint32())
 
     def _number(self, call: Callable, number) -> int:
@@ -301,15 +301,15 @@ class Pass:
             return _format(_lib.mst_try_migrate(self._hand, _word(to)))
 
     def put(self, key: Octets, value: Octets) -> Optional[bytes]:
-        """As try_put, but tries until no other pass writes."""
+        """As try_put, but tries until it gets the turn."""
         return _until_free(self.try_put, key, value)
 
     def remove(self, key: Octets) -> Optional[bytes]:
-        """As try_remove, but tries until no other pass writes."""
+        """As try_remove, but tries until it gets the turn."""
         return _until_free(self.try_remove, key)
 
     def migrate(self, to: int) -> Format:
-        """As try_migrate, but tries until no other pass writes."""
+        """As try_migrate, but tries until it gets the turn."""
         return _until_free(self.try_migrate, to)
 
     @contextmanager

@@ -91,7 +91,7 @@ impl std::error::Error for Error {}
 /// The refusal of a call that does not wait for another pass's write.
 #[derive(Debug, Clone, Copy, PartialEq, Eq, Hash)]
 pub enum TryError {
-    /// Another pass writes, or works between two steps of a write. Nothing has changed: try again.
+    /// Another pass has the turn: it writes, migrates or counts rows. Nothing has changed.
     Busy,
     /// Any other refusal. Trying again does not help by itself.
     Refused(Error),

@@ -103,8 +103,8 @@ impl reads::Held for Pass {
 impl Reads for Pass {}
 
 impl Pass {
-    /// Gives the key the value, if no other pass writes. Returns the value before, or None if the
-    /// key is new; `Busy` if another pass writes.
+    /// Gives the key the value. Returns the value before, or None if the key is new; `Busy` if
+    /// another pass has the turn.
     pub fn try_put(&mut self, key: &[u8], value: &[u8]) -> Result<Option<Vec<u8>>, TryError> {
         let mut room = [0; VALUE_LONGEST];
         // Safety: each pointer is valid for the length that goes with it, and the room is no
@@ -123,8 +123,8 @@ impl Pass {
         reads::value(code, &room).map_err(TryError::of)
     }
 
-    /// Takes the key out, if no other pass writes. Returns the value that it had, or None if it was
-    /// absent; `Busy` if another pass writes.
+    /// Takes the key out. Returns the value that it had, or None if it was absent; `Busy` if another
+    /// pass has the turn.
     pub fn try_remove(&mut self, key: &[u8]) -> Result<Option<Vec<u8>>, TryError> {
         let mut room = [0; VALUE_LONGEST];
         // Safety: as in try_put.
@@ -134,26 +134,25 @@ impl Pass {
         reads::value(code, &room).map_err(TryError::of)
     }
 
-    /// As [`Pass::try_put`], but tries until no other pass writes.
+    /// As [`Pass::try_put`], but tries until it gets the turn.
     pub fn put(&mut self, key: &[u8], value: &[u8]) -> Result<Option<Vec<u8>>, Error> {
         until_free(|| self.try_put(key, value))
     }
 
-    /// As [`Pass::try_remove`], but tries until no other pass writes.
+    /// As [`Pass::try_remove`], but tries until it gets the turn.
     pub fn remove(&mut self, key: &[u8]) -> Result<Option<Vec<u8>>, Error> {
         until_free(|| self.try_remove(key))
     }
 
-    /// Turns the tree of the map to a format, if no other pass writes. Returns the format before,
-    /// or `Busy` if another pass writes. The map stays, and so do the pinned versions, each in its
-    /// format.
+    /// Turns the tree of the map to a format. Returns the format before, or `Busy` if another pass
+    /// has the turn. The map stays, and so do the pinned versions, each in its format.
     pub fn try_migrate(&mut self, to: Format) -> Result<Format, TryError> {
         // Safety: the hand is valid.
         let code = unsafe { raw::mst_try_migrate(&mut self.0, to.number()) };
         Format::told(code).map_err(TryError::of)
     }
 
-    /// As [`Pass::try_migrate`], but tries until no other pass writes.
+    /// As [`Pass::try_migrate`], but tries until it gets the turn.
     pub fn migrate(&mut self, to: Format) -> Result<Format, Error> {
         until_free(|| self.try_migrate(to))
     }

@@ -62,8 +62,8 @@ fn word_in_use(words: &[u64], summary: &[u64], at: usize) -> Option<usize>
     }
 }
 
-/// A bit that is set: the lowest of word `at`, or if that is 0, of the next word that is not.
-/// Returns `None` if all words are 0.
+/// A bit that is set: the lowest of word `at`, or if that is 0, of the next word that is not 0; the
+/// first word follows the last. Returns `None` if all words are 0.
 pub fn bit_in_use(words: &[u64], summary: &[u64], at: usize) -> Option<usize>
     requires sums { Sums words.now summary.now }
     requires few { length words.now < 2 ^ 32 }

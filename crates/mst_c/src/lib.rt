@@ -40,8 +40,9 @@ use hand::Hand;
 use std::alloc::Global;
 
 /// Opens a store of the empty map in format 1 or 2, with `rows` rows, and puts a pass into each of
-/// the hands. What a hand held before is closed. Returns 0; -3 for another format; -10; -9. If it
-/// does not return 0, all hands are empty.
+/// the hands. What a hand held before is closed. Returns 0; -3 for another format; -10 if a store
+/// cannot have so many rows or passes; -9 if a growth was refused. If it does not return 0, all
+/// hands are empty.
 #[unsafe(no_mangle)]
 pub extern "C" fn mst_open(alloc: Global, format: u32, rows: u32, hands: &mut [Hand]) -> i32
     ensures opened { result ≡ pos 0 → Opened format rows hands.new }

@@ -26,7 +26,7 @@ fn is_load_size(size: Load) -> bool
 ///
 /// Returns `Shape`, before any thread is started, if a load may not have these numbers. Returns
 /// `Memory` if a growth was refused or a thread could not be started: all threads that were started
-/// have then returned.
+/// have then returned. Returns `Device` if the write of the report failed.
 pub fn run_load<R, A: Allocator + Copy, G: Gate + Sync, W: Sink>(
     rt: &R,
     alloc: A,

@@ -53,7 +53,8 @@ fn read_report<A: Allocator + Copy, S: Source>(
 /// digest and of the key.
 ///
 /// Returns `BadRoot` if `root` spells no root digest, otherwise `BadKey` if `key` spells no key,
-/// both before anything is read.
+/// both before anything is read. Otherwise returns `Device` if a read or a write failed, or
+/// `Memory` if a growth was refused.
 pub fn run_verify<A: Allocator + Copy, S: Source, W: Sink>(
     alloc: A,
     format: Format,

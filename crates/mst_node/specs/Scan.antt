@@ -1,4 +1,5 @@
--- One reading of a node text, from left to right, and what a search for a key sees on the way.
+-- One reading of a node text, from left to right, and what a search for a key sees on the way. Only
+-- the private steps of `find_in_text` cite it; what that call promises is `IsFound` of Found.
 use Rattle.std.specs.Prelude.{◌≡◌, ◌≢◌, ℕ, zero, suc, ◌==◌, ◌&&◌, true, false, Bool, if◌then◌else◌, List, [], ◌∷◌, Option, Some, None, option_copied, option_map, IfSome}
 use Rattle.std.specs.Option.{option_map_or, option_or}
 use Rattle.std.specs.Int.{w16, from_be_bytes}

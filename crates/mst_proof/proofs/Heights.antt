@@ -1,4 +1,4 @@
--- How many nodes a trail has: layers fall from node to node, from at most 64.
+-- How many nodes a trail has: layers fall from node to node, from the format's greatest.
 use Rattle.mst_key.specs.declared.format.Format.{Format}
 use Rattle.std.proofs.Common.{◌≤◌, ◌<◌, ◌+◌, ℕ, List, [], length, arith}
 use Rattle.std.specs.declared.cmp.Ordering.{Ordering}

@@ -5,13 +5,13 @@ use thiserror::Error;
 /// to `LeftOver`, and then those of each text in turn.
 #[derive(Clone, Copy, Debug, PartialEq, Eq, Error)]
 pub enum ProofFault {
-    /// The first byte is not the version 01.
+    /// The first byte is not the number of the format, 01 or 02.
     #[error("P1")]
     Version,
-    /// The version, the number of texts, a length or a text is cut short.
+    /// The version, the number of texts, a length, a text or, in format 2, the tail is cut short.
     #[error("P2")]
     CutShort,
-    /// Bytes are left over after the last text.
+    /// Bytes are left over after the last text, in format 2 after the tail.
     #[error("P3")]
     LeftOver,
     /// A text is not that of a node.

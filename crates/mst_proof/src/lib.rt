@@ -8,7 +8,7 @@
 //! match verify(&root, &apple, &proof) {
 //!     Ok(Some(price)) => ..     // the map with this root digest has this price
 //!     Ok(None) => ..            // it has no apple
-//!     Err(fault) => ..          // the proof shows nothing: P1 to P9, the first test that it fails
+//!     Err(fault) => ..          // the proof shows nothing: P1 to P9, the first test that fails
 //! }
 //! ```
 //!

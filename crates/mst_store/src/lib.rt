@@ -2,7 +2,8 @@
 //! read pins the current version in one step, and waits for no other pass.
 //!
 //! ```
-//! let (store, seats) = Store::open(rt.alloc(), Shape { rows: 16, passes: 2 })?;
+//! let shape = Shape { rows: 16, passes: 2, format: Format::One };
+//! let (store, seats) = Store::open(rt.alloc(), shape)?;
 //! let Ok(mut passes) = store.deal(rt.alloc(), seats) else { .. };
 //! let (Some(mut reader), Some(mut writer)) = (passes.pop(), passes.pop()) else { .. };
 //! writer.try_put(&apple, &Value::new(b"30")?)?     // None: apple had no value

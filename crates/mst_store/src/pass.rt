@@ -249,7 +249,7 @@ impl<'a, A: Allocator + Copy> Pass<'a, A> {
     ///
     /// Returns `Busy` only if another pass has the turn; otherwise `VersionsSpent` exactly if the
     /// current version has the last number; otherwise `Memory` if a growth was refused; otherwise
-    /// `NoRoom` if too few rows are free, as for [`Pass::try_put`].
+    /// `NoRoom` exactly if too few rows are free, as for [`Pass::try_put`].
     pub fn try_migrate<B: Allocator + Copy>(
         &mut self,
         alloc: B,

@@ -39,8 +39,8 @@ pub(crate) const FIRST_DIGEST: usize = FIRST_RECORD + 2;
 /// The place of the word of the format in record 0.
 pub(crate) const FIRST_FORMAT: usize = FIRST_RECORD + 6;
 
-/// How many words lie unused after the records. With them the first row begins at a cache line of
-/// 64 bytes if the allocator gives memory that begins 16 bytes after one, as that of glibc does.
+/// How many words lie unused after the records. With them the first row begins where a cache line
+/// of 64 bytes does, if the table begins 16 bytes after such a place, as with glibc's allocator.
 const SPARE_WORDS: usize = 4;
 
 /// The place of the first word of the first row.

@@ -3,7 +3,8 @@
 //!
 //! ```
 //! let desk = Desk::new(alloc, 16, 4, 0)?;
-//! let (board, mut dealer) = Board::open(alloc, Shape { rows: 16, passes: 2 }, desk)?;
+//! let shape = Shape { rows: 16, passes: 2, format: Format::One };
+//! let (board, mut dealer) = Board::open(alloc, shape, desk)?;
 //! let mut reader = board.deal(&mut dealer);     // pass 1
 //! let mut writer = board.deal(&mut dealer);     // pass 2
 //! let record = reader.pin(1);                   // one xor, which names the current record
