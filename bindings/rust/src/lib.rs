@@ -123,8 +123,8 @@ impl Pass {
         reads::value(code, &room).map_err(TryError::of)
     }
 
-    /// Takes the key out. Returns the value that it had, or None if it was absent; `Busy` if another
-    /// pass has the turn.
+    /// Takes the key out. Returns the value that it had, or None if it was absent; `Busy` if
+    /// another pass has the turn.
     pub fn try_remove(&mut self, key: &[u8]) -> Result<Option<Vec<u8>>, TryError> {
         let mut room = [0; VALUE_LONGEST];
         // Safety: as in try_put.

@@ -94,7 +94,7 @@ fn run(rt: &HostRuntime, passes: Vec<Pass<'_, Global>>, operations: u64) -> io::
 
 fn main(rt: HostRuntime) -> io::Result<()> {
     let Some(operations) = asked_operations(&rt)? else {
-        return println!(rt; "mst_walk [OPERATIONS]: makes so many calls by chance");
+        return println!(rt; "mst_walk [OPERATIONS]: makes so many random calls");
     };
     let (store, seats) = match Store::open(rt.alloc(), SHAPE) {
         Ok(opened) => opened,

@@ -109,7 +109,7 @@ fn both_passes<'a>(
 }
 
 #[test]
-fn whoever_finds_the_turn_taken_is_told_so_and_reads_on(rt: HostRuntime) -> Result<(), Fail> {
+fn a_pass_that_finds_the_turn_taken_is_told_so_and_reads_on(rt: HostRuntime) -> Result<(), Fail> {
     let Ok((store, seats)) = Store::open(
         rt.alloc(),
         Shape {
