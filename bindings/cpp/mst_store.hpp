@@ -8,7 +8,8 @@
 //
 // A pass is one thread's at a time; it is moved, never copied, and closes itself. The store is
 // freed with its last pass. Refusals are exceptions of the class mst::refused. That another pass
-// has the turn is no refusal: the calls that try return it. Keys have 1 to 32 bytes, values 0 to
+// has the turn is no refusal: the calls that try return it. If C++ has no memory for an answer, a
+// call throws std::bad_alloc, and what it has written stays. Keys have 1 to 32 bytes, values 0 to
 // 64. What the header mst_store.h says that a caller owes, callers of this one owe too.
 #pragma once
 #include "mst_store.h"
@@ -17,6 +18,7 @@
 #include <array>
 #include <cstddef>
 #include <cstdint>
+#include <memory>
 #include <optional>
 #include <stdexcept>
 #include <string>
@@ -63,7 +65,7 @@ public:
 };
 
 // What a call that tries to write has done.
-struct tried {
+struct [[nodiscard]] tried {
     bool is_busy = false;           // another pass has the turn, and nothing is written
     std::optional<std::string> old; // the value that the key had before, if it had one
 
@@ -71,7 +73,7 @@ struct tried {
 };
 
 // What a call that tries to migrate has done.
-struct migrated {
+struct [[nodiscard]] migrated {
     bool is_busy = false;      // another pass has the turn, and nothing is written
     std::optional<format> was; // the format before, if it is not busy
 
@@ -79,7 +81,7 @@ struct migrated {
 };
 
 // What a count of rows has found.
-struct counted {
+struct [[nodiscard]] counted {
     bool is_busy = false;              // another pass has the turn, and nothing is counted
     std::optional<std::uint32_t> rows; // nothing if some pass pins a version
 
@@ -87,18 +89,18 @@ struct counted {
 };
 
 // The reads, which a pass and a pinned pass both have. The hand lies on the heap, so that a pass
-// may be moved while it is pinned.
+// may be moved or closed while it is pinned.
 class reader {
 protected:
-    mst_pass *hand = nullptr;
+    std::shared_ptr<mst_pass> hand;
 
     reader() noexcept = default;
-    explicit reader(mst_pass *of) noexcept : hand(of) {}
+    explicit reader(std::shared_ptr<mst_pass> of) noexcept : hand(std::move(of)) {}
     ~reader() = default;
 
     mst_pass *at() const {
         if (hand == nullptr) throw refused(MST_CLOSED);
-        return hand;
+        return hand.get();
     }
 
     static const std::uint8_t *bytes(std::string_view text) noexcept {
@@ -185,7 +187,9 @@ public:
             int code = mst_prove(at(), bytes(key), key.size(), proof.data(), proof.size(), &length);
             if (code != MST_NO_ROOM) require_done(code);
             proof.resize(length);
-            if (code == MST_OK) return proof;
+            if (code != MST_OK) continue; // as in range
+            proof.shrink_to_fit();        // a caller may keep many proofs
+            return proof;
         }
     }
 
@@ -204,20 +208,22 @@ public:
     }
 };
 
-// A pass while it pins a version: all reads are of that version. It ends with the object, which may
-// not outlive its pass.
-class pinned : public reader {
+// A pass while it pins a version: all reads are of that version. The pin ends with the object, or
+// with its pass: then reads by the object are refused. It is used in the thread of its pass.
+class [[nodiscard]] pinned : public reader {
     friend class pass;
-    explicit pinned(mst_pass *of) : reader(of) { require_done(mst_pin(at())); }
+    explicit pinned(std::shared_ptr<mst_pass> of) : reader(std::move(of)) {
+        require_done(mst_pin(at()));
+    }
 
 public:
-    pinned(pinned &&other) noexcept : reader(std::exchange(other.hand, nullptr)) {}
+    pinned(pinned &&other) noexcept : reader(std::move(other.hand)) {}
     pinned &operator=(pinned &&) = delete;
     ~pinned() { unpin(); }
 
     // Ends the pin before the object ends. No read may follow: it is refused.
     void unpin() noexcept {
-        if (mst_pass *of = std::exchange(hand, nullptr)) mst_unpin(of);
+        if (auto of = std::move(hand)) mst_unpin(of.get()); // has no effect after its pass
     }
 };
 
@@ -234,21 +240,20 @@ class pass : public reader {
 
 public:
     pass() noexcept = default;
-    pass(pass &&other) noexcept : reader(std::exchange(other.hand, nullptr)) {}
+    pass(pass &&other) noexcept : reader(std::move(other.hand)) {}
     pass &operator=(pass &&other) noexcept {
         if (this != &other) {
             close();
-            hand = std::exchange(other.hand, nullptr);
+            hand = std::move(other.hand);
         }
         return *this;
     }
     ~pass() { close(); }
 
-    // Closes the pass before the object ends. All later calls are refused.
+    // Closes the pass before the object ends, and ends its pin if it has one. All later calls are
+    // refused.
     void close() noexcept {
-        if (hand == nullptr) return;
-        mst_close(hand);
-        delete std::exchange(hand, nullptr);
+        if (auto of = std::move(hand)) mst_close(of.get());
     }
 
     // Returns how many rows the current version takes.
@@ -305,7 +310,7 @@ public:
     }
 
     // Pins the current version.
-    pinned pin() { return pinned(at()); }
+    pinned pin() { return pinned(hand); }
 };
 
 // Opens a store of the empty map, with 4 to 65,535 rows and 1 to 32 passes, and returns its passes.
@@ -313,8 +318,8 @@ public:
 inline std::vector<pass> open(std::uint32_t rows, std::size_t passes, format in = format::one) {
     if (passes > MST_PASSES_MOST) throw refused(MST_BAD_SHAPE);
     std::vector<pass> all(passes);
-    std::vector<mst_pass> hands(passes, mst_pass MST_PASS_CLOSED);
-    for (auto &one : all) one.hand = new mst_pass MST_PASS_CLOSED;
+    std::vector<mst_pass> hands(passes); // null, as MST_PASS_CLOSED
+    for (auto &one : all) one.hand = std::make_shared<mst_pass>();
     int code = mst_open(static_cast<std::uint32_t>(in), rows, hands.data(), passes);
     if (code != MST_OK) throw refused(code);
     // what the hands hold moves, once: those of the array are not looked at again

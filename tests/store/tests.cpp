@@ -26,6 +26,8 @@ template <typename Call> static int code_of(Call call) {
 static_assert(!std::is_copy_constructible_v<mst::pass> && !std::is_copy_assignable_v<mst::pass>);
 static_assert(std::is_nothrow_move_constructible_v<mst::pass>);
 static_assert(!std::is_copy_constructible_v<mst::pinned>);
+static_assert(std::is_nothrow_move_constructible_v<mst::pinned>);
+static_assert(std::is_nothrow_move_assignable_v<mst::pass>);
 
 // What the verifier shows of a key by a reader's format, root digest and proof: the code of
 // mst_verify.
@@ -51,6 +53,7 @@ static void reads_and_writes(mst::pass &pass) {
     EXPECT(pass.version() == 4 && pass.rows().rows.value() > 3);
     auto tried = pass.try_remove("c");
     EXPECT(tried && tried.old == "" && !pass.get("c") && !pass.remove("c"));
+    EXPECT(pass.prove("a").capacity() < 4096); // no longer than the proof, or little
     std::string zero("k\0z", 3);
     EXPECT(!pass.put(zero, zero) && pass.get(zero) == zero && pass.remove(zero) == zero);
 }
@@ -81,7 +84,7 @@ static void refusals(mst::pass &pass) {
     EXPECT(code_of([&] { mst::open(1000, 33); }) == MST_BAD_SHAPE);
     auto no_format = static_cast<mst::format>(99);
     EXPECT(code_of([&] { mst::open(1000, 1, no_format); }) == MST_UNKNOWN_FORMAT);
-    EXPECT(code_of([&] { pass.try_migrate(no_format); }) == MST_UNKNOWN_FORMAT);
+    EXPECT(code_of([&] { (void)pass.try_migrate(no_format); }) == MST_UNKNOWN_FORMAT);
     EXPECT(code_of([&] { pass.migrate(no_format); }) == MST_UNKNOWN_FORMAT);
 }
 
@@ -105,6 +108,23 @@ static void pins(mst::pass &writer, mst::pass &reader) {
     EXPECT(code_of([&] { moved_pin.get("a"); }) == MST_CLOSED);
     EXPECT(moved.get("a") == "newer");
     reader = std::move(moved);
+}
+
+// A pin that its pass does not outlive: closed, moved over, or gone. Reads are refused, and the
+// version is no longer kept.
+static void pins_that_end_with_their_pass() {
+    auto passes = mst::open(1000, 4);
+    auto closed = passes[0].pin(), moved_over = passes[1].pin(), gone = passes[2].pin();
+    passes[0].close();
+    passes[1] = mst::pass();
+    { auto last = std::move(passes[2]); }
+    EXPECT(passes[3].rows().rows == 0u);
+    for (auto *pin : {&closed, &moved_over, &gone})
+        EXPECT(code_of([&] { pin->get("a"); }) == MST_CLOSED);
+    closed.unpin();
+    EXPECT(code_of([&] { closed.root(); }) == MST_CLOSED);
+    passes.clear(); // the store goes before the pins
+    EXPECT(code_of([&] { gone.version(); }) == MST_CLOSED);
 }
 
 static void migrations() {
@@ -157,6 +177,7 @@ int main() {
     long_range();
     refusals(passes[0]);
     pins(passes[0], passes[1]);
+    pins_that_end_with_their_pass();
     migrations();
     auto before = passes[0].version();
     threads(passes);
