@@ -10,9 +10,12 @@ fn main() -> Result<(), Error> {
     writer.put(b"apple", b"30")?;
     let mut then = reader.pin();
     let root = then.root();
-    std::thread::spawn(move || writer.put(b"apple", b"31").map(|_| writer.put(b"pear", b"7")))
-        .join()
-        .expect("the writer ends")??;
+    std::thread::spawn(move || {
+        writer.put(b"apple", b"31")?;
+        writer.put(b"pear", b"7")
+    })
+    .join()
+    .expect("the writer ends")?;
     assert_eq!(then.get(b"apple")?, Some(b"30".to_vec()));
     assert_eq!(then.root(), root);
     println!("a proof of {} bytes", then.prove(b"apple")?.len());

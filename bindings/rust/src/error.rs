@@ -30,6 +30,7 @@ pub enum Error {
 
 impl Error {
     /// The number that include/mst_store.h has for it.
+    #[must_use]
     pub fn code(self) -> i32 {
         match self {
             Error::UnknownFormat => -3,
@@ -116,3 +117,10 @@ impl fmt::Display for TryError {
 }
 
 impl std::error::Error for TryError {}
+
+/// For `?`, where reads stand beside calls that try.
+impl From<Error> for TryError {
+    fn from(error: Error) -> TryError {
+        TryError::Refused(error)
+    }
+}

@@ -12,6 +12,7 @@ pub enum Format {
 
 impl Format {
     /// Returns its number, as verifiers take it.
+    #[must_use]
     pub fn number(self) -> u32 {
         self as u32
     }

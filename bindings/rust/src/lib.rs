@@ -47,7 +47,7 @@
 //! let mut pass = mst_store::open(1000, 1).unwrap().pop().unwrap();
 //! pass.pin().put(b"apple", b"30");
 //! ```
-#![deny(missing_docs)]
+#![deny(missing_debug_implementations, missing_docs)]
 
 mod error;
 mod format;
@@ -92,10 +92,11 @@ pub fn open_format(format: Format, rows: u32, passes: usize) -> Result<Vec<Pass>
 /// version.
 ///
 /// It may be sent to another thread, and closes when it is dropped.
+#[derive(Debug)]
 pub struct Pass(Hand);
 
 impl reads::Held for Pass {
-    fn hand(&mut self) -> &mut Hand {
+    fn hand(&mut self) -> *mut Hand {
         &mut self.0
     }
 }
@@ -170,12 +171,15 @@ impl Pass {
     /// Pins the current version: until the result is dropped, each read by it is of that version.
     pub fn pin(&mut self) -> Pinned<'_> {
         // Safety: the hand is valid. If it pins already, a Pinned was leaked: that pin ends here.
-        unsafe {
-            if raw::mst_pin(&mut self.0) != 0 {
+        let code = unsafe {
+            if raw::mst_pin(&mut self.0) == 0 {
+                0
+            } else {
                 raw::mst_unpin(&mut self.0);
-                raw::mst_pin(&mut self.0);
+                raw::mst_pin(&mut self.0)
             }
-        }
+        };
+        assert_eq!(code, 0, "the library and this crate do not fit");
         Pinned(self)
     }
 }
@@ -193,10 +197,12 @@ fn until_free<T>(mut call: impl FnMut() -> Result<T, TryError>) -> Result<T, Err
 
 /// A pass while it pins a version: it has the reads of [`Reads`] alone. The pin ends when it is
 /// dropped.
+#[derive(Debug)]
+#[must_use = "the pin ends when this is dropped"]
 pub struct Pinned<'a>(&'a mut Pass);
 
 impl reads::Held for Pinned<'_> {
-    fn hand(&mut self) -> &mut Hand {
+    fn hand(&mut self) -> *mut Hand {
         &mut self.0 .0
     }
 }

@@ -3,6 +3,7 @@
 /// A hand: what holds a pass, or nothing. It is one word, and moves as any value of Rust does: the
 /// place that it left is not used again, so there is never a second hand for the pass.
 #[repr(C)]
+#[derive(Debug)]
 pub struct Hand {
     at: *mut u8,
 }
@@ -11,14 +12,14 @@ impl Hand {
     pub(crate) const EMPTY: Hand = Hand { at: std::ptr::null_mut() };
 }
 
-// A call takes the hand by `&mut`, so it is in one call at a time; the library's own check proves
-// that a hand may go to another thread. It stays without Sync.
+// Safety: a call takes the hand by `&mut`, so it is in one call at a time; the library's own check
+// proves that a hand may go to another thread. It stays without Sync.
 unsafe impl Send for Hand {}
 
 impl Drop for Hand {
     fn drop(&mut self) {
-        // Safety: the hand was empty before its first call. An empty hand is refused with no
-        // effect.
+        // Safety: the hand was empty before its first call, and is not used again. An empty hand is
+        // refused with no effect.
         unsafe { mst_close(self) };
     }
 }

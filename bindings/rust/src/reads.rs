@@ -1,11 +1,20 @@
 //! The reads, which a pass and a pinned pass have alike.
 use crate::raw::{self, Hand};
 use crate::{Error, Format, KEY_LONGEST, ROOT_LENGTH, VALUE_LONGEST};
+use std::iter::FusedIterator;
 
 /// What holds a hand. It is this crate's alone, so that no other type has [`Reads`].
+///
+/// No code outside changes places between two hands, though it may call `hand`:
+///
+/// ```compile_fail
+/// fn swap<R: mst_store::Reads>(one: &mut R, other: &mut R) {
+///     std::mem::swap(one.hand(), other.hand());
+/// }
+/// ```
 pub trait Held {
-    /// The hand.
-    fn hand(&mut self) -> &mut Hand;
+    /// A pointer to the hand, for a call of the library.
+    fn hand(&mut self) -> *mut Hand;
 }
 
 /// A key and its value.
@@ -119,9 +128,10 @@ pub trait Reads: Held {
     /// Returns the root digest, in the format of the version.
     fn root(&mut self) -> [u8; ROOT_LENGTH] {
         let mut root = [0; ROOT_LENGTH];
-        // Safety: as in get. The hand holds a pass and the room is long enough, so nothing is
-        // refused.
-        unsafe { raw::mst_root(self.hand(), root.as_mut_ptr(), root.len()) };
+        // Safety: as in get.
+        let code = unsafe { raw::mst_root(self.hand(), root.as_mut_ptr(), root.len()) };
+        // The hand holds a pass and the room is long enough, so nothing is refused.
+        assert_eq!(code, ROOT_LENGTH as i32, "the library and this crate do not fit");
         root
     }
 
@@ -145,6 +155,7 @@ pub trait Reads: Held {
             match code {
                 0 => {
                     proof.truncate(length);
+                    proof.shrink_to_fit(); // a caller may keep many proofs
                     return Ok(proof);
                 }
                 // The proof of a free pass may have grown again by the next try, so this is a loop.
@@ -157,8 +168,10 @@ pub trait Reads: Held {
     /// Returns the number of the version: the number of writes and migrations before it.
     fn version(&mut self) -> u64 {
         let mut version = 0;
-        // Safety: both pointers are valid. The hand holds a pass, so nothing is refused.
-        unsafe { raw::mst_version(self.hand(), &mut version) };
+        // Safety: both pointers are valid.
+        let code = unsafe { raw::mst_version(self.hand(), &mut version) };
+        // The hand holds a pass, so nothing is refused.
+        assert_eq!(code, 0, "the library and this crate do not fit");
         version
     }
 
@@ -171,6 +184,8 @@ pub trait Reads: Held {
 }
 
 /// The pairs by rising keys.
+#[derive(Debug)]
+#[must_use = "an iterator asks for no pair before it is used"]
 pub struct Items<'a, R: Reads> {
     of: &'a mut R,
     last: Option<Vec<u8>>,
@@ -187,3 +202,5 @@ impl<R: Reads> Iterator for Items<'_, R> {
         Some(pair)
     }
 }
+
+impl<R: Reads> FusedIterator for Items<'_, R> {}

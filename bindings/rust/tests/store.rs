@@ -1,6 +1,7 @@
 //! The store's answers beside those of a BTreeMap, over writes by a fixed generator.
 use mst_store::{open, open_format, Error, Format, Pass, Reads, TryError};
 use std::collections::BTreeMap;
+use std::iter::FusedIterator;
 use std::thread;
 
 /// SplitMix64, so that each run is the same.
@@ -83,7 +84,8 @@ fn a_root_is_of_the_pairs_alone() {
     assert_ne!(one_way.root(), other_way.root());
     assert_eq!(other_way.remove(b"more"), Ok(Some(Vec::new())));
     assert_eq!(one_way.root(), other_way.root());
-    assert!(!one_way.prove(b"none").unwrap().is_empty());
+    let proof = one_way.prove(b"none").unwrap();
+    assert!(!proof.is_empty() && proof.capacity() < 4096);
 }
 
 #[test]
@@ -203,6 +205,24 @@ fn refusals_have_their_errors() {
     assert_eq!((Error::BadKey.code(), Error::RowsPinned.code()), (-5, -24));
     assert_eq!(Error::BadKey.to_string(), "a key has 1 to 32 bytes");
     assert_eq!(TryError::Busy.to_string(), "another pass writes");
+}
+
+#[test]
+fn passes_are_shown_and_refusals_lifted() {
+    fn written(pass: &mut Pass) -> Result<Option<Vec<u8>>, TryError> {
+        pass.get(b"")?;
+        pass.try_put(b"key", b"")
+    }
+    fn fused(items: impl FusedIterator) -> usize {
+        items.count()
+    }
+    let mut pass = one(1000);
+    assert_eq!(written(&mut pass), Err(TryError::Refused(Error::BadKey)));
+    assert_eq!(open(3, 1).unwrap_err(), Error::BadShape);
+    assert!(format!("{pass:?}").starts_with("Pass"));
+    assert!(format!("{:?}", pass.pin()).starts_with("Pinned"));
+    assert!(format!("{:?}", pass.items()).starts_with("Items"));
+    assert_eq!(fused(pass.items()), 0);
 }
 
 #[test]
