@@ -1,7 +1,7 @@
 """Makes the wheel by the standard library alone, as a build backend that pip calls.
 
-The wheel has the module and libmst_store.so, from the folder MST_STORE_DIR or from ../out. The
-Python code is of no version of Python, and the library of one platform, so the tag is
+The wheel has the module, the licences, and libmst_store.so from the folder MST_STORE_DIR or from
+../out. The Python code is of no version of Python, and the library of one platform, so the tag is
 py3-none-PLATFORM.
 """
 import base64
@@ -13,6 +13,7 @@ import sysconfig
 import zipfile
 
 HERE = os.path.dirname(os.path.abspath(__file__))
+LICENCES = ["LICENSE-APACHE", "LICENSE-MIT"]
 
 
 def _field(name):
@@ -39,8 +40,10 @@ def build_wheel(wheel_directory, config_settings=None, metadata_directory=None):
     tag = "py3-none-" + re.sub(r"[-.]", "_", sysconfig.get_platform())
     info = f"{name}-{version}.dist-info"
     folder = os.environ.get("MST_STORE_DIR") or os.path.join(HERE, "..", "out")
-    metadata = (f"Metadata-Version: 2.1\nName: {name}\nVersion: {version}\n"
-                f"Summary: {_field('description')}\nRequires-Python: {_field('requires-python')}\n")
+    metadata = (f"Metadata-Version: 2.4\nName: {name}\nVersion: {version}\n"
+                f"Summary: {_field('description')}\nRequires-Python: {_field('requires-python')}\n"
+                f"License-Expression: {_field('license')}\n"
+                + "".join(f"License-File: {licence}\n" for licence in LICENCES))
     about = f"Wheel-Version: 1.0\nGenerator: make_wheel\nRoot-Is-Purelib: false\nTag: {tag}\n"
     contents = {
         "mst_store.py": _read(os.path.join(HERE, "mst_store.py")),
@@ -48,6 +51,8 @@ def build_wheel(wheel_directory, config_settings=None, metadata_directory=None):
         f"{info}/METADATA": metadata.encode(),
         f"{info}/WHEEL": about.encode(),
     }
+    for licence in LICENCES:
+        contents[f"{info}/licenses/{licence}"] = _read(os.path.join(HERE, "..", "..", licence))
     contents[f"{info}/RECORD"] = _record(contents, f"{info}/RECORD")
     wheel = f"{name}-{version}-{tag}.whl"
     with zipfile.ZipFile(os.path.join(wheel_directory, wheel), "w", zipfile.ZIP_DEFLATED) as out:

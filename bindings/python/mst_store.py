@@ -13,19 +13,21 @@ store is freed with its last pass.
     writer.migrate(Format.TWO)      # shorter proofs; a store opens in Format.ONE
 
 Keys have 1 to 32 bytes, values 0 to 64. Use a pass for each thread: ctypes lets other threads run
-during a call, and two calls by one pass wait for each other. A store does not outlive os.fork() in
-a process with threads.
+during a call, and two calls by one pass wait for each other. So make none in a signal handler: it
+would wait for ever for the call that it interrupts. A store does not outlive os.fork() in a process
+with threads.
 """
 from __future__ import annotations
 
 import ctypes
 import enum
+import operator
 import os
 import struct
 import threading
 import time
 from contextlib import contextmanager
-from typing import Callable, Iterator, List, Optional, Tuple, TypeVar, Union
+from typing import Callable, Iterator, List, NoReturn, Optional, Tuple, TypeVar, Union
 
 __all__ = ["Busy", "Format", "Pass", "Refused", "open_store"]
 
@@ -92,7 +94,7 @@ class Busy(Refused):
         super().__init__(code)
 
 
-def _refuse(code: int) -> None:
+def _refuse(code: int) -> NoReturn:
     raise Busy() if code == BUSY else Refused(code)
 
 
@@ -103,8 +105,11 @@ class _Hand(ctypes.Structure):
     _fields_ = [("at", ctypes.c_void_p)]
 
 
+_HAND = ctypes.POINTER(_Hand)
+
+
 def _signatures() -> dict:
-    hand, size, text = ctypes.POINTER(_Hand), ctypes.c_size_t, ctypes.c_char_p
+    hand, size, text = _HAND, ctypes.c_size_t, ctypes.c_char_p
     pointer = ctypes.POINTER
     return {
         "mst_open": (ctypes.c_uint32, ctypes.c_uint32, hand, size),
@@ -159,7 +164,8 @@ def _octets(given: Octets) -> bytes:
 
 
 def _word(number: int) -> int:
-    # ctypes would cut greater numbers short.
+    # ctypes would cut greater numbers short. What is no integer raises TypeError.
+    number = operator.index(number)
     return number if 0 <= number < 2**32 else 2**32 - 1
 
 
@@ -168,7 +174,9 @@ class Pass:
     one."""
 
     def __init__(self, hand) -> None:
-        self._hand = hand
+        if not isinstance(hand, _HAND):
+            raise TypeError("a pass comes from open_store")
+        self._hand, self._process = hand, os.getpid()
         # A hand is in one call at a time, and the rooms below are shared by its calls.
         self._lock = threading.Lock()
         self._room = ctypes.create_string_buffer(VALUE_LONGEST)
@@ -207,7 +215,7 @@ class Pass:
         They are in the order of rising keys. An empty bound does not bind.
         """
         start, stop = _octets(start), _octets(stop)
-        limit = min(max(limit, 0), 2**32 - 1)
+        limit = _word(max(operator.index(limit), 0))
         count, length = ctypes.c_size_t(), ctypes.c_size_t()
         with self._lock:
             while True:
@@ -337,10 +345,14 @@ class Pass:
     def __exit__(self, *_) -> None:
         self.close()
 
+    def __reduce__(self) -> NoReturn:
+        # A copy would have the same hand, and close it when it goes.
+        raise TypeError("a pass is neither copied nor pickled")
+
     def __del__(self) -> None:
         # No other call can be under way, since nothing refers to the pass. _lib goes first as
-        # Python ends.
-        if _lib is not None and hasattr(self, "_hand"):
+        # Python ends. A forked child calls nothing by itself: the pass is that of its parent.
+        if _lib is not None and getattr(self, "_process", None) == os.getpid():
             _lib.mst_close(self._hand)
 
 
@@ -374,7 +386,7 @@ def open_store(rows: int, passes: int, format: int = Format.ONE) -> List[Pass]:
     each of its pairs and nodes.
     """
     # 33 hands are as refused as any greater number.
-    count = min(max(passes, 0), 33)
+    count = min(max(operator.index(passes), 0), 33)
     hands = (_Hand * count)()
     code = _lib.mst_open(_word(format), _word(rows), hands, count)
     if code < 0:

@@ -1,4 +1,5 @@
 """The store from Python: its answers beside those of a dict, its proofs beside the verifier."""
+import copy
 import os
 import pickle
 import random
@@ -129,6 +130,7 @@ class Answers(unittest.TestCase):
         store = one()
         store.put(bytearray(b"k\0y"), memoryview(b"\0v\0"))
         self.assertEqual(store.get(memoryview(b"k\0y")), b"\0v\0")
+        self.assertEqual(store.get(memoryview(b"k.\0.y")[::2]), b"\0v\0")
         for wrong in (5, "key", None):
             with self.assertRaises(TypeError):
                 store.get(wrong)
@@ -242,6 +244,41 @@ class Refusals(unittest.TestCase):
                          then.pinned().__enter__):
                 self.refused(mst_store.WRONG_STATE, call)
         self.assertIsNone(store.put(b"key", b""))
+
+    def test_numbers(self):
+        store = one()
+        for wrong in (1.0, "1", None, b"1"):
+            for call in (lambda: open_store(wrong, 1), lambda: open_store(1000, wrong),
+                         lambda: open_store(1000, 1, wrong), lambda: store.range(limit=wrong),
+                         lambda: store.migrate(wrong), lambda: store.try_migrate(wrong)):
+                self.assertRaises(TypeError, call)
+
+        class Thousand:
+            def __index__(self):
+                return 1000
+
+        self.assertEqual(store.range(limit=Thousand()), [])
+        self.assertEqual(len(open_store(Thousand(), 2)), 2)
+
+    def test_a_pass_comes_from_open_store_alone(self):
+        store = one()
+        store.put(b"key", b"value")
+        for call in (copy.copy, copy.deepcopy, pickle.dumps):
+            self.assertRaises(TypeError, call, store)
+        self.assertRaises(TypeError, Pass, None)
+        self.assertEqual(store.get(b"key"), b"value")
+
+    @unittest.skipUnless(hasattr(os, "fork"), "the system has no fork")
+    def test_a_forked_child_closes_no_pass_by_itself(self):
+        store = one()
+        hand = store._hand
+        child = os.fork()
+        if child == 0:
+            del store
+            os._exit(0 if hand.contents.at else 1)
+        self.assertEqual(os.waitpid(child, 0)[1], 0)
+        del store
+        self.assertIsNone(hand.contents.at)
 
     def test_rows(self):
         reader, writer = open_store(8, 2)
