@@ -15,11 +15,15 @@ int main(void) {
 
     if (mst_open(1, 1000, passes, 2) != MST_OK)
         return 1;
-    mst_put(&passes[0], TEXT("apple"), TEXT("30"), room, sizeof room);
+    int32_t told = mst_put(&passes[0], TEXT("apple"), TEXT("30"), room, sizeof room);
+    if (told != MST_ABSENT) /* it would be the old value's length, or a refusal */
+        return 1;
     mst_pin(&passes[1]);
-    mst_put(&passes[0], TEXT("apple"), TEXT("35"), room, sizeof room);
+    told = mst_put(&passes[0], TEXT("apple"), TEXT("35"), room, sizeof room);
+    if (told < 0) /* no old value, or a refusal */
+        return 1;
 
-    int32_t told = mst_get(&passes[1], TEXT("apple"), room, sizeof room);
+    told = mst_get(&passes[1], TEXT("apple"), room, sizeof room);
     if (told >= 0)
         printf("the pinned value: %.*s\n", (int)told, (const char *)room);
     if (mst_prove(&passes[1], TEXT("apple"), proof, sizeof proof, &length) == MST_OK)

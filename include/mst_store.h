@@ -154,7 +154,8 @@ int32_t mst_next(mst_pass *pass, const uint8_t *key, size_t key_length,
  * of the key in two bytes, the high one first, that of the value in two bytes, the key, the value.
  * mst_pair_at below reads them. Returns MST_CLOSED; MST_BAD_KEY if a bound is longer than 32 bytes;
  * MST_MEMORY: the room, *count and *length are as they were. Returns MST_NO_ROOM if the room is too
- * short: *count and *length are those of all these pairs, and the room is as it was.
+ * short: *count and *length are those of all these pairs, and the room is as it was. By the next
+ * call a free pass may find more; a pinned one finds these.
  */
 int32_t mst_range(mst_pass *pass, const uint8_t *from, size_t from_length,
                   const uint8_t *to, size_t to_length, uint32_t limit,
@@ -171,7 +172,7 @@ int32_t mst_root(mst_pass *pass, uint8_t *root, size_t root_length);
  * of the same version. Returns MST_OK: its bytes stand first in the room, and *length is their
  * number. Returns MST_CLOSED, MST_BAD_KEY, MST_MEMORY: room and *length are as they were. Returns
  * MST_NO_ROOM if the room is too short: *length is the length of the proof, and the room is as it
- * was.
+ * was. By the next call the proof of a free pass may be longer; that of a pinned one stays.
  */
 int32_t mst_prove(mst_pass *pass, const uint8_t *key, size_t key_length,
                   uint8_t *room, size_t room_length, size_t *length);

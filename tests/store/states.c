@@ -21,8 +21,8 @@ static void fill_rooms(void) {
     rows = 77;
 }
 
-static int is_untouched(const uint8_t *bytes, size_t count) {
-    for (size_t i = 0; i < count; i++)
+static int is_untouched(const uint8_t *bytes, size_t number) {
+    for (size_t i = 0; i < number; i++)
         if (bytes[i] != UNTOUCHED)
             return 0;
     return 1;

@@ -6,6 +6,7 @@ import random
 import sys
 import threading
 import unittest
+from unittest import mock
 
 import mst_store
 from mst_store import Busy, Format, Pass, Refused, open_store
@@ -322,6 +323,25 @@ class Refusals(unittest.TestCase):
             others[0].close()
             del others
             self.assertEqual(last.get(b"key"), b"value")
+
+    def test_busy_is_told_by_a_try_and_outwaited_by_the_others(self):
+        store = one()
+        for name, given, answer in (("put", (b"key", b""), None), ("remove", (b"key",), b""),
+                                    ("migrate", (Format.TWO,), Format.ONE)):
+            real = getattr(mst_store._lib, f"mst_try_{name}")
+            busy = mock.Mock(side_effect=[mst_store.BUSY] * 3)
+            with mock.patch.object(mst_store._lib, f"mst_try_{name}", busy):
+                self.assertRaises(Busy, getattr(store, f"try_{name}"), *given)
+                busy.side_effect = lambda *it: real(*it) if busy.call_count > 4 else mst_store.BUSY
+                self.assertEqual(getattr(store, name)(*given), answer)
+                self.assertEqual(busy.call_count, 5)
+        self.assertEqual(store.version(), 3)
+
+    def test_a_code_that_is_not_known(self):
+        store = one()
+        with mock.patch.object(mst_store._lib, "mst_get", lambda *_: -99):
+            self.refused(-99, store.get, b"key")
+        self.assertEqual(str(Refused(-99)), "the library answered -99")
 
     def test_exceptions(self):
         self.assertTrue(issubclass(Busy, Refused))
