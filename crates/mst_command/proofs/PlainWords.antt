@@ -1,5 +1,5 @@
 -- Words of a plain form.
-use Rattle.std.proofs.Common.{◌≡◌, inl, inr, ℕ, ◌<◌, ◌^◌, Bool, true, false, List, [], ◌∷◌, Option, Some, None, Result, IfSome, IfNone, refl, sym, ap, subst, ◌∙◌, arith, codes, decimal}
+use Rattle.std.proofs.Common.{◌≡◌, inl, inr, ℕ, ◌<◌, ◌^◌, Bool, true, false, is_some, List, [], ◌∷◌, Option, Some, None, Result, IfSome, IfNone, refl, sym, ap, subst, ◌∙◌, arith, codes, decimal}
 use Rattle.std.specs.Prelude.{◌&&◌, if◌then◌else◌}
 use Rattle.std.specs.Str.{bytes_eq}
 use Rattle.std.specs.Result.{result_ok}
@@ -11,7 +11,7 @@ use Rattle.std.proofs.lemmas.Slice.Eq.{bytes_eq-Decides}
 use denote.Ref.{Bor}
 use Rattle.mst_key.specs.declared.format.Format.{Format}
 use Rattle.mst_command.specs.Options.{format_named, operand_at}
-use Rattle.mst_command.specs.Commanding.{AsksFor, IsPlain, IsRunOf, IsSizeIn, NamesSize, are_plain_options, asks_replay, asks_run, asks_verify, format_in, is_plain_replay, is_plain_verify, value_or}
+use Rattle.mst_command.specs.Commanding.{AsksFor, IsPlain, IsRunOf, IsSizeIn, NamesSize, are_plain_options, asks_replay, asks_run, asks_script, asks_verify, format_in, is_plain_replay, is_plain_verify, value_or}
 use Rattle.mst_command.specs.declared.task.Size.{Size}
 use Rattle.mst_command.specs.declared.task.Load.{Load as LoadSize}
 use Rattle.mst_command.specs.Loading.{IsLoadIn, IsLoadOf, NamesLoad, asks_load, load_options_of, load_words}
@@ -77,10 +77,10 @@ by_name_and : {T : Type 0} (name word : List ℕ) (x : Option T) (y : T) (a b : 
 by_name_and name word x y true b is e = (bytes_eq-Decides name word).0 is
 by_name_and name word x y false b is e = absurd (none-some y e)
 
--- words of no replay, no proof and no load
+-- words of a script, and so of no replay, no proof and no load
 abbrev IsScript : List Word → Type 0
 IsScript words = (asks_replay words ≡ false) × (asks_verify words ≡ None)
-    × (asks_load words ≡ false)
+    × (asks_load words ≡ false) × (asks_script words ≡ true)
 
 run_named : (words : List Word) (named : List ℕ × List ℕ) → asks_run words ≡ Some named
     → IsScript words
@@ -93,6 +93,7 @@ run_named (program ∷ name ∷ words) named is =
       subst (λ (n : List ℕ). (if bytes_eq n (codes "verify") then Some (proof_of words) else None)
           ≡ None) (sym e) refl,
       subst (λ (n : List ℕ). bytes_eq n (codes "load") ≡ false) (sym e) refl,
+      subst (λ (n : List ℕ). bytes_eq n (codes "run") ≡ true) (sym e) refl,
     )
 
 -- what plain words of a script name
@@ -107,16 +108,19 @@ module _ (words : List Word) (size : Size) (of : IsRunOf words size) where
   pub run_load : asks_load words ≡ false
   run_load = (run_named words of.0 of.1).2
 
+  pub run_script : asks_script words ≡ true
+  run_script = (run_named words of.0 of.1).3
+
 pub run_size : (words : List Word) (size : Size) (r : Option Size) → r ≡ Some size
     → ((it : Size) → IsRunOf words it → r ≡ Some it) → NamesSize words size
 run_size words size r is only = λ other named. same_Some other size (sym (only other named) ∙ is)
 
 pub script_asked : (words : List Word) (size : Size) (format : Format) → asks_replay words ≡ false
-    → asks_verify words ≡ None → asks_load words ≡ false → NamesSize words size → format_in words
-    ≡ Some format
+    → asks_verify words ≡ None → asks_load words ≡ false → asks_script words ≡ true
+    → NamesSize words size → format_in words ≡ Some format
     → AsksFor words (Run (record { rows = size.rows; passes = size.passes; format = format }))
-script_asked words size format replay verify load names is =
-    (sym replay, sym verify, record { format = is; size = names }, sym load)
+script_asked words size format replay verify load script names is =
+    (sym replay, sym verify, record { script = script; format = is; size = names }, sym load)
 
 pub replay_asked : (words : List Word) → true ≡ is_plain_replay words → AsksFor words Replay
 replay_asked [] is = absurd (false≢true (sym is))
@@ -167,7 +171,8 @@ verify_asked words format root key is = let n = verify_named words (Some format,
 
 pub unknown_asked : (words : List Word) (root key : List ℕ) → asks_verify words ≡ Some
     (None, root, key) → AsksFor words UnknownFormat
-unknown_asked words root key is = verify_named words (None, root, key) is
+unknown_asked words root key is = let n = verify_named words (None, root, key) is in
+    (n.0, n.1, n.2, inr (ap is_some is))
 
 left_true : (a b : Bool) → (a && b) ≡ true → a ≡ true
 left_true true b is = refl

@@ -1,5 +1,5 @@
 -- What the words of a program ask for, and how it ends.
-use Rattle.std.specs.Prelude.{◌≡◌, ◌==◌, ◌&&◌, ◌||◌, ℕ, ◌<◌, ◌^◌, ◌⊎◌, Bool, true, false, not, if◌then◌else◌, List, [], ◌∷◌, ◌++◌, Option, Some, None, unwrap_or, codes, decimal, string_bytes}
+use Rattle.std.specs.Prelude.{◌≡◌, ◌==◌, ◌&&◌, ◌||◌, ℕ, ◌<◌, ◌^◌, ◌⊎◌, Bool, true, false, not, if◌then◌else◌, List, [], ◌∷◌, ◌++◌, Option, Some, None, IsSome, unwrap_or, codes, decimal, string_bytes}
 use Rattle.std.specs.List.{Contains}
 use Rattle.std.specs.Str.{bytes_eq}
 use denote.Ref.{Bor}
@@ -21,6 +21,11 @@ use Rattle.mst_command.specs.Options.{are_options, format_named, operand_at, val
 abbrev pub asks_replay : List (Bor (List ℕ)) → Bool
 asks_replay (program ∷ name ∷ words) = bytes_eq name.now (codes "replay")
 asks_replay _ = false
+
+-- the first word after the program's name is `run`
+abbrev pub asks_script : List (Bor (List ℕ)) → Bool
+asks_script (program ∷ name ∷ words) = bytes_eq name.now (codes "run")
+asks_script _ = false
 
 -- the format that the words after the command name
 abbrev pub format_in : List (Bor (List ℕ)) → Option Format
@@ -81,8 +86,10 @@ IsRunOf words size =
 abbrev pub NamesSize : List (Bor (List ℕ)) → Size → Type 0
 NamesSize words size = (other : Size) → IsRunOf words other → other ≡ size
 
--- the words name the format of this shape, and in the plain form no other size than its own
+-- the words ask for a script, name the format of this shape, and in the plain form no other size
+-- than its own; of a size in another form nothing is said
 pub record NamesShape (words : List (Bor (List ℕ))) (shape : Shape) : Type 0 where
+  pub script : asks_script words ≡ true
   pub format : format_in words ≡ Some shape.format
   pub size : NamesSize words (record { rows = shape.rows; passes = shape.passes })
 
@@ -180,6 +187,13 @@ IsSized words (Run shape) = NamesShape words shape
 IsSized words (Load size) = NamesLoad words size
 IsSized words task = Unit {0}
 
+-- the first word after the program's name is no command's
+pub record AsksNothing (words : List (Bor (List ℕ))) : Type 0 where
+  pub script : asks_script words ≡ false
+  pub verify : asks_verify words ≡ None
+  pub replay : asks_replay words ≡ false
+  pub load : asks_load words ≡ false
+
 -- The words ask for this task: some word for help, or the first for the version, in no plain form,
 -- with a text that they may be told, and otherwise the first word after the program's name for the
 -- rest. Neither a replay nor a load has a format, so that their words ask for none that there is
@@ -189,6 +203,7 @@ AsksFor words (Help text) =
     AskText words × ¬ (IsPlain words) × IsTold words (string_bytes text)
 AsksFor words UnknownFormat =
     (asks_replay words ≡ false) × (asks_load words ≡ false) × (format_in words ≡ None)
+    × ((asks_script words ≡ true) ⊎ IsSome (asks_verify words))
 AsksFor words task = (is_replay task ≡ asks_replay words)
     × (verified_words task ≡ asks_verify words) × IsSized words task
     × (is_load task ≡ asks_load words)

@@ -5,7 +5,7 @@ use denote.Ref.{Bor}
 use Rattle.mst_devices.specs.Device.{Breaks, Flow}
 use Rattle.mst_load.specs.declared.engine.Report.{Report}
 use Rattle.mst_load.specs.Lines.{lines_of}
-use Rattle.mst_load.specs.Reports.{IsOneVersion}
+use Rattle.mst_load.specs.Reports.{IsReportOf}
 use Rattle.mst_command.specs.declared.task.Load.{Load}
 
 -- the first word after the program's name is `load`
@@ -60,19 +60,16 @@ abbrev pub IsLoadSize : Load → Type 0
 IsLoadSize size = (1 ≤ size.readers) × (size.readers ≤ 24) × (1 ≤ size.writers) × (size.writers ≤ 8)
     × (1 ≤ size.calls) × (size.calls ≤ 100000)
 
--- A load of a size that it may have came to a report in which no version fell and whose number of
--- events and root digest are those of one version, and the sink took its four lines.
+-- A load of a size that it may have came to its report, and the sink took the four lines.
 pub record RanLoad {W : Type 0} (takes : Flow W) (size : Load) (w x : W) : Type 0 where
   pub fits : IsLoadSize size
   pub report : Report
-  pub never : report.falls ≡ 0
-  pub version : IsOneVersion report.events report.root
+  pub told : IsReportOf size.writers size.calls report
   pub taken : takes w (lines_of report) x
 
--- The same, where the sink failed: it took a beginning of the lines.
+-- The same, but the sink failed: it took a prefix of the lines.
 pub record BrokeLoad {W : Type 0} (takes : Flow W) (size : Load) (w x : W) : Type 0 where
   pub fits : IsLoadSize size
   pub report : Report
-  pub never : report.falls ≡ 0
-  pub version : IsOneVersion report.events report.root
+  pub told : IsReportOf size.writers size.calls report
   pub breaks : Breaks takes w [] (lines_of report) x

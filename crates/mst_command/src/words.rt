@@ -2,7 +2,7 @@
 ghost use Rattle.std.specs.Prelude.{◌≡◌, ◌↔◌, IfSome, IfNone, true, false, None};
 ghost use Rattle.std.specs.Option.{option_map};
 ghost use Rattle.mst_command.specs.Loading.{asks_load};
-ghost use Rattle.mst_command.specs.Commanding.{AskHelp, AskText, AskVersion, AsksFor, HasNumbers, IsHelp, IsPlain, IsVersion, NamesSize, asks_replay, asks_verify, asks_version_alone, format_in as named_format};
+ghost use Rattle.mst_command.specs.Commanding.{AskHelp, AskText, AskVersion, AsksFor, HasNumbers, IsHelp, IsPlain, AsksNothing, IsVersion, NamesSize, asks_replay, asks_script, asks_verify, asks_version_alone, format_in as named_format};
 
 use crate::options::{format_named, operand};
 use crate::task::{Load, Size, Task};
@@ -79,6 +79,16 @@ pub fn names_replay(words: &[&str]) -> bool
     }
 }
 
+// Whether the first word after the program's name is `run`.
+fn names_script(words: &[&str]) -> bool
+    ensures { result ≡ asks_script words.now }
+{
+    match words {
+        [_, name, ..] => *name == "run",
+        _ => false,
+    }
+}
+
 // Whether the first word after the program's name is `load`.
 fn names_load(words: &[&str]) -> bool
     ensures { result ≡ asks_load words.now }
@@ -132,6 +142,7 @@ pub fn script_task(words: &[&str], size: Size) -> Task<'static>
     requires replay { asks_replay words.now ≡ false }
     requires verify { asks_verify words.now ≡ None }
     requires load { asks_load words.now ≡ false }
+    requires script { asks_script words.now ≡ true }
     requires size { NamesSize words.now size }
     ensures asked { AsksFor words.now result }
     ensures numbers { (load : _) → HasNumbers size load result }
@@ -146,33 +157,52 @@ pub fn script_task(words: &[&str], size: Size) -> Task<'static>
     }
 }
 
-// The task of words of no plain form that ask for no replay and no proof.
-fn named_store(words: &[&str], size: Size, load: Load) -> Task<'static>
+// The task of words of no plain form that ask for a script, if they do, and for nothing else.
+fn named_script(words: &[&str], size: Size) -> Option<Task<'static>>
     requires plain { ¬ (IsPlain words.now) }
     requires replay { asks_replay words.now ≡ false }
     requires verify { asks_verify words.now ≡ None }
-    ensures asked { AsksFor words.now result }
-    ensures numbers { HasNumbers size load result }
+    requires load { asks_load words.now ≡ false }
+    ensures asked { IfSome result (λ task. AsksFor words.now task) }
+    ensures numbers { IfSome result (λ task. (load : _) → HasNumbers size load task) }
+    ensures none { IfNone result (asks_script words.now ≡ false) }
 {
-    if names_load(words) {
-        Task::Load(load)
+    if names_script(words) {
+        Some(script_task(words, size))
     } else {
-        script_task(words, size)
+        None
     }
 }
 
-/// The task of words of no plain form, which were found to name one, by the first word after the
-/// program's name. A script has this size, and a load these numbers.
-pub fn named_task<'a>(words: &[&'a str], size: Size, load: Load) -> Task<'a>
+// The task of words of no plain form that ask for no replay and no proof, if they ask for one.
+fn named_store(words: &[&str], size: Size, load: Load) -> Option<Task<'static>>
+    requires plain { ¬ (IsPlain words.now) }
+    requires replay { asks_replay words.now ≡ false }
+    requires verify { asks_verify words.now ≡ None }
+    ensures asked { IfSome result (λ task. AsksFor words.now task) }
+    ensures numbers { IfSome result (λ task. HasNumbers size load task) }
+    ensures none { IfNone result (AsksNothing words.now) }
+{
+    if names_load(words) {
+        Some(Task::Load(load))
+    } else {
+        named_script(words, size)
+    }
+}
+
+/// The task of words of no plain form, by the first word after the program's name. A script has
+/// this size, and a load these numbers. Returns `None` exactly if that word is no command's.
+pub fn named_task<'a>(words: &[&'a str], size: Size, load: Load) -> Option<Task<'a>>
     requires { ¬ (IsPlain words.now) }
-    ensures asked { AsksFor words.now result }
-    ensures numbers { HasNumbers size load result }
+    ensures asked { IfSome result (λ task. AsksFor words.now task) }
+    ensures numbers { IfSome result (λ task. HasNumbers size load task) }
+    ensures none { IfNone result (AsksNothing words.now) }
 {
     if names_replay(words) {
-        return Task::Replay;
+        return Some(Task::Replay);
     }
     match verify_task(words) {
-        Some(task) => task,
+        Some(task) => Some(task),
         None => named_store(words, size, load),
     }
 }

@@ -1,13 +1,15 @@
 -- What a load says of the history that its workers made.
-use Rattle.std.specs.Prelude.{◌≡◌, ℕ, ◌+◌, ◌<◌, List, length, get_or, All}
+use Rattle.std.specs.Prelude.{◌≡◌, ℕ, ◌+◌, ◌*◌, ◌<◌, List, length, get_or, All}
 use Rattle.mst_key.specs.History.{History, after, events_of, IsPrefix}
 use Rattle.mst_key.specs.declared.format.Format.TheVariants.{One}
 use Rattle.mst_node.specs.Text as text
 use Rattle.mst_store.specs.Passes.{Known}
 use Rattle.mst_store.specs.Settling.{IsOfOne, AreAllPasses}
+use Rattle.mst_load.specs.Calls.{map_left}
 use Rattle.mst_load.specs.Workers.{HasAllCalls}
+use Rattle.mst_load.specs.declared.engine.Report.{Report}
 
--- the number of events and the root digest are those of one history
+-- the number of events and the root digest are those of some history
 abbrev pub IsOneVersion : ℕ → List ℕ → Type 0
 IsOneVersion events root = (h : History) × (events ≡ length h) × (root ≡ text.root One (after h))
 
@@ -33,3 +35,13 @@ pub record HasSettled (count writers calls events : ℕ) (root : List ℕ) : Typ
   pub format : All (λ p. p.store.format ≡ One) passes
   pub worked : All (HasAllCalls writers calls) passes
   pub settled : IsSettled passes events root
+
+-- The report of a load with so many writers, each of which makes so many calls. No version fell,
+-- there are as many events as calls of writers, and the root digest is that of the map which these
+-- calls leave. That digest is built a second time from the map's pairs
+pub record IsReportOf (writers calls : ℕ) (report : Report) : Type 0 where
+  pub never : report.falls ≡ 0
+  pub version : IsOneVersion report.events report.root
+  pub all : report.events ≡ writers * calls
+  pub built : report.built ≡ text.root One (map_left writers calls)
+  pub whole : report.root ≡ report.built

@@ -35,7 +35,7 @@ pub record Commanded {S O E : Type 0}
   pub refused : status ≡ 2 → (t ≡ s) × (x ≡ w)
   pub memory : status ≡ 4 → x ≡ w
   pub memory_unread : status ≡ 4 → asks_verify words ≡ None → t ≡ s
-  -- 3: exactly if a device failed
+  -- 3: exactly if a count of failures of a device rose
   pub device : (status ≡ 3)
       ↔ (reads s + writes w + losses e < reads t + writes x + losses f)
   pub stopped : status ≡ 3

@@ -159,15 +159,24 @@ fn load_in(matches: &ArgMatches<'_>) -> Load {
     }
 }
 
+// The error of words whose first after the program's name is no command's.
+fn no_command(alloc: Global) -> Result<Error, AllocError> {
+    let message = "the first word is no command";
+    program(alloc)?.error(ErrorKind::InvalidSubcommand, message)
+}
+
 // The task that clap finds in words of no plain form, with the program's name. The program has no
 // option of its own that takes a word, so that clap takes the first word after its name for the
-// command.
+// command. If it ever took another one, the words would be refused.
 fn task_in<'a>(alloc: Global, words: &[&'a str]) -> Result<Task<'a>, Error>
     requires { ¬ (IsPlain words.now) }
     ensures { IfOk result (λ task. AsksFor words.now task) }
 {
     let matches = program(alloc)?.try_get_matches_from(words)?;
-    Ok(named_task(words, size_in(&matches), load_in(&matches)))
+    match named_task(words, size_in(&matches), load_in(&matches)) {
+        Some(task) => Ok(task),
+        None => Err(no_command(alloc)?),
+    }
 }
 
 // The refusal of memory that kept clap from its work, if it was one.
