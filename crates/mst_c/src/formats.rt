@@ -2,9 +2,9 @@
 ghost use Rattle.std.specs.Prelude.{◌≡◌};
 ghost use Rattle.mst_c.specs.Formats.{format_named as named, format_code, move_code as code_of_move, FormatTold, MigrateTold};
 
-use crate::hand::Hand;
+use crate::hand::{Hand, give, take};
 use crate::held::Unmoved;
-use crate::telling::{MEMORY, NO_HAND, UNKNOWN_FORMAT, WRONG_STATE, give, take};
+use crate::telling::{MEMORY, NO_HAND, UNKNOWN_FORMAT, WRONG_STATE};
 use mst_key::Format;
 use mst_store::MigrateFault;
 use std::alloc::Global;
@@ -47,25 +47,25 @@ fn move_code(moved: Result<Format, Unmoved>) -> i32
 pub(crate) fn format(alloc: Global, hand: &mut Hand) -> i32
     ensures told { FormatTold hand.old.held result hand.new.held }
 {
-    let Some(mut held) = take(alloc, hand) else {
+    let Some(mut taken) = take(alloc, hand) else {
         return NO_HAND;
     };
-    let format = held.format();
-    give(hand, held);
+    let format = taken.held.format();
+    give(hand, taken);
     number_of(format)
 }
 
 pub(crate) fn try_migrate(alloc: Global, hand: &mut Hand, number: u32) -> i32
     ensures told { MigrateTold hand.old.held number result hand.new.held }
 {
-    let Some(mut held) = take(alloc, hand) else {
+    let Some(mut taken) = take(alloc, hand) else {
         return NO_HAND;
     };
     let Some(to) = format_named(number) else {
-        give(hand, held);
+        give(hand, taken);
         return UNKNOWN_FORMAT;
     };
-    let moved = held.try_migrate(alloc, to);
-    give(hand, held);
+    let moved = taken.held.try_migrate(alloc, to);
+    give(hand, taken);
     move_code(moved)
 }

@@ -1,16 +1,22 @@
-//! What C holds: a pointer to a box, or null.
+//! What C holds: a pointer to a box, or null. And the only ways to take the box out, to put one in,
+//! and to let one go.
+//!
+//! Neither a hand nor what was taken out of one may be dropped, so a body that forgets either does
+//! not compile.
 ghost use Rattle.std.specs.Prelude.{◌≡◌, Option, Some, None};
 ghost use Rattle.std.specs.Option.{MatchOption};
 ghost use Rattle.mst_c.specs.Owning.{HeldNow, hand_coded};
+ghost use Rattle.mst_c.specs.States.{PinsNone};
 
 use crate::held::Held;
 use crate::parts::Parts;
 use std::alloc::Global;
 use std::marker::Model;
+use std::mem::replace;
 use std::ptr::null_mut;
 
+/// A hand. It is no `Drop`, since a derived one would forget the box.
 #[repr(C)]
-#[derive(Drop)]
 pub struct Hand {
     ptr: *mut u8,
     alloc: Global,
@@ -27,7 +33,7 @@ impl Model for Hand {
 unsafe impl Send for Hand {}
 
 impl Hand {
-    pub(crate) fn empty(alloc: Global) -> Hand
+    fn empty(alloc: Global) -> Hand
         ensures { result.held ≡ None }
     {
         Hand {
@@ -60,18 +66,74 @@ impl Hand {
         }
     }
 
-    pub(crate) fn of_box(held: Box<Held, Global>) -> Hand
+    fn of_box(held: Box<Held, Global>) -> Hand
         ensures { result.held ≡ Some held.value }
     {
         Hand::of_parts(Parts::of(held))
     }
 
-    pub(crate) fn into_box(self) -> Option<Box<Held, Global>>
+    fn into_box(self) -> Option<Box<Held, Global>>
         ensures { MatchOption result (self.held ≡ None) (λ b. self.held ≡ Some b.value) }
     {
         match self.into_parts() {
             Some(parts) => Some(parts.into_box()),
             None => None,
         }
+    }
+}
+
+/// What is owed to a pass that was taken out of a hand: it goes back into one, or is let go.
+struct Due;
+
+/// A pass that was taken out of a hand. It is no `Drop`, and only this module takes it apart.
+pub(crate) struct Taken {
+    pub(crate) held: Box<Held, Global>,
+    due: Due,
+}
+
+impl Taken {
+    pub(crate) fn of(held: Box<Held, Global>) -> Taken
+        ensures { result.held.value ≡ held.value }
+    {
+        Taken { held, due: Due }
+    }
+
+    fn into_box(self) -> Box<Held, Global>
+        ensures { result.value ≡ self.held.value }
+    {
+        let Taken { held, due } = self;
+        let Due = due;
+        held
+    }
+
+    /// Lets the pass go, with its share of the store. A pin would last as long as the store, so it
+    /// has to have ended.
+    pub(crate) fn let_go(self)
+        requires free { PinsNone self.held.value }
+    {
+        let _gone = self.into_box();
+    }
+}
+
+/// What the hand holds. The hand is then empty.
+pub(crate) fn take(alloc: Global, hand: &mut Hand) -> Option<Taken>
+    ensures empty { hand.new.held ≡ None }
+    ensures taken { MatchOption result (hand.old.held ≡ None)
+        (λ t. hand.old.held ≡ Some t.held.value) }
+{
+    match replace(hand, Hand::empty(alloc)).into_box() {
+        Some(held) => Some(Taken::of(held)),
+        None => None,
+    }
+}
+
+/// Lets an empty hand hold this.
+pub(crate) fn give(hand: &mut Hand, taken: Taken)
+    requires empty { hand.old.held ≡ None }
+    ensures held { hand.new.held ≡ Some taken.held.value }
+{
+    match replace(hand, Hand::of_box(taken.into_box())).into_box() {
+        Some(_) => unreachable!(),
+        None => {}
     }
 }

@@ -21,7 +21,7 @@
 //! The tests are made in this order: the hand, the key, the value, the pass, and the rooms last.
 #![tactic(auto)]
 
-ghost use Rattle.std.specs.Prelude.{◌≡◌, ◌≢◌, ◌↔◌, pos, negsuc, length as count, None, IsSome};
+ghost use Rattle.std.specs.Prelude.{◌≡◌, ◌≢◌, ◌↔◌, ◌⊎◌, pos, negsuc, length as count, None, IsSome};
 ghost use Rattle.mst_c.specs.Formats.{format_named, FormatTold, MigrateTold};
 ghost use Rattle.mst_c.specs.Opened.{Opened, IsSize, AllEmpty};
 ghost use Rattle.mst_c.specs.Ranges.{RangeTold};
@@ -41,8 +41,8 @@ use std::alloc::Global;
 
 /// Opens a store of the empty map in format 1 or 2, with `rows` rows, and puts a pass into each of
 /// the hands. What a hand held before is closed. Returns 0; -3 for another format; -10 if a store
-/// cannot have so many rows or passes; -9 if a growth was refused. If it does not return 0, all
-/// hands are empty.
+/// cannot have so many rows or passes; -9 if a growth was refused; and no other number. If it does
+/// not return 0, all hands are empty.
 #[unsafe(no_mangle)]
 pub extern "C" fn mst_open(alloc: Global, format: u32, rows: u32, hands: &mut [Hand]) -> i32
     ensures opened { result ≡ pos 0 → Opened format rows hands.new }
@@ -50,6 +50,8 @@ pub extern "C" fn mst_open(alloc: Global, format: u32, rows: u32, hands: &mut [H
     ensures size { result ≡ negsuc 9
         ↔ IsSome (format_named format) × (¬ (IsSize rows (count hands.old))) }
     ensures format { result ≡ negsuc 2 ↔ (format_named format ≡ None) }
+    ensures range { (result ≡ pos 0) ⊎ (result ≡ negsuc 2) ⊎ (result ≡ negsuc 9)
+        ⊎ (result ≡ negsuc 8) }
 {
     opening::open(alloc, format, rows, hands)
 }

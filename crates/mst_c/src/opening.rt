@@ -1,5 +1,5 @@
 //! Opening a store for C.
-ghost use Rattle.std.specs.Prelude.{◌≡◌, ◌≢◌, ◌↔◌, ◌<◌, ◌≤◌, ℕ, true, pos, negsuc, length, get_or, vec_len, Some, None, IsSome};
+ghost use Rattle.std.specs.Prelude.{◌≡◌, ◌≢◌, ◌↔◌, ◌⊎◌, ◌<◌, ◌≤◌, ℕ, true, pos, negsuc, length, get_or, vec_len, Some, None, IsSome};
 ghost use Rattle.std.specs.Arc.{arc_value};
 ghost use Rattle.mst_store.specs.Passes.{Known};
 ghost use Rattle.mst_c.specs.declared.held.State.TheVariants.{Free};
@@ -8,14 +8,14 @@ ghost use Rattle.mst_c.specs.Formats.{format_named as named};
 ghost use Rattle.mst_c.specs.Opened.{Opened, IsSize, AllEmpty};
 
 use crate::formats::format_named;
-use crate::hand::Hand;
+use crate::hand::{Hand, Taken, give};
 use crate::held::Held;
-use crate::telling::{BAD_SHAPE, MEMORY, UNKNOWN_FORMAT, close, give};
+use crate::telling::{BAD_SHAPE, MEMORY, UNKNOWN_FORMAT, close};
 use mst_store::{OpenFault, Pass, Shape, Store};
 use std::alloc::Global;
 use std::sync::Arc;
 
-/// A pass of the store, beside a share of it, goes into the hand.
+/// A pass of the store, beside a share of it, goes into an empty hand.
 fn hand_out(
     alloc: Global,
     store: &Arc<Store<Global>, Global>,
@@ -23,6 +23,7 @@ fn hand_out(
     hand: &mut Hand,
 ) -> bool
     requires own { pass.store ≡ arc_value store.now }
+    requires empty { hand.old.held ≡ None }
     ensures held { result ≡ true → hand.new.held ≡ Some (Free pass.entry) }
 {
     let Ok(part) = Arc::try_clone(store) else {
@@ -30,14 +31,14 @@ fn hand_out(
     };
     match Box::new(alloc, Held::new(part, pass.lay())) {
         Ok(held) => {
-            give(hand, held);
+            give(hand, Taken::of(held));
             true
         }
         Err(_) => false,
     }
 }
 
-/// Each of the passes goes into the next hand.
+/// Each of the passes goes into the next hand. All hands are empty before.
 fn hand_all(
     alloc: Global,
     store: &Arc<Store<Global>, Global>,
@@ -47,6 +48,7 @@ fn hand_all(
     requires count { vec_len passes ≤ length hands.old }
     requires own { (k : ℕ) (d : Known) → k < vec_len passes
         → (get_or passes.items k d).store ≡ arc_value store.now }
+    requires empty { AllEmpty hands.old }
     ensures all { result ≡ true → (k : ℕ) (d : Known) (h : Hand) → k < vec_len passes.entry
         → (get_or hands.new k h).held ≡ Some (Free (get_or passes.entry.items k d)) }
 {
@@ -74,6 +76,8 @@ pub(crate) fn open(alloc: Global, format: u32, rows: u32, hands: &mut [Hand]) ->
     ensures size { result ≡ negsuc 9
         ↔ IsSome (named format) × (¬ (IsSize rows (length hands.old))) }
     ensures format { result ≡ negsuc 2 ↔ (named format ≡ None) }
+    ensures range { (result ≡ pos 0) ⊎ (result ≡ negsuc 2) ⊎ (result ≡ negsuc 9)
+        ⊎ (result ≡ negsuc 8) }
 {
     close_all(alloc, hands);
     let Some(format) = format_named(format) else {

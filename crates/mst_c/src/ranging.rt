@@ -3,8 +3,8 @@ ghost use Rattle.std.specs.Prelude.{◌≡◌, ◌≤◌, ◌<◌, ◌+◌, ◌^
 ghost use Rattle.mst_c.specs.Told.{bytes_code, room_after};
 ghost use Rattle.mst_c.specs.Ranges.{pair_bytes, pairs_bytes, written, RangeTold};
 
-use crate::hand::Hand;
-use crate::telling::{BAD_KEY, MEMORY, NO_HAND, NO_ROOM, bound, give, take};
+use crate::hand::{Hand, give, take};
+use crate::telling::{BAD_KEY, MEMORY, NO_HAND, NO_ROOM, bound};
 use mst_key::{Key, Value};
 use std::alloc::Global;
 
@@ -101,19 +101,21 @@ pub(crate) fn range(
     ensures told { RangeTold hand.old.held from.now to.now limit room.old count.old size.old result
         room.new count.new size.new hand.new.held }
 {
-    let Some(mut held) = take(alloc, hand) else {
+    let Some(mut taken) = take(alloc, hand) else {
         return NO_HAND;
     };
     let Ok(low) = bound(from) else {
-        give(hand, held);
+        give(hand, taken);
         return BAD_KEY;
     };
     let Ok(high) = bound(to) else {
-        give(hand, held);
+        give(hand, taken);
         return BAD_KEY;
     };
-    let found = held.range(alloc, low.as_ref(), high.as_ref(), limit as usize);
-    give(hand, held);
+    let found = taken
+        .held
+        .range(alloc, low.as_ref(), high.as_ref(), limit as usize);
+    give(hand, taken);
     match found {
         Ok(pairs) => tell_pairs(pairs.as_slice(), room, count, size),
         Err(_) => MEMORY,

@@ -1,15 +1,12 @@
 //! The calls as C is told of them.
 ghost use Rattle.std.specs.Prelude.{◌≡◌, ◌≤◌, ◌++◌, length, drop, Some, None, ◌↔◌, IsOk, IfOk};
-ghost use Rattle.std.specs.Option.{MatchOption};
-ghost use Rattle.mst_c.specs.States.{PinsNone};
 ghost use Rattle.mst_c.specs.Told.{value_code, room_after, unwritten_code as code_of_unwritten, done_code, bytes_code, GetTold, PutTold, RootTold, ProveTold, PinTold, UnpinTold, CloseTold, RemoveTold, VersionTold, RowsTold, count_code, count_after, NextTold, IsBound, bound_of, pair_code, key_room_after, value_room_after, key_size_after};
 
-use crate::hand::Hand;
-use crate::held::{Held, Uncounted, Unwritten};
+use crate::hand::{Hand, give, take};
+use crate::held::{Uncounted, Unwritten};
 use mst_key::{Key, KeySize, Value};
 use mst_store::WriteFault;
 use std::alloc::Global;
-use std::mem::replace;
 
 pub(crate) const ABSENT: i32 = -1;
 
@@ -28,21 +25,6 @@ pub(crate) const WRONG_STATE: i32 = -8;
 pub(crate) const MEMORY: i32 = -9;
 
 pub(crate) const BAD_SHAPE: i32 = -10;
-
-/// What the hand holds. The hand is then empty.
-pub(crate) fn take(alloc: Global, hand: &mut Hand) -> Option<Box<Held, Global>>
-    ensures empty { hand.new.held ≡ None }
-    ensures taken { MatchOption result (hand.old.held ≡ None) (λ b. hand.old.held ≡ Some b.value) }
-{
-    replace(hand, Hand::empty(alloc)).into_box()
-}
-
-/// Lets an empty hand hold this.
-pub(crate) fn give(hand: &mut Hand, held: Box<Held, Global>)
-    ensures held { hand.new.held ≡ Some held.value }
-{
-    let _empty = replace(hand, Hand::of_box(held));
-}
 
 /// Puts bytes first, and keeps those after them.
 fn put(room: &mut [u8], bytes: &[u8])
@@ -120,14 +102,14 @@ fn done(done: bool) -> i32
 pub(crate) fn get(alloc: Global, hand: &mut Hand, key: &[u8], room: &mut [u8]) -> i32
     ensures told { GetTold hand.old.held key.now room.old result room.new hand.new.held }
 {
-    let Some(mut held) = take(alloc, hand) else {
+    let Some(mut taken) = take(alloc, hand) else {
         return NO_HAND;
     };
     let code = match Key::new(key) {
-        Ok(key) => held.get(&key, room),
+        Ok(key) => taken.held.get(&key, room),
         Err(_) => BAD_KEY,
     };
-    give(hand, held);
+    give(hand, taken);
     code
 }
 
@@ -140,19 +122,19 @@ pub(crate) fn try_put(
 ) -> i32
     ensures told { PutTold hand.old.held key.now value.now room.old result room.new hand.new.held }
 {
-    let Some(mut held) = take(alloc, hand) else {
+    let Some(mut taken) = take(alloc, hand) else {
         return NO_HAND;
     };
     let Ok(key) = Key::new(key) else {
-        give(hand, held);
+        give(hand, taken);
         return BAD_KEY;
     };
     let Ok(value) = Value::new(value) else {
-        give(hand, held);
+        give(hand, taken);
         return BAD_VALUE;
     };
-    let wrote = held.try_put(&key, &value);
-    give(hand, held);
+    let wrote = taken.held.try_put(&key, &value);
+    give(hand, taken);
     match wrote {
         Ok(old) => tell(&old, room),
         Err(fault) => unwritten_code(fault),
@@ -162,15 +144,15 @@ pub(crate) fn try_put(
 pub(crate) fn root(alloc: Global, hand: &mut Hand, room: &mut [u8]) -> i32
     ensures told { RootTold hand.old.held room.old result room.new hand.new.held }
 {
-    let Some(mut held) = take(alloc, hand) else {
+    let Some(mut taken) = take(alloc, hand) else {
         return NO_HAND;
     };
     if room.len() < 32 {
-        give(hand, held);
+        give(hand, taken);
         return NO_ROOM;
     }
-    let root = held.root();
-    give(hand, held);
+    let root = taken.held.root();
+    give(hand, taken);
     put(room, &root);
     32
 }
@@ -185,15 +167,15 @@ pub(crate) fn prove(
     ensures told { ProveTold hand.old.held key.now room.old size.old result room.new
         size.new hand.new.held }
 {
-    let Some(mut held) = take(alloc, hand) else {
+    let Some(mut taken) = take(alloc, hand) else {
         return NO_HAND;
     };
     let Ok(key) = Key::new(key) else {
-        give(hand, held);
+        give(hand, taken);
         return BAD_KEY;
     };
-    let found = held.prove(alloc, &key);
-    give(hand, held);
+    let found = taken.held.prove(alloc, &key);
+    give(hand, taken);
     match found {
         Ok(proof) => tell_proof(proof.as_slice(), room, size),
         Err(_) => MEMORY,
@@ -203,57 +185,49 @@ pub(crate) fn prove(
 pub(crate) fn pin(alloc: Global, hand: &mut Hand) -> i32
     ensures told { PinTold hand.old.held result hand.new.held }
 {
-    let Some(mut held) = take(alloc, hand) else {
+    let Some(mut taken) = take(alloc, hand) else {
         return NO_HAND;
     };
-    let pinned = held.pin();
-    give(hand, held);
+    let pinned = taken.held.pin();
+    give(hand, taken);
     done(pinned)
 }
 
 pub(crate) fn unpin(alloc: Global, hand: &mut Hand) -> i32
     ensures told { UnpinTold hand.old.held result hand.new.held }
 {
-    let Some(mut held) = take(alloc, hand) else {
+    let Some(mut taken) = take(alloc, hand) else {
         return NO_HAND;
     };
-    let unpinned = held.unpin();
-    give(hand, held);
+    let unpinned = taken.held.unpin();
+    give(hand, taken);
     done(unpinned)
-}
-
-/// Lets a pass go, with its share of the store. A pin would last as long as the store, so it has to
-/// have ended.
-fn let_go(held: Box<Held, Global>)
-    requires free { PinsNone held.value }
-{
-    let _gone = held;
 }
 
 pub(crate) fn close(alloc: Global, hand: &mut Hand) -> i32
     ensures told { CloseTold hand.old.held result hand.new.held }
     ensures empty { hand.new.held ≡ None }
 {
-    let Some(mut held) = take(alloc, hand) else {
+    let Some(mut taken) = take(alloc, hand) else {
         return NO_HAND;
     };
-    let _pinned = held.unpin();
-    let_go(held);
+    let _pinned = taken.held.unpin();
+    taken.let_go();
     0
 }
 
 pub(crate) fn try_remove(alloc: Global, hand: &mut Hand, key: &[u8], room: &mut [u8]) -> i32
     ensures told { RemoveTold hand.old.held key.now room.old result room.new hand.new.held }
 {
-    let Some(mut held) = take(alloc, hand) else {
+    let Some(mut taken) = take(alloc, hand) else {
         return NO_HAND;
     };
     let Ok(key) = Key::new(key) else {
-        give(hand, held);
+        give(hand, taken);
         return BAD_KEY;
     };
-    let wrote = held.try_remove(&key);
-    give(hand, held);
+    let wrote = taken.held.try_remove(&key);
+    give(hand, taken);
     match wrote {
         Ok(old) => tell(&old, room),
         Err(fault) => unwritten_code(fault),
@@ -263,22 +237,22 @@ pub(crate) fn try_remove(alloc: Global, hand: &mut Hand, key: &[u8], room: &mut 
 pub(crate) fn version(alloc: Global, hand: &mut Hand, number: &mut u64) -> i32
     ensures told { VersionTold hand.old.held number.old result number.new hand.new.held }
 {
-    let Some(mut held) = take(alloc, hand) else {
+    let Some(mut taken) = take(alloc, hand) else {
         return NO_HAND;
     };
-    *number = held.version();
-    give(hand, held);
+    *number = taken.held.version();
+    give(hand, taken);
     0
 }
 
 pub(crate) fn rows(alloc: Global, hand: &mut Hand, count: &mut u32) -> i32
     ensures told { RowsTold hand.old.held count.old result count.new hand.new.held }
 {
-    let Some(mut held) = take(alloc, hand) else {
+    let Some(mut taken) = take(alloc, hand) else {
         return NO_HAND;
     };
-    let rows = held.rows();
-    give(hand, held);
+    let rows = taken.held.rows();
+    give(hand, taken);
     tell_rows(rows, count)
 }
 
@@ -333,14 +307,14 @@ pub(crate) fn next(
     ensures told { NextTold hand.old.held key.now key_room.old size.old room.old result key_room.new
         size.new room.new hand.new.held }
 {
-    let Some(mut held) = take(alloc, hand) else {
+    let Some(mut taken) = take(alloc, hand) else {
         return NO_HAND;
     };
     let Ok(bound) = bound(key) else {
-        give(hand, held);
+        give(hand, taken);
         return BAD_KEY;
     };
-    let pair = held.next(bound.as_ref());
-    give(hand, held);
+    let pair = taken.held.next(bound.as_ref());
+    give(hand, taken);
     tell_pair(pair, key_room, size, room)
 }

@@ -1,5 +1,5 @@
 use Rattle.std.proofs.Common.{rules, arith, ◌≡◌, ◌<◌, ◌+◌, ℕ, true, get_or, length, Some, slice_set, sym, ap, ◌∙◌, below_more}
-use Rattle.std.proofs.lemmas.List.{get_or-set_same, get_or-set_other}
+use Rattle.std.proofs.lemmas.List.{get_or-set_same, get_or-set_other, length-set}
 use Rattle.mst_store.specs.Passes.{Known}
 use Rattle.mst_c.specs.declared.held.State.TheVariants.{Free}
 use Rattle.mst_c.specs.declared.hand.Hand.{Hand}
@@ -33,6 +33,18 @@ loop-pass-preserved c =
             k below)
         | else-all w ↦ (λ yes k d h below. search rules)
       ],
+      elim c.if-all.branch [
+        | then-all w ↦
+            let set : c.if-all.hands ≡ slice_set c.loop-pass.hands at w.hand_out-all.new.hand =
+            search rules in
+            let long : length c.if-all.hands ≡ length c.loop-pass.hands =
+            ap length set ∙ length-set c.loop-pass.hands at w.hand_out-all.new.hand in
+            (λ k h from below. ap (λ (hs : _). (get_or hs k h).held) set ∙ ap (λ (x : Hand). x.held)
+            (get_or-set_other c.loop-pass.hands at k w.hand_out-all.new.hand h
+            (λ z. omega (arith, z, from)))
+            ∙ was.3 k h (omega (arith, from)) (omega (arith, below, long)))
+        | else-all w ↦ (λ k h from below. search rules)
+      ],
     )
 
 pub loop-pass-preserved-then-if-drop : goal.loop-pass-preserved-then-if-drop
@@ -60,5 +72,17 @@ loop-pass-preserved-then-if-drop c =
             ∙ ap (λ (p : Known). Some (Free p)) (sym (first d)))
             k below)
         | else-all w ↦ (λ yes k d h below. search rules)
+      ],
+      elim c.if-all.branch [
+        | then-all w ↦
+            let set : c.if-all.hands ≡ slice_set c.loop-pass.hands at w.hand_out-all.new.hand =
+            search rules in
+            let long : length c.if-all.hands ≡ length c.loop-pass.hands =
+            ap length set ∙ length-set c.loop-pass.hands at w.hand_out-all.new.hand in
+            (λ k h from below. ap (λ (hs : _). (get_or hs k h).held) set ∙ ap (λ (x : Hand). x.held)
+            (get_or-set_other c.loop-pass.hands at k w.hand_out-all.new.hand h
+            (λ z. omega (arith, z, from)))
+            ∙ was.3 k h (omega (arith, from)) (omega (arith, below, long)))
+        | else-all w ↦ (λ k h from below. search rules)
       ],
     )

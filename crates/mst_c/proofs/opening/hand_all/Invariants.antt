@@ -1,11 +1,12 @@
-use Rattle.std.specs.Prelude.{◌≡◌, ℕ, ◌+◌, ◌<◌, true, Some, get_or, vec_len}
+use Rattle.std.specs.Prelude.{◌≡◌, ℕ, ◌+◌, ◌<◌, ◌≤◌, true, length, Some, None, get_or, vec_len}
 use Rattle.std.specs.Vec.Iter.{into_iter_items, into_iter_len}
 use Rattle.mst_store.specs.Passes.{Known}
 use Rattle.mst_c.specs.declared.held.State.TheVariants.{Free}
 use Rattle.mst_c.specs.declared.hand.Hand.{Hand}
 use Rattle.mst_c.proofs.opening.hand_all.Given as goal
 
--- the passes that are left are the last of those given, and the hands before have the others
+-- the passes that are left are the last of those given, the hands before have the others, and those
+-- after are empty
 abbrev pub invariant-loop-pass : goal.invariant-loop-pass
 invariant-loop-pass l =
     (l.at + into_iter_len l.pass-iterator ≡ vec_len l.fn.passes)
@@ -13,3 +14,4 @@ invariant-loop-pass l =
     → get_or (into_iter_items l.pass-iterator) k d ≡ get_or l.fn.passes.items (l.at + k) d)
     × (l.all ≡ true → (k : ℕ) (d : Known) (h : Hand) → k < l.at → (get_or l.hands k h).held ≡ Some
     (Free (get_or l.fn.passes.items k d)))
+    × ((k : ℕ) (h : Hand) → l.at ≤ k → k < length l.hands → (get_or l.hands k h).held ≡ None)

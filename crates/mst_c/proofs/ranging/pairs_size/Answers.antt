@@ -1,4 +1,4 @@
-use Rattle.std.proofs.Common.{◌≡◌, ◌+◌, ◌++◌, ℕ, List, length, take, get_or, sym, ap, ◌∙◌, rules, arith}
+use Rattle.std.proofs.Common.{◌≡◌, ◌+◌, ◌++◌, ℕ, List, length, take, get_or, ap, ◌∙◌, rules, arith}
 use Rattle.std.proofs.lemmas.List.{length-append}
 use Rattle.mst_key.specs.Map.{Pair}
 use Rattle.mst_c.specs.Ranges.{pair_bytes, pairs_bytes}

@@ -9,7 +9,7 @@ use Rattle.mst_c.proofs.ranging.range.Goals as goal
 -- the low bound is none
 pub returns-in_default-bound : goal.returns-in_default-bound
 returns-in_default-bound c =
-    let s : State = c.in-Some.held.value in let args = c.args in
+    let s : State = c.in-Some.taken.held.value in let args = c.args in
     let held : args.hand.now.held ≡ Some s = search rules in
     let after : c.give.new.hand.held ≡ Some s = search rules in
     let no : IsBound args.from.now → ⊥ = search rules in
@@ -28,8 +28,8 @@ returns-in_default-bound c =
 -- the pass gave pairs
 pub returns-in-Ok-found : goal.returns-in-Ok-found
 returns-in-Ok-found c =
-    let s : State = c.in-Some.held.value in let t : State = c.range-found.new.self in let args =
-    c.args in
+    let s : State = c.in-Some.taken.held.value in
+    let t : State = c.range-found.new.self in let args = c.args in
     let pairs = c.in-Ok-found.pairs.items in let bytes = option_map pairs_bytes (Some pairs) in
     let held : args.hand.now.held ≡ Some s = search rules in
     let after : c.give-2.new.hand.held ≡ Some t = search rules in

@@ -8,8 +8,8 @@ use Rattle.mst_c.proofs.telling.prove.Goals as goal
 -- the pass gave a proof
 pub returns-in-Ok-found : goal.returns-in-Ok-found
 returns-in-Ok-found c =
-    let s : State = c.in-Some.held.value in let t : State = c.prove-found.new.self in let proof =
-    c.in-Ok-found.proof.items in
+    let s : State = c.in-Some.taken.held.value in
+    let t : State = c.prove-found.new.self in let proof = c.in-Ok-found.proof.items in
     let held : c.args.hand.now.held ≡ Some s = search rules in
     let after : c.give-2.new.hand.held ≡ Some t = search rules in
     let key : IsKey c.args.key.now = search rules in
