@@ -1,6 +1,6 @@
 -- The map that all calls of the writers leave, in whichever order they came.
 use Rattle.std.proofs.Common.{◌≡◌, ◌≢◌, ℕ, zero, suc, ◌+◌, ◌-◌, ◌*◌, ◌<◌, ◌≤◌, List, [], ◌∷◌, ◌++◌, length, get_or, Option, Some, None, refl, sym, ap, ◌∙◌, subst, arith, false, true, Bool}
-use Rattle.std.specs.List.{All, AllByRecursion, Contains}
+use Rattle.std.specs.List.{AllByRecursion}
 use Rattle.std.specs.Str.{bytes_eq}
 use Rattle.std.proofs.lemmas.Bool.Decides.{not_from_Decides}
 use Rattle.std.proofs.lemmas.List.{append-nil}
@@ -15,12 +15,10 @@ use Rattle.mst_key.proofs.MapLaws.{map_get-put_same, map_get-put_other, map_get-
 use Rattle.mst_key.specs.declared.format.Format.TheVariants.{One}
 use Rattle.mst_key.specs.declared.history.Change.{Change}
 use Rattle.mst_key.specs.declared.history.Change.TheVariants.{Put, Remove, Migrate}
-use Rattle.mst_key.specs.declared.history.Event.{Event}
 use Rattle.mst_key.specs.History.{History, after, after_from, changed, events_of}
 use Rattle.mst_key.specs.Map.{Pair, map_get}
 use Rattle.mst_node.specs.Text as text
 use Rattle.mst_store.specs.Passes.{Known, new_pass}
-use Rattle.mst_store.specs.Settling.{numbers, IsOfOne}
 use Rattle.mst_load.specs.Calls.{event_of, calls_of, all_calls, map_left}
 use Rattle.mst_load.specs.Reports.{HasSettled}
 use Rattle.mst_load.proofs.Counting.{first_of, IsOwn, IsOfFirst, Counted, AreCounted, by_all, call_own, counted, kept_event, left_event, few_events, full_events}
