@@ -1,21 +1,12 @@
-use Rattle.std.proofs.Common.{◌≡◌, ℕ, ◌+◌, List, [], refl, sym, ap, ◌∙◌}
+use Rattle.std.proofs.Common.{◌≡◌, List, [], refl, ◌∙◌}
 use Rattle.mst_key.specs.History.{after}
-use Rattle.mst_key.specs.Map.{Pair}
 use Rattle.mst_key.specs.declared.format.Format.{Format}
 use Rattle.mst_path.proofs.lemmas.versions.Migrated.{all_new}
-use Rattle.mst_node.specs.Cost.{cost, new_rows}
 use Rattle.mst_node.specs.Tree.{empty}
 use Rattle.mst_node.proofs.TreeEquation.{tree-no_pairs}
-use Rattle.mst_arena.specs.Content.{Content}
-use Rattle.mst_arena.specs.Lives.{State, free_count}
 use Rattle.mst_arena.specs.declared.life.Life.{Life}
-use Rattle.mst_arena.specs.Standing.{Placed, none, head, tree_of, used, Stands, numbers}
-use Rattle.mst_path.specs.Ages.{placed_nodes, IsAged, HasAges}
-use Rattle.mst_path.specs.Changing.{AreOld, OnlyFreeWritten}
-use Rattle.mst_path.specs.Made.{IsMade}
-use Rattle.mst_path.specs.Reached.{Changes}
-use Rattle.std.specs.List.{AllByRecursion}
-use Rattle.mst_arena.specs.declared.row.Root.{Root}
+use Rattle.mst_arena.specs.Standing.{Placed, none, head, tree_of}
+use Rattle.mst_path.specs.Ages.{HasAges}
 use Rattle.mst_path.proofs.lemmas.versions.AgeSteps.{ages_stay, ages_next, ages_swept}
 use Rattle.mst_path.proofs.lemmas.versions.KeyAges.{all_aged}
 use Rattle.mst_path.proofs.laws.age_laws.Goals as goal

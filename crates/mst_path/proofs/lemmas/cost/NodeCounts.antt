@@ -1,5 +1,5 @@
 -- A tree has as many nodes as trees that are not empty stand in it.
-use Rattle.std.proofs.Common.{◌≡◌, ℕ, ◌+◌, ◌++◌, length, length-append, refl, arith}
+use Rattle.std.proofs.Common.{◌≡◌, length, length-append, refl, arith}
 use Rattle.mst_node.specs.Tree.{Tree, empty, node, Entries, last, entry}
 use Rattle.mst_node.specs.Cost.{subtrees, entries_subtrees}
 use Rattle.mst_path.specs.Planting.{node_count, entries_node_count}
