@@ -4,13 +4,40 @@ use Rattle.std.proofs.Common.{◌≡◌, ℕ, Some, None, ◌+◌, ◌==◌, ◌
 use Rattle.std.proofs.lemmas.List.{append-nil}
 use Rattle.std.proofs.lemmas.List.Elements.{filter-append}
 use Rattle.mst_key.specs.declared.history.Change.{Change}
-use Rattle.mst_key.specs.declared.history.Change.TheVariants.{Put, Remove, Migrate}
+use Rattle.mst_key.specs.declared.history.Change.TheVariants.{Put, Remove, Migrate, Batch}
 use Rattle.mst_key.specs.declared.history.Event.{Event}
+use Rattle.mst_key.specs.declared.history.Edit.{Edit}
+use Rattle.mst_key.specs.declared.history.Edit.TheVariants as edit
 use Rattle.mst_key.specs.declared.format.Format.{Format}
-use Rattle.mst_key.specs.History.{History, changed, changed_format, format_after, IsAbout, IsMigration, LeavesAlone, KeepsFormat, after_from, after, events_of, IsPrefix, IsWithinLimits, IsPossible}
-use Rattle.mst_key.specs.Map.{Pair, IsMap, map_get}
+use Rattle.std.specs.List.{AllByRecursion}
+use Rattle.mst_key.specs.History.{edited, batched, key_of, IsEdited, IsSmall, singles, History, changed, changed_format, format_after, IsAbout, IsMigration, LeavesAlone, KeepsFormat, after_from, after, events_of, IsPrefix, IsWithinLimits, IsPossible}
+use Rattle.mst_key.specs.Map.{Pair, IsMap, map_get, put, remove}
 use Rattle.mst_key.proofs.Alls.{alls-append, alls-front}
 use Rattle.mst_key.proofs.MapLaws.{IsMap-nil, IsMap-put, IsMap-remove, map_get-put_same, map_get-remove_same, map_get-put_other, map_get-remove_other}
+
+-- ---- the map after the edits of a batch
+
+pub IsMap-edited : (m : List Pair) (e : Edit) → IsMap m → IsSmall e → IsMap (edited m e)
+IsMap-edited m (edit.Put k v) map small = IsMap-put m k v map small.0 small.1
+IsMap-edited m (edit.Remove k) map small = IsMap-remove m k map
+
+pub IsMap-batched : (m : List Pair) (es : List Edit) → IsMap m → AllByRecursion IsSmall es
+    → IsMap (batched m es)
+IsMap-batched m [] map small = map
+IsMap-batched m (e ∷ es) map small = IsMap-batched (edited m e) es
+    (IsMap-edited m e map small.0) small.1
+
+pub map_get-edited_other : (m : List Pair) (e : Edit) (q : List ℕ) → (q ≡ key_of e → ⊥)
+    → map_get (edited m e) q ≡ map_get m q
+map_get-edited_other m (edit.Put k v) q other = map_get-put_other m k v q other
+map_get-edited_other m (edit.Remove k) q other = map_get-remove_other m k q other
+
+pub map_get-batched_other : (m : List Pair) (es : List Edit) (q : List ℕ) → (IsEdited q es → ⊥)
+    → map_get (batched m es) q ≡ map_get m q
+map_get-batched_other m [] q other = refl
+map_get-batched_other m (e ∷ es) q other =
+    map_get-batched_other (edited m e) es q (λ i. other (inr i))
+    ∙ map_get-edited_other m e q (λ is. other (inl is))
 
 -- ---- the map after a history
 
@@ -18,6 +45,7 @@ pub IsMap-changed : (m : List Pair) (c : Change) → IsMap m → IsWithinLimits 
 IsMap-changed m (Put k v) map within = IsMap-put m k v map within.0 within.1
 IsMap-changed m (Remove k) map within = IsMap-remove m k map
 IsMap-changed m (Migrate to) map within = map
+IsMap-changed m (Batch es) map within = IsMap-batched m es map within
 
 pub IsMap-after_from : (m : List Pair) (h : History) → IsMap m → IsPossible h
     → IsMap (after_from m h)
@@ -40,12 +68,46 @@ after-append = after_from-append []
 pub after-push : (h : History) (e : Event) → after (h ++ e ∷ []) ≡ changed (after h) e.change
 after-push h e = after-append h (e ∷ [])
 
+-- ---- batches
+
+pub batched-append : (m : List Pair) (es fs : List Edit) → batched m (es ++ fs)
+    ≡ batched (batched m es) fs
+batched-append m [] fs = refl
+batched-append m (e ∷ es) fs = batched-append (edited m e) es fs
+
+pub batched-last_put : (m : List Pair) (es fs : List Edit) (k v : List ℕ) → (IsEdited k fs → ⊥)
+    → map_get (batched m (es ++ edit.Put k v ∷ fs)) k ≡ Some v
+batched-last_put m es fs k v other =
+    ap (λ (n : List Pair). map_get n k) (batched-append m es (edit.Put k v ∷ fs))
+    ∙ map_get-batched_other (edited (batched m es) (edit.Put k v)) fs k other
+    ∙ map_get-put_same (batched m es) k v
+
+pub batched-last_remove : (m : List Pair) (es fs : List Edit) (k : List ℕ) → (IsEdited k fs → ⊥)
+    → map_get (batched m (es ++ edit.Remove k ∷ fs)) k ≡ None
+batched-last_remove m es fs k other =
+    ap (λ (n : List Pair). map_get n k) (batched-append m es (edit.Remove k ∷ fs))
+    ∙ map_get-batched_other (edited (batched m es) (edit.Remove k)) fs k other
+    ∙ map_get-remove_same (batched m es) k
+
+after_from-singles : (m : List Pair) (pass : ℕ) (es : List Edit) → after_from m (singles pass es)
+    ≡ batched m es
+after_from-singles m pass [] = refl
+after_from-singles m pass (edit.Put k v ∷ es) = after_from-singles (put m k v) pass es
+after_from-singles m pass (edit.Remove k ∷ es) = after_from-singles (remove m k) pass es
+
+pub after-singles : (h : History) (pass : ℕ) (es : List Edit)
+    → after (h ++ record { pass = pass; change = Batch es } ∷ []) ≡ after (h ++ singles pass es)
+after-singles h pass es =
+    after-push h (record { pass = pass; change = Batch es })
+    ∙ sym (after-append h (singles pass es) ∙ after_from-singles (after h) pass es)
+
 -- a change leaves every key that it is not about as it was
 pub map_get-changed_other : (m : List Pair) (c : Change) (q : List ℕ) → (IsAbout q c → ⊥)
     → map_get (changed m c) q ≡ map_get m q
 map_get-changed_other m (Put k v) q other = map_get-put_other m k v q other
 map_get-changed_other m (Remove k) q other = map_get-remove_other m k q other
 map_get-changed_other m (Migrate to) q other = refl
+map_get-changed_other m (Batch es) q other = map_get-batched_other m es q other
 
 pub map_get-after_from_alone : (m : List Pair) (h : History) (k : List ℕ) → LeavesAlone h k
     → map_get (after_from m h) k ≡ map_get m k
@@ -91,6 +153,7 @@ pub format_kept : (format : Format) (c : Change) → (IsMigration c → ⊥) →
 format_kept format (Put k v) not = refl
 format_kept format (Remove k) not = refl
 format_kept format (Migrate to) not = absurd (not tt)
+format_kept format (Batch es) not = refl
 
 pub format_after_none : (first : Format) (h : History) → KeepsFormat h → format_after first h
     ≡ first

@@ -10,9 +10,12 @@ ghost use Rattle.mst_key.specs.Map.{Pair, key_cmp, AllBelow, AllAbove, IsMap, ma
 ghost use Rattle.mst_key.specs.Layer.{layer_in};
 ghost use Rattle.mst_key.specs.declared.format.Format.TheVariants.{One, Two};
 ghost use Rattle.mst_key.specs.declared.format.Format.{Format};
-ghost use Rattle.mst_key.specs.declared.history.Change.TheVariants.{Put, Remove, Migrate};
+ghost use Rattle.mst_key.specs.declared.history.Change.TheVariants.{Put, Remove, Migrate, Batch};
+ghost use Rattle.mst_key.specs.declared.history.Edit.{Edit};
+ghost use Rattle.mst_key.specs.declared.history.Edit.TheVariants as edit;
+ghost use Rattle.std.specs.List.{AllByRecursion};
 ghost use Rattle.mst_key.specs.declared.history.Event.{Event};
-ghost use Rattle.mst_key.specs.History.{History, changed, changed_format, after, format_after, events_of, IsPrefix, LeavesAlone, KeepsFormat, IsPossible};
+ghost use Rattle.mst_key.specs.History.{batched, IsEdited, IsSmall, singles, History, changed, changed_format, after, format_after, events_of, IsPrefix, LeavesAlone, KeepsFormat, IsPossible};
 
 /// The order of keys is total and bytewise; a proper prefix of a key is less than the key.
 pub fn order_laws()
@@ -88,6 +91,26 @@ pub fn history_laws()
     // a history between two that have the same events of a pass has them too
     ensures events_between { (pass : ℕ) (mine f g h : History) → IsPrefix f g → IsPrefix g h
         → events_of pass f ≡ mine → events_of pass h ≡ mine → events_of pass g ≡ mine }
+{}
+
+/// What a batch leaves: the map that its edits leave one after another, but as one event.
+pub fn batch_laws()
+    ensures one_by_one { (h : History) (pass : ℕ) (es : List Edit)
+        → after (h ++ record { pass = pass; change = Batch es } ∷ []) ≡ after (h ++ singles pass es) }
+    ensures format { (first : Format) (h : History) (pass : ℕ) (es : List Edit)
+        → format_after first (h ++ record { pass = pass; change = Batch es } ∷ [])
+        ≡ format_after first h }
+    ensures joined { (m : List Pair) (es fs : List Edit)
+        → batched m (es ++ fs) ≡ batched (batched m es) fs }
+    ensures map { (m : List Pair) (es : List Edit) → IsMap m → AllByRecursion IsSmall es
+        → IsMap (batched m es) }
+    // the last edit of a key decides, and a key without one keeps what it has
+    ensures last_put { (m : List Pair) (es fs : List Edit) (k v : List ℕ) → (IsEdited k fs → ⊥)
+        → map_get (batched m (es ++ edit.Put k v ∷ fs)) k ≡ Some v }
+    ensures last_remove { (m : List Pair) (es fs : List Edit) (k : List ℕ) → (IsEdited k fs → ⊥)
+        → map_get (batched m (es ++ edit.Remove k ∷ fs)) k ≡ None }
+    ensures other { (m : List Pair) (es : List Edit) (q : List ℕ) → (IsEdited q es → ⊥)
+        → map_get (batched m es) q ≡ map_get m q }
 {}
 
 /// The pair of the least key above a bound, and the first pairs between two bounds. `None` as a

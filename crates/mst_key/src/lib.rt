@@ -27,9 +27,9 @@ mod memory;
 mod value;
 
 pub use format::Format;
-pub use history::{Change, Event};
+pub use history::{Batch, Change, Edit, Event};
 pub use key::{Key, KeySize};
-pub use laws::{history_laws, layer_examples, map_laws, order_laws, range_laws};
+pub use laws::{batch_laws, history_laws, layer_examples, map_laws, order_laws, range_laws};
 pub use layer::layer_of;
 pub use memory::Memory;
 pub use value::{Value, ValueSize};
