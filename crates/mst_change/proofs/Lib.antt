@@ -8,3 +8,4 @@ pub mod Remove
 pub mod Cost
 pub mod Worked
 pub mod Formats
+pub mod Batch

@@ -5,3 +5,4 @@ pub mod Put
 pub mod Remove
 pub mod Cost
 pub mod Gap
+pub mod Batch

@@ -13,6 +13,12 @@ ghost use Rattle.mst_change.specs.Parts.{cells, first_child, last_child, with_fi
 ghost use Rattle.mst_change.specs.Put.{tree_put};
 ghost use Rattle.mst_change.specs.Remove.{tree_remove};
 ghost use Rattle.mst_change.specs.Cost.{put_cost, remove_cost};
+ghost use Rattle.std.specs.Prelude.{◌↔◌, ◌∷◌, []};
+ghost use Rattle.mst_key.specs.declared.history.Edit.{Edit};
+ghost use Rattle.mst_key.specs.declared.history.Edit.TheVariants as edit;
+ghost use Rattle.mst_key.specs.History.{batched};
+ghost use Rattle.mst_node.specs.Cost.{is_subtree};
+ghost use Rattle.mst_change.specs.Batch.{tree_batched, rows_beside, HasOnTop};
 
 /// A tree split at a key: two search trees of no higher layers, with the pairs below the key and
 /// the pairs above it. If all goes to one side, that side is the tree itself.
@@ -77,4 +83,24 @@ pub fn cost_laws()
     ensures moved { (f g : Format) (m : List Pair) → same_format g f ≡ false
         → new_rows (tree f m) (tree g m) ≡ length m + length (subtrees (tree g m)) }
     ensures stays { (t : Tree) → new_rows t t ≡ 0 }
+{}
+
+/// The tree after a batch. Its nodes are told from those of the old tree by one look-up each: a key
+/// stands in one node, so a node stands in the old tree exactly if it is the node there that has
+/// one of its keys.
+pub fn batch_laws()
+    ensures tree { (format : Format) (m : List Pair) (es : List Edit) → IsMap m
+        → tree_batched format (tree format m) es ≡ tree format (batched m es) }
+    // a batch of one edit costs what the edit costs
+    ensures one_put { (format : Format) (m : List Pair) (k v : List ℕ) → IsMap m
+        → cost format m (batched m (edit.Put k v ∷ [])) ≡ put_cost format (tree format m) k v }
+    ensures one_remove { (format : Format) (m : List Pair) (k : List ℕ) → IsMap m
+        → cost format m (batched m (edit.Remove k ∷ [])) ≡ remove_cost (tree format m) k }
+    // a walk of the new tree that stops at each node that stands in the old one counts the cost
+    ensures counted { (format : Format) (m : List Pair) (es : List Edit)
+        → rows_beside (tree format m) (tree format (batched m es))
+        ≡ cost format m (batched m es) }
+    ensures stands { (old n u : Tree) (q : List ℕ) → IsAscending (pairs old)
+        → is_subtree u old ≡ true → HasOnTop q u → HasOnTop q n
+        → (is_subtree n old ≡ true) ↔ (n ≡ u) }
 {}

@@ -23,4 +23,4 @@
 
 mod laws;
 
-pub use laws::{cost_laws, join_laws, path_laws, split_laws};
+pub use laws::{batch_laws, cost_laws, join_laws, path_laws, split_laws};

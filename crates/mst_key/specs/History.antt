@@ -112,6 +112,12 @@ IsMigration (Remove k) = ⊥
 IsMigration (Migrate to) = Unit {0}
 IsMigration (Batch es) = ⊥
 
+abbrev pub IsBatch : Change → Type 0
+IsBatch (Put k v) = ⊥
+IsBatch (Remove k) = ⊥
+IsBatch (Migrate to) = ⊥
+IsBatch (Batch es) = Unit {0}
+
 -- no event of the history is about the key
 abbrev pub LeavesAlone : History → List ℕ → Type 0
 LeavesAlone h k = AllByRecursion (λ e. IsAbout k e.change → ⊥) h
