@@ -34,15 +34,15 @@ pub struct View {
     /// At the dealer's seat the number of the next pass that it deals, otherwise 0.
     pub deals: u32,
     /// The beginning of the history that the pass has seen.
-    pub seen: LinkedList<Event>,
+    pub seen: LinkedList<Event<'static>>,
     /// The events of the pass itself.
-    pub mine: LinkedList<Event>,
+    pub mine: LinkedList<Event<'static>>,
     /// A beginning of the history that another pass has told of.
-    pub told: LinkedList<Event>,
+    pub told: LinkedList<Event<'static>>,
     /// The record that the pass pins.
     pub pin: Option<u32>,
     /// The history at the pin.
-    pub pinned_history: LinkedList<Event>,
+    pub pinned_history: LinkedList<Event<'static>>,
     /// The numbers of the rows that stand for the map of the pinned version.
     pub pinned_rows: LinkedList<u32>,
     /// The words of the table as they were at the pin, or when the turn was taken and with what its

@@ -1,14 +1,14 @@
 use Rattle.std.proofs.Common.{rules}
-use Rattle.std.proofs.lemmas.Grind.{common_steps}
-use Rattle.std.proofs.Common.{◌≡◌, ◌∙◌, ◌≤◌, ◌<◌, ℕ, List, Option, length, set, get_or, replicate, arith, refl, sym, subst, length-set}
+use Rattle.std.proofs.Common.{◌≡◌, ◌∙◌, ◌≤◌, ◌<◌, ℕ, Bool, List, Option, ap, length, set, get_or, replicate, arith, refl, sym, subst, length-set}
 use Rattle.std.proofs.lemmas.List.{ext_get_or}
 use Rattle.atomic_table.specs.Table.{Me}
 use Rattle.mst_arena.specs.Lives as lives
 use Rattle.mst_words.specs.declared.view.View.{View}
 use Rattle.mst_words.specs.Layout.{row_word}
 use Rattle.mst_words.specs.Records as records
-use Rattle.mst_words.specs.Access.{RowStored}
-use Rattle.mst_words.proofs.Accesses.{stored_once, stored_next, stored_as, relinked_list, back_words, not_reached, filled_more}
+use Rattle.std.specs.Prelude.{IsTrue}
+use Rattle.mst_words.specs.Access.{RowStored, is_blank}
+use Rattle.mst_words.proofs.Accesses.{blank_stays, stored_once, stored_next, stored_as, relinked_list, back_words, not_reached, filled_more}
 use Rattle.mst_words.proofs.board.Board.copy_words.Goals as goal
 
 -- ---- the first three words
@@ -121,7 +121,11 @@ pub store_word-requires-clause-wide : goal.store_word-requires-clause-wide
 store_word-requires-clause-wide g c = search rules
 
 pub store_word-requires-clause-blank : goal.store_word-requires-clause-blank
-store_word-requires-clause-blank g c = grind (arith, common_steps)
+store_word-requires-clause-blank g c =
+    let k = c.loop-k.invariant in
+    subst (λ (f : ℕ → Bool). IsTrue (f c.args.to))
+    (sym (blank_stays c.args.seat.now.me.0 c.loop-k.seat.me.0
+    (ap (λ (z : Me (Option lives.State) View). z.0) k.kept) k.stored.long)) c.requires.blank
 
 pub store_word-requires-clause-there : goal.store_word-requires-clause-there
 store_word-requires-clause-there g c = search rules
@@ -154,7 +158,13 @@ pub store_word-requires-in-loop-k-2-clause-wide : goal.store_word-requires-in-lo
 store_word-requires-in-loop-k-2-clause-wide g c = search rules
 
 pub store_word-requires-in-loop-k-2-clause-blank : goal.store_word-requires-in-loop-k-2-clause-blank
-store_word-requires-in-loop-k-2-clause-blank g c = search rules
+store_word-requires-in-loop-k-2-clause-blank g c =
+    let k = c.loop-k-2.invariant in
+    subst (λ (m : Me (Option lives.State) View). IsTrue (is_blank m.0 c.args.to))
+    (sym c.word-word.ensures.same.2)
+    (subst (λ (f : ℕ → Bool). IsTrue (f c.args.to))
+    (sym (blank_stays c.args.seat.now.me.0 c.loop-k-2.seat.me.0
+    (ap (λ (z : Me (Option lives.State) View). z.0) k.kept) k.stored.long)) c.requires.blank)
 
 pub store_word-requires-in-loop-k-2-clause-there : goal.store_word-requires-in-loop-k-2-clause-there
 store_word-requires-in-loop-k-2-clause-there g c = search rules

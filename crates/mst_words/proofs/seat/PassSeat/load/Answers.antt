@@ -1,4 +1,9 @@
-use Rattle.std.proofs.Common.{rules}
+use Rattle.std.proofs.Common.{Option, ap, sym, subst, rules}
+use Rattle.atomic_table.specs.Table.{Me}
+use Rattle.mst_arena.specs.Lives as lives
+use Rattle.mst_words.specs.declared.view.View.{View}
+use Rattle.mst_words.specs.Access.{Seated}
+use Rattle.mst_words.specs.Steps.{IsReadable}
 use Rattle.mst_words.proofs.seat.PassSeat.load.Goals as goal
 
 pub read-requires-clause-own : goal.read-requires-clause-own
@@ -8,7 +13,9 @@ pub read-requires-clause-there : goal.read-requires-clause-there
 read-requires-clause-there g c = search rules
 
 pub read-requires-clause-readable : goal.read-requires-clause-readable
-read-requires-clause-readable g c = search rules
+read-requires-clause-readable g c =
+    subst (λ (m : Me (Option lives.State) View). IsReadable m.0 c.args.word)
+    (sym (ap (λ (z : Seated). z.me) c.self.view_is)) c.requires.readable
 
 pub returns-clause-same : goal.returns-clause-same
 returns-clause-same g c = search rules
