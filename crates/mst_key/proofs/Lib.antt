@@ -8,3 +8,4 @@ pub mod Ascending
 pub mod SpanLaws
 pub mod Layers
 pub mod Zeros
+pub mod Batches

@@ -1,8 +1,9 @@
 -- A history: the list of the events so far, the oldest first, and the map that they leave. Each
 -- event is a change by a pass (Herlihy and Wing 1990: a sequential history of one object, the
 -- ordered map). `history_laws` states what follows from these definitions.
-use Rattle.std.specs.Prelude.{◌≡◌, ◌⊎◌, ℕ, ◌==◌, List, [], ◌∷◌, ◌++◌, Option, filter}
+use Rattle.std.specs.Prelude.{◌≡◌, ◌⊎◌, ℕ, ◌==◌, List, [], ◌∷◌, ◌++◌, Option, Some, None, if◌then◌else◌, filter}
 use Rattle.std.specs.List.{AllByRecursion}
+use Rattle.std.specs.Ordering.{is_eq}
 use Rattle.mst_key.specs.declared.history.Change.{Change}
 use Rattle.mst_key.specs.declared.format.Format.{Format}
 use Rattle.mst_key.specs.declared.history.Change.TheVariants.{Put, Remove, Migrate, Batch}
@@ -10,7 +11,7 @@ use Rattle.mst_key.specs.declared.history.Edit.{Edit}
 use Rattle.mst_key.specs.declared.history.Edit.TheVariants as edit
 use Rattle.mst_key.specs.declared.history.Event.{Event}
 use Rattle.mst_key.specs.Bytes.{IsKey, IsValue}
-use Rattle.mst_key.specs.Map.{Pair, map_get, put, remove}
+use Rattle.mst_key.specs.Map.{Pair, key_cmp, map_get, put, remove}
 
 abbrev pub History : Type 0
 History = List Event
@@ -93,6 +94,17 @@ IsPrefix g h = (rest : History) × (h ≡ g ++ rest)
 abbrev pub key_of : Edit → List ℕ
 key_of (edit.Put k v) = k
 key_of (edit.Remove k) = k
+
+-- the value that an edit leaves its key
+abbrev pub value_of : Edit → Option (List ℕ)
+value_of (edit.Put k v) = Some v
+value_of (edit.Remove k) = None
+
+-- the value that the edits leave a key which had this one: that of its last edit, if there is one
+abbrev pub value_after : List Edit → List ℕ → Option (List ℕ) → Option (List ℕ)
+value_after [] q old = old
+value_after (e ∷ es) q old =
+    value_after es q (if is_eq (key_cmp (key_of e) q) then value_of e else old)
 
 -- one of the edits is of the key
 abbrev pub IsEdited : List ℕ → List Edit → Type 0

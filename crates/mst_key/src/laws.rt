@@ -15,7 +15,7 @@ ghost use Rattle.mst_key.specs.declared.history.Edit.{Edit};
 ghost use Rattle.mst_key.specs.declared.history.Edit.TheVariants as edit;
 ghost use Rattle.std.specs.List.{AllByRecursion};
 ghost use Rattle.mst_key.specs.declared.history.Event.{Event};
-ghost use Rattle.mst_key.specs.History.{batched, IsEdited, IsSmall, singles, History, changed, changed_format, after, format_after, events_of, IsPrefix, LeavesAlone, KeepsFormat, IsPossible};
+ghost use Rattle.mst_key.specs.History.{batched, value_after, IsEdited, IsSmall, singles, History, changed, changed_format, after, format_after, events_of, IsPrefix, LeavesAlone, KeepsFormat, IsPossible};
 
 /// The order of keys is total and bytewise; a proper prefix of a key is less than the key.
 pub fn order_laws()
@@ -111,6 +111,13 @@ pub fn batch_laws()
         → map_get (batched m (es ++ edit.Remove k ∷ fs)) k ≡ None }
     ensures other { (m : List Pair) (es : List Edit) (q : List ℕ) → (IsEdited q es → ⊥)
         → map_get (batched m es) q ≡ map_get m q }
+    ensures looked { (m : List Pair) (es : List Edit) (q : List ℕ)
+        → map_get (batched m es) q ≡ value_after es q (map_get m q) }
+    // so edits may be sorted, and earlier ones of a key dropped: batches that leave each key the
+    // same value leave one map
+    ensures alike { (m : List Pair) (es fs : List Edit) → IsMap m
+        → ((q : List ℕ) → value_after es q (map_get m q) ≡ value_after fs q (map_get m q))
+        → batched m es ≡ batched m fs }
 {}
 
 /// The pair of the least key above a bound, and the first pairs between two bounds. `None` as a

@@ -1,3 +1,4 @@
+use Rattle.mst_key.proofs.Batches.{map_get-batched, batched_alike}
 use Rattle.mst_key.proofs.HistoryLaws.{after-singles, format_after-push, batched-append, IsMap-batched, batched-last_put, batched-last_remove, map_get-batched_other}
 use Rattle.mst_key.specs.declared.history.Change.TheVariants.{Batch}
 use Rattle.mst_key.proofs.laws.batch_laws.Goals as goal
@@ -23,3 +24,9 @@ returns-clause-last_remove c = batched-last_remove
 
 pub returns-clause-other : goal.returns-clause-other
 returns-clause-other c = map_get-batched_other
+
+pub returns-clause-looked : goal.returns-clause-looked
+returns-clause-looked c = map_get-batched
+
+pub returns-clause-alike : goal.returns-clause-alike
+returns-clause-alike c m es fs map = batched_alike m es fs map.ascending
