@@ -7,7 +7,7 @@ use Rattle.std.proofs.lemmas.Bool.Decides.{nat_tests}
 use mathlib.Core.Logic.{dite}
 use native.Mathlib.Decide.{ℕ_discrete}
 use Rattle.mst_key.specs.declared.history.Change.{Change}
-use Rattle.mst_key.specs.declared.history.Change.TheVariants.{Put, Remove, Migrate}
+use Rattle.mst_key.specs.declared.history.Change.TheVariants.{Put, Remove, Migrate, Batch}
 use Rattle.mst_key.specs.History.{History, after_from, after, changed}
 use Rattle.mst_key.specs.Map.{Pair, key_cmp, AllAbove, IsAscending}
 use Rattle.mst_key.proofs.Alls.{alls-append, alls-filter}
@@ -28,6 +28,7 @@ abbrev pub is_call : Change → Bool
 is_call (Put k v) = is_place k
 is_call (Remove k) = false
 is_call (Migrate to) = false
+is_call (Batch es) = false
 
 -- the number of a place
 abbrev place_number : List ℕ → ℕ
@@ -132,6 +133,7 @@ placed m (Put k v) is places =
     (is, alls-filter (λ (p : Pair). is_place p.0 ≡ true) (λ p. is_gt (key_cmp p.0 k)) m places)
 placed m (Remove k) is places = absurd (true≢false (sym is))
 placed m (Migrate to) is places = absurd (true≢false (sym is))
+placed m (Batch es) is places = absurd (true≢false (sym is))
 
 placed_after : (m : List Pair) (h : History) → AreCalls h → HavePlaces m
     → HavePlaces (after_from m h)

@@ -9,13 +9,14 @@ use mathlib.Core.Logic.{dite}
 use native.Mathlib.Decide.{ℕ_discrete}
 use Rattle.mst_key.proofs.Alls.{alls-append}
 use Rattle.mst_key.proofs.Ascending.{IsAscending-after}
+use Rattle.mst_key.proofs.Batches.{map_get-batched}
 use Rattle.mst_key.proofs.HistoryLaws.{map_get-changed_other, events_of-append}
 use Rattle.mst_key.proofs.KeyOrder.{by_same}
 use Rattle.mst_key.proofs.MapLaws.{map_get-put_same, map_get-put_other, map_get-remove_same, map_get-remove_other, map_determined}
 use Rattle.mst_key.specs.declared.format.Format.TheVariants.{One}
 use Rattle.mst_key.specs.declared.history.Change.{Change}
-use Rattle.mst_key.specs.declared.history.Change.TheVariants.{Put, Remove, Migrate}
-use Rattle.mst_key.specs.History.{History, after, after_from, changed, events_of}
+use Rattle.mst_key.specs.declared.history.Change.TheVariants.{Put, Remove, Migrate, Batch}
+use Rattle.mst_key.specs.History.{History, after, after_from, changed, events_of, value_after}
 use Rattle.mst_key.specs.Map.{Pair, map_get}
 use Rattle.mst_node.specs.Text as text
 use Rattle.mst_store.specs.Passes.{Known, new_pass}
@@ -39,6 +40,9 @@ same_change (Remove q) m n k same =
     ∙ sym (map_get-remove_same n q) ∙ ap (map_get (changed n (Remove q))) (sym is))
     (λ other. map_get-remove_other m q k other ∙ same ∙ sym (map_get-remove_other n q k other))
 same_change (Migrate to) m n k same = same
+same_change (Batch es) m n k same =
+    map_get-batched m es k ∙ ap (λ (o : Option (List ℕ)). value_after es k o) same
+    ∙ sym (map_get-batched n es k)
 
 seen_by_own : (k : List ℕ) (h : History) (m n : List Pair) → AllByRecursion IsOwn h
     → map_get m k ≡ map_get n k → map_get (after_from m h) k ≡ map_get

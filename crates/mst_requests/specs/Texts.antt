@@ -2,7 +2,7 @@
 use Rattle.std.specs.Prelude.{ℕ, List, [], ◌∷◌, ◌++◌, length, Option, Some, None, codes, decimal}
 use Rattle.mst_key.specs.declared.format.Format.{Format}
 use Rattle.mst_key.specs.declared.format.Format.TheVariants.{One, Two}
-use Rattle.mst_key.specs.History.{Reply, had, was}
+use Rattle.mst_key.specs.History.{Reply, had, was, done}
 use Rattle.mst_key.specs.Map.{Pair}
 use Rattle.mst_key.specs.Digits.{digits_of}
 use Rattle.mst_requests.specs.declared.request.Fault.{Fault}
@@ -66,3 +66,4 @@ was_words Two = codes "was 2"
 abbrev pub reply_words : Reply → List ℕ
 reply_words (had old) = value_words old
 reply_words (was format) = was_words format
+reply_words done = codes "done"

@@ -5,7 +5,7 @@ use Rattle.mst_key.specs.declared.format.Format.TheVariants.{One, Two}
 use Rattle.mst_key.specs.declared.history.Change.{Change}
 use Rattle.mst_key.specs.declared.history.Change.TheVariants as change
 use Rattle.mst_key.specs.declared.history.Event.{Event}
-use Rattle.mst_key.specs.History.{History, Reply, had, was, after, format_after, reply}
+use Rattle.mst_key.specs.History.{History, Reply, had, was, done, after, format_after, reply}
 use Rattle.mst_key.specs.Map.{map_get}
 use Rattle.mst_key.proofs.HistoryLaws.{map_get-after_last_put}
 use Rattle.mst_store.specs.Passes.{StoreId}
@@ -38,6 +38,7 @@ reply_first : (r : Reply) (text : List ℕ) → text ≡ line_of (reply_words r)
 reply_first (had old) text is = value_first old text is
 reply_first (was One) text is = other_first text (codes "was 1") 119 is refl (omega arith)
 reply_first (was Two) text is = other_first text (codes "was 2") 119 is refl (omega arith)
+reply_first done text is = other_first text (codes "done") 100 is refl (omega arith)
 
 pub lone_write : (store : StoreId) (p : ℕ) (change : Change) (h new : History) (text : List ℕ)
     → store.passes ≡ 1 → Writes store p change h text new → text ≢ line_of (codes "busy")

@@ -6,7 +6,7 @@ ghost use Rattle.mst_node.specs.Text.{root};
 ghost use Rattle.mst_node.specs.Trail.{proof_text};
 ghost use Rattle.std.specs.Option.{option_copied};
 ghost use Rattle.mst_store.specs.Passes.{Looks, Answers, format_seen, having_asked, made_by, Wrote, FindsBusy, Refuses};
-ghost use Rattle.mst_key.specs.History.{after, had, was, IsMigration};
+ghost use Rattle.mst_key.specs.History.{after, had, was, IsMigration, IsBatch};
 ghost use Rattle.mst_store.specs.Writes.{rows_of, AreFound};
 ghost use Rattle.mst_store.specs.Migrating.{RefusesMigration};
 
@@ -194,9 +194,10 @@ impl<'a, A: Allocator + Copy> Pass<'a, A> {
     // Makes a change of a key, and returns the value that it had.
     fn write(&mut self, change: Change) -> Result<Option<Value>, WriteFault>
         requires keyed { IsMigration change → ⊥ }
+        requires single { IsBatch change → ⊥ }
         ensures ok { IfOk result
-            (λ old. Wrote (made_by self.old change) self.old (had old) self.new) }
-        ensures err { IfErr result (λ fault. Refuses fault change self.old self.new) }
+            (λ old. Wrote (made_by self.old change.entry) self.old (had old) self.new) }
+        ensures err { IfErr result (λ fault. Refuses fault change.entry self.old self.new) }
     {
         let event = Event {
             pass: self.number,

@@ -1,6 +1,6 @@
 //! A write: the turn, the change in rows that are free, and the next version.
 ghost use Rattle.std.specs.Prelude.{◌≡◌, ◌<◌, ◌≤◌, length, IfOk, IfErr, OnErr};
-ghost use Rattle.mst_key.specs.History.{had, IsMigration};
+ghost use Rattle.mst_key.specs.History.{had, IsMigration, IsBatch};
 ghost use Rattle.mst_key.specs.declared.history.Change.TheVariants.{Put, Remove};
 ghost use Rattle.mst_arena.specs.Lives.{last_version};
 ghost use Rattle.mst_words.specs.Access.{IsSameSeat};
@@ -72,6 +72,7 @@ pub(crate) fn make<A: Allocator + Copy>(
     change: &Change,
 ) -> Result<(Root, Option<Value>), NoRoom>
     requires keyed { IsMigration change.now → ⊥ }
+    requires single { IsBatch change.now → ⊥ }
     requires turn { HasTurn turn.old seat.old.me }
     requires open { length seat.old.me.0.seen < last_version }
     ensures same { IsSameSeat seat.old seat.new }
@@ -86,6 +87,7 @@ pub(crate) fn make<A: Allocator + Copy>(
         Change::Put(key, value) => make_put(seat, turn, key, value),
         Change::Remove(key) => make_remove(seat, turn, key),
         Change::Migrate(_) => unreachable!(),
+        Change::Batch(_) => unreachable!(),
     }
 }
 
@@ -110,6 +112,7 @@ pub(crate) fn write<A: Allocator + Copy>(
 ) -> Result<Option<Value>, WriteFault>
     requires free { IsFree number seat.old.me }
     requires keyed { IsMigration event.now.change → ⊥ }
+    requires single { IsBatch event.now.change → ⊥ }
     requires mine { event.now.pass ≡ number }
     requires passes { passes ≡ seat.old.me.0.passes }
     requires few { passes ≤ 32 }

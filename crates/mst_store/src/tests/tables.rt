@@ -2,7 +2,7 @@
 ghost use Rattle.std.specs.Prelude.{◌≡◌, [], IfOk};
 ghost use Rattle.mst_words.specs.Layout.{table_words};
 ghost use Rattle.mst_words.specs.World.{dealer};
-ghost use Rattle.mst_key.specs.History.{IsMigration};
+ghost use Rattle.mst_key.specs.History.{IsMigration, IsBatch};
 ghost use Rattle.mst_key.specs.declared.format.Format.TheVariants.{One};
 
 use mst_arena::Desk;
@@ -30,6 +30,7 @@ pub(crate) fn opened<A: Allocator + Copy>(alloc: A) -> Result<(Board<A>, Token<A
 pub(crate) fn putting(pass: u32, value: &[u8]) -> Result<Event, Fail>
     ensures mine { IfOk result (λ event. event.pass ≡ pass) }
     ensures keyed { IfOk result (λ event. IsMigration event.change → ⊥) }
+    ensures single { IfOk result (λ event. IsBatch event.change → ⊥) }
 {
     Ok(Event {
         pass,

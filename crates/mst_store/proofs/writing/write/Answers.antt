@@ -125,3 +125,6 @@ returns-in-Err-clause-wrote g c = search rules
 
 pub make-requires-clause-keyed : goal.make-requires-clause-keyed
 make-requires-clause-keyed g c = search rules
+
+pub make-requires-clause-single : goal.make-requires-clause-single
+make-requires-clause-single g c = search rules

@@ -28,3 +28,6 @@ returns-clause-err g c = search rules
 
 pub write-requires-clause-keyed : goal.write-requires-clause-keyed
 write-requires-clause-keyed g c = search rules
+
+pub write-requires-clause-single : goal.write-requires-clause-single
+write-requires-clause-single g c = search rules
