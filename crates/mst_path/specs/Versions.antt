@@ -18,9 +18,10 @@ pub record HasMap (format : Format) (content : Content) (lives : List Life) (v :
   pub stands : Stands format content at m
   pub rows : ReachesExactly lives v (numbers stands)
 
--- a version that is kept: its number, and the root and the pairs of its map
+-- a version that is kept: its number, its format, and the root and the pairs of its map
 pub record Kept : Type 0 where
   pub number : ℕ
+  pub format : Format
   pub root : Root
   pub pairs : List Pair
 
@@ -31,22 +32,22 @@ numbers_kept kept = map (λ k. k.number) kept
 abbrev pub AreNumbers : List ℕ → List Kept → Type 0
 AreNumbers live kept = (v : ℕ) → In v live ↔ In v (numbers_kept kept)
 
--- each of them has its map
-abbrev pub HaveMaps : (format : Format) → Content → List Life → List Kept → Type 0
-HaveMaps format content lives kept =
-    AllByRecursion (λ k. HasMap format content lives k.number k.root k.pairs) kept
+-- each of them has its map, in its format
+abbrev pub HaveMaps : Content → List Life → List Kept → Type 0
+HaveMaps content lives kept =
+    AllByRecursion (λ k. HasMap k.format content lives k.number k.root k.pairs) kept
 
 -- the numbers of the rows that stand for their maps
-abbrev pub rows_kept : (format : Format) (content : Content) (lives : List Life) (kept : List Kept)
-    → HaveMaps format content lives kept → List ℕ
-rows_kept format content lives [] have = []
-rows_kept format content lives (k ∷ ks) have =
-    numbers have.0.stands ++ rows_kept format content lives ks have.1
+abbrev pub rows_kept : (content : Content) (lives : List Life) (kept : List Kept)
+    → HaveMaps content lives kept → List ℕ
+rows_kept content lives [] have = []
+rows_kept content lives (k ∷ ks) have =
+    numbers have.0.stands ++ rows_kept content lives ks have.1
 
 -- What holds between two writes: none is under way; the current version is kept; and each version
 -- that is kept is the current one or an earlier one, and has its map.
-pub record Keeps (format : Format) (content : Content) (s : State) (kept : List Kept) : Type 0 where
+pub record Keeps (content : Content) (s : State) (kept : List Kept) : Type 0 where
   pub settled : IsSettled s
   pub current : In (version s) (numbers_kept kept)
   pub earlier : AllByRecursion (λ k. k.number ≤ version s) kept
-  pub maps : HaveMaps format content s.lives kept
+  pub maps : HaveMaps content s.lives kept

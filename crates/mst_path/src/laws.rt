@@ -82,50 +82,57 @@ pub fn reach_laws()
 /// is, whatever is written after it, and the rows on which no map of a live version stands are
 /// free.
 ///
-/// `kept` are the versions that are kept, each with its root and its map: the current one and any
-/// earlier ones. Each law holds for the trees of either format.
+/// `kept` are the versions that are kept, each with its format, its root and its map: the current
+/// one and any earlier ones. They may be of both formats.
 pub fn version_laws()
     // a new desk keeps the empty map
     ensures open { (f : Format) (content : Content) (at : Root) (rows records first : ℕ)
         → 0 < records
         → Stands f content at []
-        → Keeps f content
+        → Keeps content
         (record { current = 0; versions = replicate records first; lives = replicate rows Free })
-        (record { number = first; root = at; pairs = [] } ∷ []) }
+        (record { number = first; format = f; root = at; pairs = [] } ∷ []) }
     // a write that is advanced adds its version, and leaves the map of each version that is kept
-    ensures write { (f : Format) (old new : State) (before after : Content) (root at : Root)
+    ensures write { (f g : Format) (old new : State) (before after : Content) (root at : Root)
         (m n : List Pair)
         (kept : List Kept) (into : ℕ) (has : HasMap f before old.lives (version old) root m)
-        (stands : Stands f after at n) → Changes old new (numbers has.stands) (numbers stands)
-        → OnlyFreeWritten old before after → into < length old.versions → Keeps f before old kept
-        → Keeps f after (advanced into new)
-        (record { number = next old; root = at; pairs = n } ∷ kept) }
-    // and so does a map that is planted in place of the empty map
-    ensures plant { (f : Format) (old new : State) (before after : Content) (root at : Root)
+        (stands : Stands g after at n) → Changes old new (numbers has.stands) (numbers stands)
+        → OnlyFreeWritten old before after → into < length old.versions → Keeps before old kept
+        → Keeps after (advanced into new)
+        (record { number = next old; format = g; root = at; pairs = n } ∷ kept) }
+    // so does a map that is planted in place of the empty map
+    ensures plant { (f g : Format) (old new : State) (before after : Content) (root at : Root)
         (n : List Pair)
-        (kept : List Kept) (into : ℕ) (stands : Stands f after at n)
+        (kept : List Kept) (into : ℕ) (stands : Stands g after at n)
         → HasMap f before old.lives (version old) root [] → Takes old new (numbers stands)
         → KeepsBut (numbers stands) before after → into < length old.versions
-        → Keeps f before old kept
-        → Keeps f after (advanced into new)
-        (record { number = next old; root = at; pairs = n } ∷ kept) }
+        → Keeps before old kept
+        → Keeps after (advanced into new)
+        (record { number = next old; format = g; root = at; pairs = n } ∷ kept) }
+    // and so does a map that is planted in another format, while its tree in the first is felled
+    ensures migrate { (f g : Format) (old mid new : State) (before after : Content)
+        (root at : Root) (m : List Pair) (kept : List Kept) (into : ℕ)
+        (has : HasMap f before old.lives (version old) root m) (stands : Stands g after at m)
+        → Takes old mid (numbers stands) → Moves mid new [] (numbers has.stands)
+        → KeepsBut (numbers stands) before after → into < length old.versions
+        → Keeps before old kept
+        → Keeps after (advanced into new)
+        (record { number = next old; format = g; root = at; pairs = m } ∷ kept) }
     // a version that is not the current one may be forgotten
-    ensures forget { (f : Format) (content : Content) (s : State) (k : Kept) (xs ys : List Kept)
-        → In (version s) (numbers_kept (xs ++ ys)) → Keeps f content s (xs ++ k ∷ ys)
-        → Keeps f content s (xs ++ ys) }
+    ensures forget { (content : Content) (s : State) (k : Kept) (xs ys : List Kept)
+        → In (version s) (numbers_kept (xs ++ ys)) → Keeps content s (xs ++ k ∷ ys)
+        → Keeps content s (xs ++ ys) }
     // a sweep by the versions that are kept leaves their maps
-    ensures sweep { (f : Format) (content : Content) (s : State) (live : List ℕ) (kept : List Kept)
-        → AreNumbers live kept → Keeps f content s kept → Keeps f content (swept_by live s) kept }
+    ensures sweep { (content : Content) (s : State) (live : List ℕ) (kept : List Kept)
+        → AreNumbers live kept → Keeps content s kept → Keeps content (swept_by live s) kept }
     // after it a row is free exactly if none of their maps stands on it
-    ensures free { (f : Format) (content : Content) (s : State) (live : List ℕ) (kept : List Kept)
-        (r : ℕ)
-        → AreNumbers live kept → (keeps : Keeps f content s kept) → r < length s.lives
+    ensures free { (content : Content) (s : State) (live : List ℕ) (kept : List Kept) (r : ℕ)
+        → AreNumbers live kept → (keeps : Keeps content s kept) → r < length s.lives
         → slice_get (swept_by live s).lives r ≡ Some Free
-        ↔ (times r (rows_kept f content s.lives kept keeps.maps) ≡ 0) }
-    ensures count { (f : Format) (content : Content) (s : State) (live rows : List ℕ)
-        (kept : List Kept)
-        → AreNumbers live kept → (keeps : Keeps f content s kept) → IsDistinct rows
-        → ((r : ℕ) → In r rows ↔ In r (rows_kept f content s.lives kept keeps.maps))
+        ↔ (times r (rows_kept content s.lives kept keeps.maps) ≡ 0) }
+    ensures count { (content : Content) (s : State) (live rows : List ℕ) (kept : List Kept)
+        → AreNumbers live kept → (keeps : Keeps content s kept) → IsDistinct rows
+        → ((r : ℕ) → In r rows ↔ In r (rows_kept content s.lives kept keeps.maps))
         → free_count (swept_by live s).lives + length rows ≡ length s.lives }
     // a map stands on a row for each pair and one for each node; if no other version is kept, all
     // others are free

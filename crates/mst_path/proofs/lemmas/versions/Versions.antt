@@ -18,11 +18,13 @@ use Rattle.mst_arena.proofs.Stands.{placed_frame, all-append, all-front, all-bac
 use Rattle.mst_arena.proofs.ListLemmas.{times-append}
 use Rattle.mst_path.specs.Takes.{Takes, KeepsBut}
 use Rattle.mst_path.specs.Changing.{OnlyFreeWritten}
+use Rattle.mst_path.specs.Moves.{Moves}
 use Rattle.mst_path.specs.Reached.{IsReached, Changes, advanced, swept_by, IsPast, IsSettled}
 use Rattle.mst_path.specs.Versions.{HasMap, Kept, numbers_kept, AreNumbers, HaveMaps, rows_kept, Keeps}
 use Rattle.mst_path.proofs.lemmas.rows.Copies.{all_in}
 use Rattle.mst_path.proofs.lemmas.rows.Moving.{in_either, not_in}
 use Rattle.mst_path.proofs.lemmas.versions.Reached.{older, newest, version_after, settled_after, same_swept, settled_swept, free_swept, planted, planted_written}
+use Rattle.mst_path.proofs.lemmas.versions.Migrated.{changes, moved}
 use Rattle.mst_path.proofs.lemmas.rows.FreeCounts.{count_swept, alone}
 use Rattle.mst_path.proofs.lemmas.trees.Nodes.{used_count}
 use Rattle.mst_path.specs.Planting.{node_count, rows_needed}
@@ -62,21 +64,21 @@ same_eqb a b same = grind (arith, nat_tests)
 
 -- ---- a write
 
-module _ (format : Format) (old new : State) (before after : List ℕ)
-    (change : Changes old new before after) (c c' : Content) (written : OnlyFreeWritten old c c')
+module _ (old new : State) (before after : List ℕ) (change : Changes old new before after)
+    (c c' : Content) (written : OnlyFreeWritten old c c')
   where
-    pub map_stays : (v : ℕ) (at : Root) (m : List Pair) → v ≤ version old
+    map_stays : (format : Format) (v : ℕ) (at : Root) (m : List Pair) → v ≤ version old
         → HasMap format c old.lives
         v at m → HasMap format c' new.lives v at m
-    map_stays v at m le has = same_map format c c' old.lives new.lives v at m has
+    map_stays format v at m le has = same_map format c c' old.lives new.lives v at m has
         (λ r. older old new before after change v r le)
         (λ r is. written r (reached_not_free old.lives v r is))
 
     maps_stay : (kept : List Kept) → AllByRecursion (λ k. k.number ≤ version old) kept
-        → HaveMaps format c old.lives kept → HaveMaps format c' new.lives kept
+        → HaveMaps c old.lives kept → HaveMaps c' new.lives kept
     maps_stay [] le have = tt
     maps_stay (k ∷ ks) le have =
-        (map_stays k.number k.root k.pairs le.0 have.0, maps_stay ks le.1 have.1)
+        (map_stays k.format k.number k.root k.pairs le.0 have.0, maps_stay ks le.1 have.1)
 
     all_earlier : (w : ℕ) (kept : List Kept) → version old ≤ w
         → AllByRecursion (λ k. k.number ≤ version old) kept → AllByRecursion (λ k. k.number ≤ w)
@@ -84,10 +86,10 @@ module _ (format : Format) (old new : State) (before after : List ℕ)
     all_earlier w [] le all = tt
     all_earlier w (k ∷ ks) le all = (omega (arith, le, all.0), all_earlier w ks le all.1)
 
-module _ (format : Format) (old new : State) (c c' : Content) (root at : Root) (m n : List Pair)
-    (has : HasMap format c old.lives (version old) root m) (stands : Stands format c' at n)
+module _ (f g : Format) (old new : State) (c c' : Content) (root at : Root) (m n : List Pair)
+    (has : HasMap f c old.lives (version old) root m) (stands : Stands g c' at n)
     (change : Changes old new (numbers has.stands) (numbers stands)) where
-  pub map_new : IsSettled old → HasMap format c' new.lives (next old) at n
+  pub map_new : IsSettled old → HasMap g c' new.lives (next old) at n
   map_new settled =
       record {
         stands = stands;
@@ -96,8 +98,8 @@ module _ (format : Format) (old new : State) (c c' : Content) (root at : Root) (
       }
 
   pub keeps_write : (kept : List Kept) (into : ℕ) → into < length old.versions
-      → OnlyFreeWritten old c c' → Keeps format c old kept → Keeps format c' (advanced into new)
-      (record { number = next old; root = at; pairs = n } ∷ kept)
+      → OnlyFreeWritten old c c' → Keeps c old kept → Keeps c' (advanced into new)
+      (record { number = next old; format = g; root = at; pairs = n } ∷ kept)
   keeps_write kept into there written keeps =
       let now = version_after old new (numbers has.stands) (numbers stands) change into there in
       record {
@@ -106,23 +108,22 @@ module _ (format : Format) (old new : State) (c c' : Content) (root at : Root) (
         current = omega (arith, ap bit (same_eqb (version (advanced into new)) (next old) now));
         earlier = (
           omega (arith, now),
-          all_earlier format old new (numbers has.stands) (numbers stands)
+          all_earlier old new (numbers has.stands) (numbers stands)
               change c c' written (version (advanced into new)) kept (omega (arith, now))
               keeps.earlier,
         );
         maps = (
           map_new keeps.settled,
-          maps_stay format old new (numbers has.stands) (numbers stands)
+          maps_stay old new (numbers has.stands) (numbers stands)
               change c c' written kept keeps.earlier keeps.maps,
         );
       }
 
 -- ---- a version is forgotten
 
-pub keeps_fewer : (format : Format) (c : Content) (s : State) (xs ys : List Kept) (k : Kept)
-    → In (version s) (numbers_kept (xs ++ ys)) → Keeps format c s (xs ++ k ∷ ys) → Keeps format c s
-    (xs ++ ys)
-keeps_fewer format c s xs ys k current keeps = record {
+pub keeps_fewer : (c : Content) (s : State) (xs ys : List Kept) (k : Kept)
+    → In (version s) (numbers_kept (xs ++ ys)) → Keeps c s (xs ++ k ∷ ys) → Keeps c s (xs ++ ys)
+keeps_fewer c s xs ys k current keeps = record {
   settled = keeps.settled;
   current = current;
   earlier = all-append _ xs ys (all-front _ xs (k ∷ ys) keeps.earlier)
@@ -139,33 +140,33 @@ pub map_swept : (format : Format) (c : Content) (s : State) (live : List ℕ) (v
 map_swept format c s live v at m i has = same_map format c c s.lives (swept_by live s).lives v at m
     has (λ r. same_swept s live v r i) (λ r is. refl)
 
-maps_swept : (format : Format) (c : Content) (s : State) (live : List ℕ) (kept : List Kept)
-    → ((v : ℕ) → In v (numbers_kept kept) → In v live) → HaveMaps format c s.lives kept
-    → HaveMaps format c (swept_by live s).lives kept
-maps_swept format c s live [] all have = tt
-maps_swept format c s live (k ∷ ks) all have = (
-  map_swept format c s live k.number k.root k.pairs
+maps_swept : (c : Content) (s : State) (live : List ℕ) (kept : List Kept)
+    → ((v : ℕ) → In v (numbers_kept kept) → In v live) → HaveMaps c s.lives kept
+    → HaveMaps c (swept_by live s).lives kept
+maps_swept c s live [] all have = tt
+maps_swept c s live (k ∷ ks) all have = (
+  map_swept k.format c s live k.number k.root k.pairs
       (all k.number (omega (arith, ap bit (same_eqb k.number k.number refl)))) have.0,
-  maps_swept format c s live ks (λ v i. all v (omega (arith, i))) have.1,
+  maps_swept c s live ks (λ v i. all v (omega (arith, i))) have.1,
 )
 
-pub keeps_sweep : (format : Format) (c : Content) (s : State) (live : List ℕ) (kept : List Kept)
-    → AreNumbers live kept → Keeps format c s kept → Keeps format c (swept_by live s) kept
-keeps_sweep format c s live kept are keeps = record {
+pub keeps_sweep : (c : Content) (s : State) (live : List ℕ) (kept : List Kept)
+    → AreNumbers live kept → Keeps c s kept → Keeps c (swept_by live s) kept
+keeps_sweep c s live kept are keeps = record {
   settled = settled_swept s live keeps.settled;
   current = keeps.current;
   earlier = keeps.earlier;
-  maps = maps_swept format c s live kept (λ v. (are v).1) keeps.maps;
+  maps = maps_swept c s live kept (λ v. (are v).1) keeps.maps;
 }
 
 -- one version more
-reached_more : (format : Format) (c : Content) (lives : List Life) (k : Kept) (ks : List Kept)
-    (have : HaveMaps format c lives (k ∷ ks)) (r : ℕ) → IsReached lives (numbers_kept ks) r
-    ↔ In r (rows_kept format c lives ks have.1) → IsReached lives (numbers_kept (k ∷ ks)) r
-    ↔ In r (rows_kept format c lives (k ∷ ks) have)
-reached_more format c lives k ks have r rest = (
+reached_more : (c : Content) (lives : List Life) (k : Kept) (ks : List Kept)
+    (have : HaveMaps c lives (k ∷ ks)) (r : ℕ) → IsReached lives (numbers_kept ks) r
+    ↔ In r (rows_kept c lives ks have.1) → IsReached lives (numbers_kept (k ∷ ks)) r
+    ↔ In r (rows_kept c lives (k ∷ ks) have)
+reached_more c lives k ks have r rest = (
   λ some. go (eqb some.0 k.number) some.0 refl some.1 some.2,
-  λ i. elim (in_either r (numbers have.0.stands) (rows_kept format c lives ks have.1) i) [
+  λ i. elim (in_either r (numbers have.0.stands) (rows_kept c lives ks have.1) i) [
     | inl x ↦ (
       k.number,
       omega (arith, ap bit (same_eqb k.number k.number refl)),
@@ -177,7 +178,7 @@ reached_more format c lives k ks have r rest = (
 )
   where
     go : (t : Bool) (v : ℕ) → eqb v k.number ≡ t → 0 < bit t + times v (numbers_kept ks)
-        → reaches lives v r ≡ true → In r (rows_kept format c lives (k ∷ ks) have)
+        → reaches lives v r ≡ true → In r (rows_kept c lives (k ∷ ks) have)
     go true v e i is =
         let same : v ≡ k.number = grind (arith, nat_tests) in
         let here : In r (numbers have.0.stands) =
@@ -186,35 +187,35 @@ reached_more format c lives k ks have r rest = (
           arith,
           here,
           times-append r (numbers have.0.stands)
-              (rows_kept format c lives ks have.1),
+              (rows_kept c lives ks have.1),
         )
     go false v e i is =
-        let more : In r (rows_kept format c lives ks have.1) = rest.0 (v, omega (arith, i), is) in
+        let more : In r (rows_kept c lives ks have.1) = rest.0 (v, omega (arith, i), is) in
         omega (
           arith,
           more,
           times-append r (numbers have.0.stands)
-              (rows_kept format c lives ks have.1),
+              (rows_kept c lives ks have.1),
         )
 
-reached_kept : (format : Format) (c : Content) (lives : List Life) (kept : List Kept)
-    (have : HaveMaps format c lives kept) (r : ℕ) → IsReached lives (numbers_kept kept) r
-    ↔ In r (rows_kept format c lives kept have)
-reached_kept format c lives [] have r =
+reached_kept : (c : Content) (lives : List Life) (kept : List Kept)
+    (have : HaveMaps c lives kept) (r : ℕ) → IsReached lives (numbers_kept kept) r
+    ↔ In r (rows_kept c lives kept have)
+reached_kept c lives [] have r =
     (λ some. absurd (omega (arith, some.1)), λ i. absurd (omega (arith, i)))
-reached_kept format c lives (k ∷ ks) have r =
-    reached_more format c lives k ks have r (reached_kept format c lives ks have.1 r)
+reached_kept c lives (k ∷ ks) have r =
+    reached_more c lives k ks have r (reached_kept c lives ks have.1 r)
 
 by_bool : (t : Bool) → (t ≡ true → ⊥) → t ≡ false
 by_bool true not = absurd (not refl)
 by_bool false not = refl
 
-module _ (format : Format) (c : Content) (s : State) (live : List ℕ) (kept : List Kept)
-    (are : AreNumbers live kept) (keeps : Keeps format c s kept) where
+module _ (c : Content) (s : State) (live : List ℕ) (kept : List Kept)
+    (are : AreNumbers live kept) (keeps : Keeps c s kept) where
   reached_live : (r : ℕ) → IsReached s.lives live r
-      ↔ In r (rows_kept format c s.lives kept keeps.maps)
+      ↔ In r (rows_kept c s.lives kept keeps.maps)
   reached_live r =
-      let both = reached_kept format c s.lives kept keeps.maps r in (
+      let both = reached_kept c s.lives kept keeps.maps r in (
         λ some. both.0 (some.0, (are some.0).0 some.1, some.2),
         λ i. let some =
             both.1 i in (some.0, (are some.0).1 some.1, some.2),
@@ -224,11 +225,11 @@ module _ (format : Format) (c : Content) (s : State) (live : List ℕ) (kept : L
   current_live = (are (version s)).1 keeps.current
 
   pub free_kept : (r : ℕ) → r < length s.lives → slice_get (swept_by live s).lives r ≡ Some Free
-      ↔ (times r (rows_kept format c s.lives kept keeps.maps) ≡ 0)
+      ↔ (times r (rows_kept c s.lives kept keeps.maps) ≡ 0)
   free_kept r lt =
       let free = free_swept s live r keeps.settled current_live lt in
       let both = reached_live r in (
-        λ is. not_in r (rows_kept format c s.lives kept keeps.maps)
+        λ is. not_in r (rows_kept c s.lives kept keeps.maps)
             (λ i. let some = both.1 i in let not = free.0 is some.0 some.1 in let is =
             some.2 in cc),
         λ none. free.1
@@ -236,7 +237,7 @@ module _ (format : Format) (c : Content) (s : State) (live : List ℕ) (kept : L
       )
 
   pub count_kept : (rows : List ℕ) → IsDistinct rows
-      → ((r : ℕ) → In r rows ↔ In r (rows_kept format c s.lives kept keeps.maps))
+      → ((r : ℕ) → In r rows ↔ In r (rows_kept c s.lives kept keeps.maps))
       → free_count (swept_by live s).lives + length rows ≡ length s.lives
   count_kept rows once same = count_swept s live rows keeps.settled current_live once
       (λ r. (λ some. (same r).1 ((reached_live r).0 some), λ i. (reached_live r).1 ((same r).0 i)))
@@ -290,9 +291,9 @@ first_is (suc n) v lt = refl
 
 pub keeps_empty : (format : Format) (c : Content) (at : Root) (rows records v : ℕ) → 0 < records
     → Stands format c at []
-    → Keeps format c
+    → Keeps c
     (record { current = 0; versions = replicate records v; lives = replicate rows Free })
-    (record { number = v; root = at; pairs = [] } ∷ [])
+    (record { number = v; format = format; root = at; pairs = [] } ∷ [])
 keeps_empty format c at rows records v some stands =
     let now = first_is records v some in
     record {
@@ -319,17 +320,31 @@ keeps_empty format c at rows records v some stands =
       );
     }
 
-pub keeps_plant : (format : Format) (old new : State) (c c' : Content) (root at : Root)
-    (n : List Pair) (kept : List Kept) (into : ℕ) (stands : Stands format c' at n)
-    → HasMap format c old.lives (version old) root [] → Takes old new (numbers stands)
-    → KeepsBut (numbers stands) c c' → into < length old.versions → Keeps format c old kept
-    → Keeps format c' (advanced into new)
-    (record { number = next old; root = at; pairs = n } ∷ kept)
-keeps_plant format old new c c' root at n kept into stands has takes but there keeps =
+pub keeps_plant : (f g : Format) (old new : State) (c c' : Content) (root at : Root)
+    (n : List Pair) (kept : List Kept) (into : ℕ) (stands : Stands g c' at n)
+    → HasMap f c old.lives (version old) root [] → Takes old new (numbers stands)
+    → KeepsBut (numbers stands) c c' → into < length old.versions → Keeps c old kept
+    → Keeps c' (advanced into new)
+    (record { number = next old; format = g; root = at; pairs = n } ∷ kept)
+keeps_plant f g old new c c' root at n kept into stands has takes but there keeps =
     let none_before : numbers has.stands ≡ [] =
-    no_rows format has.stands.tree.placed (has.stands.tree.is ∙ no_tree format) in
+    no_rows f has.stands.tree.placed (has.stands.tree.is ∙ no_tree f) in
     let change : Changes old new (numbers has.stands) (numbers stands) =
     subst (λ (rows : List ℕ). Changes old new rows (numbers stands)) (sym none_before)
     (planted old new (numbers stands) takes) in
-    keeps_write format old new c c' root at [] n has stands change kept into there
+    keeps_write f g old new c c' root at [] n has stands change kept into there
     (planted_written old new (numbers stands) takes c c' but) keeps
+
+-- the tree of the map in another format is planted, and the one that stood is felled
+pub keeps_migrate : (f g : Format) (old mid new : State) (c c' : Content) (root at : Root)
+    (m : List Pair) (kept : List Kept) (into : ℕ)
+    (has : HasMap f c old.lives (version old) root m) (stands : Stands g c' at m)
+    → Takes old mid (numbers stands) → Moves mid new [] (numbers has.stands)
+    → KeepsBut (numbers stands) c c' → into < length old.versions → Keeps c old kept
+    → Keeps c' (advanced into new)
+    (record { number = next old; format = g; root = at; pairs = m } ∷ kept)
+keeps_migrate f g old mid new c c' root at m kept into has stands takes fells but there keeps =
+    keeps_write f g old new c c' root at m m has stands
+    (changes old new (numbers stands) (numbers has.stands)
+    (moved old mid new (numbers stands) (numbers has.stands) takes fells)) kept into there
+    (planted_written old mid (numbers stands) takes c c' but) keeps
