@@ -45,12 +45,12 @@ same_flag (l ∷ ls) (suc r) x y at same =
     ap (λ (bs : List Bool). is_free l ∷ bs) (same_flag ls r x y at same)
 
 module _ (current : ℕ) (versions : List ℕ) (lives : List Life) (free : List Bool)
-    (dead held last : List ℕ) (dc hc : ℕ)
-    (desk : IsDesk current versions lives free dead held last dc hc) where
+    (dead held last : List ℕ) (vc lc dc hc mc : ℕ)
+    (desk : IsDesk current versions lives free dead held last vc lc dc hc mc) where
   -- a row that is not dead gets another life that is not dead
   pub desk_life : (r : ℕ) (x y : Life) (b : Bool) → slice_get lives r ≡ Some x → is_dead x ≡ false
       → is_dead y ≡ false → is_free y ≡ b → IsDesk current versions (slice_set lives r y)
-      (slice_set free r b) dead held last dc hc
+      (slice_set free r b) dead held last vc lc dc hc mc
   desk_life r x y b at was now is =
       let len : length (slice_set lives r y) ≡ length lives = length-set lives r y in
       record {
@@ -62,8 +62,11 @@ module _ (current : ℕ) (versions : List ℕ) (lives : List Life) (free : List 
         dead_rows = lists_stay is_dead lives r x y (dead ++ held) at (was ∙ sym now) desk.dead_rows;
         reached = reached_after last lives held r y desk.reached
             (out_of_held lives dead held r x desk.dead_rows at was);
+        versions_room = desk.versions_room;
+        lives_room = omega (arith, len, desk.lives_room);
         dead_room = omega (arith, len, desk.dead_room);
         held_room = omega (arith, len, desk.held_room);
+        last_room = desk.last_room;
       }
 
   -- what is free by the set of free rows
@@ -87,7 +90,7 @@ module _ (current : ℕ) (versions : List ℕ) (lives : List Life) (free : List 
 
   -- the row that dies is added to the list
   pub desk_kill : (r b d : ℕ) → slice_get lives r ≡ Some (Born b) → IsDesk current versions
-      (slice_set lives r (Dead b d)) free (dead ++ r ∷ []) held last dc hc
+      (slice_set lives r (Dead b d)) free (dead ++ r ∷ []) held last vc lc dc hc mc
   desk_kill r b d at =
       let len : length (slice_set lives r (Dead b d)) ≡ length lives =
       length-set lives r (Dead b d) in
@@ -111,8 +114,11 @@ module _ (current : ℕ) (versions : List ℕ) (lives : List Life) (free : List 
             );
         reached = reached_after last lives held r (Dead b d) desk.reached
             (out_of_held lives dead held r (Born b) desk.dead_rows at refl);
+        versions_room = desk.versions_room;
+        lives_room = omega (arith, len, desk.lives_room);
         dead_room = omega (arith, len, desk.dead_room);
         held_room = omega (arith, len, desk.held_room);
+        last_room = desk.last_room;
       }
 
   pub kill_room : (r b d : ℕ) → slice_get lives r ≡ Some (Born b) → length dead < dc
@@ -226,8 +232,8 @@ kept_reached live lives new held is lists r x at some =
     dead_swept live x stays (kind_of new held r x lists at some)
 
 module _ (current : ℕ) (versions : List ℕ) (lives : List Life) (free : List Bool)
-    (dead held last : List ℕ) (dc hc : ℕ)
-    (desk : IsDesk current versions lives free dead held last dc hc) where
+    (dead held last : List ℕ) (vc lc dc hc mc : ℕ)
+    (desk : IsDesk current versions lives free dead held last vc lc dc hc mc) where
   -- a sweep leaves alone each row that it does not look at
   pub stay_but : (live dead' held' : List ℕ)
       → ((r : ℕ) → times r (dead' ++ held') ≡ times r (dead ++ held))
@@ -272,10 +278,11 @@ module _ (current : ℕ) (versions : List ℕ) (lives : List Life) (free : List 
 
   -- after a sweep, with live versions remembered that reach what is held
   pub desk_swept : (live : List ℕ) (new : List Life) (free' : List Bool)
-      (dead' held' last' : List ℕ) (dc' hc' : ℕ) → new ≡ map (swept_life live) lives
+      (dead' held' last' : List ℕ) (dc' hc' mc' : ℕ) → new ≡ map (swept_life live) lives
       → free' ≡ map is_free new → Lists is_dead new held' → dead' ≡ [] → AllReached last' new held'
-      → dc' ≡ dc → hc' ≡ hc → IsDesk current versions new free' dead' held' last' dc' hc'
-  desk_swept live new free' dead' held' last' dc' hc' is f lists e l d h =
+      → dc' ≡ dc → hc' ≡ hc → mc' ≡ mc → IsDesk current versions new free' dead' held' last' vc lc
+      dc' hc' mc'
+  desk_swept live new free' dead' held' last' dc' hc' mc' is f lists e l d h m =
       let len : length new ≡ length lives = ap (λ (ls : List Life). length ls) is ∙ length_mapped
       (swept_life live) lives in
       record {
@@ -285,16 +292,19 @@ module _ (current : ℕ) (versions : List ℕ) (lives : List Life) (free : List 
         free_rows = f;
         dead_rows = λ r. ap (λ (rows : List ℕ). times r (rows ++ held')) e ∙ lists r;
         reached = l;
+        versions_room = desk.versions_room;
+        lives_room = omega (arith, len, desk.lives_room);
         dead_room = omega (arith, len, desk.dead_room);
         held_room = omega (arith, len, desk.held_room);
+        last_room = omega (arith, m, desk.last_room);
       }
 
   -- after a sweep, with all rows to be looked at again
   pub desk_forgot : (live : List ℕ) (new : List Life) (free' : List Bool)
-      (dead' held' last' : List ℕ) (dc' hc' : ℕ) → new ≡ map (swept_life live) lives
+      (dead' held' last' : List ℕ) (dc' hc' mc' : ℕ) → new ≡ map (swept_life live) lives
       → free' ≡ map is_free new → Lists is_dead new dead' → held' ≡ [] → dc' ≡ hc → hc' ≡ dc
-      → IsDesk current versions new free' dead' held' last' dc' hc'
-  desk_forgot live new free' dead' held' last' dc' hc' is f lists e d h =
+      → mc' ≡ mc → IsDesk current versions new free' dead' held' last' vc lc dc' hc' mc'
+  desk_forgot live new free' dead' held' last' dc' hc' mc' is f lists e d h m =
       let len : length new ≡ length lives = ap (λ (ls : List Life). length ls) is ∙ length_mapped
       (swept_life live) lives in
       record {
@@ -305,8 +315,11 @@ module _ (current : ℕ) (versions : List ℕ) (lives : List Life) (free : List 
         dead_rows = λ r. ap (λ (rows : List ℕ). times r (dead' ++ rows)) e
             ∙ ap (times r) (append-nil dead') ∙ lists r;
         reached = λ r x at some. absurd (omega (arith, ap (times r) e));
+        versions_room = desk.versions_room;
+        lives_room = omega (arith, len, desk.lives_room);
         dead_room = omega (arith, len, desk.held_room);
         held_room = omega (arith, len, desk.dead_room);
+        last_room = omega (arith, m, desk.last_room);
       }
 
 -- ---- a new desk
@@ -329,23 +342,28 @@ first_of zero v lt = absurd (omega arith)
 first_of (suc n) v lt = refl
 
 pub desk_new : (versions : List ℕ) (lives : List Life) (free : List Bool) (dead held last : List ℕ)
-    (dc hc rows records first : ℕ) → rows ≤ 65535 → 0 < records → first < 2 ^ 63
+    (vc lc dc hc mc rows records first : ℕ) → rows ≤ 65535 → 0 < records → first < 2 ^ 63
     → versions ≡ replicate records first → lives ≡ replicate rows Free → free ≡ replicate rows true
-    → dead ≡ [] → held ≡ [] → dc ≡ rows → hc ≡ rows → IsDesk 0 versions lives free dead held last dc
-    hc
-desk_new versions lives free dead held last dc hc rows records first few some small vs ls fs ds hs d
-    h =
+    → dead ≡ [] → held ≡ [] → vc ≡ records → lc ≡ rows → dc ≡ rows → hc ≡ rows → mc ≡ records
+    → IsDesk 0 versions lives free dead held last vc lc dc hc mc
+desk_new versions lives free dead held last vc lc dc hc mc rows records first few some small vs ls
+    fs ds hs v l d h m =
     let len : length lives ≡ rows = ap (λ (l : List Life). length l) ls ∙ length_copies rows Free in
+    let many : length versions ≡ records = ap (λ (l : List ℕ). length l) vs ∙ length_copies records
+    first in
     record {
-      there = omega (arith, ap (λ (l : List ℕ). length l) vs, length_copies records first);
+      there = omega (arith, many);
       small = omega (arith, ap (λ (l : List ℕ). slice_index l 0) vs, first_of records first some);
       few = omega (arith, len);
       free_rows = fs ∙ flags_free rows ∙ ap (map is_free) (sym ls);
       dead_rows = λ r. ap (λ (l : List ℕ). times r (l ++ held)) ds ∙ ap (times r) hs
           ∙ none_dead rows r ∙ ap (λ (l : List Life). bit (is_at is_dead (slice_get l r))) (sym ls);
       reached = λ r x at much. absurd (omega (arith, ap (times r) hs));
+      versions_room = omega (arith, many);
+      lives_room = omega (arith, len);
       dead_room = omega (arith, len);
       held_room = omega (arith, len);
+      last_room = omega (arith, many);
     }
 
 -- what is read at an index

@@ -72,7 +72,8 @@ sums_left old new sums row s w was left = record {
 
 -- ---- the set as a whole
 
-module _ (rows count at : ℕ) (words sums : List ℕ) (set : IsSet rows count at words sums) where
+module _ (rows count at : ℕ) (words sums : List ℕ) (wc sc : ℕ)
+    (set : IsSet rows count at words sums wc sc) where
   pub count_few : count ≤ rows
   count_few = omega (arith, set.counted, count_le (flags rows words), length-flags rows words)
 
@@ -104,7 +105,7 @@ module _ (rows count at : ℕ) (words sums : List ℕ) (set : IsSet rows count a
 
   pub set_put : (new sums' : List ℕ) (row : ℕ) → slice_get (flags rows words) row ≡ Some false
       → BitWritten words new row 1 → Sums new sums' → length sums' ≡ length sums
-      → IsSet rows (count + 1) at new sums'
+      → IsSet rows (count + 1) at new sums' wc sc
   set_put new sums' row out w s few = record {
     few = set.few;
     room = omega (arith, set.room, w.len);
@@ -117,11 +118,15 @@ module _ (rows count at : ℕ) (words sums : List ℕ) (set : IsSet rows count a
     sums = s;
     counted = ap (λ (n : ℕ). n + 1) set.counted ∙ sym (count_more (flags rows words) row out)
         ∙ ap count_true (sym (put_flags new row w));
+    fits = omega (arith, set.fits, w.len);
+    sums_fit = omega (arith, set.sums_fit, few, w.len);
+    words_full = omega (arith, set.words_full, w.len);
+    summary_full = omega (arith, set.summary_full, few);
   }
 
   pub set_take : (new sums' : List ℕ) (row at' : ℕ) → slice_get (flags rows words) row ≡ Some true
       → BitWritten words new row 0 → Sums new sums' → length sums' ≡ length sums
-      → at' < length words → IsSet rows (count - 1) at' new sums'
+      → at' < length words → IsSet rows (count - 1) at' new sums' wc sc
   set_take new sums' row at' has w s few lt = record {
     few = set.few;
     room = omega (arith, set.room, w.len);
@@ -140,6 +145,10 @@ module _ (rows count at : ℕ) (words sums : List ℕ) (set : IsSet rows count a
           ap count_true
               (take_flags new row w),
         );
+    fits = omega (arith, set.fits, w.len);
+    sums_fit = omega (arith, set.sums_fit, few, w.len);
+    words_full = omega (arith, set.words_full, w.len);
+    summary_full = omega (arith, set.summary_full, few);
   }
 
   pub take_some : (row : ℕ) → slice_get (flags rows words) row ≡ Some true → 0 < count
@@ -214,8 +223,9 @@ no_flag rows n r lt = flag_at rows (replicate n 0) r lt ∙ ap (λ (x : ℕ). So
     (bit_zeros n r)
 
 pub empty_set : (rows n m : ℕ) → rows ≤ 65535 → rows ≤ 64 * n → n ≤ 64 * m → 0 < n → n ≤ 65535
-    → m ≤ 65535 → IsSet rows 0 0 (replicate n 0) (replicate m 0)
-empty_set rows n m few room sums some few_n few_m = record {
+    → m ≤ 65535 → 64 * n < rows + 64 → 64 * m < n + 64
+    → IsSet rows 0 0 (replicate n 0) (replicate m 0) n m
+empty_set rows n m few room sums some few_n few_m fits sums_fit = record {
   few = few;
   room = omega (arith, length_zeros n);
   few_words = omega (arith, length_zeros n);
@@ -231,4 +241,8 @@ empty_set rows n m few room sums some few_n few_m = record {
       let off : Some false ≡ Some true =
       sym (no_flag rows n r (flag_within rows (replicate n 0) r true at)) ∙ at in
       cc));
+  fits = omega (arith, length_zeros n);
+  sums_fit = omega (arith, length_zeros n, length_zeros m);
+  words_full = omega (arith, length_zeros n);
+  summary_full = omega (arith, length_zeros m);
 }

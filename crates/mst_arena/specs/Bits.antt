@@ -1,5 +1,5 @@
 -- A set of rows as bits of words.
-use Rattle.std.specs.Prelude.{◌≡◌, ◌≢◌, ◌≤◌, ◌<◌, ◌*◌, ◌/◌, ◌%◌, ℕ, Bool, eqb, List, length, map, count_by, slice_index}
+use Rattle.std.specs.Prelude.{◌≡◌, ◌≢◌, ◌≤◌, ◌<◌, ◌+◌, ◌*◌, ◌/◌, ◌%◌, ℕ, Bool, eqb, List, length, map, count_by, slice_index}
 use Rattle.std.specs.Int.{bit_at}
 use Rattle.std.specs.List.{range_with_len}
 
@@ -28,12 +28,18 @@ pub record Sums (words summary : List ℕ) : Type 0 where
   pub yes : (w : ℕ) → bit summary w ≡ 1 → slice_index words w ≢ 0
 
 -- what a set of rows keeps
-pub record IsSet (rows count at : ℕ) (words summary : List ℕ) : Type 0 where
-  pub few : rows ≤ 65535
-  pub room : rows ≤ 64 * length words
-  pub few_words : length words ≤ 65535
-  pub few_sums : length summary ≤ 65535
-  pub cursor : at < length words
-  pub beyond : (r : ℕ) → rows ≤ r → bit words r ≡ 0
-  pub sums : Sums words summary
-  pub counted : count ≡ count_true (flags rows words)
+pub record IsSet (rows count at : ℕ) (words summary : List ℕ) (words_cap summary_cap : ℕ) : Type 0
+  where
+    pub few : rows ≤ 65535
+    pub room : rows ≤ 64 * length words
+    pub few_words : length words ≤ 65535
+    pub few_sums : length summary ≤ 65535
+    pub cursor : at < length words
+    pub beyond : (r : ℕ) → rows ≤ r → bit words r ≡ 0
+    pub sums : Sums words summary
+    pub counted : count ≡ count_true (flags rows words)
+    -- as many words as the rows need, and no room for more
+    pub fits : 64 * length words < rows + 64
+    pub sums_fit : 64 * length summary < length words + 64
+    pub words_full : words_cap ≡ length words
+    pub summary_full : summary_cap ≡ length summary

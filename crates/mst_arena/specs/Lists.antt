@@ -53,12 +53,16 @@ AllOlder live lives rows = (r : ℕ) (x : Life) → slice_get lives r ≡ Some x
 -- what a desk keeps: the free rows; each dead row in one of two lists; and in the second of these
 -- only rows that a version reaches which the last sweep remembered
 pub record IsDesk (current : ℕ) (versions : List ℕ) (lives : List Life) (free : List Bool)
-    (dead held last : List ℕ) (dead_cap held_cap : ℕ) : Type 0 where
+    (dead held last : List ℕ) (versions_cap lives_cap dead_cap held_cap last_cap : ℕ) : Type 0 where
   pub there : current < length versions
   pub small : slice_index versions current < 2 ^ 63
   pub few : length lives ≤ 65535
   pub free_rows : free ≡ map is_free lives
   pub dead_rows : Lists is_dead lives (dead ++ held)
   pub reached : AllReached last lives held
-  pub dead_room : length lives ≤ dead_cap
-  pub held_room : length lives ≤ held_cap
+  -- each list has the room that it was made with, so none has grown
+  pub versions_room : versions_cap ≡ length versions
+  pub lives_room : lives_cap ≡ length lives
+  pub dead_room : dead_cap ≡ length lives
+  pub held_room : held_cap ≡ length lives
+  pub last_room : last_cap ≡ length versions

@@ -57,12 +57,13 @@ impl<A: Allocator> Model for Desk<A> {
     } };
 
     ghost invariant = { λ d. IsDesk d.current d.versions.items d.lives.items d.free
-        d.dead.items d.held.items d.live.items (vec_capacity d.dead) (vec_capacity d.held) };
+        d.dead.items d.held.items d.live.items (vec_capacity d.versions) (vec_capacity d.lives)
+        (vec_capacity d.dead) (vec_capacity d.held) (vec_capacity d.live) };
 }
 
 /// So many copies of a value.
 fn copies<T: Copy, A: Allocator>(alloc: A, value: T, count: usize) -> Result<Vec<T, A>, Memory>
-    ensures ok { IfOk result (λ v. v.items ≡ replicate count value) }
+    ensures ok { IfOk result (λ v. (v.items ≡ replicate count value) × (vec_capacity v ≡ count)) }
 {
     let mut all = Vec::with_capacity(alloc, count)?;
     for _ in 0..count {

@@ -1,5 +1,5 @@
 //! The free rows: a bitmap of two levels, from which rows are handed out upwards.
-ghost use Rattle.std.specs.Prelude.{◌≡◌, ◌≤◌, ◌<◌, true, false, Some, replicate, slice_get, slice_set, IfOk, IfSome, IfNone};
+ghost use Rattle.std.specs.Prelude.{◌≡◌, ◌≤◌, ◌<◌, vec_capacity, true, false, Some, replicate, slice_get, slice_set, IfOk, IfSome, IfNone};
 ghost use Rattle.mst_arena.specs.Bits.{count_true};
 
 use crate::bits::{bit_in_use, put_bit, take_bit};
@@ -22,19 +22,20 @@ pub struct FreeRows<A: Allocator> {
 
 /// Contracts see for each row whether it is in the set.
 impl<A: Allocator> Model for FreeRows<A> {
-    ghost use Rattle.std.specs.Prelude.{List, Bool};
+    ghost use Rattle.std.specs.Prelude.{List, Bool, vec_capacity};
     ghost use Rattle.mst_arena.specs.Bits.{flags, IsSet};
 
     ghost Value = { List Bool };
 
     ghost view = { λ s. flags s.rows s.words.items };
 
-    ghost invariant = { λ s. IsSet s.rows s.count s.at s.words.items s.summary.items };
+    ghost invariant = { λ s. IsSet s.rows s.count s.at s.words.items s.summary.items
+        (vec_capacity s.words) (vec_capacity s.summary) };
 }
 
 /// So many words, all of them 0.
 fn zeros<A: Allocator>(alloc: A, count: usize) -> Result<Vec<u64, A>, Memory>
-    ensures ok { IfOk result (λ v. v.items ≡ replicate count 0) }
+    ensures ok { IfOk result (λ v. (v.items ≡ replicate count 0) × (vec_capacity v ≡ count)) }
 {
     let mut words = Vec::with_capacity(alloc, count)?;
     for _ in 0..count {

@@ -11,7 +11,8 @@ invariant_of-self g c =
     let at : slice_get c.self.inside.lives.items c.args.row ≡ Some (Born (next c.args.self.now)) =
     ap (λ (s : State). slice_get s.lives c.args.row) c.self.view_is ∙ c.requires.taken in
     rw c.put.ensures.put
-    (desk_life _ _ _ _ _ _ _ _ _ c.self.invariant c.args.row (Born (next c.args.self.now)) Free
+    (desk_life _ _ _ _ _ _ _ _ _ _ _ _ c.self.invariant c.args.row (Born (next c.args.self.now))
+    Free
     true at refl refl refl)
 
 pub index_mut-requires : goal.index_mut-requires

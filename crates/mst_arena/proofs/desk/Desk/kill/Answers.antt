@@ -12,7 +12,11 @@ push_reserved-requires g c =
     let i = c.self.inside in
     let at : slice_get i.lives.items c.args.row ≡ Some (Born c.requires.born.0) =
     ap (λ (s : State). slice_get s.lives c.args.row) c.self.view_is ∙ c.requires.born.1 in
-    omega (arith, kill_room _ _ _ _ _ _ _ _ _ c.self.invariant c.args.row c.requires.born.0 0 at)
+    omega (
+      arith,
+      kill_room _ _ _ _ _ _ _ _ _ _ _ _ c.self.invariant c.args.row c.requires.born.0 0
+          at,
+    )
 
 pub invariant_of-self : goal.invariant_of-self
 invariant_of-self g c =
@@ -22,7 +26,7 @@ invariant_of-self g c =
     let same : Born c.requires.born.0 ≡ Born c.in-Born.birth =
     sym (read_is i.lives.items c.args.row (Born c.requires.born.0) c.index-2.result.now
     c.index-2.ensures at) ∙ c.in-Born.is in
-    let k = desk_kill _ _ _ _ _ _ _ _ _ c.self.invariant c.args.row c.in-Born.birth
+    let k = desk_kill _ _ _ _ _ _ _ _ _ _ _ _ c.self.invariant c.args.row c.in-Born.birth
     (c.index.result.now + 1) (at ∙ ap Some same) in
     rw (c.push_reserved.ensures.items, c.push_reserved.ensures.capacity) k
 

@@ -9,13 +9,13 @@ use Rattle.mst_arena.proofs.desk.Desk.sweep.Goals as goal
 
 pub look_again-requires : goal.look_again-requires
 look_again-requires g c =
-    record { room = omega (arith, move_room _ _ _ _ _ _ _ _ _ c.self.invariant) }
+    record { room = omega (arith, move_room _ _ _ _ _ _ _ _ _ _ _ _ c.self.invariant) }
 
 pub sweep_dead-requires-clause-others : goal.sweep_dead-requires-clause-others
 sweep_dead-requires-clause-others g c =
     let i = c.self.inside in
     let stays : StayBut c.args.live.now i.lives.items c.look_again.new.dead.items =
-    stay_but _ _ _ _ _ _ _ _ _ c.self.invariant c.args.live.now c.look_again.new.dead.items
+    stay_but _ _ _ _ _ _ _ _ _ _ _ _ c.self.invariant c.args.live.now c.look_again.new.dead.items
     c.look_again.new.held.items c.look_again.ensures.times
     (rw c.deref.ensures.value at c.look_again.ensures.held) in
     subst (λ (ls : List Life). StayBut c.args.live.now ls c.look_again.new.dead.items)
@@ -25,7 +25,7 @@ pub sweep_dead-requires-clause-held : goal.sweep_dead-requires-clause-held
 sweep_dead-requires-clause-held g c =
     let i = c.self.inside in
     let older : AllOlder c.args.live.now i.lives.items c.look_again.new.held.items =
-    held_older _ _ _ _ _ _ _ _ _ c.self.invariant c.args.live.now c.look_again.new.held.items
+    held_older _ _ _ _ _ _ _ _ _ _ _ _ c.self.invariant c.args.live.now c.look_again.new.held.items
     (rw c.deref.ensures.value at c.look_again.ensures.held) in
     subst (λ (ls : List Life). AllOlder c.args.live.now ls c.look_again.new.held.items)
     (sym c.deref_mut.ensures.value) older
@@ -41,13 +41,15 @@ invariant_of-self g c =
     ∙ length_mapped (swept_life live) i.lives.items in
     let lives = written i.lives.len new.lives i.lives.items (omega (arith, len)) in
     rw lives (elim c.sweep_dead.ensures.lists [
-      | inl e ↦ desk_swept _ _ _ _ _ _ _ _ _ c.self.invariant live new.lives new.free new.dead.items
+      | inl e ↦ desk_swept _ _ _ _ _ _ _ _ _ _ _ _ c.self.invariant live new.lives new.free
+          new.dead.items
           new.held.items new.last.items (vec_capacity new.dead) (vec_capacity new.held)
+          (vec_capacity new.last)
           is c.sweep_dead.ensures.free e.1 e.2 e.0 (e.3 ∙ c.look_again.ensures.dead_room)
-          (e.4 ∙ c.look_again.ensures.held_room)
-      | inr e ↦ desk_forgot _ _ _ _ _ _ _ _ _ c.self.invariant live new.lives new.free
+          (e.4 ∙ c.look_again.ensures.held_room) c.sweep_dead.ensures.last_room
+      | inr e ↦ desk_forgot _ _ _ _ _ _ _ _ _ _ _ _ c.self.invariant live new.lives new.free
           new.dead.items new.held.items new.last.items (vec_capacity new.dead)
-          (vec_capacity new.held)
+          (vec_capacity new.held) (vec_capacity new.last)
           is c.sweep_dead.ensures.free e.0 e.1 (e.2 ∙ c.look_again.ensures.held_room)
-          (e.3 ∙ c.look_again.ensures.dead_room)
+          (e.3 ∙ c.look_again.ensures.dead_room) c.sweep_dead.ensures.last_room
     ])

@@ -9,14 +9,17 @@ use Rattle.mst_arena.proofs.desk.Desk.take.Goals as goal
 pub invariant_of-self-2 : goal.invariant_of-self-2
 invariant_of-self-2 g c =
     let i = c.self.inside in
-    let at = free_life _ _ _ _ _ _ _ _ _ c.self.invariant c.in_ok-row.row c.in_ok-row.ensures.some.0
+    let at = free_life _ _ _ _ _ _ _ _ _ _ _ _ c.self.invariant c.in_ok-row.row
+    c.in_ok-row.ensures.some.0
     in
-    rw c.in_ok-row.ensures.some.1 (desk_life _ _ _ _ _ _ _ _ _ c.self.invariant c.in_ok-row.row Free
+    rw c.in_ok-row.ensures.some.1
+    (desk_life _ _ _ _ _ _ _ _ _ _ _ _ c.self.invariant c.in_ok-row.row Free
     (Born (c.index.result.now + 1)) false at refl refl refl)
 
 pub returns-clause-some : goal.returns-clause-some
 returns-clause-some g c =
-    let at = free_life _ _ _ _ _ _ _ _ _ c.self.invariant c.in_ok-row.row c.in_ok-row.ensures.some.0
+    let at = free_life _ _ _ _ _ _ _ _ _ _ _ _ c.self.invariant c.in_ok-row.row
+    c.in_ok-row.ensures.some.0
     in
     let born : c.index.result.now ≡ version c.args.self.now =
     read_index c.self.inside.versions.items c.self.inside.current c.index.result.now

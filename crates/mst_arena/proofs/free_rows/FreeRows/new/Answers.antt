@@ -10,16 +10,17 @@ use Rattle.mst_arena.proofs.free_rows.FreeRows.new.Goals as goal
 pub invariant_of-free : goal.invariant_of-free
 invariant_of-free g c =
     let words : c.in_ok-words.words.items ≡ replicate c.div_ceil-count.result 0 =
-    c.in_ok-words.ensures.ok in
+    c.in_ok-words.ensures.ok.0 in
     let sums : c.in_ok-summary.summary.items ≡ replicate c.div_ceil.result 0 =
-    c.in_ok-summary.ensures.ok in
-    rw (words, sums) (empty_set c.args.rows c.div_ceil-count.result c.div_ceil.result (omega arith)
-    (omega arith) (omega arith) (omega arith) (omega arith) (omega arith))
+    c.in_ok-summary.ensures.ok.0 in
+    rw (words, sums, c.in_ok-words.ensures.ok.1, c.in_ok-summary.ensures.ok.1)
+    (empty_set c.args.rows c.div_ceil-count.result c.div_ceil.result (omega arith) (omega arith)
+    (omega arith) (omega arith) (omega arith) (omega arith) (omega arith) (omega arith))
 
 pub loop-row-init : goal.loop-row-init
 loop-row-init g c =
     let words : c.in_ok-words.words.items ≡ replicate c.div_ceil-count.result 0 =
-    c.in_ok-words.ensures.ok in
+    c.in_ok-words.ensures.ok.0 in
     record {
       len = length-flags c.args.rows c.in_ok-words.words.items;
       done = λ k lt. absurd (omega arith);

@@ -25,7 +25,7 @@ overflow_add-self g c =
     ap (λ (s : List Bool). slice_get s c.args.row) c.self.view_is ∙ c.requires.out in
     omega (
       arith,
-      put_room i.rows i.count i.at i.words.items i.summary.items c.self.invariant
+      put_room i.rows i.count i.at i.words.items i.summary.items _ _ c.self.invariant
           c.args.row out,
     )
 
@@ -55,7 +55,7 @@ invariant_of-self g c =
       ap (λ (l : List ℕ). length l)
           c.deref_mut-2.ensures.value,
     )) in
-    rw (words, sums) (set_put i.rows i.count i.at i.words.items i.summary.items c.self.invariant
+    rw (words, sums) (set_put i.rows i.count i.at i.words.items i.summary.items _ _ c.self.invariant
     c.put_bit.new.words c.put_bit.new.summary c.args.row out w c.put_bit.ensures.sums len)
 
 pub returns : goal.returns
@@ -74,6 +74,6 @@ returns g c =
     )) in
     record {
       put = ap (flags i.rows) words ∙ put_flags i.rows i.count i.at i.words.items
-          i.summary.items c.self.invariant c.put_bit.new.words c.args.row w
+          i.summary.items _ _ c.self.invariant c.put_bit.new.words c.args.row w
           ∙ ap (λ (s : List Bool). slice_set s c.args.row true) c.self.view_is;
     }

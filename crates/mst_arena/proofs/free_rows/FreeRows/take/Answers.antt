@@ -10,7 +10,8 @@ returns-in_err-row-clause-none g c =
     let zeros : (w : ℕ) → slice_index i.words.items w ≡ 0 =
     λ w. ap (λ (l : List ℕ). slice_index l w) (sym c.deref.ensures.value)
     ∙ c.in_err-row.ensures.none w in
-    let none = set_none i.rows i.count i.at i.words.items i.summary.items c.self.invariant zeros in
+    let none = set_none i.rows i.count i.at i.words.items i.summary.items _ _ c.self.invariant zeros
+    in
     if_none c.from_residual.result (sym (ap count_true c.self.view_is) ∙ none, refl)
   where
     if_none : {X : Type 0} {P : Type 0} (o : Option X) → P → IfNone o P
@@ -22,11 +23,11 @@ overflow_sub-self g c =
     let i = c.self.inside in
     let is : bit i.words.items c.in_ok-row.row ≡ 1 = ap (λ (l : List ℕ). bit l c.in_ok-row.row)
     (sym c.deref.ensures.value) ∙ c.in_ok-row.ensures.some in
-    let has = set_bit_flag i.rows i.count i.at i.words.items i.summary.items c.self.invariant
+    let has = set_bit_flag i.rows i.count i.at i.words.items i.summary.items _ _ c.self.invariant
     c.in_ok-row.row is in
     omega (
       arith,
-      take_some i.rows i.count i.at i.words.items i.summary.items c.self.invariant
+      take_some i.rows i.count i.at i.words.items i.summary.items _ _ c.self.invariant
           c.in_ok-row.row has,
     )
 
@@ -35,7 +36,7 @@ invariant_of-self g c =
     let i = c.self.inside in
     let is : bit i.words.items c.in_ok-row.row ≡ 1 = ap (λ (l : List ℕ). bit l c.in_ok-row.row)
     (sym c.deref.ensures.value) ∙ c.in_ok-row.ensures.some in
-    let has = set_bit_flag i.rows i.count i.at i.words.items i.summary.items c.self.invariant
+    let has = set_bit_flag i.rows i.count i.at i.words.items i.summary.items _ _ c.self.invariant
     c.in_ok-row.row is in
     let w : BitWritten i.words.items c.take_bit.new.words c.in_ok-row.row 0 =
     subst (λ (o : List ℕ). BitWritten o c.take_bit.new.words c.in_ok-row.row 0)
@@ -59,9 +60,10 @@ invariant_of-self g c =
       ap (λ (l : List ℕ). length l)
           c.deref_mut-2.ensures.value,
     )) in
-    let within = bit_there i.rows i.count i.at i.words.items i.summary.items c.self.invariant
+    let within = bit_there i.rows i.count i.at i.words.items i.summary.items _ _ c.self.invariant
     c.in_ok-row.row is in
-    rw (words, sums) (set_take i.rows i.count i.at i.words.items i.summary.items c.self.invariant
+    rw (words, sums)
+    (set_take i.rows i.count i.at i.words.items i.summary.items _ _ c.self.invariant
     c.take_bit.new.words c.take_bit.new.summary c.in_ok-row.row _ has w c.take_bit.ensures.sums
     len (omega (arith, within, c.self.invariant.room)))
 
@@ -70,7 +72,7 @@ returns-clause-some g c =
     let i = c.self.inside in
     let is : bit i.words.items c.in_ok-row.row ≡ 1 = ap (λ (l : List ℕ). bit l c.in_ok-row.row)
     (sym c.deref.ensures.value) ∙ c.in_ok-row.ensures.some in
-    let has = set_bit_flag i.rows i.count i.at i.words.items i.summary.items c.self.invariant
+    let has = set_bit_flag i.rows i.count i.at i.words.items i.summary.items _ _ c.self.invariant
     c.in_ok-row.row is in
     let w : BitWritten i.words.items c.take_bit.new.words c.in_ok-row.row 0 =
     subst (λ (o : List ℕ). BitWritten o c.take_bit.new.words c.in_ok-row.row 0)
@@ -84,7 +86,7 @@ returns-clause-some g c =
           c.deref_mut.ensures.value,
     )) in (
       ap (λ (s : List Bool). slice_get s c.in_ok-row.row) (sym c.self.view_is) ∙ has,
-      ap (flags i.rows) words ∙ take_flags i.rows i.count i.at i.words.items i.summary.items
+      ap (flags i.rows) words ∙ take_flags i.rows i.count i.at i.words.items i.summary.items _ _
           c.self.invariant c.take_bit.new.words c.in_ok-row.row w
           ∙ ap (λ (s : List Bool). slice_set s c.in_ok-row.row false) c.self.view_is,
     )
