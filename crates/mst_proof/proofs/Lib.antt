@@ -9,6 +9,7 @@ pub mod Complete
 pub mod Truth
 pub mod Beside
 pub mod NoOther
+pub mod Named
 pub mod Walks
 pub mod Stepwise
 pub mod Nodewise

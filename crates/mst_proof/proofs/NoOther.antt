@@ -19,7 +19,8 @@ use Rattle.mst_proof.specs.declared.fault.ProofFault.{ProofFault}
 use Rattle.mst_proof.specs.Accepted.{held_answer}
 use Rattle.mst_proof.specs.Frame.{◌>>◌}
 use Rattle.mst_proof.specs.Verdict.{step_of, step_at, answer_at_end, by_step, followed, settled}
-use Rattle.mst_proof.specs.Beside.{gap_tree, IsSmall, NoOther, ValuesCollide}
+use Rattle.mst_proof.specs.Theorem.{ValuesCollide}
+use Rattle.mst_proof.specs.Beside.{gap_tree, IsSmall, NoOther}
 use Rattle.mst_proof.proofs.Framed.{ok_same, bind_done, claim_of}
 use Rattle.mst_proof.proofs.Agreed.{held_one, passes, settled_done}
 use Rattle.mst_proof.proofs.Falls.{place, falls}

@@ -4,15 +4,15 @@ use Rattle.std.proofs.Common.{◌≡◌, ℕ, Bool, true, false, List, [], ◌�
 use Rattle.std.specs.List.{Contains}
 use Rattle.std.specs.Str.{bytes_eq}
 use Rattle.std.proofs.lemmas.Bool.Decides.{not_from_Decides}
-use Rattle.std.proofs.lemmas.List.{get_or-map, length-map}
 use Rattle.std.proofs.lemmas.List.Elements.{Contains-append_right}
 use Rattle.std.proofs.lemmas.Slice.Eq.{bytes_eq-Decides}
 use Rattle.mst_key.specs.declared.format.Format.{Format}
 use Rattle.mst_key.specs.Bytes.{IsBytes}
-use Rattle.mst_node.specs.Tree.{Tree, empty, node, Entries, pairs, nodes, nodes_below}
+use Rattle.mst_node.specs.Tree.{Tree, empty, node, Entries, pairs}
 use Rattle.mst_node.specs.Text.{FlatNode, spelling, digest_of, child_digest, flat, text, digest}
 use Rattle.mst_node.specs.Grammar.{IsFlatNode}
 use Rattle.mst_node.specs.Collision.{Collision}
+use Rattle.mst_node.specs.Trail.{nodes_met, met_in_gap}
 use Rattle.mst_node.specs.Place.{place_of}
 use Rattle.mst_node.specs.declared.place.Place.{Place}
 use Rattle.mst_node.specs.declared.place.Place.TheVariants.{Gap}
@@ -25,6 +25,7 @@ use Rattle.mst_proof.specs.Verdict.{step_of}
 use Rattle.mst_proof.proofs.Stepwise.{Says, Leads}
 use Rattle.mst_proof.specs.Accepted.{held_answer}
 use Rattle.mst_proof.specs.Beside.{IsSmall, looked}
+use Rattle.mst_proof.specs.Theorem.{TextsCollide}
 use Rattle.mst_proof.proofs.Framed.{AllBytes}
 use Rattle.mst_proof.proofs.Agreed.{AllFlat}
 use Rattle.mst_proof.proofs.Falls.{place, Gapped, falls}
@@ -37,24 +38,44 @@ has_first x xs = (0, omega arith, refl)
 pub has_later : {X : Type 0} (y : X) (xs : List X) (x : X) → Contains xs x → Contains (y ∷ xs) x
 has_later y xs x has = Contains-append_right (y ∷ []) xs x has
 
-pub has_mapped : {X Y : Type 0} (f : X → Y) (xs : List X) (x : X) → Contains xs x
-    → Contains (map f xs) (f x)
-has_mapped f xs x has =
-    (has.0, omega (arith, has.1, length-map xs f), get_or-map f xs has.0 x (f x) has.1 ∙ ap f has.2)
-
 -- ---- one text beside its node
 
--- a text and the text of a node are a collision
-pub record Collides (ts : List (List ℕ)) (t : Tree) : Type 0 where
+-- at one place a text and the text on the tree's way to the key are a collision
+pub record Collides (k : List ℕ) (ts : List (List ℕ)) (t : Tree) : Type 0 where
   pub one : List ℕ
-  pub other : Tree
-  pub one_in : Contains ts one
-  pub other_in : Contains (nodes t) other
-  pub collision : Collision one (text other)
+  pub other : List ℕ
+  pub texts : TextsCollide ts (map text (nodes_met k t)) one other
 
 -- the answer is the map's, or there is a collision
 abbrev pub Answers : Format → List ℕ → Option (List ℕ) → List (List ℕ) → Tree → Type 0
-Answers format k a ts t = (a ≡ looked format (pairs t) k) ⊎ Collides ts t
+Answers format k a ts t = (a ≡ looked format (pairs t) k) ⊎ Collides k ts t
+
+-- the first texts are a collision
+pub texts_first : (t w : List ℕ) (ts us : List (List ℕ)) → Collision t w
+    → TextsCollide (t ∷ ts) (w ∷ us) t w
+texts_first t w ts us c =
+    record {
+      before = [];
+      after_one = ts;
+      after_other = us;
+      one_at = refl;
+      other_at = refl;
+      collision = c;
+    }
+
+-- a collision after a text that is the same on both sides
+pub texts_later : (t w : List ℕ) (ts us : List (List ℕ)) (one other : List ℕ) → t ≡ w
+    → TextsCollide ts us one other → TextsCollide (t ∷ ts) (w ∷ us) one other
+texts_later t w ts us one other same c =
+    record {
+      before = t ∷ c.before;
+      after_one = c.after_one;
+      after_other = c.after_other;
+      one_at = ap (λ (xs : List (List ℕ)). t ∷ xs) c.one_at;
+      other_at = ap (λ (x : List ℕ). x ∷ us) (sym same)
+          ∙ ap (λ (xs : List (List ℕ)). t ∷ xs) c.other_at;
+      collision = c.collision;
+    }
 
 pub small_child : (format : Format) (k : List ℕ) (low high : Option (List ℕ)) (l : ℕ) (es : Entries)
     → IsSmall format (node format l es) → (g : Gapped format k low high l es)
@@ -62,18 +83,19 @@ pub small_child : (format : Format) (k : List ℕ) (low high : Option (List ℕ)
 small_child format k low high l es small g =
     record { mst = g.mst; map = g.map; few = omega (arith, g.few, small.few) }
 
--- a collision below is one here
+-- a collision below is one here, if the text is the node's
 below : (format : Format) (k : List ℕ) (low high : Option (List ℕ)) (l : ℕ) (es : Entries)
-    (t : List ℕ) (ts : List (List ℕ)) (g : Gapped format k low high l es) → Collides ts g.child
-    → Collides (t ∷ ts) (node format l es)
-below format k low high l es t ts g c =
+    (t : List ℕ) (ts : List (List ℕ)) → t ≡ text (node format l es)
+    → (g : Gapped format k low high l es) → Collides k ts g.child
+    → Collides k (t ∷ ts) (node format l es)
+below format k low high l es t ts is g c =
     record {
       one = c.one;
       other = c.other;
-      one_in = has_later t ts c.one c.one_in;
-      other_in =
-          has_later (node format l es) (nodes_below es) c.other (g.among c.other c.other_in);
-      collision = c.collision;
+      texts = texts_later t (text (node format l es)) ts (map text (met_in_gap k es)) c.one c.other
+          is
+          (subst (λ (us : List Tree). TextsCollide ts (map text us) c.one c.other) (sym g.meets)
+          c.texts);
     }
 
 -- the flat node of a text that is the node's text
@@ -86,27 +108,27 @@ same_node format l es n small b is e =
 
 -- the answer of a child beside that of the node
 answer_above : (format : Format) (k : List ℕ) (low high : Option (List ℕ)) (l : ℕ) (es : Entries)
-    (a : Option (List ℕ)) (t : List ℕ) (ts : List (List ℕ)) (g : Gapped format k low high l es)
-    → Answers format k a ts g.child → Answers format k a (t ∷ ts) (node format l es)
-answer_above format k low high l es a t ts g (inl e) =
+    (a : Option (List ℕ)) (t : List ℕ) (ts : List (List ℕ)) → t ≡ text (node format l es)
+    → (g : Gapped format k low high l es) → Answers format k a ts g.child
+    → Answers format k a (t ∷ ts) (node format l es)
+answer_above format k low high l es a t ts is g (inl e) =
     inl (e ∙ sym (ap (held_answer format) g.looks))
-answer_above format k low high l es a t ts g (inr c) = inr (below format k low high l es t ts g c)
+answer_above format k low high l es a t ts is g (inr c) =
+    inr (below format k low high l es t ts is g c)
 
 -- a text that is not the node's collides with it
-text_collides : (format : Format) (l : ℕ) (es : Entries) (d t : List ℕ) (ts : List (List ℕ))
-    → bytes_eq t (text (node format l es)) ≡ false → digest_of t ≡ d → Some d ≡ child_digest
-    (node format l es) → Collides (t ∷ ts) (node format l es)
-text_collides format l es d t ts other is named =
+text_collides : (format : Format) (k : List ℕ) (l : ℕ) (es : Entries) (d t : List ℕ)
+    (ts : List (List ℕ)) → bytes_eq t (text (node format l es)) ≡ false → digest_of t ≡ d → Some d
+    ≡ child_digest (node format l es) → Collides k (t ∷ ts) (node format l es)
+text_collides format k l es d t ts other is named =
     record {
       one = t;
-      other = node format l es;
-      one_in = has_first t ts;
-      other_in = has_first (node format l es) (nodes_below es);
-      collision =
-          record {
+      other = text (node format l es);
+      texts = texts_first t (text (node format l es)) ts (map text (met_in_gap k es))
+          (record {
             differ = not_from_Decides _ (bytes_eq-Decides t (text (node format l es))) other;
             same = is ∙ some_same d (digest (node format l es)) named;
-          };
+          });
     }
 
 pub sound : (format : Format) (ns : List FlatNode) (k : List ℕ) (x : Expected) (a : Option (List ℕ))
@@ -131,13 +153,14 @@ sound format (n ∷ ns) k x a (node f layer es) flats b l small d =
         ≡ child_digest c → Answers format k a (map spelling ns) c)
         → IsSmall format (node format layer es)
         → Says (step_of layer (place format k x.span.low x.span.high es)) ns a (λ y. Leads k y ns a)
+        → spelling n ≡ text (node format layer es)
         → Answers format k a (map spelling (n ∷ ns)) (node format layer es)
-    same next small says =
+    same next small says is =
         let Q : Place → Type 0 = λ p. Says (step_of layer p) ns a (λ y. Leads k y ns a) in
         elim (falls format k x.span.low x.span.high layer es small.mst.2 small.map) [
           | inl h ↦ inl ((subst Q h.placed says).1 ∙ sym (ap (held_answer format) h.looks))
           | inr g ↦ answer_above format k x.span.low x.span.high layer es a (spelling n)
-              (map spelling ns) g
+              (map spelling ns) is g
               (on next g.child g.span (subst Q g.placed says)
               (small_child format k x.span.low x.span.high layer es small g))
         ]
@@ -148,13 +171,13 @@ sound format (n ∷ ns) k x a (node f layer es) flats b l small d =
         → IsSmall format (node format layer es) → Some x.digest ≡ child_digest
         (node format layer es) → Answers format k a (map spelling (n ∷ ns)) (node format layer es)
     by_text false e next small d =
-        inr (text_collides format layer es x.digest (spelling n) (map spelling ns) e l.0.digest d)
+        inr (text_collides format k layer es x.digest (spelling n) (map spelling ns) e l.0.digest d)
     by_text true e next small d =
-        let is = same_node format layer es n small b.0 flats.0.1
-        ((bytes_eq-Decides (spelling n) (text (node format layer es))).0 e) in
+        let spells = (bytes_eq-Decides (spelling n) (text (node format layer es))).0 e in
+        let is = same_node format layer es n small b.0 flats.0.1 spells in
         let R : FlatNode → Type 0 = λ m. Says (step_of m.layer (place_of k x.span m)) ns a
         (λ y. Leads k y ns a) in
-        same next small (subst R is l.1)
+        same next small (subst R is l.1) spells
 
     at : ((y : Expected) (c : Tree) → Leads k y ns a → IsSmall format c → Some y.digest
         ≡ child_digest c → Answers format k a (map spelling ns) c)

@@ -3,33 +3,31 @@
 use Rattle.mst_key.specs.declared.format.Format.{Format}
 use Rattle.mst_key.specs.declared.format.Format.TheVariants.{One, Two}
 use Rattle.mst_proof.specs.Accepted.{held_answer, IsAnswer}
-use Rattle.mst_proof.specs.Frame.{frame_at}
 use Rattle.mst_node.proofs.ReadIsSpelled.{some_same}
 use Rattle.std.specs.Ordering.{is_eq}
 use Rattle.std.specs.Str.{bytes_eq}
 use Rattle.std.proofs.lemmas.Bool.Decides.{not_from_Decides}
 use Rattle.std.proofs.lemmas.Slice.Eq.{bytes_eq-Decides}
-use Rattle.std.specs.declared.result.Result.TheVariants.{Ok}
 use Rattle.std.proofs.Common.{◌≡◌, ◌≢◌, ℕ, suc, Bool, true, false, cond, ◌<◌, List, [], ◌∷◌, ◌++◌, length, map, Option, Some, None, ◌⊎◌, inl, inr, refl, sym, ◌∙◌, ap, subst, arith}
-use Rattle.std.specs.List.{Contains, AllByRecursion}
+use Rattle.std.specs.List.{AllByRecursion}
 use Rattle.std.proofs.lemmas.List.{length-map}
-use Rattle.std.proofs.lemmas.List.Elements.{Contains-append_left, Contains-append_right}
 use Rattle.mst_key.specs.Bytes.{IsBytes, IsKey, IsValue}
 use Rattle.mst_key.specs.Map.{Pair, IsMap, IsAscending, map_get, key_cmp}
-use Rattle.mst_node.specs.Tree.{Tree, empty, node, tree, pairs, entries_pairs, nodes, nodes_below}
+use Rattle.mst_node.specs.Tree.{Tree, empty, node, tree, pairs, entries_pairs}
 use Rattle.mst_node.specs.Text.{FlatNode, spelling, text, digest, digest_of}
 use Rattle.mst_node.specs.Gaps.{LiesBetween}
-use Rattle.mst_node.specs.Collision.{Collision, HasCollision}
-use Rattle.mst_node.specs.Trail.{framed, framing, nodes_met, proof_text}
+use Rattle.mst_node.specs.Collision.{Collision}
+use Rattle.mst_node.specs.Trail.{framed, framing, nodes_met, met_in_gap, proof_text}
 use Rattle.mst_node.proofs.TreeOrder.{lies_between, between_none}
 use Rattle.mst_node.proofs.UniqueTree.{pairs_tree, tree_mst}
 use Rattle.mst_proof.specs.Verdict.{first_expected}
 use Rattle.mst_proof.proofs.Stepwise.{LeadsFrom, Leads, Accepted}
-use Rattle.mst_proof.specs.Theorem.{HasRoot, claimed, or_none, value_of, texts_of, values_named, texts_named}
+use Rattle.mst_proof.specs.declared.claim.Claim.{Claim}
+use Rattle.mst_proof.specs.Theorem.{HasRoot, or_none, or_nothing, claim_in, or_empty, TextsCollide, ValuesCollide, CollidesWith}
 use Rattle.mst_proof.specs.Beside.{looked, IsSmall}
 use Rattle.mst_proof.proofs.Framed.{AllBytes, claim_of}
 use Rattle.mst_proof.proofs.Agreed.{AllFlat, Spells, frame_accepted, held_one}
-use Rattle.mst_proof.proofs.Sound.{has_first, has_later, has_mapped, sound}
+use Rattle.mst_proof.proofs.Sound.{texts_first, sound}
 use Rattle.mst_proof.proofs.Complete.{complete}
 
 -- the tree of a map that has a root is a small one
@@ -115,85 +113,29 @@ proof_accepted format m d k proof b has is =
 
 -- ---- another answer
 
--- the texts that are named, of a proof of these texts, with these values
-abbrev pub named : List (List ℕ) → List (List ℕ) → Tree → List (List ℕ)
-named vs ts t = ts ++ (map text (nodes t) ++ [] ∷ vs)
+-- at one place of two lists are texts that are a collision
+abbrev CollideSomewhere : List (List ℕ) → List (List ℕ) → Type 0
+CollideSomewhere ts us = (one : List ℕ) × (other : List ℕ) × TextsCollide ts us one other
 
-pub named_text : (vs ts : List (List ℕ)) (t : Tree) (u : List ℕ) → Contains ts u
-    → Contains (named vs ts t) u
-named_text vs ts t u has = Contains-append_left ts (map text (nodes t) ++ [] ∷ vs) u has
-
-pub named_node : (vs ts : List (List ℕ)) (t u : Tree) → Contains (nodes t) u
-    → Contains (named vs ts t) (text u)
-named_node vs ts t u has = Contains-append_right ts (map text (nodes t) ++ [] ∷ vs) (text u)
-    (Contains-append_left (map text (nodes t)) ([] ∷ vs) (text u) (has_mapped text (nodes t) u has))
-
-pub named_empty : (vs ts : List (List ℕ)) (t : Tree) → Contains (named vs ts t) []
-named_empty vs ts t = Contains-append_right ts (map text (nodes t) ++ [] ∷ vs) []
-    (Contains-append_right (map text (nodes t)) ([] ∷ vs) [] (has_first [] vs))
-
-pub named_value : (vs ts : List (List ℕ)) (t : Tree) (v : List ℕ) → Contains vs v
-    → Contains (named vs ts t) v
-named_value vs ts t v has = Contains-append_right ts (map text (nodes t) ++ [] ∷ vs) v
-    (Contains-append_right (map text (nodes t)) ([] ∷ vs) v (has_later [] vs v has))
-
--- the answer is that of the tree, or the texts have a collision
-tree_answer : (format : Format) (vs : List (List ℕ)) (t : Tree) (d k : List ℕ) (ns : List FlatNode)
+-- the answer is that of the tree, or a text and that of the tree at its place are a collision
+tree_answer : (format : Format) (t : Tree) (d k : List ℕ) (ns : List FlatNode)
     (a : Option (List ℕ)) → AllFlat format ns → AllBytes (map spelling ns) → LeadsFrom d k ns a
     → IsSmall format t → d ≡ digest t → (a ≡ looked format (pairs t) k)
-    ⊎ HasCollision (named vs (map spelling ns) t)
-tree_answer format vs empty d k [] a flats b l small root = inl l.1
-tree_answer format vs (node f m es) d k [] a flats b l small root =
-    let t = node f m es in
-    let c : Collision [] (text t) = record { differ = λ e. cc (e); same = sym l.0 ∙ root } in
-    inr ([], text t, named_empty vs [] t, named_node vs [] t t (has_first t (nodes_below es)), c)
-tree_answer format vs empty d k (n ∷ ns) a flats b l small root =
+    ⊎ CollideSomewhere (or_empty (map spelling ns)) (or_empty (map text (nodes_met k t)))
+tree_answer format empty d k [] a flats b l small root = inl l.1
+tree_answer format (node f m es) d k [] a flats b l small root =
+    let w = text (node f m es) in
+    let c : Collision [] w = record { differ = λ e. cc (e); same = sym l.0 ∙ root } in
+    inr ([], w, texts_first [] w [] (map text (met_in_gap k es)) c)
+tree_answer format empty d k (n ∷ ns) a flats b l small root =
     let c : Collision (spelling n) [] = record { differ = λ e. cc (e); same = l.0.digest ∙ root } in
-    inr (
-      spelling n,
-      [],
-      named_text vs (map spelling (n ∷ ns)) empty (spelling n)
-          (has_first (spelling n) (map spelling ns)),
-      named_empty vs (map spelling (n ∷ ns)) empty,
-      c,
-    )
-tree_answer format vs (node f m es) d k (n ∷ ns) a flats b l small root =
+    inr (spelling n, [], texts_first (spelling n) [] (map spelling ns) [] c)
+tree_answer format (node f m es) d k (n ∷ ns) a flats b l small root =
     elim (sound format (n ∷ ns) k (first_expected d) a (node f m es) flats b l small
     (ap Some root)) [
       | inl e ↦ inl e
-      | inr c ↦ inr (
-        c.one,
-        text c.other,
-        named_text vs (map spelling (n ∷ ns)) (node f m es) c.one
-            c.one_in,
-        named_node vs (map spelling (n ∷ ns)) (node f m es) c.other c.other_in,
-        c.collision,
-      )
+      | inr c ↦ inr (c.one, c.other, c.texts)
     ]
-
--- a value of the map
-value_in : (m : List Pair) (k v : List ℕ) → map_get m k ≡ Some v → Contains (map (λ p. p.1) m) v
-value_in [] k v e = absurd (cc)
-value_in (p ∷ m) k v e = go (is_eq (key_cmp p.0 k)) e (value_in m k v)
-  where
-    go : (t : Bool) → cond t (Some p.1) (map_get m k) ≡ Some v
-        → (map_get m k ≡ Some v → Contains (map (λ p. p.1) m) v) → Contains (p.1 ∷ map (λ p. p.1) m)
-        v
-    go true e later = subst (Contains (p.1 ∷ map (λ p. p.1) m)) (some_same p.1 v e)
-        (has_first p.1 (map (λ p. p.1) m))
-    go false e later = has_later p.1 (map (λ p. p.1) m) v (later e)
-
--- the value that is claimed, and the one that the map has, are named
-pub claimed_in : (proof : List ℕ) (t : Tree) (v : List ℕ) → value_of (frame_at Two proof) ≡ v ∷ []
-    → Contains (values_named Two proof t) v
-claimed_in proof t v claims = Contains-append_left (value_of (frame_at Two proof))
-    (map (λ p. p.1) (pairs t)) v
-    (subst (λ (us : List (List ℕ)). Contains us v) (sym claims) (has_first v []))
-
-pub value_among : (proof : List ℕ) (t : Tree) (k w : List ℕ) → map_get (pairs t) k ≡ Some w
-    → Contains (values_named Two proof t) w
-value_among proof t k w is = Contains-append_right (value_of (frame_at Two proof))
-    (map (λ p. p.1) (pairs t)) w (value_in (pairs t) k w is)
 
 -- the values of two answers are a collision
 pub record AnswersCollide (a b : Option (List ℕ)) : Type 0 where
@@ -222,47 +164,46 @@ one_answer (Some v) (Some w) e = at (bytes_eq v w) refl
         } in
         inr (record { one = v; other = w; one_is = refl; other_is = refl; collision = c })
 
--- an answer of which the map's is held is the map's, or the values of both collide
-held_same : (format : Format) (proof : List ℕ) (t : Tree) (ts : List (List ℕ)) (k : List ℕ)
-    (a : Option (List ℕ)) → frame_at format proof ≡ Ok (ts, claim_of format a)
-    → held_answer format a ≡ looked format (pairs t) k → (a ≡ map_get (pairs t) k)
-    ⊎ HasCollision (named (values_named format proof t) ts t)
-held_same One proof t ts k a frame e = inl (held_one a ∙ e ∙ sym (held_one (map_get (pairs t) k)))
-held_same Two proof t ts k a frame e =
-    let vs = values_named Two proof t in
-    elim (one_answer a (map_get (pairs t) k) e) [
-      | inl same ↦ inl same
-      | inr c ↦
-          let claims : value_of (frame_at Two proof) ≡ c.one ∷ [] =
-          ap value_of frame ∙ ap (λ (x : Option (List ℕ)). claimed (claim_of Two x)) c.one_is in
-          inr (
-            c.one,
-            c.other,
-            named_value vs ts t c.one (claimed_in proof t c.one claims),
-            named_value vs ts t c.other (value_among proof t k c.other c.other_is),
-            c.collision,
-          )
-    ]
+-- an answer of which the map's is held is the map's, or the value that is claimed collides with it
+held_same : (format : Format) (claim : Claim) (a b : Option (List ℕ)) → claim ≡ claim_of format a
+    → held_answer format a ≡ held_answer format b → (a ≡ b)
+    ⊎ ((one : List ℕ) × (other : List ℕ) × ValuesCollide claim b one other)
+held_same One claim a b claims e = inl (held_one a ∙ e ∙ sym (held_one b))
+held_same Two claim a b claims e = elim (one_answer a b e) [
+  | inl same ↦ inl same
+  | inr c ↦ inr (
+    c.one,
+    c.other,
+    record {
+      claims = claims ∙ ap (claim_of Two) c.one_is;
+      other_is = c.other_is;
+      collision = c.collision;
+    },
+  )
+]
 
 pub other_answer : (format : Format) (m : List Pair) (d k proof : List ℕ) (a : Option (List ℕ))
     → IsBytes proof → HasRoot format m d → Accepted format d k proof a → a ≢ map_get m k
-    → HasCollision (texts_named format proof (tree format m))
+    → (one : List ℕ) × (other : List ℕ) × CollidesWith format m k proof one other
 other_answer format m d k proof a b has acc other =
     let t = tree format m in
     let ts = map spelling acc.nodes in
-    let vs = values_named format proof t in
     let bytes : IsBytes (framing format ts a) = subst IsBytes acc.frames b in
     let all : AllBytes ts = texts_bytes ts (bytes-split (framed ts) _ bytes.1.1).0 in
-    let framed_so = frame_accepted format d k proof a acc in
-    let frame : texts_of format proof ≡ ts = ap or_none framed_so in
-    let found : HasCollision (named vs ts t) → HasCollision (texts_named format proof t) =
-    λ c. subst (λ (us : List (List ℕ)). HasCollision (named vs us t)) (sym frame) c in
-    elim (tree_answer format vs t d k acc.nodes (held_answer format a) acc.flat all acc.leads
+    let frame = frame_accepted format d k proof a acc in
+    let same : held_answer format (map_get (pairs t) k) ≡ held_answer format (map_get m k) =
+    ap (λ (p : List Pair). held_answer format (map_get p k)) (pairs_tree format m) in
+    elim (tree_answer format t d k acc.nodes (held_answer format a) acc.flat all acc.leads
     (small_tree format m d has) has.root) [
-      | inl e ↦ elim (held_same format proof t ts k a framed_so e) [
-        | inl same ↦ absurd
-            (other (same ∙ ap (λ (p : List Pair). map_get p k) (pairs_tree format m)))
-        | inr c ↦ found c
-      ]
-      | inr c ↦ found c
+      | inl e ↦ elim (held_same format (claim_in format proof) a (map_get m k) (ap or_nothing frame)
+          (e ∙ same)) [
+            | inl is ↦ absurd (other is)
+            | inr c ↦ (c.0, c.1, inr c.2)
+          ]
+      | inr c ↦ (
+        c.0,
+        c.1,
+        inl (subst (λ (us : List (List ℕ)). TextsCollide (or_empty us)
+            (or_empty (map text (nodes_met k t))) c.0 c.1) (sym (ap or_none frame)) c.2),
+      )
     ]

@@ -1,19 +1,20 @@
 -- What a walk along the texts and the nodes of a tree finds, text by text.
-use Rattle.std.proofs.Common.{◌≡◌, ◌≢◌, ℕ, ◌≤◌, Bool, true, false, List, [], ◌∷◌, length, Option, Some, None, inl, inr, refl, sym, ◌∙◌, ap, subst, arith}
+use Rattle.std.proofs.Common.{◌≡◌, ◌≢◌, ℕ, ◌≤◌, Bool, true, false, List, [], ◌∷◌, ◌++◌, length, map, Option, Some, None, inl, inr, refl, sym, ◌∙◌, ap, subst, arith}
 use Rattle.std.specs.Prelude.{not, IfOk, IfSome, IfNone}
-use Rattle.std.specs.List.{Contains}
 use Rattle.std.specs.Str.{bytes_eq}
 use Rattle.std.specs.declared.result.Result.{Result}
 use Rattle.std.specs.declared.result.Result.TheVariants.{Ok, Err}
 use Rattle.std.proofs.lemmas.Bool.Decides.{not_from_Decides}
 use Rattle.std.proofs.lemmas.Slice.Eq.{bytes_eq-Decides}
 use Rattle.mst_key.specs.declared.format.Format.{Format}
-use Rattle.mst_key.specs.declared.format.Format.TheVariants.{One, Two}
 use Rattle.mst_key.specs.Bytes.{IsBytes}
-use Rattle.mst_key.specs.Map.{Pair as KeyValue, IsMap, map_get}
+use Rattle.std.specs.declared.cmp.Ordering.{Ordering}
+use Rattle.std.specs.declared.cmp.Ordering.TheVariants.{Less, Equal, Greater}
+use Rattle.mst_key.specs.Map.{Pair as KeyValue, IsMap, key_cmp, map_get}
 use Rattle.mst_key.proofs.MapLaws.{IsMap-nil}
 use Rattle.mst_node.specs.declared.node.Node.{Node}
-use Rattle.mst_node.specs.Tree.{Tree, empty, node, pairs, nodes, nodes_below, tree, IsMst}
+use Rattle.mst_node.specs.Tree.{Tree, empty, node, Entries, last, entry, pairs, tree, IsMst}
+use Rattle.mst_node.specs.Trail.{by_order, nodes_met, met_in_gap}
 use Rattle.mst_node.specs.Shape.{tree_of}
 use Rattle.mst_node.specs.Text.{digest_of, text, digest}
 use Rattle.mst_node.specs.Collision.{Collision}
@@ -26,13 +27,12 @@ use Rattle.mst_proof.specs.declared.claim.Claim.{Claim}
 use Rattle.mst_proof.specs.Accepted.{held_answer}
 use Rattle.mst_proof.specs.Frame.{◌>>◌, frame_at}
 use Rattle.mst_proof.specs.Verdict.{first_expected, judgement, settled, unless}
-use Rattle.mst_proof.specs.Theorem.{claimed, or_none, value_of, texts_of, values_named, texts_named}
-use Rattle.mst_proof.specs.Beside.{gap_in, gap_tree, held_value, IsSmall, NoOther, ShowsNoOther, ValuesCollide, CollidesBeside, CollidesAmong}
+use Rattle.mst_proof.specs.Theorem.{or_none, or_nothing, or_empty, texts_of, TextsCollide, ValuesCollide, CollidesWith}
+use Rattle.mst_proof.specs.Beside.{gap_in, gap_tree, held_value, IsSmall, NoOther, ShowsNoOther, CollidesBeside}
 use Rattle.mst_proof.proofs.Agreed.{settled_done}
-use Rattle.mst_proof.proofs.Framed.{ok_same, bind_done, nothing_claimed}
+use Rattle.mst_proof.proofs.Framed.{ok_same, bind_done}
 use Rattle.mst_proof.proofs.Falls.{falls}
-use Rattle.mst_proof.proofs.Sound.{has_first, has_later, small_child}
-use Rattle.mst_proof.proofs.Truth.{named_text, named_node, named_empty, named_value, claimed_in, value_among}
+use Rattle.mst_proof.proofs.Sound.{small_child, texts_first, texts_later}
 use Rattle.mst_proof.proofs.NoOther.{IsFree, no_other_digest, no_other_empty, no_other_same}
 
 -- ---- two texts compared
@@ -75,27 +75,39 @@ small_gap format k (node f l es) small =
       | inr g ↦ subst (IsSmall format) (sym g.gap) (small_child format k None None l es small g)
     ]
 
--- the nodes below the gap are nodes of the tree
-pub gap_nodes : (format : Format) (k : List ℕ) (t : Tree) → IsSmall format t → (u : Tree)
-    → Contains (nodes (gap_tree k t)) u → Contains (nodes t) u
-gap_nodes format k empty small u has = has
-gap_nodes format k (node f l es) small u has =
-    let P : Format → Type 0 = λ g. IsSmall format (node g l es) → Contains (nodes (node g l es)) u
-    in
-    subst P (sym small.mst.0) at small
+-- what a search meets below a node is what it meets from the gap's child
+met_gap : (k : List ℕ) (es : Entries) → met_in_gap k es ≡ nodes_met k (gap_in k es)
+met_gap k (last child) = refl
+met_gap k (entry child key value rest) = go (key_cmp k key) (met_gap k rest)
   where
-    at : IsSmall format (node format l es) → Contains (nodes (node format l es)) u
-    at small = elim (falls format k None None l es small.mst.2 small.map) [
-      | inl h ↦ absurd (omega (arith, (subst (λ (c : Tree). Contains (nodes c) u) h.gap has).1))
-      | inr g ↦ has_later (node format l es) (nodes_below es) u
-          (g.among u (subst (λ (c : Tree). Contains (nodes c) u) g.gap has))
-    ]
+    go : (o : Ordering) → met_in_gap k rest ≡ nodes_met k (gap_in k rest)
+        → by_order o (nodes_met k child) [] (met_in_gap k rest) ≡ nodes_met k
+        (by_order o child empty (gap_in k rest))
+    go Less e = refl
+    go Equal e = refl
+    go Greater e = e
 
--- a node of the program is the first of its tree's nodes
-pub has_itself : (format : Format) (A : Type 0) (n : Node A) → Contains (nodes (tree_of format n))
-    (tree_of format n)
-has_itself format A n = subst (λ (t : Tree). Contains (nodes t) t) (sym (tree_of_out A format n))
-    (has_first _ _)
+-- the texts on the way from a node are its own and those from the gap's child
+met_first : (k : List ℕ) (t : Tree) → t ≢ empty → map text (nodes_met k t) ≡ text t ∷ map text
+    (nodes_met k (gap_tree k t))
+met_first k empty some = absurd (some refl)
+met_first k (node f l es) some =
+    ap (λ (ns : List Tree). text (node f l es) ∷ map text ns) (met_gap k es)
+
+-- the same pair of the same texts
+same_pair : (ts vs us ws : List (List ℕ)) (one first other second : List ℕ) → vs ≡ ts → ws ≡ us
+    → first ≡ one → second ≡ other → TextsCollide ts us one other
+    → TextsCollide vs ws first second
+same_pair ts vs us ws one first other second a b e f c =
+    record {
+      before = c.before;
+      after_one = c.after_one;
+      after_other = c.after_other;
+      one_at = a ∙ c.one_at ∙ ap (λ (x : List ℕ). c.before ++ x ∷ c.after_one) (sym e);
+      other_at = b ∙ c.other_at ∙ ap (λ (x : List ℕ). c.before ++ x ∷ c.after_other) (sym f);
+      collision = subst (λ (x : List ℕ). Collision x second) (sym e)
+          (subst (Collision one) (sym f) c.collision);
+    }
 
 -- the map below the gap's child says of the key what the tree's map says
 gap_looks : (format : Format) (k : List ℕ) (t : Tree) → IsSmall format t → gap_tree k t ≢ empty
@@ -146,25 +158,20 @@ module _ (format : Format) (claim : Claim) {A E : Type 0} (r : Result (Option (P
       go (Err e) h = tt
 
   -- the text is not the node's, and the pair of both was found
-  pub some_here : (w : List ℕ) → w ≡ text t → Contains (nodes t) t
+  pub some_here : (w : List ℕ) → w ≡ text t → t ≢ empty
       → IfOk r (λ pair. IfSome pair (λ p. (p.one.items ≡ u) × (p.other.items ≡ w) × Collision u w))
       → FindsOne r
-  some_here w expected itself h = go r h
+  some_here w expected some h = go r h
     where
       go : (q : Result (Option (Pair A)) E)
           → IfOk q (λ pair. IfSome pair
           (λ p. (p.one.items ≡ u) × (p.other.items ≡ w) × Collision u w)) → FindsOne q
       go (Ok None) h = tt
       go (Ok (Some p)) h =
-          inl (record {
-            at = t;
-            one_in = subst (λ (us : List (List ℕ)). Contains us p.one.items) (sym is)
-                (subst (Contains (u ∷ ts)) (sym h.0) (has_first u ts));
-            at_in = itself;
-            other_is = h.1 ∙ expected;
-            collision = subst (λ (x : List ℕ). Collision x p.other.items) (sym h.0)
-                (subst (Collision u) (sym h.1) h.2);
-          })
+          let rest = map text (nodes_met k (gap_tree k t)) in
+          inl (same_pair (u ∷ ts) all (text t ∷ rest) (map text (nodes_met k t)) u p.one.items
+          (text t) p.other.items is (met_first k t some) h.0 (h.1 ∙ expected)
+          (texts_first u (text t) ts rest (subst (Collision u) expected h.2)))
       go (Err e) h = tt
 
   -- the text is the node's, and no pair was found below
@@ -183,10 +190,11 @@ module _ (format : Format) (claim : Claim) {A E : Type 0} (r : Result (Option (P
       go (Err e) h = tt
 
   -- the text is the node's, and a pair was found below
-  pub some_below : (c : Tree) → c ≢ empty → IsSmall format t → c ≡ gap_tree k t
+  pub some_below : (c : Tree) → c ≢ empty → t ≢ empty → IsSmall format t → u ≡ text t
+      → c ≡ gap_tree k t
       → IfOk r (λ pair. IfSome pair (λ p. CollidesBeside claim k ts c p.one.items p.other.items))
       → FindsOne r
-  some_below c some small gap h = go r h
+  some_below c some whole small same gap h = go r h
     where
       looks : map_get (pairs c) k ≡ map_get (pairs t) k
       looks = ap (λ (x : Tree). map_get (pairs x) k) gap
@@ -195,16 +203,13 @@ module _ (format : Format) (claim : Claim) {A E : Type 0} (r : Result (Option (P
       above : (p : Pair A) → CollidesBeside claim k ts c p.one.items p.other.items
           → CollidesBeside claim k all t p.one.items p.other.items
       above p (inl h) =
-          inl (record {
-            at = h.at;
-            one_in = subst (λ (us : List (List ℕ)). Contains us p.one.items) (sym is)
-                (has_later u ts p.one.items h.one_in);
-            at_in =
-                gap_nodes format k t small h.at
-                (subst (λ (x : Tree). Contains (nodes x) h.at) gap h.at_in);
-            other_is = h.other_is;
-            collision = h.collision;
-          })
+          let rest = map text (nodes_met k c) in
+          let met : map text (nodes_met k t) ≡ text t ∷ rest =
+          met_first k t whole
+          ∙ ap (λ (x : Tree). text t ∷ map text (nodes_met k x)) (sym gap) in
+          inl (same_pair (u ∷ ts) all (text t ∷ rest) (map text (nodes_met k t)) p.one.items
+          p.one.items p.other.items p.other.items is met refl refl
+          (texts_later u (text t) ts rest p.one.items p.other.items same h))
       above p (inr v) =
           inr (record {
             claims = v.claims;
@@ -317,52 +322,36 @@ empty_none format claim k [] ts b none = no_other_empty format claim k ts empty
 empty_none format claim k (x ∷ u) ts b none = no_other_digest format claim k (x ∷ u) ts empty b
     (other_digest (x ∷ u) [] (λ z. cc (z)) none)
 
--- ---- which texts are named
+-- ---- the collision beside the map
 
-module _ (format : Format) (proof : List ℕ) (t : Tree) where
-  abbrev Names : List ℕ → Type 0
-  Names u = Contains (texts_named format proof t) u
+-- texts of which there is one
+pub whole_texts : (ts : List (List ℕ)) → (length ts ≡ 0 → ⊥) → or_empty ts ≡ ts
+whole_texts [] some = absurd (some refl)
+whole_texts (t ∷ ts) some = refl
 
-  named_here : (all : List (List ℕ)) (claim : Claim) (u : List ℕ) → ok_texts all claim ≡ frame_at
-      format proof → Contains all u → Names u
-  named_here all claim u frame has = named_text (values_named format proof t)
-      (texts_of format proof) t u
-      (subst (λ (us : List (List ℕ)). Contains us u) (ap or_none frame) has)
+module _ (format : Format) (m : List KeyValue) (k proof : List ℕ) (all : List (List ℕ)) (t : Tree)
+    {claim : Claim} (frame : ok_texts all claim ≡ frame_at format proof) (is : t ≡ tree format m)
+  where
+    -- a pair of the proof's texts and those on the tree's way to the key
+    texts_beside : (one other : List ℕ)
+        → TextsCollide (or_empty all) (or_empty (map text (nodes_met k t))) one other
+        → CollidesWith format m k proof one other
+    texts_beside one other c =
+        inl (same_pair (or_empty all) (or_empty (texts_of format proof))
+        (or_empty (map text (nodes_met k t))) (or_empty (map text (nodes_met k (tree format m)))) one
+        one other other (ap or_empty (sym (ap or_none frame)))
+        (ap (λ (x : Tree). or_empty (map text (nodes_met k x))) (sym is)) refl refl c)
 
-  names_node : (u : Tree) → Contains (nodes t) u → Names (text u)
-  names_node u has = named_node (values_named format proof t) (texts_of format proof) t u has
-
-  names_empty : Names []
-  names_empty = named_empty (values_named format proof t) (texts_of format proof) t
-
-  -- the pair of two named texts
-  found_pair : {A : Type 0} (p : Pair A) (u w : List ℕ) → Names u → Names w → p.one.items ≡ u
-      → p.other.items ≡ w → Collision u w → CollidesAmong (texts_named format proof t) p.one.items
-      p.other.items
-  found_pair p u w one other e f c =
-      record {
-        one_in = subst Names (sym e) one;
-        other_in = subst Names (sym f) other;
-        collision = subst (λ (x : List ℕ). Collision x p.other.items) (sym e)
-            (subst (Collision u) (sym f) c);
-      }
-
--- the values of a pair are named; in format 1 none is claimed
-values_pair : (format : Format) (proof k : List ℕ) (t : Tree) (all : List (List ℕ)) (claim : Claim)
-    (one other : List ℕ) → ok_texts all claim ≡ frame_at format proof → ValuesCollide claim
-    (map_get (pairs t) k) one other → CollidesAmong (texts_named format proof t) one other
-values_pair One proof k t all claim one other frame v =
-    absurd (cc (nothing_claimed proof (all, claim) (sym frame) ∙ v.claims))
-values_pair Two proof k t all claim one other frame v =
-    let claims : value_of (frame_at Two proof) ≡ one ∷ [] =
-    ap value_of (sym frame) ∙ ap claimed v.claims in
-    record {
-      one_in = named_value (values_named Two proof t) (texts_of Two proof) t one
-          (claimed_in proof t one claims);
-      other_in = named_value (values_named Two proof t) (texts_of Two proof) t other
-          (value_among proof t k other v.other_is);
-      collision = v.collision;
-    }
+    -- the pair of the claimed value and the tree's
+    values_beside : (one other : List ℕ) → ValuesCollide claim (map_get (pairs t) k) one other
+        → CollidesWith format m k proof one other
+    values_beside one other v =
+        let same : pairs t ≡ m = ap pairs is ∙ pairs_tree format m in
+        inr (record {
+          claims = sym (ap or_nothing frame) ∙ v.claims;
+          other_is = sym (ap (λ (p : List KeyValue). map_get p k) same) ∙ v.other_is;
+          collision = v.collision;
+        })
 
 -- ---- what is found
 
@@ -379,10 +368,10 @@ module _ (format : Format) {A E : Type 0} (r : Result (Option (Pair A)) E) (k pr
   abbrev Shows : Result (Option (Pair A)) E → Type 0
   Shows q = IfOk q (λ pair. IfNone pair (ShowsNoOther format t k proof))
 
-  abbrev Finds : Result (Option (Pair A)) E → Type 0
-  Finds q =
+  abbrev Finds : List KeyValue → Result (Option (Pair A)) E → Type 0
+  Finds m q =
       IfOk q (λ pair. IfSome pair
-      (λ p. CollidesAmong (texts_named format proof t) p.one.items p.other.items))
+      (λ p. CollidesWith format m k proof p.one.items p.other.items))
 
   -- the map is empty, and there is a text
   pub none_of_empty : (ts : List (List ℕ)) → t ≡ empty → all ≡ u ∷ ts → IsBytes u → w ≡ []
@@ -401,17 +390,18 @@ module _ (format : Format) {A E : Type 0} (r : Result (Option (Pair A)) E) (k pr
       go (Ok (Some p)) h = tt
       go (Err e) h = tt
 
-  pub some_of_empty : (ts : List (List ℕ)) → all ≡ u ∷ ts → w ≡ [] → Found r → Finds r
-  some_of_empty ts first none h = go r h
+  pub some_of_empty : (ts : List (List ℕ)) → t ≡ empty → all ≡ u ∷ ts → w ≡ [] → Found r
+      → (m : List KeyValue) → t ≡ tree format m → Finds m r
+  some_of_empty ts is first none h m of = go r h
     where
-      go : (q : Result (Option (Pair A)) E) → Found q → Finds q
+      go : (q : Result (Option (Pair A)) E) → Found q → Finds m q
       go (Ok None) h = tt
       go (Ok (Some p)) h =
-          let one : Contains all u = subst (λ (us : List (List ℕ)). Contains us u) (sym first)
-          (has_first u ts) in
-          found_pair format proof t p u w (named_here format proof t all claim u frame one)
-          (subst (Contains (texts_named format proof t)) (sym none)
-          (names_empty format proof t)) h.0 h.1 h.2
+          texts_beside format m k proof all t frame of p.one.items p.other.items
+          (same_pair (u ∷ ts) (or_empty all) ([] ∷ []) (or_empty (map text (nodes_met k t))) u
+          p.one.items [] p.other.items (ap or_empty first)
+          (ap (λ (x : Tree). or_empty (map text (nodes_met k x))) is) h.0 (h.1 ∙ none)
+          (texts_first u [] ts [] (subst (Collision u) none h.2)))
       go (Err e) h = tt
 
   -- the map is not empty, and there is no text
@@ -432,16 +422,25 @@ module _ (format : Format) {A E : Type 0} (r : Result (Option (Pair A)) E) (k pr
       go (Ok (Some p)) h = tt
       go (Err e) h = tt
 
-  pub some_of_no_text : u ≡ [] → w ≡ text t → Contains (nodes t) t → Found r → Finds r
-  some_of_no_text nothing expected itself h = go r h
+  pub some_of_no_text : length all ≡ 0 → u ≡ [] → w ≡ text t → t ≢ empty → Found r
+      → (m : List KeyValue) → t ≡ tree format m → Finds m r
+  some_of_no_text zero_is nothing expected some h m of = go r h
     where
-      go : (q : Result (Option (Pair A)) E) → Found q → Finds q
+      no_texts : (us : List (List ℕ)) → length us ≡ 0 → or_empty us ≡ [] ∷ []
+      no_texts [] e = refl
+      no_texts (x ∷ us) e = absurd (omega (arith, e))
+
+      go : (q : Result (Option (Pair A)) E) → Found q → Finds m q
       go (Ok None) h = tt
       go (Ok (Some p)) h =
-          found_pair format proof t p u w
-          (subst (Contains (texts_named format proof t)) (sym nothing) (names_empty format proof t))
-          (subst (Contains (texts_named format proof t)) (sym expected)
-          (names_node format proof t t itself)) h.0 h.1 h.2
+          let rest = map text (nodes_met k (gap_tree k t)) in
+          texts_beside format m k proof all t frame of p.one.items p.other.items
+          (same_pair ([] ∷ []) (or_empty all) (text t ∷ rest) (or_empty (map text (nodes_met k t)))
+          [] p.one.items (text t) p.other.items (no_texts all zero_is)
+          (ap or_empty (met_first k t some)) (h.0 ∙ nothing) (h.1 ∙ expected)
+          (texts_first [] (text t) [] rest
+          (subst (λ (x : List ℕ). Collision x (text t)) nothing
+          (subst (Collision u) expected h.2))))
       go (Err e) h = tt
 
 module _ (format : Format) (k proof : List ℕ) (all : List (List ℕ)) (t : Tree) {claim : Claim}
@@ -470,31 +469,32 @@ module _ (format : Format) {A E : Type 0} (r : Result (Option (Pair A)) E) (k pr
       go (Ok (Some p)) h = tt
       go (Err e) h = tt
 
-  pub some_of_walk : IfOk r
+  pub some_of_walk : (length all ≡ 0 → ⊥) → n ≢ empty → IfOk r
       (λ pair. IfSome pair (λ p. CollidesBeside claim k all n p.one.items p.other.items))
-      → IfOk r (λ pair. IfSome pair
-      (λ p. CollidesAmong (texts_named format proof t) p.one.items p.other.items))
-  some_of_walk h = go r h
+      → (m : List KeyValue) → t ≡ tree format m → IfOk r
+      (λ pair. IfSome pair (λ p. CollidesWith format m k proof p.one.items p.other.items))
+  some_of_walk some whole h m of = go r h
     where
-      named : (p : Pair A) → CollidesBeside claim k all n p.one.items p.other.items
-          → CollidesAmong (texts_named format proof t) p.one.items p.other.items
-      named p (inl h) =
-          record {
-            one_in = named_here format proof t all claim p.one.items frame h.one_in;
-            other_in = subst (Contains (texts_named format proof t)) (sym h.other_is)
-                (names_node format proof t h.at
-                (subst (λ (x : Tree). Contains (nodes x) h.at) (sym is) h.at_in));
-            collision = h.collision;
-          }
-      named p (inr v) = values_pair format proof k t all claim p.one.items p.other.items frame
-          (subst (λ (x : Tree). ValuesCollide claim (map_get (pairs x) k) p.one.items p.other.items)
-          (sym is) v)
+      below : n ≡ tree format m
+      below = sym is ∙ of
+
+      beside : (p : Pair A) → CollidesBeside claim k all n p.one.items p.other.items
+          → CollidesWith format m k proof p.one.items p.other.items
+      beside p (inl c) =
+          let rest = map text (nodes_met k (gap_tree k n)) in
+          let met = met_first k n whole in
+          texts_beside format m k proof all n frame below p.one.items p.other.items
+          (same_pair all (or_empty all) (map text (nodes_met k n))
+          (or_empty (map text (nodes_met k n))) p.one.items p.one.items p.other.items p.other.items
+          (whole_texts all some) (ap or_empty met ∙ sym met) refl refl c)
+      beside p (inr v) =
+          values_beside format m k proof all n frame below p.one.items p.other.items v
 
       go : (q : Result (Option (Pair A)) E)
           → IfOk q (λ pair. IfSome pair
           (λ p. CollidesBeside claim k all n p.one.items p.other.items))
           → IfOk q (λ pair. IfSome pair
-          (λ p. CollidesAmong (texts_named format proof t) p.one.items p.other.items))
+          (λ p. CollidesWith format m k proof p.one.items p.other.items))
       go (Ok None) h = tt
-      go (Ok (Some p)) h = named p h
+      go (Ok (Some p)) h = beside p h
       go (Err e) h = tt

@@ -1,20 +1,22 @@
 -- A proof beside the tree of the map.
 use Rattle.mst_key.specs.declared.format.Format.{Format}
-use Rattle.std.specs.Prelude.{◌≡◌, ◌≤◌, ◌⊎◌, ℕ, List, Option, Some, None, length, Contains}
+use Rattle.std.specs.Prelude.{◌≡◌, ◌≤◌, ◌⊎◌, ℕ, List, [], ◌∷◌, ◌++◌, Option, Some, None, length, map, Contains}
+use Rattle.mst_key.specs.declared.format.Format.TheVariants.{One, Two}
 use Rattle.std.specs.declared.result.Result.TheVariants.{Ok}
 use Rattle.mst_key.specs.Map.{key_cmp, IsMap, map_get}
 use Rattle.mst_node.specs.declared.node.Node.{Node}
 use Rattle.mst_node.specs.Tree.{Tree, empty, node, Entries, last, entry, pairs, nodes, IsMst}
 use Rattle.mst_node.specs.Shape.{tree_of}
 use Rattle.mst_node.specs.Text.{digest, text}
-use Rattle.mst_node.specs.Trail.{by_order}
+use Rattle.mst_node.specs.Trail.{by_order, nodes_met}
 use Rattle.mst_node.specs.Collision.{Collision}
 use Rattle.mst_proof.specs.declared.expected.Expected.{Expected}
 use Rattle.mst_key.specs.Map.{Pair}
 use Rattle.mst_proof.specs.Accepted.{held_answer}
 use Rattle.mst_proof.specs.declared.claim.Claim.{Claim}
-use Rattle.mst_proof.specs.declared.claim.Claim.TheVariants.{Given}
+use Rattle.mst_proof.specs.declared.claim.Claim.TheVariants.{Nothing, Absence, Given, Unfit}
 use Rattle.mst_proof.specs.Frame.{◌>>◌}
+use Rattle.mst_proof.specs.Theorem.{claim_in, texts_of, TextsCollide, ValuesCollide}
 use Rattle.mst_proof.specs.Verdict.{followed, settled, verdict}
 
 -- the tree of an optional node
@@ -61,25 +63,31 @@ abbrev pub NoOther : (format : Format) → Claim → Tree → List ℕ → List 
 NoOther format claim t k ts = (x : Expected) (answer : Option (List ℕ)) → x.digest ≡ digest t
     → (followed format k x ts >> settled format claim) ≡ Ok answer → answer ≡ map_get (pairs t) k
 
--- two of the texts are a collision: one of these texts, and that of a node of the tree
-pub record CollidesWith (ts : List (List ℕ)) (t : Tree) (one other : List ℕ) : Type 0 where
-  pub at : Tree
-  pub one_in : Contains ts one
-  pub at_in : Contains (nodes t) at
-  pub other_is : other ≡ text at
-  pub collision : Collision one other
-
--- the value that is claimed and this one, if there is one, are a collision
-pub record ValuesCollide (claim : Claim) (value : Option (List ℕ)) (one other : List ℕ)
-    : Type 0 where
-  pub claims : claim ≡ Given one
-  pub other_is : value ≡ Some other
-  pub collision : Collision one other
-
--- two of the texts are a collision, or the value that is claimed and the tree's value of the key
+-- a text and the text at its place on the tree's way to the key are a collision, or the value that
+-- is claimed and the tree's value of the key
 abbrev pub CollidesBeside : Claim → List ℕ → List (List ℕ) → Tree → List ℕ → List ℕ → Type 0
 CollidesBeside claim k ts t one other =
-    CollidesWith ts t one other ⊎ ValuesCollide claim (map_get (pairs t) k) one other
+    TextsCollide ts (map text (nodes_met k t)) one other
+    ⊎ ValuesCollide claim (map_get (pairs t) k) one other
+
+-- ---- all texts that such a pair may be of
+
+-- the value of a claim
+abbrev pub claimed : Claim → List (List ℕ)
+claimed Nothing = []
+claimed Absence = []
+claimed (Given value) = value ∷ []
+claimed Unfit = []
+
+-- in format 2 the value that the proof claims, and those of the tree's pairs
+abbrev pub values_named : Format → List ℕ → Tree → List (List ℕ)
+values_named One proof t = []
+values_named Two proof t = claimed (claim_in Two proof) ++ map (λ p. p.1) (pairs t)
+
+-- the texts of a proof, those of a tree's nodes, the empty text, and in format 2 the values
+abbrev pub texts_named : Format → List ℕ → Tree → List (List ℕ)
+texts_named format proof t =
+    texts_of format proof ++ (map text (nodes t) ++ [] ∷ values_named format proof t)
 
 -- two of the texts that are named are a collision
 pub record CollidesAmong (ts : List (List ℕ)) (one other : List ℕ) : Type 0 where

@@ -7,9 +7,9 @@ ghost use Rattle.mst_key.specs.Map.{Pair as KeyValue, IsMap};
 ghost use Rattle.mst_node.specs.Collision.{Collision};
 ghost use Rattle.mst_node.specs.Shape.{tree_of, tree_of_child};
 ghost use Rattle.mst_node.specs.Tree.{tree as tree_of_map};
-ghost use Rattle.mst_proof.specs.Beside.{top_of, gap_tree, held_value, IsSmall, NoOther, ShowsNoOther, ValuesCollide, CollidesBeside, CollidesAmong};
+ghost use Rattle.mst_proof.specs.Beside.{top_of, gap_tree, held_value, IsSmall, NoOther, ShowsNoOther, CollidesBeside};
 ghost use Rattle.mst_proof.specs.Frame.{frame_at};
-ghost use Rattle.mst_proof.specs.Theorem.{texts_named, texts_of};
+ghost use Rattle.mst_proof.specs.Theorem.{texts_of, ValuesCollide, CollidesWith};
 
 use crate::claim::Claim;
 use crate::texts::Texts;
@@ -145,9 +145,10 @@ fn walk<A: Allocator + Copy>(
     }
 }
 
-/// The collision behind a false answer: two different texts with one SHA-256 (FIPS 180-4), each of
-/// them a text of the proof, the text of a node of the tree, or the empty text. The tree is that of
-/// a map of at most 65,535 pairs.
+/// The collision behind a false answer: two different texts with one SHA-256 (FIPS 180-4). `one` is
+/// a text of the proof, and `other` the text of the tree's node at the same place on the way to the
+/// key; up to there both have the same texts. For a proof without texts `one` is empty, without a
+/// tree `other` is. The tree is that of a map of at most 65,535 pairs.
 ///
 /// If `verify` returns another answer than the map's for the key and the map's root digest, there
 /// is such a pair, and it is found: `collide` returns `None` only if the proof shows no other
@@ -165,11 +166,10 @@ pub fn collide<A: Allocator + Copy>(
     ensures none { IfOk result
         (λ pair. IfNone pair
         (ShowsNoOther One (top_of One (option_copied tree.entry)) key.now proof.now)) }
-    ensures some { IfOk result
-        (λ pair. IfSome pair
-        (λ p. CollidesAmong
-        (texts_named One proof.now (top_of One (option_copied tree.entry))) p.one.items
-        p.other.items)) }
+    ensures some { (m : List KeyValue)
+        → top_of One (option_copied tree.entry) ≡ tree_of_map One m
+        → IfOk result (λ pair. IfSome pair
+        (λ p. CollidesWith One m key.now proof.now p.one.items p.other.items)) }
     ensures memory { OnErr result (IsOk (frame_at One proof.now)) }
     // without a tree only the pair itself takes memory
     ensures memory_of_pair { OnErr result (tree.entry ≡ None → (text : List ℕ)
@@ -183,7 +183,8 @@ pub fn collide<A: Allocator + Copy>(
 ///
 /// In format 2 a node's text holds the SHA-256 of a value. So if each text of the proof is its
 /// node's text, the value that the proof claims may be another one with the same SHA-256: it is
-/// compared with the map's value of the key, and the pair may be these two values.
+/// compared with the map's value of the key, and the pair may be these two values, the claimed one
+/// first.
 pub fn collide_in<A: Allocator + Copy>(
     alloc: A,
     format: Format,
@@ -195,9 +196,10 @@ pub fn collide_in<A: Allocator + Copy>(
         × (top_of format (option_copied tree) ≡ tree_of_map format m) }
     ensures none { IfOk result (λ pair. IfNone pair
         (ShowsNoOther format (top_of format (option_copied tree.entry)) key.now proof.now)) }
-    ensures some { IfOk result (λ pair. IfSome pair (λ p. CollidesAmong
-        (texts_named format proof.now (top_of format (option_copied tree.entry)))
-        p.one.items p.other.items)) }
+    ensures some { (m : List KeyValue)
+        → top_of format (option_copied tree.entry) ≡ tree_of_map format m
+        → IfOk result (λ pair. IfSome pair
+        (λ p. CollidesWith format m key.now proof.now p.one.items p.other.items)) }
     ensures memory { OnErr result (IsOk (frame_at format proof.now)) }
     // without a tree only the pair itself takes memory
     ensures memory_of_pair { OnErr result (tree.entry ≡ None → (text : List ℕ)

@@ -10,10 +10,11 @@ ghost use Rattle.mst_node.specs.Grammar.{InGrammar};
 ghost use Rattle.mst_node.specs.Text.{FlatNode, digest_of, root as root_of};
 ghost use Rattle.mst_node.specs.Trail.{trail};
 ghost use Rattle.mst_node.specs.Tree.{tree};
-ghost use Rattle.mst_proof.specs.Beside.{CollidesAmong};
+ghost use Rattle.mst_proof.specs.Beside.{texts_named, CollidesAmong};
 ghost use Rattle.mst_proof.specs.Faults.{Spells, FailsBy, ProofFails};
 ghost use Rattle.mst_proof.specs.Spans.{nodes_around};
-ghost use Rattle.mst_proof.specs.Theorem.{HasRoot};
+ghost use Rattle.mst_proof.specs.Theorem.{HasRoot, claim_in, CollidesWith};
+ghost use Rattle.mst_proof.specs.declared.claim.Claim.TheVariants.{Given};
 ghost use Rattle.mst_proof.specs.Verdict.{node_in, step_at, verdict};
 ghost use Rattle.mst_proof.specs.declared.expected.Expected.{Expected};
 ghost use Rattle.mst_proof.specs.declared.fault.ProofFault.{ProofFault};
@@ -42,12 +43,20 @@ pub fn each_map_has_its_root()
         → d ≡ root_of format m }
 {}
 
-/// Two texts collide among others exactly if both are of them, differ, and have one SHA-256. Then
-/// those others have a collision.
+/// The pair behind a false answer: two different texts with one SHA-256. Each of them is a text of
+/// the proof, the text of a node of the map's tree, or the empty text; or in format 2 one is the
+/// value that the proof claims, and the other a value of the map.
 pub fn collisions_among()
+    ensures named { (format : Format) (m : List Pair) (k proof one other : List ℕ)
+        → CollidesWith format m k proof one other
+        → CollidesAmong (texts_named format proof (tree format m)) one other }
+    // in format 1 no value is claimed
+    ensures no_value { (proof one : List ℕ) → claim_in One proof ≢ Given one }
+    // two texts collide among others exactly if both are of them, differ, and have one SHA-256
     ensures two { (texts : List (List ℕ)) (one other : List ℕ) → CollidesAmong texts one other
         ↔ (Contains texts one × Contains texts other × (one ≢ other)
         × (digest_of one ≡ digest_of other)) }
+    // then those others have a collision
     ensures has { (texts : List (List ℕ)) (one other : List ℕ) → CollidesAmong texts one other
         → HasCollision texts }
 {}

@@ -2,10 +2,8 @@
 ghost use Rattle.std.specs.Prelude.{◌≡◌, ◌≢◌, ◌↔◌, List, ℕ, Option};
 ghost use Rattle.mst_key.specs.declared.format.Format.TheVariants.{One};
 ghost use Rattle.mst_key.specs.Map.{Pair, map_get};
-ghost use Rattle.mst_node.specs.Collision.{HasCollision};
 ghost use Rattle.mst_node.specs.Trail.{proof_text};
-ghost use Rattle.mst_node.specs.Tree.{tree};
-ghost use Rattle.mst_proof.specs.Theorem.{HasRoot, texts_named};
+ghost use Rattle.mst_proof.specs.Theorem.{HasRoot, CollidesWith};
 ghost use Rattle.std.specs.declared.result.Result.TheVariants.{Ok};
 ghost use Rattle.mst_proof.specs.Accepted.{Accepted};
 ghost use Rattle.mst_proof.specs.Verdict.{verdict, judgement, settled, opened};
@@ -114,11 +112,12 @@ pub fn verify(root: &[u8; 32], key: &Key, proof: &[u8]) -> Result<Option<Value>,
     ensures complete { (m : List Pair) → HasRoot One m root.now → proof.now ≡ proof_text One m
         key.now
         → result ≡ Ok (map_get m key.now) }
-    // If a proof shows another answer for a map's root, two different texts have one SHA-256: two
-    // of those of the proof, those of the nodes of the map's tree, and the empty text.
+    // If a proof shows another answer for a map's root, two different texts have one SHA-256: a
+    // text of the proof, and the text of the map's node at the same place on the way to the key.
+    // Without texts, or without a node, the empty text stands there.
     ensures sound { (m : List Pair) (answer : Option (List ℕ)) → HasRoot One m root.now
         → result ≡ Ok answer → answer ≢ map_get m key.now
-        → HasCollision (texts_named One proof.now (tree One m)) }
+        → (one : List ℕ) × (other : List ℕ) × CollidesWith One m key.now proof.now one other }
 {
     verify_in(Format::One, root, key, proof)
 }
@@ -128,7 +127,8 @@ pub fn verify(root: &[u8; 32], key: &Key, proof: &[u8]) -> Result<Option<Value>,
 ///
 /// In format 2 a proof begins with the version 02, and a tail follows its texts: 00 for an absent
 /// key, or 01, the length of the value in one byte, and the value. The last text holds the SHA-256
-/// of the value, and the value is hashed once.
+/// of the value, and the value is hashed once. So the pair behind a false answer may also be the
+/// value that the proof claims and the map's value of the key.
 pub fn verify_in(
     format: Format,
     root: &[u8; 32],
@@ -142,7 +142,7 @@ pub fn verify_in(
         → proof.now ≡ proof_text format m key.now → result ≡ Ok (map_get m key.now) }
     ensures sound { (m : List Pair) (answer : Option (List ℕ)) → HasRoot format m root.now
         → result ≡ Ok answer → answer ≢ map_get m key.now
-        → HasCollision (texts_named format proof.now (tree format m)) }
+        → (one : List ℕ) × (other : List ℕ) × CollidesWith format m key.now proof.now one other }
 {
     judge(format, root, key, proof)
 }

@@ -9,11 +9,9 @@ ghost use Rattle.std.specs.Prelude.{◌≡◌, ◌≢◌, ◌≤◌, List, ℕ, 
 ghost use Rattle.mst_key.specs.declared.format.Format.{Format};
 ghost use Rattle.mst_key.specs.Bytes.{IsKey};
 ghost use Rattle.mst_key.specs.Map.{Pair, map_get};
-ghost use Rattle.mst_node.specs.Collision.{HasCollision};
 ghost use Rattle.mst_node.specs.Trail.{proof_text};
-ghost use Rattle.mst_node.specs.Tree.{tree};
 ghost use Rattle.mst_proof.specs.Accepted.{Accepted};
-ghost use Rattle.mst_proof.specs.Theorem.{HasRoot, texts_named};
+ghost use Rattle.mst_proof.specs.Theorem.{HasRoot, CollidesWith};
 ghost use Rattle.mst_verifier.specs.Codes.{code_of, room_after};
 ghost use Rattle.mst_verifier.specs.Question.{answer_of, format_named};
 ghost use Rattle.mst_verifier.specs.Told.{Tells};
@@ -56,12 +54,14 @@ pub extern "C" fn mst_verify(
         → proof.now ≡ proof_text f m key.now
         → IfSome (map_get m key.now) (λ v. length v ≤ length room.old)
         → Tells result room.new (map_get m key.now) }
-    // If another answer is returned for a map's root, two different texts have one SHA-256: two of
-    // those of the proof, those of the nodes of the map's tree, the empty text, and in format 2 the
-    // values of the proof and of the map.
+    // If another answer is returned for a map's root, two different texts have one SHA-256: a text
+    // of the proof, and the text of the map's node at the same place on the way to the key (without
+    // texts or without a node the empty text); or in format 2 the value that the proof claims, and
+    // the map's value of the key.
     ensures sound { (f : Format) (m : List Pair) (a : Option (List ℕ))
         → format_named format ≡ Some f → HasRoot f m root.now → Tells result room.new a
-        → a ≢ map_get m key.now → HasCollision (texts_named f proof.now (tree f m)) }
+        → a ≢ map_get m key.now
+        → (one : List ℕ) × (other : List ℕ) × CollidesWith f m key.now proof.now one other }
 {
     tell(format, root, key, proof, room)
 }

@@ -3,7 +3,7 @@ use Rattle.std.proofs.lemmas.Grind.{common_steps}
 use Rattle.std.specs.Option.{option_copied}
 use Rattle.mst_node.specs.Shape.{tree_of}
 use Rattle.mst_proof.specs.Beside.{IsSmall}
-use Rattle.mst_proof.proofs.Walks.{texts_differ, texts_same, small_gap, has_itself, is_node, none_here, some_here, none_below, some_below, none_further, some_further}
+use Rattle.mst_proof.proofs.Walks.{texts_differ, texts_same, small_gap, is_node, none_here, some_here, none_below, some_below, none_further, some_further}
 use Rattle.mst_proof.proofs.collision.+walk.Goals as goal
 
 pub returns-then-ne-clause-none : goal.returns-then-ne-clause-none
@@ -22,7 +22,7 @@ returns-then-ne-clause-some g t c =
     let w = c.in_ok-expected.expected.items in
     some_here c.args.format c.args.claim.now c.pair_of.result c.args.key.now u c.next.new.self
     c.args.texts (tree_of c.args.format c.args.node.now) c.in-Some.ensures.next w
-    c.in_ok-expected.ensures.text (has_itself c.args.format g.row.A.Denot c.args.node.now)
+    c.in_ok-expected.ensures.text (is_node c.args.format g.row.A.Denot c.args.node.now)
     c.pair_of.ensures.some
 
 pub returns-in-None-clause-none : goal.returns-in-None-clause-none
@@ -69,8 +69,13 @@ returns-clause-none g t c =
 
 pub returns-clause-some : goal.returns-clause-some
 returns-clause-some g t c =
-    some_below c.args.format c.args.claim.now c.walk.result c.args.key.now c.in-Some.found.now
-    c.next.new.self c.args.texts (tree_of c.args.format c.args.node.now) c.in-Some.ensures.next
+    let u = c.in-Some.found.now in
+    let w = c.in_ok-expected.expected.items in
+    let same = texts_same u c.as_slice.result.now w c.if-ne.ensures c.as_slice.ensures.value
+    ∙ c.in_ok-expected.ensures.text in
+    some_below c.args.format c.args.claim.now c.walk.result c.args.key.now u c.next.new.self
+    c.args.texts (tree_of c.args.format c.args.node.now) c.in-Some.ensures.next
     (tree_of c.args.format c.in-Some-child_for.child.now)
-    (is_node c.args.format g.row.A.Denot c.in-Some-child_for.child.now) c.requires.small
+    (is_node c.args.format g.row.A.Denot c.in-Some-child_for.child.now)
+    (is_node c.args.format g.row.A.Denot c.args.node.now) c.requires.small same
     (c.in-Some-child_for.ensures.child c.args.format) c.walk.ensures.some

@@ -1,12 +1,11 @@
-use Rattle.std.proofs.Common.{◌≡◌, ◌∙◌, sym, ap, subst, arith, length, rules}
+use Rattle.std.proofs.Common.{◌≡◌, ◌≢◌, ◌∙◌, sym, ap, subst, arith, length, rules}
 use Rattle.std.specs.Option.{option_copied}
 use Rattle.std.proofs.lemmas.Bool.Decides.{nat_tests}
 use Rattle.mst_node.specs.Shape.{tree_of}
 use Rattle.mst_node.specs.Text.{text}
-use Rattle.mst_node.specs.Tree.{Tree, nodes}
-use Rattle.std.specs.List.{Contains}
+use Rattle.mst_node.specs.Tree.{Tree, empty}
 use Rattle.mst_proof.specs.Beside.{top_of, IsSmall}
-use Rattle.mst_proof.proofs.Walks.{small_of_map, has_itself, none_of_empty, some_of_empty, none_of_no_text, some_of_no_text, none_of_walk, some_of_walk, none_of_nothing}
+use Rattle.mst_proof.proofs.Walks.{small_of_map, is_node, none_of_empty, some_of_empty, none_of_no_text, some_of_no_text, none_of_walk, some_of_walk, none_of_nothing}
 use Rattle.mst_proof.proofs.collision.collide_in.Given.{Over}
 use Rattle.mst_proof.proofs.collision.collide_in.Goals.{After-pair_of-then-is_empty, Else-is_empty}
 use Rattle.mst_proof.proofs.collision.collide_in.Goals as goal
@@ -27,6 +26,7 @@ returns-in-Some-next-clause-some g c =
     some_of_empty c.args.format c.pair_of.result c.args.key.now c.args.proof.now
     c.in-Some-next.found.now c.new.result.items c.in-Ok.texts
     (top_of c.args.format (option_copied c.args.tree)) c.in-Ok.ensures.frame c.next.new.self
+    (ap (λ o. top_of c.args.format (option_copied o)) c.in_default-tree.is)
     c.in-Some-next.ensures.next c.new.ensures.items c.pair_of.ensures.some
 
 -- ---- there is no text
@@ -56,12 +56,13 @@ returns-then-is_empty-clause-none g c =
 
 pub returns-then-is_empty-clause-some : goal.returns-then-is_empty-clause-some
 returns-then-is_empty-clause-some g c =
-    let itself = subst (λ (x : Tree). Contains (nodes x) x) (sym (top_is g c))
-    (has_itself c.args.format g.row.A.Denot c.in-Some.node.now) in
+    let none : length c.in-Ok.texts ≡ 0 = grind (arith, nat_tests, c.if-is_empty.ensures.empty) in
+    let some = subst (λ (x : Tree). x ≢ empty) (sym (top_is g c))
+    (is_node c.args.format g.row.A.Denot c.in-Some.node.now) in
     some_of_no_text c.args.format c.pair_of-then-is_empty.result c.args.key.now c.args.proof.now
     c.as_slice.result.now c.in_ok-text_in.field-0.items c.in-Ok.texts
-    (top_of c.args.format (option_copied c.args.tree)) c.in-Ok.ensures.frame c.as_slice.ensures
-    (text_is g c) itself c.pair_of-then-is_empty.ensures.some
+    (top_of c.args.format (option_copied c.args.tree)) c.in-Ok.ensures.frame none
+    c.as_slice.ensures (text_is g c) some c.pair_of-then-is_empty.ensures.some
 
 -- ---- the texts are walked beside the tree
 
@@ -92,7 +93,9 @@ returns-clause-some g c =
     some_of_walk c.args.format c.walk.result c.args.key.now c.args.proof.now c.in-Ok.texts
     (top_of c.args.format (option_copied c.args.tree))
     (tree_of c.args.format c.in-Some.node.now) c.in-Ok.ensures.frame
-    (tree_is g (goal.at.returns-clause-some g c).Else-is_empty) c.walk.ensures.some
+    (tree_is g (goal.at.returns-clause-some g c).Else-is_empty)
+    (λ z. grind (arith, nat_tests, c.if-is_empty.ensures.empty, z))
+    (is_node c.args.format g.row.A.Denot c.in-Some.node.now) c.walk.ensures.some
 
 -- ---- the other clauses
 

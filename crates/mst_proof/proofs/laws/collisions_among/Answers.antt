@@ -1,4 +1,11 @@
+use Rattle.mst_proof.proofs.Named.{no_value, among_named}
 use Rattle.mst_proof.proofs.laws.collisions_among.Goals as goal
+
+pub returns-clause-named : goal.returns-clause-named
+returns-clause-named c = among_named
+
+pub returns-clause-no_value : goal.returns-clause-no_value
+returns-clause-no_value c = no_value
 
 pub returns-clause-two : goal.returns-clause-two
 returns-clause-two c texts one other = (

@@ -1,4 +1,4 @@
-use Rattle.std.proofs.Common.{◌≡◌, ◌∙◌, refl, sym, ap, arith, List, ℕ, Bool, true, false, Some, rules}
+use Rattle.std.proofs.Common.{◌≡◌, ◌∙◌, refl, sym, ap, arith, ℕ, Bool, true, false, Some, rules}
 use Rattle.std.specs.Prelude.{not}
 use Rattle.std.specs.declared.result.Result.TheVariants.{Ok}
 use Rattle.mst_node.specs.Found.{IsFound}
