@@ -10,7 +10,7 @@ use Rattle.mst_key.specs.declared.history.Edit.{Edit}
 use Rattle.mst_key.specs.declared.history.Edit.TheVariants as edit
 use Rattle.mst_key.specs.declared.format.Format.{Format}
 use Rattle.std.specs.List.{AllByRecursion}
-use Rattle.mst_key.specs.History.{edited, batched, key_of, IsEdited, IsSmall, singles, History, changed, changed_format, format_after, IsAbout, IsMigration, LeavesAlone, KeepsFormat, after_from, after, events_of, IsPrefix, IsWithinLimits, IsPossible}
+use Rattle.mst_key.specs.History.{edited, batched, Reply, had, reply, change_of, key_of, IsEdited, IsSmall, singles, History, changed, changed_format, format_after, IsAbout, IsMigration, LeavesAlone, KeepsFormat, after_from, after, events_of, IsPrefix, IsWithinLimits, IsPossible}
 use Rattle.mst_key.specs.Map.{Pair, IsMap, map_get, put, remove}
 use Rattle.mst_key.proofs.Alls.{alls-append, alls-front}
 use Rattle.mst_key.proofs.MapLaws.{IsMap-nil, IsMap-put, IsMap-remove, map_get-put_same, map_get-remove_same, map_get-put_other, map_get-remove_other}
@@ -166,6 +166,25 @@ pub format_after_last : (first to : Format) (g h : History) (pass : ℕ) → Kee
 format_after_last first to g h pass keeps =
     format_after-append first g (record { pass = pass; change = Migrate to } ∷ h)
     ∙ format_after_none to h keeps
+
+-- ---- what a write returns
+
+pub reply_edit : (first : Format) (h : History) (pass : ℕ) (e : Edit)
+    → reply first h (record { pass = pass; change = change_of e })
+    ≡ had (map_get (after h) (key_of e))
+reply_edit first h pass (edit.Put k v) = refl
+reply_edit first h pass (edit.Remove k) = refl
+
+-- a migration before it changes nothing of the map, and so nothing of the reply
+pub reply_past_migration : (first other to : Format) (g h : History) (by pass : ℕ) (e : Edit)
+    → reply first (g ++ record { pass = by; change = Migrate to } ∷ h)
+    (record { pass = pass; change = change_of e })
+    ≡ reply other (g ++ h) (record { pass = pass; change = change_of e })
+reply_past_migration first other to g h by pass e =
+    reply_edit first (g ++ record { pass = by; change = Migrate to } ∷ h) pass e
+    ∙ ap (λ (m : List Pair). had (map_get m (key_of e)))
+    (after-append g (record { pass = by; change = Migrate to } ∷ h) ∙ sym (after-append g h))
+    ∙ sym (reply_edit other (g ++ h) pass e)
 
 -- ---- histories of possible changes
 

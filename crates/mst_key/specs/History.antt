@@ -1,6 +1,6 @@
 -- A history: the list of the events so far, the oldest first, and the map that they leave. Each
 -- event is a change by a pass (Herlihy and Wing 1990: a sequential history of one object, the
--- ordered map). `history_laws` states what follows from these definitions.
+-- ordered map). `history_laws` and `reply_laws` state what follows from these definitions.
 use Rattle.std.specs.Prelude.{◌≡◌, ◌⊎◌, ℕ, ◌==◌, List, [], ◌∷◌, ◌++◌, Option, Some, None, if◌then◌else◌, filter}
 use Rattle.std.specs.List.{AllByRecursion}
 use Rattle.std.specs.Ordering.{is_eq}

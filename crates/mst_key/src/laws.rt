@@ -15,7 +15,7 @@ ghost use Rattle.mst_key.specs.declared.history.Edit.{Edit};
 ghost use Rattle.mst_key.specs.declared.history.Edit.TheVariants as edit;
 ghost use Rattle.std.specs.List.{AllByRecursion};
 ghost use Rattle.mst_key.specs.declared.history.Event.{Event};
-ghost use Rattle.mst_key.specs.History.{batched, value_after, IsEdited, IsSmall, singles, History, changed, changed_format, after, format_after, events_of, IsPrefix, LeavesAlone, KeepsFormat, IsPossible};
+ghost use Rattle.mst_key.specs.History.{batched, value_after, IsEdited, IsSmall, singles, History, changed, changed_format, after, format_after, had, was, done, reply, change_of, key_of, events_of, IsPrefix, LeavesAlone, KeepsFormat, IsPossible};
 
 /// The order of keys is total and bytewise; a proper prefix of a key is less than the key.
 pub fn order_laws()
@@ -91,6 +91,31 @@ pub fn history_laws()
     // a history between two that have the same events of a pass has them too
     ensures events_between { (pass : ℕ) (mine f g h : History) → IsPrefix f g → IsPrefix g h
         → events_of pass f ≡ mine → events_of pass h ≡ mine → events_of pass g ≡ mine }
+{}
+
+/// What the write that adds an event to a history returns: what the history had left before it.
+pub fn reply_laws()
+    // a put and a remove return the value that their key had
+    ensures edit { (first : Format) (h : History) (pass : ℕ) (e : Edit)
+        → reply first h (record { pass = pass; change = change_of e })
+        ≡ had (map_get (after h) (key_of e)) }
+    // in a map of whatever formats: a migration before them changes no reply of theirs
+    ensures past_migration { (first other to : Format) (g h : History) (by pass : ℕ) (e : Edit)
+        → reply first (g ++ record { pass = by; change = Migrate to } ∷ h)
+        (record { pass = pass; change = change_of e })
+        ≡ reply other (g ++ h) (record { pass = pass; change = change_of e }) }
+    // a migration returns the format before it, whatever its own
+    ensures migration { (first to : Format) (h : History) (pass : ℕ)
+        → reply first h (record { pass = pass; change = Migrate to })
+        ≡ was (format_after first h) }
+    // that is the format of the last migration before it, or the first one if there was none
+    ensures next_migration { (first to next : Format) (g h : History) (by pass : ℕ) → KeepsFormat h
+        → reply first (g ++ record { pass = by; change = Migrate to } ∷ h)
+        (record { pass = pass; change = Migrate next }) ≡ was to }
+    ensures first_migration { (first to : Format) (h : History) (pass : ℕ) → KeepsFormat h
+        → reply first h (record { pass = pass; change = Migrate to }) ≡ was first }
+    ensures batch { (first : Format) (h : History) (pass : ℕ) (es : List Edit)
+        → reply first h (record { pass = pass; change = Batch es }) ≡ done }
 {}
 
 /// What a batch leaves: the map that its edits leave one after another, but as one event.
