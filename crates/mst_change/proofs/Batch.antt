@@ -86,9 +86,8 @@ top_key (node g l es) q has = key_of_entry es q has
 pub stands_by_key : (old n u : Tree) (q : List ℕ) → IsAscending (pairs old)
     → is_subtree u old ≡ true → HasOnTop q u → HasOnTop q n
     → (is_subtree n old ≡ true) ↔ (n ≡ u)
-stands_by_key old n u q rise is has shares =
-    (
-      (λ also. one_home old n u q rise (in_old n old also) (in_old u old is) (top_key n q shares)
+stands_by_key old n u q rise is has shares = (
+  (λ also. one_home old n u q rise (in_old n old also) (in_old u old is) (top_key n q shares)
       (top_key u q has)),
-      (λ same. subst (λ (t : Tree). is_subtree t old ≡ true) (sym same) is),
-    )
+  (λ same. subst (λ (t : Tree). is_subtree t old ≡ true) (sym same) is),
+)

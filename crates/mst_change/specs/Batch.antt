@@ -1,5 +1,5 @@
--- The tree after a batch, and what it costs: the rows of the nodes of the new tree, counted by a walk
--- that stops at each node that stands in the old one.
+-- The tree after a batch, and what it costs: the rows of the nodes of the new tree, counted by a
+-- walk that stops at each node that stands in the old one.
 use Rattle.std.specs.Prelude.{◌≡◌, ◌⊎◌, ℕ, ◌+◌, if◌then◌else◌, List, [], ◌∷◌}
 use Rattle.mst_key.specs.declared.format.Format.{Format}
 use Rattle.mst_key.specs.declared.history.Edit.{Edit}

@@ -1,4 +1,4 @@
-//! What a put and a remove do to the Merkle search tree of a map, and what they cost.
+//! What a put, a remove and a batch do to the Merkle search tree of a map, and what they cost.
 //!
 //! The tree of the map after a put or a remove is made from the old one along one path, which is
 //! split or joined from the top down; everything beside the path stays (Auvolat and Taïani 2019).
@@ -15,10 +15,12 @@
 //!
 //! In `specs/`: `Parts`, the parts of a node; `Split`, what a tree has below and above a key;
 //! `Join`, two trees made one; `Put` and `Remove`, the tree after the change; `Cost`, the rows of
-//! the nodes that are made new; `Gap`, where a key stands among the entries of a node.
+//! the nodes that are made new; `Gap`, where a key stands among the entries of a node; `Batch`, the
+//! tree after many edits, and its rows beside those of the old tree.
 //!
 //! [`split_laws`] and [`join_laws`] say what the parts hold, [`path_laws`] that the changed tree is
-//! the tree of the new map, and [`cost_laws`] what a change costs and how that is bounded.
+//! the tree of the new map, [`cost_laws`] what a change costs and how that is bounded, and
+//! [`batch_laws`] how the nodes that a batch makes new are told from those that stand.
 #![tactic(auto)]
 
 mod laws;

@@ -9,3 +9,4 @@ pub mod SpanLaws
 pub mod Layers
 pub mod Zeros
 pub mod Batches
+pub mod BatchOrder

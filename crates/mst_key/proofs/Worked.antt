@@ -1,9 +1,11 @@
 -- Worked cases of the definitions, computed. The keys are `a`, `ab`, `b` and `c` in ASCII, the
 -- values `x`, `y` and `z`.
 use Rattle.std.proofs.Common.{◌≡◌, ℕ, ◌++◌, List, [], ◌∷◌, Some, None, refl, Less, Equal, Greater, arith}
-use Rattle.mst_key.specs.declared.history.Change.TheVariants.{Put, Remove, Migrate}
+use Rattle.mst_key.specs.declared.history.Change.TheVariants.{Put, Remove, Migrate, Batch}
+use Rattle.mst_key.specs.declared.history.Edit.{Edit}
+use Rattle.mst_key.specs.declared.history.Edit.TheVariants as edit
 use Rattle.mst_key.specs.declared.format.Format.TheVariants.{One, Two}
-use Rattle.mst_key.specs.History.{History, after, format_after, had, was, reply, events_of, IsPrefix}
+use Rattle.mst_key.specs.History.{History, after, format_after, had, was, done, reply, events_of, IsPrefix}
 use Rattle.mst_key.specs.Map.{Pair, key_cmp, IsMap, map_get, put, remove}
 
 abbrev a : List ℕ
@@ -136,6 +138,16 @@ migrated_twice = refl
 
 reply_migration : reply One moved (record { pass = 3; change = Migrate One }) ≡ was Two
 reply_migration = refl
+
+-- a batch: of two edits of a key the last decides, and a remove of an absent key changes nothing
+abbrev many : List Edit
+many = edit.Put b z ∷ edit.Remove c ∷ edit.Remove a ∷ edit.Put a x ∷ edit.Remove b ∷ []
+
+after_batch : after (first ++ record { pass = 3; change = Batch many } ∷ []) ≡ (a, x) ∷ []
+after_batch = refl
+
+reply_batch : reply One first (record { pass = 3; change = Batch many }) ≡ done
+reply_batch = refl
 
 events_of_one : events_of 1 whole ≡ record { pass = 1; change = Put b x }
     ∷ record { pass = 1; change = Put b z } ∷ record { pass = 1; change = Remove c } ∷ []

@@ -1,12 +1,13 @@
 //! The events of a history: what the passes did to the map.
 ghost use Rattle.std.specs.Prelude.{◌≡◌};
+ghost use Rattle.mst_key.specs.History.{key_of};
 
 use crate::format::Format;
 use crate::key::Key;
 use crate::value::Value;
 use std::marker::Model;
 
-/// A change of one key, in a batch.
+/// A change of one key, as one of many in a [`Batch`]: a key has 1 to 32 bytes, a value 0 to 64.
 #[derive(Debug, Drop, PartialEq, Eq)]
 pub enum Edit {
     /// The key has this value from here on.
@@ -15,7 +16,22 @@ pub enum Edit {
     Remove(Key),
 }
 
-/// The edits of a batch, in their order. A later edit of a key wins.
+impl Edit {
+    /// The key that the edit is of.
+    pub fn key(&self) -> &Key
+        ensures key { result.now ≡ key_of self.now }
+    {
+        match self {
+            Edit::Put(key, _) => key,
+            Edit::Remove(key) => key,
+        }
+    }
+}
+
+/// Edits that are one change: as many as a list can hold, none too, of any keys in any order.
+///
+/// They are made one after another, so of edits of one key the last decides, and a remove of a key
+/// that is not there changes nothing. No version has the edits before one of them and not that one.
 #[derive(Debug, Drop)]
 pub struct Batch<'b> {
     edits: &'b [Edit],
@@ -49,7 +65,7 @@ impl<'b> Batch<'b> {
     }
 }
 
-/// A change of one key, of the format, or of many keys at once.
+/// A change of one key, of the format, or of many keys at once: what one event does.
 #[derive(Debug, Drop)]
 pub enum Change<'b> {
     /// The key has this value from here on.
@@ -58,7 +74,7 @@ pub enum Change<'b> {
     Remove(Key),
     /// The tree is of this format from here on, and the map stays.
     Migrate(Format),
-    /// These edits are made in their order, and no version stands between two of them.
+    /// These edits are made in their order, as one change. The format stays.
     Batch(Batch<'b>),
 }
 

@@ -14,7 +14,9 @@ ghost use Rattle.mst_key.specs.declared.history.Change.TheVariants.{Put, Remove,
 ghost use Rattle.mst_key.specs.declared.history.Edit.{Edit};
 ghost use Rattle.mst_key.specs.declared.history.Edit.TheVariants as edit;
 ghost use Rattle.std.specs.List.{AllByRecursion};
+ghost use Rattle.std.specs.List.Sorted.{IsPermutation};
 ghost use Rattle.mst_key.specs.declared.history.Event.{Event};
+ghost use Rattle.mst_key.specs.Edits.{HaveOwnKeys};
 ghost use Rattle.mst_key.specs.History.{batched, value_after, IsEdited, IsSmall, singles, History, changed, changed_format, after, format_after, had, was, done, reply, change_of, key_of, events_of, IsPrefix, LeavesAlone, KeepsFormat, IsPossible};
 
 /// The order of keys is total and bytewise; a proper prefix of a key is less than the key.
@@ -120,8 +122,10 @@ pub fn reply_laws()
 
 /// What a batch leaves: the map that its edits leave one after another, but as one event.
 pub fn batch_laws()
+    ensures empty { (m : List Pair) → batched m [] ≡ m }
     ensures one_by_one { (h : History) (pass : ℕ) (es : List Edit)
-        → after (h ++ record { pass = pass; change = Batch es } ∷ []) ≡ after (h ++ singles pass es) }
+        → after (h ++ record { pass = pass; change = Batch es } ∷ [])
+        ≡ after (h ++ singles pass es) }
     ensures format { (first : Format) (h : History) (pass : ℕ) (es : List Edit)
         → format_after first (h ++ record { pass = pass; change = Batch es } ∷ [])
         ≡ format_after first h }
@@ -143,6 +147,15 @@ pub fn batch_laws()
     ensures alike { (m : List Pair) (es fs : List Edit) → IsMap m
         → ((q : List ℕ) → value_after es q (map_get m q) ≡ value_after fs q (map_get m q))
         → batched m es ≡ batched m fs }
+    // edits of which no two are of one key leave one map in any order
+    ensures any_order { (m : List Pair) (es fs : List Edit) → IsMap m → HaveOwnKeys es
+        → IsPermutation es fs → batched m es ≡ batched m fs }
+    // `a` and `c` have `x`; then `b` gets `y`, `a` is removed, `b` gets `z`, and `d`, which is not
+    // there, is removed
+    ensures worked { batched ((97 ∷ [], 120 ∷ []) ∷ (99 ∷ [], 120 ∷ []) ∷ [])
+        (edit.Put (98 ∷ []) (121 ∷ []) ∷ edit.Remove (97 ∷ [])
+        ∷ edit.Put (98 ∷ []) (122 ∷ []) ∷ edit.Remove (100 ∷ []) ∷ [])
+        ≡ (98 ∷ [], 122 ∷ []) ∷ (99 ∷ [], 120 ∷ []) ∷ [] }
 {}
 
 /// The pair of the least key above a bound, and the first pairs between two bounds. `None` as a

@@ -12,8 +12,8 @@
 //!
 //! `specs/` defines what the contracts of all crates speak of: the order of keys, a map with its
 //! look-ups and changes, a history with the map that it leaves, and how bytes are written in a
-//! line. `order_laws`, `map_laws`, `range_laws`, `history_laws`, `reply_laws` and `layer_examples`
-//! prove what these definitions should satisfy.
+//! line. `order_laws`, `map_laws`, `range_laws`, `history_laws`, `reply_laws`, `batch_laws` and
+//! `layer_examples` prove what these definitions should satisfy.
 //!
 //! No map runs here: to contracts a map is the rising list of its pairs. `mst_store` keeps one.
 #![tactic(auto)]

@@ -1,3 +1,5 @@
+use Rattle.std.proofs.Common.{refl}
+use Rattle.mst_key.proofs.BatchOrder.{batched-any_order}
 use Rattle.mst_key.proofs.Batches.{map_get-batched, batched_alike}
 use Rattle.mst_key.proofs.HistoryLaws.{after-singles, format_after-push, batched-append, IsMap-batched, batched-last_put, batched-last_remove, map_get-batched_other}
 use Rattle.mst_key.specs.declared.history.Change.TheVariants.{Batch}
@@ -30,3 +32,12 @@ returns-clause-looked c = map_get-batched
 
 pub returns-clause-alike : goal.returns-clause-alike
 returns-clause-alike c m es fs map = batched_alike m es fs map.ascending
+
+pub returns-clause-empty : goal.returns-clause-empty
+returns-clause-empty c m = refl
+
+pub returns-clause-any_order : goal.returns-clause-any_order
+returns-clause-any_order c m es fs map = batched-any_order m es fs map.ascending
+
+pub returns-clause-worked : goal.returns-clause-worked
+returns-clause-worked c = refl
