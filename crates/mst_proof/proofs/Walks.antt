@@ -338,8 +338,8 @@ module _ (format : Format) (m : List KeyValue) (k proof : List ℕ) (all : List 
         → CollidesWith format m k proof one other
     texts_beside one other c =
         inl (same_pair (or_empty all) (or_empty (texts_of format proof))
-        (or_empty (map text (nodes_met k t))) (or_empty (map text (nodes_met k (tree format m)))) one
-        one other other (ap or_empty (sym (ap or_none frame)))
+        (or_empty (map text (nodes_met k t))) (or_empty (map text (nodes_met k (tree format m))))
+        one one other other (ap or_empty (sym (ap or_none frame)))
         (ap (λ (x : Tree). or_empty (map text (nodes_met k x))) (sym is)) refl refl c)
 
     -- the pair of the claimed value and the tree's
