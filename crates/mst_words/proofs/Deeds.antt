@@ -1,6 +1,6 @@
 -- The steps of the laws, each of which keeps the history but a publication; what is writable; and
 -- what the words say.
-use Rattle.std.proofs.Common.{◌≡◌, ◌⊎◌, ℕ, ◌+◌, ◌*◌, ◌<◌, inl, inr, true, Option, List, [], ◌∷◌, ◌++◌, length, set, sym, refl, ap, ◌∙◌, subst, ⊎_elim, arith}
+use Rattle.std.proofs.Common.{◌≡◌, ◌⊎◌, ℕ, ◌+◌, ◌<◌, inl, inr, true, Option, List, [], ◌∷◌, ◌++◌, length, set, sym, refl, ap, ◌∙◌, subst, ⊎_elim, arith}
 use mathlib.Core.Logic.{dite}
 use native.Mathlib.Decide.{ℕ_discrete}
 use Rattle.atomic_table.specs.Table.{State, Me, Step}
@@ -21,7 +21,8 @@ use Rattle.mst_words.specs.Rule.{Ruled}
 use Rattle.mst_words.specs.Notes.{note_of, having_heard}
 use Rattle.mst_words.specs.Steps.{IsWritable}
 use Rattle.mst_words.specs.Stored.{stored, StandsOn, contents_after}
-use Rattle.mst_words.specs.Laws.{Table, IsRuled, IsWordOf, Tells, Makes, IsPublication, Deed, told_by, trying, giving, pinning, unpinning, forgetting, reading, writing, transferring, asking, noting, asking_current, seeing_all, seeing_told, glancing, Adds, Hears, IsOther}
+use Rattle.mst_words.specs.Deeds.{Deed, told_by, trying, giving, pinning, unpinning, forgetting, reading, writing, transferring, asking, noting, asking_current, seeing_all, seeing_told, glancing}
+use Rattle.mst_words.specs.Laws.{Table, IsRuled, IsWordOf, Tells, Makes, IsPublication, Adds, Hears, IsOther}
 use Rattle.mst_words.proofs.Follows.{live_not_drained}
 use Rattle.mst_words.proofs.Worlds.{within}
 use Rattle.mst_words.proofs.Ruling.{Whole, IsQuiet, set_stays, add_stays}
@@ -77,7 +78,7 @@ deed_quiet noting log st m r m' t f = same_as log m m' _ t.1.is refl refl refl
 deed_quiet asking_current log st m r m' t f = same_as log m m' _ t.1.is refl refl refl
 deed_quiet seeing_all log st m r m' t f = more_seen log m m' _ t.1.is refl refl t.1.finds.later
 deed_quiet seeing_told log st m r m' t f = more_seen log m m' _ t.1.is refl refl t.1.forward
-deed_quiet glancing log st m r m' t f = same_as log m m' _ t refl refl refl
+deed_quiet glancing log st m r m' t f = same_as log m m' _ t.1 refl refl refl
 
 module _ {S : Type 0} (T : Meaning S) (R N : ℕ) where
   -- one view changes, and the history stays

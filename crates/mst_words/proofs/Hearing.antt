@@ -18,7 +18,7 @@ use Rattle.mst_words.proofs.PinParts.{drains_same}
 use Rattle.mst_words.proofs.Marks.{counts_same}
 use Rattle.mst_words.proofs.Stills.{still_same}
 use Rattle.mst_words.proofs.Follows.{ruled}
-use Rattle.mst_words.specs.Steps.{glances}
+use Rattle.mst_words.specs.Steps.{IsMaskWord, glances}
 use Rattle.mst_words.proofs.Looked.{view_set, looked, counted}
 use Rattle.mst_words.proofs.Seated.{off_true, turn_more, rows_more, pins_more, clear_more, counts_more, path_more, still_more}
 
@@ -116,16 +116,16 @@ module _ {S : Type 0} (T : Meaning S) (framed : IsFramed T) (R N : ℕ) where
     (refl, record { log = q.log; forward = forward; finds = found s q id me at; is = refl }),
   )
 
-  -- a word is loaded, and nothing is said of it
-  pub glances_allows : (slots id i : ℕ) (me : Me S View) → Allows (Ruled T R N) slots id me i
-      (λ n. n) (glances (step slots i 0 0 none) me)
-  glances_allows slots id i me s whole _ at _ = (
+  -- a word of pins is loaded, and nothing is said of what was found
+  pub glances_allows : (slots id i : ℕ) (me : Me S View) → IsMaskWord i → Allows (Ruled T R N) slots
+      id me i (λ n. n) (glances (step slots i 0 0 none) me)
+  glances_allows slots id i me mask s whole _ at _ = (
     record me.0 { asked = me.0.asked + 1 },
     keeps,
     tt,
     ruled T framed R N _
         (counted T framed R N s whole.parts id i me.1 me.0 me.0.found me.0.missed at),
-    refl,
+    (mask, refl),
   )
 
   -- a note is written, and the writer's own view stays

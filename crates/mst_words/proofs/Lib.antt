@@ -22,6 +22,7 @@ pub mod Looked
 pub mod Seated
 pub mod Hearing
 pub mod Opens
+pub mod ByDeed
 pub mod Accesses
 pub mod Limits
 pub mod WordWays

@@ -21,7 +21,8 @@ use Rattle.mst_words.specs.Notes.{note_of, having_heard}
 use Rattle.mst_words.specs.Path.{IsPathOf}
 use Rattle.mst_words.specs.Steps.{IsFree, IsWritable}
 use Rattle.mst_words.specs.Stored.{stored}
-use Rattle.mst_words.specs.Laws.{Table, IsRuled, Told, Makes, Deed, told_by, trying, giving, pinning, unpinning, forgetting, reading, writing, transferring, asking, noting, asking_current, seeing_all, seeing_told, glancing, Adds, Hears}
+use Rattle.mst_words.specs.Deeds.{Told, Deed, told_by, trying, giving, pinning, unpinning, forgetting, reading, writing, transferring, asking, noting, asking_current, seeing_all, seeing_told, glancing}
+use Rattle.mst_words.specs.Laws.{Table, IsRuled, Makes, Adds, Hears}
 use Rattle.mst_words.specs.Moves.{IsReachedBy, IsOpened, moves_of, Does, MakesCurrent, ChangesSeats, GoesBy, IsLedTo}
 use Rattle.mst_pin.proofs.Bits.{xor_low, xor_small}
 use Rattle.mst_words.proofs.Seats.{each_seat, same_view}
@@ -355,7 +356,7 @@ module _ (z : Shape) (s t : Table) (a : IsRuled z s) (b : IsRuled z t) (moves : 
     goes_on seeing_told d q = let m = d.makes in loads (told_by seeing_told) m d.words d.finds
         (still m.before m.after _ m.tells.1.is refl refl refl refl) q
     goes_on glancing d q = let m = d.makes in loads (told_by glancing) m d.words d.finds
-        (still m.before m.after _ m.tells refl refl refl refl) q
+        (still m.before m.after _ m.tells.1 refl refl refl refl) q
 
 -- ---- from the opening on
 

@@ -19,7 +19,8 @@ use Rattle.mst_words.specs.Records.{Standing}
 use Rattle.mst_words.specs.Path.{ComesTo}
 use Rattle.mst_words.specs.Steps.{pins_now, takes_turn}
 use Rattle.mst_words.specs.Stored.{desk_state}
-use Rattle.mst_words.specs.Laws.{Table, pinning, trying, asking, transferring}
+use Rattle.mst_words.specs.Deeds.{pinning, trying, asking, transferring}
+use Rattle.mst_words.specs.Laws.{Table}
 use Rattle.mst_words.specs.Moves.{IsReachedBy, GoesBy, IsLedTo}
 use Rattle.mst_words.proofs.Members.{in_nothing, in_first}
 use Rattle.mst_words.proofs.Fresh.{fresh_is_desk}

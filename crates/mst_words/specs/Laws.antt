@@ -14,8 +14,9 @@ use Rattle.mst_words.specs.Layout.{record_words, row_words, current_word, record
 use Rattle.mst_words.specs.World.{SeatAt, having_dealt, newcomer}
 use Rattle.mst_words.specs.Records.{field, row}
 use Rattle.mst_words.specs.Rule.{Ruled, IsSeen}
-use Rattle.mst_words.specs.Steps.{takes_turn, gives_turn, pins_now, unpins, forgets, reads, writes, publishes, transfers, asks, notes_current, asks_current, glances}
-use Rattle.mst_words.specs.Notes.{sees_all, sees_told, note_of, having_heard}
+use Rattle.mst_words.specs.Steps.{publishes}
+use Rattle.mst_words.specs.Deeds.{Told, Deed, told_by}
+use Rattle.mst_words.specs.Notes.{note_of, having_heard}
 use Rattle.mst_words.specs.Stored.{stored, StandsOn, contents_after}
 
 -- the table of a store, as its rule sees it
@@ -63,11 +64,6 @@ pub record Tells (z : Shape) (s : Table) (log : History) : Type 0 where
 
 -- ---- steps
 
--- what a step tells its seat, of what the seat has before, the word found, and what it has then
-abbrev pub Told : Type 1
-Told = Step (Option lives.State) → Me (Option lives.State) View → ℕ
-    → Me (Option lives.State) View → Type 0
-
 -- one seat makes a step, which tells it this. Each other seat has what it had
 pub record Makes (told : Told) (s t : Table) : Type 0 where
   pub id : ℕ
@@ -84,39 +80,6 @@ pub record IsPublication (e : Event) (s t : Table) : Type 0 where
   pub desk : DeskState
   pub made : Makes (publishes e desk) s t
   pub on : made.before.0.turn ≡ true
-
--- what a seat does beside
-pub data Deed : Type 0 where
-  trying : Deed
-  giving : Deed
-  pinning : Deed
-  unpinning : Deed
-  forgetting : Deed
-  reading : Deed
-  writing : Deed
-  transferring : Deed
-  asking : Deed
-  noting : Deed
-  asking_current : Deed
-  seeing_all : Deed
-  seeing_told : Deed
-  glancing : Deed
-
-abbrev pub told_by : Deed → Told
-told_by trying st m r m' = takes_turn (stored m.0.format) st m r m'
-told_by giving st m r m' = gives_turn st m r m'
-told_by pinning st m r m' = pins_now (stored m.0.format) st m r m'
-told_by unpinning st m r m' = unpins st m r m'
-told_by forgetting st m r m' = forgets st m r m'
-told_by reading st m r m' = reads st m r m'
-told_by writing st m r m' = writes st m r m'
-told_by transferring st m r m' = transfers st m r m'
-told_by asking st m r m' = asks (stored m.0.format) st m r m'
-told_by noting st m r m' = notes_current st m r m'
-told_by asking_current st m r m' = asks_current st m r m'
-told_by seeing_all st m r m' = sees_all st m r m'
-told_by seeing_told st m r m' = sees_told st m r m'
-told_by glancing st m r m' = glances st m r m'
 
 -- a seat keeps the one view, and a new seat has the other
 pub record Adds (kept new : View → View) (s t : Table) : Type 0 where

@@ -8,5 +8,6 @@ pub mod Steps
 pub mod Notes
 pub mod Stored
 pub mod Access
+pub mod Deeds
 pub mod Laws
 pub mod Moves

@@ -11,7 +11,7 @@ use Rattle.mst_arena.specs.Lists.{In}
 use Rattle.mst_pin.specs.WordParts.{masks}
 use Rattle.mst_words.specs.declared.view.View.{View}
 use Rattle.mst_words.specs.declared.view.DeskState.{DeskState}
-use Rattle.mst_words.specs.Layout.{record_words, row_words, turn_word, current_word, first_record, done_word, record_word, row_word, table_words}
+use Rattle.mst_words.specs.Layout.{most_records, record_words, row_words, turn_word, current_word, first_record, done_word, record_word, row_word, table_words}
 use Rattle.mst_words.specs.Records.{Meaning, field, row, Standing, Agrees, IsBlank}
 use Rattle.mst_words.specs.Notes.{IsOfPasses}
 
@@ -33,6 +33,10 @@ IsDoneAtPin v i = (r : ℕ) × (v.pin ≡ Some r) × (i ≡ done_word r)
 -- the word DONE of the record whose transfer waits
 abbrev pub IsDoneAtDue : View → ℕ → Type 0
 IsDoneAtDue v i = (r : ℕ) × (v.due ≡ Some r) × (i ≡ done_word r)
+
+-- a word with a mask of pins: that of the current record, or the word DONE of a record
+abbrev pub IsMaskWord : ℕ → Type 0
+IsMaskWord i = (i ≡ current_word) ⊎ ((r : ℕ) × (r < most_records) × (i ≡ done_word r))
 
 -- the version, if its record's word DONE is not the mask of the word that was noted
 abbrev pub found_now : Option ℕ → ℕ → ℕ → List ℕ
@@ -170,12 +174,12 @@ module _ {S : Type 0} where
 
   -- ---- for tests
 
-  -- some word was loaded, and nothing is said of it
+  -- a word was loaded, and nothing is said of what was found
   abbrev pub Glances : Me S View → Me S View → Type 0
   Glances m m' = m' ≡ (record m.0 { asked = m.0.asked + 1 }, m.1)
 
   abbrev pub glances : Step S → Me S View → ℕ → Me S View → Type 0
-  glances st m r m' = Glances m m'
+  glances st m r m' = IsMaskWord st.word × Glances m m'
 
 module _ {S : Type 0} (T : Meaning S) where
   -- a word of a blank row, or of a record that was found drained

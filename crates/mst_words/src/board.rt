@@ -99,11 +99,7 @@ impl<A: Allocator + Copy> Board<A> {
             → Takes (stored seat.old.me.0.format) seat.old.me seat.new.me }
         ensures missed { result ≡ false → Misses seat.old.me seat.new.me }
     {
-        let found = self
-            .table
-            .shared
-            .compare_exchange::<TakeTurn>(seat, TURN, 0, u64::from(number));
-        found == 0
+        self.claim_by::<TakeTurn>(seat, TURN, u64::from(number)) == 0
     }
 
     /// Takes the desk out of the slot: one exchange.
@@ -144,6 +140,6 @@ impl<A: Allocator + Copy> Board<A> {
         ensures same { (seat.new.table_id ≡ seat.old.table_id) × (seat.new.id ≡ seat.old.id) }
         ensures gave { Gives seat.old.me seat.new.me }
     {
-        self.table.shared.store::<GiveTurn>(seat, TURN, 0);
+        self.store_by::<GiveTurn>(seat, TURN, 0);
     }
 }

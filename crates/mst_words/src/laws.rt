@@ -13,8 +13,9 @@ ghost use Rattle.mst_words.specs.Layout.{row_words, row_word, current_word};
 ghost use Rattle.mst_words.specs.Records.{IsLive};
 ghost use Rattle.mst_words.specs.Steps.{IsWritable, IsReady};
 ghost use Rattle.mst_words.specs.Stored.{stored, Reaches, version_of};
-ghost use Rattle.mst_words.specs.Laws.{Table, IsRuled, HaveSeen, HaveMade, HasTurn, IsWordOf, Tells, IsPublication, IsOther, Deed};
-ghost use Rattle.mst_words.specs.Moves.{IsReachedBy, IsOpened, MayDo, Does, moves_of, MakesCurrent, ChangesSeats, IsLedTo};
+ghost use Rattle.mst_words.specs.Laws.{Table, IsRuled, HaveSeen, HaveMade, HasTurn, IsWordOf, Tells, IsPublication, IsOther};
+ghost use Rattle.mst_words.specs.Deeds.{Deed, MayDo};
+ghost use Rattle.mst_words.specs.Moves.{IsReachedBy, IsOpened, Does, moves_of, MakesCurrent, ChangesSeats, IsLedTo};
 ghost use Rattle.mst_words.specs.World.{SeatAt};
 
 /// What the rule says of the history and of what may be written.

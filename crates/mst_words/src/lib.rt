@@ -26,6 +26,7 @@
 #![tactic(auto)]
 
 mod board;
+mod doing;
 mod laws;
 pub mod layout;
 mod notes;

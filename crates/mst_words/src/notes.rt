@@ -7,28 +7,28 @@ ghost use Rattle.mst_words.specs.Notes.{note_of, having_heard, SeesAll, SeesTold
 
 use crate::board::{Board, Token};
 use crate::layout::CURRENT;
+use crate::plays::HasDeed;
 use crate::view::View;
-use atomic_table::{Join, Play, Split};
-use mst_arena::Desk;
+use atomic_table::{Join, Split};
 use std::alloc::Allocator;
 use std::marker::{Brand, PhantomData};
 
 /// The whole history is seen.
 pub struct SeeAll;
 
-impl<A: Allocator> Play<Option<Desk<A>>, View> for SeeAll {
-    ghost use Rattle.mst_words.specs.Notes.{sees_all};
+impl HasDeed for SeeAll {
+    ghost use Rattle.mst_words.specs.Deeds.{seeing_all};
 
-    ghost then = { sees_all };
+    ghost deed = { seeing_all };
 }
 
 /// What a note told is seen.
 pub struct SeeTold;
 
-impl<A: Allocator> Play<Option<Desk<A>>, View> for SeeTold {
-    ghost use Rattle.mst_words.specs.Notes.{sees_told};
+impl HasDeed for SeeTold {
+    ghost use Rattle.mst_words.specs.Deeds.{seeing_told};
 
-    ghost then = { sees_told };
+    ghost deed = { seeing_told };
 }
 
 /// A note is written of what a seat has seen.
@@ -77,7 +77,7 @@ impl<A: Allocator + Copy> Board<A> {
         ensures same { (seat.new.table_id ≡ seat.old.table_id) × (seat.new.id ≡ seat.old.id) }
         ensures seen { SeesAll seat.old.me seat.new.me }
     {
-        self.table.shared.load::<SeeAll>(seat, CURRENT);
+        self.load_by::<SeeAll>(seat, CURRENT);
     }
 
     /// Sees the history that a note told of, and no more. It has to begin with what the seat has
@@ -90,7 +90,7 @@ impl<A: Allocator + Copy> Board<A> {
         ensures same { (seat.new.table_id ≡ seat.old.table_id) × (seat.new.id ≡ seat.old.id) }
         ensures seen { SeesTold seat.old.me seat.new.me }
     {
-        self.table.shared.load::<SeeTold>(seat, CURRENT);
+        self.load_by::<SeeTold>(seat, CURRENT);
     }
 
     /// Writes a note of what the seat has seen.

@@ -3,7 +3,7 @@ ghost use Rattle.std.specs.Prelude.{◌≡◌, ◌+◌, ◌%◌, ◌^◌, ◌<�
 ghost use Rattle.mst_words.specs.Access.{IsSameSeat};
 ghost use Rattle.mst_words.specs.Layout.{most_passes, most_records, table_words};
 ghost use Rattle.mst_words.specs.Stored.{stored};
-ghost use Rattle.mst_words.specs.Steps.{IsFree, IsPinned, PinsNow, Unpins, Forgets, IsReadable, Glances};
+ghost use Rattle.mst_words.specs.Steps.{IsFree, IsPinned, PinsNow, Unpins, Forgets, IsReadable, IsMaskWord, Glances};
 
 use crate::board::{Board, Token};
 use crate::layout::{CURRENT, FIRST_DONE, MASKS};
@@ -33,10 +33,7 @@ impl<A: Allocator + Copy> Board<A> {
             × (p : PinsNow (stored seat.old.me.0.format) seat.old.me found seat.new.me)
             × (p.cur ≡ result) }
     {
-        let found = self
-            .table
-            .shared
-            .fetch_xor::<Pin>(seat, CURRENT, bit_of(number));
+        let found = self.xor_by::<Pin>(seat, CURRENT, bit_of(number));
         (found >> 32) as u32
     }
 
@@ -52,9 +49,7 @@ impl<A: Allocator + Copy> Board<A> {
         ensures same { (seat.new.table_id ≡ seat.old.table_id) × (seat.new.id ≡ seat.old.id) }
         ensures free { Unpins seat.old.me seat.new.me }
     {
-        self.table
-            .shared
-            .fetch_xor::<Unpin>(seat, which as usize + FIRST_DONE, bit_of(number));
+        self.xor_by::<Unpin>(seat, which as usize + FIRST_DONE, bit_of(number));
     }
 
     /// Ends the pin as [`Board::unpin`] does, but the pass has seen no more than before its pin.
@@ -68,9 +63,7 @@ impl<A: Allocator + Copy> Board<A> {
         ensures same { (seat.new.table_id ≡ seat.old.table_id) × (seat.new.id ≡ seat.old.id) }
         ensures free { Forgets seat.old.me seat.new.me }
     {
-        self.table
-            .shared
-            .fetch_xor::<Forget>(seat, which as usize + FIRST_DONE, bit_of(number));
+        self.xor_by::<Forget>(seat, which as usize + FIRST_DONE, bit_of(number));
     }
 
     /// Loads a word of a record or of a row: one load.
@@ -82,7 +75,7 @@ impl<A: Allocator + Copy> Board<A> {
             × (seat.new.me ≡ seat.old.me) }
         ensures value { result ≡ slice_index seat.old.me.0.known_words word }
     {
-        self.table.shared.load::<Read>(seat, word)
+        self.load_by::<Read>(seat, word)
     }
 }
 
@@ -94,14 +87,15 @@ fn low_half(word: u64) -> u32
 }
 
 impl<A: Allocator + Copy> Board<A> {
-    /// For tests: loads a word, of which nothing is said: one load.
+    /// For tests: loads a word of pins, of which nothing is said: one load.
     pub(crate) fn glance(&self, seat: &mut Token<A>, word: usize) -> u64
         requires own { seat.old.table_id ≡ self.now }
         requires there { word < self.now.words }
+        requires mask { IsMaskWord word }
         ensures same { (seat.new.table_id ≡ seat.old.table_id) × (seat.new.id ≡ seat.old.id) }
         ensures counted { Glances seat.old.me seat.new.me }
     {
-        self.table.shared.load::<Glance>(seat, word)
+        self.load_by::<Glance>(seat, word)
     }
 }
 

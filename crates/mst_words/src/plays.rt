@@ -1,73 +1,134 @@
-//! What each step tells the seat that makes it.
+//! What each step tells the seat that makes it: a deed names it, or it is a publication.
 use crate::view::View;
 use atomic_table::{Play, Split};
 use mst_arena::Desk;
 use std::alloc::Allocator;
 use std::marker::{Brand, PhantomData};
 
+/// A step that is a deed. What it tells its seat, and who may do it, is said of its deed alone.
+pub trait HasDeed {
+    ghost use Rattle.mst_words.specs.Deeds.{Deed};
+
+    ghost deed: { Deed };
+}
+
+/// A step of the deed is made.
+pub struct Doing<D: HasDeed> {
+    deed: PhantomData<D>,
+}
+
+impl<A: Allocator, D: HasDeed> Play<Option<Desk<A>>, View> for Doing<D> {
+    ghost use Rattle.mst_words.specs.Deeds.{told_by};
+
+    ghost then = { told_by D.deed };
+}
+
 /// The turn is taken, or another pass has it.
 pub struct TakeTurn;
 
-impl<A: Allocator> Play<Option<Desk<A>>, View> for TakeTurn {
-    ghost use Rattle.mst_words.specs.Stored.{stored};
-    ghost use Rattle.mst_words.specs.Steps.{takes_turn};
+impl HasDeed for TakeTurn {
+    ghost use Rattle.mst_words.specs.Deeds.{trying};
 
-    ghost then = { λ st m r n. takes_turn (stored m.0.format) st m r n };
+    ghost deed = { trying };
 }
 
 /// The turn is given back.
 pub struct GiveTurn;
 
-impl<A: Allocator> Play<Option<Desk<A>>, View> for GiveTurn {
-    ghost use Rattle.mst_words.specs.Steps.{gives_turn};
+impl HasDeed for GiveTurn {
+    ghost use Rattle.mst_words.specs.Deeds.{giving};
 
-    ghost then = { gives_turn };
+    ghost deed = { giving };
 }
 
 /// The current record is pinned.
 pub struct Pin;
 
-impl<A: Allocator> Play<Option<Desk<A>>, View> for Pin {
-    ghost use Rattle.mst_words.specs.Stored.{stored};
-    ghost use Rattle.mst_words.specs.Steps.{pins_now};
+impl HasDeed for Pin {
+    ghost use Rattle.mst_words.specs.Deeds.{pinning};
 
-    ghost then = { λ st m r n. pins_now (stored m.0.format) st m r n };
+    ghost deed = { pinning };
 }
 
 /// The pin ends, and the history at the pin is seen.
 pub struct Unpin;
 
-impl<A: Allocator> Play<Option<Desk<A>>, View> for Unpin {
-    ghost use Rattle.mst_words.specs.Steps.{unpins};
+impl HasDeed for Unpin {
+    ghost use Rattle.mst_words.specs.Deeds.{unpinning};
 
-    ghost then = { unpins };
+    ghost deed = { unpinning };
 }
 
 /// The pin ends, and nothing more is seen.
 pub struct Forget;
 
-impl<A: Allocator> Play<Option<Desk<A>>, View> for Forget {
-    ghost use Rattle.mst_words.specs.Steps.{forgets};
+impl HasDeed for Forget {
+    ghost use Rattle.mst_words.specs.Deeds.{forgetting};
 
-    ghost then = { forgets };
+    ghost deed = { forgetting };
 }
 
 /// A word of a record or a row is loaded.
 pub struct Read;
 
-impl<A: Allocator> Play<Option<Desk<A>>, View> for Read {
-    ghost use Rattle.mst_words.specs.Steps.{reads};
+impl HasDeed for Read {
+    ghost use Rattle.mst_words.specs.Deeds.{reading};
 
-    ghost then = { reads };
+    ghost deed = { reading };
 }
 
 /// A word of a blank row or of a drained record is stored.
 pub struct Write;
 
-impl<A: Allocator> Play<Option<Desk<A>>, View> for Write {
-    ghost use Rattle.mst_words.specs.Steps.{writes};
+impl HasDeed for Write {
+    ghost use Rattle.mst_words.specs.Deeds.{writing};
 
-    ghost then = { writes };
+    ghost deed = { writing };
+}
+
+/// The mask that a publication brought back goes into the old record's word.
+pub struct Transfer;
+
+impl HasDeed for Transfer {
+    ghost use Rattle.mst_words.specs.Deeds.{transferring};
+
+    ghost deed = { transferring };
+}
+
+/// The holder of the turn asks whether somebody pins a record.
+pub struct Ask;
+
+impl HasDeed for Ask {
+    ghost use Rattle.mst_words.specs.Deeds.{asking};
+
+    ghost deed = { asking };
+}
+
+/// The holder of the turn notes the word of the current record.
+pub struct NoteCurrent;
+
+impl HasDeed for NoteCurrent {
+    ghost use Rattle.mst_words.specs.Deeds.{noting};
+
+    ghost deed = { noting };
+}
+
+/// The holder of the turn loads the current record's own word.
+pub struct AskCurrent;
+
+impl HasDeed for AskCurrent {
+    ghost use Rattle.mst_words.specs.Deeds.{asking_current};
+
+    ghost deed = { asking_current };
+}
+
+/// For tests: a word of pins is loaded, and nothing is said of what was found.
+pub struct Glance;
+
+impl HasDeed for Glance {
+    ghost use Rattle.mst_words.specs.Deeds.{glancing};
+
+    ghost deed = { glancing };
 }
 
 /// Which event a publication adds to the history, and what the desk then knows. Each call that
@@ -99,52 +160,6 @@ impl<A: Allocator, J: Naming> Play<Option<Desk<A>>, View> for Publish<J> {
     ghost use Rattle.mst_words.specs.Steps.{publishes};
 
     ghost then = { publishes J.event J.desk };
-}
-
-/// The mask that a publication brought back goes into the old record's word.
-pub struct Transfer;
-
-impl<A: Allocator> Play<Option<Desk<A>>, View> for Transfer {
-    ghost use Rattle.mst_words.specs.Steps.{transfers};
-
-    ghost then = { transfers };
-}
-
-/// The holder of the turn asks whether somebody pins a record.
-pub struct Ask;
-
-impl<A: Allocator> Play<Option<Desk<A>>, View> for Ask {
-    ghost use Rattle.mst_words.specs.Stored.{stored};
-    ghost use Rattle.mst_words.specs.Steps.{asks};
-
-    ghost then = { λ st m r n. asks (stored m.0.format) st m r n };
-}
-
-/// The holder of the turn notes the word of the current record.
-pub struct NoteCurrent;
-
-impl<A: Allocator> Play<Option<Desk<A>>, View> for NoteCurrent {
-    ghost use Rattle.mst_words.specs.Steps.{notes_current};
-
-    ghost then = { notes_current };
-}
-
-/// The holder of the turn loads the current record's own word.
-pub struct AskCurrent;
-
-impl<A: Allocator> Play<Option<Desk<A>>, View> for AskCurrent {
-    ghost use Rattle.mst_words.specs.Steps.{asks_current};
-
-    ghost then = { asks_current };
-}
-
-/// For tests: a word is loaded, of which nothing is said.
-pub struct Glance;
-
-impl<A: Allocator> Play<Option<Desk<A>>, View> for Glance {
-    ghost use Rattle.mst_words.specs.Steps.{glances};
-
-    ghost then = { glances };
 }
 
 /// The dealer deals the next pass.

@@ -25,7 +25,7 @@ impl<A: Allocator + Copy> Board<A> {
           seat.old.me.1,
         ) }
     {
-        self.table.shared.store::<Write>(seat, word, value);
+        self.store_by::<Write>(seat, word, value);
     }
 
     /// Asks whether a record other than the current one is drained: one load of its word DONE.
@@ -42,10 +42,7 @@ impl<A: Allocator + Copy> Board<A> {
         ensures blocked { result ≡ false → Blocked (stored seat.old.me.0.format) which seat.old.me
             seat.new.me }
     {
-        self.table
-            .shared
-            .load::<Ask>(seat, which as usize + FIRST_DONE)
-            == 0
+        self.load_by::<Ask>(seat, which as usize + FIRST_DONE) == 0
     }
 
     /// Publishes a drained record: one swap of the word of the current record, with an empty mask.
@@ -82,9 +79,7 @@ impl<A: Allocator + Copy> Board<A> {
         ensures same { (seat.new.table_id ≡ seat.old.table_id) × (seat.new.id ≡ seat.old.id) }
         ensures settled { Transfers seat.old.me seat.new.me }
     {
-        self.table
-            .shared
-            .fetch_xor::<Transfer>(seat, old as usize + FIRST_DONE, mask);
+        self.xor_by::<Transfer>(seat, old as usize + FIRST_DONE, mask);
     }
 
     /// Notes the word of the current record: one load. It returns the word.
@@ -95,7 +90,7 @@ impl<A: Allocator + Copy> Board<A> {
         ensures same { (seat.new.table_id ≡ seat.old.table_id) × (seat.new.id ≡ seat.old.id) }
         ensures noted { NotesCurrent seat.old.me result seat.new.me }
     {
-        self.table.shared.load::<NoteCurrent>(seat, CURRENT)
+        self.load_by::<NoteCurrent>(seat, CURRENT)
     }
 
     /// Loads the current record's own word DONE. In a store of one pass it is the mask that was
@@ -109,8 +104,6 @@ impl<A: Allocator + Copy> Board<A> {
         ensures same { (seat.new.table_id ≡ seat.old.table_id) × (seat.new.id ≡ seat.old.id) }
         ensures asked { AsksCurrent seat.old.me result seat.new.me }
     {
-        self.table
-            .shared
-            .load::<AskCurrent>(seat, current as usize + FIRST_DONE)
+        self.load_by::<AskCurrent>(seat, current as usize + FIRST_DONE)
     }
 }

@@ -1,16 +1,27 @@
-use Rattle.std.proofs.Common.{rules, arith, ap}
-use Rattle.atomic_table.specs.Seated.{TableId}
-use Rattle.mst_words.specs.Stored.{stored}
-use Rattle.mst_words.proofs.Framed.{stored_framed}
-use Rattle.mst_words.proofs.HoldSteps.{asks_current_allows}
+use Rattle.std.proofs.Common.{ℕ, ◌+◌, ap, arith, refl, rules}
 use Rattle.mst_words.proofs.board.Board.ask_current.Goals as goal
 
-pub load-requires : goal.load-requires
-load-requires g c = let r =
-    c.requires in (
-      search rules,
-      (let v = ap (λ (z : TableId). z.words) c.self.view_is in let e =
-          r.wide in let l = r.there in omega arith),
-      asks_current_allows (stored _) (stored_framed _) _ _
-          _ _ c.args.current c.args.seat.now.me r.holder r.current,
-    )
+pub load_by-requires-clause-own : goal.load_by-requires-clause-own
+load_by-requires-clause-own g c = search rules
+
+pub load_by-requires-clause-there : goal.load_by-requires-clause-there
+load_by-requires-clause-there g c = let e = c.requires.wide in let l = c.requires.there in
+    omega arith
+
+pub load_by-requires-clause-may : goal.load_by-requires-clause-may
+load_by-requires-clause-may g c = (
+  ap (λ (r : ℕ). r + 2) c.requires.current,
+  c.requires.holder,
+)
+
+pub load_by-requires-clause-leaves : goal.load_by-requires-clause-leaves
+load_by-requires-clause-leaves g c = λ n. refl
+
+pub returns-clause-same : goal.returns-clause-same
+returns-clause-same g c = search rules
+
+pub returns-clause-asked : goal.returns-clause-asked
+returns-clause-asked g c = search rules
+
+pub overflow_add-current : goal.overflow_add-current
+overflow_add-current g c = search rules

@@ -1,15 +1,20 @@
-use Rattle.std.proofs.Common.{rules, arith, ap}
-use Rattle.atomic_table.specs.Seated.{TableId}
-use Rattle.mst_words.proofs.Formats.{gives_by}
+use Rattle.std.proofs.Common.{arith, refl, rules}
 use Rattle.mst_words.proofs.board.Board.give_turn.Goals as goal
 
-pub store-requires : goal.store-requires
-store-requires g c = let h = c.requires.giving in (
-  search rules,
-  (let v = ap (λ (z : TableId). z.words) c.self.view_is in let e =
-      c.requires.wide in omega arith),
-  gives_by _ _ _ _ _ h.0 h.1 c.args.seat.now.me h.2,
-)
+pub store_by-requires-clause-own : goal.store_by-requires-clause-own
+store_by-requires-clause-own g c = search rules
+
+pub store_by-requires-clause-there : goal.store_by-requires-clause-there
+store_by-requires-clause-there g c = let e = c.requires.wide in omega arith
+
+pub store_by-requires-clause-may : goal.store_by-requires-clause-may
+store_by-requires-clause-may g c = (refl, c.requires.giving)
+
+pub store_by-requires-clause-stores : goal.store_by-requires-clause-stores
+store_by-requires-clause-stores g c = λ n. refl
+
+pub store_by-requires-clause-blind : goal.store_by-requires-clause-blind
+store_by-requires-clause-blind g c = λ n m t. t
 
 pub returns-clause-same : goal.returns-clause-same
 returns-clause-same g c = search rules

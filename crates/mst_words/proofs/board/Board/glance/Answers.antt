@@ -1,13 +1,20 @@
-use Rattle.std.proofs.Common.{rules}
-use Rattle.mst_words.specs.Stored.{stored}
-use Rattle.mst_words.proofs.Framed.{stored_framed}
-use Rattle.mst_words.proofs.Hearing.{glances_allows}
+use Rattle.std.proofs.Common.{refl, rules}
 use Rattle.mst_words.proofs.board.Board.glance.Goals as goal
 
-pub load-requires : goal.load-requires
-load-requires g c = (
-  search rules,
-  search rules,
-  glances_allows (stored _) (stored_framed _) _ _ _ _ _
-      c.args.seat.now.me,
-)
+pub load_by-requires-clause-own : goal.load_by-requires-clause-own
+load_by-requires-clause-own g c = search rules
+
+pub load_by-requires-clause-there : goal.load_by-requires-clause-there
+load_by-requires-clause-there g c = search rules
+
+pub load_by-requires-clause-may : goal.load_by-requires-clause-may
+load_by-requires-clause-may g c = search rules
+
+pub load_by-requires-clause-leaves : goal.load_by-requires-clause-leaves
+load_by-requires-clause-leaves g c = λ n. refl
+
+pub returns-clause-same : goal.returns-clause-same
+returns-clause-same g c = search rules
+
+pub returns-clause-counted : goal.returns-clause-counted
+returns-clause-counted g c = search rules

@@ -1,15 +1,20 @@
-use Rattle.std.proofs.Common.{rules, arith, ap}
-use Rattle.atomic_table.specs.Seated.{TableId}
-use Rattle.mst_words.specs.Stored.{stored}
-use Rattle.mst_words.proofs.Framed.{stored_framed}
-use Rattle.mst_words.proofs.Hearing.{all_allows}
+use Rattle.std.proofs.Common.{arith, refl, rules}
 use Rattle.mst_words.proofs.board.Board.see_all.Goals as goal
 
-pub load-requires : goal.load-requires
-load-requires g c = (
-  search rules,
-  (let v = ap (λ (z : TableId). z.words) c.self.view_is in let e =
-      c.requires.wide in omega arith),
-  all_allows (stored _) (stored_framed _) _ _ _ _
-      c.args.seat.now.me c.requires.off,
-)
+pub load_by-requires-clause-own : goal.load_by-requires-clause-own
+load_by-requires-clause-own g c = search rules
+
+pub load_by-requires-clause-there : goal.load_by-requires-clause-there
+load_by-requires-clause-there g c = let e = c.requires.wide in omega arith
+
+pub load_by-requires-clause-may : goal.load_by-requires-clause-may
+load_by-requires-clause-may g c = (refl, c.requires.off)
+
+pub load_by-requires-clause-leaves : goal.load_by-requires-clause-leaves
+load_by-requires-clause-leaves g c = λ n. refl
+
+pub returns-clause-same : goal.returns-clause-same
+returns-clause-same g c = search rules
+
+pub returns-clause-seen : goal.returns-clause-seen
+returns-clause-seen g c = search rules

@@ -1,16 +1,19 @@
-use Rattle.std.proofs.Common.{rules, arith, ap}
-use Rattle.atomic_table.specs.Seated.{TableId}
-use Rattle.mst_words.proofs.Formats.{takes_by}
+use Rattle.std.proofs.Common.{ℕ, eqb, cond, sym, ◌∙◌, ap, arith, refl, rules}
+use Rattle.mst_words.proofs.ByDeed.{own_free}
 use Rattle.mst_words.proofs.board.Board.take_turn.Goals as goal
 
-pub compare_exchange-found-requires : goal.compare_exchange-found-requires
-compare_exchange-found-requires g c = (
-  search rules,
-  (let v = ap (λ (z : TableId). z.words) c.self.view_is in let e =
-      c.requires.wide in omega arith),
-  takes_by _ _ _ _ _ c.from.result c.args.number
-      c.args.seat.now.me c.from.ensures c.requires.free,
-)
+pub claim_by-requires-clause-own : goal.claim_by-requires-clause-own
+claim_by-requires-clause-own g c = search rules
+
+pub claim_by-requires-clause-there : goal.claim_by-requires-clause-there
+claim_by-requires-clause-there g c = let e = c.requires.wide in omega arith
+
+pub claim_by-requires-clause-may : goal.claim_by-requires-clause-may
+claim_by-requires-clause-may g c = (refl, own_free c.args.number c.args.seat.now.me c.requires.free)
+
+pub claim_by-requires-clause-claims : goal.claim_by-requires-clause-claims
+claim_by-requires-clause-claims g c = λ n.
+    ap (λ (p : ℕ). cond (eqb n 0) p n) (c.requires.free.3 ∙ sym c.from.ensures)
 
 pub returns-clause-same : goal.returns-clause-same
 returns-clause-same g c = search rules

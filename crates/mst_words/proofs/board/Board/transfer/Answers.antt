@@ -1,18 +1,19 @@
-use Rattle.std.proofs.Common.{rules, arith, ap}
-use Rattle.atomic_table.specs.Seated.{TableId}
-use Rattle.mst_words.specs.Stored.{stored}
-use Rattle.mst_words.proofs.Framed.{stored_framed}
-use Rattle.mst_words.proofs.HoldSteps.{transfers_allows}
+use Rattle.std.proofs.Common.{ℕ, bit_xor, sym, ap, arith, refl, rules}
 use Rattle.mst_words.proofs.board.Board.transfer.Goals as goal
 
-pub fetch_xor-requires : goal.fetch_xor-requires
-fetch_xor-requires g c = let d = c.requires.due in (
-  search rules,
-  (let v = ap (λ (z : TableId). z.words) c.self.view_is in let e =
-      c.requires.wide in let l = c.requires.there in omega arith),
-  transfers_allows (stored _)
-      (stored_framed _) _ _ _ _ c.args.old c.args.mask c.args.seat.now.me d.0 d.1 d.2,
-)
+pub xor_by-requires-clause-own : goal.xor_by-requires-clause-own
+xor_by-requires-clause-own g c = search rules
+
+pub xor_by-requires-clause-there : goal.xor_by-requires-clause-there
+xor_by-requires-clause-there g c = let e = c.requires.wide in let l = c.requires.there in
+    omega arith
+
+pub xor_by-requires-clause-may : goal.xor_by-requires-clause-may
+xor_by-requires-clause-may g c = let d = c.requires.due in ((c.args.old, d.1, refl), d.0)
+
+pub xor_by-requires-clause-turns : goal.xor_by-requires-clause-turns
+xor_by-requires-clause-turns g c = λ n.
+    ap (λ (b : ℕ). bit_xor n b) (sym c.requires.due.2)
 
 pub returns-clause-same : goal.returns-clause-same
 returns-clause-same g c = search rules

@@ -1,0 +1,19 @@
+use Rattle.std.proofs.Common.{rules}
+use Rattle.mst_words.proofs.ByDeed.{stored_by}
+use Rattle.mst_words.proofs.board.Board.store_by.Goals as goal
+
+pub store-requires : goal.store-requires
+store-requires g c = (
+  search rules,
+  search rules,
+  rw c.self.view_is
+      (stored_by _ _ _ _ _ c.args.seat.now.me g.D.HasDeed.deed c.args.word c.args.value
+      c.requires.may
+      c.requires.stores c.requires.blind),
+)
+
+pub returns-clause-same : goal.returns-clause-same
+returns-clause-same g c = search rules
+
+pub returns-clause-tells : goal.returns-clause-tells
+returns-clause-tells g c = search rules
