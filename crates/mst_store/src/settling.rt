@@ -11,7 +11,7 @@ ghost use Rattle.mst_store.specs.Settling.{having_seen, Met, AreAllPasses, Settl
 
 use crate::pass::Pass;
 use crate::pinned::Pinned;
-use mst_words::PassSeat;
+use mst_words::Courier;
 use std::alloc::Allocator;
 use std::marker::Brand;
 
@@ -52,7 +52,7 @@ pub fn settle<'a, A: Allocator + Copy>(free: &mut [Pass<'a, A>], held: &mut [Pin
 fn first_courier<'a, A: Allocator + Copy>(
     free: &mut [Pass<'a, A>],
     held: &mut [Pinned<'a, A>],
-) -> Option<PassSeat<'a, A>>
+) -> Option<Courier<'a, A>>
     requires whole { AreAllPasses (free.old ++ held.old) }
     ensures same { (free.new ≡ free.old) × (held.new ≡ held.old) }
     ensures none { IfNone result ((free.old ≡ []) × (held.old ≡ [])) }
@@ -71,30 +71,30 @@ fn first_courier<'a, A: Allocator + Copy>(
 }
 
 /// A courier that has heard what the pass has seen, and has looked.
-fn send_courier<'a, A: Allocator + Copy>(pass: &mut Pass<'a, A>) -> PassSeat<'a, A>
+fn send_courier<'a, A: Allocator + Copy>(pass: &mut Pass<'a, A>) -> Courier<'a, A>
     ensures same { pass.new ≡ pass.old }
     ensures courier { IsCourier result.me }
     ensures own { IsBeside result.table result.me.0.passes pass.old }
     ensures later { IsPrefix pass.old.seen result.me.0.seen }
 {
-    let mut courier = pass.seat.write_note();
+    let mut courier = pass.seat.write_note().into_courier();
     courier.see_all();
     courier
 }
 
 /// A courier that has looked, from a pinned pass.
-fn send_pinned_courier<'a, A: Allocator + Copy>(pinned: &mut Pinned<'a, A>) -> PassSeat<'a, A>
+fn send_pinned_courier<'a, A: Allocator + Copy>(pinned: &mut Pinned<'a, A>) -> Courier<'a, A>
     ensures same { pinned.new ≡ pinned.old }
     ensures courier { IsCourier result.me }
     ensures own { IsBeside result.table result.me.0.passes pinned.old }
 {
-    let mut courier = pinned.seat.write_note();
+    let mut courier = pinned.seat.write_note().into_courier();
     courier.see_all();
     courier
 }
 
 /// The way there: the courier hears what each pass has seen, and looks after each.
-fn collect_all<'a, A: Allocator + Copy>(line: &mut [Pass<'a, A>], courier: &mut PassSeat<'a, A>)
+fn collect_all<'a, A: Allocator + Copy>(line: &mut [Pass<'a, A>], courier: &mut Courier<'a, A>)
     requires own { All (IsBeside courier.old.table courier.old.me.0.passes) line.old }
     requires courier { IsCourier courier.old.me }
     ensures same { line.new ≡ line.old }
@@ -109,7 +109,7 @@ fn collect_all<'a, A: Allocator + Copy>(line: &mut [Pass<'a, A>], courier: &mut 
 
 /// The way there along the pinned passes: each looks, the courier hears what it has seen, and looks
 /// too.
-fn collect_held<'a, A: Allocator + Copy>(line: &mut [Pinned<'a, A>], courier: &mut PassSeat<'a, A>)
+fn collect_held<'a, A: Allocator + Copy>(line: &mut [Pinned<'a, A>], courier: &mut Courier<'a, A>)
     requires own { All (IsBeside courier.old.table courier.old.me.0.passes) line.old }
     requires courier { IsCourier courier.old.me }
     ensures asked { line.new ≡ map (having_asked 1) line.old }
@@ -123,7 +123,7 @@ fn collect_held<'a, A: Allocator + Copy>(line: &mut [Pinned<'a, A>], courier: &m
 }
 
 /// The way back: each pass hears what the courier has seen, and has then seen it too.
-fn deliver_all<'a, A: Allocator + Copy>(line: &mut [Pass<'a, A>], courier: &mut PassSeat<'a, A>)
+fn deliver_all<'a, A: Allocator + Copy>(line: &mut [Pass<'a, A>], courier: &mut Courier<'a, A>)
     requires own { All (IsBeside courier.old.table courier.old.me.0.passes) line.old }
     requires later { All (λ p. IsPrefix p.seen courier.old.me.0.seen) line.old }
     ensures table { courier.new.table ≡ courier.old.table }
@@ -137,7 +137,7 @@ fn deliver_all<'a, A: Allocator + Copy>(line: &mut [Pass<'a, A>], courier: &mut 
 }
 
 /// The way back along the pinned passes: each hears what the courier has seen, and looks.
-fn deliver_held<'a, A: Allocator + Copy>(line: &mut [Pinned<'a, A>], courier: &mut PassSeat<'a, A>)
+fn deliver_held<'a, A: Allocator + Copy>(line: &mut [Pinned<'a, A>], courier: &mut Courier<'a, A>)
     requires own { All (IsBeside courier.old.table courier.old.me.0.passes) line.old }
     requires later { All (λ p. IsPrefix p.seen courier.old.me.0.seen) line.old }
     ensures asked { line.new ≡ map (having_asked 2) line.old }
@@ -149,7 +149,7 @@ fn deliver_held<'a, A: Allocator + Copy>(line: &mut [Pinned<'a, A>], courier: &m
 }
 
 /// The courier hears what the pass has seen, and looks.
-fn collect<'a, A: Allocator + Copy>(pass: &mut Pass<'a, A>, courier: &mut PassSeat<'a, A>)
+fn collect<'a, A: Allocator + Copy>(pass: &mut Pass<'a, A>, courier: &mut Courier<'a, A>)
     requires own { IsBeside courier.old.table courier.old.me.0.passes pass.old }
     requires courier { IsCourier courier.old.me }
     ensures same { pass.new ≡ pass.old }
@@ -163,7 +163,7 @@ fn collect<'a, A: Allocator + Copy>(pass: &mut Pass<'a, A>, courier: &mut PassSe
 }
 
 /// The pass hears what the courier has seen, and has then seen it too.
-fn deliver<'a, A: Allocator + Copy>(pass: &mut Pass<'a, A>, courier: &mut PassSeat<'a, A>)
+fn deliver<'a, A: Allocator + Copy>(pass: &mut Pass<'a, A>, courier: &mut Courier<'a, A>)
     requires own { IsBeside courier.old.table courier.old.me.0.passes pass.old }
     requires later { IsPrefix pass.old.seen courier.old.me.0.seen }
     ensures table { courier.new.table ≡ courier.old.table }
@@ -178,10 +178,7 @@ fn deliver<'a, A: Allocator + Copy>(pass: &mut Pass<'a, A>, courier: &mut PassSe
 
 /// The pinned pass looks, so that it has seen the history at its pin; the courier hears what it has
 /// seen, and looks.
-fn collect_pinned<'a, A: Allocator + Copy>(
-    pinned: &mut Pinned<'a, A>,
-    courier: &mut PassSeat<'a, A>,
-)
+fn collect_pinned<'a, A: Allocator + Copy>(pinned: &mut Pinned<'a, A>, courier: &mut Courier<'a, A>)
     requires own { IsBeside courier.old.table courier.old.me.0.passes pinned.old }
     requires courier { IsCourier courier.old.me }
     ensures asked { pinned.new ≡ having_asked 1 pinned.old }
@@ -197,10 +194,7 @@ fn collect_pinned<'a, A: Allocator + Copy>(
 
 /// The pinned pass hears what the courier has seen, and looks: the whole history has no event of
 /// the pass that was not there at its pin, so the one between has none either.
-fn deliver_pinned<'a, A: Allocator + Copy>(
-    pinned: &mut Pinned<'a, A>,
-    courier: &mut PassSeat<'a, A>,
-)
+fn deliver_pinned<'a, A: Allocator + Copy>(pinned: &mut Pinned<'a, A>, courier: &mut Courier<'a, A>)
     requires own { IsBeside courier.old.table courier.old.me.0.passes pinned.old }
     requires later { IsPrefix pinned.old.seen courier.old.me.0.seen }
     ensures table { courier.new.table ≡ courier.old.table }

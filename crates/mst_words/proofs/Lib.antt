@@ -28,6 +28,7 @@ pub mod Limits
 pub mod WordWays
 pub mod Ruling
 pub mod Deeds
+pub mod CountLaws
 pub mod Moves
 pub mod Doable
 pub mod Worked

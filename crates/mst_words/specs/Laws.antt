@@ -103,3 +103,21 @@ pub record Hears (s t : Table) : Type 0 where
 abbrev pub IsOther : Table → Table → Type 0
 IsOther s t = ((deed : Deed) × Makes (told_by deed) s t) ⊎ (Adds having_dealt newcomer s t
     ⊎ (Adds (λ v. v) note_of s t ⊎ Hears s t))
+
+-- ---- counts
+
+-- How much a deed adds to `asked`: one if what it finds depends on what other passes do. Of the
+-- others no call returns what was found, but for `reading`, which finds what the seat knew
+abbrev pub count_of : Deed → ℕ
+count_of giving = 0
+count_of unpinning = 0
+count_of forgetting = 0
+count_of reading = 0
+count_of writing = 0
+count_of transferring = 0
+count_of deed = 1
+
+-- the seat is that of the same pass, or still of none, and has counted n more
+pub record HasCounted (n : ℕ) (v v' : View) : Type 0 where
+  pub asked : v'.asked ≡ v.asked + n
+  pub number : v'.number ≡ v.number

@@ -1,6 +1,6 @@
 //! Laws of the rule, each proved as the contract of a function that does nothing.
 ghost use Rattle.std.specs.Prelude.{◌≡◌, ◌<◌, ◌++◌, ℕ, List, [], ◌∷◌, length, slice_index, Option};
-ghost use Rattle.atomic_table.specs.Table.{Me};
+ghost use Rattle.atomic_table.specs.Table.{Me, Step};
 ghost use Rattle.mst_arena.specs.Lives.{State};
 ghost use Rattle.mst_words.specs.declared.view.DeskState.{DeskState};
 ghost use Rattle.mst_pin.specs.declared.event.Event as core;
@@ -11,12 +11,13 @@ ghost use Rattle.mst_words.specs.declared.view.View.{View};
 ghost use Rattle.mst_words.specs.declared.view.Shape.{Shape};
 ghost use Rattle.mst_words.specs.Layout.{row_words, row_word, current_word};
 ghost use Rattle.mst_words.specs.Records.{IsLive};
-ghost use Rattle.mst_words.specs.Steps.{IsWritable, IsReady};
+ghost use Rattle.mst_words.specs.Notes.{note_of, having_heard};
+ghost use Rattle.mst_words.specs.Steps.{IsDealer, IsWritable, IsReady, publishes};
 ghost use Rattle.mst_words.specs.Stored.{stored, Reaches, version_of};
-ghost use Rattle.mst_words.specs.Laws.{Table, IsRuled, HaveSeen, HaveMade, HasTurn, IsWordOf, Tells, IsPublication, IsOther};
-ghost use Rattle.mst_words.specs.Deeds.{Deed, MayDo};
+ghost use Rattle.mst_words.specs.Laws.{Table, IsRuled, HaveSeen, HaveMade, HasTurn, IsWordOf, Tells, IsPublication, IsOther, count_of, HasCounted};
+ghost use Rattle.mst_words.specs.Deeds.{Deed, MayDo, told_by};
 ghost use Rattle.mst_words.specs.Moves.{IsReachedBy, IsOpened, Does, moves_of, MakesCurrent, ChangesSeats, IsLedTo};
-ghost use Rattle.mst_words.specs.World.{SeatAt};
+ghost use Rattle.mst_words.specs.World.{SeatAt, newcomer};
 
 /// What the rule says of the history and of what may be written.
 pub fn rule_laws()
@@ -94,4 +95,22 @@ pub fn path_laws()
         (b : IsRuled z t) → IsReachedBy z moves s a → IsReachedBy z moves t b
         → (i j : ℕ) (v w : View) → SeatAt s.views i v → SeatAt t.views j w → 0 < v.number
         → w.number ≡ v.number → w.pin ≡ v.pin }
+{}
+
+/// What each step adds to its seat's count of those whose answer depends on what other passes do.
+/// The seat of a pass stays that of its pass.
+pub fn count_laws()
+    // a deed adds what it counts
+    ensures deed { (deed : Deed) (st : Step (Option State)) (m m' : Me (Option State) View) (r : ℕ)
+        → told_by deed st m r m' → HasCounted (count_of deed) m.0 m'.0 }
+    // a publication one
+    ensures publication { (e : Event) (d : DeskState) (st : Step (Option State))
+        (m m' : Me (Option State) View) (r : ℕ) → publishes e d st m r m'
+        → HasCounted 1 m.0 m'.0 }
+    // a note that is heard one
+    ensures heard { (v note : View) → HasCounted 1 v (having_heard v note) }
+    // a note, and so a courier, is no pass
+    ensures note { (v : View) → (note_of v).number ≡ 0 }
+    // what the dealer deals is one
+    ensures dealt { (m : Me (Option State) View) → IsDealer m → 0 < (newcomer m.0).number }
 {}

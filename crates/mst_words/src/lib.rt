@@ -26,6 +26,7 @@
 #![tactic(auto)]
 
 mod board;
+mod couriers;
 mod doing;
 mod laws;
 pub mod layout;
@@ -41,7 +42,8 @@ mod view;
 mod words;
 
 pub use board::{Board, Token};
-pub use laws::{path_laws, rule_laws};
+pub use couriers::{Courier, Note};
+pub use laws::{count_laws, path_laws, rule_laws};
 pub use notes::Telling;
 pub use plays::Naming;
 pub use seat::PassSeat;

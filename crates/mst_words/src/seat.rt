@@ -1,5 +1,5 @@
 //! A pass's seat at the table, with one call for each of its steps.
-ghost use Rattle.std.specs.Prelude.{◌≡◌, ◌≢◌, ◌∷◌, ◌+◌, ◌<◌, ◌≤◌, [], ℕ, List, true, false, slice_index, slice_set, Option, Some, None};
+ghost use Rattle.std.specs.Prelude.{◌≡◌, ◌≢◌, ◌∷◌, ◌+◌, ◌<◌, ◌≤◌, [], ℕ, List, true, false, slice_index, slice_set, IsSome, Option, Some, None};
 ghost use Rattle.mst_arena.specs.Lives.{State};
 ghost use Rattle.mst_arena.specs.Lists.{In};
 ghost use Rattle.mst_key.specs.History.{IsPrefix};
@@ -12,6 +12,7 @@ ghost use Rattle.mst_words.specs.World.{having_dealt, newcomer};
 ghost use Rattle.mst_words.specs.declared.view.DeskState.{DeskState};
 
 use crate::board::{Board, Token};
+use crate::couriers::Note;
 use crate::notes::Telling;
 use crate::plays::Naming;
 use mst_arena::Desk;
@@ -59,10 +60,11 @@ impl<A: Allocator + Copy> Board<A> {
         PassSeat { board: self, token }
     }
 
-    /// The seat whose token this is.
+    /// The seat of a pass whose token this is.
     pub fn seat<'a>(&'a self, token: Token<A>) -> PassSeat<'a, A>
         requires own { token.table_id ≡ self.now }
         requires wide { self.now.words ≡ table_words token.me.0.rows }
+        requires pass { 0 < token.me.0.number }
         ensures same { result ≡ record { table = token.table_id; id = token.id; me = token.me } }
     {
         PassSeat { board: self, token }
@@ -242,11 +244,12 @@ impl<'a, A: Allocator + Copy> PassSeat<'a, A> {
         self.board.note_current(&mut self.token)
     }
 
-    /// Loads the current record's own word DONE: one load. In a store of one pass it is the mask
-    /// that was noted. In a larger store nothing is said of it, since others may pin the record and
-    /// end their pins between the two loads.
+    /// Loads the current record's own word DONE: one load, after the word of the current record was
+    /// noted. In a store of one pass it is the mask that was noted. In a larger store nothing is
+    /// said of it, since others may pin the record and end their pins between the two loads.
     pub fn ask_current(&mut self, current: u32) -> u64
         requires holder { IsHolder self.old.me }
+        requires noted { IsSome self.old.me.0.noted }
         requires there { current < most_records }
         requires current { current ≡ self.old.me.0.desk.current }
         ensures same { IsSameSeat self.old self.new }
@@ -277,15 +280,14 @@ impl<'a, A: Allocator + Copy> PassSeat<'a, A> {
         self.board.see_told(&mut self.token)
     }
 
-    /// Writes a note of what the seat has seen: another seat at the table, which is no pass. It
-    /// costs one load.
-    pub fn write_note(&mut self) -> PassSeat<'a, A>
+    /// Writes a note of what the seat has seen. It costs one load.
+    pub fn write_note(&mut self) -> Note<'a, A>
         ensures kept { self.new ≡ self.old }
         ensures own { result.table ≡ self.old.table }
         ensures note { result.me ≡ (note_of self.old.me.0, []) }
     {
         let token = self.board.write_note(&mut self.token);
-        PassSeat {
+        Note {
             board: self.board,
             token,
         }
@@ -293,7 +295,7 @@ impl<'a, A: Allocator + Copy> PassSeat<'a, A> {
 
     /// Hears a note: the seat is told of the history that the note's writer had seen. It costs one
     /// load.
-    pub fn hear_note<J: Telling>(&mut self, note: PassSeat<'a, A>)
+    pub fn hear_note<J: Telling>(&mut self, note: Note<'a, A>)
         requires own { note.table ≡ self.old.table }
         requires named { J.note ≡ note.me.0 }
         requires empty { note.me.1 ≡ [] }
