@@ -2,7 +2,7 @@
 //!
 //! A table that is a constant costs its test's proof next to nothing, and the runner is proved
 //! once.
-use crate::keys::{events_are_compared, has_layer, has_sizes, key_is_cloned, value_is_cloned};
+use crate::keys::{edits_are_compared, has_layer, has_sizes, key_is_cloned, value_is_cloned};
 use crate::nodes::{
     has_entries, has_text, is_first, is_text_of_39, numbers_are_rooted, one_gap_is_rooted,
     two_are_rooted,
@@ -32,8 +32,8 @@ pub enum Case {
     KeyClone(Bytes),
     /// A value whose clone and copy are the same.
     ValueClone(Bytes),
-    /// A key and a value whose put is another event than the key's removal.
-    Events(Bytes, Bytes),
+    /// A key and a value whose put is another edit than the key's removal.
+    Edits(Bytes, Bytes),
     /// What a key of no right size prints, a value, refused memory, and a text of no node.
     KeySizePrints(Text),
     ValueSizePrints(Text),
@@ -136,7 +136,7 @@ fn holds(rt: &impl Abort, alloc: Global, case: Case) -> bool {
         Case::Layer(key, layer) => has_layer(rt, key, layer),
         Case::KeyClone(bytes) => key_is_cloned(rt, bytes),
         Case::ValueClone(bytes) => value_is_cloned(rt, bytes),
-        Case::Events(key, value) => events_are_compared(rt, key, value),
+        Case::Edits(key, value) => edits_are_compared(rt, key, value),
         other => prints_hold(rt, alloc, other),
     }
 }

@@ -6,7 +6,7 @@ ghost use Rattle.mst_key.specs.Map.{key_cmp};
 
 use crate::cases::{Case, ask};
 use crate::pairs::{key_of, value_of};
-use mst_key::{Change, Event, Format, Key, Value};
+use mst_key::{Edit, Key, Value};
 use std::alloc::{AllocError, Allocator, Global};
 use std::cmp::Ordering;
 use std::process::Abort;
@@ -43,7 +43,7 @@ fn same_value(one: &Value, other: &Value) -> bool
     one == other
 }
 
-fn same_event(one: &Event, other: &Event) -> bool
+fn same_edit(one: &Edit, other: &Edit) -> bool
     ensures { IsTrue result ↔ (one.now ≡ other.now) }
 {
     one == other
@@ -145,23 +145,18 @@ pub fn value_is_cloned(rt: &impl Abort, bytes: &[u8]) -> bool {
     clone.bytes() == bytes && same_value(&value, &value.copy())
 }
 
-/// Whether a put is the same event as itself, and another than the removal of its key and than a
-/// migration.
-pub fn events_are_compared(rt: &impl Abort, key: &[u8], value: &[u8]) -> bool {
+/// Whether a put is the same edit as itself, and another than the removal of its key.
+pub fn edits_are_compared(rt: &impl Abort, key: &[u8], value: &[u8]) -> bool {
     let key = key_of(rt, key);
-    let change = Change::Put(key.copy(), value_of(rt, value));
-    let put = Event { pass: 1, change };
-    let change = Change::Remove(key);
-    let remove = Event { pass: 1, change };
-    let change = Change::Migrate(Format::Two);
-    let moved = Event { pass: 1, change };
-    same_event(&put, &put) && !same_event(&put, &remove) && !same_event(&put, &moved)
+    let put = Edit::Put(key.copy(), value_of(rt, value));
+    let remove = Edit::Remove(key);
+    same_edit(&put, &put) && !same_edit(&put, &remove)
 }
 
 const CLONES: &[Case] = &[
     Case::KeyClone(&[0xff; 32]),
     Case::ValueClone(&[0x00; 64]),
-    Case::Events(&[0xff; 32], &[0x00; 64]),
+    Case::Edits(&[0xff; 32], &[0x00; 64]),
 ];
 
 #[test]
