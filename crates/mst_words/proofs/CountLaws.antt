@@ -5,7 +5,8 @@ use native.Mathlib.Decide.{ℕ_discrete}
 use Rattle.atomic_table.specs.Table.{Me, Step}
 use Rattle.mst_arena.specs.Lives as lives
 use Rattle.mst_words.specs.declared.view.View.{View}
-use Rattle.mst_words.specs.Laws.{Deed, told_by, trying, giving, pinning, unpinning, forgetting, reading, writing, transferring, asking, noting, asking_current, seeing_all, seeing_told, glancing, count_of, HasCounted}
+use Rattle.mst_words.specs.Deeds.{Deed, told_by, trying, giving, pinning, unpinning, forgetting, reading, writing, transferring, asking, noting, asking_current, seeing_all, seeing_told, glancing}
+use Rattle.mst_words.specs.Laws.{count_of, HasCounted}
 
 abbrev pub Mine : Type 0
 Mine = Me (Option lives.State) View
@@ -40,4 +41,4 @@ deed_counts noting st m m' r t = has 1 m m' _ t.1.is refl refl
 deed_counts asking_current st m m' r t = has 1 m m' _ t.1.is refl refl
 deed_counts seeing_all st m m' r t = has 1 m m' _ t.1.is refl refl
 deed_counts seeing_told st m m' r t = has 1 m m' _ t.1.is refl refl
-deed_counts glancing st m m' r t = has 1 m m' _ t refl refl
+deed_counts glancing st m m' r t = has 1 m m' _ t.1 refl refl

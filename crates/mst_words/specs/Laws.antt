@@ -15,7 +15,7 @@ use Rattle.mst_words.specs.World.{SeatAt, having_dealt, newcomer}
 use Rattle.mst_words.specs.Records.{field, row}
 use Rattle.mst_words.specs.Rule.{Ruled, IsSeen}
 use Rattle.mst_words.specs.Steps.{publishes}
-use Rattle.mst_words.specs.Deeds.{Told, Deed, told_by}
+use Rattle.mst_words.specs.Deeds.{Told, Deed, told_by, giving, unpinning, forgetting, reading, writing, transferring}
 use Rattle.mst_words.specs.Notes.{note_of, having_heard}
 use Rattle.mst_words.specs.Stored.{stored, StandsOn, contents_after}
 
