@@ -9,6 +9,9 @@
 //! - a newer answer against an older root digest, which is refused;
 //! - a version that the reader pinned, whose root digest and proofs stay while the writer goes on.
 //!
+//! The two passes never meet, so no contract says which of the writer's changes the reader sees:
+//! that it sees them all is tested.
+//!
 //! `rt run` in this folder proves it and runs it; `rt try` runs it unproved, in seconds.
 #![tactic(auto)]
 

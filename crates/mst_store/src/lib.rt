@@ -7,6 +7,7 @@
 //! let Ok(mut passes) = store.deal(rt.alloc(), seats) else { .. };
 //! let (Some(mut reader), Some(mut writer)) = (passes.pop(), passes.pop()) else { .. };
 //! writer.try_put(&apple, &Value::new(b"30")?)?     // None: apple had no value
+//! meet(&mut reader, &mut writer);                  // the reader has now seen that
 //! let mut pinned = reader.pin();
 //! writer.try_put(&apple, &Value::new(b"35")?)?     // Some(30)
 //! pinned.get(&apple)                               // Some(30), until unpin
