@@ -1,0 +1,71 @@
+/* A malloc that counts, and that refuses its n-th call. It stands before glibc's own. */
+#ifndef HEAP_H
+#define HEAP_H
+
+#include <malloc.h>
+#include <stdlib.h>
+
+extern void *__libc_malloc(size_t size);
+extern void *__libc_realloc(void *at, size_t size);
+extern void __libc_free(void *at);
+
+static int counting = 0;
+static long asked = 0;  /* how many calls asked for memory while counting */
+static long live = 0;   /* how many blocks were taken and not given back while counting */
+static size_t held = 0; /* how many bytes they have */
+static size_t peak = 0; /* how many they had at most */
+static long left = -1;  /* how many calls more are granted; -1: all */
+
+static int refuses(void) {
+    asked += counting;
+    return counting && left >= 0 && left-- == 0;
+}
+
+static void take(void *at) {
+    held += malloc_usable_size(at);
+    peak = held > peak ? held : peak;
+}
+
+void *malloc(size_t size) {
+    if (refuses())
+        return NULL;
+    void *at = __libc_malloc(size);
+    if (counting && at) {
+        live++;
+        take(at);
+    }
+    return at;
+}
+
+void *realloc(void *old, size_t size) {
+    if (refuses())
+        return NULL;
+    size_t before = old ? malloc_usable_size(old) : 0;
+    void *at = __libc_realloc(old, size);
+    if (counting && at) {
+        live += !old;
+        held -= before;
+        take(at);
+    }
+    return at;
+}
+
+void free(void *at) {
+    if (counting && at) {
+        live--;
+        held -= malloc_usable_size(at);
+    }
+    __libc_free(at);
+}
+
+/* Counts, and refuses the call after so many; -1: none. */
+static inline void count_from(long calls) {
+    left = calls;
+    counting = 1;
+}
+
+static inline void count_on(void) {
+    left = -1;
+}
+
+#endif

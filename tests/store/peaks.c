@@ -1,0 +1,118 @@
+/*
+ * The most memory that a call holds at any time beside what the store had before, at 1,000 and at
+ * 28,000 keys, the most of which the trees of both formats have room, and of a proof in a node of
+ * 1,000 entries. Nothing of it stays: only mst_open takes what mst_close gives back.
+ */
+#include "heap.h"
+#include "tests.h"
+
+#define ROWS 65535
+#define ROW 304   /* bytes for each row, to open a store: its words twice, and the desk */
+#define PROOF 32768
+#define PAIR 256  /* bytes for each pair of a range, while its list grows */
+#define MOVE 512  /* and of a migration, for that list and the tree */
+#define ENTRY 256 /* bytes for each entry of a node that is proved */
+
+static mst_pass pass = MST_PASS_CLOSED;
+static uint8_t room[8 << 20];
+
+/* The key of a number. */
+static const uint8_t *key_of(uint32_t number) {
+    static uint8_t key[4];
+    for (int i = 0; i < 4; i++)
+        key[i] = (uint8_t)(number >> (24 - 8 * i));
+    return key;
+}
+
+static int32_t opens(uint32_t rows) {
+    return mst_open(1, rows, &pass, 1);
+}
+
+static int32_t closes(uint32_t unused) {
+    (void)unused;
+    return mst_close(&pass);
+}
+
+static int32_t proves(uint32_t number) {
+    size_t length = 0;
+    return mst_prove(&pass, key_of(number), 4, room, sizeof room, &length);
+}
+
+static int32_t ranges(uint32_t most) {
+    size_t count = 0, length = 0;
+    int32_t told = mst_range(&pass, NULL, 0, NULL, 0, most, room, sizeof room, &count, &length);
+    return told == MST_OK && count != most ? MST_ABSENT : told;
+}
+
+static int32_t migrates(uint32_t to) {
+    return mst_try_migrate(&pass, to) < 0;
+}
+
+/* Whether a call with this argument ends well and holds at most so many bytes more than before. */
+static void takes(int32_t (*call)(uint32_t), uint32_t argument, size_t most, int stays) {
+    size_t before = held;
+    peak = held;
+    EXPECT(call(argument) == MST_OK);
+    EXPECT(peak - before <= most);
+    EXPECT(stays || held == before);
+}
+
+static void puts_key(uint32_t number) {
+    EXPECT(mst_put(&pass, key_of(number), 4, TEXT("a value of 32 bytes, as in a log"), room, 64)
+           == MST_ABSENT);
+}
+
+static void reads(uint32_t keys) {
+    takes(ranges, 100, 100 * PAIR, 0);
+    takes(ranges, keys, keys * (size_t)PAIR, 0);
+    for (uint32_t number = 0; number < 2 * keys; number += keys / 16)
+        takes(proves, number, PROOF, 0);
+}
+
+/* A store with so many keys, free and pinned, in both formats. */
+static void calls(uint32_t keys) {
+    takes(opens, ROWS, ROWS * (size_t)ROW, 1);
+    for (uint32_t number = 0; number < keys; number++)
+        puts_key(number);
+    reads(keys);
+    takes(migrates, 2, keys * (size_t)MOVE, 0);
+    EXPECT(mst_pin(&pass) == MST_OK);
+    reads(keys);
+    EXPECT(mst_unpin(&pass) == MST_OK);
+    takes(migrates, 1, keys * (size_t)MOVE, 0);
+    takes(closes, 0, 0, 1);
+    EXPECT(held == 0 && live == 0);
+}
+
+/* Whether the key of a number has layer 0: that of the node when it is the only key. */
+static int is_low(uint32_t number) {
+    size_t length = 0;
+    puts_key(number);
+    EXPECT(mst_prove(&pass, key_of(number), 4, room, sizeof room, &length) == MST_OK);
+    int layer = room[7];
+    EXPECT(mst_remove(&pass, key_of(number), 4, room, 64) == 32);
+    return layer == 0;
+}
+
+/* A node of 1,000 entries: keys of layer 0 have no other key between them that stands above. */
+static void wide_node(void) {
+    uint32_t low[1000], number = 0;
+    EXPECT(opens(4) == MST_OK);
+    for (int found = 0; found < 1000; number++)
+        if (is_low(number))
+            low[found++] = number;
+    EXPECT(mst_close(&pass) == MST_OK && opens(4096) == MST_OK);
+    for (int i = 0; i < 1000; i++)
+        puts_key(low[i]);
+    takes(proves, low[500], 1000 * ENTRY, 0);
+    EXPECT(mst_close(&pass) == MST_OK && live == 0);
+}
+
+int main(void) {
+    count_from(-1);
+    calls(1000);
+    calls(28000);
+    wide_node();
+    counting = 0;
+    return ended("peaks");
+}
