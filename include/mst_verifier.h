@@ -2,9 +2,10 @@
  * The verifier of proofs, for C.
  *
  * A map of short keys and values has a root digest of 32 bytes. Its store gives, with an answer for
- * a key, a proof of it. From the root digest, the key and the proof, mst_verify says what the proof
- * shows: the key's value, or that the key is absent, or which test the proof fails. It needs
- * neither the store nor the map. docs/FORMAT.md has the bytes of a proof and the tests.
+ * a key, a proof of it. From the root digest and its format, the key and the proof, mst_verify says
+ * what the proof shows: the key's value, or that the key is absent, or which test the proof fails.
+ * It needs neither the store nor the map. docs/FORMAT.md has the bytes of a proof and the tests. An
+ * answer is the map's if the root digest is, unless two texts are found that have one SHA-256.
  *
  * The library takes no memory, keeps no state and starts no thread. Its calls may be made from any
  * threads at once, as long as no two of them write to the same room; from a signal handler too.
