@@ -1,5 +1,6 @@
 mod Returning
 mod Working
+mod Listening
 mod Kept
 mod Left
 mod Counting

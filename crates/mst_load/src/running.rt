@@ -1,7 +1,8 @@
 //! The threads: one for each worker, all of them joined.
-ghost use Rattle.std.specs.Prelude.{◌≡◌, ◌<◌, ◌≤◌, ◌+◌, ℕ, IfOk, get_or, vec_len};
+ghost use Rattle.std.specs.Prelude.{◌≡◌, ◌<◌, ◌≤◌, ◌+◌, ℕ, IfErr, IfOk, get_or, vec_len};
 ghost use Rattle.mst_store.specs.Passes.{Known};
 ghost use Rattle.mst_load.specs.Workers.{IsNewOf, IsWorkerOf};
+ghost use Rattle.mst_load.specs.declared.engine.LoadFault.TheVariants.{Thread};
 
 use crate::course::{Course, Newcomer, SamePass, Worker};
 use crate::engine::LoadFault;
@@ -26,6 +27,7 @@ fn start<'s, 'a: 's, E, R: Wait + Sync, G: Gate + Sync, C: Course + Send + 's>(
     requires plan { (plan.writers ≡ C.writers) × (plan.calls ≡ C.calls) }
     requires own { IsNewOf C.store pass }
     ensures same { IfOk result (λ handle. handle.promise.number ≡ pass.entry.number) }
+    ensures thread { IfErr result (λ fault. (refused : _) × (fault ≡ Thread refused)) }
 {
     let promise = SamePass {
         number: pass.number(),

@@ -1,6 +1,8 @@
 //! What a worker does in its thread: the calls of a writer, or those of a reader.
-ghost use Rattle.std.specs.Prelude.{◌≡◌, ◌<◌, ◌≤◌, length};
-ghost use Rattle.mst_load.specs.Workers.{HasWorked, HasWritten, HasRead};
+ghost use Rattle.std.specs.Prelude.{◌≡◌, ◌<◌, ◌≤◌, ◌+◌, ◌-◌, ◌^◌, length};
+ghost use Rattle.mst_store.specs.Passes.{Looks};
+ghost use Rattle.mst_load.specs.Workers.{HasWorked, HasWritten};
+ghost use Rattle.mst_load.specs.Listening.{HasAsked, HasHeard, having_fetched, having_read};
 
 use crate::calls::{key, value};
 use crate::course::{Course, Newcomer, Worker};
@@ -33,58 +35,78 @@ fn write<R: Wait, G: Gate>(rt: &R, gate: &G, pass: &mut Pass<'_, Global>, calls:
     }
 }
 
+/// What a reader has heard so far.
+#[derive(Clone, Copy)]
+pub(crate) struct Heard {
+    /// The newest version that it read.
+    pub(crate) newest: u64,
+    /// How often a version was below an earlier one.
+    pub(crate) falls: u64,
+    /// How often the first key of the first writer had a value.
+    pub(crate) found: u32,
+}
+
 // Reads the version.
-#[tactic(auto, using(crate::proofs::Working::looked))]
-fn look(pass: &mut Pass<'_, Global>) -> u64
-    ensures read { HasRead 1 pass.old pass.new }
-    ensures version { result ≡ length pass.new.seen }
+fn look(pass: &mut Pass<'_, Global>, heard: Heard) -> Heard
+    requires never { heard.falls ≡ 0 }
+    requires newest { heard.newest ≤ length pass.old.seen }
+    ensures looks { Looks pass.old pass.new }
+    ensures once { pass.new.asked ≡ pass.old.asked + 1 }
+    ensures heard { result ≡ having_read pass.new heard }
 {
-    pass.version()
+    let version = pass.version();
+    Heard {
+        newest: version.max(heard.newest),
+        falls: heard.falls + u64::from(version < heard.newest),
+        ..heard
+    }
 }
 
 // Reads the first key of the first writer.
-#[tactic(auto, using(crate::proofs::Working::looked))]
-fn fetch(pass: &mut Pass<'_, Global>)
-    ensures read { HasRead 1 pass.old pass.new }
+fn fetch(pass: &mut Pass<'_, Global>, heard: Heard) -> Heard
+    requires few { heard.found < 2 ^ 32 - 1 }
+    ensures looks { Looks pass.old pass.new }
+    ensures once { pass.new.asked ≡ pass.old.asked + 1 }
+    ensures heard { result ≡ having_fetched pass.new heard }
 {
-    let _ = pass.get(&key(1, 1));
+    let value = pass.get(&key(1, 1));
+    Heard {
+        found: heard.found + u32::from(value.is_some()),
+        ..heard
+    }
 }
 
-// Makes a call of a reader: `version` and `get` in turns. It returns the newest version that was
-// read.
-fn ask(pass: &mut Pass<'_, Global>, call: u32, newest: u64) -> u64
-    requires newest { newest ≤ length pass.old.seen }
-    ensures read { HasRead 1 pass.old pass.new }
-    ensures never { newest ≤ result }
-    ensures seen { result ≤ length pass.new.seen }
+// Makes a call of a reader: `version` and `get` in turns.
+fn ask(pass: &mut Pass<'_, Global>, call: u32, heard: Heard) -> Heard
+    requires never { heard.falls ≡ 0 }
+    requires newest { heard.newest ≤ length pass.old.seen }
+    requires few { heard.found < 2 ^ 32 - 1 }
+    ensures asked { HasAsked call heard pass.old pass.new result }
 {
     if call % 2 == 1 {
-        look(pass)
+        look(pass, heard)
     } else {
-        fetch(pass);
-        newest
+        fetch(pass, heard)
     }
 }
 
-// Makes the calls of a reader. It returns how often a version was below an earlier one.
-#[tactic(auto, using(crate::proofs::Working::not_read, crate::proofs::Working::read_more))]
-fn read<G: Gate>(gate: &G, pass: &mut Pass<'_, Global>, calls: u32) -> u64
-    ensures read { HasRead calls pass.old pass.new }
-    ensures never { result ≡ 0 }
+// Makes the calls of a reader.
+#[tactic(auto, using(crate::proofs::Listening::none_heard, crate::proofs::Listening::heard_more))]
+fn read<G: Gate>(gate: &G, pass: &mut Pass<'_, Global>, calls: u32) -> Heard
+    ensures { HasHeard calls pass.old pass.new result }
 {
     let number = pass.number();
-    let mut newest = 0;
-    let mut falls = 0;
+    let mut heard = Heard {
+        newest: 0,
+        falls: 0,
+        found: 0,
+    };
     for index in 0..calls {
         gate.enter(number, index + 1);
-        let version = ask(pass, index + 1, newest);
-        if version < newest {
-            falls += 1;
-        }
-        newest = version.max(newest);
+        heard = ask(pass, index + 1, heard);
         gate.answered(number, index + 1);
     }
-    falls
+    heard
 }
 
 // Makes all calls of the worker that has this pass. It returns how often a version was below an
@@ -97,7 +119,7 @@ fn make_calls<R: Wait, G: Gate>(rt: &R, gate: &G, pass: &mut Pass<'_, Global>, p
         write(rt, gate, pass, plan.calls);
         return 0;
     }
-    read(gate, pass, plan.calls)
+    read(gate, pass, plan.calls).falls
 }
 
 /// Makes all calls of the worker.

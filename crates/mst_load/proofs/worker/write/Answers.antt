@@ -1,4 +1,4 @@
-use Rattle.std.proofs.Common.{rules}
+use Rattle.std.proofs.Common.{rules, ◌+◌}
 use Rattle.mst_load.proofs.Working.{not_written, written_more}
 use Rattle.mst_load.proofs.worker.write.Goals as goal
 
@@ -12,7 +12,12 @@ pub key-requires : goal.key-requires
 key-requires g c = search rules
 
 pub loop-index-preserved : goal.loop-index-preserved
-loop-index-preserved g c = search (rules, written_more)
+loop-index-preserved g c = (
+  c.loop-index.invariant.0,
+  written_more c.loop-index.index (c.loop-index.index + 1) _ _ _ _ _ _ c.put.result c.put.ensures.ok
+      c.put.ensures.err (search rules) c.loop-index.invariant.0 c.key.ensures c.value.ensures
+      c.loop-index.invariant.1,
+)
 
 pub returns : goal.returns
 returns g c = search rules
