@@ -1,1 +1,3 @@
 pub mod Fellings
+pub mod PlanShapes
+pub mod Sowings

@@ -2,5 +2,9 @@
 #![tactic(auto)]
 
 mod felling;
+mod plan;
+mod sowing;
 
 pub use felling::fell_beside;
+pub use plan::{Plan, PlanEntry, PlanNode};
+pub use sowing::{rows_of, sow};

@@ -16,7 +16,7 @@ use mst_node::empty_digest;
 use std::alloc::Allocator;
 
 /// Where the tree at a link stands, and its digest. It reads one row.
-pub(crate) fn root_at<R: Rows>(rows: &mut R, link: u32) -> Root
+pub fn root_at<R: Rows>(rows: &mut R, link: u32) -> Root
     requires stands { (format : Format) × (p : Placed) × (link_of p ≡ link)
         × HasRows (R.content rows.old) (rows_of format p) }
     ensures root { (format : Format) (p : Placed) → link_of p ≡ link

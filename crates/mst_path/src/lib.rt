@@ -56,10 +56,12 @@ mod remove_path;
 mod split;
 mod whole_tree;
 
+pub use copying::root_at;
 pub use faults::NoRoom;
 pub use felling::fell;
 pub use insertion::put;
 pub use laws::{age_laws, premises_can_be_met, reach_laws, room_laws, version_laws};
 pub use mst_arena::Root;
+pub use node_writer::NodeWriter;
 pub use removal::remove;
 pub use whole_tree::plant;

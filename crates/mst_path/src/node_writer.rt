@@ -56,7 +56,7 @@ fn digest_at(root: &Root) -> Option<[u8; 32]>
 /// first entry at the beginning, and that of each further entry before the one in front of it is
 /// written, since that one links to it.
 #[derive(Drop)]
-pub(crate) struct NodeWriter {
+pub struct NodeWriter {
     /// The text up to the entries that are written.
     hasher: Sha256,
     /// The format of the node.
@@ -77,7 +77,7 @@ pub(crate) struct NodeWriter {
 impl NodeWriter {
     /// A node of this layer and format with so many entries, none of them written yet. It takes two
     /// rows.
-    pub(crate) fn begin<A: Allocator>(
+    pub fn begin<A: Allocator>(
         desk: &mut Desk<A>,
         layer: u8,
         count: u32,
@@ -110,7 +110,7 @@ impl NodeWriter {
     }
 
     /// Writes the next entry, after the tree at `child`. It takes a row if a further entry is left.
-    pub(crate) fn entry<R: Rows, A: Allocator>(
+    pub fn entry<R: Rows, A: Allocator>(
         &mut self,
         rows: &mut R,
         desk: &mut Desk<A>,
@@ -159,7 +159,7 @@ impl NodeWriter {
 
     /// Writes the next entry, after the tree at `child`, as a copy of the entry in a row, which has
     /// these links and this key. It takes a row if a further entry is left.
-    pub(crate) fn copy<R: Rows, A: Allocator>(
+    pub fn copy<R: Rows, A: Allocator>(
         &mut self,
         rows: &mut R,
         desk: &mut Desk<A>,
@@ -206,7 +206,7 @@ impl NodeWriter {
 
     /// Writes the head, once all entries are written, with the tree at `tail` in the last gap.
     /// Returns where the node stands.
-    pub(crate) fn finish<R: Rows>(mut self, rows: &mut R, tail: &Root) -> Root
+    pub fn finish<R: Rows>(mut self, rows: &mut R, tail: &Root) -> Root
         requires writer { IsWriter self }
         requires all { self.left ≡ 0 }
         requires blank { IsTrue (R.blank rows.old self.head) }

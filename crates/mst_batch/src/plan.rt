@@ -1,0 +1,36 @@
+//! The plan of a change: the tree that is to stand, with the nodes to be made and the links of the
+//! trees that are kept as they stand.
+use mst_key::{Key, Value};
+use std::alloc::{Allocator, Global};
+
+/// What is to stand in a gap of a tree, or in place of a whole tree.
+#[derive(Debug, Drop)]
+pub enum Plan<N> {
+    /// The tree that stands at a link, as it is. Link 0 is the empty tree.
+    Kept(u32),
+    /// A node to be made.
+    Made(N),
+}
+
+/// A node to be made: pairs of one layer in the order of their keys, with the plans of the gaps
+/// before, between and after them.
+#[cycle(plan_node)]
+#[derive(Debug, Drop)]
+pub struct PlanNode<A: Allocator = Global> {
+    /// The layer of each key of the node: 0 to 64 in format 1, 0 to 128 in format 2.
+    pub layer: u8,
+    /// The pairs of the node, at least one.
+    pub entries: Vec<PlanEntry<A>, A>,
+    /// The plan of the gap after the last entry.
+    pub tail: Plan<Box<PlanNode<A>, A>>,
+}
+
+/// A pair of a node to be made, after the plan of the gap before it.
+#[cycle(plan_node)]
+#[derive(Debug, Drop)]
+pub struct PlanEntry<A: Allocator = Global> {
+    /// The plan of the gap before the key.
+    pub child: Plan<Box<PlanNode<A>, A>>,
+    pub key: Key,
+    pub value: Value,
+}

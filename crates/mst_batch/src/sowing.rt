@@ -1,0 +1,96 @@
+//! A plan, carried out in free rows.
+ghost use Rattle.std.specs.Prelude.{◌≡◌, ◌≤◌, ◌<◌, ◌^◌, ℕ};
+ghost use Rattle.mst_arena.specs.Lives.{free_count};
+ghost use Rattle.mst_arena.specs.Standing.{Placed};
+ghost use Rattle.mst_path.specs.Takes.{IsWritable, StaysBeside};
+ghost use Rattle.mst_batch.specs.Plans.{plan_of, plan_of_node, rows_planned, rows_kept, tree_planned, IsPlan};
+ghost use Rattle.mst_batch.specs.Sowing.{Sown};
+
+use crate::plan::{Plan, PlanNode};
+use mst_arena::{Desk, Root, Rows};
+use mst_key::Format;
+use mst_path::{NodeWriter, root_at};
+use std::alloc::Allocator;
+
+/// How many rows a plan takes: one for each entry and each node to be made.
+#[cycle(count)]
+pub fn rows_of<B: Allocator>(plan: &Plan<Box<PlanNode<B>, B>>) -> u32
+    requires few { rows_planned (plan_of plan.now) < 2 ^ 32 }
+    ensures rows { result ≡ rows_planned (plan_of plan.now) }
+{
+    match plan {
+        Plan::Kept(_) => 0,
+        Plan::Made(node) => rows_of_node(node),
+    }
+}
+
+/// How many rows a node to be made takes, with all below it.
+#[cycle(count)]
+fn rows_of_node<B: Allocator>(node: &PlanNode<B>) -> u32
+    requires few { rows_planned (plan_of_node node.now) < 2 ^ 32 }
+    ensures rows { result ≡ rows_planned (plan_of_node node.now) }
+{
+    let mut rows = 1;
+    for entry in &node.entries {
+        rows += rows_of(&entry.child) + 1;
+    }
+    rows + rows_of(&node.tail)
+}
+
+/// Carries a plan out: its nodes are written into free rows, and the trees that it keeps stay where
+/// they stand. Returns the root at which the rows then stand for the whole tree.
+///
+/// It takes exactly the rows that `rows_of` counts, and writes no other. The rows are born with the
+/// version to come. Of a tree that is kept it reads the digest, one row. No memory is taken, and
+/// calls nest no deeper than the layers of the nodes to be made.
+#[cycle(sow)]
+pub fn sow<R: Rows, A: Allocator, B: Allocator>(
+    rows: &mut R,
+    desk: &mut Desk<A>,
+    plan: &Plan<Box<PlanNode<B>, B>>,
+    format: Format,
+) -> Root
+    requires plan { (at : ℕ → Placed)
+        × IsPlan format at (R.content rows.old) desk.old (plan_of plan.now) }
+    requires room { rows_planned (plan_of plan.now) ≤ free_count desk.old.lives }
+    requires ready { IsWritable desk.old.lives (R.blank rows.old) }
+    ensures sown { (at : ℕ → Placed)
+        → IsPlan format at (R.content rows.old) desk.old (plan_of plan.now)
+        → Sown format (R.content rows.old) (R.content rows.new) desk.old desk.new
+        (tree_planned format at (plan_of plan.now)) result (rows_kept at (plan_of plan.now))
+        (rows_planned (plan_of plan.now)) }
+    ensures beside { StaysBeside R.blank R.kept rows.old rows.new }
+{
+    match plan {
+        Plan::Kept(link) => root_at(rows, *link),
+        Plan::Made(node) => sow_node(rows, desk, node, format),
+    }
+}
+
+/// Writes a node with all that is to be made below it. Returns where it stands.
+#[cycle(sow)]
+fn sow_node<R: Rows, A: Allocator, B: Allocator>(
+    rows: &mut R,
+    desk: &mut Desk<A>,
+    node: &PlanNode<B>,
+    format: Format,
+) -> Root
+    requires plan { (at : ℕ → Placed)
+        × IsPlan format at (R.content rows.old) desk.old (plan_of_node node.now) }
+    requires room { rows_planned (plan_of_node node.now) ≤ free_count desk.old.lives }
+    requires ready { IsWritable desk.old.lives (R.blank rows.old) }
+    ensures sown { (at : ℕ → Placed)
+        → IsPlan format at (R.content rows.old) desk.old (plan_of_node node.now)
+        → Sown format (R.content rows.old) (R.content rows.new) desk.old desk.new
+        (tree_planned format at (plan_of_node node.now)) result
+        (rows_kept at (plan_of_node node.now)) (rows_planned (plan_of_node node.now)) }
+    ensures beside { StaysBeside R.blank R.kept rows.old rows.new }
+{
+    let mut writer = NodeWriter::begin(desk, node.layer, node.entries.len() as u32, format);
+    for entry in &node.entries {
+        let child = sow(rows, desk, &entry.child, format);
+        writer.entry(rows, desk, &child, &entry.key, &entry.value);
+    }
+    let tail = sow(rows, desk, &node.tail, format);
+    writer.finish(rows, &tail)
+}
