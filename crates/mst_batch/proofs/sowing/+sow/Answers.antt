@@ -263,7 +263,7 @@ sow_node-entry-requires-clause-child g t c =
     omega (
       arith,
       q.root.link,
-      small_link _ q.placed (piece_alive c.args.format q.piece)
+      small_link c.sow-child.new.desk q.placed (piece_alive c.args.format q.piece)
           (omega (arith, c.requires.ready.few, s.moves.rows, q.moves.rows)),
     )
 
@@ -406,7 +406,7 @@ sow_node-finish-requires-clause-tail g t c =
     omega (
       arith,
       q.root.link,
-      small_link _ q.placed (piece_alive c.args.format q.piece)
+      small_link c.sow-tail.new.desk q.placed (piece_alive c.args.format q.piece)
           (omega (arith, c.requires.ready.few, s.moves.rows, q.moves.rows)),
     )
 
