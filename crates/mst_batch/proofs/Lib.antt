@@ -1,3 +1,4 @@
 pub mod Fellings
 pub mod PlanShapes
 pub mod Sowings
+pub mod Replaced

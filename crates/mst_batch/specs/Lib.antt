@@ -1,3 +1,4 @@
 pub mod Kept
 pub mod Plans
 pub mod Sowing
+pub mod Replacing

@@ -3,8 +3,10 @@
 
 mod felling;
 mod plan;
+mod replacing;
 mod sowing;
 
 pub use felling::fell_beside;
 pub use plan::{Plan, PlanEntry, PlanNode};
+pub use replacing::replace;
 pub use sowing::{rows_of, sow};
