@@ -204,8 +204,8 @@ module _ (format : Format) (marks : List Bool) (content : Content) (s s' : State
       go : (c : Chain) → first_of c ≡ next → tail_of c ≡ tail → count_of c + done ≡ all
           → HasRows content (chain_rows format c) → IsMstEntries format layer (entries_of format c)
           → ((r : ℕ) → In r (chain_used c) → IsOld s' r) → ((r : ℕ) → times r (chain_used c) ≤ 1)
-          → whole ≡ f.gone ++ chain_fallen marks c → AtEntry format marks content s s' layer whole tail (next - 1)
-          done all e
+          → whole ≡ f.gone ++ chain_fallen marks c → AtEntry format marks content s s' layer whole
+          tail (next - 1) done all e
       go (end p) first tail_is left has search old once is = absurd (omega (arith, lt, left))
       go (cell at p key value c) first tail_is left has search old once is =
           let same : next - 1 ≡ at = omega (arith, first) in
@@ -294,4 +294,3 @@ module _ (format : Format) (marks : List Bool) (content : Content) (s s' : State
       )
       go (cell at p key value c) tail_is left has search old once is =
           absurd (omega (arith, left, is_all))
-

@@ -9,7 +9,7 @@ use Rattle.mst_node.specs.Shape.{TreeEntry, with_entries}
 use Rattle.mst_arena.specs.Content.{Content}
 use Rattle.mst_arena.specs.Lives.{State}
 use Rattle.mst_arena.specs.Lists.{In, times}
-use Rattle.mst_arena.specs.Standing.{Placed, used}
+use Rattle.mst_arena.specs.Standing.{Placed, link_of, used}
 use Rattle.mst_arena.proofs.ListLemmas.{times-append}
 use Rattle.mst_path.specs.Moves.{IsOld}
 use Rattle.mst_path.specs.Runs.{OldPiece}
@@ -27,7 +27,12 @@ pub plan_out : (A : Type 0) (n : PlanNode A) → plan_of_node n ≡ made (out-Pl
     (with_planned (map planned_entry (out-PlanNode A n).entries.items)
     (last (plan_of (out-PlanNode A n).tail)))
 plan_out A n =
-    search (rules, the_lemmas, fold_out-PlanNode A PlannedEntry PlanTree (entry_step A) (node_step A))
+    search (
+      rules,
+      the_lemmas,
+      fold_out-PlanNode A PlannedEntry PlanTree (entry_step A)
+          (node_step A),
+    )
 
 pub planned_entry_out : (A : Type 0) (e : PlanEntry A) → planned_entry e ≡ record {
   child = plan_of (out-PlanEntry A e).child;
@@ -322,13 +327,13 @@ module _ (A : Type 0) (n : PlanNode A) where
           + times r (rows_kept at y) ≤ times r (list_kept at (map planned_entry items)))
           (child_is e) (kept_child (PlanEntry A) planned_entry at items i e r h is)
 
-      pub child_links : EachKept (λ link. Rattle.mst_arena.specs.Standing.link_of (at link) ≡ link)
+      pub child_links : EachKept (λ link. link_of (at link) ≡ link)
           (plan_of (out-PlanEntry A e).child)
       child_links =
-          subst (EachKept (λ link. Rattle.mst_arena.specs.Standing.link_of (at link) ≡ link))
+          subst (EachKept (λ link. link_of (at link) ≡ link))
           (child_is e)
           (each_child (PlanEntry A) planned_entry
-          (λ link. Rattle.mst_arena.specs.Standing.link_of (at link) ≡ link) items tail i e h is
+          (λ link. link_of (at link) ≡ link) items tail i e h is
           plan_whole.links)
 
       pub child_stands : EachKept (λ link. OldPiece format c s (at link))
@@ -345,9 +350,9 @@ module _ (A : Type 0) (n : PlanNode A) where
           (search_child (PlanEntry A) planned_entry format at (out-PlanNode A n).layer items tail i
           e h is plan_whole.search.2)
 
-    pub tail_links : EachKept (λ link. Rattle.mst_arena.specs.Standing.link_of (at link) ≡ link)
+    pub tail_links : EachKept (λ link. link_of (at link) ≡ link)
         tail
-    tail_links = each_last (λ link. Rattle.mst_arena.specs.Standing.link_of (at link) ≡ link)
+    tail_links = each_last (λ link. link_of (at link) ≡ link)
         (map planned_entry items) tail plan_whole.links
 
     pub tail_stands : EachKept (λ link. OldPiece format c s (at link)) tail

@@ -3,9 +3,9 @@
 use Rattle.std.proofs.Common.{◌≡◌, ◌⊎◌, ℕ, zero, suc, ◌+◌, ◌<◌, ◌≤◌, Bool, true, false, List, [], ◌∷◌, ◌++◌, refl, sym, ◌∙◌, ap, subst, arith, inl, inr}
 use Rattle.std.specs.Prelude.{if◌then◌else◌, Contains}
 use Rattle.std.proofs.lemmas.List.{append-nil}
-use Rattle.std.proofs.lemmas.List.Elements.{Contains-append_cases}
+use Rattle.std.proofs.lemmas.List.Elements.{Contains-append_left, Contains-append_right, Contains-append_cases}
 use Rattle.mst_key.specs.declared.format.Format.{Format}
-use Rattle.mst_key.proofs.SpanLaws.{contains-cases, contains-nothing}
+use Rattle.mst_key.proofs.SpanLaws.{contains-cases, contains-nothing, contains-first, contains-later}
 use Rattle.mst_node.specs.Tree.{Tree}
 use Rattle.mst_arena.specs.Content.{Content}
 use Rattle.mst_arena.specs.Lives.{State}
@@ -82,11 +82,11 @@ module _ (marks : List Bool) (x : ℕ) (P : Type 0) where
       → (In x (chain_spared marks chain) → FromMarked marks (chain_nodes chain) x P → P) → P
   at_head true at layer chain is i leads below =
       leads at layer chain
-      (Rattle.mst_key.proofs.SpanLaws.contains-first (head at layer chain) (chain_nodes chain)
+      (contains-first (head at layer chain) (chain_nodes chain)
       (head at layer chain) refl) is i
   at_head false at layer chain is i leads below =
       below i (λ row l c has. leads row l c
-      (Rattle.mst_key.proofs.SpanLaws.contains-later (head at layer chain) (chain_nodes chain)
+      (contains-later (head at layer chain) (chain_nodes chain)
       (head row l c) has))
 
   mutual
@@ -102,10 +102,10 @@ module _ (marks : List Bool) (x : ℕ) (P : Type 0) where
     from_chain (cell at child key value rest) i leads =
         elim (in_either x (spared marks child) (chain_spared marks rest) i) [
           | inl k ↦ from_spared child k (λ row l c has. leads row l c
-              (Rattle.std.proofs.lemmas.List.Elements.Contains-append_left (placed_nodes child)
+              (Contains-append_left (placed_nodes child)
               (chain_nodes rest) (head row l c) has))
           | inr k ↦ from_chain rest k (λ row l c has. leads row l c
-              (Rattle.std.proofs.lemmas.List.Elements.Contains-append_right (placed_nodes child)
+              (Contains-append_right (placed_nodes child)
               (chain_nodes rest) (head row l c) has))
         ]
 

@@ -3,7 +3,7 @@ use Rattle.std.proofs.Common.{◌≡◌, ℕ, zero, suc, ◌+◌, ◌<◌, ◌�
 use Rattle.std.proofs.lemmas.List.{map-append}
 use Rattle.mst_key.specs.declared.format.Format.{Format}
 use Rattle.mst_node.specs.Tree as tree
-use Rattle.mst_node.specs.Tree.{Tree, Entries}
+use Rattle.mst_node.specs.Tree.{Tree, IsMst}
 use Rattle.mst_node.specs.Shape.{TreeEntry, with_entries}
 use Rattle.mst_arena.specs.Content.{Content}
 use Rattle.mst_arena.specs.Lives.{State, version, next}
@@ -21,11 +21,11 @@ use Rattle.mst_path.specs.Writing.{PlacedEntry, chain_of, entries_used, IsRootOf
 use Rattle.mst_path.specs.declared.node_writer.NodeWriter.{NodeWriter}
 use Rattle.mst_path.proofs.lemmas.rows.Copies.{at_self, kept_at, all_in, new_not_old, old_alive}
 use Rattle.mst_path.proofs.lemmas.rows.Entries.{entries_frame}
-use Rattle.mst_path.proofs.lemmas.rows.Moving.{not_in, out_of_times, times_of_out, moves_none, moves_takes, moves_then, alive_stays, alive_out, old_stays}
+use Rattle.mst_path.proofs.lemmas.rows.Moving.{one_row, not_in, out_of_times, times_of_out, moves_none, moves_takes, moves_then, alive_stays, alive_out, old_stays}
 use Rattle.mst_path.proofs.lemmas.trees.Made.{made_old, new_stays, entries_stay, piece_alive}
 use Rattle.mst_path.proofs.lemmas.steps.Finishing.{used_more, going_more, cells-append, chain_entries, all_used, head_piece}
 use Rattle.mst_path.proofs.lemmas.steps.Whole.{old_piece_later}
-use Rattle.mst_batch.specs.Plans.{PlanTree, PlannedEntry, tree_planned, rows_planned, rows_kept, EachKept, IsPlan}
+use Rattle.mst_batch.specs.Plans.{PlanTree, kept, PlannedEntry, tree_planned, rows_planned, rows_kept, EachKept, IsPlan}
 use Rattle.mst_batch.specs.Sowing.{Sown}
 use Rattle.mst_batch.proofs.PlanShapes.{cell_planned, cells_planned, list_rows, list_kept, list_rows-append, list_kept-append, each_then}
 
@@ -54,11 +54,11 @@ apart_once (suc k) t a b apart = omega (arith, a, apart (omega arith))
 -- ---- a kept tree
 
 pub kept_whole : (format : Format) (at : ℕ → Placed) (content : Content) (s : State) (link : ℕ)
-    (result : Root) → IsPlan format at content s (Rattle.mst_batch.specs.Plans.kept link)
+    (result : Root) → IsPlan format at content s (kept link)
     → ((p : Placed) → link_of p ≡ link → HasRows content (rows_of format p)
     → IsRootOf format p result) → Sown format content content s s
-    (tree_planned format at (Rattle.mst_batch.specs.Plans.kept link)) result
-    (rows_kept at (Rattle.mst_batch.specs.Plans.kept link)) 0
+    (tree_planned format at (kept link)) result
+    (rows_kept at (kept link)) 0
 kept_whole format at content s link result p root = record {
   placed = at link;
   is = refl;
@@ -113,7 +113,7 @@ module _ (format : Format) (at : ℕ → Placed) (old now : State) (before conte
   pub plan_later : (y : PlanTree) → EachKept (λ link. link_of (at link) ≡ link) y
       → EachKept (λ link. OldPiece format before old (at link)) y
       → ((x : ℕ) → times x (rows_kept at y) ≤ 1)
-      → Rattle.mst_node.specs.Tree.IsMst format (tree_planned format at y)
+      → IsMst format (tree_planned format at y)
       → IsPlan format at content now y
   plan_later y links stand once search = record {
     links = links;
@@ -140,7 +140,7 @@ module _ (format : Format) (at : ℕ → Placed) (old now : State) (before conte
   head_taken x out = not_in x (w.head ∷ []) (λ i. go i (times x (list_kept at xs)) refl)
     where
       is_head : In x (w.head ∷ []) → x ≡ w.head
-      is_head i = Rattle.mst_path.proofs.lemmas.rows.Moving.one_row x w.head i
+      is_head i = one_row x w.head i
 
       go : In x (w.head ∷ []) → (n : ℕ) → times x (list_kept at xs) ≡ n → ⊥
       go i zero none = absurd (omega (arith, i, none, out, s.rows x))
@@ -164,10 +164,10 @@ module _ (format : Format) (at : ℕ → Placed) (old now : State) (before conte
 
   -- ---- a plan is carried out beside
 
-  module _ (now2 : State) (content2 : Content) (t : Tree) (root : Root) (kept : List ℕ) (count : ℕ)
-      (q : Sown format content content2 now now2 t root kept count)
-      (both_old : (x : ℕ) → In x kept → IsOld old x)
-      (both_once : (x : ℕ) → times x (list_kept at xs) + times x kept ≤ 1) where
+  module _ (now2 : State) (content2 : Content) (t : Tree) (root : Root) (given : List ℕ) (count : ℕ)
+      (q : Sown format content content2 now now2 t root given count)
+      (both_old : (x : ℕ) → In x given → IsOld old x)
+      (both_once : (x : ℕ) → times x (list_kept at xs) + times x given ≤ 1) where
     both_moves : Moves old now2 (s.taken ++ q.taken) []
     both_moves = moves_then old now now2 s.taken [] q.taken [] s.moves q.moves
 
@@ -197,13 +197,13 @@ module _ (format : Format) (at : ℕ → Placed) (old now : State) (before conte
     all_once : (x : ℕ) → times x (w.head ∷ []) + times x (ahead w.next) + times x
         (entries_used s.ws) + times x (used q.placed) ≤ 1
     all_once x =
-        let both = apart_once (times x (list_kept at xs) + times x kept)
+        let both = apart_once (times x (list_kept at xs) + times x given)
         (times x (s.taken ++ q.taken)) (both_once x) (both_moves.once x)
         (λ some. alive_out old now2 (s.taken ++ q.taken) [] both_moves x
-        (old_alive old x (one_old x (times x kept) refl some))) in
+        (old_alive old x (one_old x (times x given) refl some))) in
         omega (arith, both, s.rows x, q.rows x, times-append x s.taken q.taken)
       where
-        one_old : (x n : ℕ) → times x kept ≡ n → 0 < times x (list_kept at xs) + times x kept
+        one_old : (x n : ℕ) → times x given ≡ n → 0 < times x (list_kept at xs) + times x given
             → IsOld old x
         one_old x zero none some = kept_alive x (omega (arith, none, some))
         one_old x (suc n) more some = both_old x (omega (arith, more))
@@ -211,7 +211,7 @@ module _ (format : Format) (at : ℕ → Placed) (old now : State) (before conte
     -- ---- one more entry
 
     pub entry_more : (now3 : State) (content3 : Content) (w2 : NodeWriter) (r : ℕ)
-        (y : PlannedEntry) → t ≡ tree_planned format at y.child → kept ≡ rows_kept at y.child
+        (y : PlannedEntry) → t ≡ tree_planned format at y.child → given ≡ rows_kept at y.child
         → count ≡ rows_planned y.child → w.next ≡ Some r → w2.head ≡ w.head
         → ((es : List PlacedEntry) (p : Placed) (n : ℕ) → w.next ≡ Some n
         → IsWritten format w content2 es → IsRootOf format p root
@@ -246,7 +246,7 @@ module _ (format : Format) (at : ℕ → Placed) (old now : State) (before conte
         used_more format w w2 content2 content3 now2 now3 s.ws r q.placed y.key y.value []
         going_beside next_is step (piece_alive format q.piece) q.piece.made once
         (λ x i. absurd (omega (arith, i))) in
-        let kept_same : (x : ℕ) → times x kept ≡ times x (rows_kept at y.child) =
+        let kept_same : (x : ℕ) → times x given ≡ times x (rows_kept at y.child) =
         λ x. ap (times x) kept_is in
         record {
           ws = s.ws ++ e ∷ [];
@@ -267,7 +267,8 @@ module _ (format : Format) (at : ℕ → Placed) (old now : State) (before conte
               subst (IsNew now3) (sym same)
               (new_stays now2 now3 (ahead w2.next) [] step w.head head_new_beside refl);
           taken = (s.taken ++ q.taken) ++ ahead w2.next;
-          moves = moves_then old now2 now3 (s.taken ++ q.taken) [] (ahead w2.next) [] both_moves step;
+          moves = moves_then old now2 now3 (s.taken ++ q.taken) [] (ahead w2.next) [] both_moves
+              step;
           keeps = λ x gone.
               let none = times_of_out x ((s.taken ++ q.taken) ++ ahead w2.next) gone in
               let parts = times-append x (s.taken ++ q.taken) (ahead w2.next) in
@@ -316,7 +317,7 @@ module _ (format : Format) (at : ℕ → Placed) (old now : State) (before conte
     pub node_whole : (content3 : Content) (l : ℕ) (result : Root) (kept_all : List ℕ)
         (count_all : ℕ) → l ≡ w.layer → ((x : ℕ) → times x (ahead w.next) ≡ 0)
         → length (ahead w.next) ≡ 0
-        → ((x : ℕ) → times x kept_all ≡ times x (list_kept at xs) + times x kept)
+        → ((x : ℕ) → times x kept_all ≡ times x (list_kept at xs) + times x given)
         → count_all ≡ list_rows xs + count + 1
         → ((es : List PlacedEntry) (p : Placed) → IsWritten format w content2 es
         → IsRootOf format p root → IsRootOf format (head w.head w.layer (chain_of es p)) result)
@@ -330,45 +331,46 @@ module _ (format : Format) (at : ℕ → Placed) (old now : State) (before conte
         kept_all count_all
     node_whole content3 l result kept_all count_all layer none_ahead no_ahead kept_is count_is
         root_is stands keeps = record {
-      placed = head w.head w.layer (chain_of s.ws q.placed);
-      is =
-          ap (tree.node format w.layer)
-          (chain_entries format s.ws q.placed
-          ∙ ap (λ (ys : List TreeEntry). with_entries ys (tree.last (tree_of format q.placed))) s.is
-          ∙ ap (λ (u : Tree). with_entries (cells_planned format at xs) (tree.last u)) q.is)
-          ∙ ap (λ (n : ℕ). tree.node format n
-          (with_entries (cells_planned format at xs) (tree.last t))) (sym layer);
-      root = root_is s.ws q.placed going_beside.written q.root;
-      piece = head_piece format w content2 content3 now2 s.ws q.placed going_beside q.piece
-          head_new_beside
-          (stands s.ws q.placed going_beside.written q.root q.piece.rows head_out);
-      taken = s.taken ++ q.taken;
-      moves = both_moves;
-      keeps = λ x gone.
-          let none = times_of_out x (s.taken ++ q.taken) gone in
-          let parts = times-append x s.taken q.taken in
-          let not_s : times x s.taken ≡ 0 = omega (arith, none, parts) in
-          keeps x (out_of_times x (w.head ∷ []) (head_taken x not_s))
-          ∙ q.keeps x (out_of_times x q.taken (omega (arith, none, parts)))
-          ∙ s.keeps x (out_of_times x s.taken not_s);
-      rows = λ x.
-          omega (
-            arith,
-            all_used format w content2 content3 now2 s.ws q.placed going_beside q.piece
-                head_new_beside x,
-            s.rows x,
-            q.rows x,
-            none_ahead x,
-            kept_is x,
-            times-append x s.taken q.taken,
-          );
-      counted =
-          omega (
-            arith,
-            s.counted,
-            q.counted,
-            no_ahead,
-            count_is,
-            length-append s.taken q.taken,
-          );
-    }
+          placed = head w.head w.layer (chain_of s.ws q.placed);
+          is =
+              ap (tree.node format w.layer)
+              (chain_entries format s.ws q.placed
+              ∙ ap (λ (ys : List TreeEntry). with_entries ys (tree.last (tree_of format q.placed)))
+              s.is
+              ∙ ap (λ (u : Tree). with_entries (cells_planned format at xs) (tree.last u)) q.is)
+              ∙ ap (λ (n : ℕ). tree.node format n
+              (with_entries (cells_planned format at xs) (tree.last t))) (sym layer);
+          root = root_is s.ws q.placed going_beside.written q.root;
+          piece = head_piece format w content2 content3 now2 s.ws q.placed going_beside q.piece
+              head_new_beside
+              (stands s.ws q.placed going_beside.written q.root q.piece.rows head_out);
+          taken = s.taken ++ q.taken;
+          moves = both_moves;
+          keeps = λ x gone.
+              let none = times_of_out x (s.taken ++ q.taken) gone in
+              let parts = times-append x s.taken q.taken in
+              let not_s : times x s.taken ≡ 0 = omega (arith, none, parts) in
+              keeps x (out_of_times x (w.head ∷ []) (head_taken x not_s))
+              ∙ q.keeps x (out_of_times x q.taken (omega (arith, none, parts)))
+              ∙ s.keeps x (out_of_times x s.taken not_s);
+          rows = λ x.
+              omega (
+                arith,
+                all_used format w content2 content3 now2 s.ws q.placed going_beside q.piece
+                    head_new_beside x,
+                s.rows x,
+                q.rows x,
+                none_ahead x,
+                kept_is x,
+                times-append x s.taken q.taken,
+              );
+          counted =
+              omega (
+                arith,
+                s.counted,
+                q.counted,
+                no_ahead,
+                count_is,
+                length-append s.taken q.taken,
+              );
+        }

@@ -2,3 +2,4 @@ pub mod Kept
 pub mod Plans
 pub mod Sowing
 pub mod Replacing
+pub mod Carrying

@@ -102,8 +102,8 @@ abbrev mutual
   EachKeptBelow P (entry child key value rest) = EachKept P child × EachKeptBelow P rest
 
 -- A plan can be carried out, where these trees stand at the links: at each link that is kept stands
--- its tree, of the current version, no row stands twice in these, and with them the plan is a search
--- tree.
+-- its tree, of the current version, no row stands twice in these, and with them the plan is a
+-- search tree.
 pub record IsPlan (format : Format) (at : ℕ → Placed) (content : Content) (s : State)
     (plan : PlanTree) : Type 0 where
   pub links : EachKept (λ link. link_of (at link) ≡ link) plan

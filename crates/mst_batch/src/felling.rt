@@ -21,7 +21,12 @@ fn is_left(kept: &[bool], link: u32) -> bool
 }
 
 /// Lets the rows of the tree at a link die, but for those of kept nodes and of all below them.
-pub(crate) fn fell_at<R: Rows, A: Allocator>(rows: &mut R, desk: &mut Desk<A>, link: u32, kept: &[bool])
+pub(crate) fn fell_at<R: Rows, A: Allocator>(
+    rows: &mut R,
+    desk: &mut Desk<A>,
+    link: u32,
+    kept: &[bool],
+)
     requires tree { ToFell (R.content rows.old) desk.old link }
     ensures fells { (t : ToFell (R.content rows.old) desk.old link)
         → Moves desk.old desk.new [] (fallen kept.now t.placed) }

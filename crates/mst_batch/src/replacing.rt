@@ -20,8 +20,8 @@ use std::alloc::Allocator;
 /// into free rows, and of the tree that stood all rows die but those of the nodes that the plan
 /// keeps. Returns the new root.
 ///
-/// `kept` has a mark at the row of the head of each node that the plan keeps, and no other mark at a
-/// row of the tree that stands. The plan takes the rows that `rows_of` counts, which are free. No
+/// `kept` has a mark at the row of the head of each node that the plan keeps, and no other mark at
+/// a row of the tree that stands. The plan takes the rows that `rows_of` counts, which are free. No
 /// memory is taken.
 pub fn replace<R: Rows, A: Allocator, B: Allocator>(
     rows: &mut R,

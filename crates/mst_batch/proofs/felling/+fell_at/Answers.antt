@@ -22,11 +22,13 @@ pub loop-init : goal.loop-init
 loop-init g t c = record {
   same = c.head-head.ensures.same;
   felling =
-      λ z. subst (λ (s : State). Felling z.format c.args.kept.now (g.R.Rows.content c.args.rows.now) c.args.desk.now
-      s c.head-head.result.layer (fallen c.args.kept.now z.placed) c.head-head.result.tail c.head-head.result.first 0
+      λ z. subst (λ (s : State). Felling z.format c.args.kept.now
+      (g.R.Rows.content c.args.rows.now) c.args.desk.now s c.head-head.result.layer
+      (fallen c.args.kept.now z.placed) c.head-head.result.tail c.head-head.result.first 0
       c.head-head.result.count) (sym c.kill.ensures.dead)
       (started c.args.kept.now (g.R.Rows.content c.args.rows.now) c.args.desk.now c.args.link z
-      (some c.args.kept.now c.args.link (sym c.is_left.ensures.left ∙ c.if-is_left.false)) (sym c.is_left.ensures.left ∙ c.if-is_left.false) c.head-head.result
+      (some c.args.kept.now c.args.link (sym c.is_left.ensures.left ∙ c.if-is_left.false))
+      (sym c.is_left.ensures.left ∙ c.if-is_left.false) c.head-head.result
       c.head-head.ensures.value);
 }
 
@@ -41,9 +43,9 @@ returns-then-is_left-clause-fells g t c = λ z.
 
 module _ (g : Over) (t : ℕ) (c : After-kill-in-loop g t)
     (z : ToFell (g.R.Rows.content c.args.rows.now) c.args.desk.now c.args.link) where
-  entry : AtEntry z.format c.args.kept.now (g.R.Rows.content c.args.rows.now) c.args.desk.now c.loop.desk
-      c.head-head.result.layer (fallen c.args.kept.now z.placed) c.head-head.result.tail (c.loop.next - 1)
-      c.loop.counter c.head-head.result.count c.entry-entry.result
+  entry : AtEntry z.format c.args.kept.now (g.R.Rows.content c.args.rows.now) c.args.desk.now
+      c.loop.desk c.head-head.result.layer (fallen c.args.kept.now z.placed)
+      c.head-head.result.tail (c.loop.next - 1) c.loop.counter c.head-head.result.count c.entry-entry.result
   entry =
       at_entry _ _ _ _ _ _ _ _ _ _ _ (c.loop.invariant.felling z) c.loop-test.true
       c.entry-entry.result
@@ -76,7 +78,8 @@ fell_at-requires g t c κs within =
     subst (λ (x : Content). height_at x c.entry-entry.result.child < c.head-head.result.layer
     + 1) (sym (same_rows g t at z)) (entry g t at z).falls in
     let read = height_read (g.R.Rows.content c.args.rows.now) c.args.link c.head-head.result
-    (some c.args.kept.now c.args.link (sym c.is_left.ensures.left ∙ c.if-is_left.false)) c.head-head.ensures.value in
+    (some c.args.kept.now c.args.link (sym c.is_left.ensures.left ∙ c.if-is_left.false))
+    c.head-head.ensures.value in
     (omega (arith, c.decreases, falls, read), (search rules, (search rules, child g t at z)))
 
 pub loop-preserved : goal.loop-preserved
@@ -89,7 +92,8 @@ loop-preserved g t c = record {
       let dead = c.kill-in-loop.ensures.dead in
       let fells =
       subst (λ (x : Content). (y : ToFell x c.kill-in-loop.new.self c.entry-entry.result.child)
-      → Moves c.kill-in-loop.new.self c.fell_at.new.desk [] (fallen c.args.kept.now y.placed)) content
+      → Moves c.kill-in-loop.new.self c.fell_at.new.desk [] (fallen c.args.kept.now y.placed))
+      content
       c.fell_at.ensures.fells in
       here.after c.fell_at.new.desk
       (subst (λ (s : State).
@@ -109,7 +113,8 @@ fell_at-requires-2 g t c κs within =
     subst (λ (x : Content). height_at x c.head-head.result.tail < c.head-head.result.layer + 1)
     (sym same) last.1 in
     let read = height_read (g.R.Rows.content c.args.rows.now) c.args.link c.head-head.result
-    (some c.args.kept.now c.args.link (sym c.is_left.ensures.left ∙ c.if-is_left.false)) c.head-head.ensures.value in (
+    (some c.args.kept.now c.args.link (sym c.is_left.ensures.left ∙ c.if-is_left.false))
+    c.head-head.ensures.value in (
       omega (arith, c.decreases, falls, read),
       (
         search rules,
@@ -128,7 +133,8 @@ returns-clause-fells g t c = λ z.
     (omega (arith, c.loop-test.false, c.loop.auto.counter-end)) in
     let fells =
     subst (λ (x : Content). (y : ToFell x c.loop.desk c.head-head.result.tail)
-    → Moves c.loop.desk c.fell_at-2.new.desk [] (fallen c.args.kept.now y.placed)) same c.fell_at-2.ensures.fells
+    → Moves c.loop.desk c.fell_at-2.new.desk [] (fallen c.args.kept.now y.placed)) same
+    c.fell_at-2.ensures.fells
     in
     last.2 c.fell_at-2.new.desk (fells last.0)
 
@@ -139,7 +145,7 @@ overflow_sub-next g t c =
     omega (
       arith,
       (entry_there _ _ _ _ _ _ _ _ _ _ _ (c.loop.invariant.felling c.requires.tree)
-      c.loop-test.true).1,
+          c.loop-test.true).1,
     )
 
 pub overflow_sub-next-in-loop : goal.overflow_sub-next-in-loop
@@ -147,7 +153,7 @@ overflow_sub-next-in-loop g t c =
     omega (
       arith,
       (entry_there _ _ _ _ _ _ _ _ _ _ _ (c.loop.invariant.felling c.requires.tree)
-      c.loop-test.true).1,
+          c.loop-test.true).1,
     )
 
 pub entry-entry-requires : goal.entry-entry-requires

@@ -15,8 +15,8 @@ fell_at-requires g c =
     let one = c.requires.change in
     record {
       tree = still c.args.format (g.R.Rows.content c.args.rows.now)
-          (g.R.Rows.content c.sow-new.new.rows) c.args.desk.now c.sow-new.new.desk c.args.root.now.link _ _ _
-          _ one.1 (c.sow-new.ensures.sown one.0 one.2);
+          (g.R.Rows.content c.sow-new.new.rows) c.args.desk.now c.sow-new.new.desk
+          c.args.root.now.link _ _ _ _ one.1 (c.sow-new.ensures.sown one.0 one.2);
     }
 
 pub returns-clause-grown : goal.returns-clause-grown
@@ -27,12 +27,12 @@ returns-clause-grown g c = λ at old plan keeps.
     let q = c.sow-new.ensures.sown at plan in
     let made =
     replaced format content (g.R.Rows.content c.sow-new.new.rows) c.args.desk.now c.sow-new.new.desk
-    c.args.root.now.link (tree_planned format at y) c.sow-new.result (rows_kept at y) (rows_planned y)
-    old q at c.args.kept.now y refl plan.once keeps c.fell_at.new.desk
+    c.args.root.now.link (tree_planned format at y) c.sow-new.result (rows_kept at y)
+    (rows_planned y) old q at c.args.kept.now y refl plan.once keeps c.fell_at.new.desk
     (c.fell_at.ensures.fells
     (still format content (g.R.Rows.content c.sow-new.new.rows) c.args.desk.now c.sow-new.new.desk
-    c.args.root.now.link (tree_planned format at y) c.sow-new.result (rows_kept at y) (rows_planned y)
-    old q)) in
+    c.args.root.now.link (tree_planned format at y) c.sow-new.result (rows_kept at y)
+    (rows_planned y) old q)) in
     subst (λ (x : Content). Grown format content x c.args.desk.now c.fell_at.new.desk
     (tree_planned format at y) c.sow-new.result (λ z. times z (used old.placed)) (rows_planned y))
     (sym (ap g.R.Rows.content c.fell_at.ensures.same)) made
