@@ -1,4 +1,21 @@
 //! Many edits of a map, made as one change of the tree that stands in the rows.
+//!
+//! A change is made by its plan: the tree that is to stand, with the nodes to be made in memory,
+//! and of each tree that stays its link. So all memory is taken, and the room is known exactly,
+//! before the first row is written.
+//!
+//! ```
+//! rows_of(&plan)                                          // what the change costs
+//! carry_out(rows, desk, &root, &plan, &kept, format)?     // the root of the new tree
+//! ```
+//!
+//! [`carry_out`] refuses a plan for which no room is left; otherwise it does as [`replace`]:
+//! [`sow`] writes the nodes to be made beside the trees that are kept, and the tree that stood is
+//! felled around them ([`fell_beside`]).
+//!
+//! In `specs/`: `Plans`, which tree a plan is, what it keeps and what it takes; `Sowing`, what is
+//! written; `Kept`, which nodes are kept and which rows fall; `Replacing` and `Carrying`, a plan in
+//! place of the tree that stands, and of a change of the map.
 #![tactic(auto)]
 
 mod carrying;
