@@ -12,7 +12,9 @@ LAYERS = [
     (("its tasks",), {"mst_command": 880}),
     (("scripts, loads, C",), {"mst_c": 610, "mst_load": 770, "mst_script": 1030}),
     (("the store",), {"mst_store": 690}),
-    (("the shared table;", "replays"), {"mst_words": 750, "mst_replay": 930}),
+    (("the shared table;", "batches; replays"), {
+        "mst_batch": 555, "mst_words": 750, "mst_replay": 930,
+    }),
     (("verifiers; trees in", "rows; pins"), {
         "mst_verifier": 286, "mst_report": 448, "mst_read": 620, "mst_path": 775, "mst_pin": 930,
     }),

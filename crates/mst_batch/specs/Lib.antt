@@ -3,3 +3,4 @@ pub mod Plans
 pub mod Sowing
 pub mod Replacing
 pub mod Carrying
+pub mod Listed

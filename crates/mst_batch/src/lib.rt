@@ -13,19 +13,25 @@
 //! [`sow`] writes the nodes to be made beside the trees that are kept, and the tree that stood is
 //! felled around them ([`fell_beside`]).
 //!
-//! In `specs/`: `Plans`, which tree a plan is, what it keeps and what it takes; `Sowing`, what is
-//! written; `Kept`, which nodes are kept and which rows fall; `Replacing` and `Carrying`, a plan in
-//! place of the tree that stands, and of a change of the map.
+//! The edits of a batch may come in any order, and of one key more than once. [`normal_edits`]
+//! sorts them and keeps the last one of each key; [`edited_pairs`] returns the pairs of the map
+//! after them.
+//!
+//! In `specs/`: `Listed`, edits that a list points at; `Plans`, which tree a plan is, what it keeps
+//! and what it takes; `Sowing`, what is written; `Kept`, which nodes are kept and which rows fall;
+//! `Replacing` and `Carrying`, a plan in place of the tree that stands, and of a change of the map.
 #![tactic(auto)]
 
 mod carrying;
 mod felling;
+mod merging;
 mod plan;
 mod replacing;
 mod sowing;
 
 pub use carrying::carry_out;
 pub use felling::fell_beside;
+pub use merging::{edited_pairs, normal_edits};
 pub use plan::{Plan, PlanEntry, PlanNode};
 pub use replacing::replace;
 pub use sowing::{rows_of, sow};

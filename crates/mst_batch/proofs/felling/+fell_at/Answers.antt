@@ -45,7 +45,8 @@ module _ (g : Over) (t : ℕ) (c : After-kill-in-loop g t)
     (z : ToFell (g.R.Rows.content c.args.rows.now) c.args.desk.now c.args.link) where
   entry : AtEntry z.format c.args.kept.now (g.R.Rows.content c.args.rows.now) c.args.desk.now
       c.loop.desk c.head-head.result.layer (fallen c.args.kept.now z.placed)
-      c.head-head.result.tail (c.loop.next - 1) c.loop.counter c.head-head.result.count c.entry-entry.result
+      c.head-head.result.tail (c.loop.next - 1) c.loop.counter c.head-head.result.count
+      c.entry-entry.result
   entry =
       at_entry _ _ _ _ _ _ _ _ _ _ _ (c.loop.invariant.felling z) c.loop-test.true
       c.entry-entry.result
