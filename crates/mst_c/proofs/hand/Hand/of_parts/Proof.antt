@@ -5,7 +5,7 @@ use Rattle.std.specs.Prelude.{Some}
 use base.Logic.{ent, sep}
 use base.Fml.{ftrue, fsep}
 use contract.Running.{tables}
-use denote.Exit.{yes}
+use denote.Exit.{no}
 use denote.RawPtr.{block_ptr}
 use denote.Steps.{nothing}
 use denote.Triple.Walked.{Stays, walk_of, says, stay_dropped, Goes-dropped, ends_at}
@@ -26,13 +26,13 @@ use Rattle.mst_c.proofs.hand.Hand.of_parts.Statement.{statement}
 use Rattle.mst_c.proofs.hand.Hand.of_parts.Code as code
 
 abbrev stayed : Stays f.ended.signature.params f.ended.kept
-stayed = (stay_dropped _ yes, tt)
+stayed = (stay_dropped _ no, tt)
 
 pub of_parts_spec : {M : Type 1} → statement M
 of_parts_spec 𝓤 𝓛 𝓜 𝓡 wired =
     let c = f.clauses 𝓛 𝓜.mem 𝓡.returns in let W = walk_of 𝓛 f.ended stayed c in let 𝓣 =
     tables 𝓤 𝓛.H 𝓜 𝓡 𝓡.env in
-    proved_at 𝓛 f.ended stayed c 𝓜 𝓡 (Goes-dropped 𝓛 0 FromParts yes (λ κs x w. refl), tt)
+    proved_at 𝓛 f.ended stayed c 𝓜 𝓡 (Goes-dropped 𝓛 0 FromParts no (λ κs x w. refl), tt)
     f.Key.name code.function (code.unfolded 𝓤 𝓛.H 𝓜 𝓡 wired) (λ y are.
     let d = y.0.3.0 in let vs = y.0.4.0 in let a = d.alloc in let x = d.value in
     qed 𝓛 ((‵ ftrue ⊛ ‵ (fsep ((Part E).own_val d vs) ftrue)) ∷ ‵ ftrue ∷ []) ∵ split ! $ drop ! $
