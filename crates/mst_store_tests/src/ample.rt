@@ -12,6 +12,16 @@ const HEAP: usize = 131_072;
 
 const FEW_ROWS: u32 = 64;
 
+/// The bytes of a heap in which each proof has room.
+const PROOF_ROOM: usize = 65_536;
+
+/// The bytes for each pair of a heap in which a list of them has room while it grows.
+const PAIR_ROOM: usize = 512;
+
+/// The bytes for each pair of a heap in which a migration has room: for the list of the pairs, and
+/// for their tree.
+const MOVE_ROOM: usize = 768;
+
 const MOST_ROWS: u32 = 65_535;
 
 // The key of a number, and its value.
@@ -99,28 +109,42 @@ fn are_given<A: Allocator>(found: Result<Vec<(Key, Value), A>, Memory>, count: u
 const STRIDE: usize = 97;
 
 // Whether a free pass gives all of so many pairs, none if it may give none, and proofs for some of
-// twice as many keys, half of which the map lacks.
+// twice as many keys, half of which the map lacks, in heaps of `PROOF_ROOM` and of `PAIR_ROOM` for
+// each pair, which are empty again.
 fn answers(rt: &(impl Abort + AllocGlobal), pass: &mut Pass<Global>, count: u32) -> bool {
+    let heap = heap_of(rt, PROOF_ROOM);
     for number in (0..count.saturating_mul(2)).step_by(STRIDE) {
         let (key, _) = numbered(rt, number);
-        if pass.prove(rt.alloc(), &key).is_err() {
+        if pass.prove(&heap, &key).is_err() || heap.used() != 0 {
             return false;
         }
     }
-    are_given(pass.range(rt.alloc(), None, None, usize::MAX), count)
-        && are_given(pass.range(rt.alloc(), None, None, 0), 0)
+    let heap = heap_of(rt, count as usize * PAIR_ROOM);
+    are_given(pass.range(&heap, None, None, usize::MAX), count)
+        && are_given(pass.range(&heap, None, None, 0), 0)
+        && heap.used() == 0
 }
 
 // The same of a pinned pass.
 fn answers_pinned(rt: &(impl Abort + AllocGlobal), pass: &mut Pinned<Global>, count: u32) -> bool {
+    let heap = heap_of(rt, PROOF_ROOM);
     for number in (0..count.saturating_mul(2)).step_by(STRIDE) {
         let (key, _) = numbered(rt, number);
-        if pass.prove(rt.alloc(), &key).is_err() {
+        if pass.prove(&heap, &key).is_err() || heap.used() != 0 {
             return false;
         }
     }
-    are_given(pass.range(rt.alloc(), None, None, usize::MAX), count)
-        && are_given(pass.range(rt.alloc(), None, None, 0), 0)
+    let heap = heap_of(rt, count as usize * PAIR_ROOM);
+    are_given(pass.range(&heap, None, None, usize::MAX), count)
+        && are_given(pass.range(&heap, None, None, 0), 0)
+        && heap.used() == 0
+}
+
+// Whether the store goes from format 1 to format 2 in a heap of `MOVE_ROOM` for each of so many
+// pairs, which is empty again.
+fn moves(rt: &(impl Abort + AllocGlobal), pass: &mut Pass<Global>, count: u32) -> bool {
+    let heap = heap_of(rt, count as usize * MOVE_ROOM);
+    pass.try_migrate(&heap, Format::Two) == Ok(Format::One) && heap.used() == 0
 }
 
 const LARGE: Shape = Shape {
@@ -131,12 +155,12 @@ const LARGE: Shape = Shape {
 
 #[test]
 fn ranges_and_proofs_of_both_formats_lack_no_memory(rt: HostRuntime) {
-    for count in [1_000u32, 10_000] {
+    for count in [1_000u32, 28_000] {
         let (store, seats) = opened(&rt, rt.alloc(), LARGE);
         let (mut first, mut second) = both_passes(&rt, rt.alloc(), &store, seats);
         assert!(rt; put_all(&rt, &mut first, count));
         assert!(rt; answers(&rt, &mut second, count), "{count} pairs, format 1");
-        assert!(rt; first.try_migrate(rt.alloc(), Format::Two) == Ok(Format::One));
+        assert!(rt; moves(&rt, &mut first, count), "{count} pairs move");
         let mut pinned = second.pin();
         assert!(rt;
             answers_pinned(&rt, &mut pinned, count),

@@ -10,7 +10,7 @@ mod maps;
 pub mod sizes;
 pub mod verdicts;
 
-use crate::heaps::{fill, heap_of};
+use crate::heaps::heap_of;
 use crate::pairs::{are_digits, bytes_of, key_of, prints};
 use linked_list_allocator::LocalHeap;
 use mst_key::{Format, Key, Memory, Value};
@@ -253,29 +253,15 @@ fn collided_with_none(
     Ok(pair.is_some())
 }
 
-/// Fills the heap but for so many blocks.
-fn fill_but<'h>(
-    rt: &impl Abort,
-    alloc: Global,
+/// Whether `collide_in` finds a pair of texts in one heap, beside the tree of the list in another.
+/// Returns `None` if the list is empty, or the other heap is too small for the tree.
+fn collided_in<'h>(
+    room: &'h LocalHeap,
     heap: &'h LocalHeap,
-    blocks: usize,
-) -> Vec<Vec<u8, &'h LocalHeap>> {
-    let mut filling = fill(rt, alloc, heap);
-    filling.truncate(filling.len().saturating_sub(blocks));
-    filling
-}
-
-/// Whether `collide_in` finds a pair of texts beside the tree of the list, in a heap of which only
-/// so many blocks of 16 bytes are free once the tree stands. Returns `None` if the list is empty,
-/// or the heap is too small for the tree.
-fn collided_in(
-    rt: &impl Abort,
-    alloc: Global,
     format: Format,
-    heap: &LocalHeap,
     pairs: &[(Key, Value)],
-    asked: (&Key, &[u8]),
-    blocks: usize,
+    key: &Key,
+    proof: &[u8],
 ) -> Option<Result<bool, Memory>>
     requires few { length pairs.now ≤ 65535 }
     requires map { IsMap pairs.now }
@@ -286,30 +272,27 @@ fn collided_in(
     let Some(node) = tree else {
         return None;
     };
-    let filling = fill_but(rt, alloc, heap, blocks);
-    let (key, proof) = asked;
-    Some(match collide_in(heap, format, key, proof, Some(&*node)) {
+    Some(match collide_in(room, format, key, proof, Some(&*node)) {
         Ok(pair) => Ok(pair.is_some()),
         Err(refused) => Err(refused),
     })
 }
 
-/// Whether `collide_in` finds a pair of texts beside the tree of the map, as above, in a heap of so
-/// many bytes. The heap keeps nothing of what was asked.
+/// Whether `collide_in` finds a pair of texts in a heap of so many bytes, beside the tree of the
+/// map in another of so many. The heaps keep nothing of what was asked.
 fn collided(
     rt: &impl Abort,
     alloc: Global,
     format: Format,
-    bytes: usize,
+    (room, bytes): (usize, usize),
     pairs: &[(Key, Value)],
     (key, proof): (&[u8], &[u8]),
-    blocks: usize,
 ) -> Option<Result<bool, Memory>> {
     assert!(rt; pairs.len() <= 65_535);
     assert!(rt; is_map(pairs));
-    let heap = heap_of(rt, alloc, bytes);
+    let (room, heap) = (heap_of(rt, alloc, room), heap_of(rt, alloc, bytes));
     let key = key_of(rt, key);
-    let found = collided_in(rt, alloc, format, &heap, pairs, (&key, proof), blocks);
-    assert!(rt; heap.used() == 0, "nothing is kept");
+    let found = collided_in(&room, &heap, format, pairs, &key, proof);
+    assert!(rt; room.used() == 0 && heap.used() == 0, "nothing is kept");
     found
 }

@@ -59,7 +59,7 @@ fn is_free(
     proof: &[u8],
 ) -> bool {
     collided_with_none(alloc, format, &key_of(rt, key), proof) == Ok(false)
-        && collided(rt, alloc, format, 32768, pairs, (key, proof), 4096) == Some(Ok(false))
+        && collided(rt, alloc, format, (4_096, 32_768), pairs, (key, proof)) == Some(Ok(false))
 }
 
 /// Asks a proof beside these pairs.

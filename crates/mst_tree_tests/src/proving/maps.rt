@@ -15,15 +15,8 @@ fn is_free(
     key: &[u8],
 ) -> bool {
     let proof = proof_for(rt, alloc, format, pairs, key);
-    match collided(
-        rt,
-        alloc,
-        format,
-        524288,
-        pairs,
-        (key, proof.as_slice()),
-        4096,
-    ) {
+    let asked = (key, proof.as_slice());
+    match collided(rt, alloc, format, (65_536, 524_288), pairs, asked) {
         Some(found) => found == Ok(false),
         None => pairs.is_empty(),
     }

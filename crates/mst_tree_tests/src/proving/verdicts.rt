@@ -30,6 +30,7 @@ const FAULTS: &[Case] = &[
     Case::FaultPrints(ProofFault::KeyOutside, "P7"),
     Case::FaultPrints(ProofFault::Unfinished, "P8"),
     Case::FaultPrints(ProofFault::TextBehind, "P9"),
+    Case::FaultPrints(ProofFault::OtherValue, "P10"),
 ];
 
 #[test]

@@ -3,7 +3,7 @@ use Rattle.mst_node.specs.Shape.{tree_of, tree_of_child}
 use Rattle.mst_tree_tests.proofs.proving.collided_in.Goals as goal
 
 pub collide_in-requires : goal.collide_in-requires
-collide_in-requires g c =
+collide_in-requires c =
     record {
       map = (
         c.args.pairs.now,
