@@ -45,25 +45,25 @@ pub fn carry_out<R: Rows, A: Allocator, B: Allocator>(
     requires plan { (change : List Pair → List Pair) × IsPlanOf format (R.content rows.old)
         desk.old root.now kept.now (plan_of plan.now) change }
     requires free { FreeIsBlank desk.old.lives (R.blank rows.old) }
-    ensures stands { IfOk result (λ new. (change : List Pair → List Pair)
+    ensures stands { IfOk result (λ done. (change : List Pair → List Pair)
         → IsPlanOf format (R.content rows.old) desk.old root.now kept.now (plan_of plan.now) change
         → (m : List Pair) → Stands format (R.content rows.old) root.now m
-        → Stands format (R.content rows.new) new (change m)) }
+        → Stands format (R.content rows.new) done (change m)) }
     ensures written { OnlyFreeWritten desk.old (R.content rows.old) (R.content rows.new) }
     // as many rows as the nodes that are new have entries and heads
     ensures cost { IfOk result (λ _. (change : List Pair → List Pair)
         → IsPlanOf format (R.content rows.old) desk.old root.now kept.now (plan_of plan.now) change
         → (m : List Pair) → Stands format (R.content rows.old) root.now m
         → free_count desk.new.lives + cost format m (change m) ≡ free_count desk.old.lives) }
-    ensures changes { IfOk result (λ new. (m n : List Pair)
+    ensures changes { IfOk result (λ done. (m n : List Pair)
         (before : Stands format (R.content rows.old) root.now m)
-        (after : Stands format (R.content rows.new) new n)
+        (after : Stands format (R.content rows.new) done n)
         → Changes desk.old desk.new (numbers before) (numbers after)) }
     ensures versions { SameVersions desk.old desk.new }
     // the rows of a node are of one age: with all below it they were there before, or they are all
     // new
-    ensures made { IfOk result (λ new. (n : List Pair)
-        (after : Stands format (R.content rows.new) new n) → IsMade desk.new after.tree.placed) }
+    ensures made { IfOk result (λ done. (n : List Pair)
+        (after : Stands format (R.content rows.new) done n) → IsMade desk.new after.tree.placed) }
     ensures beside { StaysBeside R.blank R.kept rows.old rows.new }
     ensures no_room { IfErr result (λ _. (change : List Pair → List Pair)
         → IsPlanOf format (R.content rows.old) desk.old root.now kept.now (plan_of plan.now) change
