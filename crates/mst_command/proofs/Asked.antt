@@ -8,7 +8,7 @@ use Rattle.std.proofs.lemmas.Option.{none-some, same_Some}
 use denote.Ref.{Bor}
 use Rattle.mst_key.specs.declared.format.Format.{Format}
 use Rattle.mst_command.specs.Commanding.{AsksFor, Ends, EndsWords, IsDevice, IsPlain, NamesShape, Unread, Untouched, status_of, told, asks_replay, asks_verify, verified_words}
-use Rattle.mst_command.specs.Loading.{NamesLoad, RanLoad, asks_load}
+use Rattle.mst_command.specs.Loading.{IsLoadOf, RanLoad, asks_load}
 use Rattle.mst_devices.specs.Device.{Breaks}
 use Rattle.mst_command.specs.Programs.{RanScript, RanReplay, RanVerify, Did, Helped, HasBadShape, HasBadRoot, HasBadKey, IsBad, Comes}
 use Rattle.mst_command.specs.declared.task.Task.{Task}
@@ -54,7 +54,7 @@ module _ {S W : Type 0} (gives : S → List ℕ → S → Type 0) (left : S → 
   pub asked_load : (task : Task) (r : Result Ending Refusal) (s t : S) (w x : W)
       → AsksFor words task → IfOk r (λ ending. Did gives left takes task s w ending t x)
       → asks_load words ≡ true →
-      OnOk r (((size : _) × NamesLoad words size × RanLoad takes size w x × (t ≡ s))
+      OnOk r (((size : _) × IsLoadOf words size × RanLoad takes size w x × (t ≡ s))
       ⊎ Helped takes words s w t x)
   asked_load (Run shape) (Ok ending) s t w x asked did is = absurd (false≢true (asked.3 ∙ is))
   asked_load (Verify format root key) (Ok ending) s t w x asked did is =

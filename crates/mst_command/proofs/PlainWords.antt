@@ -1,20 +1,22 @@
--- Words of a plain form.
-use Rattle.std.proofs.Common.{◌≡◌, inl, inr, ℕ, ◌<◌, ◌^◌, Bool, true, false, is_some, List, [], ◌∷◌, Option, Some, None, Result, IfSome, IfNone, refl, sym, ap, subst, ◌∙◌, arith, codes, decimal}
-use Rattle.std.specs.Prelude.{◌&&◌, if◌then◌else◌}
+-- Words that name a task.
+use Rattle.std.proofs.Common.{◌≡◌, inl, inr, ℕ, ◌<◌, ◌^◌, Bool, true, false, is_some, List, [], ◌∷◌, Option, Some, None, Result, Ok, Err, IfSome, IfNone, refl, sym, ap, subst, ◌∙◌, arith, to_z-of_z}
+use Rattle.std.specs.Prelude.{◌&&◌, if◌then◌else◌, ℤ, pos, negsuc, unsigned_abs, codes, FitsSigned}
+use Rattle.std.specs.Int.{w64, FitsUnsignedBits}
 use Rattle.std.specs.Str.{bytes_eq}
-use Rattle.std.specs.Result.{result_ok}
-use Rattle.std.specs.Str.Parse.{ParsesUnsigned}
+use Rattle.std.specs.Result.{OkIff, result_ok}
+use Rattle.std.specs.Str.Parse.{IsNumeral, ParsesSigned, signed_digits_value, without_leading_sign}
 use Rattle.std.proofs.lemmas.Bool.{false≢true}
-use Rattle.std.proofs.lemmas.Fmt.{parse-decimal}
 use Rattle.std.proofs.lemmas.Option.{none-some, same_Some}
 use Rattle.std.proofs.lemmas.Slice.Eq.{bytes_eq-Decides}
 use denote.Ref.{Bor}
+use mir.Val.{of_z, to_z}
 use Rattle.mst_key.specs.declared.format.Format.{Format}
-use Rattle.mst_command.specs.Options.{format_named, operand_at}
-use Rattle.mst_command.specs.Commanding.{AsksFor, IsPlain, IsRunOf, IsSizeIn, NamesSize, are_plain_options, asks_replay, asks_run, asks_script, asks_verify, format_in, is_plain_replay, is_plain_verify, value_or}
+use Rattle.mst_command.specs.declared.task.Subcommand.TheVariants.{Run as RunWords, Load as LoadWords, Replay as ReplayWords, Verify as VerifyWords}
+use Rattle.mst_command.specs.Options.{IsNumber, are_words_of, format_named, operand_at}
+use Rattle.mst_command.specs.Commanding.{AsksFor, IsPlain, IsRunOf, IsSizeIn, asks_replay, asks_run, asks_script, asks_verify, format_in, is_replay_alone, is_whole_verify, value_or}
 use Rattle.mst_command.specs.declared.task.Size.{Size}
 use Rattle.mst_command.specs.declared.task.Load.{Load as LoadSize}
-use Rattle.mst_command.specs.Loading.{IsLoadIn, IsLoadOf, NamesLoad, asks_load, load_options_of, load_words}
+use Rattle.mst_command.specs.Loading.{IsLoadIn, IsLoadOf, asks_load, load_options_of, load_words}
 use Rattle.mst_command.specs.declared.task.Task.{Task}
 use Rattle.mst_command.specs.declared.task.Task.TheVariants.{Run, Verify, UnknownFormat, Replay, Load}
 
@@ -37,12 +39,60 @@ abbrev sizes_of : List Word → Sizes
 sizes_of words =
     (value_or (codes "1024") (codes "--rows") words, value_or (codes "4") (codes "--passes") words)
 
-pub parsed : {E : Type 0} (n : ℕ) (word : List ℕ) (r : Result ℕ E) → ParsesUnsigned 32 10 word r
-    → word ≡ decimal n → n < 2 ^ 32 → result_ok r ≡ Some n
-parsed n word r h is few = ap result_ok (parse-decimal 32 n word r few (omega (arith, few)) is h)
+-- ---- numbers
 
-pub ap_decimal : (m n : ℕ) → m ≡ n → decimal m ≡ decimal n
-ap_decimal m n e = ap decimal e
+fits_long : (z : ℤ) (n : ℕ) → z ≡ pos n → n < 2 ^ 32 → FitsSigned w64 z
+fits_long z n is few = subst (λ (y : ℤ). FitsSigned w64 y) (sym is) (omega (arith, few))
+
+-- a word that spells a number is parsed
+pub parsed : {E : Type 0} (word : List ℕ) (r : Result ℤ E) (n : ℕ) → ParsesSigned w64 10 word r
+    → IsNumber word n → result_ok r ≡ Some (pos n)
+parsed word (Err e) n h is =
+    absurd (h (is.digits, fits_long (signed_digits_value 10 word) n is.value is.fits))
+parsed word (Ok z) n h is = ap Some (h.1 ∙ is.value)
+
+narrowed : {E : Type 0} (z : ℤ) (r : Result ℕ E) (n : ℕ)
+    → OkIff r (FitsUnsignedBits 32 z) (unsigned_abs z) → z ≡ pos n → n < 2 ^ 32
+    → result_ok r ≡ Some n
+narrowed z (Err e) n h is few =
+    absurd (h (subst (λ (y : ℤ). FitsUnsignedBits 32 y) (sym is) few))
+narrowed z (Ok m) n h is few = ap Some (h.1 ∙ ap unsigned_abs is)
+
+spelt_at : (word : List ℕ) (z : ℤ) (n : ℕ) → FitsUnsignedBits 32 z → n ≡ unsigned_abs z
+    → z ≡ signed_digits_value 10 word → IsNumeral 10 (without_leading_sign word) → IsNumber word n
+spelt_at word (pos m) n few is value digits = record {
+  digits = digits;
+  value = sym value ∙ ap pos (sym is);
+  fits = subst (λ (k : ℕ). k < 2 ^ 32) (sym is) few;
+}
+spelt_at word (negsuc m) n few is value digits = absurd few
+
+pub wide : (z : ℤ) → FitsSigned w64 z → to_z w64 (of_z w64 z) ≡ z
+wide z fits = to_z-of_z fits
+
+-- What is parsed and narrowed is what the word spells. On its way, where it fits, it stays the same
+-- number.
+pub spelt : {E F : Type 0} (word : List ℕ) (z y : ℤ) (r : Result ℤ E) (t : Result ℕ F)
+    (o : Option ℕ) → ParsesSigned w64 10 word r → result_ok r ≡ Some z
+    → (FitsSigned w64 z → y ≡ z) → OkIff t (FitsUnsignedBits 32 y) (unsigned_abs y)
+    → o ≡ result_ok t → IfSome o (λ n. IsNumber word n)
+spelt word z y (Err e) t o h is same narrow only = absurd (none-some z is)
+spelt word z y (Ok x) (Err e) o h is same narrow only =
+    subst (λ (k : Option ℕ). IfSome k (λ n. IsNumber word n)) (sym only) tt
+spelt word z y (Ok x) (Ok m) o h is same narrow only =
+    let v : z ≡ signed_digits_value 10 word = sym (same_Some x z is) ∙ h.1 in
+    let w : y ≡ z = same (subst (λ (k : ℤ). FitsSigned w64 k) (sym v) h.0.1) in
+    subst (λ (k : Option ℕ). IfSome k (λ n. IsNumber word n)) (sym only)
+    (spelt_at word y m narrow.0 narrow.1 (w ∙ v) h.0.0)
+
+pub only_spelt : {E F : Type 0} (word : List ℕ) (z y : ℤ) (r : Result ℤ E) (t : Result ℕ F)
+    (o : Option ℕ) → ParsesSigned w64 10 word r → result_ok r ≡ Some z
+    → (FitsSigned w64 z → y ≡ z) → OkIff t (FitsUnsignedBits 32 y) (unsigned_abs y)
+    → o ≡ result_ok t → (n : ℕ) → IsNumber word n → o ≡ Some n
+only_spelt word z y r t o h is same narrow only n spells =
+    let v : z ≡ pos n = same_Some z (pos n) (sym is ∙ parsed word r n h spells) in
+    let w : y ≡ z = same (fits_long z n v spells.fits) in
+    only ∙ narrowed y t n narrow (w ∙ v) spells.fits
 
 pub found : (r p : Option ℕ) (rows passes : ℕ) (size : Size) → r ≡ Some rows → p ≡ Some passes
     → r ≡ Some size.rows → p ≡ Some size.passes
@@ -88,7 +138,7 @@ run_named [] named is = absurd (none-some named is)
 run_named (program ∷ []) named is = absurd (none-some named is)
 run_named (program ∷ name ∷ words) named is =
     let e : name.now ≡ codes "run" = by_name_and name.now (codes "run") (Some (sizes_of words))
-    named (bytes_eq name.now (codes "run")) (are_plain_options words) refl is in (
+    named (bytes_eq name.now (codes "run")) (are_words_of RunWords words) refl is in (
       subst (λ (n : List ℕ). bytes_eq n (codes "replay") ≡ false) (sym e) refl,
       subst (λ (n : List ℕ). (if bytes_eq n (codes "verify") then Some (proof_of words) else None)
           ≡ None) (sym e) refl,
@@ -96,54 +146,39 @@ run_named (program ∷ name ∷ words) named is =
       subst (λ (n : List ℕ). bytes_eq n (codes "run") ≡ true) (sym e) refl,
     )
 
--- what plain words of a script name
+left_true : (a b : Bool) → (a && b) ≡ true → a ≡ true
+left_true true b is = refl
+left_true false b is = is
+
+-- what the words of a script name
 
 module _ (words : List Word) (size : Size) (of : IsRunOf words size) where
-  pub run_replay : asks_replay words ≡ false
-  run_replay = (run_named words of.0 of.1).0
+  script : IsScript words
+  script = run_named words of.0 of.1
 
-  pub run_verify : asks_verify words ≡ None
-  run_verify = (run_named words of.0 of.1).1
+  pub script_asked : (format : Format) → format_in words ≡ Some format
+      → AsksFor words (Run (record { rows = size.rows; passes = size.passes; format = format }))
+  script_asked format is = (
+    sym script.0,
+    sym script.1,
+    record { script = script.3; format = is; size = of },
+    sym script.2,
+  )
 
-  pub run_load : asks_load words ≡ false
-  run_load = (run_named words of.0 of.1).2
+  pub script_unknown : format_in words ≡ None → AsksFor words UnknownFormat
+  script_unknown is = (script.0, script.2, is, inl script.3, inl (size, of))
 
-  pub run_script : asks_script words ≡ true
-  run_script = (run_named words of.0 of.1).3
-
-pub run_size : (words : List Word) (size : Size) (r : Option Size) → r ≡ Some size
-    → ((it : Size) → IsRunOf words it → r ≡ Some it) → NamesSize words size
-run_size words size r is only = λ other named. same_Some other size (sym (only other named) ∙ is)
-
-pub script_asked : (words : List Word) (size : Size) (format : Format) → asks_replay words ≡ false
-    → asks_verify words ≡ None → asks_load words ≡ false → asks_script words ≡ true
-    → NamesSize words size → format_in words ≡ Some format
-    → AsksFor words (Run (record { rows = size.rows; passes = size.passes; format = format }))
-script_asked words size format replay verify load script names is =
-    (sym replay, sym verify, record { script = script; format = is; size = names }, sym load)
-
-pub replay_asked : (words : List Word) → true ≡ is_plain_replay words → AsksFor words Replay
-replay_asked [] is = absurd (false≢true (sym is))
-replay_asked (program ∷ []) is = absurd (false≢true (sym is))
-replay_asked (program ∷ name ∷ []) is =
-    let e : name.now ≡ codes "replay" = (bytes_eq-Decides name.now (codes "replay")).0 (sym is) in (
-      is,
-      subst (λ (n : List ℕ). None
-          ≡ (if bytes_eq n (codes "verify") then Some (proof_of []) else None)) (sym e) refl,
-      tt,
-      subst (λ (n : List ℕ). false ≡ bytes_eq n (codes "load")) (sym e) refl,
-    )
-replay_asked (program ∷ name ∷ more ∷ words) is = absurd (false≢true (sym is))
-
-pub replay_named : (words : List Word) → true ≡ asks_replay words → AsksFor words Replay
-replay_named [] is = absurd (false≢true (sym is))
-replay_named (program ∷ []) is = absurd (false≢true (sym is))
-replay_named (program ∷ name ∷ words) is =
-    let e : name.now ≡ codes "replay" = (bytes_eq-Decides name.now (codes "replay")).0 (sym is) in (
-      is,
+pub replay_asked : (words : List Word) → is_replay_alone words ≡ true → AsksFor words Replay
+replay_asked [] is = absurd (false≢true is)
+replay_asked (program ∷ []) is = absurd (false≢true is)
+replay_asked (program ∷ name ∷ words) is =
+    let named = left_true (bytes_eq name.now (codes "replay")) (are_words_of ReplayWords words) is
+    in
+    let e : name.now ≡ codes "replay" = (bytes_eq-Decides name.now (codes "replay")).0 named in (
+      sym named,
       subst (λ (n : List ℕ). None
           ≡ (if bytes_eq n (codes "verify") then Some (proof_of words) else None)) (sym e) refl,
-      tt,
+      is,
       subst (λ (n : List ℕ). false ≡ bytes_eq n (codes "load")) (sym e) refl,
     )
 
@@ -164,44 +199,35 @@ verify_named (program ∷ name ∷ words) named is =
           (by_value (proof_of words) named (bytes_eq name.now (codes "verify")) is),
     )
 
-pub verify_asked : (words : List Word) (format : Format) (root key : Word) → asks_verify words
-    ≡ Some (Some format, root.now, key.now) → AsksFor words (Verify format root key)
-verify_asked words format root key is = let n = verify_named words (Some format, root.now, key.now)
-    is in (sym n.0, sym is, tt, sym n.1)
+pub verify_asked : (words : List Word) (format : Format) (root key : Word)
+    → is_whole_verify words ≡ true → asks_verify words ≡ Some (Some format, root.now, key.now)
+    → AsksFor words (Verify format root key)
+verify_asked words format root key whole is =
+    let n = verify_named words (Some format, root.now, key.now) is in
+    (sym n.0, sym is, whole, sym n.1)
 
-pub unknown_asked : (words : List Word) (root key : List ℕ) → asks_verify words ≡ Some
-    (None, root, key) → AsksFor words UnknownFormat
-unknown_asked words root key is = let n = verify_named words (None, root, key) is in
-    (n.0, n.1, n.2, inr (ap is_some is))
-
-left_true : (a b : Bool) → (a && b) ≡ true → a ≡ true
-left_true true b is = refl
-left_true false b is = is
+pub unknown_asked : (words : List Word) (root key : List ℕ) → is_whole_verify words ≡ true
+    → asks_verify words ≡ Some (None, root, key) → AsksFor words UnknownFormat
+unknown_asked words root key whole is = let n = verify_named words (None, root, key) is in
+    (n.0, n.1, n.2, inr (ap is_some is), inr (inr (inl whole)))
 
 some_if : {T : Type 0} (x : T) (b : Bool) → b ≡ true → (if b then Some x else None) ≡ None → ⊥
 some_if x true is e = none-some x (sym e)
 some_if x false is e = false≢true is
 
-plain_verifies : (words : List Word) → is_plain_verify words ≡ true → asks_verify words ≡ None → ⊥
-plain_verifies (program ∷ name ∷ root ∷ key ∷ []) is none =
-    some_if (proof_of (root ∷ key ∷ [])) (bytes_eq name.now (codes "verify")) (left_true _ _ is)
-    none
-plain_verifies (program ∷ name ∷ option ∷ format ∷ root ∷ key ∷ []) is none =
-    some_if (proof_of (option ∷ format ∷ root ∷ key ∷ [])) (bytes_eq name.now (codes "verify"))
-    (left_true _ _ is) none
-plain_verifies [] is none = false≢true is
-plain_verifies (a ∷ []) is none = false≢true is
-plain_verifies (a ∷ b ∷ []) is none = false≢true is
-plain_verifies (a ∷ b ∷ c ∷ []) is none = false≢true is
-plain_verifies (a ∷ b ∷ c ∷ d ∷ e ∷ []) is none = false≢true is
-plain_verifies (a ∷ b ∷ c ∷ d ∷ e ∷ f ∷ g ∷ words) is none = false≢true is
+whole_verifies : (words : List Word) → is_whole_verify words ≡ true → asks_verify words ≡ None → ⊥
+whole_verifies [] is none = false≢true is
+whole_verifies (program ∷ []) is none = false≢true is
+whole_verifies (program ∷ name ∷ words) is none =
+    some_if (proof_of words) (bytes_eq name.now (codes "verify"))
+    (left_true (bytes_eq name.now (codes "verify")) (are_words_of VerifyWords words) is) none
 
-pub not_plain_verify : (words : List Word) (r : Option Task) → is_plain_verify words ≡ true
-    → IfNone r (asks_verify words ≡ None) → IfNone r (is_plain_verify words ≡ false)
-not_plain_verify words None is none = absurd (plain_verifies words is none)
-not_plain_verify words (Some task) is none = tt
+pub not_whole_verify : (words : List Word) (r : Option Task) → is_whole_verify words ≡ true
+    → IfNone r (asks_verify words ≡ None) → IfNone r (is_whole_verify words ≡ false)
+not_whole_verify words None is none = absurd (whole_verifies words is none)
+not_whole_verify words (Some task) is none = tt
 
--- a plain load
+-- the words of a load
 
 pub load_found : (r w c : Option ℕ) (readers writers calls : ℕ) (size : LoadSize) → r ≡ Some readers
     → w ≡ Some writers → c ≡ Some calls → r ≡ Some size.readers → w ≡ Some size.writers
@@ -237,30 +263,28 @@ load_named : (words : List Word) (named : Three) → load_words words ≡ Some n
 load_named [] named is = absurd (none-some named is)
 load_named (program ∷ []) named is = absurd (none-some named is)
 load_named (program ∷ name ∷ words) named is =
-    let e : name.now ≡ codes "load" = by_name name.now (codes "load") (load_options_of words) named
-    (bytes_eq name.now (codes "load")) refl is in (
+    let e : name.now ≡ codes "load" = by_name_and name.now (codes "load") (load_options_of words)
+    named (bytes_eq name.now (codes "load")) (are_words_of LoadWords words) refl is in (
       subst (λ (n : List ℕ). false ≡ bytes_eq n (codes "replay")) (sym e) refl,
       subst (λ (n : List ℕ). None
           ≡ (if bytes_eq n (codes "verify") then Some (proof_of words) else None)) (sym e) refl,
       subst (λ (n : List ℕ). true ≡ bytes_eq n (codes "load")) (sym e) refl,
     )
 
-pub load_asked : (words : List Word) (size : LoadSize) (r : Option LoadSize) → r ≡ Some size
-    → IsLoadOf words size → ((it : LoadSize) → IsLoadOf words it → r ≡ Some it)
+pub load_asked : (words : List Word) (size : LoadSize) → IsLoadOf words size
     → AsksFor words (Load size)
-load_asked words size r is of only = let n = load_named words of.0 of.1 in
-    (n.0, n.1, (λ other named. same_Some other size (sym (only other named) ∙ is)), n.2)
+load_asked words size of = let n = load_named words of.0 of.1 in (n.0, n.1, of, n.2)
 
 pub plain_none : (words : List Word) (r : Option Task)
     → ((size : LoadSize) → IsLoadOf words size → ⊥)
-    → IfNone r ((is_plain_replay words ≡ false) × (is_plain_verify words ≡ false)) →
-    IfNone r ((is_plain_replay words ≡ false) × (is_plain_verify words ≡ false)
+    → IfNone r ((is_replay_alone words ≡ false) × (is_whole_verify words ≡ false)) →
+    IfNone r ((is_replay_alone words ≡ false) × (is_whole_verify words ≡ false)
     × ((size : LoadSize) → ¬ (IsLoadOf words size)))
 plain_none words None load h = (h.0, h.1, load)
 plain_none words (Some task) load h = tt
 
 pub not_plain : (words : List Word) → ((size : Size) → IsRunOf words size → ⊥)
-    → (is_plain_replay words ≡ false) → (is_plain_verify words ≡ false)
+    → (is_replay_alone words ≡ false) → (is_whole_verify words ≡ false)
     → ((size : LoadSize) → ¬ (IsLoadOf words size)) → ¬ (IsPlain words)
 not_plain words run replay verify load = λ plain. elim plain [
   | inl of ↦ run of.0 of.1
@@ -270,15 +294,7 @@ not_plain words run replay verify load = λ plain. elim plain [
 ]
 
 pub other_plain : (words : List Word) (r : Option Task) → ((size : Size) → IsRunOf words size → ⊥)
-    → IfNone r ((is_plain_replay words ≡ false) × (is_plain_verify words ≡ false)
+    → IfNone r ((is_replay_alone words ≡ false) × (is_whole_verify words ≡ false)
     × ((size : LoadSize) → ¬ (IsLoadOf words size))) → IfNone r (¬ (IsPlain words))
 other_plain words None run h = not_plain words run h.0 h.1 h.2
 other_plain words (Some task) run h = tt
-
--- words of no plain form name no size
-pub no_size : (words : List Word) (size : Size) → ¬ (IsPlain words) → NamesSize words size
-no_size words size other = λ it of. absurd (other (inl (it, of)))
-
--- and no numbers of a load
-pub no_load : (words : List Word) (size : LoadSize) → ¬ (IsPlain words) → NamesLoad words size
-no_load words size other = λ it of. absurd (other (inr (inr (inr (it, of)))))

@@ -1,5 +1,5 @@
 -- What the words of a program ask for, and how it ends.
-use Rattle.std.specs.Prelude.{◌≡◌, ◌==◌, ◌&&◌, ◌||◌, ℕ, ◌<◌, ◌^◌, ◌⊎◌, Bool, true, false, not, if◌then◌else◌, List, [], ◌∷◌, ◌++◌, Option, Some, None, IsSome, unwrap_or, codes, decimal, string_bytes}
+use Rattle.std.specs.Prelude.{◌≡◌, ◌==◌, ◌&&◌, ◌||◌, ℕ, ◌<◌, ◌^◌, ◌⊎◌, Bool, true, false, not, if◌then◌else◌, List, [], ◌∷◌, ◌++◌, Option, Some, None, IsSome, unwrap_or, codes, string_bytes}
 use Rattle.std.specs.List.{Contains}
 use Rattle.std.specs.Str.{bytes_eq}
 use denote.Ref.{Bor}
@@ -14,8 +14,9 @@ use Rattle.mst_command.specs.declared.task.Ending.{Ending}
 use Rattle.mst_command.specs.declared.task.Ending.TheVariants.{Done, ProofRefused}
 use Rattle.mst_command.specs.declared.task.Refusal.{Refusal}
 use Rattle.mst_command.specs.declared.task.Refusal.TheVariants.{Words, NotText, Shape as BadShape, BadRoot, BadKey, Device, Memory}
-use Rattle.mst_command.specs.Loading.{asks_load, IsLoadOf, NamesLoad}
-use Rattle.mst_command.specs.Options.{are_options, format_named, operand_at, value_of}
+use Rattle.mst_command.specs.declared.task.Subcommand.TheVariants.{Run as RunWords, Verify as VerifyWords, Replay as ReplayWords}
+use Rattle.mst_command.specs.Loading.{asks_load, IsLoadOf}
+use Rattle.mst_command.specs.Options.{IsNumber, are_words_of, format_named, operand_at, value_of}
 
 -- the first word after the program's name is `replay`
 abbrev pub asks_replay : List (Bor (List ℕ)) → Bool
@@ -40,29 +41,14 @@ asks_verify (program ∷ name ∷ words) =
     then Some (format_named words, operand_at 0 words, operand_at 1 words) else None
 asks_verify _ = None
 
--- the word begins with a dash
-abbrev pub is_dashed : List ℕ → Bool
-is_dashed [] = false
-is_dashed (b ∷ bs) = b == 45
-
--- there is a word that begins with a dash
-abbrev pub has_dash : Option (List ℕ) → Bool
-has_dash None = false
-has_dash (Some word) = is_dashed word
-
--- the words are options with their values, and that of `--format` begins with no dash
-abbrev pub are_plain_options : List (Bor (List ℕ)) → Bool
-are_plain_options words = are_options words && not (has_dash (value_of (codes "--format") words))
-
--- the word after the option, or else the usual one
+-- the value of the option, or else the usual one
 abbrev pub value_or : List ℕ → List ℕ → List (Bor (List ℕ)) → List ℕ
 value_or usual option words = unwrap_or (value_of option words) usual
 
--- the words for the rows and the passes, where the words are of the plain form `run`, `--rows N`,
--- `--passes N`, `--format F`, each option at most once, in any order
+-- the words for the rows and the passes, where the words are those of a script
 abbrev pub asks_run : List (Bor (List ℕ)) → Option (List ℕ × List ℕ)
 asks_run (program ∷ name ∷ words) =
-    if bytes_eq name.now (codes "run") && are_plain_options words
+    if bytes_eq name.now (codes "run") && are_words_of RunWords words
     then Some (
       value_or (codes "1024") (codes "--rows") words,
       value_or (codes "4") (codes "--passes") words,
@@ -70,55 +56,38 @@ asks_run (program ∷ name ∷ words) =
     else None
 asks_run _ = None
 
--- two words are the numerals of the rows and the passes
+-- two words spell the rows and the passes
 pub record IsSizeIn (words : List ℕ × List ℕ) (size : Size) : Type 0 where
-  pub rows : words.0 ≡ decimal size.rows
-  pub passes : words.1 ≡ decimal size.passes
-  pub rows_fit : size.rows < 2 ^ 32
-  pub passes_fit : size.passes < 2 ^ 32
+  pub rows : IsNumber words.0 size.rows
+  pub passes : IsNumber words.1 size.passes
 
--- the words are of the plain form of a script over a store of this size
+-- the words are those of a script over a store of this size
 abbrev pub IsRunOf : List (Bor (List ℕ)) → Size → Type 0
 IsRunOf words size =
     (named : List ℕ × List ℕ) × (asks_run words ≡ Some named) × IsSizeIn named size
 
--- no other size than this is named in the plain form
-abbrev pub NamesSize : List (Bor (List ℕ)) → Size → Type 0
-NamesSize words size = (other : Size) → IsRunOf words other → other ≡ size
-
--- the words ask for a script, name the format of this shape, and in the plain form no other size
--- than its own; of a size in another form nothing is said
+-- the words are those of a script over a store of this shape
 pub record NamesShape (words : List (Bor (List ℕ))) (shape : Shape) : Type 0 where
   pub script : asks_script words ≡ true
   pub format : format_in words ≡ Some shape.format
-  pub size : NamesSize words (record { rows = shape.rows; passes = shape.passes })
+  pub size : IsRunOf words (record { rows = shape.rows; passes = shape.passes })
 
--- the words are `replay` alone
-abbrev pub is_plain_replay : List (Bor (List ℕ)) → Bool
-is_plain_replay (program ∷ name ∷ []) = bytes_eq name.now (codes "replay")
-is_plain_replay _ = false
+-- the words are those of a replay
+abbrev pub is_replay_alone : List (Bor (List ℕ)) → Bool
+is_replay_alone (program ∷ name ∷ words) =
+    bytes_eq name.now (codes "replay") && are_words_of ReplayWords words
+is_replay_alone _ = false
 
--- two words that begin with no dash
-abbrev pub are_bare : List ℕ → List ℕ → Bool
-are_bare root key = not (is_dashed root) && not (is_dashed key)
+-- the words are those of a proof
+abbrev pub is_whole_verify : List (Bor (List ℕ)) → Bool
+is_whole_verify (program ∷ name ∷ words) =
+    bytes_eq name.now (codes "verify") && are_words_of VerifyWords words
+is_whole_verify _ = false
 
--- two words are `--format` and one that begins with no dash
-abbrev pub is_plain_format : List ℕ → List ℕ → Bool
-is_plain_format option format = bytes_eq option (codes "--format") && not (is_dashed format)
-
--- the words are `verify` and two words that begin with no dash, or `verify`, `--format` and three
-abbrev pub is_plain_verify : List (Bor (List ℕ)) → Bool
-is_plain_verify (program ∷ name ∷ root ∷ key ∷ []) =
-    bytes_eq name.now (codes "verify") && are_bare root.now key.now
-is_plain_verify (program ∷ name ∷ option ∷ format ∷ root ∷ key ∷ []) =
-    bytes_eq name.now (codes "verify")
-    && (is_plain_format option.now format.now && are_bare root.now key.now)
-is_plain_verify _ = false
-
--- the words are of a plain form, and so are never refused by their form
+-- the words name a task, and so are never refused by their form
 abbrev pub IsPlain : List (Bor (List ℕ)) → Type 0
-IsPlain words = ((size : Size) × IsRunOf words size) ⊎ (is_plain_replay words ≡ true)
-    ⊎ (is_plain_verify words ≡ true) ⊎ ((size : LoadSize) × IsLoadOf words size)
+IsPlain words = ((size : Size) × IsRunOf words size) ⊎ (is_replay_alone words ≡ true)
+    ⊎ (is_whole_verify words ≡ true) ⊎ ((size : LoadSize) × IsLoadOf words size)
 
 -- a word that asks for help: `help`, `--help`, or one that begins with `-h`
 abbrev pub IsHelp : List ℕ → Type 0
@@ -181,38 +150,26 @@ version_text = codes "mst 0.2.0" ++ 10 ∷ []
 abbrev pub IsTold : List (Bor (List ℕ)) → List ℕ → Type 0
 IsTold words text = asks_version_alone words ≡ true → text ≡ version_text
 
--- a script's format is what the words name, its size, and a load's numbers, what plain words name
+-- the words name this task's numbers and its format, and nothing else
 abbrev pub IsSized : List (Bor (List ℕ)) → Task → Type 0
 IsSized words (Run shape) = NamesShape words shape
-IsSized words (Load size) = NamesLoad words size
-IsSized words task = Unit {0}
+IsSized words (Verify format root key) = is_whole_verify words ≡ true
+IsSized words Replay = is_replay_alone words ≡ true
+IsSized words (Load size) = IsLoadOf words size
+IsSized words _ = ⊥
 
--- the first word after the program's name is no command's
-pub record AsksNothing (words : List (Bor (List ℕ))) : Type 0 where
-  pub script : asks_script words ≡ false
-  pub verify : asks_verify words ≡ None
-  pub replay : asks_replay words ≡ false
-  pub load : asks_load words ≡ false
-
--- The words ask for this task: some word for help, or the first for the version, in no plain form,
--- with a text that they may be told, and otherwise the first word after the program's name for the
--- rest. Neither a replay nor a load has a format, so that their words ask for none that there is
--- not.
+-- The words ask for this task: some word for help, or the first for the version, where they name no
+-- task, with a text that they may be told, and otherwise they name it. Neither a replay nor a load
+-- has a format, so that their words ask for none that there is not.
 abbrev pub AsksFor : List (Bor (List ℕ)) → Task → Type 0
 AsksFor words (Help text) =
     AskText words × ¬ (IsPlain words) × IsTold words (string_bytes text)
 AsksFor words UnknownFormat =
     (asks_replay words ≡ false) × (asks_load words ≡ false) × (format_in words ≡ None)
-    × ((asks_script words ≡ true) ⊎ IsSome (asks_verify words))
+    × ((asks_script words ≡ true) ⊎ IsSome (asks_verify words)) × IsPlain words
 AsksFor words task = (is_replay task ≡ asks_replay words)
     × (verified_words task ≡ asks_verify words) × IsSized words task
     × (is_load task ≡ asks_load words)
-
--- a script's store has this size, and a load these numbers
-abbrev pub HasNumbers : Size → LoadSize → Task → Type 0
-HasNumbers size load (Run shape) = (shape.rows ≡ size.rows) × (shape.passes ≡ size.passes)
-HasNumbers size load (Load numbers) = numbers ≡ load
-HasNumbers size load task = Unit {0}
 
 -- how a script may end early
 abbrev pub EndsScript : Refusal → Type 0

@@ -1,5 +1,5 @@
-pub mod Loading
 pub mod Options
+pub mod Loading
 pub mod Commanding
 pub mod Recalling
 pub mod Reading

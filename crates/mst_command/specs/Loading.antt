@@ -1,5 +1,5 @@
 -- A load: what words ask for one, which numbers it may have, and what is then written.
-use Rattle.std.specs.Prelude.{◌≡◌, ◌&&◌, ℕ, ◌<◌, ◌≤◌, ◌^◌, Bool, false, if◌then◌else◌, List, [], ◌∷◌, Option, Some, None, codes, decimal}
+use Rattle.std.specs.Prelude.{◌≡◌, ◌&&◌, ℕ, ◌≤◌, Bool, false, if◌then◌else◌, List, [], ◌∷◌, Option, Some, None, codes}
 use Rattle.std.specs.Str.{bytes_eq}
 use denote.Ref.{Bor}
 use Rattle.mst_devices.specs.Device.{Breaks, Flow}
@@ -7,53 +7,42 @@ use Rattle.mst_load.specs.declared.engine.Report.{Report}
 use Rattle.mst_load.specs.Lines.{lines_of}
 use Rattle.mst_load.specs.Reports.{IsReportOf}
 use Rattle.mst_command.specs.declared.task.Load.{Load}
+use Rattle.mst_command.specs.declared.task.Subcommand.TheVariants.{Load as LoadWords}
+use Rattle.mst_command.specs.Options.{IsNumber, are_words_of, value_of}
 
 -- the first word after the program's name is `load`
 abbrev pub asks_load : List (Bor (List ℕ)) → Bool
 asks_load (program ∷ name ∷ words) = bytes_eq name.now (codes "load")
 asks_load _ = false
 
--- these are the options of a load, in their order
-abbrev pub are_load_options : List ℕ → List ℕ → List ℕ → Bool
-are_load_options first second third = bytes_eq first (codes "--readers")
-    && (bytes_eq second (codes "--writers") && bytes_eq third (codes "--calls"))
-
--- the words for the readers, the writers and the calls, after these options
-abbrev pub three_options : List ℕ → List ℕ → List ℕ → List ℕ → List ℕ → List ℕ
+-- three words, where each is there
+abbrev pub three : Option (List ℕ) → Option (List ℕ) → Option (List ℕ)
     → Option (List ℕ × List ℕ × List ℕ)
-three_options first readers second writers third calls =
-    if are_load_options first second third then Some (readers, writers, calls) else None
+three (Some a) (Some b) (Some c) = Some (a, b, c)
+three _ _ _ = None
 
--- the same, for all words after the command
+-- the words for the readers, the writers and the calls among the words after the command
 abbrev pub load_options_of : List (Bor (List ℕ)) → Option (List ℕ × List ℕ × List ℕ)
-load_options_of (first ∷ readers ∷ second ∷ writers ∷ third ∷ calls ∷ []) =
-    three_options first.now readers.now second.now writers.now third.now calls.now
-load_options_of _ = None
+load_options_of words = three (value_of (codes "--readers") words)
+    (value_of (codes "--writers") words) (value_of (codes "--calls") words)
 
--- the words for the readers, the writers and the calls, where the words are of the plain form `load
--- --readers N --writers N --calls N`
+-- the same, where the words are those of a load
 abbrev pub load_words : List (Bor (List ℕ)) → Option (List ℕ × List ℕ × List ℕ)
 load_words (program ∷ name ∷ words) =
-    if bytes_eq name.now (codes "load") then load_options_of words else None
+    if bytes_eq name.now (codes "load") && are_words_of LoadWords words
+    then load_options_of words else None
 load_words _ = None
 
--- three words are the numerals of the readers, the writers and the calls
+-- three words spell the readers, the writers and the calls
 pub record IsLoadIn (words : List ℕ × List ℕ × List ℕ) (size : Load) : Type 0 where
-  pub readers : words.0 ≡ decimal size.readers
-  pub writers : words.1 ≡ decimal size.writers
-  pub calls : words.2 ≡ decimal size.calls
-  pub readers_fit : size.readers < 2 ^ 32
-  pub writers_fit : size.writers < 2 ^ 32
-  pub calls_fit : size.calls < 2 ^ 32
+  pub readers : IsNumber words.0 size.readers
+  pub writers : IsNumber words.1 size.writers
+  pub calls : IsNumber words.2 size.calls
 
--- the words are of the plain form of a load with these numbers
+-- the words are those of a load with these numbers
 abbrev pub IsLoadOf : List (Bor (List ℕ)) → Load → Type 0
 IsLoadOf words size =
     (named : List ℕ × List ℕ × List ℕ) × (load_words words ≡ Some named) × IsLoadIn named size
-
--- no other numbers than these are named in the plain form
-abbrev pub NamesLoad : List (Bor (List ℕ)) → Load → Type 0
-NamesLoad words size = (other : Load) → IsLoadOf words other → other ≡ size
 
 -- a load may have these numbers
 abbrev pub IsLoadSize : Load → Type 0

@@ -136,8 +136,8 @@ Broke gives left takes failures (Load size) s w t x = BrokeLoad takes size w x �
 Broke gives left takes failures (Help text) s w t x =
     Breaks takes w [] (string_bytes text) x × (t ≡ s)
 
--- A text was written that the words may be told, for which some word of no plain form asked, and
--- nothing was read.
+-- A text was written that the words may be told, which name no task but ask for a text, and nothing
+-- was read.
 pub record Helped {S W : Type 0}
     (takes : Flow W) (words : List (Bor (List ℕ)))
     (s : S) (w : W) (t : S) (x : W) : Type 0 where
@@ -170,9 +170,9 @@ HasBadKey _ = ⊥
 abbrev pub IsBad : Task → Type 0
 IsBad task = HasBadShape task ⊎ HasBadRoot task ⊎ HasBadKey task
 
--- When a program ends early for this reason: words of no plain form alone are refused by their
--- form, each other refusal is that of the task that the words ask for, and where plain words name a
--- task that is refused, memory is not the reason.
+-- When a program ends early for this reason: words that name no task alone are refused by their
+-- form, each other refusal is that of the task that the words name, and where that is refused,
+-- memory is not the reason.
 abbrev pub Comes : List (Bor (List ℕ)) → Refusal → Type 0
 Comes words (Words text) = ¬ (IsPlain words)
 Comes words NotText = ⊥

@@ -11,14 +11,14 @@
 //! }
 //! ```
 //!
-//! [`plain_task`] reads words of a plain form, where each option stands once and in full, and
+//! [`plain_task`] reads the words that name a task, with options in any spelling and order, and
 //! [`execute`] does a task: it answers a script, judges a proof, replays the core of pins, runs a
 //! load, or writes a text. `specs/Programs.antt` says what each task reads and writes,
 //! `specs/Commanding.antt` what words ask for and how a program ends early, `specs/Options.antt`
 //! what they say by options.
 //!
-//! Words of any other form are for `mst_program`, which reads them by `clap`. Nothing here takes
-//! the terminal or the program's own arguments.
+//! What is said of all other words, `mst_program` has from `clap`. Nothing here takes the terminal
+//! or the program's own arguments.
 #![tactic(auto)]
 
 mod ending;
@@ -40,4 +40,4 @@ pub use laws::reading_laws;
 pub use plain::plain_task;
 pub use programs::execute;
 pub use task::{Ending, Load, Refusal, Size, Task};
-pub use words::{ask_text, ask_version_alone, named_task};
+pub use words::{ask_text, ask_version_alone};

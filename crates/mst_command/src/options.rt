@@ -1,8 +1,9 @@
 //! What the words after a command say by their options, and what they say beside them.
 ghost use Rattle.std.specs.Prelude.{◌≡◌, List, Bool, [], ◌||◌, get_or, map, false};
 ghost use Rattle.std.specs.Option.{option_map};
-ghost use Rattle.mst_command.specs.Options.{are_options as are_named, format_at as named_at, format_named as named_by, format_of as named, is_option as is_named, joined_format as joined, operands, significant as zeroless, value_of as value_behind, without_plus as plusless};
+ghost use Rattle.mst_command.specs.Options.{are_words as are_all, are_words_of as are_all_of, cut as cut_at, first as first_of, format_named as named_by, format_of as named, format_or as named_or, is_flag as has_dash, is_new_option as is_named_first, is_option as is_named, joined as joined_to, name_of as name_at, operand_count as count_of, operands, significant as zeroless, value_of as value_behind, without_plus as plusless};
 
+use crate::task::Subcommand;
 use mst_key::Format;
 
 // A numeral without a plus that begins it.
@@ -39,40 +40,77 @@ fn format_of(word: &[u8]) -> Option<Format>
     None
 }
 
-// The format that the first word names.
-fn format_at(words: &[&str]) -> Option<Format>
-    ensures { result ≡ named_at words.now }
+// The format that is named, 1 if none is.
+fn format_or(word: Option<&str>) -> Option<Format>
+    ensures { result ≡ named_or (option_map (λ w. w.now) word.entry) }
+{
+    match word {
+        Some(word) => format_of(word.as_bytes()),
+        None => Some(Format::One),
+    }
+}
+
+/// The format that words name by `--format`: 1 if they name none, and `None` if its value is
+/// neither 1 nor 2.
+pub fn format_named(words: &[&str]) -> Option<Format>
+    ensures { result ≡ named_by words.now }
+{
+    format_or(value_of("--format", words))
+}
+
+// The word cut at its first `=`, if it has one.
+fn cut(word: &str) -> Option<(&str, &str)>
+    ensures { option_map (λ parts. (parts.0.now, parts.1.now)) result ≡ cut_at word.now }
+{
+    word.split_once('=')
+}
+
+// The option that the word names, alone or in front of `=`.
+fn name_of(word: &str) -> &str
+    ensures { result.now ≡ name_at word.now }
+{
+    match cut(word) {
+        Some((name, _)) => name,
+        None => word,
+    }
+}
+
+// The value, if the word is the option with `=` and a value.
+fn joined<'a>(option: &str, word: &'a str) -> Option<&'a str>
+    ensures { option_map (λ w. w.now) result ≡ joined_to option.now word.entry.now }
+{
+    match cut(word) {
+        Some((name, value)) if name == option => Some(value),
+        _ => None,
+    }
+}
+
+// The first word, if there is one.
+fn first<'a>(words: &[&'a str]) -> Option<&'a str>
+    ensures { option_map (λ w. w.now) result ≡ first_of words.now }
 {
     match words {
-        [word, ..] => format_of(word.as_bytes()),
+        [word, ..] => Some(word),
         [] => None,
     }
 }
 
-// What follows `--format=` in a word that begins so.
-fn joined_format(word: &str) -> Option<&[u8]>
-    ensures { option_map (λ w. w.now) result ≡ joined word.now }
-{
-    word.as_bytes().strip_prefix(b"--format=")
-}
-
-/// The format that words name by `--format F` or `--format=F` in front of a `--`: 1 if they name
-/// none, and `None` if F is neither 1 nor 2.
-pub fn format_named(words: &[&str]) -> Option<Format>
-    ensures { result ≡ named_by words.now }
+/// The value of the option: the word after it, or what follows `=` in its own, in front of a `--`.
+pub fn value_of<'a>(option: &str, words: &[&'a str]) -> Option<&'a str>
+    ensures { option_map (λ w. w.now) result ≡ value_behind option.now words.now }
 {
     let [word, others @ ..] = words else {
-        return Some(Format::One);
+        return None;
     };
     if *word == "--" {
-        return Some(Format::One);
+        return None;
     }
-    if *word == "--format" {
-        return format_at(others);
+    if *word == option {
+        return first(others);
     }
-    match joined_format(word) {
-        Some(format) => format_of(format),
-        None => format_named(others),
+    match joined(option, word) {
+        Some(value) => Some(value),
+        None => value_of(option, others),
     }
 }
 
@@ -103,42 +141,77 @@ pub fn operand<'a>(words: &[&'a str], is_value: bool, place: usize) -> &'a str
     if *word == "--format" {
         return operand(others, true, place);
     }
-    match joined_format(word) {
+    match joined("--format", word) {
         Some(_) => operand(others, false, place),
         None if place == 0 => word,
         None => operand(others, false, place - 1),
     }
 }
 
-/// The word after the option, of words that are options with their values.
-pub fn value_of<'a>(option: &str, words: &[&'a str]) -> Option<&'a str>
-    ensures { option_map (λ w. w.now) result ≡ value_behind option.now words.now }
+// Whether the command has this option.
+fn is_option(command: Subcommand, name: &str) -> bool
+    ensures { result ≡ is_named command name.now }
 {
-    let [name, value, others @ ..] = words else {
-        return None;
-    };
-    if *name == option {
-        return Some(value);
+    match command {
+        Subcommand::Run => name == "--rows" || name == "--passes" || name == "--format",
+        Subcommand::Verify => name == "--format",
+        Subcommand::Replay => false,
+        Subcommand::Load => name == "--readers" || name == "--writers" || name == "--calls",
     }
-    value_of(option, others)
 }
 
-// Whether the word is an option of a script.
-fn is_option(name: &str) -> bool
-    ensures { result ≡ is_named name.now }
+// How many operands the command has.
+fn operand_count(command: Subcommand) -> usize
+    ensures { result ≡ count_of command }
 {
-    name == "--rows" || name == "--passes" || name == "--format"
+    match command {
+        Subcommand::Verify => 2,
+        _ => 0,
+    }
 }
 
-/// Whether the words are options of a script with their values, each of them at most once.
-pub fn are_options(words: &[&str]) -> bool
-    ensures { result ≡ are_named words.now }
+// Whether the word is a dash and more: neither an operand nor the value of an option.
+fn is_flag(word: &str) -> bool
+    ensures { result ≡ has_dash word.now }
 {
-    match words {
-        [] => true,
-        [name, _, others @ ..] => {
-            is_option(name) && value_of(name, others).is_none() && are_options(others)
-        }
+    match word.as_bytes() {
+        [first, _, ..] => *first == b'-',
         _ => false,
     }
+}
+
+// Whether a name is that of an option of the command, which these words do not give again.
+fn is_new_option(command: Subcommand, name: &str, words: &[&str]) -> bool
+    ensures { result ≡ is_named_first command name.now words.now }
+{
+    is_option(command, name) && value_of(name, words).is_none()
+}
+
+// Whether the words are options of the command, each of them once and with its value, and so many
+// operands. If `is_value`, the first word is the value of an option.
+fn are_words(command: Subcommand, is_value: bool, count: usize, words: &[&str]) -> bool
+    ensures { result ≡ are_all command is_value count words.now }
+{
+    let [word, others @ ..] = words else {
+        return !is_value && count == 0;
+    };
+    if is_value {
+        return !is_flag(word) && are_words(command, false, count, others);
+    }
+    if *word == "--" {
+        return others.len() == count;
+    }
+    if is_flag(word) {
+        return is_new_option(command, name_of(word), others)
+            && are_words(command, cut(word).is_none(), count, others);
+    }
+    count > 0 && are_words(command, false, count - 1, others)
+}
+
+/// Whether the words after a command are what it takes: its options, each of them at most once, and
+/// its operands, after a `--` operands alone.
+pub fn are_words_of(command: Subcommand, words: &[&str]) -> bool
+    ensures { result ≡ are_all_of command words.now }
+{
+    are_words(command, false, operand_count(command), words)
 }

@@ -22,6 +22,19 @@ pub struct Load {
     pub calls: u32,
 }
 
+/// What the first word after the program's name may be.
+#[derive(Clone, Copy, Debug, PartialEq, Eq)]
+pub enum Subcommand {
+    /// `run`: a script.
+    Run,
+    /// `verify`: a proof.
+    Verify,
+    /// `replay`: events of a core.
+    Replay,
+    /// `load`: readers and writers at once.
+    Load,
+}
+
 /// What the words of a command line ask for.
 #[derive(Drop)]
 pub enum Task<'a> {

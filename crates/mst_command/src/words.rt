@@ -1,11 +1,10 @@
 //! What words ask for, by the words alone.
-ghost use Rattle.std.specs.Prelude.{◌≡◌, ◌↔◌, IfSome, IfNone, true, false, None};
+ghost use Rattle.std.specs.Prelude.{◌≡◌, ◌↔◌, IfSome, IfNone, true, None};
 ghost use Rattle.std.specs.Option.{option_map};
-ghost use Rattle.mst_command.specs.Loading.{asks_load};
-ghost use Rattle.mst_command.specs.Commanding.{AskHelp, AskText, AskVersion, AsksFor, HasNumbers, IsHelp, IsPlain, AsksNothing, IsVersion, NamesSize, asks_replay, asks_script, asks_verify, asks_version_alone, format_in as named_format};
+ghost use Rattle.mst_command.specs.Commanding.{AskHelp, AskText, AskVersion, AsksFor, IsHelp, IsRunOf, IsVersion, asks_verify, asks_version_alone, format_in as named_format, is_whole_verify};
 
 use crate::options::{format_named, operand};
-use crate::task::{Load, Size, Task};
+use crate::task::{Size, Task};
 use mst_key::Format;
 use mst_store::Shape;
 
@@ -69,36 +68,6 @@ pub fn ask_text(words: &[&str]) -> bool
     ask_help(words) || ask_version(words)
 }
 
-/// Whether the first word after the program's name is `replay`.
-pub fn names_replay(words: &[&str]) -> bool
-    ensures { result ≡ asks_replay words.now }
-{
-    match words {
-        [_, name, ..] => *name == "replay",
-        _ => false,
-    }
-}
-
-// Whether the first word after the program's name is `run`.
-fn names_script(words: &[&str]) -> bool
-    ensures { result ≡ asks_script words.now }
-{
-    match words {
-        [_, name, ..] => *name == "run",
-        _ => false,
-    }
-}
-
-// Whether the first word after the program's name is `load`.
-fn names_load(words: &[&str]) -> bool
-    ensures { result ≡ asks_load words.now }
-{
-    match words {
-        [_, name, ..] => *name == "load",
-        _ => false,
-    }
-}
-
 // The format that the words after the command name.
 fn format_in(words: &[&str]) -> Option<Format>
     ensures { result ≡ named_format words.now }
@@ -124,10 +93,10 @@ fn verify_words<'a>(words: &[&'a str]) -> Option<(Option<Format>, &'a str, &'a s
     }
 }
 
-/// The task of words whose first after the program's name is `verify`.
+/// The task of the words of a proof.
 pub fn verify_task<'a>(words: &[&'a str]) -> Option<Task<'a>>
+    requires { is_whole_verify words.now ≡ true }
     ensures asked { IfSome result (λ task. AsksFor words.now task) }
-    ensures numbers { IfSome result (λ task. (size load : _) → HasNumbers size load task) }
     ensures other { IfNone result (asks_verify words.now ≡ None) }
 {
     let (format, root, key) = verify_words(words)?;
@@ -139,13 +108,8 @@ pub fn verify_task<'a>(words: &[&'a str]) -> Option<Task<'a>>
 
 /// The task of the words of a script over a store of this size, in the format that they name.
 pub fn script_task(words: &[&str], size: Size) -> Task<'static>
-    requires replay { asks_replay words.now ≡ false }
-    requires verify { asks_verify words.now ≡ None }
-    requires load { asks_load words.now ≡ false }
-    requires script { asks_script words.now ≡ true }
-    requires size { NamesSize words.now size }
-    ensures asked { AsksFor words.now result }
-    ensures numbers { (load : _) → HasNumbers size load result }
+    requires { IsRunOf words.now size }
+    ensures { AsksFor words.now result }
 {
     match format_in(words) {
         Some(format) => Task::Run(Shape {
@@ -154,55 +118,5 @@ pub fn script_task(words: &[&str], size: Size) -> Task<'static>
             format,
         }),
         None => Task::UnknownFormat,
-    }
-}
-
-// The task of words of no plain form that ask for a script, if they do, and for nothing else.
-fn named_script(words: &[&str], size: Size) -> Option<Task<'static>>
-    requires plain { ¬ (IsPlain words.now) }
-    requires replay { asks_replay words.now ≡ false }
-    requires verify { asks_verify words.now ≡ None }
-    requires load { asks_load words.now ≡ false }
-    ensures asked { IfSome result (λ task. AsksFor words.now task) }
-    ensures numbers { IfSome result (λ task. (load : _) → HasNumbers size load task) }
-    ensures none { IfNone result (asks_script words.now ≡ false) }
-{
-    if names_script(words) {
-        Some(script_task(words, size))
-    } else {
-        None
-    }
-}
-
-// The task of words of no plain form that ask for no replay and no proof, if they ask for one.
-fn named_store(words: &[&str], size: Size, load: Load) -> Option<Task<'static>>
-    requires plain { ¬ (IsPlain words.now) }
-    requires replay { asks_replay words.now ≡ false }
-    requires verify { asks_verify words.now ≡ None }
-    ensures asked { IfSome result (λ task. AsksFor words.now task) }
-    ensures numbers { IfSome result (λ task. HasNumbers size load task) }
-    ensures none { IfNone result (AsksNothing words.now) }
-{
-    if names_load(words) {
-        Some(Task::Load(load))
-    } else {
-        named_script(words, size)
-    }
-}
-
-/// The task of words of no plain form, by the first word after the program's name. A script has
-/// this size, and a load these numbers. Returns `None` exactly if that word is no command's.
-pub fn named_task<'a>(words: &[&'a str], size: Size, load: Load) -> Option<Task<'a>>
-    requires { ¬ (IsPlain words.now) }
-    ensures asked { IfSome result (λ task. AsksFor words.now task) }
-    ensures numbers { IfSome result (λ task. HasNumbers size load task) }
-    ensures none { IfNone result (AsksNothing words.now) }
-{
-    if names_replay(words) {
-        return Some(Task::Replay);
-    }
-    match verify_task(words) {
-        Some(task) => Some(task),
-        None => named_store(words, size, load),
     }
 }

@@ -1,5 +1,5 @@
-//! The program over a source and two sinks: its words by `clap`, how far a load is, and how it
-//! ends, with contracts that say what was read and written.
+//! The program over a source and two sinks: its words, how far a load is, and how it ends, with
+//! contracts that say what was read and written.
 //!
 //! ```
 //! let words = ["mst", "run", "--rows", "16"];
@@ -14,9 +14,9 @@
 //! The exit statuses are 0 to 4. [`Watch`] says whether a user is told how far a load is, and
 //! [`Progress`] writes how many of its calls have returned.
 //!
-//! No contract says what clap writes of wrong words and in a help text. Words of a plain form are
-//! read without clap, and contracts say everything of those; `--version` or `-V` alone is answered
-//! without it too.
+//! Words that name a task are read without `clap`, and contracts say everything of those. `clap`
+//! writes the help texts and what is said of wrong words, of which no contract speaks; `--version`
+//! or `-V` alone is answered without it too.
 #![tactic(auto)]
 
 mod program;

@@ -2,7 +2,7 @@
 ghost use Rattle.std.specs.Prelude.{◌≡◌, ◌<◌, ◌-◌, ◌+◌, ◌^◌, ◌↔◌, ◌⊎◌, OnOk, IfOk, IfErr, IsErrOf, [], Some, None, true, false};
 ghost use Rattle.mst_devices.specs.Device.{Breaks};
 ghost use Rattle.mst_command.specs.Programs.{RanScript, RanReplay, RanVerify, Helped, Broke, Comes, EndedEarly};
-ghost use Rattle.mst_command.specs.Loading.{NamesLoad, RanLoad, asks_load};
+ghost use Rattle.mst_command.specs.Loading.{IsLoadOf, RanLoad, asks_load};
 ghost use Rattle.mst_command.specs.Commanding.{AsksFor, IsDevice, NamesShape, Untouched, Unread, asks_replay, asks_verify, status_at, status_of, told};
 ghost use Rattle.mst_command.specs.declared.task.Refusal.TheVariants.{Device};
 ghost use Rattle.mst_command.specs.declared.task.Ending.TheVariants.{Done, ProofRefused};
@@ -40,7 +40,7 @@ fn perform<R: Threads + Wait + AllocGlobal + Sync, G: Gate + Sync, S: Source, W:
         × (S.left source.new ≡ 0))
         ⊎ Helped W.takes words.now source.old out.old source.new out.new) }
     ensures loaded { asks_load words.now ≡ true
-        → OnOk result (((size : _) × NamesLoad words.now size × RanLoad W.takes size out.old out.new
+        → OnOk result (((size : _) × IsLoadOf words.now size × RanLoad W.takes size out.old out.new
         × (source.new ≡ source.old))
         ⊎ Helped W.takes words.now source.old out.old source.new out.new) }
     ensures verified { IfOk result (λ ending. (named : _) → asks_verify words.now ≡ Some named
@@ -104,7 +104,7 @@ where
         × (S.left source.new ≡ 0))
         ⊎ Helped O.takes words.now source.old out.old source.new out.new }
     ensures loaded { result ≡ 0 → asks_load words.now ≡ true
-        → ((size : _) × NamesLoad words.now size × RanLoad O.takes size out.old out.new
+        → ((size : _) × IsLoadOf words.now size × RanLoad O.takes size out.old out.new
         × (source.new ≡ source.old))
         ⊎ Helped O.takes words.now source.old out.old source.new out.new }
     ensures verified { result ≡ 0 → (named : _) → asks_verify words.now ≡ Some named

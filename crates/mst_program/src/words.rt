@@ -5,8 +5,8 @@ ghost use Rattle.clap.specs.declared.error.kind.ErrorKind.TheVariants.{OutOfMemo
 ghost use Rattle.mst_command.specs.Commanding.{AsksFor, EndsWords, IsPlain, asks_version_alone, version_text};
 
 use clap::error::ErrorKind;
-use clap::{Arg, ArgAction, ArgMatches, Command, Error, value_parser};
-use mst_command::{Load, Refusal, Size, Task, ask_text, ask_version_alone, named_task, plain_task};
+use clap::{Arg, ArgAction, Command, Error, value_parser};
+use mst_command::{Refusal, Task, ask_text, ask_version_alone, plain_task};
 use mst_store::Memory;
 use std::alloc::{AllocError, Global};
 
@@ -134,48 +134,12 @@ fn program<'a>(alloc: Global) -> Result<Command<'a>, AllocError> {
     program.subcommand(load_command(alloc)?)
 }
 
-// The number that an option gives. Each option has a default or has to be given, so there is one if
-// its command is there.
-fn number(matches: &ArgMatches<'_>, option: &str) -> u32 {
-    matches.get_one::<u32>(option).unwrap_or_default()
-}
-
-// The size of the store that the options of a script give.
-fn size_in(matches: &ArgMatches<'_>) -> Size {
-    let run = matches.subcommand_matches("run").unwrap_or(matches);
-    Size {
-        rows: number(run, "rows"),
-        passes: number(run, "passes"),
-    }
-}
-
-// The size of the load that its options give.
-fn load_in(matches: &ArgMatches<'_>) -> Load {
-    let load = matches.subcommand_matches("load").unwrap_or(matches);
-    Load {
-        readers: number(load, "readers"),
-        writers: number(load, "writers"),
-        calls: number(load, "calls"),
-    }
-}
-
-// The error of words whose first after the program's name is no command's.
-fn no_command(alloc: Global) -> Result<Error, AllocError> {
-    let message = "the first word is no command";
-    program(alloc)?.error(ErrorKind::InvalidSubcommand, message)
-}
-
-// The task that clap finds in words of no plain form, with the program's name. The program has no
-// option of its own that takes a word, so that clap takes the first word after its name for the
-// command. If it ever took another one, the words would be refused.
-fn task_in<'a>(alloc: Global, words: &[&'a str]) -> Result<Task<'a>, Error>
-    requires { ¬ (IsPlain words.now) }
-    ensures { IfOk result (λ task. AsksFor words.now task) }
-{
-    let matches = program(alloc)?.try_get_matches_from(words)?;
-    match named_task(words, size_in(&matches), load_in(&matches)) {
-        Some(task) => Ok(task),
-        None => Err(no_command(alloc)?),
+// The error that clap finds in words that name no task. If it ever found none, they would be
+// refused by this message.
+fn error_in(alloc: Global, words: &[&str]) -> Result<Error, AllocError> {
+    match program(alloc)?.try_get_matches_from(words) {
+        Ok(_) => program(alloc)?.error(ErrorKind::InvalidSubcommand, "the words name no task"),
+        Err(error) => Ok(error),
     }
 }
 
@@ -189,9 +153,9 @@ fn refusal_in(error: &Error) -> Option<Memory>
     }
 }
 
-// What clap returns for words that name no task: if they ask for help or the version, that is the
-// task, and all else is a refusal.
-fn answer_words<'a>(alloc: Global, words: &[&'a str], error: &Error) -> Result<Task<'a>, Refusal>
+// What is said by clap's error: if the words ask for help or the version, that is the task, and all
+// else is a refusal.
+fn answer_words(alloc: Global, words: &[&str], error: &Error) -> Result<Task<'static>, Refusal>
     requires plain { ¬ (IsPlain words.now) }
     requires version { asks_version_alone words.now ≡ false }
     ensures help { IfOk result (λ task. AsksFor words.now task) }
@@ -217,21 +181,21 @@ fn version_told(alloc: Global) -> Result<String, AllocError>
     VERSION_TEXT.to_string(alloc)
 }
 
-// What words ask for that are of no plain form and do not ask for the version alone.
-fn clap_task<'a>(alloc: Global, words: &[&'a str]) -> Result<Task<'a>, Refusal>
+// What words come to that name no task and do not ask for the version alone.
+fn clap_task(alloc: Global, words: &[&str]) -> Result<Task<'static>, Refusal>
     requires plain { ¬ (IsPlain words.now) }
     requires version { asks_version_alone words.now ≡ false }
     ensures asked { IfOk result (λ task. AsksFor words.now task) }
     ensures refused { IfErr result (λ why. EndsWords why) }
 {
-    match task_in(alloc, words) {
-        Ok(task) => Ok(task),
-        Err(error) => answer_words(alloc, words, &error),
+    match error_in(alloc, words) {
+        Ok(error) => answer_words(alloc, words, &error),
+        Err(refused) => Err(Refusal::Memory(Memory::from(refused))),
     }
 }
 
-// What words of no plain form ask for.
-fn other_task<'a>(alloc: Global, words: &[&'a str]) -> Result<Task<'a>, Refusal>
+// What words come to that name no task.
+fn other_task(alloc: Global, words: &[&str]) -> Result<Task<'static>, Refusal>
     requires { ¬ (IsPlain words.now) }
     ensures asked { IfOk result (λ task. AsksFor words.now task) }
     ensures refused { IfErr result (λ why. EndsWords why) }
@@ -245,8 +209,9 @@ fn other_task<'a>(alloc: Global, words: &[&'a str]) -> Result<Task<'a>, Refusal>
     }
 }
 
-/// Returns what all words ask for, with the program's name, or clap's own text if they are refused.
-/// Words of a plain form are never refused here, and take no memory.
+/// Returns what all words ask for, with the program's name: the task that they name, or a text
+/// about the program, or clap's own text if they are refused. Words that name a task are never
+/// refused here, and take no memory.
 pub fn task_of<'a>(alloc: Global, words: &[&'a str]) -> Result<Task<'a>, Refusal>
     ensures asked { IfOk result (λ task. AsksFor words.now task) }
     ensures refused { IfErr result (λ why. EndsWords why) }

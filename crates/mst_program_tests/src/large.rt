@@ -91,7 +91,7 @@ fn answers_of(
     Ok(answers)
 }
 
-// Whether the program of these words, which are of a plain form, does what they ask for, and writes
+// Whether the program of these words, which name a task, does what they ask for, and writes
 // this.
 fn writes<R: Threads + Wait + AllocGlobal + Sync>(
     rt: &R,

@@ -1,20 +1,20 @@
-use Rattle.std.proofs.Common.{◌≡◌, Some, None, ◌∙◌, sym, true, false}
-use Rattle.mst_command.proofs.PlainWords.{parsed, ap_decimal}
+use Rattle.std.proofs.Common.{◌≡◌, pos, ◌∙◌, sym}
+use Rattle.std.specs.Int.{w64}
+use Rattle.std.proofs.lemmas.Option.{none-some}
+use Rattle.mst_command.proofs.PlainWords.{only_spelt, parsed, spelt, wide}
 use Rattle.mst_command.proofs.plain.number.Goals as goal
 
 pub returns-in_err-n-clause-only : goal.returns-in_err-n-clause-only
-returns-in_err-n-clause-only c = λ n l e. let h =
-    parsed n c.args.word.now c.parse.result c.parse.ensures.value.0 e l in
-    absurd (let f : None ≡ Some n = sym c.in_err-n.was ∙ c.ok.ensures.value ∙ h in cc)
+returns-in_err-n-clause-only c = λ n is. absurd
+    (none-some (pos n) (sym c.in_err-n.was ∙ c.ok.ensures.value ∙ parsed c.args.word.now
+    c.parse.result n c.parse.ensures.value.0 is))
 
-pub returns-then-is_numeral-clause-only : goal.returns-then-is_numeral-clause-only
-returns-then-is_numeral-clause-only c = λ n l e. c.in_ok-n.ensures.value ∙ parsed n c.args.word.now
-    c.parse.result c.parse.ensures.value.0 e l
+pub returns-clause-some : goal.returns-clause-some
+returns-clause-some c = spelt c.args.word.now c.in_ok-n.n _ c.parse.result c.try_from.result
+    c.ok-2.result c.parse.ensures.value.0 (sym c.ok.ensures.value ∙ c.in_ok-n.was)
+    (wide c.in_ok-n.n) c.try_from.ensures c.ok-2.ensures.value
 
-pub returns-else-is_numeral-clause-only : goal.returns-else-is_numeral-clause-only
-returns-else-is_numeral-clause-only c = λ n l e.
-    let h : Some c.in_ok-n.n ≡ Some n = c.in_ok-n.ensures.value ∙ parsed n c.args.word.now
-    c.parse.result c.parse.ensures.value.0 e l in
-    let same : c.in_ok-n.n ≡ n = cc in
-    let yes = c.is_numeral.ensures.1 (e ∙ ap_decimal n c.in_ok-n.n (sym same)) in
-    absurd (let f : true ≡ false = sym yes ∙ c.if-is_numeral.false in cc)
+pub returns-clause-only : goal.returns-clause-only
+returns-clause-only c = only_spelt c.args.word.now c.in_ok-n.n _ c.parse.result c.try_from.result
+    c.ok-2.result c.parse.ensures.value.0 (sym c.ok.ensures.value ∙ c.in_ok-n.was)
+    (wide c.in_ok-n.n) c.try_from.ensures c.ok-2.ensures.value

@@ -5,8 +5,8 @@ use Rattle.mst_command.proofs.PlainWords.{load_asked, plain_none}
 use Rattle.mst_command.proofs.plain.plain_other.Goals as goal
 
 pub returns-in-Some-clause-asked : goal.returns-in-Some-clause-asked
-returns-in-Some-clause-asked c = load_asked c.args.words.now c.in-Some.size c.plain_load.result
-    c.in-Some.is c.in-Some.ensures.some c.plain_load.ensures.only
+returns-in-Some-clause-asked c = load_asked c.args.words.now c.in-Some.size
+    c.in-Some.ensures.some
 
 pub returns-in-None-clause-plain : goal.returns-in-None-clause-plain
 returns-in-None-clause-plain c = plain_none c.args.words.now c.plain_reader.result
