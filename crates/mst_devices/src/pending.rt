@@ -1,5 +1,5 @@
 //! Bytes that wait before a sink.
-ghost use Rattle.std.specs.Prelude.{◌≡◌, ◌≢◌, ◌++◌, [], ◌<◌, ◌≤◌, ◌^◌, ◌-◌, length, if◌then◌else◌, IfOk, OnOk, OnErr};
+ghost use Rattle.std.specs.Prelude.{◌≡◌, ◌≢◌, ◌++◌, [], ◌<◌, ◌≤◌, ◌^◌, ◌-◌, ◌⊎◌, length, if◌then◌else◌, IfOk, OnOk, OnErr};
 ghost use Rattle.mst_devices.specs.Device.{Puts, Breaks};
 
 use crate::{Device, Sink};
@@ -52,7 +52,8 @@ impl<A: Allocator> Pending<A> {
         Ok(Pending { bytes })
     }
 
-    /// Writes what waits.
+    /// Writes what waits. After an error all of it still waits, though the sink may have taken a
+    /// beginning of it.
     pub fn flush<W: Sink>(&mut self, sink: &mut W) -> Result<(), Device>
         requires { W.failures sink.old < 2 ^ 64 - 1 }
         ensures ok { OnOk result (W.takes sink.old self.old sink.new) }
@@ -61,6 +62,7 @@ impl<A: Allocator> Pending<A> {
         ensures err { OnErr result (Breaks W.takes sink.old self.old [] sink.new) }
         ensures failed { OnErr result (W.failures sink.old < W.failures sink.new) }
         ensures some { OnErr result (self.old ≢ []) }
+        ensures kept { OnErr result (self.new ≡ self.old) }
         ensures few { length self.new ≤ 65536 }
     {
         write_all(sink, self.bytes.as_slice())?;
@@ -80,13 +82,15 @@ impl<A: Allocator> Pending<A> {
     }
 
     /// Puts a text after what waits, at most 65,536 bytes. If there is no room for it, what waits
-    /// is written first.
+    /// is written first. After an error the same waits as before, or nothing if all of it was
+    /// written.
     pub fn put<W: Sink>(&mut self, sink: &mut W, text: &[u8]) -> Result<(), Device>
         requires { W.failures sink.old < 2 ^ 64 - 1 }
         ensures ok { OnOk result (Puts W.takes sink.old self.old text.now sink.new self.new) }
         ensures steady { OnOk result (W.failures sink.new ≡ W.failures sink.old) }
         ensures err { OnErr result (Breaks W.takes sink.old self.old text.now sink.new) }
         ensures failed { OnErr result (W.failures sink.old < W.failures sink.new) }
+        ensures kept { OnErr result ((self.new ≡ self.old) ⊎ (self.new ≡ [])) }
         ensures few { length self.new ≤ 65536 }
     {
         if self.append(text) {

@@ -1,7 +1,7 @@
 use Rattle.std.proofs.Common.{arith, rules}
 use Rattle.std.proofs.lemmas.Grind.{common_steps}
-use Rattle.std.proofs.Common.{◌≡◌, List, ℕ, [], subst, ◌∙◌}
-use Rattle.mst_devices.proofs.Putting.{map_ok, map_err, both_taken, second_broke}
+use Rattle.std.proofs.Common.{◌≡◌, List, ℕ, [], inl, inr, subst, ◌∙◌}
+use Rattle.mst_devices.proofs.Putting.{map_ok, map_err, on_err, both_taken, second_broke}
 use Rattle.mst_devices.proofs.pending.Pending.put.Goals as goal
 
 pub returns-clause-ok : goal.returns-clause-ok
@@ -65,3 +65,14 @@ returns-clause-steady g c = search rules
 
 pub returns-clause-failed : goal.returns-clause-failed
 returns-clause-failed g c = search rules
+
+pub returns-clause-kept : goal.returns-clause-kept
+returns-clause-kept g c =
+    let same : c.append-2.new.self ≡ c.flush.new.self = c.if-append-2.ensures.waits in
+    on_err c.write_all.result (inr (same ∙ c.in_ok-flush.ensures.empty))
+
+pub returns-in_err-flush-clause-kept : goal.returns-in_err-flush-clause-kept
+returns-in_err-flush-clause-kept g c =
+    let same : c.append.new.self ≡ c.args.self.now = c.if-append.ensures.waits in
+    let kept : c.flush.new.self ≡ c.append.new.self = search rules in
+    on_err c.from_residual.result (inl (kept ∙ same))
