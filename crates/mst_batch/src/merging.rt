@@ -23,7 +23,7 @@ fn merged<'b, A: Allocator>(
         → value_after (listed all.items) q old
         ≡ value_after (listed second.now) q (value_after (listed first.now) q old)) }
 {
-    let mut all = Vec::new(alloc);
+    let mut all = Vec::with_capacity(alloc, first.len().saturating_add(second.len()))?;
     let (mut left, mut right) = (first, second);
     while let [later, others @ ..] = right {
         match left {
@@ -51,8 +51,8 @@ fn merged<'b, A: Allocator>(
 /// The edits sorted by their keys, of each key the last one alone: what is left of a batch.
 ///
 /// It leaves each key the value that the edits leave it one after another, and so each map the same
-/// map. For n edits it takes some n log n comparisons of keys, and a few words of memory an edit
-/// at once; it copies no key. Calls nest as deep as n can be halved. Returns `Memory` only if
+/// map. For n edits it takes some n log n comparisons of keys, and at most two words of memory an
+/// edit at once; it copies no key. Calls nest as deep as n can be halved. Returns `Memory` only if
 /// a growth was refused.
 pub fn normal_edits<'b, A: Allocator + Copy>(
     alloc: A,

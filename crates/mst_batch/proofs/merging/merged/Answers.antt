@@ -11,7 +11,7 @@ pub loop-right-init : goal.loop-right-init
 loop-right-init g c =
     let F : List Edit = listed c.args.first.now in
     let S : List Edit = listed c.args.second.now in
-    subst (λ (z : List (Bor Edit)). Merges F S (listed z) F S) (sym c.new-all.ensures.items)
+    subst (λ (z : List (Bor Edit)). Merges F S (listed z) F S) (sym c.in_ok-all.ensures.items)
     (merges-begin F S c.requires.first c.requires.second)
 
 pub loop-right-smaller-then-left-lt1 : goal.loop-right-smaller-then-left-lt1
