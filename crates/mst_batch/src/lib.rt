@@ -28,6 +28,8 @@ mod merging;
 mod plan;
 mod replacing;
 mod sowing;
+#[cfg(test)]
+mod tests;
 
 pub use carrying::carry_out;
 pub use felling::fell_beside;
