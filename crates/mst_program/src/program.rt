@@ -1,12 +1,10 @@
 //! The program, over a source and two sinks.
 ghost use Rattle.std.specs.Prelude.{◌≡◌, ◌<◌, ◌-◌, ◌+◌, ◌^◌, ◌↔◌, ◌⊎◌, OnOk, IfOk, IfErr, IsErrOf, [], Some, None, true, false};
-ghost use Rattle.mst_devices.specs.Device.{Breaks};
-ghost use Rattle.mst_command.specs.Programs.{RanScript, RanReplay, RanVerify, Helped, Broke, Comes, EndedEarly};
+ghost use Rattle.mst_command.specs.Programs.{RanScript, RanReplay, RanVerify, Helped, Broke, Comes};
 ghost use Rattle.mst_command.specs.Loading.{IsLoadOf, RanLoad, asks_load};
-ghost use Rattle.mst_command.specs.Commanding.{AsksFor, IsDevice, NamesShape, Untouched, Unread, asks_replay, asks_verify, status_at, status_of, told};
-ghost use Rattle.mst_command.specs.declared.task.Refusal.TheVariants.{Device};
+ghost use Rattle.mst_command.specs.Commanding.{AsksFor, IsDevice, NamesShape, Untouched, Unread, asks_replay, asks_verify};
 ghost use Rattle.mst_command.specs.declared.task.Ending.TheVariants.{Done, ProofRefused};
-ghost use Rattle.mst_program.specs.Commanded.{Performed};
+ghost use Rattle.mst_program.specs.Commanded.{Commanded, Performed};
 
 use crate::words::task_of;
 use mst_command::{DONE, Ending, PROOF_REFUSED, Refusal, complain, execute};
@@ -87,12 +85,8 @@ where
     requires source { S.failures source.old < 2 ^ 64 - 1 }
     requires out { O.failures out.old < 2 ^ 64 - 1 }
     requires err { E.failures err.old < 2 ^ 64 - 1 }
-    ensures range { (result ≡ 0) ⊎ (result ≡ 1) ⊎ (result ≡ 2) ⊎ (result ≡ 3) ⊎ (result ≡ 4) }
-    ensures device { (result ≡ 3)
-        ↔ (S.failures source.old + O.failures out.old + E.failures err.old < S.failures source.new
-        + O.failures out.new + E.failures err.new) }
-    ensures performed { (ending : _) → result ≡ status_at ending
-        → Performed S.gives S.left O.takes words.now source.old out.old ending source.new out.new }
+    ensures commanded { Commanded S.gives S.left S.failures O.takes O.failures E.takes E.failures
+        words.now source.old out.old err.old result source.new out.new err.new }
     ensures done { result ≡ 0 → asks_replay words.now ≡ false → asks_verify words.now ≡ None
         → asks_load words.now ≡ false
         → ((shape : _) × NamesShape words.now shape
@@ -113,20 +107,6 @@ where
     ensures proof_refused { result ≡ 1 → (named : _) × (asks_verify words.now ≡ Some named)
         × RanVerify S.gives S.left O.takes named source.old out.old ProofRefused source.new
         out.new }
-    ensures silent { (result ≡ 0) ⊎ (result ≡ 1) → err.new ≡ err.old }
-    ensures told { (result ≡ 2) ⊎ (result ≡ 4) → (why : _) × (result ≡ status_of why)
-        × Comes words.now why × E.takes err.old (told why) err.new }
-    ensures stopped { result ≡ 3
-        → ((E.failures err.old < E.failures err.new)
-        × ((why : _) × Breaks E.takes err.old [] (told why) err.new
-        × EndedEarly S.gives S.left O.takes O.failures words.now why source.old out.old
-        source.new out.new))
-        ⊎ (((task : _) × AsksFor words.now task
-        × Broke S.gives S.left O.takes O.failures task source.old out.old source.new out.new)
-        × E.takes err.old (told Device) err.new) }
-    ensures refused { result ≡ 2 → (source.new ≡ source.old) × (out.new ≡ out.old) }
-    ensures memory { result ≡ 4 → out.new ≡ out.old }
-    ensures memory_unread { result ≡ 4 → asks_verify words.now ≡ None → source.new ≡ source.old }
 {
     match perform(rt, alloc, words, gate, source, out) {
         Ok(Ending::Done) => DONE,

@@ -10,30 +10,76 @@ use Rattle.mst_program.specs.Commanded.{Performed}
 use Rattle.mst_program.proofs.Endings.{at_done, at_refused, no_ending}
 use Rattle.mst_program.proofs.program.command.Goals as goal
 
-pub returns-in-Err-clause-told : goal.returns-in-Err-clause-told
-returns-in-Err-clause-told g c = told_early g.E.Sink.takes g.E.Sink.failures c.args.err.now
-    c.complain.new.err c.in-Err.why c.complain.result c.complain.ensures.failed
-    c.complain.ensures.status c.complain.ensures.told c.args.words.now c.in-Err.ensures.comes
+pub returns-in-Ok-Done-clause-commanded : goal.returns-in-Ok-Done-clause-commanded
+returns-in-Ok-Done-clause-commanded g c = record {
+  range = search rules;
+  performed = let P = λ (ending : Ending). Performed g.S.Source.gives g.S.Source.left g.O.Sink.takes
+      c.args.words.now c.args.source.now c.args.out.now ending c.perform.new.source
+      c.perform.new.out in
+      at_done P (subst P c.in-Ok-Done.field-0-is
+      (IfOk-at_ok P c.in-Ok-Done.is c.perform.ensures.performed));
+  silent = search rules;
+  told = search rules;
+  refused = search rules;
+  memory = search rules;
+  memory_unread = search rules;
+  device = search rules;
+  stopped = search rules;
+}
 
-pub returns-in-Err-clause-stopped : goal.returns-in-Err-clause-stopped
-returns-in-Err-clause-stopped g c =
-    let broke = λ (d : c.in-Err.why ≡ Device). c.perform.ensures.stopped (c.in-Err.is ∙ ap Err d) in
-    stopped_early g.E.Sink.takes g.E.Sink.failures c.args.err.now c.complain.new.err c.in-Err.why
-    c.complain.result c.complain.ensures.failed c.complain.ensures.status
-    c.complain.ensures.told
-    (λ why. EndedEarly g.S.Source.gives g.S.Source.left g.O.Sink.takes g.O.Sink.failures
-    c.args.words.now why c.args.source.now c.args.out.now c.perform.new.source
-    c.perform.new.out)
-    broke
-    (record {
-      comes = c.in-Err.ensures.comes;
-      unread = c.in-Err.ensures.unread;
-      untouched = λ none. IfErr-at_err (λ why. Untouched why c.args.source.now c.perform.new.source)
-          c.in-Err.is (c.perform.ensures.untouched none);
-      unwritten = c.in-Err.ensures.unwritten;
-      broke = broke;
-    })
-    c.complain.ensures.broke
+pub returns-in-Ok-ProofRefused-clause-commanded : goal.returns-in-Ok-ProofRefused-clause-commanded
+returns-in-Ok-ProofRefused-clause-commanded g c = record {
+  range = search rules;
+  performed = let P = λ (ending : Ending). Performed g.S.Source.gives g.S.Source.left g.O.Sink.takes
+      c.args.words.now c.args.source.now c.args.out.now ending c.perform.new.source
+      c.perform.new.out in
+      at_refused P
+      (subst P c.in-Ok-ProofRefused.field-0-is
+      (IfOk-at_ok P c.in-Ok-ProofRefused.is c.perform.ensures.performed));
+  silent = search rules;
+  told = search rules;
+  refused = search rules;
+  memory = search rules;
+  memory_unread = search rules;
+  device = search rules;
+  stopped = search rules;
+}
+
+pub returns-in-Err-clause-commanded : goal.returns-in-Err-clause-commanded
+returns-in-Err-clause-commanded g c = record {
+  range = search rules;
+  performed = λ ending is. absurd
+      (no_ending g.E.Sink.failures c.args.err.now c.complain.new.err c.in-Err.why
+      c.complain.result c.complain.ensures.failed c.complain.ensures.status ending is);
+  silent = search rules;
+  told = told_early g.E.Sink.takes g.E.Sink.failures c.args.err.now
+      c.complain.new.err c.in-Err.why c.complain.result c.complain.ensures.failed
+      c.complain.ensures.status c.complain.ensures.told c.args.words.now c.in-Err.ensures.comes;
+  refused = search rules;
+  memory = search rules;
+  memory_unread = search rules;
+  device = search rules;
+  stopped =
+      let broke = λ (d : c.in-Err.why ≡ Device). c.perform.ensures.stopped (c.in-Err.is ∙ ap Err d)
+      in
+      stopped_early g.E.Sink.takes g.E.Sink.failures c.args.err.now c.complain.new.err c.in-Err.why
+      c.complain.result c.complain.ensures.failed c.complain.ensures.status
+      c.complain.ensures.told
+      (λ why. EndedEarly g.S.Source.gives g.S.Source.left g.O.Sink.takes g.O.Sink.failures
+      c.args.words.now why c.args.source.now c.args.out.now c.perform.new.source
+      c.perform.new.out)
+      broke
+      (record {
+        comes = c.in-Err.ensures.comes;
+        unread = c.in-Err.ensures.unread;
+        untouched = λ none. IfErr-at_err
+            (λ why. Untouched why c.args.source.now c.perform.new.source) c.in-Err.is
+            (c.perform.ensures.untouched none);
+        unwritten = c.in-Err.ensures.unwritten;
+        broke = broke;
+      })
+      c.complain.ensures.broke;
+}
 
 pub perform-requires-clause-source : goal.perform-requires-clause-source
 perform-requires-clause-source g c = search rules
@@ -43,12 +89,6 @@ perform-requires-clause-out g c = search rules
 
 pub complain-requires : goal.complain-requires
 complain-requires g c = search rules
-
-pub returns-in-Ok-Done-clause-range : goal.returns-in-Ok-Done-clause-range
-returns-in-Ok-Done-clause-range g c = search rules
-
-pub returns-in-Ok-Done-clause-device : goal.returns-in-Ok-Done-clause-device
-returns-in-Ok-Done-clause-device g c = search rules
 
 pub returns-in-Ok-Done-clause-done : goal.returns-in-Ok-Done-clause-done
 returns-in-Ok-Done-clause-done g c = search rules
@@ -64,30 +104,6 @@ returns-in-Ok-Done-clause-verified g c = search rules
 
 pub returns-in-Ok-Done-clause-proof_refused : goal.returns-in-Ok-Done-clause-proof_refused
 returns-in-Ok-Done-clause-proof_refused g c = search rules
-
-pub returns-in-Ok-Done-clause-silent : goal.returns-in-Ok-Done-clause-silent
-returns-in-Ok-Done-clause-silent g c = search rules
-
-pub returns-in-Ok-Done-clause-told : goal.returns-in-Ok-Done-clause-told
-returns-in-Ok-Done-clause-told g c = search rules
-
-pub returns-in-Ok-Done-clause-stopped : goal.returns-in-Ok-Done-clause-stopped
-returns-in-Ok-Done-clause-stopped g c = search rules
-
-pub returns-in-Ok-Done-clause-refused : goal.returns-in-Ok-Done-clause-refused
-returns-in-Ok-Done-clause-refused g c = search rules
-
-pub returns-in-Ok-Done-clause-memory : goal.returns-in-Ok-Done-clause-memory
-returns-in-Ok-Done-clause-memory g c = search rules
-
-pub returns-in-Ok-Done-clause-memory_unread : goal.returns-in-Ok-Done-clause-memory_unread
-returns-in-Ok-Done-clause-memory_unread g c = search rules
-
-pub returns-in-Ok-ProofRefused-clause-range : goal.returns-in-Ok-ProofRefused-clause-range
-returns-in-Ok-ProofRefused-clause-range g c = search rules
-
-pub returns-in-Ok-ProofRefused-clause-device : goal.returns-in-Ok-ProofRefused-clause-device
-returns-in-Ok-ProofRefused-clause-device g c = search rules
 
 pub returns-in-Ok-ProofRefused-clause-done : goal.returns-in-Ok-ProofRefused-clause-done
 returns-in-Ok-ProofRefused-clause-done g c = search rules
@@ -105,31 +121,6 @@ pub returns-in-Ok-ProofRefused-clause-proof_refused :
     goal.returns-in-Ok-ProofRefused-clause-proof_refused
 returns-in-Ok-ProofRefused-clause-proof_refused g c = search rules
 
-pub returns-in-Ok-ProofRefused-clause-silent : goal.returns-in-Ok-ProofRefused-clause-silent
-returns-in-Ok-ProofRefused-clause-silent g c = search rules
-
-pub returns-in-Ok-ProofRefused-clause-told : goal.returns-in-Ok-ProofRefused-clause-told
-returns-in-Ok-ProofRefused-clause-told g c = search rules
-
-pub returns-in-Ok-ProofRefused-clause-stopped : goal.returns-in-Ok-ProofRefused-clause-stopped
-returns-in-Ok-ProofRefused-clause-stopped g c = search rules
-
-pub returns-in-Ok-ProofRefused-clause-refused : goal.returns-in-Ok-ProofRefused-clause-refused
-returns-in-Ok-ProofRefused-clause-refused g c = search rules
-
-pub returns-in-Ok-ProofRefused-clause-memory : goal.returns-in-Ok-ProofRefused-clause-memory
-returns-in-Ok-ProofRefused-clause-memory g c = search rules
-
-pub returns-in-Ok-ProofRefused-clause-memory_unread :
-    goal.returns-in-Ok-ProofRefused-clause-memory_unread
-returns-in-Ok-ProofRefused-clause-memory_unread g c = search rules
-
-pub returns-in-Err-clause-range : goal.returns-in-Err-clause-range
-returns-in-Err-clause-range g c = search rules
-
-pub returns-in-Err-clause-device : goal.returns-in-Err-clause-device
-returns-in-Err-clause-device g c = search rules
-
 pub returns-in-Err-clause-done : goal.returns-in-Err-clause-done
 returns-in-Err-clause-done g c = search rules
 
@@ -144,37 +135,3 @@ returns-in-Err-clause-verified g c = search rules
 
 pub returns-in-Err-clause-proof_refused : goal.returns-in-Err-clause-proof_refused
 returns-in-Err-clause-proof_refused g c = search rules
-
-pub returns-in-Err-clause-silent : goal.returns-in-Err-clause-silent
-returns-in-Err-clause-silent g c = search rules
-
-pub returns-in-Err-clause-refused : goal.returns-in-Err-clause-refused
-returns-in-Err-clause-refused g c = search rules
-
-pub returns-in-Err-clause-memory : goal.returns-in-Err-clause-memory
-returns-in-Err-clause-memory g c = search rules
-
-pub returns-in-Err-clause-memory_unread : goal.returns-in-Err-clause-memory_unread
-returns-in-Err-clause-memory_unread g c = search rules
-
-pub returns-in-Ok-Done-clause-performed : goal.returns-in-Ok-Done-clause-performed
-returns-in-Ok-Done-clause-performed g c =
-    let P = λ (ending : Ending). Performed g.S.Source.gives g.S.Source.left g.O.Sink.takes
-    c.args.words.now c.args.source.now c.args.out.now ending c.perform.new.source
-    c.perform.new.out in
-    at_done P (subst P c.in-Ok-Done.field-0-is
-    (IfOk-at_ok P c.in-Ok-Done.is c.perform.ensures.performed))
-
-pub returns-in-Ok-ProofRefused-clause-performed : goal.returns-in-Ok-ProofRefused-clause-performed
-returns-in-Ok-ProofRefused-clause-performed g c =
-    let P = λ (ending : Ending). Performed g.S.Source.gives g.S.Source.left g.O.Sink.takes
-    c.args.words.now c.args.source.now c.args.out.now ending c.perform.new.source
-    c.perform.new.out in
-    at_refused P
-    (subst P c.in-Ok-ProofRefused.field-0-is
-    (IfOk-at_ok P c.in-Ok-ProofRefused.is c.perform.ensures.performed))
-
-pub returns-in-Err-clause-performed : goal.returns-in-Err-clause-performed
-returns-in-Err-clause-performed g c =
-    λ ending is. absurd (no_ending g.E.Sink.failures c.args.err.now c.complain.new.err c.in-Err.why
-    c.complain.result c.complain.ensures.failed c.complain.ensures.status ending is)

@@ -13,15 +13,5 @@ returns g c =
     inl (
       c.deref-3.result.now,
       are,
-      record {
-        range = c.command.ensures.range;
-        performed = c.command.ensures.performed;
-        silent = c.command.ensures.silent;
-        told = c.command.ensures.told;
-        refused = c.command.ensures.refused;
-        memory = c.command.ensures.memory;
-        memory_unread = c.command.ensures.memory_unread;
-        device = c.command.ensures.device;
-        stopped = c.command.ensures.stopped;
-      },
+      c.command.ensures.commanded,
     )
