@@ -1,5 +1,5 @@
 -- The steps by which edits are made in a list of pairs, of lists that point at edits.
-use Rattle.std.proofs.Common.{◌≡◌, ℕ, ◌<◌, ◌≤◌, List, [], ◌∷◌, ◌++◌, length, get_or, Bor, Less, Equal, Greater, refl, sym, ap, ◌∙◌, subst}
+use Rattle.std.proofs.Common.{◌≡◌, ◌<◌, ◌≤◌, List, [], ◌∷◌, ◌++◌, length, get_or, Bor, Less, Equal, Greater, sym, ap, ◌∙◌, subst}
 use Rattle.mst_key.specs.declared.history.Edit.{Edit}
 use Rattle.mst_key.specs.History.{batched, key_of}
 use Rattle.mst_key.specs.Map.{Pair, key_cmp, AllAbove, IsAscending}

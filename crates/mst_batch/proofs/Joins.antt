@@ -1,13 +1,13 @@
 -- A rising list of edits made in the list of a map: what holds in the middle, and that each step
 -- keeps it.
-use Rattle.std.proofs.Common.{◌≡◌, ℕ, List, [], ◌∷◌, ◌++◌, Less, Equal, Ordering, cond, is_eq, is_lt, is_gt, not, filter, refl, sym, ap, ◌∙◌, append_assoc}
+use Rattle.std.proofs.Common.{◌≡◌, ℕ, List, [], ◌∷◌, ◌++◌, Less, Equal, Ordering, is_eq, is_lt, is_gt, not, filter, refl, sym, ap, ◌∙◌, append_assoc}
 use Rattle.std.proofs.lemmas.Bool.{cond-false}
 use Rattle.std.proofs.lemmas.List.{append-nil}
 use Rattle.mst_key.specs.declared.history.Edit.{Edit}
 use Rattle.mst_key.specs.declared.history.Edit.TheVariants as edit
 use Rattle.mst_key.specs.Edits.{AreAbove, AreRising}
 use Rattle.mst_key.specs.History.{edited, batched, key_of}
-use Rattle.mst_key.specs.Map.{Pair, key_cmp, AllAbove, IsAscending, put, remove}
+use Rattle.mst_key.specs.Map.{Pair, key_cmp, AllAbove, IsAscending, remove}
 use Rattle.mst_key.proofs.KeyOrder.{equal_from_same}
 use Rattle.mst_key.proofs.MapLaws.{AllAbove-less}
 use Rattle.mst_key.proofs.Splits.{put-right, remove-right, put-before, above-stays}

@@ -1,5 +1,5 @@
 -- The steps of a merge, of lists that point at edits.
-use Rattle.std.proofs.Common.{◌≡◌, ℕ, ◌<◌, ◌≤◌, List, [], ◌∷◌, ◌++◌, Option, length, get_or, Bor, Less, Equal, Greater, refl, sym, ap, ◌∙◌, subst}
+use Rattle.std.proofs.Common.{◌≡◌, ℕ, ◌<◌, ◌≤◌, List, [], ◌∷◌, ◌++◌, Option, length, get_or, Bor, Less, Equal, Greater, sym, ap, ◌∙◌, subst}
 use Rattle.mst_key.specs.declared.history.Edit.{Edit}
 use Rattle.mst_key.specs.Edits.{AreRising}
 use Rattle.mst_key.specs.History.{key_of, value_after}

@@ -1,8 +1,7 @@
 -- The first element of a list that is read from the front, the others, and edits that are listed.
-use Rattle.std.proofs.Common.{◌≡◌, ℕ, ◌+◌, ◌-◌, ◌<◌, ◌≤◌, List, [], ◌∷◌, ◌++◌, length, take, drop, get_or, map, Bor, Ordering, refl, sym, ap, ◌∙◌, arith}
+use Rattle.std.proofs.Common.{◌≡◌, ℕ, ◌+◌, ◌-◌, ◌<◌, ◌≤◌, List, [], ◌∷◌, ◌++◌, length, take, drop, get_or, Bor, Ordering, refl, sym, ap, ◌∙◌, arith}
 use Rattle.std.proofs.lemmas.List.{map-append, take_all}
 use Rattle.mst_key.specs.declared.history.Edit.{Edit}
-use Rattle.mst_key.specs.History.{key_of}
 use Rattle.mst_key.specs.Map.{key_cmp}
 use Rattle.mst_batch.specs.Listed.{listed}
 

@@ -1,6 +1,5 @@
 -- Lists of edits whose keys rise.
-use Rattle.std.proofs.Common.{◌≡◌, ℕ, List, [], ◌∷◌, ◌++◌, Less, inl, inr, refl, sym, subst}
-use Rattle.std.specs.List.{AllByRecursion}
+use Rattle.std.proofs.Common.{◌≡◌, ℕ, List, [], ◌∷◌, ◌++◌, Less, inl, inr}
 use Rattle.mst_key.specs.declared.history.Edit.{Edit}
 use Rattle.mst_key.specs.Edits.{AreAbove, AreRising}
 use Rattle.mst_key.specs.History.{key_of, IsEdited}

@@ -1,8 +1,6 @@
-use Rattle.std.proofs.Common.{◌≡◌, ℕ, List, Option, Ok, Err, IfOk, length, take, drop, Vec, refl, sym, ap, ◌∙◌}
+use Rattle.std.proofs.Common.{◌∙◌}
 use Rattle.std.proofs.lemmas.Result.{IfOk-weaker}
-use Rattle.mst_key.specs.declared.history.Edit.{Edit}
-use Rattle.mst_key.specs.History.{batched, value_after}
-use Rattle.mst_key.specs.Map.{Pair, IsMap, map_get}
+use Rattle.mst_key.specs.Map.{map_get}
 use Rattle.mst_key.proofs.Batches.{batched_alike}
 use Rattle.mst_batch.specs.Listed.{listed}
 use Rattle.mst_batch.proofs.Halves.{halves}

@@ -1,4 +1,4 @@
-use Rattle.std.proofs.Common.{◌≡◌, List, Less, Equal, Greater, refl, sym, subst}
+use Rattle.std.proofs.Common.{List, Less, Equal, Greater, refl, sym, subst}
 use Rattle.mst_key.specs.History.{key_of}
 use Rattle.mst_key.specs.Map.{Pair}
 use Rattle.mst_batch.specs.Listed.{listed}

@@ -1,4 +1,4 @@
-use Rattle.std.proofs.Common.{◌≡◌, List, Bor, Less, Equal, Greater, refl, sym, ap, subst}
+use Rattle.std.proofs.Common.{List, Bor, Less, Equal, Greater, sym, subst}
 use Rattle.mst_key.specs.declared.history.Edit.{Edit}
 use Rattle.mst_key.specs.History.{key_of}
 use Rattle.mst_batch.specs.Listed.{listed}

@@ -1,4 +1,4 @@
-use Rattle.std.proofs.Common.{ℕ, ◌+◌, length}
+use Rattle.std.proofs.Common.{◌+◌, length}
 use Rattle.mst_batch.proofs.MergeSteps.{Merging}
 use Rattle.mst_batch.proofs.merging.merged.Given as goal
 
