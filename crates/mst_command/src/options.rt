@@ -1,5 +1,5 @@
 //! What the words after a command say by their options, and what they say beside them.
-ghost use Rattle.std.specs.Prelude.{◌≡◌, List, Bool, [], ◌||◌, get_or, map, false};
+ghost use Rattle.std.specs.Prelude.{◌≡◌, [], ◌||◌, get_or, map, false};
 ghost use Rattle.std.specs.Option.{option_map};
 ghost use Rattle.mst_command.specs.Options.{are_words as are_all, are_words_of as are_all_of, cut as cut_at, first as first_of, format_named as named_by, format_of as named, format_or as named_or, is_flag as has_dash, is_new_option as is_named_first, is_option as is_named, joined as joined_to, name_of as name_at, operand_count as count_of, operands, significant as zeroless, value_of as value_behind, without_plus as plusless};
 

@@ -1,5 +1,5 @@
 -- Taking and giving back the turn keep the rule.
-use Rattle.std.proofs.Common.{◌≡◌, ℕ, ◌+◌, ◌*◌, ◌<◌, ◌≤◌, ◌≢◌, inl, inr, true, false, Some, None, eqb, List, [], ◌∷◌, set, get_or, sym, refl, ap, ◌∙◌, subst, arith, length-set, get_or-set_same}
+use Rattle.std.proofs.Common.{◌≡◌, ℕ, ◌+◌, ◌<◌, ◌≤◌, ◌≢◌, inl, inr, true, false, Some, None, eqb, List, [], ◌∷◌, set, get_or, sym, refl, ap, ◌∙◌, subst, arith, length-set, get_or-set_same}
 use mathlib.Core.Option.{some, none}
 use lib.ListN.{get_elem?}
 use prog.Atomic.{either}

@@ -1,5 +1,4 @@
-use Rattle.std.proofs.Common.{◌≡◌, pos, ◌∙◌, sym}
-use Rattle.std.specs.Int.{w64}
+use Rattle.std.proofs.Common.{pos, ◌∙◌, sym}
 use Rattle.std.proofs.lemmas.Option.{none-some}
 use Rattle.mst_command.proofs.PlainWords.{only_spelt, parsed, spelt, wide}
 use Rattle.mst_command.proofs.plain.number.Goals as goal

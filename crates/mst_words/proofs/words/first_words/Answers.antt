@@ -1,6 +1,6 @@
 use Rattle.std.proofs.Common.{rules}
 use Rattle.std.proofs.lemmas.Grind.{common_steps, elements}
-use Rattle.std.proofs.Common.{◌≡◌, List, ℕ, ◌+◌, ◌*◌, length, ap, ◌∙◌, set, get_or, length-set, get_or-set_same, arith}
+use Rattle.std.proofs.Common.{◌≡◌, List, ℕ, length, ap, ◌∙◌, set, get_or, length-set, get_or-set_same, arith}
 use Rattle.std.proofs.lemmas.List.{length-replicate}
 use Rattle.mst_arena.specs.Words.{bytes_in}
 use Rattle.mst_words.specs.Layout.{table_words}
