@@ -1,5 +1,5 @@
 //! What a hand holds: a pass, free or pinned, that is laid down beside a share of its store.
-ghost use Rattle.std.specs.Prelude.{◌≡◌, ◌≤◌, length, IfOk, OnErr};
+ghost use Rattle.std.specs.Prelude.{◌≡◌, ◌≤◌, true, length, Some, None, IfOk, OnErr};
 ghost use Rattle.std.specs.Arc.{arc_value};
 ghost use Rattle.mst_key.specs.declared.history.Change.TheVariants.{Put, Remove};
 ghost use Rattle.mst_key.specs.Map.{map_next, map_range};
@@ -13,8 +13,9 @@ ghost use Rattle.mst_c.specs.Formats.{Moves};
 ghost use Rattle.mst_c.specs.Holding.{Reads, Forgets, Writes, PinsNow, Unpins, Versions, Counts};
 
 use crate::answering::{tell_now, tell_pinned};
+use crate::hand::{Hand, Taken, give};
 use mst_key::{Format, Key, Memory, Value};
-use mst_store::{Busy, Laid, LaidPinned, MigrateFault, Store, WriteFault};
+use mst_store::{Busy, Laid, LaidPinned, MigrateFault, Pass, Store, WriteFault};
 use std::alloc::Global;
 use std::marker::Model;
 use std::mem::replace;
@@ -73,18 +74,32 @@ pub(crate) enum Uncounted {
     Busy,
 }
 
-impl Held {
-    /// A free pass beside a share of its store.
-    pub(crate) fn new(store: Arc<Store<Global>, Global>, laid: Laid<Global>) -> Held
-        requires own { laid.store ≡ arc_value store }
-        ensures free { result ≡ state.Free laid }
-    {
-        Held {
-            store,
-            state: State::Free(laid),
+/// A pass of the store, beside a share of it, goes into an empty hand. Nothing else makes a `Held`,
+/// so no other body has one to put in the place of a pass that it took out of a hand.
+pub(crate) fn hand_out(
+    alloc: Global,
+    store: &Arc<Store<Global>, Global>,
+    pass: Pass<'_, Global>,
+    hand: &mut Hand,
+) -> bool
+    requires own { pass.store ≡ arc_value store.now }
+    requires empty { hand.old.held ≡ None }
+    ensures held { result ≡ true → hand.new.held ≡ Some (state.Free pass.entry) }
+{
+    let Ok(store) = Arc::try_clone(store) else {
+        return false;
+    };
+    let state = State::Free(pass.lay());
+    match Box::new(alloc, Held { store, state }) {
+        Ok(held) => {
+            give(hand, Taken::of(held));
+            true
         }
+        Err(_) => false,
     }
+}
 
+impl Held {
     /// Returns the code of the key's value. It is made where the value was read, so that the value
     /// is not moved.
     pub(crate) fn get(&mut self, key: &Key, room: &mut [u8]) -> i32

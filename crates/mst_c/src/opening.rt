@@ -8,35 +8,12 @@ ghost use Rattle.mst_c.specs.Formats.{format_named as named};
 ghost use Rattle.mst_c.specs.Opened.{Opened, IsSize, AllEmpty};
 
 use crate::formats::format_named;
-use crate::hand::{Hand, Taken, give};
-use crate::held::Held;
+use crate::hand::Hand;
+use crate::held::hand_out;
 use crate::telling::{BAD_SHAPE, MEMORY, UNKNOWN_FORMAT, close};
 use mst_store::{OpenFault, Pass, Shape, Store};
 use std::alloc::Global;
 use std::sync::Arc;
-
-/// A pass of the store, beside a share of it, goes into an empty hand.
-fn hand_out(
-    alloc: Global,
-    store: &Arc<Store<Global>, Global>,
-    pass: Pass<'_, Global>,
-    hand: &mut Hand,
-) -> bool
-    requires own { pass.store ≡ arc_value store.now }
-    requires empty { hand.old.held ≡ None }
-    ensures held { result ≡ true → hand.new.held ≡ Some (Free pass.entry) }
-{
-    let Ok(part) = Arc::try_clone(store) else {
-        return false;
-    };
-    match Box::new(alloc, Held::new(part, pass.lay())) {
-        Ok(held) => {
-            give(hand, Taken::of(held));
-            true
-        }
-        Err(_) => false,
-    }
-}
 
 /// Each of the passes goes into the next hand. All hands are empty before.
 fn hand_all(
