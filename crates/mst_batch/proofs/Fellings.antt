@@ -1,7 +1,7 @@
 -- A tree that is felled beside its kept nodes: its head, its entries one after another, each with
 -- the tree before it, and the tree in its last gap.
 use Rattle.std.proofs.Common.{◌≡◌, ℕ, zero, suc, ◌+◌, ◌-◌, ◌<◌, ◌≤◌, Bool, true, false, List, [], ◌∷◌, ◌++◌, Option, Some, IsSome, append_assoc, refl, sym, ◌∙◌, ap, subst, arith}
-use Rattle.std.specs.Prelude.{if◌then◌else◌, option_and_then, slice_get}
+use Rattle.std.specs.Prelude.{if◌then◌else◌, option_and_then}
 use Rattle.std.specs.Option.{option_map_or}
 use Rattle.mst_key.specs.declared.format.Format.{Format}
 use Rattle.mst_node.specs.Tree.{IsMst, IsMstEntries, IsUnder}

@@ -1,5 +1,5 @@
 -- A plan of the program, one level at a time: its entries, its rows, and the trees that it keeps.
-use Rattle.std.proofs.Common.{◌≡◌, ◌⊎◌, ℕ, zero, suc, ◌+◌, ◌<◌, ◌≤◌, List, [], ◌∷◌, ◌++◌, length, map, take, get_or, refl, sym, ◌∙◌, ap, subst, arith, rules, inl, inr}
+use Rattle.std.proofs.Common.{◌≡◌, ℕ, zero, suc, ◌+◌, ◌<◌, ◌≤◌, List, [], ◌∷◌, ◌++◌, length, map, take, get_or, refl, sym, ◌∙◌, ap, subst, arith, rules, inl, inr}
 use Rattle.std.proofs.Math.Seq.{take-length}
 use Rattle.std.proofs.lemmas.List.{length-map, map_more}
 use Rattle.mst_key.specs.declared.format.Format.{Format}
@@ -9,7 +9,7 @@ use Rattle.mst_node.specs.Shape.{TreeEntry, with_entries}
 use Rattle.mst_arena.specs.Content.{Content}
 use Rattle.mst_arena.specs.Lives.{State}
 use Rattle.mst_arena.specs.Lists.{In, times}
-use Rattle.mst_arena.specs.Standing.{Placed, link_of, used}
+use Rattle.mst_arena.specs.Standing.{Placed, link_of}
 use Rattle.mst_arena.proofs.ListLemmas.{times-append}
 use Rattle.mst_path.specs.Moves.{IsOld}
 use Rattle.mst_path.specs.Runs.{OldPiece}

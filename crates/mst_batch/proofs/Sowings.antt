@@ -1,5 +1,5 @@
 -- A node that is written entry by entry beside trees that are kept.
-use Rattle.std.proofs.Common.{◌≡◌, ℕ, zero, suc, ◌+◌, ◌<◌, ◌≤◌, eqb, List, [], ◌∷◌, ◌++◌, length, map, Option, Some, refl, sym, ◌∙◌, ap, subst, arith, length-append}
+use Rattle.std.proofs.Common.{◌≡◌, ℕ, zero, suc, ◌+◌, ◌<◌, ◌≤◌, List, [], ◌∷◌, ◌++◌, length, Option, Some, refl, sym, ◌∙◌, ap, subst, arith, length-append}
 use Rattle.std.proofs.lemmas.List.{map-append}
 use Rattle.mst_key.specs.declared.format.Format.{Format}
 use Rattle.mst_node.specs.Tree as tree
@@ -7,17 +7,17 @@ use Rattle.mst_node.specs.Tree.{Tree, IsMst}
 use Rattle.mst_node.specs.Shape.{TreeEntry, with_entries}
 use Rattle.mst_arena.specs.Content.{Content}
 use Rattle.mst_arena.specs.Lives.{State, version, next}
-use Rattle.mst_arena.specs.Lists.{In, times, bit}
+use Rattle.mst_arena.specs.Lists.{In, times}
 use Rattle.mst_arena.specs.declared.row.Root.{Root}
 use Rattle.mst_arena.specs.declared.life.Life.TheVariants.{Born}
 use Rattle.mst_arena.specs.Standing.{Placed, head, tree_of, link_of, rows_of, used, HasRows}
 use Rattle.mst_arena.proofs.ListLemmas.{times-append}
 use Rattle.mst_path.specs.Takes.{Takes, IsOut, KeepsBut}
-use Rattle.mst_path.specs.Moves.{IsAlive, IsOld, IsNew, Moves}
-use Rattle.mst_path.specs.Runs.{Piece, OldPiece}
+use Rattle.mst_path.specs.Moves.{IsOld, IsNew, Moves}
+use Rattle.mst_path.specs.Runs.{OldPiece}
 use Rattle.mst_path.specs.Copying.{Going}
-use Rattle.mst_path.specs.Making.{cell_of, cells_of, entries_to}
-use Rattle.mst_path.specs.Writing.{PlacedEntry, chain_of, entries_used, IsRootOf, ahead, link_to, IsAhead, IsWritten}
+use Rattle.mst_path.specs.Making.{cell_of, cells_of}
+use Rattle.mst_path.specs.Writing.{PlacedEntry, chain_of, entries_used, IsRootOf, ahead, link_to, IsWritten}
 use Rattle.mst_path.specs.declared.node_writer.NodeWriter.{NodeWriter}
 use Rattle.mst_path.proofs.lemmas.rows.Copies.{at_self, kept_at, all_in, new_not_old, old_alive}
 use Rattle.mst_path.proofs.lemmas.rows.Entries.{entries_frame}

@@ -1,5 +1,5 @@
 -- Which nodes of a tree that stands are kept: a mark for each row, set at the head of a kept node.
-use Rattle.std.specs.Prelude.{◌+◌, ℕ, zero, suc, Bool, true, false, if◌then◌else◌, List, [], ◌∷◌, ◌++◌, slice_get}
+use Rattle.std.specs.Prelude.{ℕ, zero, suc, Bool, true, false, if◌then◌else◌, List, [], ◌∷◌, ◌++◌, slice_get}
 use Rattle.std.specs.Option.{option_map_or}
 use Rattle.mst_arena.specs.Standing.{Placed, none, head, Chain, end, cell}
 

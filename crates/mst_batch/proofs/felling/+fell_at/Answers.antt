@@ -1,11 +1,11 @@
-use Rattle.std.proofs.Common.{◌≡◌, ℕ, zero, suc, ◌+◌, ◌-◌, ◌<◌, Bool, true, false, true≢false, List, [], Some, IsSome, sym, ◌∙◌, ap, subst, arith, rules}
+use Rattle.std.proofs.Common.{◌≡◌, ℕ, zero, suc, ◌+◌, ◌-◌, ◌<◌, Bool, false, true≢false, List, [], Some, IsSome, sym, ◌∙◌, ap, subst, arith, rules}
 use Rattle.mst_arena.specs.Content.{Content, part_at}
 use Rattle.mst_arena.specs.Lives.{State}
 use Rattle.mst_arena.specs.Row.{entry_links}
 use Rattle.mst_path.specs.Felling.{ToFell}
 use Rattle.mst_path.specs.Joining.{height_at}
 use Rattle.mst_path.specs.Moves.{Moves}
-use Rattle.mst_path.proofs.lemmas.steps.Felling.{head_there, head_old, height_read}
+use Rattle.mst_path.proofs.lemmas.steps.Felling.{height_read}
 use Rattle.mst_path.proofs.lemmas.rows.Moving.{moves_none}
 use Rattle.mst_batch.specs.Kept.{stays, fallen}
 use Rattle.mst_batch.proofs.Fellings.{Felling, AtEntry, started, nothing_falls, entry_there, at_entry, at_last}

@@ -1,26 +1,23 @@
-use Rattle.std.proofs.Common.{◌≡◌, ◌+◌, ◌<◌, ◌≤◌, [], ◌∷◌, ◌++◌, ℕ, Bool, IsTrue, IfSome, List, length, get_or, map, take, ap, refl, sym, subst, ◌∙◌, arith, rules}
+use Rattle.std.proofs.Common.{◌≡◌, ◌+◌, ◌<◌, ◌≤◌, [], ℕ, Bool, IsTrue, IfSome, List, length, get_or, map, take, ap, refl, sym, subst, ◌∙◌, arith, rules}
 use Rattle.std.proofs.lemmas.Grind.{common_steps}
 use Rattle.std.proofs.lemmas.List.Sums.{count_by-le-length}
-use Rattle.mst_node.specs.Shape.{TreeEntry, with_entries}
 use Rattle.mst_node.specs.Tree as tree
 use Rattle.mst_node.specs.Tree.{Tree}
 use Rattle.mst_arena.specs.Content.{Content}
-use Rattle.mst_arena.specs.Lives.{State, is_free, free_count}
+use Rattle.mst_arena.specs.Lives.{is_free}
 use Rattle.mst_arena.specs.Lists.{In, times}
 use Rattle.mst_arena.specs.Standing.{Placed}
 use Rattle.mst_path.specs.Moves.{IsOld}
-use Rattle.mst_path.specs.Takes.{IsWritable}
-use Rattle.mst_path.specs.Writing.{ahead, entries_used}
+use Rattle.mst_path.specs.Writing.{ahead}
 use Rattle.mst_path.proofs.lemmas.rows.Copies.{still_writable, blank_taken, blank_ahead, small_link, next_some}
-use Rattle.mst_path.proofs.lemmas.rows.Moving.{moves_then}
 use Rattle.mst_path.proofs.lemmas.trees.Growing.{ahead_count, ahead_none}
 use Rattle.mst_path.proofs.lemmas.trees.Made.{piece_alive}
 use Rattle.mst_batch.specs.declared.plan.PlanNode.{out-PlanNode}
 use Rattle.mst_batch.specs.declared.plan.PlanEntry.{out-PlanEntry}
 use Rattle.mst_batch.specs.declared.plan.PlanEntry.TheViews.{the_lemmas}
-use Rattle.mst_batch.specs.Plans.{PlanTree, PlannedEntry, kept, plan_of, plan_of_node, planned_entry, rows_planned, rows_kept, tree_planned, entries_planned, IsPlan}
+use Rattle.mst_batch.specs.Plans.{PlanTree, PlannedEntry, kept, plan_of, plan_of_node, planned_entry, rows_planned, rows_kept, tree_planned, IsPlan}
 use Rattle.mst_batch.specs.Sowing.{Sown}
-use Rattle.mst_batch.proofs.PlanShapes.{items, tail, whole, cells_planned, list_rows, list_kept, plan_out, tree_with, kept_with, rows_ahead, rows_least, rows_last, node_rows, entries_more, take_all, some_entries, low_layer, kept_rows, whole_old, child_kept, child_links, child_stands, child_search, tail_links, tail_stands, tail_search}
+use Rattle.mst_batch.proofs.PlanShapes.{items, tail, list_rows, list_kept, plan_out, tree_with, kept_with, rows_ahead, rows_least, rows_last, node_rows, entries_more, take_all, some_entries, low_layer, kept_rows, whole_old, child_kept, child_links, child_stands, child_search, tail_links, tail_stands, tail_search}
 use Rattle.mst_batch.proofs.Sowings.{SownSoFar, kept_whole, begins, plan_later, head_in, next_in, entry_more, node_whole}
 use Rattle.mst_batch.proofs.sowing.+sow.Given.{Over}
 use Rattle.mst_batch.proofs.sowing.+sow.Goals.{sow_node-After-len, sow_node-After-entry-item, sow_node-After-sow-child, sow_node-After-loop-entry, sow_node-After-sow-tail}
