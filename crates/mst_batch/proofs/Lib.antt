@@ -9,3 +9,4 @@ pub mod Parts
 pub mod MergeSteps
 pub mod JoinSteps
 pub mod Halves
+pub mod SmallPlans

@@ -1,6 +1,6 @@
 -- A plan that is carried out in place of the tree that stood: what was kept and what fell are all
 -- its rows.
-use Rattle.std.proofs.Common.{◌≡◌, ◌⊎◌, ℕ, zero, suc, ◌+◌, ◌<◌, ◌≤◌, Bool, true, false, List, [], ◌∷◌, ◌++◌, refl, sym, ◌∙◌, ap, subst, arith, inl, inr}
+use Rattle.std.proofs.Common.{◌≡◌, ℕ, zero, suc, ◌+◌, ◌<◌, ◌≤◌, Bool, true, false, List, [], ◌∷◌, ◌++◌, refl, sym, ◌∙◌, ap, subst, arith, inl, inr}
 use Rattle.std.specs.Prelude.{if◌then◌else◌, Contains}
 use Rattle.std.proofs.lemmas.List.{append-nil}
 use Rattle.std.proofs.lemmas.List.Elements.{Contains-append_left, Contains-append_right, Contains-append_cases}
@@ -11,22 +11,20 @@ use Rattle.mst_arena.specs.Content.{Content}
 use Rattle.mst_arena.specs.Lives.{State}
 use Rattle.mst_arena.specs.Lists.{In, times}
 use Rattle.mst_arena.specs.declared.row.Root.{Root}
-use Rattle.mst_arena.specs.Standing.{Placed, none, head, Chain, end, cell, tree_of, used, chain_used}
+use Rattle.mst_arena.specs.Standing.{Placed, none, head, Chain, end, cell, used, chain_used}
 use Rattle.mst_arena.proofs.ListLemmas.{times-append}
 use Rattle.mst_arena.proofs.Stands.{placed_frame}
 use Rattle.mst_path.specs.Ages.{placed_nodes, chain_nodes}
 use Rattle.mst_path.specs.Felling.{ToFell}
 use Rattle.mst_path.specs.Making.{Grown}
-use Rattle.mst_path.specs.Moves.{IsOld, Moves}
-use Rattle.mst_path.specs.Takes.{KeepsBut}
+use Rattle.mst_path.specs.Moves.{Moves}
 use Rattle.mst_path.proofs.lemmas.rows.Copies.{all_in, kept_at, old_alive}
-use Rattle.mst_path.proofs.lemmas.rows.Moving.{in_either, not_in, moves_then, alive_out, old_stays}
+use Rattle.mst_path.proofs.lemmas.rows.Moving.{in_either, moves_then, alive_out, old_stays}
 use Rattle.mst_path.proofs.lemmas.trees.Made.{made_stays}
 use Rattle.mst_batch.specs.Kept.{is_marked, fallen, chain_fallen}
 use Rattle.mst_batch.specs.Plans.{PlanTree, PlanEntries, kept, made, last, entry, rows_kept, entries_kept, EachKept, EachKeptBelow}
 use Rattle.mst_batch.specs.Replacing.{IsMarkedNode, trees_kept, entries_trees, Keeps}
 use Rattle.mst_batch.specs.Sowing.{Sown}
-use Rattle.mst_batch.proofs.Fellings.{fallen_in}
 
 -- ---- the rows of marked nodes
 
@@ -151,7 +149,7 @@ mutual
         | inr later ↦ let j = node_inside_chain chain q x later i in omega (arith, j)
       ]
 
-  node_inside_chain : (c : Chain) (q : Placed) (x : ℕ) → Contains (chain_nodes c) q
+  pub node_inside_chain : (c : Chain) (q : Placed) (x : ℕ) → Contains (chain_nodes c) q
       → In x (used q) → In x (chain_used c)
   node_inside_chain (end child) q x has i = node_inside child q x has i
   node_inside_chain (cell at child key value rest) q x has i =

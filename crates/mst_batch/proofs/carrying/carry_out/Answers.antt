@@ -1,4 +1,4 @@
-use Rattle.std.proofs.Common.{◌≡◌, ◌<◌, ◌≤◌, List, refl, sym, arith, rules}
+use Rattle.std.proofs.Common.{List, refl, sym, arith}
 use Rattle.mst_key.specs.Map.{Pair}
 use Rattle.mst_node.specs.Cost.{cost}
 use Rattle.mst_node.specs.Tree.{tree}
@@ -14,7 +14,7 @@ use Rattle.mst_batch.proofs.carrying.carry_out.Goals.{After-replace}
 use Rattle.mst_batch.proofs.carrying.carry_out.Goals as goal
 
 pub rows_of-requires : goal.rows_of-requires
-rows_of-requires g c = record { few = c.requires.plan.1.few }
+rows_of-requires g c = record { few = omega (arith, c.requires.plan.1.few) }
 
 pub returns-then-rows_of-free-clause-no_room : goal.returns-then-rows_of-free-clause-no_room
 returns-then-rows_of-free-clause-no_room g c = λ change p m st.

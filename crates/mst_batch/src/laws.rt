@@ -1,0 +1,37 @@
+//! Laws of the definitions, each proved as the contract of a function that does nothing.
+ghost use Rattle.std.specs.Prelude.{◌≡◌, ◌+◌, ◌↔◌, ℕ, Bool, true, List, [], ◌∷◌};
+ghost use Rattle.mst_key.specs.Bytes.{IsKey, IsValue};
+ghost use Rattle.mst_key.specs.History.{batched};
+ghost use Rattle.mst_key.specs.Layer.{layer_in};
+ghost use Rattle.mst_key.specs.Map.{Pair};
+ghost use Rattle.mst_key.specs.declared.format.Format.{Format};
+ghost use Rattle.mst_key.specs.declared.history.Edit.TheVariants as edit;
+ghost use Rattle.mst_arena.specs.Content.{Content};
+ghost use Rattle.mst_arena.specs.Lives.{State};
+ghost use Rattle.mst_arena.specs.Standing.{Stands};
+ghost use Rattle.mst_arena.specs.declared.row.Root.{Root};
+ghost use Rattle.mst_path.specs.Changing.{MapStands};
+ghost use Rattle.mst_batch.specs.Carrying.{IsPlanOf};
+ghost use Rattle.mst_batch.specs.Kept.{is_marked};
+ghost use Rattle.mst_batch.specs.Plans.{kept, made, last, entry, rows_planned};
+
+/// What the calls require of a plan and of its marks can be met.
+pub fn plans_can_be_met()
+    // a list of marks can have one at the row of a link and no other, and for link 0 none
+    ensures marks { (link : ℕ) → (marks : List Bool)
+        × ((row : ℕ) → (is_marked marks row ≡ true) ↔ (row + 1 ≡ link)) }
+    // with such marks the plan that keeps the whole tree is one of the change that changes nothing
+    ensures kept { (format : Format) (content : Content) (s : State) (root : Root)
+        (marks : List Bool) → MapStands format content s root
+        → ((row : ℕ) → (is_marked marks row ≡ true) ↔ (row + 1 ≡ root.link))
+        → IsPlanOf format content s root marks (kept root.link) (λ m. m) }
+    // where the empty map stands, a node of one pair is a plan of the batch of its put, whatever
+    // is marked; it takes two rows
+    ensures planted { (format : Format) (content : Content) (s : State) (root : Root)
+        (marks : List Bool) (k v : List ℕ) → Stands format content root [] → IsKey k → IsValue v
+        → IsPlanOf format content s root marks
+        (made (layer_in format k) (entry (kept 0) k v (last (kept 0))))
+        (λ m. batched m (edit.Put k v ∷ [])) }
+    ensures planted_rows { (layer : ℕ) (k v : List ℕ)
+        → rows_planned (made layer (entry (kept 0) k v (last (kept 0)))) ≡ 2 }
+{}
