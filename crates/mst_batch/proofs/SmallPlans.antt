@@ -7,9 +7,10 @@ use Rattle.mst_key.specs.Layer.{layer_in}
 use Rattle.mst_key.specs.Map.{Pair, put}
 use Rattle.mst_key.specs.declared.format.Format.{Format}
 use Rattle.mst_key.specs.declared.history.Edit.TheVariants as edit
-use Rattle.mst_key.proofs.MapLaws.{IsMap-put}
+use Rattle.mst_key.proofs.MapLaws.{IsMap-nil, IsMap-put}
 use Rattle.mst_key.proofs.SpanLaws.{contains-cases, contains-nothing, contains-first}
 use Rattle.mst_node.specs.Cost.{new_rows}
+use Rattle.mst_node.specs.Text.{digest}
 use Rattle.mst_node.specs.Tree as tree
 use Rattle.mst_node.specs.Tree.{Tree, IsMst, pairs}
 use Rattle.mst_node.proofs.TreeEquation.{tree-no_pairs}
@@ -22,6 +23,7 @@ use Rattle.mst_arena.specs.declared.row.Root.{Root}
 use Rattle.mst_change.proofs.Formats.{stays}
 use Rattle.mst_path.specs.Ages.{placed_nodes, chain_nodes}
 use Rattle.mst_path.specs.Changing.{AreOld}
+use Rattle.mst_path.specs.Writing.{IsRootOf}
 use Rattle.mst_path.proofs.lemmas.rows.Copies.{at_self}
 use Rattle.mst_path.proofs.lemmas.versions.Changes.{distinct_times, mst_of, one_standing}
 use Rattle.mst_batch.specs.Carrying.{IsPlanOf}
@@ -125,6 +127,21 @@ keeps_all format c s root marks m stands old only =
     }
 
 -- ---- a node in place of the empty map
+
+-- the empty map stands where no row does
+abbrev pub empty_stands : (format : Format) (c : Content) (root : Root) → IsRootOf format none root
+    → Stands format c root []
+empty_stands format c root is = record {
+  map = IsMap-nil;
+  digest = is.sum ∙ ap digest (sym (tree-no_pairs format [] refl));
+  tree = record {
+    placed = none;
+    at = sym is.link;
+    is = sym (tree-no_pairs format [] refl);
+    rows = tt;
+    once = tt;
+  };
+}
 
 nothing : (format : Format) (p : Placed) → tree_of format p ≡ tree.empty → p ≡ none
 nothing format none is = refl

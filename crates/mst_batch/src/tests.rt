@@ -1,4 +1,7 @@
-//! Batches by worked rows, against edits made one by one, and with each growth refused.
+//! Batches by worked rows, against edits made one by one, and with each growth refused. In `plans`
+//! a plan is carried out.
+mod plans;
+
 use crate::{edited_pairs, normal_edits};
 use linked_list_allocator::LocalHeap;
 use mst_key::{Edit, Key, Memory, Value};

@@ -1,4 +1,4 @@
-use Rattle.std.proofs.Common.{ap, refl, sym, subst, arith}
+use Rattle.std.proofs.Common.{ap, refl, sym, subst}
 use Rattle.mst_arena.specs.Content.{Content}
 use Rattle.mst_arena.specs.Lists.{times}
 use Rattle.mst_arena.specs.Standing.{used}
@@ -28,8 +28,7 @@ returns-clause-grown g c = λ at old plan keeps.
     let made =
     replaced format content (g.R.Rows.content c.sow-new.new.rows) c.args.desk.now c.sow-new.new.desk
     c.args.root.now.link (tree_planned format at y) c.sow-new.result (rows_kept at y)
-    (rows_planned y) old q at c.args.kept.now y refl (λ x. omega (arith, plan.once x)) keeps
-    c.fell_at.new.desk
+    (rows_planned y) old q at c.args.kept.now y refl plan.once keeps c.fell_at.new.desk
     (c.fell_at.ensures.fells
     (still format content (g.R.Rows.content c.sow-new.new.rows) c.args.desk.now c.sow-new.new.desk
     c.args.root.now.link (tree_planned format at y) c.sow-new.result (rows_kept at y)
