@@ -10,3 +10,6 @@ pub mod MergeSteps
 pub mod JoinSteps
 pub mod Halves
 pub mod SmallPlans
+pub mod RowKeys
+pub mod Besides
+pub mod BatchPlans

@@ -4,3 +4,4 @@ pub mod Sowing
 pub mod Replacing
 pub mod Carrying
 pub mod Listed
+pub mod Beside

@@ -15,11 +15,13 @@
 //!
 //! The edits of a batch may come in any order, and of one key more than once. [`normal_edits`]
 //! sorts them and keeps the last one of each key; [`edited_pairs`] returns the pairs of the map
-//! after them. [`plans_can_be_met`] shows plans that can be carried out.
+//! after them. [`plans_beside`] says which plan makes only what does not stand yet, and
+//! [`plans_can_be_met`] shows plans that can be carried out.
 //!
 //! In `specs/`: `Listed`, edits that a list points at; `Plans`, which tree a plan is, what it keeps
 //! and what it takes; `Sowing`, what is written; `Kept`, which nodes are kept and which rows fall;
-//! `Replacing` and `Carrying`, a plan in place of the tree that stands, and of a change of the map.
+//! `Replacing` and `Carrying`, a plan in place of the tree that stands, and of a change of the map;
+//! `Beside`, the plan of a tree beside the one that stands.
 #![tactic(auto)]
 
 mod carrying;
@@ -34,7 +36,7 @@ mod tests;
 
 pub use carrying::carry_out;
 pub use felling::fell_beside;
-pub use laws::plans_can_be_met;
+pub use laws::{plans_beside, plans_can_be_met};
 pub use merging::{edited_pairs, normal_edits};
 pub use plan::{Plan, PlanEntry, PlanNode};
 pub use replacing::replace;

@@ -1,0 +1,71 @@
+-- The plan of the map after a batch, beside the tree that stands.
+use Rattle.std.proofs.Common.{◌≡◌, ℕ, ◌<◌, Bool, List, sym, ◌∙◌, ap, subst}
+use Rattle.std.specs.Prelude.{◌^◌}
+use Rattle.std.specs.List.{AllByRecursion}
+use Rattle.mst_key.specs.History.{batched, IsSmall}
+use Rattle.mst_key.specs.Map.{Pair, IsAscending}
+use Rattle.mst_key.specs.declared.format.Format.{Format}
+use Rattle.mst_key.specs.declared.history.Edit.{Edit}
+use Rattle.mst_key.proofs.Ascending.{IsAscending-batched}
+use Rattle.mst_key.proofs.HistoryLaws.{IsMap-batched}
+use Rattle.mst_node.specs.Cost.{cost}
+use Rattle.mst_node.specs.Tree.{Tree, tree, pairs}
+use Rattle.mst_node.proofs.UniqueTree.{pairs_tree, tree_mst}
+use Rattle.mst_arena.specs.Content.{Content}
+use Rattle.mst_arena.specs.Lives.{State}
+use Rattle.mst_arena.specs.Standing.{Placed, tree_of, used, Stands, numbers}
+use Rattle.mst_arena.specs.declared.row.Root.{Root}
+use Rattle.mst_change.specs.Batch.{rows_beside}
+use Rattle.mst_change.proofs.Batch.{beside_cost}
+use Rattle.mst_path.specs.Changing.{AreOld}
+use Rattle.mst_path.proofs.lemmas.versions.Changes.{distinct_times, mst_of, one_standing}
+use Rattle.mst_batch.specs.Beside.{node_at, plan_beside, AreMarks}
+use Rattle.mst_batch.specs.Carrying.{IsPlanOf}
+use Rattle.mst_batch.specs.Plans.{rows_planned}
+use Rattle.mst_batch.specs.Replacing.{Keeps}
+use Rattle.mst_batch.proofs.Besides.{plan_is, plan_rows, plan_possible, plan_keeps}
+
+module _ (format : Format) (content : Content) (root : Root) (es : List Edit) (m : List Pair)
+    (st : Stands format content root m) where
+  abbrev after : Tree
+  after = tree format (batched m es)
+
+  pub its_rows : rows_planned (plan_beside format st.tree.placed after)
+      ≡ cost format m (batched m es)
+  its_rows = plan_rows format content st.tree.placed st.tree.rows after
+      ∙ ap (λ (u : Tree). rows_beside u after) st.tree.is ∙ beside_cost (tree format m) after
+
+  -- one map stands at a root
+  one_map : (n : List Pair) → Stands format content root n → m ≡ n
+  one_map n other = sym (pairs_tree format m)
+      ∙ ap pairs (sym st.tree.is
+      ∙ ap (tree_of format) (one_standing format content root m n st other)
+      ∙ other.tree.is)
+      ∙ pairs_tree format n
+
+  pub is_plan : (s : State) (marks : List Bool) → AreOld s (numbers st) → AllByRecursion IsSmall es
+      → cost format m (batched m es) < 2 ^ 32
+      → AreMarks marks (plan_beside format st.tree.placed after)
+      → IsPlanOf format content s root marks (plan_beside format st.tree.placed after)
+      (λ n. batched n es)
+  is_plan s marks old small few only = record {
+    at = λ link. node_at st.tree.placed link;
+    fits = λ n map. IsMap-batched n es map small;
+    possible = plan_possible format content st.tree.placed st.tree.rows s old
+        (mst_of format st.tree.placed m st.tree.is)
+        (distinct_times (used st.tree.placed) st.tree.once) after
+        (tree_mst format (batched m es))
+        (subst IsAscending (sym (pairs_tree format (batched m es)))
+        (IsAscending-batched m es st.map.ascending));
+    few = subst (λ (n : ℕ). n < 2 ^ 32) (sym its_rows) few;
+    keeps = λ n other.
+        subst (λ (p : Placed). Keeps (λ link. node_at st.tree.placed link) marks p
+        (plan_beside format st.tree.placed after))
+        (one_standing format content root m n st other)
+        (plan_keeps format content st.tree.placed st.tree.rows marks after only);
+    is = λ n other.
+        plan_is format content st.tree.placed st.tree.rows after (tree_mst format (batched m es))
+        ∙ ap (λ (k : List Pair). tree format (batched k es)) (one_map n other);
+    rows = λ n other.
+        its_rows ∙ ap (λ (k : List Pair). cost format k (batched k es)) (one_map n other);
+  }

@@ -1,0 +1,14 @@
+use Rattle.mst_batch.proofs.Besides.{plan_is}
+use Rattle.mst_batch.proofs.BatchPlans.{its_rows, is_plan}
+use Rattle.mst_batch.proofs.laws.plans_beside.Goals as goal
+
+pub returns-clause-tree : goal.returns-clause-tree
+returns-clause-tree c format content root m stands t mst =
+    plan_is format content stands.tree.placed stands.tree.rows t mst
+
+pub returns-clause-rows : goal.returns-clause-rows
+returns-clause-rows c format content root m stands es = its_rows format content root es m stands
+
+pub returns-clause-plan : goal.returns-clause-plan
+returns-clause-plan c format content s root marks es m stands old small few only =
+    is_plan format content root es m stands s marks old small few only

@@ -1,0 +1,54 @@
+-- The plan of a tree beside one that stands: each of its nodes that stands there is kept where it
+-- stands, and each other is made.
+use Rattle.std.specs.Prelude.{◌≡◌, ◌+◌, ◌↔◌, ℕ, eqb, Bool, true, if◌then◌else◌, List, [], ◌∷◌, ◌++◌}
+use Rattle.mst_key.specs.declared.format.Format.{Format}
+use Rattle.mst_node.specs.Cost.{same_tree, is_subtree}
+use Rattle.mst_node.specs.Tree as tree
+use Rattle.mst_node.specs.Tree.{Tree, Entries}
+use Rattle.mst_arena.specs.Lists.{In}
+use Rattle.mst_arena.specs.Standing.{Placed, none, tree_of, link_of}
+use Rattle.mst_path.specs.Ages.{placed_nodes}
+use Rattle.mst_batch.specs.Kept.{is_marked}
+use Rattle.mst_batch.specs.Plans.{PlanTree, PlanEntries, kept, made, last, entry}
+
+-- the link of the first of these nodes whose tree this is, 0 if it is none's
+abbrev pub link_among : Format → List Placed → Tree → ℕ
+link_among format [] t = 0
+link_among format (p ∷ ps) t =
+    if same_tree t (tree_of format p) then link_of p else link_among format ps t
+
+-- the first of these nodes that stands at the link
+abbrev pub node_among : List Placed → ℕ → Placed
+node_among [] link = none
+node_among (p ∷ ps) link = if eqb (link_of p) link then p else node_among ps link
+
+-- the node of a tree that stands at a link
+abbrev pub node_at : Placed → ℕ → Placed
+node_at whole link = node_among (placed_nodes whole) link
+
+abbrev mutual
+  pub plan_beside : Format → Placed → Tree → PlanTree
+  plan_beside format whole tree.empty = kept 0
+  plan_beside format whole (tree.node g l es) =
+      if is_subtree (tree.node g l es) (tree_of format whole)
+      then kept (link_among format (placed_nodes whole) (tree.node g l es))
+      else made l (entries_beside format whole es)
+
+  pub entries_beside : Format → Placed → Entries → PlanEntries
+  entries_beside format whole (tree.last child) = last (plan_beside format whole child)
+  entries_beside format whole (tree.entry child key value rest) =
+      entry (plan_beside format whole child) key value (entries_beside format whole rest)
+
+-- the links of the trees that a plan keeps
+abbrev mutual
+  pub links_kept : PlanTree → List ℕ
+  links_kept (kept link) = link ∷ []
+  links_kept (made layer es) = entries_links es
+
+  pub entries_links : PlanEntries → List ℕ
+  entries_links (last child) = links_kept child
+  entries_links (entry child key value rest) = links_kept child ++ entries_links rest
+
+-- there is a mark at the row of the head of each tree that the plan keeps, and no other
+abbrev pub AreMarks : List Bool → PlanTree → Type 0
+AreMarks marks plan = (row : ℕ) → (is_marked marks row ≡ true) ↔ In (row + 1) (links_kept plan)
