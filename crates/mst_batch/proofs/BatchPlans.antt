@@ -69,3 +69,9 @@ module _ (format : Format) (content : Content) (root : Root) (es : List Edit) (m
     rows = λ n other.
         its_rows ∙ ap (λ (k : List Pair). cost format k (batched k es)) (one_map n other);
   }
+
+-- the keys of the tree that stands rise
+pub whole_rises : (format : Format) (content : Content) (root : Root) (m : List Pair)
+    (st : Stands format content root m) → IsAscending (pairs (tree_of format st.tree.placed))
+whole_rises format content root m st =
+    subst IsAscending (sym (ap pairs st.tree.is ∙ pairs_tree format m)) st.map.ascending

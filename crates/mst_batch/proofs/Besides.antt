@@ -36,7 +36,7 @@ use Rattle.mst_batch.proofs.RowKeys.{keyed, keyed-append, keyed_once, Fewer, key
 -- ---- a node is found by its link
 
 -- what the node that is found has
-abbrev FoundAmong : List Placed → ℕ → Placed → Type 0
+abbrev pub FoundAmong : List Placed → ℕ → Placed → Type 0
 FoundAmong ps link q = Contains ps q × (link_of q ≡ link)
 
 found_now : (b : Bool) (r p : Placed) (ps : List Placed) → eqb (link_of r) (link_of p) ≡ b
@@ -51,7 +51,7 @@ found_now false r p ps e (inr later) more =
     let f = more later in
     (contains-later r ps (node_among ps (link_of p)) f.0, f.1)
 
-node_found : (ps : List Placed) (p : Placed) → Contains ps p
+pub node_found : (ps : List Placed) (p : Placed) → Contains ps p
     → FoundAmong ps (link_of p) (node_among ps (link_of p))
 node_found [] p has = absurd (contains-nothing p has)
 node_found (r ∷ ps) p has =
@@ -108,7 +108,7 @@ module _ (format : Format) where
   -- ---- the nodes of a tree that stands stand
 
   mutual
-    node_rows : (content : Content) (p q : Placed) → Contains (placed_nodes p) q
+    pub node_rows : (content : Content) (p q : Placed) → Contains (placed_nodes p) q
         → HasRows content (rows_of format p) → HasRows content (rows_of format q)
     node_rows content none q has rows = absurd (contains-nothing q has)
     node_rows content (head at layer chain) q has rows =
@@ -166,19 +166,19 @@ kept_if at x false link plan n here below = below
 
 module _ (format : Format) (content : Content) (whole : Placed)
     (has : HasRows content (rows_of format whole)) where
-  abbrev at : ℕ → Placed
+  abbrev pub at : ℕ → Placed
   at link = node_at whole link
 
-  abbrev old : Tree
+  abbrev pub old : Tree
   old = tree_of format whole
 
   -- the node of the tree that a kept link leads to
-  abbrev Found : Tree → ℕ → Type 0
+  abbrev pub Found : Tree → ℕ → Type 0
   Found t link =
       Contains (placed_nodes whole) (at link) × (link_of (at link) ≡ link)
       × (tree_of format (at link) ≡ t)
 
-  found : (t : Tree) → is_subtree t old ≡ true
+  pub found : (t : Tree) → is_subtree t old ≡ true
       → Found t (link_among format (placed_nodes whole) t)
   found t is =
       let r = first_of_tree format t (placed_nodes whole)
@@ -190,7 +190,7 @@ module _ (format : Format) (content : Content) (whole : Placed)
       (node_rows format content whole r.0 r.1 has) in
       subst (Found t) (sym r.3) (f.0, f.1, ap (tree_of format) same ∙ r.2)
 
-  nothing_at : at 0 ≡ none
+  pub nothing_at : at 0 ≡ none
   nothing_at = none_among (placed_nodes whole)
 
   -- ---- its tree, and its rows
@@ -206,7 +206,7 @@ module _ (format : Format) (content : Content) (whole : Placed)
         (λ is. (found (tree.node g l es) is).2)
         (λ i. tree.node (sym mst.0 i) l (entries_is l es mst.2 i))
 
-    entries_is : (l : ℕ) (es : Entries) → IsMstEntries format l es
+    pub entries_is : (l : ℕ) (es : Entries) → IsMstEntries format l es
         → entries_planned format at (entries_beside format whole es) ≡ es
     entries_is l (tree.last child) mst = ap tree.last (plan_is child mst.1)
     entries_is l (tree.entry child key value rest) mst =

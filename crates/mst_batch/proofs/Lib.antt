@@ -13,3 +13,4 @@ pub mod SmallPlans
 pub mod RowKeys
 pub mod Besides
 pub mod BatchPlans
+pub mod Homes

@@ -1,12 +1,14 @@
 -- The plan of a tree beside one that stands: each of its nodes that stands there is kept where it
 -- stands, and each other is made.
-use Rattle.std.specs.Prelude.{◌≡◌, ◌+◌, ◌↔◌, ℕ, eqb, Bool, true, if◌then◌else◌, List, [], ◌∷◌, ◌++◌}
+use Rattle.std.specs.Prelude.{◌≡◌, ◌+◌, ◌↔◌, ℕ, eqb, Bool, true, if◌then◌else◌, List, [], ◌∷◌, ◌++◌, Contains}
 use Rattle.mst_key.specs.declared.format.Format.{Format}
+use Rattle.mst_key.specs.Map.{key_cmp}
 use Rattle.mst_node.specs.Cost.{same_tree, is_subtree}
+use Rattle.mst_node.specs.Trail.{by_order}
 use Rattle.mst_node.specs.Tree as tree
 use Rattle.mst_node.specs.Tree.{Tree, Entries}
 use Rattle.mst_arena.specs.Lists.{In}
-use Rattle.mst_arena.specs.Standing.{Placed, none, tree_of, link_of}
+use Rattle.mst_arena.specs.Standing.{Placed, none, head, Chain, end, cell, tree_of, link_of}
 use Rattle.mst_path.specs.Ages.{placed_nodes}
 use Rattle.mst_batch.specs.Kept.{is_marked}
 use Rattle.mst_batch.specs.Plans.{PlanTree, PlanEntries, kept, made, last, entry}
@@ -52,3 +54,29 @@ abbrev mutual
 -- there is a mark at the row of the head of each tree that the plan keeps, and no other
 abbrev pub AreMarks : List Bool → PlanTree → Type 0
 AreMarks marks plan = (row : ℕ) → (is_marked marks row ≡ true) ↔ In (row + 1) (links_kept plan)
+
+-- ---- the node that has a key
+
+-- the link of the node of a placed tree of which the key is that of an entry, 0 if there is none
+abbrev mutual
+  pub link_of_key : List ℕ → Placed → ℕ
+  link_of_key q none = 0
+  link_of_key q (head at layer chain) = chain_link q (at + 1) chain
+
+  pub chain_link : List ℕ → ℕ → Chain → ℕ
+  chain_link q here (end child) = link_of_key q child
+  chain_link q here (cell at child key value rest) =
+      by_order (key_cmp q key) (link_of_key q child) here (chain_link q here rest)
+
+-- the entries of a node that stands, with each tree before and after them kept
+abbrev pub kept_entries : Chain → PlanEntries
+kept_entries (end child) = last (kept (link_of child))
+kept_entries (cell at child key value rest) =
+    entry (kept (link_of child)) key value (kept_entries rest)
+
+-- a node of the tree stands at the link, of this layer, and these are its entries, with each tree
+-- before and after them kept
+abbrev pub Matches : Placed → ℕ → ℕ → PlanEntries → Type 0
+Matches whole link layer es = (row : ℕ) × (chain : Chain)
+    × Contains (placed_nodes whole) (head row layer chain) × (row + 1 ≡ link)
+    × (es ≡ kept_entries chain)

@@ -9,13 +9,14 @@ ghost use Rattle.mst_key.specs.declared.format.Format.{Format};
 ghost use Rattle.mst_key.specs.declared.history.Edit.{Edit};
 ghost use Rattle.mst_key.specs.declared.history.Edit.TheVariants as edit;
 ghost use Rattle.mst_node.specs.Cost.{cost};
-ghost use Rattle.mst_node.specs.Tree.{Tree, tree, IsMst};
+ghost use Rattle.mst_node.specs.Tree.{Tree, Entries, node, tree, IsMst};
+ghost use Rattle.mst_change.specs.Batch.{HasEntry};
 ghost use Rattle.mst_arena.specs.Content.{Content};
 ghost use Rattle.mst_arena.specs.Lives.{State};
 ghost use Rattle.mst_arena.specs.Standing.{Stands, numbers};
 ghost use Rattle.mst_arena.specs.declared.row.Root.{Root};
 ghost use Rattle.mst_path.specs.Changing.{AreOld, MapStands};
-ghost use Rattle.mst_batch.specs.Beside.{node_at, plan_beside, AreMarks};
+ghost use Rattle.mst_batch.specs.Beside.{node_at, plan_beside, entries_beside, link_of_key, AreMarks, Matches};
 ghost use Rattle.mst_batch.specs.Carrying.{IsPlanOf};
 ghost use Rattle.mst_batch.specs.Kept.{is_marked};
 ghost use Rattle.mst_batch.specs.Plans.{kept, made, last, entry, rows_planned, tree_planned};
@@ -59,4 +60,19 @@ pub fn plans_beside()
         → AreMarks marks (plan_beside format stands.tree.placed (tree format (batched m es)))
         → IsPlanOf format content s root marks
         (plan_beside format stands.tree.placed (tree format (batched m es))) (λ n. batched n es) }
+    // which of its nodes stand is decided by one look-up of a key of theirs
+    ensures stays { (format : Format) (content : Content) (root : Root) (m : List Pair)
+        (stands : Stands format content root m) (l : ℕ) (es : Entries) (q : List ℕ)
+        → HasEntry q es → IsMst format (node format l es)
+        → Matches stands.tree.placed (link_of_key q stands.tree.placed) l
+        (entries_beside format stands.tree.placed es)
+        → plan_beside format stands.tree.placed (node format l es)
+        ≡ kept (link_of_key q stands.tree.placed) }
+    ensures made { (format : Format) (content : Content) (root : Root) (m : List Pair)
+        (stands : Stands format content root m) (l : ℕ) (es : Entries) (q : List ℕ)
+        → HasEntry q es → IsMst format (node format l es)
+        → (Matches stands.tree.placed (link_of_key q stands.tree.placed) l
+        (entries_beside format stands.tree.placed es) → ⊥)
+        → plan_beside format stands.tree.placed (node format l es)
+        ≡ made l (entries_beside format stands.tree.placed es) }
 {}
