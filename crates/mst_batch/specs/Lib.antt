@@ -5,3 +5,6 @@ pub mod Replacing
 pub mod Carrying
 pub mod Listed
 pub mod Beside
+pub mod Items
+pub mod Opening
+pub mod Applying

@@ -24,17 +24,27 @@
 //! `Beside`, the plan of a tree beside the one that stands.
 #![tactic(auto)]
 
+mod applying;
+mod building;
 mod carrying;
+mod faults;
 mod felling;
+mod items;
 mod laws;
+mod marking;
 mod merging;
+mod opening;
 mod plan;
+mod planning;
 mod replacing;
+mod sharing;
 mod sowing;
 #[cfg(test)]
 mod tests;
 
+pub use applying::apply;
 pub use carrying::carry_out;
+pub use faults::NotApplied;
 pub use felling::fell_beside;
 pub use laws::{plans_beside, plans_can_be_met};
 pub use merging::{edited_pairs, normal_edits};

@@ -27,9 +27,10 @@ mod proving;
 mod ranges;
 mod roots;
 
+pub use descent::head_at;
 pub use following::{next, next_below};
 pub use laws::each_map_may_be_read;
-pub use lookup::{get, get_below};
+pub use lookup::{Place, get, get_below, seek};
 pub use proving::{prove, prove_below};
 pub use ranges::{range, range_below};
 pub use roots::root;

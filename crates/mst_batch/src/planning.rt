@@ -1,0 +1,38 @@
+//! The plan of a batch of edits.
+ghost use Rattle.std.specs.Prelude.{◌≡◌, ℕ, List, IfOk};
+ghost use Rattle.mst_key.specs.History.{batched};
+ghost use Rattle.mst_key.specs.Map.{Pair};
+ghost use Rattle.mst_node.specs.Tree.{tree};
+ghost use Rattle.mst_arena.specs.Standing.{Stands};
+ghost use Rattle.mst_batch.specs.Beside.{plan_beside};
+ghost use Rattle.mst_batch.specs.Plans.{plan_of};
+
+use crate::building::build;
+use crate::merging::normal_edits;
+use crate::opening::open;
+use crate::plan::{Plan, PlanNode};
+use mst_arena::{Root, Rows};
+use mst_key::{Edit, Format, Memory};
+use std::alloc::Allocator;
+
+/// The plan of the map that stands at a root as a tree of a format after a batch of edits, beside
+/// that tree.
+pub(crate) fn find_plan<R: Rows, B: Allocator + Copy>(
+    rows: &mut R,
+    alloc: B,
+    root: &Root,
+    edits: &[Edit],
+    format: Format,
+) -> Result<Plan<Box<PlanNode<B>, B>>, Memory>
+    requires stands { (m : List Pair) × Stands format (R.content rows.old) root.now m }
+    ensures plan { IfOk result (λ plan. (m : List Pair)
+        (stands : Stands format (R.content rows.old) root.now m)
+        → plan_of plan ≡ plan_beside format stands.tree.placed
+        (tree format (batched m edits.now))) }
+    ensures same { rows.new ≡ rows.old }
+{
+    let normal = normal_edits(alloc, edits)?;
+    let mut items = Vec::new(alloc);
+    open(rows, format, root.link, normal.as_slice(), &mut items)?;
+    build(rows, alloc, root, items.as_slice())
+}
