@@ -14,3 +14,7 @@ pub mod RowKeys
 pub mod Besides
 pub mod BatchPlans
 pub mod Homes
+pub mod Heads
+pub mod KeyLinks
+pub mod SameNodes
+pub mod NodeChoices

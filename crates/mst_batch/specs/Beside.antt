@@ -9,9 +9,10 @@ use Rattle.mst_node.specs.Tree as tree
 use Rattle.mst_node.specs.Tree.{Tree, Entries}
 use Rattle.mst_arena.specs.Lists.{In}
 use Rattle.mst_arena.specs.Standing.{Placed, none, head, Chain, end, cell, tree_of, link_of}
+use Rattle.mst_arena.specs.declared.row.EntryLinks.{EntryLinks}
 use Rattle.mst_path.specs.Ages.{placed_nodes}
 use Rattle.mst_batch.specs.Kept.{is_marked}
-use Rattle.mst_batch.specs.Plans.{PlanTree, PlanEntries, kept, made, last, entry}
+use Rattle.mst_batch.specs.Plans.{PlanTree, PlanEntries, PlannedEntry, kept, made, last, entry}
 
 -- the link of the first of these nodes whose tree this is, 0 if it is none's
 abbrev pub link_among : Format → List Placed → Tree → ℕ
@@ -73,6 +74,15 @@ abbrev pub kept_entries : Chain → PlanEntries
 kept_entries (end child) = last (kept (link_of child))
 kept_entries (cell at child key value rest) =
     entry (kept (link_of child)) key value (kept_entries rest)
+
+-- an entry that stands with these links and this value, with the tree before it kept
+abbrev pub kept_entry : EntryLinks → List ℕ → PlannedEntry
+kept_entry links value = record { child = kept links.child; key = links.key; value = value }
+
+-- a node that stands, with each tree below it kept; nothing at link 0
+abbrev pub kept_node : Placed → PlanTree
+kept_node none = kept 0
+kept_node (head at layer chain) = made layer (kept_entries chain)
 
 -- a node of the tree stands at the link, of this layer, and these are its entries, with each tree
 -- before and after them kept

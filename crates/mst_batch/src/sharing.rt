@@ -1,29 +1,31 @@
 //! Which nodes of the tree after a batch stand already.
-ghost use Rattle.std.specs.Prelude.{◌≡◌, ℕ, List, Bool, true, IfOk};
+ghost use Rattle.std.specs.Prelude.{◌≡◌, ◌↔◌, ℕ, List, true, map, Some, IsSome, IfOk};
 ghost use Rattle.mst_key.specs.declared.format.Format.{Format};
 ghost use Rattle.mst_key.specs.Map.{Pair};
 ghost use Rattle.mst_node.specs.Tree.{Entries, node as tree_node, IsMst};
-ghost use Rattle.mst_arena.specs.Standing.{Placed, Stands};
-ghost use Rattle.mst_read.specs.Search.{Lies, TreeLies, MapStands};
-ghost use Rattle.mst_batch.specs.Beside.{plan_beside, entries_beside, link_of_key, Matches};
-ghost use Rattle.mst_batch.specs.Plans.{PlanEntries, plan_of, plan_of_node, made};
+ghost use Rattle.mst_arena.specs.Content.{part_at};
+ghost use Rattle.mst_arena.specs.Row.{entry_value};
+ghost use Rattle.mst_arena.specs.Standing.{Placed, Chain, Stands};
+ghost use Rattle.mst_read.specs.Search.{Lies, LiesBehind, TreeLies, ChainLies, MapStands};
+ghost use Rattle.mst_batch.specs.Beside.{plan_beside, entries_beside, link_of_key, kept_entry, kept_entries, kept_node};
+ghost use Rattle.mst_batch.specs.Plans.{plan_of, plan_of_node, planned_entry, with_planned, kept, made, last};
 
-use crate::plan::{Plan, PlanNode};
-use mst_arena::{Root, Rows, Sought};
+use crate::plan::{Plan, PlanEntry, PlanNode};
+use mst_arena::{EntryLinks, HeadLinks, Root, Rows, Sought};
 use mst_key::Memory;
 use mst_read::{Place, head_at, seek};
 use std::alloc::Allocator;
 
-/// The link of the node of the tree at a link of which the key is that of an entry, 0 if there is
-/// none. It reads along the path to the key.
-fn link_of<R: Rows>(rows: &mut R, link: u32, key: &Sought) -> u32
-    requires lies { TreeLies (R.content rows.old) link }
-    ensures link { (f : Format) (p : Placed) → Lies f (R.content rows.old) link p
-        → result ≡ link_of_key key.now p }
+/// The link of the node of which the key is that of an entry, 0 if there is none. It reads along
+/// the path to the key.
+fn link_of<R: Rows>(rows: &mut R, root: &Root, key: &Sought) -> u32
+    requires stands { MapStands (R.content rows.old) root.now }
+    ensures link { (f : Format) (m : List Pair) (stands : Stands f (R.content rows.old) root.now m)
+        → result ≡ link_of_key key.now stands.tree.placed }
     ensures same { rows.new ≡ rows.old }
 {
-    let mut at = link;
-    let mut top = head_at(rows, link);
+    let mut at = root.link;
+    let mut top = head_at(rows, at);
     while let Some(head) = top {
         match seek(rows, &head, key) {
             Place::Held(_) => return at,
@@ -36,11 +38,73 @@ fn link_of<R: Rows>(rows: &mut R, link: u32, key: &Sought) -> u32
     0
 }
 
-/// Whether the node that stands at a link, not 0, is the one to be made.
-fn matches<R: Rows, B: Allocator>(rows: &mut R, link: u32, node: &PlanNode<B>) -> bool
+/// Whether a plan keeps the tree at a link.
+fn keeps<B: Allocator>(plan: &Plan<Box<PlanNode<B>, B>>, link: u32) -> bool
+    ensures keeps { (result ≡ true) ↔ (plan_of plan.now ≡ kept link) }
+{
+    match plan {
+        Plan::Kept(own) => *own == link,
+        Plan::Made(_) => false,
+    }
+}
+
+/// Whether an entry is the one to be made, with the tree before it kept. Its links were read at the
+/// row.
+fn is_entry<R: Rows, B: Allocator>(
+    rows: &mut R,
+    row: u32,
+    links: &EntryLinks,
+    entry: &PlanEntry<B>,
+) -> bool
+    requires there { IsSome (part_at entry_value (R.content rows.old) row) }
+    ensures entry { (value : List ℕ) → part_at entry_value (R.content rows.old) row ≡ Some value
+        → (result ≡ true) ↔ (planned_entry entry.now ≡ kept_entry links.now value) }
     ensures same { rows.new ≡ rows.old }
 {
-    false
+    keeps(&entry.child, links.child) && entry.key == links.key && entry.value == rows.value(row)
+}
+
+/// Whether the entries of a node of which the head was read are those to be made, with each tree
+/// before and after them kept.
+fn has_entries<R: Rows, B: Allocator>(
+    rows: &mut R,
+    head: &HeadLinks,
+    entries: &[PlanEntry<B>],
+    tail: &Plan<Box<PlanNode<B>, B>>,
+) -> bool
+    requires lies { ChainLies (R.content rows.old) head.now }
+    ensures entries { (f : Format) (c : Chain) → LiesBehind f (R.content rows.old) head.now c
+        → (result ≡ true) ↔ (with_planned (map planned_entry entries.now)
+        (last (plan_of tail.now)) ≡ kept_entries c) }
+    ensures same { rows.new ≡ rows.old }
+{
+    if entries.len() != head.count as usize {
+        return false;
+    }
+    let mut next = head.first;
+    for entry in entries {
+        let row = next - 1;
+        let links = rows.entry(row);
+        if !is_entry(rows, row, &links, entry) {
+            return false;
+        }
+        next = links.next;
+    }
+    keeps(tail, head.tail)
+}
+
+/// Whether the node that stands at a link is the one to be made, with each tree below it kept. At
+/// link 0 is none.
+fn matches<R: Rows, B: Allocator>(rows: &mut R, link: u32, node: &PlanNode<B>) -> bool
+    requires lies { TreeLies (R.content rows.old) link }
+    ensures node { (f : Format) (p : Placed) → Lies f (R.content rows.old) link p
+        → (result ≡ true) ↔ (plan_of_node node.now ≡ kept_node p) }
+    ensures same { rows.new ≡ rows.old }
+{
+    let Some(head) = head_at(rows, link) else {
+        return false;
+    };
+    node.layer == head.layer && has_entries(rows, &head, node.entries.as_slice(), &node.tail)
 }
 
 /// The plan of a node to be made, with the plans below it found: the node that stands, if one is
@@ -65,7 +129,7 @@ pub(crate) fn shared<R: Rows, B: Allocator>(
     let Some(first) = node.entries.first() else {
         unreachable!()
     };
-    let link = link_of(rows, root.link, &Sought::new(&first.key));
+    let link = link_of(rows, root, &Sought::new(&first.key));
     if matches(rows, link, &node) {
         return Ok(Plan::Kept(link));
     }

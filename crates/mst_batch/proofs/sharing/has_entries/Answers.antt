@@ -1,0 +1,53 @@
+use Rattle.std.proofs.Common.{◌-◌, length, ◌∙◌, ap}
+use Rattle.mst_key.specs.declared.format.Format.{Format}
+use Rattle.mst_arena.specs.Row.{entry_value}
+use Rattle.mst_arena.specs.Standing.{Chain}
+use Rattle.mst_read.specs.Search.{LiesBehind}
+use Rattle.mst_read.proofs.Still.{read_still}
+use Rattle.mst_read.proofs.Walk.{AtCell, at_cell}
+use Rattle.mst_batch.specs.Plans.{plan_of}
+use Rattle.mst_batch.proofs.SameNodes.{IsSameFrom, other_count, value_at, one_more, not_all}
+use Rattle.mst_batch.proofs.sharing.has_entries.Given.{Over}
+use Rattle.mst_batch.proofs.sharing.has_entries.Goals.{After-entry-links}
+use Rattle.mst_batch.proofs.sharing.has_entries.Goals as goal
+
+pub returns-then-entries-head-clause-entries : goal.returns-then-entries-head-clause-entries
+returns-then-entries-head-clause-entries g c f w lies =
+    other_count c.args.entries.now (plan_of c.args.tail.now) w lies c.if-entries-head.true
+
+-- ---- the next entry
+
+module _ (g : Over) (c : goal.After-entry-links g) (f : Format) (w : Chain)
+    (lies : LiesBehind f (g.R.Rows.content c.args.rows.now) c.args.head.now w) where
+  here : AtCell f (g.R.Rows.content c.args.rows.now) c.args.head.now.tail (c.loop-entry.next - 1)
+      c.loop-entry.entry-index (length c.args.entries.now) c.entry-links.result
+      (IsSameFrom c.args.entries.now (plan_of c.args.tail.now) w c.loop-entry.entry-index)
+  here = at_cell (c.loop-entry.invariant.onward f w lies) c.loop-entry-test.true
+      (ap g.R.Rows.content c.loop-entry.invariant.same) c.entry-links.ensures.value
+
+pub returns-then-not-is_entry-clause-entries : goal.returns-then-not-is_entry-clause-entries
+returns-then-not-is_entry-clause-entries g c f w lies =
+    let at = (goal.at.returns-then-not-is_entry-clause-entries g c).After-entry-links in
+    let a = here g at f w lies in
+    not_all c.args.entries.now (plan_of c.args.tail.now) w a c.entry-item.result
+    c.loop-entry-test.true c.entry-item.is
+    (c.is_entry.ensures.entry a.value
+    (read_still (ap g.R.Rows.content (c.entry-links.ensures.same ∙ c.loop-entry.invariant.same))
+    entry_value (c.loop-entry.next - 1)
+    (value_at c.args.entries.now (plan_of c.args.tail.now) w a)))
+    c.if-not-is_entry.true
+
+pub loop-entry-preserved : goal.loop-entry-preserved
+loop-entry-preserved g c = record {
+  same = c.is_entry.ensures.same ∙ c.entry-links.ensures.same ∙ c.loop-entry.invariant.same;
+  onward = λ f w lies.
+      let at = (goal.at.loop-entry-preserved g c).After-entry-links in
+      let a = here g at f w lies in
+      one_more c.args.entries.now (plan_of c.args.tail.now) w a c.entry-item.result
+      c.loop-entry-test.true c.entry-item.is
+      ((c.is_entry.ensures.entry a.value
+      (read_still
+      (ap g.R.Rows.content (c.entry-links.ensures.same ∙ c.loop-entry.invariant.same))
+      entry_value (c.loop-entry.next - 1)
+      (value_at c.args.entries.now (plan_of c.args.tail.now) w a))).0 c.if-not-is_entry.false);
+}

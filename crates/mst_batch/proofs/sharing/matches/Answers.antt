@@ -1,0 +1,29 @@
+use Rattle.std.proofs.Common.{◌≡◌, true, List, map, sym, ◌∙◌, ap, subst}
+use Rattle.std.specs.Prelude.{◌↔◌}
+use Rattle.mst_read.proofs.Still.{behind_still}
+use Rattle.mst_batch.specs.Beside.{kept_entries}
+use Rattle.mst_batch.specs.Plans.{last, with_planned, planned_entry}
+use Rattle.mst_batch.specs.declared.plan.PlanEntry.{PlanEntry}
+use Rattle.mst_batch.proofs.Heads.{with_head}
+use Rattle.mst_batch.proofs.PlanShapes.{tail}
+use Rattle.mst_batch.proofs.SameNodes.{entries_decide}
+use Rattle.mst_batch.proofs.sharing.matches.Goals as goal
+
+pub has_entries-requires : goal.has_entries-requires
+has_entries-requires g c =
+    let z = c.requires.lies in
+    let h = with_head z.1 z.2.rows (sym (c.head_at.ensures.head z.0 z.1 z.2) ∙ c.in-Some.is) in
+    record {
+      lies = (z.0, h.chain, behind_still (ap g.R.Rows.content c.head_at.ensures.same) h.lies);
+    }
+
+pub returns-then-node-head-clause-node : goal.returns-then-node-head-clause-node
+returns-then-node-head-clause-node g c f p lies =
+    let h = with_head p lies.rows (sym (c.head_at.ensures.head f p lies) ∙ c.in-Some.is) in
+    entries_decide c.args.node.now h c.if-node-head.true
+    (subst (λ (xs : List (PlanEntry g.row.B.Denot)). (c.has_entries.result ≡ true)
+    ↔ (with_planned (map planned_entry xs) (last (tail g.row.B.Denot c.args.node.now))
+    ≡ kept_entries h.chain))
+    c.as_slice.ensures.value
+    (c.has_entries.ensures.entries f h.chain
+    (behind_still (ap g.R.Rows.content c.head_at.ensures.same) h.lies)))
