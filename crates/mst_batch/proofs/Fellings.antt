@@ -53,7 +53,7 @@ others_old s at xs dies old once r i = old_stays s (having_killed s at) [] (at �
 
 -- ---- a tree lower down
 
-lower : (format : Format) (content : Content) (layer : ℕ) (p : Placed) → HasRows content
+pub lower : (format : Format) (content : Content) (layer : ℕ) (p : Placed) → HasRows content
     (rows_of format p) → IsUnder layer (tree_of format p) → height_at content (link_of p) < layer
     + 1
 lower format content layer none has under = omega arith

@@ -36,7 +36,7 @@ own_node (head r k c) row layer chain is =
 
 -- a node of a node of a tree is a node of the tree
 mutual
-  node_below : (w p q : Placed) → Contains (placed_nodes w) p → Contains (placed_nodes p) q
+  pub node_below : (w p q : Placed) → Contains (placed_nodes w) p → Contains (placed_nodes p) q
       → Contains (placed_nodes w) q
   node_below none p q has below = absurd (contains-nothing p has)
   node_below (head at layer chain) p q has below =

@@ -18,3 +18,8 @@ pub mod Heads
 pub mod KeyLinks
 pub mod SameNodes
 pub mod NodeChoices
+pub mod BatchParts
+pub mod Openings
+pub mod OpeningSteps
+pub mod Ranges
+pub mod Puts

@@ -1,49 +1,124 @@
 //! The items of the tree after a batch: the nodes that an edit touches are opened.
-ghost use Rattle.std.specs.Prelude.{◌≡◌, ◌++◌, ◌⊎◌, ℕ, List, Contains, OnOk};
-ghost use Rattle.std.specs.List.{AllByRecursion};
+ghost use Rattle.std.specs.Prelude.{◌≡◌, ◌++◌, ◌≤◌, ℕ, length, take, drop, List, [], ◌∷◌, Some, IsSome, OnOk};
+ghost use Rattle.std.specs.List.{AllByRecursion, slice_range};
 ghost use Rattle.mst_key.specs.declared.format.Format.{Format};
-ghost use Rattle.mst_key.specs.Edits.{AreRising};
-ghost use Rattle.mst_key.specs.History.{batched};
-ghost use Rattle.mst_key.specs.Map.{Pair};
+ghost use Rattle.mst_key.specs.Edits.{AreAbove, AreRising};
+ghost use Rattle.mst_key.specs.History.{batched, key_of};
+ghost use Rattle.mst_key.specs.Layer.{layer_in};
 ghost use Rattle.mst_node.specs.Tree.{pairs};
+ghost use Rattle.mst_arena.specs.Content.{part_at};
+ghost use Rattle.mst_arena.specs.Row.{entry_value};
 ghost use Rattle.mst_arena.specs.Standing.{Placed, tree_of};
 ghost use Rattle.mst_batch.specs.Items.{items_pairs, IsItem};
-ghost use Rattle.mst_batch.specs.Listed.{listed};
-ghost use Rattle.mst_batch.specs.Opening.{PartOf};
+ghost use Rattle.mst_batch.specs.Listed.{listed, put_of};
+ghost use Rattle.mst_batch.specs.Opening.{PartOf, Adds, AreBelow, AreOf};
 
 use crate::items::Item;
-use mst_arena::{EntryLinks, Rows};
+use mst_arena::Rows;
 use mst_key::{Edit, Format, Key, Memory};
 use std::alloc::Allocator;
 
+/// Adds the tree at a link, if there is one.
 fn push_tree<R: Rows, A: Allocator>(
     rows: &mut R,
     link: u32,
     items: &mut Vec<Item, A>,
-) -> Result<(), Memory> {
+) -> Result<(), Memory>
+    requires part { (format : Format) × (whole : Placed)
+        × PartOf format (R.content rows.old) whole link }
+    ensures adds { OnOk result ((format : Format) (whole : Placed)
+        (part : PartOf format (R.content rows.old) whole link)
+        → Adds format whole items.old.items items.new.items
+        (pairs (tree_of format part.placed))) }
+    ensures same { rows.new ≡ rows.old }
+{
+    if link == 0 {
+        return Ok(());
+    }
+    let head = rows.head(link - 1);
+    items.push(Item::Subtree {
+        link,
+        layer: head.layer,
+    })?;
     Ok(())
 }
 
+/// Adds the pair that an edit puts, if it is a put. The layer is that of its key.
+fn push_put<A: Allocator>(edit: &Edit, layer: u8, items: &mut Vec<Item, A>) -> Result<(), Memory>
+    ensures adds { OnOk result ((format : Format) (whole : Placed)
+        → layer_in format (key_of edit.now) ≡ layer
+        → Adds format whole items.old.items items.new.items (put_of edit.now)) }
+{
+    if let Edit::Put(key, value) = edit {
+        items.push(Item::Pair {
+            key: key.copy(),
+            value: value.copy(),
+            layer,
+        })?;
+    }
+    Ok(())
+}
+
+/// Adds the pairs that edits whose keys rise put where there is no pair.
 fn push_puts<A: Allocator>(
     format: Format,
     edits: &[&Edit],
     items: &mut Vec<Item, A>,
-) -> Result<(), Memory> {
+) -> Result<(), Memory>
+    requires rising { AreRising (listed edits.now) }
+    ensures adds { OnOk result ((whole : Placed)
+        → Adds format whole items.old.items items.new.items (batched [] (listed edits.now))) }
+{
+    for edit in edits {
+        push_put(edit, edit.key().layer_in(format), items)?;
+    }
     Ok(())
 }
 
-fn split_below<'a, 'b>(edits: &'a [&'b Edit], key: &Key) -> (&'a [&'b Edit], &'a [&'b Edit]) {
-    (edits, edits)
+/// Where a key lies among edits whose keys rise: behind those of lesser keys, and before those of
+/// greater ones. In between is the edit of the key, if there is one.
+fn range_of(edits: &[&Edit], key: &Key) -> (usize, usize)
+    requires rising { AreRising (listed edits.now) }
+    ensures order { result.0 ≤ result.1 }
+    ensures within { result.1 ≤ length edits.now }
+    ensures before { AreBelow (listed (take result.0 edits.now)) key.now }
+    ensures own { AreOf (listed (slice_range edits.now result.0 result.1)) key.now }
+    ensures after { AreAbove (listed (drop result.1 edits.now)) key.now }
+{
+    let start = edits.partition_point(|edit| edit.key().cmp(key).is_lt());
+    let end = edits.partition_point(|edit| edit.key().cmp(key).is_le());
+    (start, end)
 }
 
-fn push_entry<'a, 'b, R: Rows, A: Allocator>(
+/// Adds the pair of an entry, or what the edit of its key puts, if there is one.
+fn push_entry<R: Rows, A: Allocator>(
     rows: &mut R,
     row: u32,
+    key: &Key,
     layer: u8,
-    edits: &'a [&'b Edit],
+    own: &[&Edit],
     items: &mut Vec<Item, A>,
-) -> Result<&'a [&'b Edit], Memory> {
-    Ok(edits)
+) -> Result<(), Memory>
+    requires there { IsSome (part_at entry_value (R.content rows.old) row) }
+    requires rising { AreRising (listed own.now) }
+    requires own { AreOf (listed own.now) key.now }
+    ensures adds { OnOk result ((format : Format) (whole : Placed) (value : List ℕ)
+        → layer_in format key.now ≡ layer
+        → part_at entry_value (R.content rows.old) row ≡ Some value
+        → Adds format whole items.old.items items.new.items
+        (batched ((key.now, value) ∷ []) (listed own.now))) }
+    ensures same { rows.new ≡ rows.old }
+{
+    if let [edit, ..] = own {
+        return push_put(edit, layer, items);
+    }
+    let value = rows.value(row);
+    items.push(Item::Pair {
+        key: key.copy(),
+        value,
+        layer,
+    })?;
+    Ok(())
 }
 
 /// Adds the items of the tree at a link after edits whose keys rise. A tree that no edit falls into
@@ -78,9 +153,17 @@ pub(crate) fn open<R: Rows, A: Allocator>(
     let mut left = edits;
     for _ in 0..head.count {
         let entry = rows.entry(next - 1);
-        let (before, rest) = split_below(left, &entry.key);
-        open(rows, format, entry.child, before, items)?;
-        left = push_entry(rows, next - 1, head.layer, rest, items)?;
+        let (start, end) = range_of(left, &entry.key);
+        open(rows, format, entry.child, &left[..start], items)?;
+        push_entry(
+            rows,
+            next - 1,
+            &entry.key,
+            head.layer,
+            &left[start..end],
+            items,
+        )?;
+        left = &left[end..];
         next = entry.next;
     }
     open(rows, format, head.tail, left, items)

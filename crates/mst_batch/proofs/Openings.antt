@@ -1,0 +1,254 @@
+-- Items added to a list, of an edit, of an entry and of a tree that stands; and the node at a link,
+-- which is to be opened.
+use Rattle.std.proofs.Common.{◌≡◌, ℕ, ◌+◌, ◌-◌, ◌<◌, ◌≤◌, ◌⊎◌, inl, inr, List, [], ◌∷◌, ◌++◌, length, get_or, Bor, Option, Some, IsSome, append_assoc, refl, sym, ◌∙◌, ap, subst, arith}
+use Rattle.std.specs.Prelude.{option_and_then, Contains}
+use Rattle.std.specs.List.{AllByRecursion}
+use Rattle.std.proofs.lemmas.List.{append-nil}
+use Rattle.std.proofs.lemmas.List.Elements.{Contains-append_cases}
+use Rattle.mst_key.specs.declared.format.Format.{Format}
+use Rattle.mst_key.specs.declared.history.Edit.{Edit}
+use Rattle.mst_key.specs.declared.history.Edit.TheVariants as edit
+use Rattle.mst_key.specs.Edits.{AreRising}
+use Rattle.mst_key.specs.History.{batched, key_of}
+use Rattle.mst_key.specs.Layer.{layer_in}
+use Rattle.mst_key.specs.Map.{Pair, IsAscending}
+use Rattle.mst_key.proofs.Alls.{alls-append}
+use Rattle.mst_key.proofs.SpanLaws.{contains-cases, contains-nothing}
+use Rattle.mst_node.specs.Tree.{pairs, entries_pairs, IsMst, IsMstEntries}
+use Rattle.mst_arena.specs.Content.{Content, part_at}
+use Rattle.mst_arena.specs.Row.{head_links}
+use Rattle.mst_arena.specs.declared.row.Row.{Row}
+use Rattle.mst_arena.specs.declared.row.HeadLinks.{HeadLinks}
+use Rattle.mst_arena.specs.Standing.{Placed, none, head, Chain, end, cell, tree_of, entries_of, link_of, first_of, tail_of, count_of, head_row}
+use Rattle.mst_arena.proofs.Stands.{one_placed}
+use Rattle.mst_change.proofs.Split.Trees.{rest_rises, child_rises}
+use Rattle.mst_path.specs.Ages.{placed_nodes, chain_nodes}
+use Rattle.mst_batch.specs.Beside.{node_at}
+use Rattle.mst_batch.specs.Items.{item_pairs, items_pairs, IsItem}
+use Rattle.mst_batch.specs.Listed.{listed, put_of}
+use Rattle.mst_batch.specs.Opening.{PartOf, Adds, AreOf}
+use Rattle.mst_batch.specs.declared.items.Item.{Item}
+use Rattle.mst_batch.specs.declared.items.Item.TheVariants as item
+use Rattle.mst_batch.proofs.BatchParts.{edited_own, one_of_key}
+use Rattle.mst_batch.proofs.Besides.{node_rows, node_found}
+use Rattle.mst_batch.proofs.Parts.{rest_of, first_and_rest, none_left}
+
+-- ---- lists of items
+
+module _ (format : Format) (whole : Placed) where
+  items-append : (xs ys : List Item) → items_pairs format whole (xs ++ ys)
+      ≡ items_pairs format whole xs ++ items_pairs format whole ys
+  items-append [] ys = refl
+  items-append (x ∷ xs) ys =
+      ap (λ (m : List Pair). item_pairs format whole x ++ m) (items-append xs ys)
+      ∙ sym (append_assoc (item_pairs format whole x) (items_pairs format whole xs)
+      (items_pairs format whole ys))
+
+  pub adds_none : (xs : List Item) → Adds format whole xs xs []
+  adds_none xs = record {
+    follow = sym (append-nil (items_pairs format whole xs));
+    each = λ all. all;
+  }
+
+  pub adds_one : (xs ys : List Item) (x : Item) → ys ≡ xs ++ x ∷ [] → IsItem format whole x
+      → Adds format whole xs ys (item_pairs format whole x)
+  adds_one xs ys x pushed is = record {
+    follow = ap (items_pairs format whole) pushed ∙ items-append xs (x ∷ [])
+        ∙ ap (λ (m : List Pair). items_pairs format whole xs ++ m)
+        (append-nil (item_pairs format whole x));
+    each = λ all. subst (AllByRecursion (IsItem format whole)) (sym pushed)
+        (alls-append (IsItem format whole) xs (x ∷ []) all (is, tt));
+  }
+
+  pub adds_then : (xs ys zs : List Item) (m n : List Pair) → Adds format whole xs ys m
+      → Adds format whole ys zs n → Adds format whole xs zs (m ++ n)
+  adds_then xs ys zs m n one more = record {
+    follow = more.follow ∙ ap (λ (l : List Pair). l ++ n) one.follow
+        ∙ append_assoc (items_pairs format whole xs) m n;
+    each = λ all. more.each (one.each all);
+  }
+
+  pub adds_as : (xs ys : List Item) (m n : List Pair) → m ≡ n → Adds format whole xs ys m
+      → Adds format whole xs ys n
+  adds_as xs ys m n same adds = subst (Adds format whole xs ys) same adds
+
+  -- what an edit puts, where the layer is that of its key
+  pub adds_put : (xs ys : List Item) (e : Edit) (key value k v : List ℕ) (layer : ℕ)
+      → e ≡ edit.Put key value → k ≡ key → v ≡ value → ys ≡ xs ++ item.Pair k v layer ∷ []
+      → layer_in format (key_of e) ≡ layer → Adds format whole xs ys (put_of e)
+  adds_put xs ys e key value k v layer e_is k_is v_is pushed own =
+      let is : ys ≡ xs ++ item.Pair key value layer ∷ [] =
+      pushed ∙ (λ i. xs ++ item.Pair (k_is i) (v_is i) layer ∷ []) in
+      subst (λ (f : Edit). Adds format whole xs ys (put_of f)) (sym e_is)
+      (adds_one xs ys (item.Pair key value layer) is
+      (subst (λ (f : Edit). layer_in format (key_of f) ≡ layer) e_is own))
+
+  -- ---- an entry of a key of this layer, with the edit of its key
+
+  module _ (xs ys : List Item) (key value : List ℕ) (layer : ℕ) (own : List (Bor Edit))
+      (rising : AreRising (listed own)) (of_key : AreOf (listed own) key)
+      (key_layer : layer_in format key ≡ layer) where
+    pub adds_own : (e : Bor Edit) → 1 ≤ length own → e ≡ get_or own 0 e
+        → (layer_in format (key_of e.now) ≡ layer → Adds format whole xs ys (put_of e.now))
+        → Adds format whole xs ys (batched ((key, value) ∷ []) (listed own))
+    adds_own e some e_is put =
+        let own_is : listed own ≡ e.now ∷ listed (rest_of own) =
+        ap listed (first_and_rest own e some e_is) in
+        let keys : AreOf (e.now ∷ listed (rest_of own)) key =
+        subst (λ (es : List Edit). AreOf es key) own_is of_key in
+        let alone : listed (rest_of own) ≡ [] =
+        one_of_key key e.now (listed (rest_of own)) (subst AreRising own_is rising) keys in
+        adds_as xs ys (put_of e.now) (batched ((key, value) ∷ []) (listed own))
+        (sym (ap (batched ((key, value) ∷ [])) (own_is
+        ∙ ap (λ (es : List Edit). e.now ∷ es) alone)
+        ∙ edited_own key value e.now keys.0))
+        (put (ap (layer_in format) keys.0 ∙ key_layer))
+
+    pub adds_entry : (k v : List ℕ) → length own < 1 → k ≡ key → v ≡ value
+        → ys ≡ xs ++ item.Pair k v layer ∷ []
+        → Adds format whole xs ys (batched ((key, value) ∷ []) (listed own))
+    adds_entry k v empty k_is v_is pushed =
+        adds_as xs ys ((key, value) ∷ []) (batched ((key, value) ∷ []) (listed own))
+        (ap (λ (es : List (Bor Edit)). batched ((key, value) ∷ []) (listed es))
+        (sym (none_left own empty)))
+        (adds_one xs ys (item.Pair key value layer)
+        (pushed ∙ (λ i. xs ++ item.Pair (k_is i) (v_is i) layer ∷ [])) key_layer)
+
+-- ---- a node of a search tree whose keys rise is such a tree
+
+module _ (format : Format) where
+  mutual
+    pub node_mst : (w p : Placed) → Contains (placed_nodes w) p → IsMst format (tree_of format w)
+        → IsMst format (tree_of format p)
+    node_mst none p has mst = absurd (contains-nothing p has)
+    node_mst (head at layer chain) p has mst =
+        elim (contains-cases (head at layer chain) (chain_nodes chain) p has) [
+          | inl same ↦ subst (λ (r : Placed). IsMst format (tree_of format r)) same mst
+          | inr later ↦ chain_mst layer chain p later mst.2
+        ]
+
+    chain_mst : (layer : ℕ) (c : Chain) (p : Placed) → Contains (chain_nodes c) p
+        → IsMstEntries format layer (entries_of format c) → IsMst format (tree_of format p)
+    chain_mst layer (end child) p has mst = node_mst child p has mst.1
+    chain_mst layer (cell at child key value rest) p has mst =
+        elim (Contains-append_cases (placed_nodes child) (chain_nodes rest) p has) [
+          | inl k ↦ node_mst child p k mst.1
+          | inr k ↦ chain_mst layer rest p k mst.3
+        ]
+
+  mutual
+    pub node_rises : (w p : Placed) → Contains (placed_nodes w) p
+        → IsAscending (pairs (tree_of format w)) → IsAscending (pairs (tree_of format p))
+    node_rises none p has rise = absurd (contains-nothing p has)
+    node_rises (head at layer chain) p has rise =
+        elim (contains-cases (head at layer chain) (chain_nodes chain) p has) [
+          | inl same ↦ subst (λ (r : Placed). IsAscending (pairs (tree_of format r))) same rise
+          | inr later ↦ chain_rises chain p later rise
+        ]
+
+    chain_rises : (c : Chain) (p : Placed) → Contains (chain_nodes c) p
+        → IsAscending (entries_pairs (entries_of format c))
+        → IsAscending (pairs (tree_of format p))
+    chain_rises (end child) p has rise = node_rises child p has rise
+    chain_rises (cell at child key value rest) p has rise =
+        elim (Contains-append_cases (placed_nodes child) (chain_nodes rest) p has) [
+          | inl k ↦ node_rises child p k
+              (child_rises (tree_of format child) key value (entries_of format rest) rise)
+          | inr k ↦ chain_rises rest p k
+              (rest_rises (tree_of format child) key value (entries_of format rest) rise)
+        ]
+
+-- ---- a part of the tree
+
+module _ (format : Format) (content : Content) (whole : Placed) (link : ℕ)
+    (part : PartOf format content whole link) where
+  -- nothing stands at the link 0
+  pub nothing_there : link ≡ 0 → pairs (tree_of format part.placed) ≡ []
+  nothing_there is = go part.placed (part.at ∙ is)
+    where
+      go : (p : Placed) → link_of p ≡ 0 → pairs (tree_of format p) ≡ []
+      go none at = refl
+      go (head i l chain) at = absurd (omega (arith, at))
+
+  -- at another link stands a node
+  pub record IsNode : Type 0 where
+    pub row : ℕ
+    pub layer : ℕ
+    pub chain : Chain
+    pub is : part.placed ≡ head row layer chain
+    pub at : row + 1 ≡ link
+    pub within : Contains (placed_nodes whole) (head row layer chain)
+    pub there : content (link - 1) ≡ Some (head_row format layer chain)
+
+  pub node_there : 0 < link → IsNode
+  node_there some = go part.placed refl part.at part.part
+    where
+      go : (p : Placed) → part.placed ≡ p → link_of p ≡ link
+          → (p ≡ none) ⊎ Contains (placed_nodes whole) p → IsNode
+      go none is at which = absurd (omega (arith, at, some))
+      go (head i l chain) is at (inl nothing) = absurd cc
+      go (head i l chain) is at (inr within) =
+          let has = node_rows format content whole (head i l chain) within part.rows in
+          let same : link - 1 ≡ i = omega (arith, at) in
+          record {
+            row = i;
+            layer = l;
+            chain = chain;
+            is = is;
+            at = at;
+            within = within;
+            there = ap content same ∙ has.0;
+          }
+
+  module _ (some : 0 < link) where
+    pub node : IsNode
+    node = node_there some
+
+    pub head_there : IsSome (part_at head_links content (link - 1))
+    head_there =
+        subst (λ (o : Option Row). IsSome (option_and_then head_links o)) (sym node.there) refl
+
+    module _ (h : HeadLinks) (read : part_at head_links content (link - 1) ≡ Some h) where
+      pub links : record {
+        layer = node.layer;
+        count = count_of node.chain;
+        first = first_of node.chain;
+        tail = tail_of node.chain;
+      } ≡ h
+      links =
+          let both : Some
+          (record {
+            layer = node.layer;
+            count = count_of node.chain;
+            first = first_of node.chain;
+            tail = tail_of node.chain;
+          }) ≡ Some h = sym (ap (option_and_then head_links) node.there) ∙ read in
+          cc
+
+      pub layer_is : node.layer ≡ h.layer
+      layer_is = ap (λ (x : HeadLinks). x.layer) links
+
+      -- the tree as an item
+      pub tree_item : (xs ys : List Item)
+          → ys ≡ xs ++ item.Subtree link h.layer ∷ []
+          → Adds format whole xs ys (pairs (tree_of format part.placed))
+      tree_item xs ys pushed =
+          let found = node_found (placed_nodes whole) (head node.row node.layer node.chain)
+          node.within in
+          let one : node_at whole (node.row + 1) ≡ head node.row node.layer node.chain =
+          one_placed format content (node_at whole (node.row + 1))
+          (head node.row node.layer node.chain) found.1
+          (node_rows format content whole (node_at whole (node.row + 1)) found.0 part.rows)
+          (node_rows format content whole (head node.row node.layer node.chain) node.within
+          part.rows) in
+          let same : node_at whole link ≡ part.placed =
+          ap (node_at whole) (sym node.at) ∙ one ∙ sym node.is in
+          adds_as format whole xs ys (pairs (tree_of format (node_at whole link)))
+          (pairs (tree_of format part.placed)) (ap (λ (p : Placed). pairs (tree_of format p)) same)
+          (adds_one format whole xs ys (item.Subtree link h.layer) pushed (
+            node.row,
+            node.chain,
+            sym node.at,
+            subst (λ (n : ℕ). Contains (placed_nodes whole) (head node.row n node.chain)) layer_is
+                node.within,
+          ))
