@@ -162,7 +162,7 @@ module _ (format : Format) (content : Content) (whole : Placed)
         (at (link_among format (placed_nodes whole) (tree.node g l es))) q rise f.0
         (subst (TopKey q) (sym f.2) own))
 
-  kept_plan : (p : Placed) → IsMst format (tree_of format p)
+  pub kept_plan : (p : Placed) → IsMst format (tree_of format p)
       → ((row layer : ℕ) (chain : Chain) → p ≡ head row layer chain
       → Contains (placed_nodes whole) p)
       → plan_beside format whole (tree_of format p) ≡ kept (link_of p)

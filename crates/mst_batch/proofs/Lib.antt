@@ -23,3 +23,7 @@ pub mod Openings
 pub mod OpeningSteps
 pub mod Ranges
 pub mod Puts
+pub mod Tops
+pub mod NodeItems
+pub mod NodePlans
+pub mod Builds

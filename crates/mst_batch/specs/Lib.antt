@@ -7,4 +7,5 @@ pub mod Listed
 pub mod Beside
 pub mod Items
 pub mod Opening
+pub mod Tops
 pub mod Applying

@@ -1,23 +1,29 @@
 //! The plan of the tree that items are built into.
-ghost use Rattle.std.specs.Prelude.{◌≡◌, ℕ, List, Contains, IfOk};
+ghost use Rattle.std.specs.Prelude.{◌≡◌, List, Contains, map, IfOk};
 ghost use Rattle.std.specs.List.{AllByRecursion};
 ghost use Rattle.mst_key.specs.declared.format.Format.{Format};
 ghost use Rattle.mst_key.specs.Map.{Pair};
 ghost use Rattle.mst_node.specs.Tree.{tree};
 ghost use Rattle.mst_arena.specs.Standing.{Stands};
 ghost use Rattle.mst_batch.specs.Beside.{plan_beside};
-ghost use Rattle.mst_batch.specs.Items.{AreItems, items_pairs, height_of, IsUpTo, IsPairOf};
-ghost use Rattle.mst_batch.specs.Plans.{plan_of};
+ghost use Rattle.mst_batch.specs.Items.{AreItems, items_pairs, IsUpTo, IsPairOf};
+ghost use Rattle.mst_batch.specs.Plans.{made, last, with_planned, plan_of, plan_of_node, planned_entry};
+ghost use Rattle.mst_batch.specs.Tops.{lone, pair_at};
 ghost use Rattle.mst_batch.specs.declared.items.Item.{Item};
 
 use crate::items::Item;
 use crate::plan::{Plan, PlanEntry, PlanNode};
 use crate::sharing::shared;
+use crate::top::{has_subtree_at, opened_at, top_layer};
 use mst_arena::{Root, Rows};
 use mst_key::{Key, Memory, Value};
 use std::alloc::Allocator;
 
 /// The plan of the tree of items whose keys rise, beside the tree that stands at a root.
+///
+/// A tree that stands is looked into only where its layer is the greatest of the items around it:
+/// its pairs are then entries of the same node as theirs. Calls nest no deeper than the layers.
+/// Returns `Memory` only if a growth was refused.
 #[cycle(build)]
 pub(crate) fn build<R: Rows, B: Allocator + Copy>(
     rows: &mut R,
@@ -35,35 +41,27 @@ pub(crate) fn build<R: Rows, B: Allocator + Copy>(
         (tree format (items_pairs format stands.tree.placed items.now))) }
     ensures same { rows.new ≡ rows.old }
 {
-    match items {
-        [] => Ok(Plan::Kept(0)),
-        [Item::Subtree { link, .. }] => Ok(Plan::Kept(*link)),
-        _ => {
-            let top = top_layer(items);
-            if !has_subtree_at(items, top) {
-                return build_node(rows, alloc, root, items, top);
-            }
-            let opened = opened_at(rows, alloc, items, top)?;
-            build_node(rows, alloc, root, opened.as_slice(), top)
-        }
+    if let Some(link) = lone_tree(items) {
+        return Ok(Plan::Kept(link));
+    }
+    let top = top_layer(items);
+    if has_subtree_at(items, top) {
+        let opened = opened_at(rows, alloc, items, top)?;
+        build_node(rows, alloc, root, opened.as_slice(), top)
+    } else {
+        build_node(rows, alloc, root, items, top)
     }
 }
 
-fn top_layer(items: &[Item]) -> u8 {
-    0
-}
-
-fn has_subtree_at(items: &[Item], layer: u8) -> bool {
-    true
-}
-
-fn opened_at<R: Rows, B: Allocator>(
-    rows: &mut R,
-    alloc: B,
-    items: &[Item],
-    layer: u8,
-) -> Result<Vec<Item, B>, Memory> {
-    Ok(Vec::new(alloc))
+/// The link of the tree of items that stands already: one tree alone, or none.
+fn lone_tree(items: &[Item]) -> Option<u32>
+    ensures link { result ≡ lone items.now }
+{
+    match items {
+        [] => Some(0),
+        [Item::Subtree { link, .. }] => Some(*link),
+        _ => None,
+    }
 }
 
 /// The plan of items of which a pair is of the layer, no pair is above it, and each tree is below
@@ -93,21 +91,18 @@ fn build_node<R: Rows, B: Allocator + Copy>(
     for (i, item) in items.iter().enumerate() {
         if let Some((key, value)) = pair_of(item, layer) {
             let child = build(rows, alloc, root, &items[start..i])?;
-            entries.push(PlanEntry { child, key, value })?;
+            entries.push(entry_of(child, key, value))?;
             start = i + 1;
         }
     }
     let tail = build(rows, alloc, root, &items[start..])?;
-    let node = PlanNode {
-        layer,
-        entries,
-        tail,
-    };
-    shared(rows, alloc, root, node)
+    shared(rows, alloc, root, node_of(layer, entries, tail))
 }
 
 /// The pair of an item that is one of the layer.
-fn pair_of(item: &Item, layer: u8) -> Option<(Key, Value)> {
+fn pair_of(item: &Item, layer: u8) -> Option<(Key, Value)>
+    ensures pair { result ≡ pair_at layer item.now }
+{
     match item {
         Item::Pair {
             key,
@@ -115,5 +110,29 @@ fn pair_of(item: &Item, layer: u8) -> Option<(Key, Value)> {
             layer: own,
         } if *own == layer => Some((key.copy(), value.copy())),
         _ => None,
+    }
+}
+
+/// The entry of a pair, after the plan of the gap before it.
+fn entry_of<B: Allocator>(child: Plan<Box<PlanNode<B>, B>>, key: Key, value: Value) -> PlanEntry<B>
+    ensures entry { planned_entry result
+        ≡ record { child = plan_of child; key = key; value = value } }
+{
+    PlanEntry { child, key, value }
+}
+
+/// The node of these parts.
+fn node_of<B: Allocator>(
+    layer: u8,
+    entries: Vec<PlanEntry<B>, B>,
+    tail: Plan<Box<PlanNode<B>, B>>,
+) -> PlanNode<B>
+    ensures plan { plan_of_node result
+        ≡ made layer (with_planned (map planned_entry entries.items) (last (plan_of tail))) }
+{
+    PlanNode {
+        layer,
+        entries,
+        tail,
     }
 }

@@ -21,7 +21,8 @@
 //! In `specs/`: `Listed`, edits that a list points at; `Plans`, which tree a plan is, what it keeps
 //! and what it takes; `Sowing`, what is written; `Kept`, which nodes are kept and which rows fall;
 //! `Replacing` and `Carrying`, a plan in place of the tree that stands, and of a change of the map;
-//! `Beside`, the plan of a tree beside the one that stands.
+//! `Beside`, the plan of a tree beside the one that stands; `Items` and `Tops`, what the tree after
+//! a batch is built of, and which of it is opened.
 #![tactic(auto)]
 
 mod applying;
@@ -41,6 +42,7 @@ mod sharing;
 mod sowing;
 #[cfg(test)]
 mod tests;
+mod top;
 
 pub use applying::apply;
 pub use carrying::carry_out;

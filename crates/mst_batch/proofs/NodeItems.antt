@@ -1,0 +1,103 @@
+-- A node that stands, made into items by a walk along its entries.
+use Rattle.std.proofs.Common.{◌≡◌, ℕ, ◌+◌, ◌-◌, ◌<◌, List, [], ◌∷◌, ◌++◌, Some, sym, ◌∙◌, ap, subst, arith, append_assoc}
+use Rattle.std.specs.Prelude.{option_and_then, if◌then◌else◌, ◌==◌, true, Bool}
+use Rattle.std.proofs.lemmas.Bool.Decides.{nat_tests}
+use Rattle.mst_key.specs.declared.format.Format.{Format}
+use Rattle.mst_arena.specs.Content.{Content, part_at}
+use Rattle.mst_arena.specs.Row.{head_links, entry_value}
+use Rattle.mst_arena.specs.declared.row.HeadLinks.{HeadLinks}
+use Rattle.mst_arena.specs.declared.row.EntryLinks.{EntryLinks}
+use Rattle.mst_arena.specs.Standing.{Placed, none, head, Chain, link_of, first_of, tail_of, count_of, head_row, rows_of, HasRows}
+use Rattle.mst_read.specs.Search.{Lies}
+use Rattle.mst_read.proofs.Walk.{Onward, AtCell, further}
+use Rattle.mst_batch.specs.Beside.{node_at}
+use Rattle.mst_batch.specs.Items.{IsItem}
+use Rattle.mst_batch.specs.Tops.{IsStanding, tree_items, chain_items, node_items, opened}
+use Rattle.mst_batch.specs.declared.items.Item.{Item}
+use Rattle.mst_batch.specs.declared.items.Item.TheVariants as item
+use Rattle.mst_batch.proofs.Besides.{node_rows}
+use Rattle.mst_batch.proofs.Tops.{node_is}
+
+-- so many items, and then those of the rest of a chain, are all
+abbrev pub Makes : ℕ → List Item → List Item → Chain → Type 0
+Makes l items all rest = items ++ chain_items l rest ≡ all
+
+-- the walk begins at the head that was read
+pub begins : (format : Format) (content : Content) (link : ℕ) (p : Placed)
+    → Lies format content link p → 0 < link → (h : HeadLinks)
+    → part_at head_links content (link - 1) ≡ Some h → (items : List Item)
+    → Onward format content h.tail h.first 0 h.count (Makes h.layer items (items ++ node_items p))
+begins format content link p lies some h read items = go p lies.at lies.rows
+  where
+    go : (p : Placed) → link_of p ≡ link → HasRows content (rows_of format p)
+        → Onward format content h.tail h.first 0 h.count
+        (Makes h.layer items (items ++ node_items p))
+    go none at has = absurd (omega (arith, at, some))
+    go (head i l chain) at has =
+        let same : link - 1 ≡ i = omega (arith, at) in
+        let there : content (link - 1) ≡ Some (head_row format l chain) =
+        ap content same ∙ has.0 in
+        let both : Some (record {
+          layer = l;
+          count = count_of chain;
+          first = first_of chain;
+          tail = tail_of chain;
+        }) ≡ Some h = sym (ap (option_and_then head_links) there) ∙ read in
+        let is : record {
+          layer = l;
+          count = count_of chain;
+          first = first_of chain;
+          tail = tail_of chain;
+        } ≡ h = cc in
+        record {
+          rest = chain;
+          first_is = ap (λ (x : HeadLinks). x.first) is;
+          tail_is = ap (λ (x : HeadLinks). x.tail) is;
+          left = omega (arith, ap (λ (x : HeadLinks). x.count) is);
+          rows = has.1;
+          holds = ap (λ (x : HeadLinks). items ++ chain_items x.layer chain) (sym is);
+        }
+
+-- the tree before an entry is added, and then its pair
+pub goes_on : {format : Format} {content : Content} {tail row done all : ℕ} {e : EntryLinks}
+    (l : ℕ) (items whole : List Item)
+    (a : AtCell format content tail row done all e (Makes l items whole))
+    (between after : List Item) (value : List ℕ) → between ≡ items ++ tree_items a.child
+    → after ≡ between ++ item.Pair e.key value l ∷ []
+    → part_at entry_value content row ≡ Some value
+    → Onward format content tail e.next (done + 1) all (Makes l after whole)
+goes_on {e = e} l items whole a between after value first then_is read =
+    let own : Some a.value ≡ Some value = sym (ap (option_and_then entry_value) a.here) ∙ read in
+    let same : value ≡ a.value = cc in
+    let pair = item.Pair e.key a.value l in
+    let more = chain_items l a.rest in
+    let is : after ≡ items ++ (tree_items a.child ++ item.Pair e.key a.value l ∷ []) =
+    then_is
+    ∙ ap (λ (v : List ℕ). between ++ item.Pair e.key v l ∷ []) same
+    ∙ ap (λ (xs : List Item). xs ++ item.Pair e.key a.value l ∷ []) first
+    ∙ append_assoc items (tree_items a.child) (pair ∷ []) in
+    further a (Makes l after whole)
+    (ap (λ (xs : List Item). xs ++ chain_items l a.rest) is
+    ∙ append_assoc items (tree_items a.child ++ pair ∷ []) more
+    ∙ ap (λ (xs : List Item). items ++ xs) (append_assoc (tree_items a.child) (pair ∷ []) more)
+    ∙ a.holds)
+
+-- ---- a tree among the items
+
+module _ (format : Format) (content : Content) (whole : Placed)
+    (s : IsStanding format content whole) where
+  pub item_lies : (link layer : ℕ) → IsItem format whole (item.Subtree link layer)
+      → Lies format content link (node_at whole link)
+  item_lies link layer i =
+      subst (Lies format content link) (sym (node_is format content whole s link layer i))
+      (record {
+        at = sym i.2;
+        rows = node_rows format content whole (head i.0 layer i.1) i.3 s.rows;
+      })
+
+pub opened_tree : (whole : Placed) (l link layer : ℕ) → layer ≡ l
+    → opened whole l (item.Subtree link layer) ≡ node_items (node_at whole link)
+opened_tree whole l link layer same =
+    let e : (layer == l) ≡ true = grind (arith, nat_tests, same) in
+    ap (λ (b : Bool). if b then node_items (node_at whole link)
+    else item.Subtree link layer ∷ []) e

@@ -1,0 +1,294 @@
+-- Items of which some pair is of a layer and none is above it: their tree is a node of that layer,
+-- with the trees of the gaps between its pairs below it.
+use Rattle.std.proofs.Common.{◌≡◌, ◌≢◌, ℕ, suc, ◌+◌, ◌-◌, ◌<◌, ◌≤◌, ◌==◌, Bool, true, false, inl, inr, List, [], ◌∷◌, ◌++◌, Option, Some, None, length, get_or, take, drop, refl, sym, ◌∙◌, ap, subst, arith, add-one, length-drop}
+use Rattle.std.specs.Prelude.{Contains, if◌then◌else◌, slice_range}
+use Rattle.std.specs.List.{AllByRecursion}
+use Rattle.std.proofs.Math.Seq.{drop-cons}
+use Rattle.std.proofs.lemmas.Bool.Decides.{nat_tests}
+use Rattle.std.proofs.lemmas.Grind.{common_steps}
+use Rattle.std.proofs.lemmas.Option.{same_Some}
+use Rattle.std.proofs.lemmas.List.{append-nil, take_more, get_or-drop, take-append-drop}
+use Rattle.mst_key.specs.declared.format.Format.{Format}
+use Rattle.mst_key.specs.Layer.{layer_in}
+use Rattle.mst_key.specs.Map.{Pair, IsAscending}
+use Rattle.mst_key.proofs.Alls.{alls-append, alls-front, alls-back, alls-weaker}
+use Rattle.mst_key.proofs.SpanLaws.{contains-cases, contains-nothing}
+use Rattle.mst_key.proofs.Splits.{IsAscending-front, IsAscending-back}
+use Rattle.mst_node.specs.Tree as tree
+use Rattle.mst_node.specs.Tree.{Tree, Entries, tree, pairs, layers, greatest, entries_of, IsMst, IsUnder}
+use Rattle.mst_node.proofs.TreeEquation.{Has, tree_some, entries_at_layer}
+use Rattle.mst_node.proofs.UniqueTree.{keys_under, gap-lower, tree_mst}
+use Rattle.mst_arena.specs.Content.{Content}
+use Rattle.mst_arena.specs.Standing.{Placed, head, tree_of}
+use Rattle.mst_batch.specs.Beside.{plan_beside, entries_beside}
+use Rattle.mst_batch.specs.Items.{item_pairs, items_pairs, IsItem, AreItems, layer_of, height_of, IsUpTo, IsPairOf}
+use Rattle.mst_batch.specs.Plans.{PlanTree, PlanEntries, last, entry, PlannedEntry, with_planned}
+use Rattle.mst_batch.specs.Tops.{IsStanding, pair_at}
+use Rattle.mst_batch.specs.declared.items.Item.{Item}
+use Rattle.mst_batch.specs.declared.items.Item.TheVariants as item
+use Rattle.mst_batch.proofs.Tops.{items_pairs-append, height-append, HasPair, node_mst, node_is}
+
+-- ---- parts of a list
+
+module _ {X : Type 0} where
+  -- the element at i, and those after it
+  pub from_here : (xs : List X) (i : ℕ) (x : X) → i < length xs → x ≡ get_or xs i x
+      → drop i xs ≡ x ∷ drop (i + 1) xs
+  from_here xs i x h e = let f = drop-cons xs i x h in
+      rw add-one (f ∙ ap (λ (y : X). y ∷ drop (suc i) xs) (sym e))
+
+  -- the gap grows by the element at i
+  gap_grows : (xs : List X) (start i : ℕ) (x : X) → start ≤ i → i < length xs
+      → x ≡ get_or xs i x → slice_range xs start (i + 1) ≡ slice_range xs start i ++ x ∷ []
+  gap_grows xs start i x s h e =
+      let width : i + 1 - start ≡ i - start + 1 = omega arith in
+      let place : start + (i - start) ≡ i = omega arith in
+      let within : i - start < length (drop start xs) = omega (arith, length-drop start xs) in
+      let at : get_or (drop start xs) (i - start) x ≡ x = get_or-drop start xs (i - start) x
+      ∙ ap (λ (j : ℕ). get_or xs j x) place ∙ sym e in
+      ap (λ (n : ℕ). take n (drop start xs)) width ∙ take_more (drop start xs) (i - start) x within
+      ∙ ap (λ (y : X). take (i - start) (drop start xs) ++ y ∷ []) at
+
+  no_gap : (xs : List X) (i : ℕ) → slice_range xs i i ≡ []
+  no_gap xs i = let e : i - i ≡ 0 = omega arith in ap (λ (n : ℕ). take n (drop i xs)) e
+
+  none_after : (xs : List X) → drop (length xs) xs ≡ []
+  none_after xs = grind (arith, common_steps)
+
+with_planned-push : (ps : List PlannedEntry) (y : PlannedEntry) (es : PlanEntries)
+    → with_planned (ps ++ y ∷ []) es ≡ with_planned ps (entry y.child y.key y.value es)
+with_planned-push [] y es = refl
+with_planned-push (p ∷ ps) y es = ap (entry p.child p.key p.value) (with_planned-push ps y es)
+
+entries_end : (format : Format) (l : ℕ) (gap : List Pair)
+    → entries_of (layer_in format) (tree format) l gap [] ≡ tree.last (tree format gap)
+unfolding entries_of
+entries_end format l gap = refl
+
+-- ---- an item and a layer
+
+abbrev pair_if : Bool → Pair → Option Pair
+pair_if b p = if b then Some p else None
+
+pub pair_is : (l : ℕ) (x : Item) (kv : Pair) → pair_at l x ≡ Some kv
+    → x ≡ item.Pair kv.0 kv.1 l
+pair_is l (item.Pair key value n) kv is = go (n == l) refl is
+  where
+    go : (b : Bool) → (n == l) ≡ b → pair_if b (key, value) ≡ Some kv
+        → item.Pair key value n ≡ item.Pair kv.0 kv.1 l
+    go true e is =
+        let same : n ≡ l = grind (arith, nat_tests, e) in
+        let parts = same_Some (key, value) kv is in
+        λ i. item.Pair (parts i).0 (parts i).1 (same i)
+    go false e is = absurd cc
+pair_is l (item.Subtree link n) kv is = absurd cc
+
+pub no_pair : (l : ℕ) (x : Item) → pair_at l x ≡ None → IsUpTo l x → layer_of x < l
+no_pair l (item.Pair key value n) is low = go (n == l) refl is
+  where
+    go : (b : Bool) → (n == l) ≡ b → pair_if b (key, value) ≡ None → n < l
+    go true e is = absurd cc
+    go false e is = let other : n ≢ l = grind (arith, nat_tests, e) in omega (arith, low, other)
+no_pair l (item.Subtree link n) is low = low
+
+-- ---- parts of items beside a tree
+
+module _ (format : Format) (whole : Placed) where
+  front_items : (xs ys : List Item) → AreItems format whole (xs ++ ys) → AreItems format whole xs
+  front_items xs ys are = record {
+    each = alls-front (IsItem format whole) xs ys are.each;
+    rise = IsAscending-front (items_pairs format whole xs) (items_pairs format whole ys)
+        (subst IsAscending (items_pairs-append format whole xs ys) are.rise);
+  }
+
+  back_items : (xs ys : List Item) → AreItems format whole (xs ++ ys) → AreItems format whole ys
+  back_items xs ys are = record {
+    each = alls-back (IsItem format whole) xs ys are.each;
+    rise = IsAscending-back (items_pairs format whole xs) (items_pairs format whole ys)
+        (subst IsAscending (items_pairs-append format whole xs ys) are.rise);
+  }
+
+  pub part_items : (xs : List Item) (a b : ℕ) → AreItems format whole xs
+      → AreItems format whole (slice_range xs a b)
+  part_items xs a b are =
+      front_items (take (b - a) (drop a xs)) (drop (b - a) (drop a xs))
+      (subst (AreItems format whole) (sym (take-append-drop (b - a) (drop a xs)))
+      (back_items (take a xs) (drop a xs)
+      (subst (AreItems format whole) (sym (take-append-drop a xs)) are)))
+
+-- ---- the greatest layer of pairs
+
+greatest_low : (layer : List ℕ → ℕ) (l : ℕ) (m : List Pair)
+    → AllByRecursion (λ p. layer p.0 ≤ l) m → greatest (layers layer m) ≤ l
+greatest_low layer l [] low = omega arith
+greatest_low layer l (p ∷ m) low = omega (arith, low.0, greatest_low layer l m low.1)
+
+greatest_is : (layer : List ℕ → ℕ) (l : ℕ) (m : List Pair)
+    → AllByRecursion (λ p. layer p.0 ≤ l) m → Has layer l m → greatest (layers layer m) ≡ l
+greatest_is layer l [] low has = absurd has
+greatest_is layer l (p ∷ m) low (inl is) = omega (arith, is, greatest_low layer l m low.1)
+greatest_is layer l (p ∷ m) low (inr has) = omega (arith, low.0, greatest_is layer l m low.1 has)
+
+has_after : (layer : List ℕ → ℕ) (l : ℕ) (xs ys : List Pair) → Has layer l ys
+    → Has layer l (xs ++ ys)
+has_after layer l [] ys has = has
+has_after layer l (x ∷ xs) ys has = inr (has_after layer l xs ys has)
+
+some_pairs : (layer : List ℕ → ℕ) (l : ℕ) (m : List Pair) → Has layer l m → 0 < length m
+some_pairs layer l [] has = absurd has
+some_pairs layer l (p ∷ m) has = omega arith
+
+module _ (format : Format) (content : Content) (whole : Placed)
+    (s : IsStanding format content whole) (l : ℕ) where
+  -- the keys of an item have lower layers than one above it
+  pub keys_low : (k : ℕ) (x : Item) → IsItem format whole x → layer_of x < k
+      → AllByRecursion (λ p. layer_in format p.0 < k) (item_pairs format whole x)
+  keys_low k (item.Pair key value n) is low = (omega (arith, is, low), tt)
+  keys_low k (item.Subtree link n) is low =
+      subst (λ (p : Placed). AllByRecursion (λ q. layer_in format q.0 < k)
+      (pairs (tree_of format p))) (sym (node_is format content whole s link n is))
+      (keys_under (tree_of format (head is.0 n is.1)) format k
+      (node_mst format whole (head is.0 n is.1) is.3 s.search) low)
+
+  item_upto : (x : Item) → IsItem format whole x → IsUpTo l x
+      → AllByRecursion (λ p. layer_in format p.0 ≤ l) (item_pairs format whole x)
+  item_upto (item.Pair key value n) is low = (omega (arith, is, low), tt)
+  item_upto (item.Subtree link n) is low =
+      alls-weaker (λ p. layer_in format p.0 < l) (λ p. layer_in format p.0 ≤ l)
+      (λ p (h : layer_in format p.0 < l). omega (arith, h))
+      (item_pairs format whole (item.Subtree link n)) (keys_low l (item.Subtree link n) is low)
+
+  pairs_upto : (xs : List Item) → AllByRecursion (IsItem format whole) xs
+      → AllByRecursion (IsUpTo l) xs
+      → AllByRecursion (λ p. layer_in format p.0 ≤ l) (items_pairs format whole xs)
+  pairs_upto [] each low = tt
+  pairs_upto (x ∷ xs) each low =
+      alls-append (λ p. layer_in format p.0 ≤ l) (item_pairs format whole x)
+      (items_pairs format whole xs) (item_upto x each.0 low.0) (pairs_upto xs each.1 low.1)
+
+  pair_has : (x : Item) (ps : List Pair) → IsItem format whole x → IsPairOf l x
+      → Has (layer_in format) l (item_pairs format whole x ++ ps)
+  pair_has (item.Pair key value n) ps is of = inl (is ∙ of)
+  pair_has (item.Subtree link n) ps is of = absurd of
+
+  pairs_have : (xs : List Item) (x : Item) → Contains xs x → IsPairOf l x
+      → AllByRecursion (IsItem format whole) xs
+      → Has (layer_in format) l (items_pairs format whole xs)
+  pairs_have [] x has of each = absurd (contains-nothing x has)
+  pairs_have (y ∷ xs) x has of each =
+      elim (contains-cases y xs x has) [
+        | inl same ↦ pair_has y (items_pairs format whole xs) each.0
+            (subst (IsPairOf l) (sym same) of)
+        | inr later ↦ has_after (layer_in format) l (item_pairs format whole y)
+            (items_pairs format whole xs) (pairs_have xs x later of each.1)
+      ]
+
+  -- ---- the node of the layer
+
+  abbrev pub node_entries : List Item → Entries
+  node_entries xs =
+      entries_of (layer_in format) (tree format) l [] (items_pairs format whole xs)
+
+  module _ (xs : List Item) (each : AllByRecursion (IsItem format whole) xs)
+      (low : AllByRecursion (IsUpTo l) xs) (some : HasPair l xs) where
+    pub tree_is : tree format (items_pairs format whole xs)
+        ≡ tree.node format l (node_entries xs)
+    tree_is =
+        let has = pairs_have xs some.0 some.1 some.2 each in
+        tree_some format (items_pairs format whole xs)
+        (some_pairs (layer_in format) l (items_pairs format whole xs) has)
+        ∙ ap (λ (k : ℕ). tree.node format k (entries_of (layer_in format) (tree format) k []
+        (items_pairs format whole xs)))
+        (greatest_is (layer_in format) l (items_pairs format whole xs) (pairs_upto xs each low) has)
+
+    pub is_mst : IsMst format (tree.node format l (node_entries xs))
+    is_mst = subst (IsMst format) tree_is (tree_mst format (items_pairs format whole xs))
+
+  -- ---- its entries, one item after another
+
+  -- the plans of the entries that a gap so far and other items make
+  abbrev pub planned : List Item → List Item → PlanEntries
+  planned gap rest =
+      entries_beside format whole
+      (entries_of (layer_in format) (tree format) l (items_pairs format whole gap)
+      (items_pairs format whole rest))
+
+  abbrev pub gap_plan : List Item → PlanTree
+  gap_plan gap = plan_beside format whole (tree format (items_pairs format whole gap))
+
+  module _ (xs : List Item) (start i : ℕ) (ps : List PlannedEntry) (all : PlanEntries)
+      (before : with_planned ps (planned (slice_range xs start i) (drop i xs)) ≡ all) where
+    -- a pair of the layer ends the gap
+    pub ends_gap : (x : Item) → i < length xs → x ≡ get_or xs i x → IsItem format whole x
+        → (kv : Pair) → x ≡ item.Pair kv.0 kv.1 l → (y : PlannedEntry)
+        → y ≡ record { child = gap_plan (slice_range xs start i); key = kv.0; value = kv.1 }
+        → with_planned (ps ++ y ∷ []) (planned (slice_range xs (i + 1) (i + 1)) (drop (i + 1) xs))
+        ≡ all
+    ends_gap x within at each kv x_is y y_is =
+        let gap = slice_range xs start i in
+        let rest = drop (i + 1) xs in
+        let here : IsItem format whole (item.Pair kv.0 kv.1 l) =
+        subst (IsItem format whole) x_is each in
+        let cut : planned (slice_range xs start i) (drop i xs)
+        ≡ entry (gap_plan (slice_range xs start i)) kv.0 kv.1 (planned [] (drop (i + 1) xs)) =
+        ap (planned gap) (from_here xs i x within at
+        ∙ ap (λ (z : Item). z ∷ drop (i + 1) xs) x_is)
+        ∙ ap (entries_beside format whole) (entries_at_layer (layer_in format) (tree format) l
+        (items_pairs format whole gap) (kv.0, kv.1) (items_pairs format whole rest) here) in
+        ap (λ (g : List Item). with_planned (ps ++ y ∷ []) (planned g (drop (i + 1) xs)))
+        (no_gap xs (i + 1))
+        ∙ with_planned-push ps y (planned [] (drop (i + 1) xs))
+        ∙ ap (λ (z : PlannedEntry).
+        with_planned ps (entry z.child z.key z.value (planned [] (drop (i + 1) xs)))) y_is
+        ∙ sym (ap (with_planned ps) cut) ∙ before
+
+    -- an item below the layer goes into it
+    pub joins_gap : start ≤ i → (x : Item) → i < length xs → x ≡ get_or xs i x
+        → IsItem format whole x → layer_of x < l
+        → with_planned ps (planned (slice_range xs start (i + 1)) (drop (i + 1) xs)) ≡ all
+    joins_gap order x within at each low =
+        let gap = slice_range xs start i in
+        let rest = drop (i + 1) xs in
+        let grown : items_pairs format whole (slice_range xs start (i + 1))
+        ≡ items_pairs format whole (slice_range xs start i) ++ item_pairs format whole x =
+        ap (items_pairs format whole) (gap_grows xs start i x order within at)
+        ∙ items_pairs-append format whole gap (x ∷ [])
+        ∙ ap (λ (qs : List Pair). items_pairs format whole (slice_range xs start i) ++ qs)
+        (append-nil (item_pairs format whole x)) in
+        let moved : planned (slice_range xs start i) (drop i xs)
+        ≡ planned (slice_range xs start (i + 1)) (drop (i + 1) xs) =
+        ap (planned gap) (from_here xs i x within at)
+        ∙ ap (entries_beside format whole)
+        (gap-lower format l (items_pairs format whole gap) (item_pairs format whole x)
+        (items_pairs format whole rest) (keys_low l x each low)
+        ∙ ap (λ (g : List Pair). entries_of (layer_in format) (tree format) l g
+        (items_pairs format whole (drop (i + 1) xs))) (sym grown)) in
+        sym (ap (with_planned ps) moved) ∙ before
+
+    -- after the last item the gap is the last one
+    pub last_gap : i ≡ length xs
+        → with_planned ps (last (gap_plan (slice_range xs start (length xs)))) ≡ all
+    last_gap end =
+        let nothing : drop i xs ≡ [] = ap (λ (n : ℕ). drop n xs) end ∙ none_after xs in
+        ap (λ (n : ℕ). with_planned ps (last (gap_plan (slice_range xs start n)))) (sym end)
+        ∙ ap (λ (es : Entries). with_planned ps (entries_beside format whole es))
+        (sym (entries_end format l (items_pairs format whole (slice_range xs start i))))
+        ∙ ap (λ (zs : List Item). with_planned ps (planned (slice_range xs start i) zs))
+        (sym nothing)
+        ∙ before
+
+-- how high the gap is, when an item below the layer goes into it
+pub gap_low : (l : ℕ) (xs : List Item) (start i : ℕ) (x : Item) → start ≤ i → i < length xs
+    → x ≡ get_or xs i x → layer_of x < l → height_of (slice_range xs start i) ≤ l
+    → height_of (slice_range xs start (i + 1)) ≤ l
+gap_low l xs start i x order within at low so_far =
+    omega (
+      arith,
+      low,
+      so_far,
+      ap height_of (gap_grows xs start i x order within at),
+      height-append (slice_range xs start i) (x ∷ []),
+    )
+
+pub gap_none_low : (xs : List Item) (i l : ℕ) → height_of (slice_range xs i i) ≤ l
+gap_none_low xs i l = omega (arith, ap height_of (no_gap xs i))

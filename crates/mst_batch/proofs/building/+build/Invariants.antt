@@ -1,0 +1,23 @@
+use Rattle.std.proofs.Common.{◌≡◌, ◌≤◌, ◌+◌, ◌*◌, map}
+use Rattle.std.specs.Prelude.{slice_range}
+use Rattle.mst_batch.specs.Items.{height_of}
+use Rattle.mst_batch.specs.Plans.{planned_entry}
+use Rattle.mst_batch.proofs.Builds.{SoFar}
+use Rattle.mst_batch.proofs.building.+build.Given as goal
+
+-- layers fall from a node to its gaps
+abbrev pub decreases-build : goal.decreases-build
+decreases-build g l = 2 * height_of l.items.now + 1
+
+abbrev pub decreases-build_node : goal.decreases-build_node
+decreases-build_node g l = 2 * (l.layer + 1)
+
+-- the entries so far, and the items since the last of them, which are below the layer
+abbrev pub invariant-build_node-loop-i : goal.invariant-build_node-loop-i
+invariant-build_node-loop-i g l = record {
+  same : l.rows ≡ l.fn.rows;
+  gap : l.start ≤ l.i;
+  low : height_of (slice_range l.items l.start l.i) ≤ l.layer;
+  entries : SoFar (g.R.Rows.content l.fn.rows) l.root l.layer l.items l.start l.i
+      (map planned_entry l.entries.items);
+}

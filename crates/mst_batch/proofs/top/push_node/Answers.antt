@@ -1,0 +1,60 @@
+use Rattle.std.proofs.Common.{◌-◌, ◌∙◌, ap, arith}
+use Rattle.std.proofs.lemmas.Result.{on_ok_weaker}
+use Rattle.mst_arena.specs.Row.{entry_value}
+use Rattle.mst_read.proofs.Still.{read_before}
+use Rattle.mst_read.proofs.Walk.{at_cell, at_end, child_lies, tail_lies}
+use Rattle.mst_batch.proofs.NodeItems.{begins, goes_on}
+use Rattle.mst_batch.proofs.top.push_node.Goals as goal
+
+pub loop-init : goal.loop-init
+loop-init g c = record {
+  same = c.head-head.ensures.same;
+  onward = λ format p lies.
+      begins format (g.R.Rows.content c.args.rows.now) c.args.link p lies c.requires.some
+      c.head-head.result c.head-head.ensures.value c.args.items.now.items;
+}
+
+pub push_tree-requires : goal.push_tree-requires
+push_tree-requires g c =
+    let z = c.requires.lies in
+    let a = at_cell (c.loop.invariant.onward z.0 z.1 z.2) c.loop-test.true
+    (ap g.R.Rows.content c.loop.invariant.same) c.entry-entry.ensures.value in
+    record {
+      lies = (
+        z.0,
+        a.child,
+        child_lies a
+            (ap g.R.Rows.content (c.entry-entry.ensures.same ∙ c.loop.invariant.same)),
+      );
+    }
+
+pub loop-preserved : goal.loop-preserved
+loop-preserved g c =
+    let still = c.entry-entry.ensures.same ∙ c.loop.invariant.same in
+    record {
+      same = c.value.ensures.same ∙ c.push_tree.ensures.same ∙ still;
+      onward = λ format p lies.
+          let a = at_cell (c.loop.invariant.onward format p lies) c.loop-test.true
+          (ap g.R.Rows.content c.loop.invariant.same) c.entry-entry.ensures.value in
+          goes_on c.head-head.result.layer c.loop.items.items _ a c.push_tree.new.items.items
+          c.push.new.self.items c.value.result
+          (c.in_ok-push_tree.ensures.items format a.child
+          (child_lies a (ap g.R.Rows.content still))) c.in_ok-push.ensures.items
+          (read_before (ap g.R.Rows.content (c.push_tree.ensures.same ∙ still)) entry_value
+          (c.loop.next - 1) c.value.ensures.value);
+    }
+
+pub push_tree-requires-2 : goal.push_tree-requires-2
+push_tree-requires-2 g c =
+    let z = c.requires.lies in
+    let a = at_end (c.loop.invariant.onward z.0 z.1 z.2)
+    (omega (arith, c.loop-test.false, c.loop.auto.counter-end)) in
+    record { lies = (z.0, a.child, tail_lies a (ap g.R.Rows.content c.loop.invariant.same)) }
+
+pub returns-clause-items : goal.returns-clause-items
+returns-clause-items g c =
+    on_ok_weaker c.push_tree-2.result (λ added format p lies.
+    let a = at_end (c.loop.invariant.onward format p lies)
+    (omega (arith, c.loop-test.false, c.loop.auto.counter-end)) in
+    added format a.child (tail_lies a (ap g.R.Rows.content c.loop.invariant.same)) ∙ a.holds)
+    c.push_tree-2.ensures.items
