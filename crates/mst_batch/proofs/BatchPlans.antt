@@ -1,6 +1,5 @@
 -- The plan of the map after a batch, beside the tree that stands.
-use Rattle.std.proofs.Common.{◌≡◌, ℕ, ◌<◌, Bool, List, sym, ◌∙◌, ap, subst}
-use Rattle.std.specs.Prelude.{◌^◌}
+use Rattle.std.proofs.Common.{◌≡◌, ℕ, Bool, List, sym, ◌∙◌, ap, subst}
 use Rattle.std.specs.List.{AllByRecursion}
 use Rattle.mst_key.specs.History.{batched, IsSmall}
 use Rattle.mst_key.specs.Map.{Pair, IsAscending}
@@ -21,7 +20,7 @@ use Rattle.mst_path.specs.Changing.{AreOld}
 use Rattle.mst_path.proofs.lemmas.versions.Changes.{distinct_times, mst_of, one_standing}
 use Rattle.mst_batch.specs.Beside.{node_at, plan_beside, AreMarks}
 use Rattle.mst_batch.specs.Carrying.{IsPlanOf}
-use Rattle.mst_batch.specs.Plans.{rows_planned}
+use Rattle.mst_batch.specs.Plans.{PlanTree, rows_planned}
 use Rattle.mst_batch.specs.Replacing.{Keeps}
 use Rattle.mst_batch.proofs.Besides.{plan_is, plan_rows, plan_possible, plan_keeps}
 
@@ -44,11 +43,10 @@ module _ (format : Format) (content : Content) (root : Root) (es : List Edit) (m
       ∙ pairs_tree format n
 
   pub is_plan : (s : State) (marks : List Bool) → AreOld s (numbers st) → AllByRecursion IsSmall es
-      → cost format m (batched m es) < 2 ^ 32
       → AreMarks marks (plan_beside format st.tree.placed after)
       → IsPlanOf format content s root marks (plan_beside format st.tree.placed after)
       (λ n. batched n es)
-  is_plan s marks old small few only = record {
+  is_plan s marks old small only = record {
     at = λ link. node_at st.tree.placed link;
     fits = λ n map. IsMap-batched n es map small;
     possible = plan_possible format content st.tree.placed st.tree.rows s old
@@ -57,7 +55,6 @@ module _ (format : Format) (content : Content) (root : Root) (es : List Edit) (m
         (tree_mst format (batched m es))
         (subst IsAscending (sym (pairs_tree format (batched m es)))
         (IsAscending-batched m es st.map.ascending));
-    few = subst (λ (n : ℕ). n < 2 ^ 32) (sym its_rows) few;
     keeps = λ n other.
         subst (λ (p : Placed). Keeps (λ link. node_at st.tree.placed link) marks p
         (plan_beside format st.tree.placed after))
@@ -69,6 +66,14 @@ module _ (format : Format) (content : Content) (root : Root) (es : List Edit) (m
     rows = λ n other.
         its_rows ∙ ap (λ (k : List Pair). cost format k (batched k es)) (one_map n other);
   }
+
+  -- a plan that was found to be this one
+  pub found_plan : (s : State) (marks : List Bool) (plan : PlanTree) → AreOld s (numbers st)
+      → AllByRecursion IsSmall es → plan ≡ plan_beside format st.tree.placed after
+      → AreMarks marks plan → IsPlanOf format content s root marks plan (λ n. batched n es)
+  found_plan s marks plan old small is only =
+      subst (λ (y : PlanTree). IsPlanOf format content s root marks y (λ n. batched n es)) (sym is)
+      (is_plan s marks old small (subst (AreMarks marks) is only))
 
 -- the keys of the tree that stands rise
 pub whole_rises : (format : Format) (content : Content) (root : Root) (m : List Pair)

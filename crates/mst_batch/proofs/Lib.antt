@@ -27,3 +27,5 @@ pub mod Tops
 pub mod NodeItems
 pub mod NodePlans
 pub mod Builds
+pub mod Marks
+pub mod Finding

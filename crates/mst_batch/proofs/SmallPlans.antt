@@ -117,7 +117,6 @@ keeps_all format c s root marks m stands old only =
         once = once;
         search = mst_of format stands.tree.placed m stands.tree.is;
       };
-      few = omega arith;
       keeps = λ n st.
           subst (λ (p : Placed). Keeps (λ l. stands.tree.placed) marks p (kept root.link))
           (one_standing format c root m n stands st)
@@ -195,7 +194,6 @@ module _ (format : Format) (c : Content) (s : State) (root : Root) (marks : List
       once = λ x. omega arith;
       search = is_search;
     };
-    few = omega arith;
     keeps = λ n st.
         subst (λ (p : Placed). Keeps (λ l. none) marks p plan) (sym (nothing_stands n st))
         (record {

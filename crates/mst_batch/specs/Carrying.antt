@@ -1,5 +1,5 @@
 -- A plan of a change of the map that stands at a root.
-use Rattle.std.specs.Prelude.{◌≡◌, ◌<◌, ◌^◌, ℕ, Bool, List}
+use Rattle.std.specs.Prelude.{◌≡◌, ℕ, Bool, List}
 use Rattle.mst_key.specs.declared.format.Format.{Format}
 use Rattle.mst_key.specs.Map.{Pair, IsMap}
 use Rattle.mst_node.specs.Cost.{cost}
@@ -18,7 +18,6 @@ pub record IsPlanOf (format : Format) (content : Content) (s : State) (root : Ro
   pub at : ℕ → Placed
   pub fits : (m : List Pair) → IsMap m → IsMap (change m)
   pub possible : IsPlan format at content s plan
-  pub few : rows_planned plan < 2 ^ 32
   pub keeps : (m : List Pair) (stands : Stands format content root m)
       → Keeps at marks stands.tree.placed plan
   pub is : (m : List Pair) → Stands format content root m

@@ -1,6 +1,7 @@
 //! A batch of edits, made as one change of the map that stands.
 ghost use Rattle.std.specs.Prelude.{◌≡◌, ◌<◌, ◌+◌, List, IfOk, IfErr};
-ghost use Rattle.mst_key.specs.History.{batched};
+ghost use Rattle.std.specs.List.{AllByRecursion};
+ghost use Rattle.mst_key.specs.History.{batched, IsSmall};
 ghost use Rattle.mst_key.specs.Map.{Pair};
 ghost use Rattle.mst_node.specs.Cost.{cost};
 ghost use Rattle.mst_arena.specs.Lives.{free_count};
@@ -18,6 +19,25 @@ use crate::planning::find_plan;
 use mst_arena::{Desk, Root, Rows};
 use mst_key::{Edit, Format};
 use std::alloc::Allocator;
+
+/// Says that the key and the value of an edit are within their limits, as they are by their types.
+fn edit_within_limits(edit: &Edit)
+    ensures small { IsSmall edit.now }
+{
+    let _key = edit.key().bytes();
+    if let Edit::Put(_, value) = edit {
+        let _value = value.bytes();
+    }
+}
+
+/// Says the same of each edit.
+fn within_limits(edits: &[Edit])
+    ensures small { AllByRecursion IsSmall edits.now }
+{
+    for edit in edits {
+        edit_within_limits(edit);
+    }
+}
 
 /// Makes a batch of edits in the map that stands at a root as a tree of a format, all or none.
 /// Returns the root at which the map after them stands.
@@ -74,6 +94,7 @@ pub fn apply<R: Rows, A: Allocator, B: Allocator + Copy>(
     if edits.is_empty() {
         return Ok(*root);
     }
+    within_limits(edits);
     let plan = match find_plan(rows, alloc, root, edits, format) {
         Ok(plan) => plan,
         Err(refused) => return Err(NotApplied::Memory(refused)),

@@ -1,5 +1,5 @@
 //! Laws of the definitions, each proved as the contract of a function that does nothing.
-ghost use Rattle.std.specs.Prelude.{◌≡◌, ◌<◌, ◌+◌, ◌^◌, ◌↔◌, ℕ, Bool, true, List, [], ◌∷◌};
+ghost use Rattle.std.specs.Prelude.{◌≡◌, ◌+◌, ◌↔◌, ℕ, Bool, true, List, [], ◌∷◌};
 ghost use Rattle.std.specs.List.{AllByRecursion};
 ghost use Rattle.mst_key.specs.Bytes.{IsKey, IsValue};
 ghost use Rattle.mst_key.specs.History.{batched, IsSmall};
@@ -56,7 +56,7 @@ pub fn plans_beside()
     ensures plan { (format : Format) (content : Content) (s : State) (root : Root)
         (marks : List Bool) (es : List Edit) (m : List Pair)
         (stands : Stands format content root m) → AreOld s (numbers stands)
-        → AllByRecursion IsSmall es → cost format m (batched m es) < 2 ^ 32
+        → AllByRecursion IsSmall es
         → AreMarks marks (plan_beside format stands.tree.placed (tree format (batched m es)))
         → IsPlanOf format content s root marks
         (plan_beside format stands.tree.placed (tree format (batched m es))) (λ n. batched n es) }

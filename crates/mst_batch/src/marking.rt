@@ -1,7 +1,8 @@
 //! Marks at the rows of the nodes that a plan keeps.
-ghost use Rattle.std.specs.Prelude.{IfOk};
-ghost use Rattle.mst_batch.specs.Beside.{AreMarks};
-ghost use Rattle.mst_batch.specs.Plans.{plan_of};
+ghost use Rattle.std.specs.Prelude.{◌∷◌, [], IfOk, OnOk};
+ghost use Rattle.mst_batch.specs.Beside.{links_kept, AreMarks};
+ghost use Rattle.mst_batch.specs.Kept.{AddsMarks};
+ghost use Rattle.mst_batch.specs.Plans.{plan_of, plan_of_node};
 
 use crate::plan::{Plan, PlanNode};
 use mst_key::Memory;
@@ -20,9 +21,45 @@ pub(crate) fn marks_of<A: Allocator, B: Allocator>(
     Ok(marks)
 }
 
+/// Adds a mark at the row of a link, unless it is 0.
+fn mark_link<A: Allocator>(marks: &mut Vec<bool, A>, link: u32) -> Result<(), Memory>
+    ensures marks { OnOk result (AddsMarks marks.old.items marks.new.items (link ∷ [])) }
+{
+    let reached = link as usize;
+    if reached == 0 {
+        return Ok(());
+    }
+    marks.resize(marks.len().max(reached), false)?;
+    marks[reached - 1] = true;
+    Ok(())
+}
+
+/// Adds the marks of a plan.
+#[cycle(mark)]
 fn mark<A: Allocator, B: Allocator>(
     marks: &mut Vec<bool, A>,
     plan: &Plan<Box<PlanNode<B>, B>>,
-) -> Result<(), Memory> {
-    Ok(())
+) -> Result<(), Memory>
+    ensures marks { OnOk result (AddsMarks marks.old.items marks.new.items
+        (links_kept (plan_of plan.now))) }
+{
+    match plan {
+        Plan::Kept(link) => mark_link(marks, *link),
+        Plan::Made(node) => mark_node(marks, node),
+    }
+}
+
+/// Adds the marks of the plans in the gaps of a node to be made.
+#[cycle(mark)]
+fn mark_node<A: Allocator, B: Allocator>(
+    marks: &mut Vec<bool, A>,
+    node: &PlanNode<B>,
+) -> Result<(), Memory>
+    ensures marks { OnOk result (AddsMarks marks.old.items marks.new.items
+        (links_kept (plan_of_node node.now))) }
+{
+    for entry in &node.entries {
+        mark(marks, &entry.child)?;
+    }
+    mark(marks, &node.tail)
 }

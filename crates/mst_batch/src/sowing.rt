@@ -1,5 +1,5 @@
 //! A plan, carried out in free rows.
-ghost use Rattle.std.specs.Prelude.{◌≡◌, ◌≤◌, ◌<◌, ◌^◌, ℕ};
+ghost use Rattle.std.specs.Prelude.{◌≡◌, ◌≤◌, ◌^◌, ◌-◌, ℕ, min};
 ghost use Rattle.mst_arena.specs.Lives.{free_count};
 ghost use Rattle.mst_arena.specs.Standing.{Placed};
 ghost use Rattle.mst_path.specs.Takes.{IsWritable, StaysBeside};
@@ -12,11 +12,11 @@ use mst_key::Format;
 use mst_path::{NodeWriter, root_at};
 use std::alloc::Allocator;
 
-/// How many rows a plan takes: one for each entry and each node to be made.
+/// How many rows a plan takes: one for each entry and each node to be made; the greatest `u32` if
+/// it takes more.
 #[cycle(count)]
 pub fn rows_of<B: Allocator>(plan: &Plan<Box<PlanNode<B>, B>>) -> u32
-    requires few { rows_planned (plan_of plan.now) < 2 ^ 32 }
-    ensures rows { result ≡ rows_planned (plan_of plan.now) }
+    ensures rows { result ≡ min (rows_planned (plan_of plan.now)) (2 ^ 32 - 1) }
 {
     match plan {
         Plan::Kept(_) => 0,
@@ -27,14 +27,15 @@ pub fn rows_of<B: Allocator>(plan: &Plan<Box<PlanNode<B>, B>>) -> u32
 /// How many rows a node to be made takes, with all below it.
 #[cycle(count)]
 fn rows_of_node<B: Allocator>(node: &PlanNode<B>) -> u32
-    requires few { rows_planned (plan_of_node node.now) < 2 ^ 32 }
-    ensures rows { result ≡ rows_planned (plan_of_node node.now) }
+    ensures rows { result ≡ min (rows_planned (plan_of_node node.now)) (2 ^ 32 - 1) }
 {
-    let mut rows = 1;
+    let mut rows: u32 = 1;
     for entry in &node.entries {
-        rows += rows_of(&entry.child) + 1;
+        rows = rows
+            .saturating_add(rows_of(&entry.child))
+            .saturating_add(1);
     }
-    rows + rows_of(&node.tail)
+    rows.saturating_add(rows_of(&node.tail))
 }
 
 /// Carries a plan out: its nodes are written into free rows, and the trees that it keeps stay where

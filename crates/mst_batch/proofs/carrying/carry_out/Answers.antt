@@ -1,8 +1,10 @@
 use Rattle.std.proofs.Common.{List, refl, sym, arith}
+use Rattle.std.proofs.lemmas.List.Sums.{count_by-le-length}
 use Rattle.mst_key.specs.Map.{Pair}
 use Rattle.mst_node.specs.Cost.{cost}
 use Rattle.mst_node.specs.Tree.{tree}
 use Rattle.mst_arena.specs.Lists.{times}
+use Rattle.mst_arena.specs.Lives.{is_free}
 use Rattle.mst_arena.specs.Standing.{used}
 use Rattle.mst_path.proofs.lemmas.steps.Felling.{to_fell}
 use Rattle.mst_path.proofs.lemmas.steps.Rounds.{regrown}
@@ -12,9 +14,6 @@ use Rattle.mst_batch.specs.Plans.{plan_of, rows_planned, tree_planned}
 use Rattle.mst_batch.proofs.carrying.carry_out.Given.{Over}
 use Rattle.mst_batch.proofs.carrying.carry_out.Goals.{After-replace}
 use Rattle.mst_batch.proofs.carrying.carry_out.Goals as goal
-
-pub rows_of-requires : goal.rows_of-requires
-rows_of-requires g c = record { few = omega (arith, c.requires.plan.1.few) }
 
 pub returns-then-rows_of-free-clause-no_room : goal.returns-then-rows_of-free-clause-no_room
 returns-then-rows_of-free-clause-no_room g c = λ change p m st.
@@ -43,6 +42,8 @@ replace-requires-clause-room g c =
       arith,
       c.rows_of.ensures.rows,
       c.free-free.ensures.count,
+      c.free-free.ensures.few,
+      count_by-le-length is_free c.args.desk.now.lives,
       c.if-rows_of-free.false,
     )
 

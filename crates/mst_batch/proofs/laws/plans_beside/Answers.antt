@@ -12,8 +12,8 @@ pub returns-clause-rows : goal.returns-clause-rows
 returns-clause-rows c format content root m stands es = its_rows format content root es m stands
 
 pub returns-clause-plan : goal.returns-clause-plan
-returns-clause-plan c format content s root marks es m stands old small few only =
-    is_plan format content root es m stands s marks old small few only
+returns-clause-plan c format content s root marks es m stands old small only =
+    is_plan format content root es m stands s marks old small only
 
 pub returns-clause-stays : goal.returns-clause-stays
 returns-clause-stays c format content root m stands l es q has mst match =

@@ -1,9 +1,10 @@
-use Rattle.std.proofs.Common.{◌≡◌, ◌+◌, map, take}
+use Rattle.std.proofs.Common.{◌≡◌, ◌+◌, ◌-◌, map, take}
+use Rattle.std.specs.Prelude.{◌^◌, min}
 use Rattle.mst_batch.specs.Plans.{planned_entry}
 use Rattle.mst_batch.proofs.PlanShapes.{items, list_rows}
 use Rattle.mst_batch.proofs.sowing.+count.Given as goal
 
--- the rows of the head and of the entries so far
+-- the rows of the head and of the entries so far, the greatest `u32` if there are more
 abbrev pub invariant-rows_of_node-loop-entry : goal.invariant-rows_of_node-loop-entry
-invariant-rows_of_node-loop-entry g l = l.rows ≡ 1 + list_rows
-    (map planned_entry (take l.entry-index (items g.row.B.Denot l.node)))
+invariant-rows_of_node-loop-entry g l = l.rows ≡ min (1 + list_rows
+    (map planned_entry (take l.entry-index (items g.row.B.Denot l.node)))) (2 ^ 32 - 1)

@@ -13,7 +13,7 @@ use Rattle.mst_arena.specs.declared.life.Life.TheVariants.{Free}
 use Rattle.mst_arena.specs.declared.row.Row.{Row}
 use Rattle.mst_path.specs.Takes.{FreeIsBlank}
 use Rattle.mst_batch.specs.Carrying.{IsPlanOf}
-use Rattle.mst_batch.specs.Plans.{PlanTree, rows_planned}
+use Rattle.mst_batch.specs.Plans.{PlanTree}
 use Rattle.mst_batch.proofs.SmallPlans.{empty_stands, plants_one}
 use Rattle.mst_batch.proofs.tests.plans.put_by_plan.Goals as goal
 
@@ -55,7 +55,3 @@ carry_out-root-requires-clause-free c =
     new_blank c.args.size c.in_ok-desk.desk.lives c.root_at-old.new.rows
     (ap (λ (s : State). s.lives) c.in_ok-desk.ensures.ok)
     (c.root_at-old.ensures.same ∙ c.in_ok-rows.ensures.ok)
-
-pub rows_of-requires : goal.rows_of-requires
-rows_of-requires c =
-    let is = ap rows_planned c.in_ok-plan.ensures.plan in record { few = omega (arith, is) }

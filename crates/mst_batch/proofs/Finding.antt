@@ -1,0 +1,64 @@
+-- The plan of a batch: the whole tree as a part of itself, and what its items are.
+use Rattle.std.proofs.Common.{◌≡◌, List, [], ◌++◌, Bor, inl, inr, refl, sym, ◌∙◌, ap, subst}
+use Rattle.std.specs.Prelude.{◌⊎◌, Contains}
+use Rattle.std.specs.List.{AllByRecursion}
+use Rattle.mst_key.specs.History.{batched}
+use Rattle.mst_key.specs.Map.{Pair, IsAscending}
+use Rattle.mst_key.specs.declared.format.Format.{Format}
+use Rattle.mst_key.specs.declared.history.Edit.{Edit}
+use Rattle.mst_key.proofs.Ascending.{IsAscending-batched}
+use Rattle.mst_key.proofs.SpanLaws.{contains-first}
+use Rattle.mst_node.specs.Tree.{pairs}
+use Rattle.mst_node.proofs.UniqueTree.{pairs_tree}
+use Rattle.mst_arena.specs.Content.{Content}
+use Rattle.mst_arena.specs.Standing.{Placed, none, head, tree_of, Stands}
+use Rattle.mst_arena.specs.declared.row.Root.{Root}
+use Rattle.mst_path.specs.Ages.{placed_nodes, chain_nodes}
+use Rattle.mst_path.proofs.lemmas.versions.Changes.{mst_of, rises}
+use Rattle.mst_batch.specs.Items.{items_pairs, IsItem, AreItems}
+use Rattle.mst_batch.specs.Listed.{listed}
+use Rattle.mst_batch.specs.Opening.{PartOf}
+use Rattle.mst_batch.specs.declared.items.Item.{Item}
+
+pub own_part : (p : Placed) → (p ≡ none) ⊎ Contains (placed_nodes p) p
+own_part none = inl refl
+own_part (head at layer chain) =
+    inr (contains-first (head at layer chain) (chain_nodes chain) (head at layer chain) refl)
+
+module _ (format : Format) (c : Content) (root : Root) (m : List Pair)
+    (st : Stands format c root m) where
+  abbrev pub whole_part : PartOf format c st.tree.placed root.link
+  whole_part = record {
+    rows = st.tree.rows;
+    search = mst_of format st.tree.placed m st.tree.is;
+    rise = rises format c root m st;
+    placed = st.tree.placed;
+    at = st.tree.at;
+    part = own_part st.tree.placed;
+  }
+
+  -- ---- the items that are found from none on
+
+  module _ (no_items found xs : List Item) (es : List Edit) (normal ns : List (Bor Edit))
+      (from : no_items ≡ []) (all : xs ≡ found) (sorted : ns ≡ normal)
+      (same : batched m (listed normal) ≡ batched m es)
+      (is : items_pairs format st.tree.placed found ≡ items_pairs format st.tree.placed no_items
+      ++ batched (pairs (tree_of format st.tree.placed)) (listed ns)) where
+    pub pairs_are : items_pairs format st.tree.placed xs ≡ batched m es
+    pairs_are = ap (items_pairs format st.tree.placed) all
+        ∙ is
+        ∙ ap (λ (ys : List Item). items_pairs format st.tree.placed ys
+        ++ batched (pairs (tree_of format st.tree.placed)) (listed ns)) from
+        ∙ ap (λ (ys : List (Bor Edit)). batched (pairs (tree_of format st.tree.placed)) (listed ys))
+        sorted
+        ∙ ap (λ (ps : List Pair). batched ps (listed normal))
+        (ap pairs st.tree.is ∙ pairs_tree format m) ∙ same
+
+    pub items_are : (AllByRecursion (IsItem format st.tree.placed) no_items
+        → AllByRecursion (IsItem format st.tree.placed) found) → AreItems format st.tree.placed xs
+    items_are each = record {
+      each =
+          subst (AllByRecursion (IsItem format st.tree.placed)) (sym all)
+          (each (subst (AllByRecursion (IsItem format st.tree.placed)) (sym from) tt));
+      rise = subst IsAscending (sym pairs_are) (IsAscending-batched m es st.map.ascending);
+    }
