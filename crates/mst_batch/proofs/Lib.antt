@@ -29,3 +29,4 @@ pub mod NodePlans
 pub mod Builds
 pub mod Marks
 pub mod Finding
+pub mod Loads

@@ -1,5 +1,5 @@
 -- Why a batch is not made.
-use Rattle.std.specs.Prelude.{◌<◌, List, length}
+use Rattle.std.specs.Prelude.{◌<◌, ℕ, List, length}
 use Rattle.mst_key.specs.declared.format.Format.{Format}
 use Rattle.mst_key.specs.declared.history.Edit.{Edit}
 use Rattle.mst_key.specs.History.{batched}
@@ -19,3 +19,8 @@ LacksBatch (Memory refused) format content s root edits = 0 < length edits
 LacksBatch NoRoom format content s root edits =
     (m : List Pair) → Stands format content root m
     → free_count s.lives < cost format m (batched m edits)
+
+-- the tree of these pairs is not made: there are more of them than so many, or memory was refused
+abbrev pub LacksPairs : NotApplied → ℕ → List Pair → Type 0
+LacksPairs (Memory refused) most pairs = Unit {0}
+LacksPairs NoRoom most pairs = most < length pairs

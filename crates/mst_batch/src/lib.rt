@@ -32,6 +32,8 @@ mod faults;
 mod felling;
 mod items;
 mod laws;
+mod limits;
+mod loading;
 mod marking;
 mod merging;
 mod opening;
@@ -39,6 +41,7 @@ mod plan;
 mod planning;
 mod replacing;
 mod sharing;
+mod single;
 mod sowing;
 #[cfg(test)]
 mod tests;

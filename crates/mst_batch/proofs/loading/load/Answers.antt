@@ -1,0 +1,141 @@
+use Rattle.std.proofs.Common.{[], Some, sym, ap, subst, ◌∙◌, arith, rules}
+use Rattle.std.proofs.lemmas.List.Sums.{count_by-le-length}
+use Rattle.mst_key.specs.History.{batched}
+use Rattle.mst_node.specs.Shape.{tree_of_child}
+use Rattle.mst_arena.specs.Lives.{is_free}
+use Rattle.mst_arena.specs.Standing.{Stands}
+use Rattle.mst_path.specs.Planting.{IsTreeOf, tree_at}
+use Rattle.mst_batch.specs.Applying.{LacksPairs}
+use Rattle.mst_batch.proofs.Loads.{AfterBatch, is_map, after_nothing, after_planted, lacks_room, lacks_pairs}
+use Rattle.mst_batch.proofs.loading.load.Given.{Over}
+use Rattle.mst_batch.proofs.loading.load.Goals.{In_default, In-Ok-planted}
+use Rattle.mst_batch.proofs.loading.load.Goals as goal
+
+pub tree_after-requires : goal.tree_after-requires
+tree_after-requires g c =
+    let most = count_by-le-length is_free c.args.desk.now.lives in
+    record { few = omega (arith, most, c.free-free.ensures.count, c.free-free.ensures.few) }
+
+pub returns-in-Err-clause-lacks : goal.returns-in-Err-clause-lacks
+returns-in-Err-clause-lacks g c =
+    lacks_pairs c.args.format (g.R.Rows.content c.args.rows.now) c.args.root.now c.requires.empty
+    c.args.edits.now c.args.desk.now c.requires.some c.in-Err.why
+    (subst (λ most. LacksPairs c.in-Err.why most (batched [] c.args.edits.now))
+    c.free-free.ensures.count c.in-Err.ensures.lacks)
+
+-- ---- no pair is left
+
+module _ (g : Over) (c : goal.In_default g) where
+  stays : AfterBatch c.args.format (g.R.Rows.content c.args.rows.now)
+      (g.R.Rows.content c.args.rows.now) c.args.desk.now c.args.desk.now c.args.root.now
+      c.args.root.now c.args.edits.now
+  stays = after_nothing c.args.format (g.R.Rows.content c.args.rows.now) c.args.desk.now
+      c.args.root.now c.requires.empty c.requires.stands c.args.edits.now
+      c.are_within_limits.ensures.small
+      (ap (tree_of_child c.args.format) (sym c.in_default.is) ∙ c.in-Ok.ensures.tree.is)
+
+pub returns-in_default-clause-stands : goal.returns-in_default-clause-stands
+returns-in_default-clause-stands g c =
+    (stays g (goal.at.returns-in_default-clause-stands g c).In_default).stands
+
+pub returns-in_default-clause-cost : goal.returns-in_default-clause-cost
+returns-in_default-clause-cost g c =
+    (stays g (goal.at.returns-in_default-clause-cost g c).In_default).counted
+
+-- ---- the tree is planted
+
+module _ (g : Over) (c : goal.In-Ok-planted g) where
+  its_tree : IsTreeOf c.args.format (tree_at c.args.format (Some c.deref.result.now))
+      (batched [] c.args.edits.now)
+  its_tree = search rules
+
+  stands : Stands c.args.format (g.R.Rows.content c.plant-planted.new.rows) c.in-Ok-planted.done
+      (batched [] c.args.edits.now)
+  stands = c.in-Ok-planted.ensures.stands (batched [] c.args.edits.now)
+      (is_map c.args.edits.now c.are_within_limits.ensures.small) its_tree
+
+  loaded : AfterBatch c.args.format (g.R.Rows.content c.args.rows.now)
+      (g.R.Rows.content c.plant-planted.new.rows) c.args.desk.now c.plant-planted.new.desk
+      c.args.root.now c.in-Ok-planted.done c.args.edits.now
+  loaded = after_planted c.args.format (g.R.Rows.content c.args.rows.now) c.args.desk.now
+      c.args.root.now c.requires.empty c.requires.stands c.args.edits.now
+      c.are_within_limits.ensures.small (g.R.Rows.content c.plant-planted.new.rows)
+      c.plant-planted.new.desk c.in-Ok-planted.done stands
+      (c.in-Ok-planted.ensures.takes (batched [] c.args.edits.now) stands)
+      (c.in-Ok-planted.ensures.keeps (batched [] c.args.edits.now) stands)
+
+pub returns-in-Ok-planted-clause-stands : goal.returns-in-Ok-planted-clause-stands
+returns-in-Ok-planted-clause-stands g c = (loaded g c).stands
+
+pub returns-in-Ok-planted-clause-written : goal.returns-in-Ok-planted-clause-written
+returns-in-Ok-planted-clause-written g c = (loaded g c).written
+
+pub returns-in-Ok-planted-clause-cost : goal.returns-in-Ok-planted-clause-cost
+returns-in-Ok-planted-clause-cost g c = (loaded g c).counted
+
+pub returns-in-Ok-planted-clause-changes : goal.returns-in-Ok-planted-clause-changes
+returns-in-Ok-planted-clause-changes g c = (loaded g c).changes
+
+pub returns-in-Ok-planted-clause-versions : goal.returns-in-Ok-planted-clause-versions
+returns-in-Ok-planted-clause-versions g c = (loaded g c).versions
+
+pub returns-in-Ok-planted-clause-made : goal.returns-in-Ok-planted-clause-made
+returns-in-Ok-planted-clause-made g c = (loaded g c).made
+
+-- ---- there is no room for it
+
+pub returns-in-Err-planted-clause-lacks : goal.returns-in-Err-planted-clause-lacks
+returns-in-Err-planted-clause-lacks g c =
+    lacks_room c.args.format (g.R.Rows.content c.args.rows.now) c.args.root.now c.requires.empty
+    c.args.edits.now _
+    (c.in-Err-planted.ensures.no_room (batched [] c.args.edits.now) (search rules))
+
+-- ---- what a search finds
+
+pub returns-in-Err-clause-written : goal.returns-in-Err-clause-written
+returns-in-Err-clause-written g c = search rules
+
+pub returns-in-Err-clause-versions : goal.returns-in-Err-clause-versions
+returns-in-Err-clause-versions g c = search rules
+
+pub returns-in-Err-clause-beside : goal.returns-in-Err-clause-beside
+returns-in-Err-clause-beside g c = search rules
+
+pub returns-in-Err-clause-untouched : goal.returns-in-Err-clause-untouched
+returns-in-Err-clause-untouched g c = search rules
+
+pub returns-in_default-clause-written : goal.returns-in_default-clause-written
+returns-in_default-clause-written g c = search rules
+
+pub returns-in_default-clause-changes : goal.returns-in_default-clause-changes
+returns-in_default-clause-changes g c = search rules
+
+pub returns-in_default-clause-versions : goal.returns-in_default-clause-versions
+returns-in_default-clause-versions g c = search rules
+
+pub returns-in_default-clause-made : goal.returns-in_default-clause-made
+returns-in_default-clause-made g c = search rules
+
+pub returns-in_default-clause-beside : goal.returns-in_default-clause-beside
+returns-in_default-clause-beside g c = search rules
+
+pub plant-planted-requires-clause-tree : goal.plant-planted-requires-clause-tree
+plant-planted-requires-clause-tree g c = search rules
+
+pub plant-planted-requires-clause-free : goal.plant-planted-requires-clause-free
+plant-planted-requires-clause-free g c = search rules
+
+pub returns-in-Ok-planted-clause-beside : goal.returns-in-Ok-planted-clause-beside
+returns-in-Ok-planted-clause-beside g c = search rules
+
+pub returns-in-Err-planted-clause-written : goal.returns-in-Err-planted-clause-written
+returns-in-Err-planted-clause-written g c = search rules
+
+pub returns-in-Err-planted-clause-versions : goal.returns-in-Err-planted-clause-versions
+returns-in-Err-planted-clause-versions g c = search rules
+
+pub returns-in-Err-planted-clause-beside : goal.returns-in-Err-planted-clause-beside
+returns-in-Err-planted-clause-beside g c = search rules
+
+pub returns-in-Err-planted-clause-untouched : goal.returns-in-Err-planted-clause-untouched
+returns-in-Err-planted-clause-untouched g c = search rules

@@ -1,0 +1,102 @@
+//! A batch in the empty map: its tree is built in memory and planted.
+ghost use Rattle.std.specs.Prelude.{◌≡◌, ◌<◌, ◌≤◌, ◌+◌, [], List, length, IfOk, IfErr};
+ghost use Rattle.mst_key.specs.History.{batched};
+ghost use Rattle.mst_key.specs.Map.{Pair};
+ghost use Rattle.mst_node.specs.Cost.{cost};
+ghost use Rattle.mst_node.specs.Shape.{tree_of_child};
+ghost use Rattle.mst_arena.specs.Lives.{free_count};
+ghost use Rattle.mst_arena.specs.Standing.{Stands, numbers};
+ghost use Rattle.mst_path.specs.Takes.{FreeIsBlank, StaysBeside};
+ghost use Rattle.mst_path.specs.Made.{IsMade};
+ghost use Rattle.mst_path.specs.Planting.{IsTreeOf};
+ghost use Rattle.mst_path.specs.Changing.{MapStands, OnlyFreeWritten, SameVersions};
+ghost use Rattle.mst_path.specs.Reached.{Changes};
+ghost use Rattle.mst_batch.specs.Applying.{LacksBatch, LacksPairs};
+
+use crate::faults::NotApplied;
+use crate::limits::are_within_limits;
+use crate::merging::edited_pairs;
+use mst_arena::{Desk, Root, Rows};
+use mst_key::{Edit, Format};
+use mst_node::{Node, build_in, release};
+use mst_path::{NoRoom, plant};
+use std::alloc::Allocator;
+
+/// The tree of the map that edits make of the empty one, if that has no more pairs than so many.
+fn tree_after<B: Allocator + Copy>(
+    alloc: B,
+    edits: &[Edit],
+    format: Format,
+    most: u32,
+) -> Result<Option<Box<Node<B>, B>>, NotApplied>
+    requires few { most ≤ 65535 }
+    ensures tree { IfOk result
+        (λ tree. IsTreeOf format (tree_of_child format tree) (batched [] edits.now)) }
+    ensures lacks { IfErr result (λ why. LacksPairs why most (batched [] edits.now)) }
+{
+    let pairs = match edited_pairs(alloc, &[], edits) {
+        Ok(pairs) => pairs,
+        Err(refused) => return Err(NotApplied::Memory(refused)),
+    };
+    if pairs.len() > most as usize {
+        return Err(NotApplied::NoRoom);
+    }
+    match build_in(alloc, format, pairs.as_slice()) {
+        Ok(tree) => Ok(tree),
+        Err(refused) => Err(NotApplied::Memory(refused)),
+    }
+}
+
+/// Makes a batch of some edits in the empty map that stands at a root, as `apply` does: with the
+/// same rows, and to the same map.
+///
+/// The pairs after the edits are listed, and their tree is built in memory and planted, without a
+/// plan. A batch that leaves no pair leaves the root.
+pub(crate) fn load<R: Rows, A: Allocator, B: Allocator + Copy>(
+    rows: &mut R,
+    desk: &mut Desk<A>,
+    root: &Root,
+    alloc: B,
+    edits: &[Edit],
+    format: Format,
+) -> Result<Root, NotApplied>
+    requires stands { MapStands format (R.content rows.old) desk.old root.now }
+    requires empty { root.now.link ≡ 0 }
+    requires some { 0 < length edits.now }
+    requires free { FreeIsBlank desk.old.lives (R.blank rows.old) }
+    ensures stands { IfOk result (λ done. (m : List Pair)
+        → Stands format (R.content rows.old) root.now m
+        → Stands format (R.content rows.new) done (batched m edits.now)) }
+    ensures written { OnlyFreeWritten desk.old (R.content rows.old) (R.content rows.new) }
+    ensures cost { IfOk result (λ _. (m : List Pair)
+        → Stands format (R.content rows.old) root.now m
+        → free_count desk.new.lives + cost format m (batched m edits.now)
+        ≡ free_count desk.old.lives) }
+    ensures changes { IfOk result (λ done. (m n : List Pair)
+        (before : Stands format (R.content rows.old) root.now m)
+        (after : Stands format (R.content rows.new) done n)
+        → Changes desk.old desk.new (numbers before) (numbers after)) }
+    ensures versions { SameVersions desk.old desk.new }
+    ensures made { IfOk result (λ done. (n : List Pair)
+        (after : Stands format (R.content rows.new) done n) → IsMade desk.new after.tree.placed) }
+    ensures beside { StaysBeside R.blank R.kept rows.old rows.new }
+    ensures lacks { IfErr result (λ why. LacksBatch why format (R.content rows.old) desk.old
+        root.now edits.now) }
+    ensures untouched { IfErr result (λ _. (desk.new ≡ desk.old) × (rows.new ≡ rows.old)) }
+{
+    are_within_limits(edits);
+    let free = desk.free();
+    let tree = match tree_after(alloc, edits, format, free) {
+        Ok(tree) => tree,
+        Err(why) => return Err(why),
+    };
+    let Some(node) = tree else {
+        return Ok(*root);
+    };
+    let planted = plant(rows, desk, Some(&*node), format);
+    release(Some(node));
+    match planted {
+        Ok(done) => Ok(done),
+        Err(NoRoom) => Err(NotApplied::NoRoom),
+    }
+}
