@@ -1,5 +1,5 @@
 -- The plan of the map after a batch, beside the tree that stands.
-use Rattle.std.proofs.Common.{◌≡◌, ℕ, Bool, List, sym, ◌∙◌, ap, subst}
+use Rattle.std.proofs.Common.{◌≡◌, Bool, List, sym, ◌∙◌, ap, subst}
 use Rattle.std.specs.List.{AllByRecursion}
 use Rattle.mst_key.specs.History.{batched, IsSmall}
 use Rattle.mst_key.specs.Map.{Pair, IsAscending}

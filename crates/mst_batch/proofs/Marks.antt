@@ -35,10 +35,13 @@ in_second : (r : ℕ) (xs ys : List ℕ) → In r ys → In r (xs ++ ys)
 in_second r xs ys i = omega (arith, i, times-append r xs ys)
 
 pub adds_none : (marks : List Bool) → AddsMarks marks marks []
-adds_none marks row = (λ is. inl is, λ is. elim is [
-  | inl was ↦ was
-  | inr i ↦ absurd (omega (arith, i))
-])
+adds_none marks row = (
+  λ is. inl is,
+  λ is. elim is [
+    | inl was ↦ was
+    | inr i ↦ absurd (omega (arith, i))
+  ],
+)
 
 pub adds_more : (a b c : List Bool) (xs ys : List ℕ) → AddsMarks a b xs → AddsMarks b c ys
     → AddsMarks a c (xs ++ ys)

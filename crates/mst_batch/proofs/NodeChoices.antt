@@ -19,7 +19,7 @@ use Rattle.mst_change.specs.Batch.{HasEntry}
 use Rattle.mst_path.specs.Ages.{placed_nodes, chain_nodes}
 use Rattle.mst_read.specs.Search.{Lies, TreeLies}
 use Rattle.mst_batch.specs.Beside.{plan_beside, entries_beside, link_of_key, chain_link, kept_entries, kept_node, Matches}
-use Rattle.mst_batch.specs.Plans.{PlanTree, PlannedEntry, with_planned, kept, made, last, entry, plan_of_node, planned_entry}
+use Rattle.mst_batch.specs.Plans.{PlanTree, PlannedEntry, with_planned, kept, made, last, plan_of_node, planned_entry}
 use Rattle.mst_batch.specs.declared.plan.PlanEntry.{PlanEntry, out-PlanEntry}
 use Rattle.mst_batch.specs.declared.plan.PlanNode.{PlanNode, out-PlanNode}
 use Rattle.mst_batch.proofs.BatchPlans.{whole_rises}

@@ -1,7 +1,6 @@
 //! A batch of edits, made as one change of the map that stands.
 ghost use Rattle.std.specs.Prelude.{◌≡◌, ◌<◌, ◌+◌, List, IfOk, IfErr};
-ghost use Rattle.std.specs.List.{AllByRecursion};
-ghost use Rattle.mst_key.specs.History.{batched, IsSmall};
+ghost use Rattle.mst_key.specs.History.{batched};
 ghost use Rattle.mst_key.specs.Map.{Pair};
 ghost use Rattle.mst_node.specs.Cost.{cost};
 ghost use Rattle.mst_arena.specs.Lives.{free_count};
@@ -12,32 +11,14 @@ ghost use Rattle.mst_path.specs.Changing.{MapStands, OnlyFreeWritten, SameVersio
 ghost use Rattle.mst_path.specs.Reached.{Changes};
 ghost use Rattle.mst_batch.specs.Applying.{LacksBatch};
 
-use crate::carrying::carry_out;
+use crate::by_plan::apply_by_plan;
 use crate::faults::NotApplied;
-use crate::marking::marks_of;
-use crate::planning::find_plan;
+use crate::loading::load;
+use crate::single::apply_one;
 use mst_arena::{Desk, Root, Rows};
 use mst_key::{Edit, Format};
+use mst_path::NoRoom;
 use std::alloc::Allocator;
-
-/// Says that the key and the value of an edit are within their limits, as they are by their types.
-fn edit_within_limits(edit: &Edit)
-    ensures small { IsSmall edit.now }
-{
-    let _key = edit.key().bytes();
-    if let Edit::Put(_, value) = edit {
-        let _value = value.bytes();
-    }
-}
-
-/// Says the same of each edit.
-fn within_limits(edits: &[Edit])
-    ensures small { AllByRecursion IsSmall edits.now }
-{
-    for edit in edits {
-        edit_within_limits(edit);
-    }
-}
 
 /// Makes a batch of edits in the map that stands at a root as a tree of a format, all or none.
 /// Returns the root at which the map after them stands.
@@ -91,20 +72,13 @@ pub fn apply<R: Rows, A: Allocator, B: Allocator + Copy>(
         root.now edits.now) }
     ensures untouched { IfErr result (λ _. (desk.new ≡ desk.old) × (rows.new ≡ rows.old)) }
 {
-    if edits.is_empty() {
-        return Ok(*root);
-    }
-    within_limits(edits);
-    let plan = match find_plan(rows, alloc, root, edits, format) {
-        Ok(plan) => plan,
-        Err(refused) => return Err(NotApplied::Memory(refused)),
-    };
-    let kept = match marks_of(alloc, &plan) {
-        Ok(kept) => kept,
-        Err(refused) => return Err(NotApplied::Memory(refused)),
-    };
-    match carry_out(rows, desk, root, &plan, kept.as_slice(), format) {
-        Ok(done) => Ok(done),
-        Err(_) => Err(NotApplied::NoRoom),
+    match edits {
+        [] => Ok(*root),
+        [edit] => match apply_one(rows, desk, root, edit, format) {
+            Ok(done) => Ok(done),
+            Err(NoRoom) => Err(NotApplied::NoRoom),
+        },
+        _ if root.link == 0 => load(rows, desk, root, alloc, edits, format),
+        _ => apply_by_plan(rows, desk, root, alloc, edits, format),
     }
 }

@@ -27,6 +27,7 @@
 
 mod applying;
 mod building;
+mod by_plan;
 mod carrying;
 mod faults;
 mod felling;

@@ -31,9 +31,7 @@ fn rows_of_node<B: Allocator>(node: &PlanNode<B>) -> u32
 {
     let mut rows: u32 = 1;
     for entry in &node.entries {
-        rows = rows
-            .saturating_add(rows_of(&entry.child))
-            .saturating_add(1);
+        rows = rows.saturating_add(rows_of(&entry.child)).saturating_add(1);
     }
     rows.saturating_add(rows_of(&node.tail))
 }

@@ -1,127 +1,42 @@
-use Rattle.std.proofs.Common.{◌≡◌, ◌+◌, ◌<◌, List, [], ◌∷◌, length, sym, ap, subst, arith, refl}
-use Rattle.std.proofs.lemmas.Bool.Decides.{nat_tests}
+use Rattle.std.proofs.Common.{◌≡◌, ◌<◌, List, [], ◌∷◌, length, sym, subst, arith, refl}
 use Rattle.mst_key.specs.History.{batched}
-use Rattle.mst_key.specs.Map.{Pair}
+use Rattle.mst_key.specs.declared.format.Format.{Format}
 use Rattle.mst_key.specs.declared.history.Edit.{Edit}
-use Rattle.mst_node.specs.Cost.{cost}
 use Rattle.mst_node.specs.Tree.{tree}
 use Rattle.mst_change.proofs.Formats.{stays}
 use Rattle.mst_arena.specs.Content.{Content}
-use Rattle.mst_arena.specs.Lives.{free_count}
-use Rattle.mst_arena.specs.Standing.{Stands, numbers}
+use Rattle.mst_arena.specs.Lives.{State}
+use Rattle.mst_arena.specs.declared.row.Root.{Root}
 use Rattle.mst_path.specs.Changing.{MapStands}
-use Rattle.mst_path.specs.Reached.{Changes}
 use Rattle.mst_path.proofs.lemmas.versions.Changes.{AfterChange, after_change, unchanged_map}
-use Rattle.mst_batch.specs.Beside.{AreMarks}
-use Rattle.mst_batch.specs.Carrying.{IsPlanOf}
-use Rattle.mst_batch.specs.Plans.{plan_of}
-use Rattle.mst_batch.proofs.BatchPlans.{found_plan}
-use Rattle.mst_batch.proofs.applying.apply.Given.{Over}
-use Rattle.mst_batch.proofs.applying.apply.Goals.{After-is_empty, After-as_slice}
 use Rattle.mst_batch.proofs.applying.apply.Goals as goal
 
--- ---- no edits
-
-no_edits : (es : List Edit) → length es ≡ 0 → es ≡ []
+no_edits : (es : List Edit) → length es < 1 → es ≡ []
 no_edits [] none = refl
 no_edits (e ∷ es) none = absurd (omega (arith, none))
 
-module _ (g : Over) (c : After-is_empty g) (none : length c.args.edits.now ≡ 0) where
-  nothing : AfterChange c.args.format (g.R.Rows.content c.args.rows.now)
-      (g.R.Rows.content c.args.rows.now) c.args.desk.now c.args.desk.now c.args.root.now
-      c.args.root.now (λ m. batched m c.args.edits.now)
-  nothing =
-      subst (λ (es : List Edit). AfterChange c.args.format (g.R.Rows.content c.args.rows.now)
-      (g.R.Rows.content c.args.rows.now) c.args.desk.now c.args.desk.now c.args.root.now
-      c.args.root.now (λ m. batched m es)) (sym (no_edits c.args.edits.now none))
-      (after_change c.args.format (g.R.Rows.content c.args.rows.now)
-      (g.R.Rows.content c.args.rows.now) c.args.desk.now c.args.desk.now c.args.root.now
-      c.args.root.now (λ m. m) c.requires.stands (λ m map. map)
-      (λ m st old. unchanged_map c.args.format (g.R.Rows.content c.args.rows.now) c.args.desk.now
-      c.args.root.now (λ n. n) m st old refl (stays (tree c.args.format m))))
+-- no edits leave the map where it stands
+nothing : (format : Format) (content : Content) (s : State) (root : Root) (es : List Edit)
+    → length es < 1 → MapStands format content s root
+    → AfterChange format content content s s root root (λ m. batched m es)
+nothing format content s root es none stands =
+    subst (λ (es : List Edit). AfterChange format content content s s root root
+    (λ m. batched m es)) (sym (no_edits es none))
+    (after_change format content content s s root root (λ m. m) stands (λ m map. map)
+    (λ m st old. unchanged_map format content s root (λ n. n) m st old refl
+    (stays (tree format m))))
 
-pub returns-then-is_empty-clause-cost : goal.returns-then-is_empty-clause-cost
-returns-then-is_empty-clause-cost g c =
-    let none : length c.args.edits.now ≡ 0 = grind (arith, nat_tests, c.if-is_empty.ensures) in
-    (nothing g (goal.at.returns-then-is_empty-clause-cost g c).After-is_empty none).counted
+pub returns-in-empty-clause-cost : goal.returns-in-empty-clause-cost
+returns-in-empty-clause-cost g c =
+    (nothing c.args.format (g.R.Rows.content c.args.rows.now) c.args.desk.now c.args.root.now
+    c.args.edits.now c.in-empty.len_below c.requires.stands).counted
 
-pub returns-then-is_empty-clause-changes : goal.returns-then-is_empty-clause-changes
-returns-then-is_empty-clause-changes g c =
-    let none : length c.args.edits.now ≡ 0 = grind (arith, nat_tests, c.if-is_empty.ensures) in
-    (nothing g (goal.at.returns-then-is_empty-clause-changes g c).After-is_empty none).changes
+pub returns-in-empty-clause-changes : goal.returns-in-empty-clause-changes
+returns-in-empty-clause-changes g c =
+    (nothing c.args.format (g.R.Rows.content c.args.rows.now) c.args.desk.now c.args.root.now
+    c.args.edits.now c.in-empty.len_below c.requires.stands).changes
 
-pub returns-then-is_empty-clause-made : goal.returns-then-is_empty-clause-made
-returns-then-is_empty-clause-made g c =
-    let none : length c.args.edits.now ≡ 0 = grind (arith, nat_tests, c.if-is_empty.ensures) in
-    (nothing g (goal.at.returns-then-is_empty-clause-made g c).After-is_empty none).made
-
--- ---- the plan
-
-module _ (g : Over) (c : After-as_slice g) where
-  same_rows : g.R.Rows.content c.find_plan.new.rows ≡ g.R.Rows.content c.args.rows.now
-  same_rows = ap g.R.Rows.content c.find_plan.ensures.same
-
-  planned : IsPlanOf c.args.format (g.R.Rows.content c.args.rows.now) c.args.desk.now
-      c.args.root.now c.as_slice.result.now (plan_of c.in-Ok.plan)
-      (λ n. batched n c.args.edits.now)
-  planned =
-      let one = c.requires.stands in
-      found_plan c.args.format (g.R.Rows.content c.args.rows.now) c.args.root.now c.args.edits.now
-      one.0 one.1 c.args.desk.now c.as_slice.result.now (plan_of c.in-Ok.plan) one.2
-      c.within_limits.ensures.small (c.in-Ok.ensures.plan one.0 one.1)
-      (subst (λ marks. AreMarks marks (plan_of c.in-Ok.plan)) (sym c.as_slice.ensures.value)
-      c.in-Ok-marks_of.ensures.marks)
-
-pub carry_out-requires-clause-stands : goal.carry_out-requires-clause-stands
-carry_out-requires-clause-stands g c =
-    let at = (goal.at.carry_out-requires-clause-stands g c).After-as_slice in
-    subst (λ (x : Content). MapStands c.args.format x c.args.desk.now c.args.root.now)
-    (sym (same_rows g at)) c.requires.stands
-
-pub carry_out-requires-clause-plan : goal.carry_out-requires-clause-plan
-carry_out-requires-clause-plan g c =
-    let at = (goal.at.carry_out-requires-clause-plan g c).After-as_slice in (
-      λ n. batched n c.args.edits.now,
-      subst (λ (x : Content). IsPlanOf c.args.format x c.args.desk.now c.args.root.now
-          c.as_slice.result.now (plan_of c.in-Ok.plan) (λ n. batched n c.args.edits.now))
-          (sym (same_rows g at)) (planned g at),
-    )
-
--- ---- the plan is carried out
-
-pub returns-in-Ok-carry_out-clause-stands : goal.returns-in-Ok-carry_out-clause-stands
-returns-in-Ok-carry_out-clause-stands g c m st =
-    let at = (goal.at.returns-in-Ok-carry_out-clause-stands g c).After-as_slice in
-    subst (λ (x : Content). (change : List Pair → List Pair)
-    → IsPlanOf c.args.format x c.args.desk.now c.args.root.now c.as_slice.result.now
-    (plan_of c.in-Ok.plan) change → (n : List Pair) → Stands c.args.format x c.args.root.now n
-    → Stands c.args.format (g.R.Rows.content c.carry_out.new.rows) c.in-Ok-carry_out.done (change n))
-    (same_rows g at) c.in-Ok-carry_out.ensures.stands (λ n. batched n c.args.edits.now)
-    (planned g at) m st
-
-pub returns-in-Ok-carry_out-clause-cost : goal.returns-in-Ok-carry_out-clause-cost
-returns-in-Ok-carry_out-clause-cost g c m st =
-    let at = (goal.at.returns-in-Ok-carry_out-clause-cost g c).After-as_slice in
-    subst (λ (x : Content). (change : List Pair → List Pair)
-    → IsPlanOf c.args.format x c.args.desk.now c.args.root.now c.as_slice.result.now
-    (plan_of c.in-Ok.plan) change → (n : List Pair) → Stands c.args.format x c.args.root.now n
-    → free_count c.carry_out.new.desk.lives + cost c.args.format n (change n)
-    ≡ free_count c.args.desk.now.lives) (same_rows g at) c.in-Ok-carry_out.ensures.cost
-    (λ n. batched n c.args.edits.now) (planned g at) m st
-
-pub returns-in-Ok-carry_out-clause-changes : goal.returns-in-Ok-carry_out-clause-changes
-returns-in-Ok-carry_out-clause-changes g c =
-    let at = (goal.at.returns-in-Ok-carry_out-clause-changes g c).After-as_slice in
-    subst (λ (x : Content). (m n : List Pair) (before : Stands c.args.format x c.args.root.now m)
-    (after : Stands c.args.format (g.R.Rows.content c.carry_out.new.rows) c.in-Ok-carry_out.done n)
-    → Changes c.args.desk.now c.carry_out.new.desk (numbers before) (numbers after))
-    (same_rows g at) c.in-Ok-carry_out.ensures.changes
-
-pub returns-clause-lacks : goal.returns-clause-lacks
-returns-clause-lacks g c m st =
-    let at = (goal.at.returns-clause-lacks g c).After-as_slice in
-    subst (λ (x : Content). (change : List Pair → List Pair)
-    → IsPlanOf c.args.format x c.args.desk.now c.args.root.now c.as_slice.result.now
-    (plan_of c.in-Ok.plan) change → (n : List Pair) → Stands c.args.format x c.args.root.now n
-    → free_count c.args.desk.now.lives < cost c.args.format n (change n)) (same_rows g at)
-    c.in-Err-carry_out.ensures.no_room (λ n. batched n c.args.edits.now) (planned g at) m st
+pub returns-in-empty-clause-made : goal.returns-in-empty-clause-made
+returns-in-empty-clause-made g c =
+    (nothing c.args.format (g.R.Rows.content c.args.rows.now) c.args.desk.now c.args.root.now
+    c.args.edits.now c.in-empty.len_below c.requires.stands).made

@@ -1,0 +1,87 @@
+use Rattle.std.proofs.Common.{◌≡◌, ◌+◌, ◌<◌, List, sym, ap, subst}
+use Rattle.mst_key.specs.History.{batched}
+use Rattle.mst_key.specs.Map.{Pair}
+use Rattle.mst_node.specs.Cost.{cost}
+use Rattle.mst_arena.specs.Content.{Content}
+use Rattle.mst_arena.specs.Lives.{free_count}
+use Rattle.mst_arena.specs.Standing.{Stands, numbers}
+use Rattle.mst_path.specs.Changing.{MapStands}
+use Rattle.mst_path.specs.Reached.{Changes}
+use Rattle.mst_batch.specs.Beside.{AreMarks}
+use Rattle.mst_batch.specs.Carrying.{IsPlanOf}
+use Rattle.mst_batch.specs.Plans.{plan_of}
+use Rattle.mst_batch.proofs.BatchPlans.{found_plan}
+use Rattle.mst_batch.proofs.by_plan.apply_by_plan.Given.{Over}
+use Rattle.mst_batch.proofs.by_plan.apply_by_plan.Goals.{After-as_slice}
+use Rattle.mst_batch.proofs.by_plan.apply_by_plan.Goals as goal
+
+-- ---- the plan
+
+module _ (g : Over) (c : After-as_slice g) where
+  same_rows : g.R.Rows.content c.find_plan.new.rows ≡ g.R.Rows.content c.args.rows.now
+  same_rows = ap g.R.Rows.content c.find_plan.ensures.same
+
+  planned : IsPlanOf c.args.format (g.R.Rows.content c.args.rows.now) c.args.desk.now
+      c.args.root.now c.as_slice.result.now (plan_of c.in-Ok.plan)
+      (λ n. batched n c.args.edits.now)
+  planned =
+      let one = c.requires.stands in
+      found_plan c.args.format (g.R.Rows.content c.args.rows.now) c.args.root.now c.args.edits.now
+      one.0 one.1 c.args.desk.now c.as_slice.result.now (plan_of c.in-Ok.plan) one.2
+      c.are_within_limits.ensures.small (c.in-Ok.ensures.plan one.0 one.1)
+      (subst (λ marks. AreMarks marks (plan_of c.in-Ok.plan)) (sym c.as_slice.ensures.value)
+      c.in-Ok-marks_of.ensures.marks)
+
+pub carry_out-requires-clause-stands : goal.carry_out-requires-clause-stands
+carry_out-requires-clause-stands g c =
+    let at = (goal.at.carry_out-requires-clause-stands g c).After-as_slice in
+    subst (λ (x : Content). MapStands c.args.format x c.args.desk.now c.args.root.now)
+    (sym (same_rows g at)) c.requires.stands
+
+pub carry_out-requires-clause-plan : goal.carry_out-requires-clause-plan
+carry_out-requires-clause-plan g c =
+    let at = (goal.at.carry_out-requires-clause-plan g c).After-as_slice in (
+      λ n. batched n c.args.edits.now,
+      subst (λ (x : Content). IsPlanOf c.args.format x c.args.desk.now c.args.root.now
+          c.as_slice.result.now (plan_of c.in-Ok.plan) (λ n. batched n c.args.edits.now))
+          (sym (same_rows g at)) (planned g at),
+    )
+
+-- ---- the plan is carried out
+
+pub returns-in-Ok-carry_out-clause-stands : goal.returns-in-Ok-carry_out-clause-stands
+returns-in-Ok-carry_out-clause-stands g c m st =
+    let at = (goal.at.returns-in-Ok-carry_out-clause-stands g c).After-as_slice in
+    subst (λ (x : Content). (change : List Pair → List Pair)
+    → IsPlanOf c.args.format x c.args.desk.now c.args.root.now c.as_slice.result.now
+    (plan_of c.in-Ok.plan) change → (n : List Pair) → Stands c.args.format x c.args.root.now n
+    → Stands c.args.format (g.R.Rows.content c.carry_out.new.rows) c.in-Ok-carry_out.done (change n))
+    (same_rows g at) c.in-Ok-carry_out.ensures.stands (λ n. batched n c.args.edits.now)
+    (planned g at) m st
+
+pub returns-in-Ok-carry_out-clause-cost : goal.returns-in-Ok-carry_out-clause-cost
+returns-in-Ok-carry_out-clause-cost g c m st =
+    let at = (goal.at.returns-in-Ok-carry_out-clause-cost g c).After-as_slice in
+    subst (λ (x : Content). (change : List Pair → List Pair)
+    → IsPlanOf c.args.format x c.args.desk.now c.args.root.now c.as_slice.result.now
+    (plan_of c.in-Ok.plan) change → (n : List Pair) → Stands c.args.format x c.args.root.now n
+    → free_count c.carry_out.new.desk.lives + cost c.args.format n (change n)
+    ≡ free_count c.args.desk.now.lives) (same_rows g at) c.in-Ok-carry_out.ensures.cost
+    (λ n. batched n c.args.edits.now) (planned g at) m st
+
+pub returns-in-Ok-carry_out-clause-changes : goal.returns-in-Ok-carry_out-clause-changes
+returns-in-Ok-carry_out-clause-changes g c =
+    let at = (goal.at.returns-in-Ok-carry_out-clause-changes g c).After-as_slice in
+    subst (λ (x : Content). (m n : List Pair) (before : Stands c.args.format x c.args.root.now m)
+    (after : Stands c.args.format (g.R.Rows.content c.carry_out.new.rows) c.in-Ok-carry_out.done n)
+    → Changes c.args.desk.now c.carry_out.new.desk (numbers before) (numbers after))
+    (same_rows g at) c.in-Ok-carry_out.ensures.changes
+
+pub returns-clause-lacks : goal.returns-clause-lacks
+returns-clause-lacks g c m st =
+    let at = (goal.at.returns-clause-lacks g c).After-as_slice in
+    subst (λ (x : Content). (change : List Pair → List Pair)
+    → IsPlanOf c.args.format x c.args.desk.now c.args.root.now c.as_slice.result.now
+    (plan_of c.in-Ok.plan) change → (n : List Pair) → Stands c.args.format x c.args.root.now n
+    → free_count c.args.desk.now.lives < cost c.args.format n (change n)) (same_rows g at)
+    c.in-Err-carry_out.ensures.no_room (λ n. batched n c.args.edits.now) (planned g at) m st

@@ -1,0 +1,74 @@
+//! A batch of edits, made by its plan.
+ghost use Rattle.std.specs.Prelude.{◌≡◌, ◌<◌, ◌+◌, List, length, IfOk, IfErr};
+ghost use Rattle.mst_key.specs.History.{batched};
+ghost use Rattle.mst_key.specs.Map.{Pair};
+ghost use Rattle.mst_node.specs.Cost.{cost};
+ghost use Rattle.mst_arena.specs.Lives.{free_count};
+ghost use Rattle.mst_arena.specs.Standing.{Stands, numbers};
+ghost use Rattle.mst_path.specs.Takes.{FreeIsBlank, StaysBeside};
+ghost use Rattle.mst_path.specs.Made.{IsMade};
+ghost use Rattle.mst_path.specs.Changing.{MapStands, OnlyFreeWritten, SameVersions};
+ghost use Rattle.mst_path.specs.Reached.{Changes};
+ghost use Rattle.mst_batch.specs.Applying.{LacksBatch};
+
+use crate::carrying::carry_out;
+use crate::faults::NotApplied;
+use crate::limits::are_within_limits;
+use crate::marking::marks_of;
+use crate::planning::find_plan;
+use mst_arena::{Desk, Root, Rows};
+use mst_key::{Edit, Format};
+use std::alloc::Allocator;
+
+/// Makes a batch of some edits in the map that stands at a root, as `apply` does.
+///
+/// The plan of the batch is found and its nodes are marked that stay; then it is carried out. All
+/// memory is taken before the first row is written.
+pub(crate) fn apply_by_plan<R: Rows, A: Allocator, B: Allocator + Copy>(
+    rows: &mut R,
+    desk: &mut Desk<A>,
+    root: &Root,
+    alloc: B,
+    edits: &[Edit],
+    format: Format,
+) -> Result<Root, NotApplied>
+    requires stands { MapStands format (R.content rows.old) desk.old root.now }
+    requires some { 0 < length edits.now }
+    requires free { FreeIsBlank desk.old.lives (R.blank rows.old) }
+    ensures stands { IfOk result (λ done. (m : List Pair)
+        → Stands format (R.content rows.old) root.now m
+        → Stands format (R.content rows.new) done (batched m edits.now)) }
+    ensures written { OnlyFreeWritten desk.old (R.content rows.old) (R.content rows.new) }
+    // as many rows as the nodes that are new have entries and heads
+    ensures cost { IfOk result (λ _. (m : List Pair)
+        → Stands format (R.content rows.old) root.now m
+        → free_count desk.new.lives + cost format m (batched m edits.now)
+        ≡ free_count desk.old.lives) }
+    ensures changes { IfOk result (λ done. (m n : List Pair)
+        (before : Stands format (R.content rows.old) root.now m)
+        (after : Stands format (R.content rows.new) done n)
+        → Changes desk.old desk.new (numbers before) (numbers after)) }
+    ensures versions { SameVersions desk.old desk.new }
+    // the rows of a node are of one age: with all below it they were there before, or they are all
+    // new
+    ensures made { IfOk result (λ done. (n : List Pair)
+        (after : Stands format (R.content rows.new) done n) → IsMade desk.new after.tree.placed) }
+    ensures beside { StaysBeside R.blank R.kept rows.old rows.new }
+    ensures lacks { IfErr result (λ why. LacksBatch why format (R.content rows.old) desk.old
+        root.now edits.now) }
+    ensures untouched { IfErr result (λ _. (desk.new ≡ desk.old) × (rows.new ≡ rows.old)) }
+{
+    are_within_limits(edits);
+    let plan = match find_plan(rows, alloc, root, edits, format) {
+        Ok(plan) => plan,
+        Err(refused) => return Err(NotApplied::Memory(refused)),
+    };
+    let kept = match marks_of(alloc, &plan) {
+        Ok(kept) => kept,
+        Err(refused) => return Err(NotApplied::Memory(refused)),
+    };
+    match carry_out(rows, desk, root, &plan, kept.as_slice(), format) {
+        Ok(done) => Ok(done),
+        Err(_) => Err(NotApplied::NoRoom),
+    }
+}
