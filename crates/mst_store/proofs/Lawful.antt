@@ -1,16 +1,21 @@
--- Events of the passes of a store, what passes have seen that met, and the rows of the first put.
-use Rattle.std.proofs.Common.{◌≡◌, ◌≢◌, ◌⊎◌, ℕ, suc, ◌+◌, ◌<◌, ◌≤◌, Bool, cond, if◌then◌else◌, max, List, [], ◌∷◌, length, refl, sym, ap, ◌∙◌, subst, arith, ne_eqb}
+-- Events of the passes of a store, what passes have seen that met, the rows of the first put, and
+-- why no edits are refused.
+use Rattle.std.proofs.Common.{◌≡◌, ◌≢◌, ◌⊎◌, ℕ, suc, ◌+◌, ◌<◌, ◌≤◌, Bool, cond, if◌then◌else◌, max, List, [], ◌∷◌, length, inl, inr, refl, sym, ap, ◌∙◌, subst, arith, ne_eqb}
 use mathlib.Core.Logic.{dite}
 use native.Mathlib.Decide.{ℕ_discrete}
 use Rattle.std.proofs.lemmas.Bool.{eq-eqb}
 use Rattle.std.proofs.lemmas.List.Elements.{All-head, All-tail}
 use Rattle.mst_key.specs.declared.format.Format.{Format}
 use Rattle.mst_key.specs.declared.history.Event.{Event}
-use Rattle.mst_key.specs.History.{History, events_of, IsPrefix}
+use Rattle.mst_key.specs.History.{History, after, format_after, events_of, IsPrefix}
 use Rattle.mst_key.proofs.HistoryLaws.{IsPrefix-compare}
 use Rattle.mst_key.specs.Layer.{layer_in}
+use Rattle.mst_change.proofs.Formats.{stays}
 use Rattle.mst_node.specs.Tree.{empty, node, last, entry, entries_of, tree_within, tree}
 use Rattle.mst_words.specs.Notes.{IsOfPasses}
+use Rattle.mst_store.specs.declared.faults.ApplyFault.{ApplyFault}
+use Rattle.mst_store.specs.declared.faults.ApplyFault.TheVariants.{Busy, VersionsSpent, Memory, NoRoom}
+use Rattle.mst_store.specs.Applying.{RefusesBatch}
 use Rattle.mst_store.specs.Passes.{Known}
 use Rattle.mst_store.specs.Settling.{Met}
 
@@ -90,3 +95,14 @@ lone_tree format k v =
     ap (λ (t : Bool). node format (max (layer_in format k) 0)
     (if t then entry empty k v (last empty) else last empty))
     (eq-eqb (layer_in format k) (max (layer_in format k) 0) (greatest_one (layer_in format k)))
+
+-- no edits take no row, and no memory
+pub no_edits : (fault : ApplyFault) (p q : Known) → RefusesBatch fault [] p q → (fault ≡ Busy)
+    ⊎ (fault ≡ VersionsSpent)
+no_edits Busy p q refused = inl refl
+no_edits VersionsSpent p q refused = inr refl
+no_edits (Memory why) p q refused = let none = refused.3 in absurd (omega (arith, none))
+no_edits NoRoom p q refused =
+    let some = refused.4.costs in
+    let none = stays (tree (format_after p.store.format q.seen) (after q.seen)) in
+    absurd (omega (arith, some, none))

@@ -8,6 +8,7 @@ mod Lawful
 mod Made
 mod Written
 mod Migrated
+mod Batched
 mod Counted
 pub mod Courier
 pub mod AllPasses

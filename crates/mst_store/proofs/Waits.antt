@@ -1,10 +1,13 @@
 -- Tries in vain, and then one that is not.
-use Rattle.std.proofs.Common.{◌≡◌, ℕ, ◌+◌, ◌<◌, refl, ap, ◌∙◌, subst, arith}
+use Rattle.std.proofs.Common.{◌≡◌, ℕ, ◌+◌, ◌<◌, List, refl, ap, ◌∙◌, subst, arith}
 use Rattle.mst_key.specs.declared.history.Change.{Change}
+use Rattle.mst_key.specs.declared.history.Edit.{Edit}
 use Rattle.mst_key.specs.History.{Reply}
+use Rattle.mst_store.specs.declared.faults.BatchFault.{BatchFault}
 use Rattle.mst_store.specs.declared.faults.ChangeFault.{ChangeFault}
+use Rattle.mst_store.specs.Applying.{RefusesBatch}
 use Rattle.mst_store.specs.Passes.{Known, having_missed, made_by, Wrote, Refuses, FindsBusy}
-use Rattle.mst_store.specs.Waiting.{HasTried, WroteAfter, RefusesAfter, as_tried}
+use Rattle.mst_store.specs.Waiting.{HasTried, WroteAfter, RefusesAfter, RefusesBatchAfter, as_tried, as_tried_batch}
 
 -- before the first
 pub not_tried : (p : Known) → HasTried p p
@@ -53,5 +56,16 @@ refused_then fault change p q r had refused =
           subst (λ (s : Known). Refuses (as_tried fault) change s r) had.now refused;
     }
 
--- all four, for a loop of tries
-pub ruleset all_tries = (not_tried, tried_again, wrote_then, refused_then)
+-- one of a batch that was refused
+pub batch_refused_then : (fault : BatchFault) (edits : List Edit) (p q r : Known) → HasTried p q
+    → RefusesBatch (as_tried_batch fault) edits q r → RefusesBatchAfter fault edits p r
+batch_refused_then fault edits p q r had refused =
+    record {
+      tries = had.tries;
+      vain = had.vain;
+      refused =
+          subst (λ (s : Known). RefusesBatch (as_tried_batch fault) edits s r) had.now refused;
+    }
+
+-- all of them, for a loop of tries
+pub ruleset all_tries = (not_tried, tried_again, wrote_then, refused_then, batch_refused_then)

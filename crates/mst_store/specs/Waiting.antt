@@ -1,13 +1,19 @@
 -- What a write that waits for the turn says: after some tries at which another pass had the turn,
 -- it is as one that tries once.
-use Rattle.std.specs.Prelude.{◌≡◌, ℕ}
+use Rattle.std.specs.Prelude.{◌≡◌, ℕ, List}
 use Rattle.mst_key.specs.declared.history.Change.{Change}
+use Rattle.mst_key.specs.declared.history.Edit.{Edit}
 use Rattle.mst_key.specs.declared.history.Event.{Event}
 use Rattle.mst_key.specs.History.{Reply}
 use Rattle.mst_store.specs.declared.faults.WriteFault.{WriteFault}
 use Rattle.mst_store.specs.declared.faults.WriteFault.TheVariants as tried
 use Rattle.mst_store.specs.declared.faults.ChangeFault.{ChangeFault}
 use Rattle.mst_store.specs.declared.faults.ChangeFault.TheVariants.{VersionsSpent, NoRoom}
+use Rattle.mst_store.specs.declared.faults.ApplyFault.{ApplyFault}
+use Rattle.mst_store.specs.declared.faults.ApplyFault.TheVariants as apply
+use Rattle.mst_store.specs.declared.faults.BatchFault.{BatchFault}
+use Rattle.mst_store.specs.declared.faults.BatchFault.TheVariants as batch
+use Rattle.mst_store.specs.Applying.{RefusesBatch}
 use Rattle.mst_store.specs.Passes.{Known, having_missed, Wrote, Refuses}
 
 -- so many tries at which another pass had the turn: in a store of one pass there are none
@@ -37,3 +43,15 @@ pub record RefusesAfter (fault : ChangeFault) (change : Change) (p q : Known) : 
   pub tries : ℕ
   pub vain : InVain tries p
   pub refused : Refuses (as_tried fault) change (having_missed tries p) q
+
+-- the same refusal of a batch that tries once
+abbrev pub as_tried_batch : BatchFault → ApplyFault
+as_tried_batch batch.VersionsSpent = apply.VersionsSpent
+as_tried_batch (batch.Memory refused) = apply.Memory refused
+as_tried_batch batch.NoRoom = apply.NoRoom
+
+-- after some tries in vain the batch was refused, as one that tries once
+pub record RefusesBatchAfter (fault : BatchFault) (edits : List Edit) (p q : Known) : Type 0 where
+  pub tries : ℕ
+  pub vain : InVain tries p
+  pub refused : RefusesBatch (as_tried_batch fault) edits (having_missed tries p) q

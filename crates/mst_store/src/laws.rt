@@ -7,6 +7,9 @@ ghost use Rattle.mst_key.specs.declared.history.Change.TheVariants.{Put, Remove}
 ghost use Rattle.mst_key.specs.History.{History, events_of, IsPrefix};
 ghost use Rattle.mst_key.specs.Map.{Pair};
 ghost use Rattle.mst_words.specs.Notes.{IsOfPasses};
+ghost use Rattle.mst_store.specs.Applying.{RefusesBatch};
+ghost use Rattle.mst_store.specs.declared.faults.ApplyFault.{ApplyFault};
+ghost use Rattle.mst_store.specs.declared.faults.ApplyFault.TheVariants.{Busy, VersionsSpent};
 ghost use Rattle.mst_store.specs.Passes.{Known, HasRoom, LacksRoom};
 ghost use Rattle.mst_store.specs.Settling.{Met};
 
@@ -34,7 +37,8 @@ pub fn meeting_laws()
         → q.number ≡ 2 → length m.seen ≡ length p.mine + length q.mine }
 {}
 
-/// A change finds room or lacks it, and never both.
+/// A change finds room or lacks it, and never both. An empty batch is never refused
+/// memory or room.
 pub fn room_laws()
     ensures not_both { (rows : ℕ) (format : Format) (m : List Pair) (change : Change)
         → HasRoom rows format m change → LacksRoom rows format m change → ⊥ }
@@ -44,4 +48,6 @@ pub fn room_laws()
     ensures first_put { (format : Format) (k v : List ℕ)
         → HasRoom 2 format [] (Put k v) × LacksRoom 1 format [] (Put k v) }
     ensures no_remove { (format : Format) (k : List ℕ) → HasRoom 0 format [] (Remove k) }
+    ensures no_edits { (fault : ApplyFault) (p q : Known) → RefusesBatch fault [] p q
+        → (fault ≡ Busy) ⊎ (fault ≡ VersionsSpent) }
 {}

@@ -16,13 +16,16 @@
 //!
 //! One pass at a time writes. Meanwhile [`Pass::try_put`] and [`Pass::try_remove`] of another pass
 //! return [`Busy`](WriteFault::Busy), and its [`Pass::put`] and [`Pass::remove`] wait and may never
-//! return. What all passes saw and did is one history; after [`meet`] or [`settle`] passes have
-//! seen the same part of it. `specs/Passes.antt` has the definitions that the contracts cite.
+//! return. [`Pass::try_apply`] and [`Pass::apply`] make many edits in one turn, as one version.
+//!
+//! What all passes saw and did is one history; after [`meet`] or [`settle`] passes have seen the
+//! same part of it. `specs/Passes.antt` has the definitions that the contracts cite.
 //!
 //! A store does not grow, and does not outlive its process. The rows of a pinned version are not
 //! used again, so a pass that is dropped while it pins keeps them for good.
 #![tactic(auto)]
 
+mod applying;
 mod counting;
 mod faults;
 mod laid;
@@ -41,7 +44,7 @@ mod turn;
 mod waiting;
 mod writing;
 
-pub use faults::{Busy, ChangeFault, MigrateFault, OpenFault, WriteFault};
+pub use faults::{ApplyFault, BatchFault, Busy, ChangeFault, MigrateFault, OpenFault, WriteFault};
 pub use laid::{Laid, LaidPinned};
 pub use laws::{event_laws, meeting_laws, room_laws};
 pub use mst_key::{Format, Memory};

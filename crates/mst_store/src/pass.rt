@@ -1,18 +1,20 @@
 //! A pass: the calls that one thread makes.
 ghost use Rattle.std.specs.Prelude.{◌≡◌, ◌↔◌, ◌+◌, ◌<◌, ◌^◌, [], length, IfOk, IfErr, IfSome, IsSome, OnOk, OnErr};
 ghost use Rattle.mst_key.specs.declared.history.Change.TheVariants.{Put, Remove, Migrate};
+ghost use Rattle.mst_key.specs.declared.history.Change.TheVariants as change;
 ghost use Rattle.mst_key.specs.Map.{map_get, map_next, map_range};
 ghost use Rattle.mst_node.specs.Text.{root};
 ghost use Rattle.mst_node.specs.Trail.{proof_text};
 ghost use Rattle.std.specs.Option.{option_copied};
 ghost use Rattle.mst_store.specs.Passes.{Looks, Answers, format_seen, having_asked, made_by, Wrote, FindsBusy, Refuses};
-ghost use Rattle.mst_key.specs.History.{after, had, was, IsMigration, IsBatch};
+ghost use Rattle.mst_key.specs.History.{after, had, was, done, IsMigration, IsBatch};
 ghost use Rattle.mst_store.specs.Writes.{rows_of, AreFound};
 ghost use Rattle.mst_store.specs.Migrating.{RefusesMigration};
+ghost use Rattle.mst_store.specs.Applying.{RefusesBatch};
 
-use crate::faults::{Busy, MigrateFault, WriteFault};
-use crate::{counting, migrating, reading, writing};
-use mst_key::{Change, Event, Format, Key, Memory, Value};
+use crate::faults::{ApplyFault, Busy, MigrateFault, WriteFault};
+use crate::{applying, counting, migrating, reading, writing};
+use mst_key::{Change, Edit, Event, Format, Key, Memory, Value};
 use mst_words::PassSeat;
 use std::alloc::Allocator;
 use std::marker::Model;
@@ -261,5 +263,28 @@ impl<'a, A: Allocator + Copy> Pass<'a, A> {
         ensures err { IfErr result (λ fault. RefusesMigration fault to self.old self.new) }
     {
         migrating::migrate(&mut self.seat, alloc, self.number, self.passes, to)
+    }
+
+    /// Makes the edits, one after another, as one change: of edits of one key the last decides, and
+    /// the history gets one event. Readers see the map after all of them or the one before them.
+    ///
+    /// A batch takes a row for each entry and one for each node of the tree after it that the tree
+    /// before it has not. Edits that change nothing take no row, and no edits no memory; each is a
+    /// new version all the same. All memory is taken before the first row is written, and given
+    /// back before the call returns. Other passes are refused the turn for the whole of the call.
+    ///
+    /// Returns `Busy` only if another pass has the turn; otherwise `VersionsSpent` exactly if the
+    /// current version has the last number; otherwise `Memory` if a growth was refused; otherwise
+    /// `NoRoom` exactly if too few rows are free, as for [`Pass::try_put`].
+    pub fn try_apply<B: Allocator + Copy>(
+        &mut self,
+        alloc: B,
+        edits: &[Edit],
+    ) -> Result<(), ApplyFault>
+        ensures ok { OnOk result
+            (Wrote (made_by self.old (change.Batch edits.now)) self.old done self.new) }
+        ensures err { IfErr result (λ fault. RefusesBatch fault edits.now self.old self.new) }
+    {
+        applying::apply(&mut self.seat, alloc, self.number, self.passes, edits)
     }
 }

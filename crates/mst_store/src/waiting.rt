@@ -1,14 +1,14 @@
 //! Writes that wait for the turn: the only calls of a store that may not return.
-ghost use Rattle.std.specs.Prelude.{IfOk, IfErr};
-ghost use Rattle.mst_key.specs.declared.history.Change.TheVariants.{Put, Remove};
-ghost use Rattle.mst_key.specs.History.{had};
+ghost use Rattle.std.specs.Prelude.{IfOk, IfErr, OnOk};
+ghost use Rattle.mst_key.specs.declared.history.Change.TheVariants.{Put, Remove, Batch};
+ghost use Rattle.mst_key.specs.History.{had, done};
 ghost use Rattle.mst_store.specs.Passes.{made_by};
-ghost use Rattle.mst_store.specs.Waiting.{WroteAfter, RefusesAfter};
+ghost use Rattle.mst_store.specs.Waiting.{WroteAfter, RefusesAfter, RefusesBatchAfter};
 
-use crate::faults::{ChangeFault, WriteFault};
+use crate::faults::{ApplyFault, BatchFault, ChangeFault, WriteFault};
 use crate::pass::Pass;
 use crossbeam_utils::Backoff;
-use mst_key::{Key, Value};
+use mst_key::{Edit, Key, Value};
 use std::alloc::Allocator;
 use std::sync::Wait;
 
@@ -60,6 +60,32 @@ impl<'a, A: Allocator + Copy> Pass<'a, A> {
                 Err(WriteFault::Busy) => backoff.snooze(),
                 Err(WriteFault::VersionsSpent) => return Err(ChangeFault::VersionsSpent),
                 Err(WriteFault::NoRoom) => return Err(ChangeFault::NoRoom),
+            }
+        }
+        unreachable!()
+    }
+
+    /// Makes the edits as [`Pass::try_apply`] does, and waits for the turn as [`Pass::put`] does.
+    /// Its errors are those of [`Pass::try_apply`] but for `Busy`. While it waits it has no memory.
+    #[tactic(auto, using(crate::proofs::Waits::all_tries))]
+    pub fn apply<R: Wait, B: Allocator + Copy>(
+        &mut self,
+        rt: &R,
+        alloc: B,
+        edits: &[Edit],
+    ) -> Result<(), BatchFault>
+        ensures ok { OnOk result
+            (WroteAfter (made_by self.old (Batch edits.now)) self.old done self.new) }
+        ensures err { IfErr result (λ fault. RefusesBatchAfter fault edits.now self.old self.new) }
+    {
+        let backoff = Backoff::new();
+        for _ in rt.forever() {
+            match self.try_apply(alloc, edits) {
+                Ok(()) => return Ok(()),
+                Err(ApplyFault::Busy) => backoff.snooze(),
+                Err(ApplyFault::VersionsSpent) => return Err(BatchFault::VersionsSpent),
+                Err(ApplyFault::Memory(refused)) => return Err(BatchFault::Memory(refused)),
+                Err(ApplyFault::NoRoom) => return Err(BatchFault::NoRoom),
             }
         }
         unreachable!()

@@ -3,13 +3,14 @@
 //! A table that is a constant costs its test's proof next to nothing; the same calls written out
 //! cost it more than in proportion.
 use crate::fixtures::{
-    count_pairs, counts, finds_no_room, gets, has_root, has_version, migrates, migration_fails,
-    moves_many, next_is, proves, put_fails, puts, puts_in_turn, puts_many, removes,
-    removes_in_turn, still_counts, still_gets, still_next, still_proves,
+    Spelt, applies, applies_in_turn, batch_fails, batch_lacks_room, count_pairs, counts,
+    finds_no_room, gets, has_root, has_version, migrates, migration_fails, moves_many, next_is,
+    proves, put_fails, puts, puts_in_turn, puts_many, removes, removes_in_turn, still_counts,
+    still_gets, still_next, still_proves,
 };
 use crate::starving::{is_right_or_refused, is_starved, still_starved};
 use crate::stores::{Seat, both_passes, opened};
-use mst_store::{Format, MigrateFault, Pass, Pinned, Shape, WriteFault};
+use mst_store::{ApplyFault, Format, MigrateFault, Pass, Pinned, Shape, WriteFault};
 use std::alloc::{Allocator, Global};
 use std::process::Abort;
 use std::sync::Wait;
@@ -33,6 +34,14 @@ pub(crate) enum Call {
     RemoveInTurn(Bytes, Option<Bytes>),
     /// A put at the key and a remove of it that wait for the turn, and find no room.
     InTurnInVain(Bytes),
+    /// A batch of these edits.
+    Apply(&'static [Spelt]),
+    /// A batch of these edits that finds no room.
+    ApplyInVain(&'static [Spelt]),
+    /// A batch of these edits that waits for the turn.
+    ApplyInTurn(&'static [Spelt]),
+    /// A batch of these edits that waits for the turn, and finds no room.
+    ApplyInTurnInVain(&'static [Spelt]),
     /// A migration to the first format, from the second.
     Migrate(Format, Format),
     /// A migration to the format, that finds no room.
@@ -83,7 +92,22 @@ fn writes<A: Allocator + Copy>(rt: &impl Wait, pass: &mut Pass<A>, call: Call) -
     }
 }
 
-// Whether a migration of a free pass, or else a write, returns what the call says.
+// Whether a batch of a free pass, or else a write, returns what the call says.
+fn applies_all<A: Allocator + Copy>(
+    rt: &(impl AllocGlobal + Wait),
+    pass: &mut Pass<A>,
+    call: Call,
+) -> bool {
+    match call {
+        Call::Apply(edits) => applies(rt.alloc(), pass, edits),
+        Call::ApplyInVain(edits) => batch_fails(rt.alloc(), pass, edits, ApplyFault::NoRoom),
+        Call::ApplyInTurn(edits) => applies_in_turn(rt, pass, edits),
+        Call::ApplyInTurnInVain(edits) => batch_lacks_room(rt, pass, edits),
+        other => writes(rt, pass, other),
+    }
+}
+
+// Whether a migration of a free pass, or else a batch or a write, returns what the call says.
 fn moves<A: Allocator + Copy>(
     rt: &(impl AllocGlobal + Wait),
     pass: &mut Pass<A>,
@@ -93,7 +117,7 @@ fn moves<A: Allocator + Copy>(
         Call::Migrate(to, was) => migrates(pass, rt.alloc(), to, was),
         Call::MigrateInVain(to) => migration_fails(pass, rt.alloc(), to, MigrateFault::NoRoom),
         Call::MigrateMany => moves_many(pass, rt.alloc()),
-        other => writes(rt, pass, other),
+        other => applies_all(rt, pass, other),
     }
 }
 

@@ -2,9 +2,11 @@
 //!
 //! None of these functions says anything in a contract, so that what calls them is proved from few
 //! facts.
-use mst_key::{Key, Value};
-use mst_store::{ChangeFault, Format, MigrateFault, Pass, Pinned, WriteFault};
-use std::alloc::Allocator;
+use mst_key::{Edit, Key, Value};
+use mst_store::{
+    ApplyFault, BatchFault, ChangeFault, Format, MigrateFault, Pass, Pinned, WriteFault,
+};
+use std::alloc::{Allocator, Global};
 use std::process::Abort;
 use std::sync::Wait;
 
@@ -148,6 +150,72 @@ pub(crate) fn migration_fails<A: Allocator + Copy, B: Allocator + Copy>(
     fault: MigrateFault,
 ) -> bool {
     pass.try_migrate(alloc, to) == Err(fault)
+}
+
+/// An edit as it is spelt: its key, and the value that it puts, or none if it removes the key.
+pub(crate) type Spelt = (&'static [u8], Option<&'static [u8]>);
+
+/// The edits as they are spelt; none if memory was refused, or a key or value is too long.
+pub(crate) fn edits_of(alloc: Global, spelt: &[Spelt]) -> Option<Vec<Edit>> {
+    let mut edits = Vec::new(alloc);
+    for (key, value) in spelt {
+        let key = Key::new(key).ok()?;
+        let edit = match value {
+            Some(bytes) => Edit::Put(key, Value::new(bytes).ok()?),
+            None => Edit::Remove(key),
+        };
+        edits.push(edit).ok()?;
+    }
+    Some(edits)
+}
+
+/// Whether a batch of these edits goes through.
+pub(crate) fn applies<A: Allocator + Copy>(
+    alloc: Global,
+    pass: &mut Pass<A>,
+    spelt: &[Spelt],
+) -> bool {
+    match edits_of(alloc, spelt) {
+        Some(edits) => pass.try_apply(alloc, &edits) == Ok(()),
+        None => false,
+    }
+}
+
+/// Whether a batch of these edits is refused so.
+pub(crate) fn batch_fails<A: Allocator + Copy>(
+    alloc: Global,
+    pass: &mut Pass<A>,
+    spelt: &[Spelt],
+    fault: ApplyFault,
+) -> bool {
+    match edits_of(alloc, spelt) {
+        Some(edits) => pass.try_apply(alloc, &edits) == Err(fault),
+        None => false,
+    }
+}
+
+/// Whether a batch of these edits that waits goes through.
+pub(crate) fn applies_in_turn<A: Allocator + Copy>(
+    rt: &(impl AllocGlobal + Wait),
+    pass: &mut Pass<A>,
+    spelt: &[Spelt],
+) -> bool {
+    match edits_of(rt.alloc(), spelt) {
+        Some(edits) => pass.apply(rt, rt.alloc(), &edits) == Ok(()),
+        None => false,
+    }
+}
+
+/// Whether a batch of these edits that waits is refused for want of room.
+pub(crate) fn batch_lacks_room<A: Allocator + Copy>(
+    rt: &(impl AllocGlobal + Wait),
+    pass: &mut Pass<A>,
+    spelt: &[Spelt],
+) -> bool {
+    match edits_of(rt.alloc(), spelt) {
+        Some(edits) => pass.apply(rt, rt.alloc(), &edits) == Err(BatchFault::NoRoom),
+        None => false,
+    }
 }
 
 /// Whether a thousand puts at the key a go through, which had 1.

@@ -8,6 +8,8 @@ mod ample;
 #[cfg(test)]
 mod auditing;
 #[cfg(test)]
+mod batches;
+#[cfg(test)]
 mod calls;
 #[cfg(test)]
 mod deep;

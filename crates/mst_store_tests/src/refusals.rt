@@ -1,5 +1,7 @@
 //! The text of each refusal.
-use mst_store::{Busy, ChangeFault, Memory, MigrateFault, OpenFault, WriteFault};
+use mst_store::{
+    ApplyFault, BatchFault, Busy, ChangeFault, Memory, MigrateFault, OpenFault, WriteFault,
+};
 use std::alloc::{AllocError, Global};
 use std::fmt::Display;
 use std::process::Abort;
@@ -41,4 +43,26 @@ fn each_refusal_has_its_text(rt: HostRuntime) {
         assert!(rt; says(&rt, rt.alloc(), fault, text), "{text}");
     }
     assert!(rt; says(&rt, rt.alloc(), &Busy, "another pass has the turn"));
+}
+
+#[test]
+fn each_refusal_of_a_batch_has_its_text(rt: HostRuntime) {
+    const TRIES: &[(ApplyFault, &str)] = &[
+        (ApplyFault::Busy, "another pass has the turn"),
+        (ApplyFault::VersionsSpent, "version numbers are spent"),
+        (ApplyFault::NoRoom, "no room"),
+    ];
+    const BATCHES: &[(BatchFault, &str)] = &[
+        (BatchFault::VersionsSpent, "version numbers are spent"),
+        (BatchFault::NoRoom, "no room"),
+    ];
+    let refused = Memory::from(AllocError);
+    assert!(rt; says(&rt, rt.alloc(), &ApplyFault::Memory(refused), "no memory"));
+    assert!(rt; says(&rt, rt.alloc(), &BatchFault::Memory(refused), "no memory"));
+    for (fault, text) in TRIES {
+        assert!(rt; says(&rt, rt.alloc(), fault, text), "{text}");
+    }
+    for (fault, text) in BATCHES {
+        assert!(rt; says(&rt, rt.alloc(), fault, text), "{text}");
+    }
 }

@@ -220,7 +220,7 @@ fn a_top_node_splits_the_tree_below(rt: HostRuntime) {
 }
 
 /// The numbers below 300, of layers 0 to 2, and numbers of layers 2 to 4, in decimal digits.
-fn keys(rt: &(impl Abort + AllocGlobal)) -> Vec<Key> {
+pub(crate) fn keys(rt: &(impl Abort + AllocGlobal)) -> Vec<Key> {
     let mut keys = Vec::new(rt.alloc());
     for number in 0..300u32 {
         let digits = format!(in rt.alloc(); "{number}").expect(rt, "memory");

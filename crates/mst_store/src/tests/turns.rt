@@ -4,7 +4,7 @@ ghost use Rattle.std.specs.Prelude.{◌≡◌};
 
 use crate::tests::tables::opened;
 use crate::turn::{NotBegun, begin, begin_write, give_back};
-use crate::{Busy, Pass, Seats, Shape, Store, WriteFault};
+use crate::{ApplyFault, Busy, Pass, Seats, Shape, Store, WriteFault};
 use mst_key::{Format, Key, Value};
 use std::alloc::{Allocator, Global};
 use std::process::Abort;
@@ -56,9 +56,15 @@ fn adds<A: Allocator + Copy>(pass: &mut Pass<A>, key: &Key, value: &Value) -> bo
 }
 
 // Whether each call that needs the turn returns that another pass has it.
-fn is_refused<A: Allocator + Copy>(pass: &mut Pass<A>, key: &Key, value: &Value) -> bool {
+fn is_refused<A: Allocator + Copy>(
+    alloc: Global,
+    pass: &mut Pass<A>,
+    key: &Key,
+    value: &Value,
+) -> bool {
     pass.try_put(key, value).err() == Some(WriteFault::Busy)
         && pass.try_remove(key).err() == Some(WriteFault::Busy)
+        && pass.try_apply(alloc, &[]) == Err(ApplyFault::Busy)
         && pass.rows() == Err(Busy)
 }
 
@@ -132,7 +138,7 @@ fn a_pass_that_finds_the_turn_taken_is_told_so_and_reads_on(rt: HostRuntime) -> 
     } = first;
     assert!(rt; seat.take_turn(number));
     for round in 0..3u32 {
-        assert!(rt; is_refused(&mut second, &abc, &one), "{round}");
+        assert!(rt; is_refused(rt.alloc(), &mut second, &abc, &one), "{round}");
         assert!(rt; gets(&mut second, &abc, &x, 2), "{round}");
         assert!(rt; shown(&mut second, rt.alloc(), &abc) == before, "{round}");
     }

@@ -1,7 +1,7 @@
 use Rattle.std.proofs.Common.{ap, arith}
 use Rattle.mst_node.specs.Tree.{Tree, empty, tree_within, tree}
 use Rattle.mst_node.specs.Cost.{new_rows}
-use Rattle.mst_store.proofs.Lawful.{lone_tree}
+use Rattle.mst_store.proofs.Lawful.{lone_tree, no_edits}
 use Rattle.mst_store.proofs.laws.room_laws.Goals as goal
 
 pub returns-clause-not_both : goal.returns-clause-not_both
@@ -19,3 +19,6 @@ returns-clause-first_put c format k v = let two =
 pub returns-clause-no_remove : goal.returns-clause-no_remove
 unfolding tree tree_within
 returns-clause-no_remove c format k = omega arith
+
+pub returns-clause-no_edits : goal.returns-clause-no_edits
+returns-clause-no_edits c fault p q refused = no_edits fault p q refused

@@ -1,0 +1,40 @@
+use Rattle.std.proofs.Common.{◌≡◌, ℕ, List, sym, ap, subst, rules}
+use Rattle.mst_key.specs.declared.history.Change.TheVariants.{Batch}
+use Rattle.mst_key.specs.declared.history.Edit.{Edit}
+use Rattle.mst_key.specs.declared.history.Event.{Event}
+use Rattle.mst_key.specs.History.{done}
+use Rattle.mst_words.specs.Access.{Seated}
+use Rattle.mst_batch.specs.declared.faults.NotApplied.{NotApplied}
+use Rattle.mst_batch.specs.declared.faults.NotApplied.TheVariants as applied
+use Rattle.mst_store.specs.Applying.{LacksEdits}
+use Rattle.mst_store.specs.Turns.{Added}
+use Rattle.mst_store.specs.Writes.{WroteAtSeat}
+use Rattle.mst_store.proofs.Written.{wrote, refused}
+use Rattle.mst_store.proofs.applying.apply.Goals as goal
+
+pub returns-in-Ok-make_batch-clause-wrote : goal.returns-in-Ok-make_batch-clause-wrote
+returns-in-Ok-make_batch-clause-wrote g c =
+    let made = c.in-Ok-make_batch in
+    let m = c.args.seat.now.me in
+    let event : ℕ → List Edit → Event = λ p es. record { pass = p; change = Batch es } in
+    let e = event c.args.number c.args.edits.now in
+    let added : Added e c.make_batch.new.seat.me c.publish.new.seat.me =
+    subst (λ (es : List Edit). Added (event c.args.number es) c.make_batch.new.seat.me
+    c.publish.new.seat.me) c.new.ensures.edits c.publish.ensures.added in
+    subst (λ (p : ℕ). WroteAtSeat (event p c.args.edits.now) m done c.publish.new.seat.me)
+    (sym c.requires.free.3)
+    (wrote m c.begin_write.new.seat.me c.in-Ok.turn c.in-Ok.ensures.begun e made.root done
+    c.make_batch.new.turn c.make_batch.new.seat.me c.publish.new.seat.me made.ensures.made added
+    c.in-Ok.ensures.room (sym c.requires.free.3))
+
+pub returns-in-Err-NoRoom-clause-refused : goal.returns-in-Err-NoRoom-clause-refused
+returns-in-Err-NoRoom-clause-refused g c =
+    let t = c.in-Ok.turn in
+    let why = c.in-Err-NoRoom.ensures in
+    let back = c.give_back-in-Err-NoRoom in
+    let is : c.in-Err-NoRoom.field-0 ≡ applied.NoRoom = search rules in
+    let lacks = subst (λ (why : NotApplied). LacksEdits why c.args.edits.now t
+    c.begin_write.new.seat.me) is why.lacks in
+    refused c.args.seat.now.me c.begin_write.new.seat.me t c.in-Ok.ensures.begun
+    c.make_batch.new.seat.me back.new.seat.me (ap (λ (z : Seated). z.me) why.untouched.1)
+    back.ensures.gave (Batch c.args.edits.now) c.in-Ok.ensures.room lacks

@@ -1,0 +1,344 @@
+//! Batches: many edits in one version, against the same edits one by one.
+use crate::calls::Call::{
+    Apply, ApplyInTurn, ApplyInTurnInVain, ApplyInVain, Get, Migrate, Pin, Put, Remove, Root, Rows,
+    Unpin, Version,
+};
+use crate::calls::{Step, script};
+use crate::fixtures::{
+    ROOT_OF_BOTH, ROOT_OF_NONE, Spelt, counts, edits_of, gets, has_root, has_version, puts, value,
+};
+use crate::plain_list::PlainList;
+use crate::room::keys;
+use crate::stores::{AMPLE, SMALL, both_passes, dealt, fill, heap_of, is_full, opened};
+use linked_list_allocator::LocalHeap;
+use mst_key::{Edit, Key};
+use mst_store::{ApplyFault, Format, Memory, Pass, Shape};
+use std::alloc::{AllocError, Global};
+use std::process::Abort;
+
+// Of a with 1 and abc with x, in an order that is not that of the keys, by way of others.
+const BOTH: &[Spelt] = &[
+    (b"b", Some(b"2")),
+    (b"abc", Some(b"y")),
+    (b"a", Some(b"1")),
+    (b"b", None),
+    (b"abc", Some(b"x")),
+    (b"z", None),
+];
+
+#[test]
+fn a_batch_leaves_the_map_of_its_edits_as_one_version(rt: HostRuntime) {
+    const ONE_BY_ONE: &[Step] = &[
+        (1, Put(b"b", b"2", None)),
+        (1, Put(b"abc", b"y", None)),
+        (1, Put(b"a", b"1", None)),
+        (1, Remove(b"b", Some(b"2"))),
+        (1, Put(b"abc", b"x", Some(b"y"))),
+        (1, Remove(b"z", None)),
+        (1, Root(ROOT_OF_BOTH)),
+        (1, Rows(Some(3))),
+        (1, Version(6)),
+    ];
+    const AT_ONCE: &[Step] = &[
+        (1, Apply(BOTH)),
+        (1, Root(ROOT_OF_BOTH)),
+        (2, Root(ROOT_OF_BOTH)),
+        (2, Get(b"b", None)),
+        (1, Rows(Some(3))),
+        (1, Version(1)),
+        // all of it again changes nothing, and is a version
+        (2, Apply(BOTH)),
+        (2, Root(ROOT_OF_BOTH)),
+        (2, Version(2)),
+        (2, Apply(&[(b"a", None), (b"abc", None)])),
+        (1, Root(ROOT_OF_NONE)),
+        (1, Rows(Some(0))),
+        (1, Version(3)),
+    ];
+    script(&rt, 8, &[ONE_BY_ONE]);
+    script(&rt, 8, &[AT_ONCE]);
+}
+
+#[test]
+fn no_edits_are_a_version_that_takes_no_row(rt: HostRuntime) {
+    const STEPS: &[Step] = &[
+        (1, Apply(&[])),
+        (1, Root(ROOT_OF_NONE)),
+        (2, Apply(&[(b"b", Some(b"2")), (b"a", Some(b"1")), (b"c", Some(b"3"))])),
+        // no row is left over
+        (1, Rows(Some(4))),
+        (1, Apply(&[])),
+        (2, ApplyInTurn(&[])),
+        (2, ApplyInVain(&[(b"b", None)])),
+        (1, Get(b"b", Some(b"2"))),
+        (1, Version(4)),
+    ];
+    script(&rt, 4, &[STEPS]);
+}
+
+#[test]
+fn a_batch_that_finds_no_room_changes_nothing(rt: HostRuntime) {
+    const STEPS: &[Step] = &[
+        (1, Put(b"abc", b"x", None)),
+        // two rows are left over, and three are needed
+        (1, ApplyInVain(BOTH)),
+        (2, ApplyInTurnInVain(BOTH)),
+        (1, Version(1)),
+        (1, Rows(Some(2))),
+        (1, Get(b"abc", Some(b"x"))),
+        (1, Get(b"a", None)),
+        // the turn was given back
+        (2, Apply(&[(b"abc", None), (b"a", Some(b"1"))])),
+        (1, Get(b"abc", None)),
+        (1, Version(2)),
+    ];
+    script(&rt, 4, &[STEPS]);
+}
+
+#[test]
+fn a_pinned_pass_sees_none_of_a_batch(rt: HostRuntime) {
+    const STEPS: &[Step] = &[
+        (1, Put(b"a", b"1", None)),
+        (1, Put(b"abc", b"x", None)),
+        (1, Pin),
+        (
+            2,
+            Apply(&[(b"a", None), (b"b", Some(b"2")), (b"abc", Some(b"y"))]),
+        ),
+        (1, Get(b"a", Some(b"1"))),
+        (1, Get(b"b", None)),
+        (1, Root(ROOT_OF_BOTH)),
+        (1, Version(2)),
+        (2, Get(b"a", None)),
+        (2, Get(b"b", Some(b"2"))),
+        (2, Get(b"abc", Some(b"y"))),
+        // both versions take three rows each
+        (2, ApplyInVain(&[(b"b", None)])),
+        (1, Unpin),
+        (1, Get(b"a", None)),
+        (2, Apply(&[(b"b", None)])),
+        (1, Version(4)),
+    ];
+    script(&rt, 6, &[STEPS]);
+}
+
+#[test]
+fn a_batch_is_made_in_each_format(rt: HostRuntime) {
+    const STEPS: &[Step] = &[
+        (1, Migrate(Format::Two, Format::One)),
+        (2, Apply(BOTH)),
+        (1, Migrate(Format::One, Format::Two)),
+        (1, Root(ROOT_OF_BOTH)),
+        (1, Version(3)),
+    ];
+    script(&rt, 16, &[STEPS]);
+}
+
+#[test]
+fn a_batch_in_turn_goes_through(rt: HostRuntime) {
+    const STEPS: &[Step] = &[
+        (1, ApplyInTurn(BOTH)),
+        (2, Root(ROOT_OF_BOTH)),
+        (2, ApplyInTurn(&[(b"abc", None), (b"a", None)])),
+        (1, Root(ROOT_OF_NONE)),
+        (1, Version(2)),
+    ];
+    script(&rt, 8, &[STEPS]);
+}
+
+// ---- memory that is refused
+
+// Whether a batch in a heap of so many bytes goes through; none if memory was refused. It is also
+// wrong if the heap is not empty after it.
+fn applied_in(
+    alloc: Global,
+    pass: &mut Pass<Global>,
+    edits: &[Edit],
+    bytes: usize,
+) -> Option<bool> {
+    let Ok(heap) = LocalHeap::new(alloc, bytes) else {
+        return Some(false);
+    };
+    let answered = pass.try_apply(&heap, edits);
+    if heap.used() != 0 {
+        return Some(false);
+    }
+    match answered {
+        Ok(()) => Some(true),
+        Err(ApplyFault::Memory(_)) => None,
+        Err(_) => Some(false),
+    }
+}
+
+// Whether the store is still as it was after one put of abc, and the turn can be had.
+fn has_one_pair(pass: &mut Pass<Global>) -> bool {
+    has_version(pass, 1) && counts(pass, Some(2)) && gets(pass, b"abc", Some(b"x"))
+}
+
+// In how many heaps, each of 16 bytes more than the one before, a batch found no memory; none if
+// something else went wrong.
+fn refused_heaps(
+    alloc: Global,
+    first: &mut Pass<Global>,
+    second: &mut Pass<Global>,
+    edits: &[Edit],
+) -> Option<usize> {
+    for units in 1..256usize {
+        match applied_in(alloc, first, edits, units * 16) {
+            Some(true) => return Some(units - 1),
+            Some(false) => return None,
+            None => {
+                if !has_one_pair(second) || !has_one_pair(first) {
+                    return None;
+                }
+            }
+        }
+    }
+    None
+}
+
+#[test]
+fn each_growth_of_a_batch_is_refused(rt: HostRuntime) {
+    let (store, seats) = opened(&rt, rt.alloc(), SMALL);
+    let (mut first, mut second) = both_passes(&rt, rt.alloc(), &store, seats);
+    assert!(rt; puts(&mut first, b"abc", b"x", None));
+    let edits = edits_of(rt.alloc(), BOTH).expect(&rt, "memory");
+    let refused = refused_heaps(rt.alloc(), &mut first, &mut second, &edits);
+    assert!(rt; matches!(refused, Some(count) if 2 < count));
+    assert!(rt; has_root(&mut second, &ROOT_OF_BOTH) && has_version(&mut second, 2));
+}
+
+#[test]
+fn no_edits_take_no_memory(rt: HostRuntime) {
+    let heap = heap_of(&rt, AMPLE);
+    let (store, seats) = opened(&rt, &heap, SMALL);
+    let (mut first, mut second) = both_passes(&rt, &heap, &store, seats);
+    let edits = edits_of(rt.alloc(), BOTH).expect(&rt, "memory");
+    let blocks = fill(&rt, &heap);
+    assert!(rt; is_full(&heap) && !blocks.is_empty());
+    let refused = ApplyFault::Memory(Memory::from(AllocError));
+    assert!(rt; first.try_apply(&heap, &edits) == Err(refused));
+    assert!(rt; second.try_apply(&heap, &[]) == Ok(()) && has_version(&mut first, 1));
+}
+
+// ---- random batches, over the store and over a plain list
+
+fn next(state: u64) -> u64 {
+    state
+        .wrapping_mul(6_364_136_223_846_793_005)
+        .wrapping_add(1_442_695_040_888_963_407)
+}
+
+// Two puts for each remove.
+fn random_edit(rt: &impl Abort, keys: &[Key], state: u64) -> Edit {
+    let bytes = state.to_be_bytes();
+    let Some(key) = keys.get((state >> 33) as usize % 305) else {
+        panic!(rt; "305 keys")
+    };
+    if bytes[0] % 3 < 2 {
+        Edit::Put(key.copy(), value(rt, &[bytes[3] % 4]))
+    } else {
+        Edit::Remove(key.copy())
+    }
+}
+
+// Up to 15 edits, and the state of the generator after them.
+fn random_edits(rt: &(impl Abort + AllocGlobal), keys: &[Key], state: u64) -> (Vec<Edit>, u64) {
+    let mut edits = Vec::new(rt.alloc());
+    let mut state = next(state);
+    for _ in 0..(state >> 60) {
+        state = next(state);
+        edits
+            .push(random_edit(rt, keys, state))
+            .expect(rt, "memory");
+    }
+    (edits, state)
+}
+
+// The list after the edits, one by one.
+fn after(rt: &(impl Abort + AllocGlobal), list: &PlainList, edits: &[Edit]) -> PlainList {
+    let mut after = list.moved(rt, rt.alloc(), list.format());
+    for edit in edits {
+        after = match edit {
+            Edit::Put(key, value) => after.with(rt, rt.alloc(), key, Some(value)),
+            Edit::Remove(key) => after.with(rt, rt.alloc(), key, None),
+        };
+    }
+    after
+}
+
+// The list after the batch if it goes through, none if it finds no room. Compares which of them,
+// and the root digest.
+fn apply_both(
+    rt: &(impl Abort + AllocGlobal),
+    pass: &mut Pass<Global>,
+    list: &PlainList,
+    edits: &[Edit],
+    rows: usize,
+) -> Option<PlainList> {
+    let after = after(rt, list, edits);
+    let taken = list.cost(list).all.saturating_add(after.cost(list).new);
+    let answer = pass.try_apply(rt.alloc(), edits);
+    if taken > rows {
+        assert!(rt; answer == Err(ApplyFault::NoRoom));
+        assert!(rt; has_root(pass, &list.root(rt, rt.alloc())));
+        return None;
+    }
+    assert!(rt; answer == Ok(()));
+    assert!(rt; has_root(pass, &after.root(rt, rt.alloc())));
+    Some(after)
+}
+
+// How many of a hundred random batches find no room, from a generator that begins at the seed.
+fn random_batches(
+    rt: &(impl Abort + AllocGlobal),
+    pass: &mut Pass<Global>,
+    shape: Shape,
+    seed: u64,
+) -> u32 {
+    let keys = keys(rt);
+    let mut list = PlainList::new(rt.alloc(), shape.format);
+    let mut state = seed;
+    let mut refused = 0u32;
+    for _ in 0..BATCHES {
+        let (edits, after) = random_edits(rt, &keys, state);
+        state = after;
+        match apply_both(rt, pass, &list, &edits, shape.rows as usize) {
+            Some(after) => list = after,
+            None => refused = refused.saturating_add(1),
+        }
+    }
+    refused
+}
+
+/// How many random batches a test makes.
+const BATCHES: u32 = 100;
+
+// Random batches in a store of so many rows are made, or refused, as in the list.
+fn applies_as_the_list(rt: &(impl Abort + AllocGlobal), rows: u32, format: Format, seed: u64) {
+    let shape = Shape {
+        rows,
+        passes: 1,
+        format,
+    };
+    let (store, seats) = opened(rt, rt.alloc(), shape);
+    let mut passes = dealt(rt, rt.alloc(), &store, seats);
+    let Some(pass) = passes.first_mut() else {
+        panic!(rt; "one pass")
+    };
+    let refused = random_batches(rt, pass, shape, seed);
+    assert!(rt;
+        0 < refused && refused < BATCHES,
+        "{refused} batches were refused"
+    );
+}
+
+#[test]
+fn random_batches_answer_as_the_list_does(rt: HostRuntime) {
+    applies_as_the_list(&rt, 240, Format::One, 1);
+}
+
+#[test]
+fn random_batches_in_format_2_answer_as_the_list_does(rt: HostRuntime) {
+    applies_as_the_list(&rt, 240, Format::Two, 2);
+}
