@@ -1,4 +1,5 @@
 //! Scripts over the passes of a store: whole scripts, and devices and memory that fail.
+mod batches;
 mod devices;
 mod ends;
 mod formats;

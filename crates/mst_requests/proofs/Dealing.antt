@@ -6,7 +6,8 @@ use Rattle.std.specs.Char.{is_ascii_digit}
 use Rattle.std.proofs.lemmas.Bool.{leb-true, eqb-false}
 use Rattle.mst_requests.specs.declared.request.Command.{Command}
 use Rattle.mst_requests.specs.declared.request.Fault.{Fault}
-use Rattle.mst_requests.specs.Grammar.{spelt, number_up_to, pass_in, command_of, asked_of, by_pass, by_fields, fields_of, asked, IsDealt}
+use Rattle.mst_requests.specs.Fields.{spelt, number_up_to, pass_in, fields_of}
+use Rattle.mst_requests.specs.Grammar.{command_of, asked_of, by_pass, by_fields, asked, IsDealt}
 use Rattle.mst_requests.proofs.Numbers.{spelt_more}
 
 -- the number of a pass is from 1 to n

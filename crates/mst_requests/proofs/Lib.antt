@@ -1,3 +1,4 @@
+pub mod Batching
 pub mod Blanks
 pub mod Numbers
 pub mod Dealing

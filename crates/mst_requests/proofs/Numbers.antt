@@ -5,7 +5,7 @@ use Rattle.std.specs.List.{list_all}
 use Rattle.std.specs.Char.{is_ascii_digit}
 use Rattle.std.proofs.lemmas.Bool.{lt-leb}
 use Rattle.std.proofs.Math.Seq.{drop-cons}
-use Rattle.mst_requests.specs.Grammar.{spelt, number_up_to}
+use Rattle.mst_requests.specs.Fields.{spelt, number_up_to}
 
 -- more digits make no smaller number
 pub spelt_more : (n : ℕ) (ds : List ℕ) → n ≤ spelt n ds

@@ -3,7 +3,7 @@ use Rattle.std.specs.Prelude.{ℕ, List, [], ◌++◌, codes}
 use Rattle.hex.specs.Hex.{encode_lower}
 use Rattle.mst_key.specs.Digits.{digits_of}
 use Rattle.mst_requests.specs.declared.answer.Answer.{Answer}
-use Rattle.mst_requests.specs.declared.answer.Answer.TheVariants.{Refused, Value, Pair, Pairs, Root, Pinned, Unpinned, Rows, Format, Was, Bytes, NoNode, Busy, Spent, NoRoom, Memory}
+use Rattle.mst_requests.specs.declared.answer.Answer.TheVariants.{Refused, Value, Pair, Pairs, Root, Pinned, Unpinned, Rows, Format, Was, Done, Bytes, NoNode, Busy, Spent, NoRoom, Memory}
 use Rattle.mst_requests.specs.Texts.{line_of, fault_words, value_words, found_words, count_words, pair_lines, pinned_words, rows_words, format_words, was_words}
 
 -- the words of the first line, without the digits of bytes, which may be many
@@ -18,6 +18,7 @@ first_words Unpinned = codes "unpinned"
 first_words (Rows found) = rows_words found
 first_words (Format format) = format_words format
 first_words (Was format) = was_words format
+first_words Done = codes "done"
 first_words (Bytes found) = []
 first_words NoNode = codes "empty"
 first_words Busy = codes "busy"
@@ -37,6 +38,7 @@ text_of Unpinned = line_of (codes "unpinned")
 text_of (Rows found) = line_of (rows_words found)
 text_of (Format format) = line_of (format_words format)
 text_of (Was format) = line_of (was_words format)
+text_of Done = line_of (codes "done")
 text_of (Bytes found) = line_of (encode_lower found.items)
 text_of NoNode = line_of (codes "empty")
 text_of Busy = line_of (codes "busy")

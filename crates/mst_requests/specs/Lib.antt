@@ -1,3 +1,5 @@
+pub mod Fields
+pub mod Batches
 pub mod Grammar
 pub mod Texts
 pub mod Answers

@@ -36,6 +36,8 @@ pub enum Answer<A: Allocator> {
     Format(Format),
     /// The format that a migration left.
     Was(Format),
+    /// A batch was made.
+    Done,
     /// Bytes of a format: a proof, or the text of a node.
     Bytes(Vec<u8, A>),
     /// The map is empty, so it has no node.
@@ -219,6 +221,7 @@ fn first_line<A: Allocator>(answer: &Answer<A>) -> Text
         Answer::Rows(rows) => extend_rows(&mut text, *rows),
         Answer::Format(format) => extend(&mut text, format_words(*format)),
         Answer::Was(format) => extend(&mut text, was_words(*format)),
+        Answer::Done => extend(&mut text, b"done"),
         Answer::Bytes(_) => {}
         Answer::NoNode => extend(&mut text, b"empty"),
         Answer::Busy => extend(&mut text, b"busy"),

@@ -1,7 +1,7 @@
 //! The fields of a line, and what they spell.
-ghost use Rattle.std.specs.Prelude.{◌≡◌, ◌≢◌, ◌≤◌, ◌∷◌, [], List, ℕ, true, false, length, take, MatchOption, MatchResult, IfSome, IfOk, None, Some};
+ghost use Rattle.std.specs.Prelude.{◌≡◌, ◌≢◌, ◌≤◌, ◌<◌, ◌∷◌, [], List, ℕ, true, false, length, take, MatchOption, MatchResult, IfSome, IfOk, None, Some};
 ghost use Rattle.mst_requests.specs.declared.request.Fault.TheVariants.{FieldCount};
-ghost use Rattle.mst_requests.specs.Grammar.{fields_of, fields_behind, bytes_of as spelt_bytes, number_up_to, pass_in, count_in, format_in, has_key_size, has_value_size, has_bound_size, bound_of};
+ghost use Rattle.mst_requests.specs.Fields.{fields_of, fields_behind, bytes_of as spelt_bytes, number_up_to, pass_in, count_in, format_in, has_key_size, has_value_size, has_bound_size, bound_of};
 
 use crate::request::Fault;
 use mst_key::{Format, Key, KeySize, Value, ValueSize};
@@ -11,7 +11,7 @@ use mst_lines::cut;
 pub fn first_field(line: &[u8]) -> (&[u8], Option<&[u8]>)
     ensures fields { fields_of line.now ≡ result.0.now ∷ fields_behind result.1 }
     ensures size { length result.0.now ≤ length line.now }
-    ensures rest_size { IfSome result.1 (λ rest. length rest.now ≤ length line.now) }
+    ensures rest_size { IfSome result.1 (λ rest. length rest.now < length line.now) }
 {
     match cut(line, b' ') {
         Some((first, rest)) => (first, Some(rest)),
@@ -134,7 +134,7 @@ pub fn format_of(field: &[u8]) -> Option<Format>
 
 // The bytes that a field spells, at the front of the room: pairs of hexadecimal digits, or `-` for
 // none.
-#[tactic(auto, unfolding(crate::specs::Grammar::bytes_of))]
+#[tactic(auto, unfolding(crate::specs::Fields::bytes_of))]
 fn bytes_of(field: &[u8], room: &mut [u8; 2048]) -> Option<usize>
     requires { length field.now ≤ 4096 }
     ensures { MatchOption result (spelt_bytes field.now ≡ None) (λ n. (n ≤ 2048)

@@ -5,15 +5,18 @@
 //! put_answer(&mut sink, &mut pending, &answer)?  // of Answer::Value(Some(..)): "some 78\n"
 //! ```
 //!
-//! `specs/Grammar.antt` has the lines with their faults in their order, `specs/Texts.antt` the
-//! texts of answers. Nothing is asked of a store here: `mst_script` does that.
+//! `specs/Grammar.antt` has the lines with their faults in their order, `specs/Batches.antt` the
+//! edits of batches, `specs/Texts.antt` the texts of answers. Nothing is asked of a store here:
+//! `mst_script` does that.
 #![tactic(auto)]
 
 mod answer;
+mod edits;
 mod fields;
 mod parse;
 mod request;
 
 pub use answer::{Answer, put_answer};
+pub use edits::Edits;
 pub use parse::request_in;
 pub use request::{Command, Fault, Request};

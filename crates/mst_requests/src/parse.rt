@@ -1,8 +1,11 @@
 //! From what is kept of a line to what it asks for.
 ghost use Rattle.std.specs.Prelude.{◌≡◌, ◌≤◌, length, IfSome, IfOk};
 ghost use Rattle.mst_requests.specs.declared.request.Command.TheVariants.{Remove, Get, Prove};
-ghost use Rattle.mst_requests.specs.Grammar.{fields_of, fields_behind, put_fields, key_fields, about_key, next_fields, range_fields, migrate_fields, no_fields, named_command, command_of, by_fields, asked, IsDealt};
+ghost use Rattle.mst_requests.specs.Fields.{fields_of, fields_behind};
+ghost use Rattle.mst_requests.specs.Batches.{edits_read};
+ghost use Rattle.mst_requests.specs.Grammar.{put_fields, key_fields, about_key, next_fields, range_fields, migrate_fields, about_edits, no_fields, named_command, command_of, by_fields, asked, IsDealt};
 
+use crate::edits::Edits;
 use crate::fields::{
     bound_in, count_of, first_field, format_of, key_of, no_field, one_field, pass_of, three_fields,
     two_fields, value_of,
@@ -12,7 +15,7 @@ use mst_key::Key;
 use mst_lines::LineBuffer;
 
 // What `put` asks for, by what stands after it.
-fn put_command(fields: Option<&[u8]>) -> Result<Command, Fault>
+fn put_command(fields: Option<&[u8]>) -> Result<Command<'_>, Fault>
     requires { IfSome fields (λ rest. length rest.now ≤ 4096) }
     ensures { result ≡ put_fields (fields_behind fields.entry) }
 {
@@ -39,7 +42,7 @@ fn key_alone(fields: Option<&[u8]>) -> Result<Key, Fault>
 }
 
 // What `del` asks for, by what stands after it.
-fn remove_command(fields: Option<&[u8]>) -> Result<Command, Fault>
+fn remove_command(fields: Option<&[u8]>) -> Result<Command<'_>, Fault>
     requires { IfSome fields (λ rest. length rest.now ≤ 4096) }
     ensures { result ≡ about_key Remove (key_fields (fields_behind fields.entry)) }
 {
@@ -47,7 +50,7 @@ fn remove_command(fields: Option<&[u8]>) -> Result<Command, Fault>
 }
 
 // What `get` asks for, by what stands after it.
-fn get_command(fields: Option<&[u8]>) -> Result<Command, Fault>
+fn get_command(fields: Option<&[u8]>) -> Result<Command<'_>, Fault>
     requires { IfSome fields (λ rest. length rest.now ≤ 4096) }
     ensures { result ≡ about_key Get (key_fields (fields_behind fields.entry)) }
 {
@@ -55,7 +58,7 @@ fn get_command(fields: Option<&[u8]>) -> Result<Command, Fault>
 }
 
 // What `prove` asks for, by what stands after it.
-fn prove_command(fields: Option<&[u8]>) -> Result<Command, Fault>
+fn prove_command(fields: Option<&[u8]>) -> Result<Command<'_>, Fault>
     requires { IfSome fields (λ rest. length rest.now ≤ 4096) }
     ensures { result ≡ about_key Prove (key_fields (fields_behind fields.entry)) }
 {
@@ -63,7 +66,7 @@ fn prove_command(fields: Option<&[u8]>) -> Result<Command, Fault>
 }
 
 // What `next` asks for, by what stands after it.
-fn next_command(fields: Option<&[u8]>) -> Result<Command, Fault>
+fn next_command(fields: Option<&[u8]>) -> Result<Command<'_>, Fault>
     requires { IfSome fields (λ rest. length rest.now ≤ 4096) }
     ensures { result ≡ next_fields (fields_behind fields.entry) }
 {
@@ -76,7 +79,7 @@ fn next_command(fields: Option<&[u8]>) -> Result<Command, Fault>
 }
 
 // What `range` asks for, by what stands after it.
-fn range_command(fields: Option<&[u8]>) -> Result<Command, Fault>
+fn range_command(fields: Option<&[u8]>) -> Result<Command<'_>, Fault>
     requires { IfSome fields (λ rest. length rest.now ≤ 4096) }
     ensures { result ≡ range_fields (fields_behind fields.entry) }
 {
@@ -89,7 +92,7 @@ fn range_command(fields: Option<&[u8]>) -> Result<Command, Fault>
 }
 
 // What `migrate` asks for, by what stands after it.
-fn migrate_command(fields: Option<&[u8]>) -> Result<Command, Fault>
+fn migrate_command(fields: Option<&[u8]>) -> Result<Command<'_>, Fault>
     requires { IfSome fields (λ rest. length rest.now ≤ 4096) }
     ensures { result ≡ migrate_fields (fields_behind fields.entry) }
 {
@@ -100,16 +103,24 @@ fn migrate_command(fields: Option<&[u8]>) -> Result<Command, Fault>
     }
 }
 
+// What `batch` asks for, by what stands after it.
+fn batch_command(fields: Option<&[u8]>) -> Result<Command<'_>, Fault>
+    requires { IfSome fields (λ rest. length rest.now ≤ 4096) }
+    ensures { result ≡ about_edits (edits_read (fields_behind fields.entry)) }
+{
+    Ok(Command::Batch(Edits::new(fields)?))
+}
+
 // The command, if nothing stands after it.
-fn without_fields(command: Command, fields: Option<&[u8]>) -> Result<Command, Fault>
-    ensures { result ≡ no_fields command (fields_behind fields.entry) }
+fn without_fields<'l>(command: Command<'l>, fields: Option<&[u8]>) -> Result<Command<'l>, Fault>
+    ensures { result ≡ no_fields command.entry (fields_behind fields.entry) }
 {
     no_field(fields)?;
     Ok(command)
 }
 
 // What the command with this name asks for, by what stands after it.
-fn command_named(name: &[u8], fields: Option<&[u8]>) -> Result<Command, Fault>
+fn command_named<'l>(name: &[u8], fields: Option<&'l [u8]>) -> Result<Command<'l>, Fault>
     requires { IfSome fields (λ rest. length rest.now ≤ 4096) }
     ensures { result ≡ named_command name.now (fields_behind fields.entry) }
 {
@@ -152,11 +163,14 @@ fn command_named(name: &[u8], fields: Option<&[u8]>) -> Result<Command, Fault>
     if name == b"migrate".as_slice() {
         return migrate_command(fields);
     }
+    if name == b"batch".as_slice() {
+        return batch_command(fields);
+    }
     Err(Fault::NoCommand)
 }
 
 // What a command asks for, with its fields.
-fn command_in(fields: Option<&[u8]>) -> Result<Command, Fault>
+fn command_in(fields: Option<&[u8]>) -> Result<Command<'_>, Fault>
     requires { IfSome fields (λ rest. length rest.now ≤ 4096) }
     ensures { result ≡ command_of (fields_behind fields.entry) }
 {
@@ -168,7 +182,7 @@ fn command_in(fields: Option<&[u8]>) -> Result<Command, Fault>
 }
 
 // What the bytes of a line ask for.
-fn request_of(line: &[u8], passes: u32) -> Result<Request, Fault>
+fn request_of(line: &[u8], passes: u32) -> Result<Request<'_>, Fault>
     requires { length line.now ≤ 4096 }
     ensures { result ≡ by_fields passes (fields_of line.now) }
 {
@@ -184,7 +198,7 @@ fn request_of(line: &[u8], passes: u32) -> Result<Request, Fault>
 ///
 /// Returns each fault only if no fault that stands before it in `Fault` applies. It never returns
 /// `Pinning`.
-pub fn request_in(line: &LineBuffer, passes: u32) -> Result<Request, Fault>
+pub fn request_in(line: &LineBuffer, passes: u32) -> Result<Request<'_>, Fault>
     ensures asked { result ≡ asked passes line.now }
     ensures dealt { IfOk result (λ request. IsDealt passes request) }
 {

@@ -1,7 +1,9 @@
 //! What a line asks for.
+use crate::edits::Edits;
 use mst_key::{Format, Key, Value};
 
-/// Why a line is refused. If several faults apply, the answer is the first in this order.
+/// Why a line is refused. If several faults apply, the answer is the first in this order; of the
+/// sizes of a batch that of the first edit.
 ///
 /// All but `Pinning` are in the line alone; `Pinning` depends on the store, so the caller that runs
 /// the line finds it.
@@ -13,7 +15,7 @@ pub enum Fault {
     NoPass,
     /// It has no second field, or one that names no command.
     NoCommand,
-    /// The command has another number of fields.
+    /// The command has another number of fields, or those of a batch are not edits.
     FieldCount,
     /// A field spells nothing: no bytes, or no number in its range.
     BadField,
@@ -26,12 +28,14 @@ pub enum Fault {
 }
 
 /// What a pass is asked for.
-#[derive(Debug, Drop, PartialEq, Eq)]
-pub enum Command {
+#[derive(Debug, Drop)]
+pub enum Command<'l> {
     /// To give a key a value.
     Put(Key, Value),
     /// To take a key out of the map.
     Remove(Key),
+    /// To make these edits, as one change.
+    Batch(Edits<'l>),
     /// For the value of a key.
     Get(Key),
     /// For the pair of the least key above a bound.
@@ -56,11 +60,11 @@ pub enum Command {
     Migrate(Format),
 }
 
-/// What a line asks for.
-#[derive(Debug, Drop, PartialEq, Eq)]
-pub struct Request {
+/// What a line asks for. It borrows the line, in which the edits of a batch stand.
+#[derive(Debug, Drop)]
+pub struct Request<'l> {
     /// The number of the pass, from 1 on.
     pub pass: u32,
     /// What it is asked for.
-    pub command: Command,
+    pub command: Command<'l>,
 }

@@ -3,24 +3,28 @@ use Rattle.std.proofs.Common.{◌≡◌, ℕ, List, [], ◌∷◌, sym, refl, ap
 use Rattle.std.specs.Prelude.{Result, Ok, Err, IfOk, IfErr, IfSome, IsSome, OnOk, OnErr, None}
 use Rattle.std.proofs.lemmas.Bool.{false≢true}
 use Rattle.mst_key.specs.declared.history.Change.{Change}
+use Rattle.mst_key.specs.declared.history.Edit.{Edit}
 use Rattle.mst_key.specs.Map.{Pair}
 use Rattle.mst_key.specs.declared.format.Format.{Format}
-use Rattle.mst_key.specs.declared.history.Change.TheVariants.{Migrate}
-use Rattle.mst_key.specs.History.{History, after, format_after, Reply, had, was}
+use Rattle.mst_key.specs.declared.history.Change.TheVariants.{Migrate, Batch}
+use Rattle.mst_key.specs.History.{History, after, format_after, Reply, had, was, done}
 use Rattle.mst_key.proofs.HistoryLaws.{IsPrefix-itself}
 use Rattle.mst_store.specs.declared.faults.WriteFault.{WriteFault}
 use Rattle.mst_store.specs.declared.faults.WriteFault.TheVariants as write
 use Rattle.mst_store.specs.declared.faults.MigrateFault.{MigrateFault}
 use Rattle.mst_store.specs.declared.faults.MigrateFault.TheVariants as migrate
+use Rattle.mst_store.specs.declared.faults.ApplyFault.{ApplyFault}
+use Rattle.mst_store.specs.declared.faults.ApplyFault.TheVariants as apply
+use Rattle.mst_store.specs.Applying.{RefusesBatch}
 use Rattle.mst_store.specs.Writes.{rows_of}
 use Rattle.mst_store.specs.Migrating.{RefusesMigration}
 use Rattle.mst_store.specs.Passes.{StoreId, Known, format_seen, having_asked, having_missed, LacksRoom, made_by, Looks, Answers, Wrote, Refuses, FindsBusy}
 use Rattle.mst_requests.specs.declared.answer.Answer.{Answer}
 use Rattle.mst_requests.specs.Answers.{text_of}
-use Rattle.mst_script.specs.Answers.{rows_answer, write_answer, migration_answer}
+use Rattle.mst_script.specs.Answers.{rows_answer, write_answer, migration_answer, batch_answer}
 use Rattle.mst_requests.specs.Texts.{line_of, reply_words, rows_words}
 use Rattle.mst_requests.specs.declared.request.Command.{Command}
-use Rattle.mst_script.specs.Machine.{LacksMemory, Writes, Migrates, Counts, Acts}
+use Rattle.mst_script.specs.Machine.{LacksMemory, Writes, Migrates, Applies, Counts, Acts}
 use Rattle.mst_script.specs.Serving.{Turn, Asked}
 use Rattle.mst_script.proofs.Gathering.{looked}
 
@@ -240,6 +244,45 @@ migrated to p q (Err migrate.NoRoom) a is ok err =
         refl,
       ),
     )
+
+-- ---- batches
+
+abbrev AppliesSo : List Edit → List ℕ → Known → History → History → Type 0
+AppliesSo es text p log new = Applies p.store p.number es log text new
+
+pub applied : {A U : Type 0} (es : List Edit) (p q : Known) (r : Result U ApplyFault)
+    (a : Answer A) → a ≡ batch_answer r → OnOk r (Wrote (made_by p (Batch es)) p done q)
+    → IfErr r (λ fault. RefusesBatch fault es p q) → Calls (AppliesSo es (text_of a)) p q
+applied es p q (Ok made) a is ok err = (
+  ok.log,
+  made_by p (Batch es) ∷ [],
+  record { same = ok.same; later = ok.later; seen = ok.seen; mine = ok.mine; own = (refl, tt) },
+  inl (inl (record {
+    answer = ap text_of is ∙ ap (λ (x : Reply). line_of (reply_words x)) ok.answer;
+    added = ok.seen;
+    numbered = ok.numbered;
+    room = ok.room;
+  })),
+)
+applied es p q (Err apply.Busy) a is ok err = (
+  p.seen,
+  [],
+  busy_of p q err.0,
+  inl (inr (inl (ap text_of is, err.1), busy_seen p q err.0)),
+)
+applied es p q (Err apply.VersionsSpent) a is ok err =
+    (q.seen, [], looked p q err.0, inl (inr (inr (inl (ap text_of is, err.1)), refl)))
+applied es p q (Err (apply.Memory refused)) a is ok err =
+    (q.seen, [], looked p q err.0, inr (ap text_of is, err.3, refl))
+applied es p q (Err apply.NoRoom) a is ok err = (
+  q.seen,
+  [],
+  looked p q err.0,
+  inl (inr (
+    inr (inr (ap text_of is, err.1, lacks_there (Batch es) p q err.0 err.2, (q.found, err.4))),
+    refl,
+  )),
+)
 
 -- ---- commands
 

@@ -13,7 +13,7 @@ use Rattle.mst_store.specs.Passes.{StoreId, Known, having_asked}
 use Rattle.mst_store.specs.Settling.{having_seen, AreAllPasses, Settled}
 use Rattle.mst_requests.specs.declared.request.Fault.{Fault}
 use Rattle.mst_requests.specs.declared.request.Command.{Command}
-use Rattle.mst_requests.specs.declared.request.Command.TheVariants.{Put, Remove, Migrate, Get, Next, Range, Root, Node, Prove, Pin, Unpin, Rows}
+use Rattle.mst_requests.specs.declared.request.Command.TheVariants.{Put, Remove, Migrate, Batch, Get, Next, Range, Root, Node, Prove, Pin, Unpin, Rows}
 use Rattle.mst_requests.specs.declared.request.Command.TheVariants as ask
 use Rattle.mst_requests.specs.declared.request.Request.{Request}
 use Rattle.mst_requests.specs.Grammar.{asked}
@@ -86,6 +86,7 @@ free_step : (store : StoreId) (p : ℕ) (command : Command) (m new : Machine) (t
 free_step store p (Put k v) m new text other step pins = (step, pins)
 free_step store p (Remove k) m new text other step pins = (step, pins)
 free_step store p (Migrate to) m new text other step pins = (step, pins)
+free_step store p (Batch es) m new text other step pins = (step, pins)
 free_step store p (Get k) m new text other step pins = (step, pins)
 free_step store p (Next bound) m new text other step pins = (step, pins)
 free_step store p (Range from to n) m new text other step pins = (step, pins)
@@ -173,6 +174,7 @@ pinned_step : (store : StoreId) (p n : ℕ) (command : Command) (m : Machine) (t
 pinned_step store p n (Put k v) m text other recalls = (recalls, refl)
 pinned_step store p n (Remove k) m text other recalls = (recalls, refl)
 pinned_step store p n (Migrate to) m text other recalls = (recalls, refl)
+pinned_step store p n (Batch es) m text other recalls = (recalls, refl)
 pinned_step store p n (Get k) m text other recalls = (recalls, refl)
 pinned_step store p n (Next bound) m text other recalls = (recalls, refl)
 pinned_step store p n (Range from to limit) m text other recalls = (recalls, refl)
@@ -283,6 +285,7 @@ does_pin store n command r s place version text at nowhere pin is a = λ m shows
     pin_step store p (Put k v) m text pin said = absurd (false≢true pin)
     pin_step store p (Remove k) m text pin said = absurd (false≢true pin)
     pin_step store p (Migrate to) m text pin said = absurd (false≢true pin)
+    pin_step store p (Batch es) m text pin said = absurd (false≢true pin)
     pin_step store p (Get k) m text pin said = absurd (false≢true pin)
     pin_step store p (Next bound) m text pin said = absurd (false≢true pin)
     pin_step store p (Range from to limit) m text pin said = absurd (false≢true pin)
@@ -343,6 +346,7 @@ does_unpin store n command r s place text at unpin said a = λ m shows t st.
     unpin_step store p n (Put k v) m text unpin said = absurd (false≢true unpin)
     unpin_step store p n (Remove k) m text unpin said = absurd (false≢true unpin)
     unpin_step store p n (Migrate to) m text unpin said = absurd (false≢true unpin)
+    unpin_step store p n (Batch es) m text unpin said = absurd (false≢true unpin)
     unpin_step store p n (Get k) m text unpin said = absurd (false≢true unpin)
     unpin_step store p n (Next bound) m text unpin said = absurd (false≢true unpin)
     unpin_step store p n (Range from to limit) m text unpin said = absurd (false≢true unpin)

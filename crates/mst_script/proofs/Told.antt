@@ -1,21 +1,23 @@
--- What the machine answers in a store of one pass, to a line with a fault, and after a put.
-use Rattle.std.proofs.Common.{◌≡◌, ◌≢◌, ◌⊎◌, inl, inr, ℕ, ◌<◌, List, [], ◌∷◌, ◌++◌, Option, Some, None, Result, Ok, Err, codes, refl, sym, ap, ◌∙◌, subst, arith}
+-- What the machine answers in a store of one pass, to a line with a fault, and after a put or a
+-- batch.
+use Rattle.std.proofs.Common.{◌≡◌, ◌≢◌, inl, inr, ℕ, ◌<◌, List, [], ◌∷◌, ◌++◌, Option, Some, None, Result, Ok, Err, codes, refl, sym, ap, ◌∙◌, subst, arith}
 use Rattle.mst_key.specs.declared.format.Format.{Format}
 use Rattle.mst_key.specs.declared.format.Format.TheVariants.{One, Two}
 use Rattle.mst_key.specs.declared.history.Change.{Change}
 use Rattle.mst_key.specs.declared.history.Change.TheVariants as change
-use Rattle.mst_key.specs.declared.history.Event.{Event}
-use Rattle.mst_key.specs.History.{History, Reply, had, was, done, after, format_after, reply}
-use Rattle.mst_key.specs.Map.{map_get}
-use Rattle.mst_key.proofs.HistoryLaws.{map_get-after_last_put}
+use Rattle.mst_key.specs.declared.history.Edit.{Edit}
+use Rattle.mst_key.specs.History.{History, Reply, had, was, done, after, format_after, reply, value_after}
+use Rattle.mst_key.specs.Map.{Pair, map_get}
+use Rattle.mst_key.proofs.HistoryLaws.{map_get-after_last_put, after-push}
+use Rattle.mst_key.proofs.Batches.{map_get-batched}
 use Rattle.mst_store.specs.Passes.{StoreId}
 use Rattle.mst_store.specs.Writes.{rows_of}
-use Rattle.mst_requests.specs.declared.request.Command.TheVariants.{Put, Get}
+use Rattle.mst_requests.specs.declared.request.Command.TheVariants.{Put, Batch, Get}
 use Rattle.mst_requests.specs.declared.request.Fault.{Fault}
 use Rattle.mst_requests.specs.declared.request.Request.{Request}
 use Rattle.mst_requests.specs.Grammar.{asked}
 use Rattle.mst_requests.specs.Texts.{fault_words, line_of, reply_words, rows_words, value_words}
-use Rattle.mst_script.specs.Machine.{Machine, AnswersRequest, Counts, Line, Migrates, Step, StepOf, Writes}
+use Rattle.mst_script.specs.Machine.{Machine, AnswersRequest, Applies, Counts, Line, Migrates, Step, StepOf, Writes}
 
 -- ---- a store of one pass
 
@@ -64,6 +66,13 @@ lone_migration store p to h new text one (inr (inr (inr (other, next, inl lacks)
     other_first text (codes "memory") 109 lacks refl (omega arith)
 lone_migration store p to h new text one (inr (inr (inr (other, next, inr none)), same)) =
     other_first text (codes "noroom") 110 none.0 refl (omega arith)
+
+pub lone_batch : (store : StoreId) (p : ℕ) (es : List Edit) (h new : History) (text : List ℕ)
+    → store.passes ≡ 1 → Applies store p es h text new → text ≢ line_of (codes "busy")
+lone_batch store p es h new text one (inl writes) =
+    lone_write store p (change.Batch es) h new text one writes
+lone_batch store p es h new text one (inr lacks) =
+    other_first text (codes "memory") 109 lacks.0 refl (omega arith)
 
 pub lone_count : (store : StoreId) (h new : History) (text : List ℕ) → store.passes ≡ 1
     → Counts store h text new
@@ -123,3 +132,37 @@ put_told store m n o line next text told p q k v is then none first second moved
     ∙ ap (λ (h : History). line_of (value_words (map_get (after h) k))) added.0
     ∙ ap (λ (found : Option (List ℕ)). line_of (value_words found))
     (map_get-after_last_put m.history [] p k v tt)
+
+-- ---- a get after a batch
+
+batch_adds : (store : StoreId) (m n : Machine) (text : List ℕ) (p : ℕ) (es : List Edit)
+    → n.history ≢ m.history → Step store p (Batch es) m text n →
+    (n.history ≡ m.history ++ record { pass = p; change = change.Batch es } ∷ [])
+    × (n.pinned ≡ m.pinned)
+batch_adds store m n text p es moved step = go (m.pinned p) step
+  where
+    go : (pin : Option ℕ) → StepOf pin store p (Batch es) m text n
+        → (n.history ≡ m.history ++ record { pass = p; change = change.Batch es } ∷ [])
+        × (n.pinned ≡ m.pinned)
+    go None (inl (inl adds), pins) = (adds.added, pins)
+    go None (inl (inr refused), pins) = absurd (moved refused.1)
+    go None (inr lacks, pins) = absurd (moved lacks.2)
+    go (Some version) (said, same) = absurd (moved (ap (λ (x : Machine). x.history) same))
+
+pub batch_told : (store : StoreId) (m n o : Machine) (line next : Option (List ℕ))
+    (text told : List ℕ) (p q : ℕ) (es : List Edit) (k : List ℕ) → asked store.passes line ≡ Ok
+    (record { pass = p; command = Batch es }) →
+    asked store.passes next ≡ Ok (record { pass = q; command = Get k }) → m.pinned q ≡ None
+    → Line store m line text n → Line store n next told o → n.history ≢ m.history
+    → told ≡ line_of (value_words (value_after es k (map_get (after m.history) k)))
+batch_told store m n o line next text told p q es k is then none first second moved =
+    let added =
+    batch_adds store m n text p es moved
+    (step_of_line store m n line text (record { pass = p; command = Batch es }) is first) in
+    get_tells store n o told q k (ap (λ (pins : ℕ → Option ℕ). pins q) added.1 ∙ none)
+    (step_of_line store n o next told (record { pass = q; command = Get k }) then second)
+    ∙ ap (λ (h : History). line_of (value_words (map_get (after h) k))) added.0
+    ∙ ap (λ (left : List Pair). line_of (value_words (map_get left k)))
+    (after-push m.history (record { pass = p; change = change.Batch es }))
+    ∙ ap (λ (found : Option (List ℕ)). line_of (value_words found))
+    (map_get-batched (after m.history) es k)

@@ -4,9 +4,11 @@ use Rattle.mst_store.specs.declared.faults.WriteFault.{WriteFault}
 use Rattle.mst_store.specs.declared.faults.WriteFault.TheVariants as write
 use Rattle.mst_store.specs.declared.faults.MigrateFault.{MigrateFault}
 use Rattle.mst_store.specs.declared.faults.MigrateFault.TheVariants as migrate
+use Rattle.mst_store.specs.declared.faults.ApplyFault.{ApplyFault}
+use Rattle.mst_store.specs.declared.faults.ApplyFault.TheVariants as apply
 use Rattle.mst_key.specs.declared.format.Format.{Format}
 use Rattle.mst_requests.specs.declared.answer.Answer.{Answer}
-use Rattle.mst_requests.specs.declared.answer.Answer.TheVariants.{Value, Rows, Was, Busy, Spent, NoRoom, Memory}
+use Rattle.mst_requests.specs.declared.answer.Answer.TheVariants.{Value, Rows, Was, Done, Busy, Spent, NoRoom, Memory}
 
 abbrev pub rows_answer : {A E : Type 0} → Result (Option ℕ) E → Answer A
 rows_answer (Ok found) = Rows found
@@ -24,3 +26,10 @@ migration_answer (Err migrate.Busy) = Busy
 migration_answer (Err migrate.VersionsSpent) = Spent
 migration_answer (Err (migrate.Memory refused)) = Memory refused
 migration_answer (Err migrate.NoRoom) = NoRoom
+
+abbrev pub batch_answer : {A U : Type 0} → Result U ApplyFault → Answer A
+batch_answer (Ok made) = Done
+batch_answer (Err apply.Busy) = Busy
+batch_answer (Err apply.VersionsSpent) = Spent
+batch_answer (Err (apply.Memory refused)) = Memory refused
+batch_answer (Err apply.NoRoom) = NoRoom

@@ -5,6 +5,7 @@ use Rattle.hex.specs.Hex.{encode_lower}
 use Rattle.mst_key.specs.declared.format.Format.{Format}
 use Rattle.mst_key.specs.declared.history.Change.{Change}
 use Rattle.mst_key.specs.declared.history.Change.TheVariants as change
+use Rattle.mst_key.specs.declared.history.Edit.{Edit}
 use Rattle.mst_key.specs.declared.history.Event.{Event}
 use Rattle.mst_key.specs.Map.{Pair, map_get, map_next, map_range}
 use Rattle.mst_key.specs.History.{History, after, format_after, reply}
@@ -18,7 +19,7 @@ use Rattle.mst_store.specs.Passes.{StoreId, HasRoom, LacksRoom}
 use Rattle.mst_requests.specs.declared.request.Fault.{Fault}
 use Rattle.mst_requests.specs.declared.request.Fault.TheVariants.{Pinning}
 use Rattle.mst_requests.specs.declared.request.Command.{Command}
-use Rattle.mst_requests.specs.declared.request.Command.TheVariants.{Put, Remove, Migrate, Get, Next, Range, Root, Node, Prove, Pin, Unpin, Rows}
+use Rattle.mst_requests.specs.declared.request.Command.TheVariants.{Put, Remove, Migrate, Batch, Get, Next, Range, Root, Node, Prove, Pin, Unpin, Rows}
 use Rattle.mst_requests.specs.declared.request.Command.TheVariants as ask
 use Rattle.mst_requests.specs.declared.request.Request.{Request}
 use Rattle.mst_requests.specs.Grammar.{asked}
@@ -56,7 +57,7 @@ IsBusy store text = (text ≡ line_of (codes "busy")) × (1 < store.passes)
 abbrev pub IsHeld : StoreId → List ℕ → Type 0
 IsHeld store text = (text ≡ line_of (rows_words None)) × (store.passes ≢ 1)
 
--- the memory for what a read finds, or for the tree of a migration, was refused
+-- the memory for what a read finds, for the tree of a migration or for a batch was refused
 abbrev pub LacksMemory : List ℕ → Type 0
 LacksMemory text = text ≡ line_of (codes "memory")
 
@@ -79,8 +80,8 @@ HasNoTree store to h text = (format_after store.format h ≢ to) × (length h < 
 
 -- ---- writes and counts
 
--- The event is added, and the answer is what the history replies: the value that its key had, or
--- the format that was left. There is a next version, and room.
+-- The event is added, and the answer is what the history replies: the value that its key had, the
+-- format that was left, or that a batch was made. There is a next version, and room.
 pub record Adds (store : StoreId) (e : Event) (h : History) (text : List ℕ)
     (new : History) : Type 0 where
   pub answer : text ≡ line_of (reply_words (reply store.format h e))
@@ -99,6 +100,11 @@ abbrev pub Migrates : StoreId → ℕ → Format → History → List ℕ → Hi
 Migrates store p to h text new =
     Adds store (record { pass = p; change = change.Migrate to }) h text new
     ⊎ ((IsBusy store text ⊎ IsSpent h text ⊎ HasNoTree store to h text) × (new ≡ h))
+
+-- a batch; one of no edits takes no memory
+abbrev pub Applies : StoreId → ℕ → List Edit → History → List ℕ → History → Type 0
+Applies store p es h text new = Writes store p (change.Batch es) h text new
+    ⊎ (LacksMemory text × (0 < length es) × (new ≡ h))
 
 -- the count of the map's rows, for which the turn is taken
 abbrev pub Counts : StoreId → History → List ℕ → History → Type 0
@@ -132,6 +138,7 @@ abbrev pub Acts : StoreId → ℕ → Command → History → List ℕ → Histo
 Acts store p (Put k v) h text new = Writes store p (change.Put k v) h text new
 Acts store p (Remove k) h text new = Writes store p (change.Remove k) h text new
 Acts store p (Migrate to) h text new = Migrates store p to h text new
+Acts store p (Batch es) h text new = Applies store p es h text new
 Acts store p Rows h text new = Counts store h text new
 Acts store p Pin h text new = ⊥
 Acts store p Unpin h text new = IsMispinned text × (new ≡ h)
@@ -151,6 +158,7 @@ abbrev pub Recalls : Command → Format → List Pair → List ℕ → Type 0
 Recalls (Put k v) f m text = IsMispinned text
 Recalls (Remove k) f m text = IsMispinned text
 Recalls (Migrate to) f m text = IsMispinned text
+Recalls (Batch es) f m text = IsMispinned text
 Recalls Rows f m text = IsMispinned text
 Recalls Pin f m text = IsMispinned text
 Recalls Unpin f m text = ⊥

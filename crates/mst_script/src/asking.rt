@@ -1,15 +1,15 @@
 //! What a pass is asked for that pins no version, as one call of that pass.
 ghost use Rattle.std.specs.Prelude.{◌≡◌, ◌<◌, ◌^◌, false, length};
 ghost use Rattle.std.specs.Option.{option_copied};
-ghost use Rattle.mst_requests.specs.declared.request.Command.TheVariants.{Range, Node, Prove};
+ghost use Rattle.mst_requests.specs.declared.request.Command.TheVariants.{Range, Node, Prove, Batch};
 ghost use Rattle.mst_requests.specs.Answers.{text_of};
-ghost use Rattle.mst_script.specs.Answers.{rows_answer, write_answer, migration_answer};
+ghost use Rattle.mst_script.specs.Answers.{rows_answer, write_answer, migration_answer, batch_answer};
 ghost use Rattle.mst_script.specs.Serving.{Asked, Tops, is_pin};
 
 use mst_key::{Format, Key, Value};
 use mst_node::top_text;
-use mst_requests::{Answer, Command, Fault};
-use mst_store::{Busy, Memory, MigrateFault, Pass, WriteFault};
+use mst_requests::{Answer, Command, Edits, Fault};
+use mst_store::{ApplyFault, Busy, Memory, MigrateFault, Pass, WriteFault};
 use std::alloc::Allocator;
 
 // How many rows the map takes, as an answer.
@@ -44,6 +44,33 @@ fn migration_answer_of<A: Allocator>(migrated: Result<Format, MigrateFault>) -> 
         Err(MigrateFault::VersionsSpent) => Answer::Spent,
         Err(MigrateFault::Memory(refused)) => Answer::Memory(refused),
         Err(MigrateFault::NoRoom) => Answer::NoRoom,
+    }
+}
+
+// What a batch returned, as an answer.
+fn batch_answer_of<A: Allocator>(applied: Result<(), ApplyFault>) -> Answer<A>
+    ensures { result ≡ batch_answer applied }
+{
+    match applied {
+        Ok(()) => Answer::Done,
+        Err(ApplyFault::Busy) => Answer::Busy,
+        Err(ApplyFault::VersionsSpent) => Answer::Spent,
+        Err(ApplyFault::Memory(refused)) => Answer::Memory(refused),
+        Err(ApplyFault::NoRoom) => Answer::NoRoom,
+    }
+}
+
+// Asks a pass to make the edits of a batch.
+fn ask_batch<A: Allocator + Copy, B: Allocator + Copy>(
+    alloc: A,
+    pass: &mut Pass<'_, B>,
+    edits: &Edits<'_>,
+) -> Answer<A>
+    ensures { Asked (Batch edits.now) pass.old (text_of result) pass.new }
+{
+    match edits.to_vec(alloc) {
+        Ok(list) => batch_answer_of(pass.try_apply(alloc, list.as_slice())),
+        Err(refused) => Answer::Memory(refused),
     }
 }
 
@@ -109,7 +136,7 @@ fn ask_node<A: Allocator + Copy, B: Allocator + Copy>(alloc: A, pass: &mut Pass<
 pub fn ask<A: Allocator + Copy, B: Allocator + Copy>(
     alloc: A,
     pass: &mut Pass<'_, B>,
-    command: &Command,
+    command: &Command<'_>,
 ) -> Answer<A>
     requires other { is_pin command.now ≡ false }
     ensures { Asked command.now pass.old (text_of result) pass.new }
@@ -118,6 +145,7 @@ pub fn ask<A: Allocator + Copy, B: Allocator + Copy>(
         Command::Put(key, value) => write_answer_of(pass.try_put(key, value)),
         Command::Remove(key) => write_answer_of(pass.try_remove(key)),
         Command::Migrate(to) => migration_answer_of(pass.try_migrate(alloc, *to)),
+        Command::Batch(edits) => ask_batch(alloc, pass, edits),
         Command::Get(key) => Answer::Value(pass.get(key)),
         Command::Next(bound) => Answer::Pair(pass.next(bound.as_ref())),
         Command::Range(from, to, limit) => {

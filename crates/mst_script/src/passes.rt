@@ -93,7 +93,7 @@ impl<'a, A: Allocator, B: Allocator + Copy> Passes<'a, A, B> {
         &mut self,
         alloc: C,
         place: usize,
-        command: &Command,
+        command: &Command<'_>,
     ) -> Answer<C>
         requires place { place < length self.old.free }
         requires other { is_pin command.now ≡ false }
@@ -107,7 +107,7 @@ impl<'a, A: Allocator, B: Allocator + Copy> Passes<'a, A, B> {
         &mut self,
         alloc: C,
         place: usize,
-        command: &Command,
+        command: &Command<'_>,
     ) -> Answer<C>
         requires place { place < length self.old.held }
         requires other { is_unpin command.now ≡ false }

@@ -66,12 +66,12 @@ fn recall_node<A: Allocator + Copy, B: Allocator + Copy>(
     }
 }
 
-/// Lets a pinned pass read its version as it is asked to. It makes no write and no migration,
-/// counts no rows and pins no other version.
+/// Lets a pinned pass read its version as it is asked to. It makes no write, no migration and
+/// no batch, counts no rows and pins no other version.
 pub fn recall<A: Allocator + Copy, B: Allocator + Copy>(
     alloc: A,
     pinned: &mut Pinned<'_, B>,
-    command: &Command,
+    command: &Command<'_>,
 ) -> Answer<A>
     requires other { is_unpin command.now ≡ false }
     ensures found { Recalls command.now
@@ -91,6 +91,7 @@ pub fn recall<A: Allocator + Copy, B: Allocator + Copy>(
         Command::Put(..)
         | Command::Remove(_)
         | Command::Migrate(_)
+        | Command::Batch(_)
         | Command::Rows
         | Command::Pin
         | Command::Unpin => Answer::Refused(Fault::Pinning),

@@ -149,7 +149,8 @@ fn settle_and_drive<S: Source, W: Sink, A: Allocator + Copy, B: Allocator + Copy
 /// The vector must have all passes of the store, in any order, and it has all of them again after
 /// the call. Returns `Memory` if a growth at the start was refused, before anything was read,
 /// written or changed; `Device` if a read or a write failed. A line takes memory only for what its
-/// `range`, `prove` or `node` finds, and is answered `memory` if that is refused.
+/// `range`, `prove` or `node` finds, for a migration or for a batch, and is answered `memory` if
+/// that is refused.
 pub fn run<S: Source, W: Sink, A: Allocator + Copy, B: Allocator + Copy>(
     alloc: A,
     source: &mut S,

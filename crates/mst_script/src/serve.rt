@@ -11,14 +11,14 @@ use mst_store::Store;
 use std::alloc::Allocator;
 
 // Whether a pass is asked to pin a version.
-fn is_pin(command: &Command) -> bool
+fn is_pin(command: &Command<'_>) -> bool
     ensures { result ≡ asks_pin command.now }
 {
     matches!(command, Command::Pin)
 }
 
 // Whether a pass is asked to end its pin.
-fn is_unpin(command: &Command) -> bool
+fn is_unpin(command: &Command<'_>) -> bool
     ensures { result ≡ asks_unpin command.now }
 {
     matches!(command, Command::Unpin)
@@ -29,7 +29,7 @@ fn answer<A: Allocator + Copy, B: Allocator, C: Allocator + Copy>(
     alloc: A,
     store: &Store<C>,
     passes: &mut Passes<'_, B, C>,
-    request: &Request,
+    request: &Request<'_>,
 ) -> Answer<A>
     requires whole { AreAllOf store.now (everyone passes.old) }
     requires dealt { IsDealt store.now.passes request.now }

@@ -160,6 +160,26 @@ fn migrations_are_refused(rt: HostRuntime) -> Result<(), Fail> {
     Ok(())
 }
 
+const BATCH: &[u8] = b"1 put 31 61\n1 batch\n1 batch put 39 31 del 31\n1 get 31\n2 get 39";
+
+const MADE: &[u8] = b"none\ndone\ndone\nnone\nsome 31\n";
+
+const NOT_MADE: &[&[u8]] = &[b"none\ndone\nmemory\nsome 61\nnone\n"];
+
+// A heap that is large enough for the start, too small for the edits or their plan at first, and
+// then large enough for both. No edits take no memory in any of them.
+#[test]
+fn batches_are_refused(rt: HostRuntime) -> Result<(), Fail> {
+    let case = Case {
+        script: BATCH,
+        whole: MADE,
+        less: NOT_MADE,
+    };
+    let seen = seen_in(&rt, rt.alloc(), &case, (130_900, 134_100, 8))?;
+    assert!(rt; seen.less && seen.whole);
+    Ok(())
+}
+
 // Three pairs, which one pass pins and another changes.
 const PINNED: &str = "1 put 31 78\n1 put 61 7a\n1 put 3339 79\n1 pin\n2 del 31\n";
 

@@ -69,6 +69,9 @@ returns-in-Rows g c = let p = c.args.pass.now in let q = c.rows.new.self in
     (counted p q c.rows.result c.rows_answer_of.result c.rows_answer_of.ensures c.rows.ensures.looks
     c.rows.ensures.some c.rows.ensures.alone c.rows.ensures.busy)
 
+pub returns-in-Batch : goal.returns-in-Batch
+returns-in-Batch g c = search rules
+
 pub returns-in-Range : goal.returns-in-Range
 returns-in-Range g c = search rules
 

@@ -1,0 +1,18 @@
+use Rattle.std.proofs.Common.{rules, sym, ap, ◌∙◌}
+use Rattle.mst_requests.specs.Fields.{fields_behind}
+use Rattle.mst_requests.specs.Batches.{edits_in, told}
+use Rattle.mst_requests.proofs.Batching.{comes_to, one_more}
+use Rattle.mst_requests.proofs.edits.batch_fault.Goals as goal
+
+pub loop-rest-preserved : goal.loop-rest-preserved
+loop-rest-preserved c = let fault = c.loop-rest.fault in
+    let edit = c.in-Some-first_edit.edit in
+    let left = edits_in (fields_behind c.in-Some-first_edit.others) in record {
+      small = search rules;
+      same = c.loop-rest.invariant.same
+          ∙ ap (λ r. comes_to fault (edits_in (fields_behind r))) c.in-Some.is
+          ∙ ap (comes_to fault) c.in-Some-first_edit.ensures.edits
+          ∙ one_more fault edit left
+          ∙ ap (λ f. comes_to f left) (sym (c.first_told-fault.ensures
+          ∙ ap (told fault) c.err.ensures.value));
+    }
