@@ -30,3 +30,4 @@ pub mod Builds
 pub mod Marks
 pub mod Finding
 pub mod Loads
+pub mod NewRows

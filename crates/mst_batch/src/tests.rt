@@ -1,5 +1,6 @@
 //! Batches by worked rows, against edits made one by one, and with each growth refused. In `plans`
-//! a plan is carried out.
+//! a plan is carried out; in `loads` are batches in the empty map and batches of one edit.
+mod loads;
 mod plans;
 
 use crate::{edited_pairs, normal_edits};

@@ -1,32 +1,14 @@
-use Rattle.std.proofs.Common.{◌≡◌, ℕ, ◌<◌, List, [], ◌∷◌, length, Option, None, nat_lt, refl, sym, ◌∙◌, ap, subst, arith}
-use Rattle.std.specs.Prelude.{replicate}
-use Rattle.std.proofs.lemmas.Bool.Decides.{nat_tests}
-use Rattle.std.proofs.lemmas.List.{length-replicate}
-use Rattle.std.proofs.lemmas.Option.{slice_get_within}
+use Rattle.std.proofs.Common.{[], ◌∷◌, refl, sym, ◌∙◌, ap, subst, arith}
 use Rattle.mst_key.specs.History.{batched}
 use Rattle.mst_key.specs.declared.history.Edit.TheVariants as edit
 use Rattle.mst_arena.specs.Content.{listed}
 use Rattle.mst_arena.specs.Lives.{State}
 use Rattle.mst_arena.specs.Standing.{none}
-use Rattle.mst_arena.specs.declared.life.Life.{Life}
-use Rattle.mst_arena.specs.declared.life.Life.TheVariants.{Free}
-use Rattle.mst_arena.specs.declared.row.Row.{Row}
-use Rattle.mst_path.specs.Takes.{FreeIsBlank}
 use Rattle.mst_batch.specs.Carrying.{IsPlanOf}
 use Rattle.mst_batch.specs.Plans.{PlanTree}
+use Rattle.mst_batch.proofs.NewRows.{new_blank}
 use Rattle.mst_batch.proofs.SmallPlans.{empty_stands, plants_one}
 use Rattle.mst_batch.proofs.tests.plans.put_by_plan.Goals as goal
-
--- all rows of a new desk are among as many new rows
-new_blank : (size : ℕ) (lives : List Life) (places : List (Option Row)) → lives ≡ replicate size
-    Free → places ≡ replicate size None → FreeIsBlank lives (λ row. nat_lt row (length places))
-new_blank size lives places desk rows k free =
-    let less : k < length lives = slice_get_within lives k Free free in
-    let lengths : length lives ≡ length places = ap (λ (l : List Life). length l) desk
-    ∙ length-replicate size Free
-    ∙ sym (ap (λ (l : List (Option Row)). length l) rows ∙ length-replicate size None) in
-    let within : k < length places = omega (arith, less, lengths) in
-    grind (arith, nat_tests)
 
 pub root_at-old-requires : goal.root_at-old-requires
 root_at-old-requires c = record { stands = (c.args.format, none, refl, tt) }
