@@ -15,8 +15,8 @@ abbrev pub list_links : List PlannedEntry → List ℕ
 list_links [] = []
 list_links (x ∷ xs) = links_kept x.child ++ list_links xs
 
-list_links-append : (xs ys : List PlannedEntry) → list_links (xs ++ ys) ≡ list_links xs ++ list_links
-    ys
+list_links-append : (xs ys : List PlannedEntry)
+    → list_links (xs ++ ys) ≡ list_links xs ++ list_links ys
 list_links-append [] ys = refl
 list_links-append (x ∷ xs) ys =
     ap (λ (links : List ℕ). links_kept x.child ++ links) (list_links-append xs ys)

@@ -1,4 +1,4 @@
-use Rattle.std.proofs.Common.{◌≡◌, ◌+◌, ◌<◌, List, sym, ap, subst}
+use Rattle.std.proofs.Common.{◌≡◌, ◌+◌, ◌<◌, List, sym, ap, subst, rules}
 use Rattle.mst_key.specs.History.{batched}
 use Rattle.mst_key.specs.Map.{Pair}
 use Rattle.mst_node.specs.Cost.{cost}
@@ -55,8 +55,8 @@ returns-in-Ok-carry_out-clause-stands g c m st =
     subst (λ (x : Content). (change : List Pair → List Pair)
     → IsPlanOf c.args.format x c.args.desk.now c.args.root.now c.as_slice.result.now
     (plan_of c.in-Ok.plan) change → (n : List Pair) → Stands c.args.format x c.args.root.now n
-    → Stands c.args.format (g.R.Rows.content c.carry_out.new.rows) c.in-Ok-carry_out.done (change n))
-    (same_rows g at) c.in-Ok-carry_out.ensures.stands (λ n. batched n c.args.edits.now)
+    → Stands c.args.format (g.R.Rows.content c.carry_out.new.rows) c.in-Ok-carry_out.done
+    (change n)) (same_rows g at) c.in-Ok-carry_out.ensures.stands (λ n. batched n c.args.edits.now)
     (planned g at) m st
 
 pub returns-in-Ok-carry_out-clause-cost : goal.returns-in-Ok-carry_out-clause-cost
@@ -85,3 +85,107 @@ returns-clause-lacks g c m st =
     (plan_of c.in-Ok.plan) change → (n : List Pair) → Stands c.args.format x c.args.root.now n
     → free_count c.args.desk.now.lives < cost c.args.format n (change n)) (same_rows g at)
     c.in-Err-carry_out.ensures.no_room (λ n. batched n c.args.edits.now) (planned g at) m st
+
+-- ---- what a search finds
+
+pub find_plan-requires : goal.find_plan-requires
+find_plan-requires g c = search rules
+
+pub returns-in-Err-clause-stands : goal.returns-in-Err-clause-stands
+returns-in-Err-clause-stands g c = search rules
+
+pub returns-in-Err-clause-written : goal.returns-in-Err-clause-written
+returns-in-Err-clause-written g c = search rules
+
+pub returns-in-Err-clause-cost : goal.returns-in-Err-clause-cost
+returns-in-Err-clause-cost g c = search rules
+
+pub returns-in-Err-clause-changes : goal.returns-in-Err-clause-changes
+returns-in-Err-clause-changes g c = search rules
+
+pub returns-in-Err-clause-versions : goal.returns-in-Err-clause-versions
+returns-in-Err-clause-versions g c = search rules
+
+pub returns-in-Err-clause-made : goal.returns-in-Err-clause-made
+returns-in-Err-clause-made g c = search rules
+
+pub returns-in-Err-clause-beside : goal.returns-in-Err-clause-beside
+returns-in-Err-clause-beside g c = search rules
+
+pub returns-in-Err-clause-lacks : goal.returns-in-Err-clause-lacks
+returns-in-Err-clause-lacks g c = search rules
+
+pub returns-in-Err-clause-untouched : goal.returns-in-Err-clause-untouched
+returns-in-Err-clause-untouched g c = search rules
+
+pub returns-in-Err-marks_of-clause-stands : goal.returns-in-Err-marks_of-clause-stands
+returns-in-Err-marks_of-clause-stands g c = search rules
+
+pub returns-in-Err-marks_of-clause-written : goal.returns-in-Err-marks_of-clause-written
+returns-in-Err-marks_of-clause-written g c = search rules
+
+pub returns-in-Err-marks_of-clause-cost : goal.returns-in-Err-marks_of-clause-cost
+returns-in-Err-marks_of-clause-cost g c = search rules
+
+pub returns-in-Err-marks_of-clause-changes : goal.returns-in-Err-marks_of-clause-changes
+returns-in-Err-marks_of-clause-changes g c = search rules
+
+pub returns-in-Err-marks_of-clause-versions : goal.returns-in-Err-marks_of-clause-versions
+returns-in-Err-marks_of-clause-versions g c = search rules
+
+pub returns-in-Err-marks_of-clause-made : goal.returns-in-Err-marks_of-clause-made
+returns-in-Err-marks_of-clause-made g c = search rules
+
+pub returns-in-Err-marks_of-clause-beside : goal.returns-in-Err-marks_of-clause-beside
+returns-in-Err-marks_of-clause-beside g c = search rules
+
+pub returns-in-Err-marks_of-clause-lacks : goal.returns-in-Err-marks_of-clause-lacks
+returns-in-Err-marks_of-clause-lacks g c = search rules
+
+pub returns-in-Err-marks_of-clause-untouched : goal.returns-in-Err-marks_of-clause-untouched
+returns-in-Err-marks_of-clause-untouched g c = search rules
+
+pub carry_out-requires-clause-free : goal.carry_out-requires-clause-free
+carry_out-requires-clause-free g c = search rules
+
+pub returns-in-Ok-carry_out-clause-written : goal.returns-in-Ok-carry_out-clause-written
+returns-in-Ok-carry_out-clause-written g c = search rules
+
+pub returns-in-Ok-carry_out-clause-versions : goal.returns-in-Ok-carry_out-clause-versions
+returns-in-Ok-carry_out-clause-versions g c = search rules
+
+pub returns-in-Ok-carry_out-clause-made : goal.returns-in-Ok-carry_out-clause-made
+returns-in-Ok-carry_out-clause-made g c = search rules
+
+pub returns-in-Ok-carry_out-clause-beside : goal.returns-in-Ok-carry_out-clause-beside
+returns-in-Ok-carry_out-clause-beside g c = search rules
+
+pub returns-in-Ok-carry_out-clause-lacks : goal.returns-in-Ok-carry_out-clause-lacks
+returns-in-Ok-carry_out-clause-lacks g c = search rules
+
+pub returns-in-Ok-carry_out-clause-untouched : goal.returns-in-Ok-carry_out-clause-untouched
+returns-in-Ok-carry_out-clause-untouched g c = search rules
+
+pub returns-clause-stands : goal.returns-clause-stands
+returns-clause-stands g c = search rules
+
+pub returns-clause-written : goal.returns-clause-written
+returns-clause-written g c = search rules
+
+pub returns-clause-cost : goal.returns-clause-cost
+returns-clause-cost g c = search rules
+
+pub returns-clause-changes : goal.returns-clause-changes
+returns-clause-changes g c = search rules
+
+pub returns-clause-versions : goal.returns-clause-versions
+returns-clause-versions g c = search rules
+
+pub returns-clause-made : goal.returns-clause-made
+returns-clause-made g c = search rules
+
+pub returns-clause-beside : goal.returns-clause-beside
+returns-clause-beside g c = search rules
+
+pub returns-clause-untouched : goal.returns-clause-untouched
+returns-clause-untouched g c = search rules
