@@ -22,7 +22,8 @@ use mst_node::{Node, build_in, release};
 use mst_path::{NoRoom, plant};
 use std::alloc::Allocator;
 
-/// The tree of the map that edits make of the empty one, if that has no more pairs than so many.
+/// The tree of the map that edits make of the empty one. Returns `NoRoom` only if that has more
+/// pairs than `most`, and `Memory` only if a growth was refused.
 fn tree_after<B: Allocator + Copy>(
     alloc: B,
     edits: &[Edit],
@@ -47,11 +48,10 @@ fn tree_after<B: Allocator + Copy>(
     }
 }
 
-/// Makes a batch of some edits in the empty map that stands at a root, as `apply` does: with the
-/// same rows, and to the same map.
+/// Makes a batch of some edits in the empty map that stands at a root, as `apply` does.
 ///
-/// The pairs after the edits are listed, and their tree is built in memory and planted, without a
-/// plan. A batch that leaves no pair leaves the root.
+/// The pairs after the edits are listed, and their tree is built in memory and planted without a
+/// plan: it takes a row for each pair and each node. A batch that leaves no pair leaves the root.
 pub(crate) fn load<R: Rows, A: Allocator, B: Allocator + Copy>(
     rows: &mut R,
     desk: &mut Desk<A>,
