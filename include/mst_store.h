@@ -5,7 +5,8 @@
  * A store is used through its passes alone. mst_open makes a store of the empty map and puts a pass
  * into each hand of an array; a thread works through a hand of its own. Reads wait for no one. One
  * pass at a time has the turn to write. Meanwhile a try of another one returns MST_BUSY; mst_put,
- * mst_remove and mst_migrate below try again. The store is freed when its last pass is closed.
+ * mst_remove, mst_apply and mst_migrate below try again. The store is freed when its last pass is
+ * closed.
  *
  *     mst_pass passes[2] = {MST_PASS_CLOSED, MST_PASS_CLOSED};
  *     uint8_t old[MST_VALUE_LONGEST], root[MST_ROOT_LENGTH];
@@ -58,6 +59,9 @@ typedef struct mst_pass {
 /* The most bytes that a pair takes in the room of mst_range: two lengths, a key and a value. */
 #define MST_PAIR_LONGEST (4 + MST_KEY_LONGEST + MST_VALUE_LONGEST)
 
+/* The most bytes that an edit takes in a batch: its kind, two lengths, a key and a value. */
+#define MST_EDIT_LONGEST (5 + MST_KEY_LONGEST + MST_VALUE_LONGEST)
+
 /* The limits of a store: rows, and passes. A map takes a row for each of its pairs and nodes. */
 #define MST_ROWS_LEAST 4
 #define MST_ROWS_MOST 65535
@@ -109,6 +113,9 @@ typedef struct mst_pass {
 
 /* Some pass pins a version, so the rows are not counted. */
 #define MST_ROWS_PINNED (-24)
+
+/* The bytes are no batch: an edit is of no known kind, cut short, or a remove with a value. */
+#define MST_BAD_BATCH (-25)
 
 /* ---- opening and closing ---- */
 
@@ -179,7 +186,7 @@ int32_t mst_prove(mst_pass *pass, const uint8_t *key, size_t key_length,
 
 /*
  * Sets *version to the number of the version, which is the number of writes and migrations before
- * it. Returns MST_OK or MST_CLOSED.
+ * it; a batch is one write. Returns MST_OK or MST_CLOSED.
  */
 int32_t mst_version(mst_pass *pass, uint64_t *version);
 
@@ -195,7 +202,7 @@ int32_t mst_format(mst_pass *pass);
  */
 int32_t mst_rows(mst_pass *pass, uint32_t *rows);
 
-/* ---- writes, which make a version each: puts, removes and migrations ---- */
+/* ---- writes, which make a version each: puts, removes, batches and migrations ---- */
 
 /*
  * Gives the key the value, if no other pass has the turn. Returns what mst_get would return before
@@ -213,6 +220,25 @@ int32_t mst_try_put(mst_pass *pass, const uint8_t *key, size_t key_length,
  */
 int32_t mst_try_remove(mst_pass *pass, const uint8_t *key, size_t key_length,
                        uint8_t *room, size_t room_length);
+
+/*
+ * Makes a batch of edits as one version, if no other pass has the turn: each read sees all of them
+ * or none. They are made in their order, so of edits of one key the last decides, and a remove of a
+ * key that is not there changes nothing. No edits make a version too. The edits stand in `length`
+ * bytes, one after the other: a byte 1 for a put or 2 for a remove, the length of the key in two
+ * bytes, the high one first, that of the value in two bytes, the key, the value. A remove has no
+ * value. mst_edit_put and mst_edit_remove below write them.
+ *
+ * Returns MST_OK; MST_CLOSED; if an edit is none, then for the first such one MST_BAD_KEY or
+ * MST_BAD_VALUE if a length is out of its limits, otherwise MST_BAD_BATCH, and *place is the number
+ * of that edit, from 0; MST_WRONG_STATE for a pinned pass; MST_MEMORY if there is none for the list
+ * of the edits; MST_BUSY, MST_VERSIONS_SPENT, MST_MEMORY, MST_ROWS_SPENT. If it does not return
+ * MST_OK, nothing is written. Where no edit is refused, *place is as it was.
+ *
+ * It takes a row for each pair and each node of the new tree that the old one has not, and memory
+ * for the edits and these nodes, which it gives back. No edits take no row and no memory.
+ */
+int32_t mst_try_apply(mst_pass *pass, const uint8_t *edits, size_t length, size_t *place);
 
 /*
  * Turns the tree of the map to format 1 or 2, if no other pass has the turn. The map stays, and so
@@ -264,6 +290,56 @@ static inline size_t mst_pair_at(const uint8_t *room, size_t at, mst_pair *pair)
     return at + 4 + pair->key_length + pair->value_length;
 }
 
+/* ---- edits in the bytes of a batch ---- */
+
+/*
+ * What mst_edit_put and mst_edit_remove share. Of a length out of its limits it writes no more than
+ * the lengths, at most 65,535 each, so that mst_try_apply refuses the edit.
+ */
+static inline size_t mst_edit_at(uint8_t *room, size_t at, uint8_t kind,
+                                 const uint8_t *key, size_t key_length,
+                                 const uint8_t *value, size_t value_length) {
+    uint8_t *bytes = room + at;
+    size_t keys = key_length < 0xFFFF ? key_length : 0xFFFF;
+    size_t values = value_length < 0xFFFF ? value_length : 0xFFFF;
+    bytes[0] = kind;
+    bytes[1] = (uint8_t)(keys >> 8);
+    bytes[2] = (uint8_t)keys;
+    bytes[3] = (uint8_t)(values >> 8);
+    bytes[4] = (uint8_t)values;
+    if (keys > MST_KEY_LONGEST || values > MST_VALUE_LONGEST)
+        return at + 5;
+    for (size_t i = 0; i < keys; i++)
+        bytes[5 + i] = key[i];
+    for (size_t i = 0; i < values; i++)
+        bytes[5 + keys + i] = value[i];
+    return at + 5 + keys + values;
+}
+
+/*
+ * Writes a put of the key at `at` bytes into the room, which needs MST_EDIT_LONGEST bytes from
+ * there, and returns where the next edit goes. After the last edit that is the batch's length.
+ *
+ *     uint8_t edits[2 * MST_EDIT_LONGEST];
+ *     size_t length = 0, place;
+ *     length = mst_edit_put(edits, length, key, key_length, value, value_length);
+ *     length = mst_edit_remove(edits, length, other, other_length);
+ *     int32_t told = mst_apply(pass, edits, length, &place);
+ *
+ * It never writes more than MST_EDIT_LONGEST bytes. If a length is out of its limits, the call with
+ * the batch returns MST_BAD_KEY or MST_BAD_VALUE.
+ */
+static inline size_t mst_edit_put(uint8_t *room, size_t at, const uint8_t *key, size_t key_length,
+                                  const uint8_t *value, size_t value_length) {
+    return mst_edit_at(room, at, 1, key, key_length, value, value_length);
+}
+
+/* As mst_edit_put, a remove of the key. */
+static inline size_t mst_edit_remove(uint8_t *room, size_t at,
+                                     const uint8_t *key, size_t key_length) {
+    return mst_edit_at(room, at, 2, key, key_length, key, 0);
+}
+
 /* ---- writes that try until they get the turn ---- */
 
 /*
@@ -294,6 +370,15 @@ static inline int32_t mst_remove(mst_pass *pass, const uint8_t *key, size_t key_
                                  uint8_t *room, size_t room_length) {
     int32_t told;
     while ((told = mst_try_remove(pass, key, key_length, room, room_length)) == MST_BUSY)
+        MST_PAUSE();
+    return told;
+}
+
+/* As mst_try_apply, but tries again instead of returning MST_BUSY. */
+static inline int32_t mst_apply(mst_pass *pass, const uint8_t *edits, size_t length,
+                                size_t *place) {
+    int32_t told;
+    while ((told = mst_try_apply(pass, edits, length, place)) == MST_BUSY)
         MST_PAUSE();
     return told;
 }

@@ -49,6 +49,7 @@ inline const char *meaning(int code) noexcept {
     case MST_VERSIONS_SPENT: return "version numbers are spent";
     case MST_ROWS_SPENT: return "fewer rows are free than the write or the migration needs";
     case MST_ROWS_PINNED: return "a version is pinned, so the rows are not counted";
+    case MST_BAD_BATCH: return "the bytes are no batch of edits";
     default: return "unknown code";
     }
 }
@@ -64,10 +65,28 @@ public:
     int code() const noexcept { return number; }
 };
 
+// Why a batch was refused: one of its edits has a key or a value of a length out of the limits.
+class refused_edit : public refused {
+    std::size_t number;
+
+public:
+    refused_edit(int code, std::size_t place) : refused(code), number(place) {}
+
+    // The number of the first such edit, from 0.
+    std::size_t place() const noexcept { return number; }
+};
+
 // What a call that tries to write has done.
 struct [[nodiscard]] tried {
     bool is_busy = false;           // another pass has the turn, and nothing is written
     std::optional<std::string> old; // the value that the key had before, if it had one
+
+    explicit operator bool() const noexcept { return !is_busy; }
+};
+
+// What a call that tries to make a batch has done.
+struct [[nodiscard]] applied {
+    bool is_busy = false; // another pass has the turn, and nothing is written
 
     explicit operator bool() const noexcept { return !is_busy; }
 };
@@ -88,6 +107,56 @@ struct [[nodiscard]] counted {
     explicit operator bool() const noexcept { return !is_busy; }
 };
 
+namespace detail {
+
+inline const std::uint8_t *bytes(std::string_view text) noexcept {
+    return reinterpret_cast<const std::uint8_t *>(text.data());
+}
+
+} // namespace detail
+
+// Edits that a pass makes as one version, in their order: of those of one key the last decides.
+//
+//     pass.apply(mst::batch().put("apple", "30").remove("pear"));
+class batch {
+    friend class pass;
+    std::vector<std::uint8_t> edits; // as mst_try_apply takes them
+    std::size_t count = 0;
+
+    template <typename Write> batch &add(Write write) {
+        std::size_t length = edits.size();
+        edits.resize(length + MST_EDIT_LONGEST);
+        edits.resize(write(edits.data(), length));
+        count++;
+        return *this;
+    }
+
+public:
+    // Adds a put. If a length is out of the limits, the call that makes the batch is refused.
+    batch &put(std::string_view key, std::string_view value) {
+        return add([&](std::uint8_t *room, std::size_t at) {
+            return mst_edit_put(room, at, detail::bytes(key), key.size(), detail::bytes(value),
+                                value.size());
+        });
+    }
+
+    // Adds a remove: that of a key that is absent changes nothing.
+    batch &remove(std::string_view key) {
+        return add([&](std::uint8_t *room, std::size_t at) {
+            return mst_edit_remove(room, at, detail::bytes(key), key.size());
+        });
+    }
+
+    // Returns how many edits there are.
+    std::size_t size() const noexcept { return count; }
+
+    // Takes all edits out.
+    void clear() noexcept {
+        edits.clear();
+        count = 0;
+    }
+};
+
 // The reads, which a pass and a pinned pass both have. The hand lies on the heap, so that a pass
 // may be moved or closed while it is pinned.
 class reader {
@@ -104,7 +173,7 @@ protected:
     }
 
     static const std::uint8_t *bytes(std::string_view text) noexcept {
-        return reinterpret_cast<const std::uint8_t *>(text.data());
+        return detail::bytes(text);
     }
 
     static std::string text(const std::uint8_t *room, std::size_t length) {
@@ -293,6 +362,21 @@ public:
     // As try_remove, but waits for the turn. Returns the value that the key had before.
     std::optional<std::string> remove(std::string_view key) {
         return wait([&] { return try_remove(key); }).old;
+    }
+
+    // Makes the edits as one version, if no other pass has the turn.
+    applied try_apply(const batch &edits) {
+        std::size_t place = 0;
+        int code = mst_try_apply(at(), edits.edits.data(), edits.edits.size(), &place);
+        if (code == MST_BUSY) return applied{true};
+        if (code == MST_BAD_KEY || code == MST_BAD_VALUE) throw refused_edit(code, place);
+        require_done(code);
+        return applied{};
+    }
+
+    // As try_apply, but waits for the turn.
+    void apply(const batch &edits) {
+        (void)wait([&] { return try_apply(edits); });
     }
 
     // Turns the tree of the map to a format, if no other pass has the turn. The map stays, and so

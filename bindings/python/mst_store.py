@@ -10,6 +10,7 @@ store is freed with its last pass.
         writer.put(b"apple", b"31")
         then.get(b"apple")          # b"30"
     reader.get(b"apple")            # b"31"
+    writer.apply([(b"apple", b"32"), (b"pear", None)])  # one version; None takes a key out
     writer.migrate(Format.TWO)      # shorter proofs; a store opens in Format.ONE
 
 Keys have 1 to 32 bytes, values 0 to 64. Use a pass for each thread: ctypes lets other threads run
@@ -27,11 +28,12 @@ import struct
 import threading
 import time
 from contextlib import contextmanager
-from typing import Callable, Iterator, List, NoReturn, Optional, Tuple, TypeVar, Union
+from typing import Callable, Iterable, Iterator, List, NoReturn, Optional, Tuple, TypeVar, Union
 
-__all__ = ["Busy", "Format", "Pass", "Refused", "open_store"]
+__all__ = ["Busy", "Format", "Pass", "Refused", "RefusedEdit", "open_store"]
 
 Octets = Union[bytes, bytearray, memoryview]
+Edit = Tuple[Octets, Optional[Octets]]  # a key with its new value, or with None to take it out
 Answer = TypeVar("Answer")
 
 # The numbers of include/mst_store.h.
@@ -48,11 +50,15 @@ BUSY = -21
 VERSIONS_SPENT = -22
 ROWS_SPENT = -23
 ROWS_PINNED = -24
+BAD_BATCH = -25
 
 KEY_LONGEST, VALUE_LONGEST, ROOT_LENGTH = 32, 64, 32
 
 # The lengths of a key and its value in front of them, as mst_range has them.
 _LENGTHS = struct.Struct(">HH")
+
+# What an edit begins with: 1 for a put or 2 for a remove, and the two lengths.
+_EDIT = struct.Struct(">BHH")
 
 _REASONS = {
     UNKNOWN_FORMAT: "no format has this number",
@@ -66,6 +72,7 @@ _REASONS = {
     VERSIONS_SPENT: "the store has made all the versions that it can number",
     ROWS_SPENT: "the write or the migration needs more rows than are free",
     ROWS_PINNED: "some pass pins a version, so the rows are not counted",
+    BAD_BATCH: "the bytes are no batch of edits",
 }
 
 
@@ -85,6 +92,17 @@ class Refused(Exception):
 
     def __reduce__(self):
         return type(self), (self.code,)
+
+
+class RefusedEdit(Refused):
+    """A batch is refused for an edit. `place` is the number of the first such edit, from 0."""
+
+    def __init__(self, code: int, place: int) -> None:
+        super().__init__(code)
+        self.place = place
+
+    def __reduce__(self):
+        return type(self), (self.code, self.place)
 
 
 class Busy(Refused):
@@ -126,6 +144,7 @@ def _signatures() -> dict:
         "mst_rows": (hand, pointer(ctypes.c_uint32)),
         "mst_try_put": (hand, text, size, text, size, text, size),
         "mst_try_remove": (hand, text, size, text, size),
+        "mst_try_apply": (hand, text, size, pointer(size)),
         "mst_try_migrate": (hand, ctypes.c_uint32),
         "mst_pin": (hand,),
         "mst_unpin": (hand,),
@@ -167,6 +186,19 @@ def _word(number: int) -> int:
     # ctypes would cut greater numbers short. What is no integer raises TypeError.
     number = operator.index(number)
     return number if 0 <= number < 2**32 else 2**32 - 1
+
+
+def _edit(key: Octets, value: Optional[Octets]) -> bytes:
+    key, kind = _octets(key), 2 if value is None else 1
+    value = b"" if value is None else _octets(value)
+    if len(key) > KEY_LONGEST or len(value) > VALUE_LONGEST:
+        # It is refused by its lengths, so they are enough.
+        return _EDIT.pack(kind, min(len(key), 2**16 - 1), min(len(value), 2**16 - 1))
+    return _EDIT.pack(kind, len(key), len(value)) + key + value
+
+
+def _packed(edits: Iterable[Edit]) -> bytes:
+    return b"".join(_edit(key, value) for key, value in edits)
 
 
 class Pass:
@@ -308,6 +340,24 @@ class Pass:
         with self._lock:
             return _format(_lib.mst_try_migrate(self._hand, _word(to)))
 
+    def try_apply(self, edits: Iterable[Edit]) -> None:
+        """Makes edits as one version, or raises Busy.
+
+        Each is a key with its new value, or with None to take the key out. They are made in their
+        order: of those of one key the last decides. Each read sees all of them or none. No edits
+        make a version too. RefusedEdit tells which edit has a key or a value of a bad length.
+        """
+        self._try_apply(_packed(edits))
+
+    def _try_apply(self, edits: bytes) -> None:
+        place = ctypes.c_size_t()
+        with self._lock:
+            code = _lib.mst_try_apply(self._hand, edits, len(edits), ctypes.byref(place))
+        if code in (BAD_KEY, BAD_VALUE):
+            raise RefusedEdit(code, place.value)
+        if code < 0:
+            _refuse(code)
+
     def put(self, key: Octets, value: Octets) -> Optional[bytes]:
         """As try_put, but tries until it gets the turn."""
         return _until_free(self.try_put, key, value)
@@ -315,6 +365,10 @@ class Pass:
     def remove(self, key: Octets) -> Optional[bytes]:
         """As try_remove, but tries until it gets the turn."""
         return _until_free(self.try_remove, key)
+
+    def apply(self, edits: Iterable[Edit]) -> None:
+        """As try_apply, but tries until it gets the turn."""
+        _until_free(self._try_apply, _packed(edits))
 
     def migrate(self, to: int) -> Format:
         """As try_migrate, but tries until it gets the turn."""

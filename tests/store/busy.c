@@ -42,12 +42,18 @@ static int has_root(mst_pass *pass) {
 /* Faults of the line come first, and then that another pass has the turn. */
 static void each_is_refused(void) {
     uint32_t rows = 77;
+    uint8_t edits[MST_EDIT_LONGEST];
+    size_t length = mst_edit_put(edits, 0, TEXT("a"), TEXT("2")), place = 77;
     EXPECT(mst_try_migrate(other, 2) == MST_BUSY && mst_try_migrate(other, 1) == MST_BUSY);
     EXPECT(mst_try_migrate(other, 3) == MST_UNKNOWN_FORMAT);
     EXPECT(mst_try_migrate(pinned, 2) == MST_WRONG_STATE);
     EXPECT(mst_try_put(other, TEXT("a"), TEXT("2"), room, sizeof room) == MST_BUSY);
     EXPECT(mst_try_put(other, NULL, 0, TEXT("2"), room, sizeof room) == MST_BAD_KEY);
     EXPECT(mst_try_remove(other, TEXT("a"), room, sizeof room) == MST_BUSY);
+    EXPECT(mst_try_apply(other, NULL, 0, &place) == MST_BUSY);
+    EXPECT(mst_try_apply(other, edits, length, &place) == MST_BUSY && place == 77);
+    EXPECT(mst_try_apply(other, edits, length - 1, &place) == MST_BAD_BATCH && place == 0);
+    EXPECT(mst_try_apply(pinned, edits, length, &place) == MST_WRONG_STATE);
     EXPECT(mst_rows(other, &rows) == MST_BUSY && rows == 77);
 }
 
@@ -102,6 +108,15 @@ static void *removes(void *unused) {
     return unused;
 }
 
+static void *applies(void *unused) {
+    uint8_t edits[3 * MST_EDIT_LONGEST];
+    size_t place, length = mst_edit_remove(edits, 0, TEXT("a"));
+    length = mst_edit_put(edits, length, TEXT("b"), TEXT("3"));
+    length = mst_edit_put(edits, length, TEXT("a"), TEXT("4"));
+    told = mst_apply(other, edits, length, &place);
+    return unused;
+}
+
 static void *(*waiting)(void *);
 static pthread_t waiter;
 
@@ -130,9 +145,12 @@ int main(void) {
     goes_through(1, puts_one, 1);
     EXPECT(mst_format(other) == 2 && mst_get(mover, TEXT("a"), room, sizeof room) == 1);
     EXPECT(room[0] == '2');
-    goes_through(2, removes, 1);
+    goes_through(2, applies, MST_OK);
+    EXPECT(mst_get(mover, TEXT("a"), room, sizeof room) == 1 && room[0] == '4');
+    EXPECT(mst_get(mover, TEXT("b"), room, sizeof room) == 1 && room[0] == '3');
+    goes_through(1, removes, 1);
     EXPECT(mst_get(mover, TEXT("a"), room, sizeof room) == MST_ABSENT);
-    EXPECT(mst_version(mover, &version) == MST_OK && version == 9);
+    EXPECT(mst_version(mover, &version) == MST_OK && version == 11);
     for (int i = 0; i < 3; i++)
         EXPECT(mst_close(&passes[i]) == MST_OK);
     return ended("busy");

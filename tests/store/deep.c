@@ -27,8 +27,8 @@ static const char *const keys[NODES] = {
 };
 
 static mst_pass pass = MST_PASS_CLOSED;
-static const uint8_t *low; /* the key of the lowest layer */
-static size_t low_length;
+static const uint8_t *low, *top; /* the keys of the lowest layer and of the highest */
+static size_t low_length, top_length;
 static int32_t told;
 static uint8_t room[8192];
 static size_t length, count;
@@ -83,6 +83,15 @@ static void *migrates_to_2(void *unused) {
     return unused;
 }
 
+/* At the top of the tree and in its lowest node. */
+static void *applies(void *unused) {
+    size_t place;
+    length = mst_edit_put(room, 0, low, low_length, TEXT("2"));
+    length = mst_edit_put(room, length, top, top_length, TEXT("2"));
+    told = mst_try_apply(&pass, room, length, &place);
+    return unused;
+}
+
 struct call {
     const char *name;
     void *(*run)(void *);
@@ -100,6 +109,7 @@ static const struct call calls[] = {
     {"put of a new key", puts_again, MST_ABSENT},
     {"migrate to 1", migrates_to_1, 2},
     {"migrate to 2", migrates_to_2, 1},
+    {"batch", applies, MST_OK},
 };
 
 enum { CALLS = sizeof calls / sizeof *calls };
@@ -130,6 +140,8 @@ static void opens(int nodes) {
                == MST_ABSENT);
     low = (const uint8_t *)keys[NODES - 1];
     low_length = strlen(keys[NODES - 1]);
+    top = (const uint8_t *)keys[NODES - nodes];
+    top_length = strlen(keys[NODES - nodes]);
     uint32_t rows = 0;
     EXPECT(mst_rows(&pass, &rows) == MST_OK && rows == 2 * (uint32_t)nodes);
     EXPECT(mst_prove(&pass, low, low_length, room, sizeof room, &length) == MST_OK

@@ -67,6 +67,23 @@ static int is_value(int32_t told, const uint8_t *room, const struct pair *pair) 
     return told == pair->value_length && memcmp(room, pair->value, (size_t)told) == 0;
 }
 
+/* Puts the pair in the plain map, or takes its key out. */
+static void change(const struct pair *pair, int is_put) {
+    int is_there, at = place_of(&now, pair, &is_there);
+    struct pair *place = &now.pairs[at];
+    size_t behind = (size_t)(now.count - at);
+    if (is_put && !is_there) {
+        memmove(place + 1, place, behind * sizeof *place);
+        now.count++;
+    }
+    if (is_put)
+        *place = *pair;
+    else if (is_there) {
+        memmove(place, place + 1, (behind - 1) * sizeof *place);
+        now.count--;
+    }
+}
+
 static void write_once(int hand, const struct pair *pair, int is_put) {
     uint8_t room[64];
     int is_there, at = place_of(&now, pair, &is_there);
@@ -81,18 +98,31 @@ static void write_once(int hand, const struct pair *pair, int is_put) {
     }
     EXPECT(is_there ? is_value(told, room, &now.pairs[at]) : told == MST_ABSENT);
     versions++;
-    struct pair *place = &now.pairs[at];
-    size_t behind = (size_t)(now.count - at);
-    if (is_put && !is_there) {
-        memmove(place + 1, place, behind * sizeof *place);
-        now.count++;
+    change(pair, is_put);
+}
+
+/* Up to eight edits, perhaps of one key more than once, as one version. */
+static void apply_once(int hand) {
+    struct pair pairs[8];
+    int are_puts[8], count = (int)random_below(9);
+    uint8_t edits[8 * MST_EDIT_LONGEST];
+    size_t length = 0, place = 77;
+    for (int i = 0; i < count; i++) {
+        struct pair *pair = &pairs[i];
+        *pair = random_pair();
+        are_puts[i] = random_below(3) > 0;
+        length = are_puts[i]
+            ? mst_edit_put(edits, length, pair->key, (size_t)pair->key_length, pair->value,
+                           (size_t)pair->value_length)
+            : mst_edit_remove(edits, length, pair->key, (size_t)pair->key_length);
     }
-    if (is_put)
-        *place = *pair;
-    else if (is_there) {
-        memmove(place, place + 1, (behind - 1) * sizeof *place);
-        now.count--;
-    }
+    int32_t told = mst_try_apply(&passes[hand], edits, length, &place);
+    EXPECT(told == (pins[hand] ? MST_WRONG_STATE : MST_OK) && place == 77);
+    if (pins[hand])
+        return;
+    versions++;
+    for (int i = 0; i < count; i++)
+        change(&pairs[i], are_puts[i]);
 }
 
 static void read_once(int hand, const struct pair *pair, int is_next) {
@@ -211,7 +241,7 @@ int main(int argc, char **argv) {
     EXPECT(mst_open(1, ROWS, passes, HANDS) == MST_OK);
     for (long i = 0; i < calls && wrong < 10; i++) {
         int hand = (int)random_below(HANDS);
-        uint32_t what = random_below(18);
+        uint32_t what = random_below(19);
         struct pair pair = random_pair(), other = random_pair();
         if (random_below(1000) == 0)
             migrate_once(hand, &pair);
@@ -223,6 +253,8 @@ int main(int argc, char **argv) {
             range_once(hand, &pair, &other);
         else if (what == 16)
             pin_once(hand);
+        else if (what == 17)
+            apply_once(hand);
         else
             ask_once(hand);
     }

@@ -1,6 +1,6 @@
 /*
  * A malloc that counts, and that refuses its n-th call: mst_open leaves all hands empty, a proof
- * leaves the pass as it was, a migration the format, and nothing is ever leaked.
+ * leaves the pass as it was, a migration the format, a batch the map, and nothing is ever leaked.
  */
 #include "heap.h"
 #include "tests.h"
@@ -84,13 +84,46 @@ static long migrations(mst_pass *pass, uint32_t from, uint32_t to) {
     return -1;
 }
 
+/*
+ * How many batches were refused before one was not. The map stays after each refusal, and no place
+ * is told.
+ */
+static long batches(mst_pass *pass, const uint8_t *edits, size_t length) {
+    uint8_t root[32], after[32];
+    EXPECT(mst_root(pass, root, 32) == 32);
+    for (long n = 0; n < 1000; n++) {
+        size_t place = 7;
+        long before = live;
+        count_from(n);
+        int32_t told = mst_try_apply(pass, edits, length, &place);
+        count_on();
+        EXPECT(live == before && place == 7);
+        EXPECT(mst_root(pass, after, 32) == 32 && (memcmp(root, after, 32) == 0) == (told < 0));
+        if (told == MST_OK)
+            return n;
+        EXPECT(told == MST_MEMORY);
+    }
+    return -1;
+}
+
+/* Puts of ten keys or removes of them, and a put of "key" that changes nothing. */
+static size_t ten_edits(uint8_t *edits, int are_puts) {
+    size_t length = 0;
+    for (uint8_t key = 0; key < 10; key++)
+        length = are_puts ? mst_edit_put(edits, length, &key, 1, TEXT("other"))
+            : mst_edit_remove(edits, length, &key, 1);
+    return mst_edit_put(edits, length, TEXT("key"), TEXT("value"));
+}
+
 /* Whether these calls ask for no memory, not even to give it back at once. */
 static void without_memory(mst_pass *pass) {
-    uint8_t room[64], key[32];
-    size_t length = 0;
+    uint8_t room[64], key[32] = {0};
+    size_t length = 0, place = 0;
     uint64_t version = 0;
     uint32_t rows = 0;
     asked = 0;
+    EXPECT(mst_try_apply(pass, NULL, 0, &place) == MST_OK);
+    EXPECT(mst_try_apply(pass, key, 4, &place) == MST_BAD_BATCH);
     EXPECT(mst_try_put(pass, TEXT("other"), TEXT("1"), room, sizeof room) == MST_ABSENT);
     EXPECT(mst_get(pass, TEXT("other"), room, sizeof room) == 1);
     EXPECT(mst_next(pass, TEXT("key"), key, 32, &length, room, 64) == 1 && length == 5);
@@ -108,7 +141,7 @@ static void without_memory(mst_pass *pass) {
 
 int main(void) {
     mst_pass pass = MST_PASS_CLOSED;
-    uint8_t room[64];
+    uint8_t room[64], edits[11 * MST_EDIT_LONGEST];
     long opened = openings();
     EXPECT(opened > 0);
     live = 0;
@@ -122,11 +155,13 @@ int main(void) {
     EXPECT(ranges(&pass) == ranged && proofs(&pass) == proved && mst_unpin(&pass) == MST_OK);
     long migrated = migrations(&pass, 1, 2);
     EXPECT(migrated > 0 && proofs(&pass) > 0 && migrations(&pass, 2, 1) > 0);
+    long made = batches(&pass, edits, ten_edits(edits, 1));
+    EXPECT(made > 0 && batches(&pass, edits, ten_edits(edits, 0)) > 0);
     without_memory(&pass);
     EXPECT(mst_close(&pass) == MST_OK);
     counting = 0;
     EXPECT(live == 0);
-    printf("%ld openings, %ld proofs, %ld ranges and %ld migrations refused\n",
-           opened, proved, ranged, migrated);
+    printf("%ld openings, %ld proofs, %ld ranges, %ld migrations and %ld batches refused\n",
+           opened, proved, ranged, migrated, made);
     return ended("nomem");
 }

@@ -12,6 +12,8 @@
 #define PAIR 256  /* bytes for each pair of a range, while its list grows */
 #define MOVE 512  /* and of a migration, for that list and the tree */
 #define ENTRY 256 /* bytes for each entry of a node that is proved */
+#define EDIT 1024 /* bytes for each edit of a batch in the empty map */
+#define TOUCH 32768 /* and of one in a map, for the nodes from its top to the edit */
 
 static mst_pass pass = MST_PASS_CLOSED;
 static uint8_t room[8 << 20];
@@ -48,6 +50,23 @@ static int32_t migrates(uint32_t to) {
     return mst_try_migrate(&pass, to) < 0;
 }
 
+/* A batch of puts: of so many keys, each a step from the one before it. */
+static int32_t applies(uint32_t edits, uint32_t step) {
+    size_t length = 0, place;
+    for (uint32_t i = 0; i < edits; i++)
+        length = mst_edit_put(room, length, key_of(i * step), 4,
+                              TEXT("32 bytes that a batch has put in"));
+    return mst_try_apply(&pass, room, length, &place);
+}
+
+static int32_t loads(uint32_t keys) {
+    return applies(keys, 1);
+}
+
+static int32_t applies_apart(uint32_t edits) {
+    return applies(edits, 97);
+}
+
 /* Whether a call with this argument ends well and holds at most so many bytes more than before. */
 static void takes(int32_t (*call)(uint32_t), uint32_t argument, size_t most, int stays) {
     size_t before = held;
@@ -80,8 +99,12 @@ static void calls(uint32_t keys) {
     reads(keys);
     EXPECT(mst_unpin(&pass) == MST_OK);
     takes(migrates, 1, keys * (size_t)MOVE, 0);
+    takes(applies_apart, keys / 97, keys / 97 * (size_t)TOUCH, 0);
     takes(closes, 0, 0, 1);
     EXPECT(held == 0 && live == 0);
+    EXPECT(opens(ROWS) == MST_OK);
+    takes(loads, keys, keys * (size_t)EDIT, 0);
+    EXPECT(mst_close(&pass) == MST_OK && live == 0);
 }
 
 /* Whether the key of a number has layer 0: that of the node when it is the only key. */

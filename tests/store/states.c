@@ -60,6 +60,9 @@ static void closed_hands(mst_pass *pass) {
     EXPECT(mst_put(pass, TEXT("a"), TEXT("1"), room, sizeof room) == MST_CLOSED);
     EXPECT(mst_try_remove(pass, TEXT("a"), room, sizeof room) == MST_CLOSED);
     EXPECT(mst_remove(pass, TEXT("a"), room, sizeof room) == MST_CLOSED);
+    EXPECT(mst_try_apply(pass, NULL, 0, &length) == MST_CLOSED);
+    EXPECT(mst_try_apply(pass, long_bytes, 65, &length) == MST_CLOSED);
+    EXPECT(mst_apply(pass, NULL, 0, &length) == MST_CLOSED);
     EXPECT(mst_try_migrate(pass, 2) == MST_CLOSED && mst_try_migrate(pass, 3) == MST_CLOSED);
     EXPECT(mst_migrate(pass, 1) == MST_CLOSED);
     EXPECT(mst_pin(pass) == MST_CLOSED);
@@ -186,6 +189,7 @@ static void wrong_states(mst_pass *pass, mst_pass *other) {
     EXPECT(mst_try_put(pass, TEXT("a"), TEXT("1"), room, sizeof room) == MST_WRONG_STATE);
     EXPECT(mst_try_put(pass, NULL, 0, TEXT("1"), room, sizeof room) == MST_BAD_KEY);
     EXPECT(mst_try_remove(pass, TEXT("a"), room, sizeof room) == MST_WRONG_STATE);
+    EXPECT(mst_try_apply(pass, NULL, 0, &length) == MST_WRONG_STATE);
     EXPECT(mst_rows(other, &rows) == MST_ROWS_PINNED);
     EXPECT(rooms_stay());
     EXPECT(mst_try_put(other, TEXT("z"), TEXT("1"), room, sizeof room) == MST_ABSENT);

@@ -9,7 +9,7 @@ import unittest
 from unittest import mock
 
 import mst_store
-from mst_store import Busy, Format, Pass, Refused, open_store
+from mst_store import Busy, Format, Pass, Refused, RefusedEdit, open_store
 
 HERE = os.path.dirname(os.path.abspath(__file__))
 sys.path.append(os.path.join(HERE, "..", "..", "by_hand", "python"))
@@ -109,6 +109,34 @@ class Answers(unittest.TestCase):
         self.assertIs(reader.format(), Format.TWO)
         self.assertEqual((reader.migrate(2), reader.migrate(1), reader.version()), (2, 2, 4))
         self.assertEqual((writer.format(), writer.root()), (1, seen[0]))
+
+    def test_a_batch_leaves_the_map_of_its_edits_as_one_version(self):
+        chance, store, known = random.Random(11), one(4000), {}
+        for step in range(300):
+            edits = []
+            for _ in range(chance.randrange(30)):
+                value = chance.randbytes(chance.randrange(65)) if chance.randrange(3) else None
+                edits.append((key_by(chance), value))
+            self.assertIsNone(store.apply(edits))
+            self.assertEqual(store.version(), step + 1)
+            known.update(edits)
+            known = {key: value for key, value in known.items() if value is not None}
+            self.assertEqual(store.range(), sorted(known.items()))
+        twin = one(4000)
+        twin.apply(known.items())
+        self.assertEqual((twin.root(), twin.version()), (store.root(), 1))
+
+    def test_a_batch_is_made_whole_or_not_at_all(self):
+        reader, writer = open_store(64, 2)
+        writer.apply([(b"a", b"1"), (bytearray(b"b"), memoryview(b"2"))])
+        with reader.pinned() as then:
+            with self.assertRaises(Refused) as caught:
+                writer.apply((bytes([key]), b"") for key in range(64))
+            self.assertEqual(caught.exception.code, mst_store.ROWS_SPENT)
+            writer.try_apply([(b"a", None), (b"b", b"two"), (b"none", None)])
+            writer.apply([])
+            self.assertEqual((then.get(b"a"), then.get(b"b"), then.version()), (b"1", b"2", 1))
+        self.assertEqual((reader.range(), reader.version()), ([(b"b", b"two")], 3))
 
     def test_a_proof_longer_than_the_room(self):
         store = one()
@@ -222,6 +250,25 @@ class Refusals(unittest.TestCase):
         self.assertIsNone(store.put(bytes(32), bytes(64)))
         self.assertEqual(store.version(), 1)
 
+    def test_edits(self):
+        store, good = one(), (b"key", b"value")
+        for place in range(3):
+            for code, edit in ((mst_store.BAD_KEY, (b"", b"")), (mst_store.BAD_KEY, (b"", None)),
+                               (mst_store.BAD_KEY, (bytes(33), bytes(65))),
+                               (mst_store.BAD_KEY, (bytes(70000), None)),
+                               (mst_store.BAD_VALUE, (b"key", bytes(65))),
+                               (mst_store.BAD_VALUE, (b"key", bytes(70000)))):
+                for call in (store.apply, store.try_apply):
+                    with self.assertRaises(RefusedEdit) as caught:
+                        call([good] * place + [edit, edit, good])
+                    self.assertEqual((caught.exception.code, caught.exception.place), (code, place))
+        for wrong in ("key", 5, None):
+            self.assertRaises(TypeError, store.apply, [good, (wrong, b"")])
+        self.assertRaises(TypeError, store.apply, [good, (b"key", "value")])
+        self.assertEqual((store.range(), store.version()), ([], 0))
+        store.apply([(bytes(32), bytes(64))])
+        self.assertEqual(store.get(bytes(32)), bytes(64))
+
     def test_shapes(self):
         shapes = (3, 1), (65536, 1), (1000, 0), (1000, 33), (1000, -1), (-1, 1), (2**32 + 4, 1)
         for shape in shapes:
@@ -242,6 +289,7 @@ class Refusals(unittest.TestCase):
         with store.pinned() as then:
             for call in (lambda: then.put(b"key", b""), lambda: then.remove(b"key"), then.try_rows,
                          lambda: then.migrate(2), lambda: then.try_migrate(1),
+                         lambda: then.apply([]), lambda: then.try_apply([(b"key", b"")]),
                          then.pinned().__enter__):
                 self.refused(mst_store.WRONG_STATE, call)
         self.assertIsNone(store.put(b"key", b""))
@@ -299,7 +347,8 @@ class Refusals(unittest.TestCase):
         for call in (lambda: store.get(b"key"), store.next, store.range, store.root, store.version,
                      store.try_rows, lambda: store.prove(b"key"), lambda: store.put(b"key", b""),
                      lambda: store.remove(b"key"), store.format, lambda: store.migrate(2),
-                     lambda: store.try_migrate(3), store.pinned().__enter__):
+                     lambda: store.try_migrate(3), lambda: store.apply([(b"", b"")]),
+                     store.pinned().__enter__):
             self.refused(mst_store.CLOSED, call)
         store.close()
 
@@ -327,6 +376,7 @@ class Refusals(unittest.TestCase):
     def test_busy_is_told_by_a_try_and_outwaited_by_the_others(self):
         store = one()
         for name, given, answer in (("put", (b"key", b""), None), ("remove", (b"key",), b""),
+                                    ("apply", ([(b"key", b"")],), None),
                                     ("migrate", (Format.TWO,), Format.ONE)):
             real = getattr(mst_store._lib, f"mst_try_{name}")
             busy = mock.Mock(side_effect=[mst_store.BUSY] * 3)
@@ -335,7 +385,7 @@ class Refusals(unittest.TestCase):
                 busy.side_effect = lambda *it: real(*it) if busy.call_count > 4 else mst_store.BUSY
                 self.assertEqual(getattr(store, name)(*given), answer)
                 self.assertEqual(busy.call_count, 5)
-        self.assertEqual(store.version(), 3)
+        self.assertEqual(store.version(), 4)
 
     def test_a_code_that_is_not_known(self):
         store = one()
@@ -347,6 +397,7 @@ class Refusals(unittest.TestCase):
         self.assertTrue(issubclass(Busy, Refused))
         self.assertEqual((Busy().code, str(Busy())), (-21, "another pass writes"))
         self.assertEqual(pickle.loads(pickle.dumps(Refused(-5))).code, -5)
+        self.assertEqual(pickle.loads(pickle.dumps(RefusedEdit(-6, 7))).place, 7)
 
 
 if __name__ == "__main__":

@@ -72,6 +72,47 @@ static void long_range() {
     EXPECT(pass.pin().range() == all);
 }
 
+// The place of the edit for which a batch is refused, if it is refused by this number.
+static std::optional<std::size_t> place_of(mst::pass &pass, const mst::batch &edits, int code) {
+    try {
+        pass.apply(edits);
+    } catch (const mst::refused_edit &fault) {
+        if (fault.code() == code) return fault.place();
+    }
+    return std::nullopt;
+}
+
+static void batches() {
+    auto passes = mst::open(1000, 2);
+    auto &pass = passes[0], &other = passes[1];
+    pass.put("a", "1");
+    pass.put("b", "2");
+    auto root = pass.root();
+    pass.apply(mst::batch().put("c", "3").remove("a").put("b", "two").remove("none"));
+    EXPECT(pass.version() == 3 && !other.get("a") && other.get("b") == "two");
+    mst::batch edits;
+    edits.put("b", "").remove("c").put("a", "1").put("b", "2");
+    EXPECT(edits.size() == 4 && other.try_apply(edits) && pass.version() == 4);
+    EXPECT(pass.root() == root && pass.range().size() == 2);
+    edits.clear();
+    pass.apply(edits);
+    EXPECT(edits.size() == 0 && pass.version() == 5 && pass.root() == root);
+    std::string zero("k\0z", 3), long_key(32, 'k'), long_value(64, 'v');
+    pass.apply(mst::batch().put(zero, zero).put(long_key, long_value));
+    EXPECT(pass.get(zero) == zero && pass.get(long_key) == long_value);
+    EXPECT(place_of(pass, mst::batch().put("a", "").remove(""), MST_BAD_KEY) == 1u);
+    EXPECT(place_of(pass, mst::batch().put(std::string(70000, 'k'), ""), MST_BAD_KEY) == 0u);
+    EXPECT(place_of(pass, mst::batch().put("a", std::string(65, 'v')), MST_BAD_VALUE) == 0u);
+    EXPECT(pass.version() == 6 && pass.get("a") == "1");
+    auto then = other.pin();
+    EXPECT(code_of([&] { other.apply(mst::batch()); }) == MST_WRONG_STATE);
+    pass.apply(mst::batch().remove("a").remove("b"));
+    EXPECT(then.get("a") == "1" && !pass.get("a") && !pass.get("b"));
+    for (int i = 0; i < 1000; i++) edits.put(std::to_string(i), long_value);
+    EXPECT(code_of([&] { pass.apply(edits); }) == MST_ROWS_SPENT && !pass.get("999"));
+    passes.clear();
+}
+
 static void refusals(mst::pass &pass) {
     EXPECT(code_of([&] { pass.get(""); }) == MST_BAD_KEY);
     EXPECT(code_of([&] { pass.put(std::string(33, 'k'), "v"); }) == MST_BAD_KEY);
@@ -179,6 +220,7 @@ int main() {
     pins(passes[0], passes[1]);
     pins_that_end_with_their_pass();
     migrations();
+    batches();
     auto before = passes[0].version();
     threads(passes);
     EXPECT(passes[0].version() == before + 4040);

@@ -11,6 +11,12 @@ pub enum Error {
     BadKey,
     /// A value has 0 to 64 bytes.
     BadValue,
+    /// The edit of a batch at this place, from 0, has a key of 0 bytes or more than 32. It is the
+    /// first that is refused.
+    BadKeyAt(usize),
+    /// The edit of a batch at this place, from 0, has a value of more than 64 bytes. It is the
+    /// first that is refused.
+    BadValueAt(usize),
     /// The pass still pins, since a `Pinned` was leaked (`std::mem::forget`). The next pin ends
     /// that one.
     WrongState,
@@ -34,8 +40,8 @@ impl Error {
     pub fn code(self) -> i32 {
         match self {
             Error::UnknownFormat => -3,
-            Error::BadKey => -5,
-            Error::BadValue => -6,
+            Error::BadKey | Error::BadKeyAt(_) => -5,
+            Error::BadValue | Error::BadValueAt(_) => -6,
             Error::WrongState => -8,
             Error::Memory => -9,
             Error::BadShape => -10,
@@ -60,6 +66,15 @@ impl Error {
             other => Error::Other(other),
         }
     }
+
+    /// The same for a batch, of which the edit at this place was refused, if one was.
+    pub(crate) fn at(self, place: usize) -> Error {
+        match self {
+            Error::BadKey => Error::BadKeyAt(place),
+            Error::BadValue => Error::BadValueAt(place),
+            other => other,
+        }
+    }
 }
 
 impl fmt::Display for Error {
@@ -68,6 +83,8 @@ impl fmt::Display for Error {
             Error::UnknownFormat => out.write_str("no format has this number"),
             Error::BadKey => out.write_str("a key has 1 to 32 bytes"),
             Error::BadValue => out.write_str("a value has 0 to 64 bytes"),
+            Error::BadKeyAt(place) => write!(out, "edit {place}: a key has 1 to 32 bytes"),
+            Error::BadValueAt(place) => write!(out, "edit {place}: a value has 0 to 64 bytes"),
             Error::WrongState => {
                 out.write_str("a pinned pass neither writes, migrates nor counts rows")
             }
@@ -103,6 +120,14 @@ impl TryError {
         match code {
             -21 => TryError::Busy,
             other => TryError::Refused(Error::of(other)),
+        }
+    }
+
+    /// The same for a batch, of which the edit at this place was refused, if one was.
+    pub(crate) fn at(self, place: usize) -> TryError {
+        match self {
+            TryError::Busy => TryError::Busy,
+            TryError::Refused(error) => TryError::Refused(error.at(place)),
         }
     }
 }

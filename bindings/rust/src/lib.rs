@@ -34,6 +34,18 @@
 //! # Ok::<(), mst_store::Error>(())
 //! ```
 //!
+//! Many edits may be made as one version:
+//!
+//! ```
+//! use mst_store::Edit::{Put, Remove};
+//! use mst_store::Reads;
+//!
+//! let mut pass = mst_store::open(1000, 1)?.remove(0);
+//! pass.apply(&[Put(b"apple", b"30"), Put(b"pear", b"12"), Remove(b"apple")])?;
+//! assert_eq!((pass.get(b"apple")?, pass.version()), (None, 1));
+//! # Ok::<(), mst_store::Error>(())
+//! ```
+//!
 //! Two threads never share a pass:
 //!
 //! ```compile_fail
@@ -49,11 +61,13 @@
 //! ```
 #![deny(missing_debug_implementations, missing_docs)]
 
+mod edits;
 mod error;
 mod format;
 mod raw;
 mod reads;
 
+pub use edits::Edit;
 pub use error::{Error, TryError};
 pub use format::Format;
 pub use reads::{Items, Pair, Reads};
@@ -143,6 +157,30 @@ impl Pass {
     /// As [`Pass::try_remove`], but tries until it gets the turn.
     pub fn remove(&mut self, key: &[u8]) -> Result<Option<Vec<u8>>, Error> {
         until_free(|| self.try_remove(key))
+    }
+
+    /// Makes the edits, in their order, as one version: each read sees all of them or none, and of
+    /// those of one key the last decides. No edits make a version too. Returns `Busy` if another
+    /// pass has the turn.
+    pub fn try_apply(&mut self, edits: &[Edit<'_>]) -> Result<(), TryError> {
+        self.try_packed(&edits::packed(edits))
+    }
+
+    /// As [`Pass::try_apply`], but tries until it gets the turn.
+    pub fn apply(&mut self, edits: &[Edit<'_>]) -> Result<(), Error> {
+        let packed = edits::packed(edits);
+        until_free(|| self.try_packed(&packed))
+    }
+
+    fn try_packed(&mut self, packed: &[u8]) -> Result<(), TryError> {
+        let mut place = 0;
+        // Safety: the bytes are valid for their length, and so are the other pointers.
+        let code =
+            unsafe { raw::mst_try_apply(&mut self.0, packed.as_ptr(), packed.len(), &mut place) };
+        match code {
+            0 => Ok(()),
+            code => Err(TryError::of(code).at(place)),
+        }
     }
 
     /// Turns the tree of the map to a format. Returns the format before, or `Busy` if another pass

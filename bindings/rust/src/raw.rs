@@ -87,6 +87,12 @@ extern "C" {
         room: *mut u8,
         room_length: usize,
     ) -> i32;
+    pub(crate) fn mst_try_apply(
+        pass: *mut Hand,
+        edits: *const u8,
+        length: usize,
+        place: *mut usize,
+    ) -> i32;
     pub(crate) fn mst_try_migrate(pass: *mut Hand, format: u32) -> i32;
     pub(crate) fn mst_pin(pass: *mut Hand) -> i32;
     pub(crate) fn mst_unpin(pass: *mut Hand) -> i32;

@@ -1,4 +1,5 @@
 //! The store's answers beside those of a BTreeMap, over writes by a fixed generator.
+use mst_store::Edit::{Put, Remove};
 use mst_store::{open, open_format, Error, Format, Pass, Reads, TryError};
 use std::collections::BTreeMap;
 use std::iter::FusedIterator;
@@ -70,6 +71,61 @@ fn answers_are_those_of_a_map() {
     }
     assert!(pass.range(&[], &[], usize::MAX).unwrap().into_iter().eq(map.clone()));
     assert!(pass.try_rows().unwrap() as usize >= map.len());
+}
+
+#[test]
+fn a_batch_leaves_the_map_of_its_edits_as_one_version() {
+    let (mut random, mut pass, mut map) = (Random(11), one(4000), BTreeMap::new());
+    for step in 0..300u64 {
+        let count = random.below(30);
+        let pairs: Vec<_> = (0..count)
+            .map(|_| {
+                let (key, length) = (random.key(), random.below(65) as usize);
+                (key, (random.below(3) > 0).then(|| random.bytes(length)))
+            })
+            .collect();
+        let edits: Vec<_> = pairs
+            .iter()
+            .map(|(key, value)| value.as_ref().map_or(Remove(key), |value| Put(key, value)))
+            .collect();
+        assert_eq!(pass.apply(&edits), Ok(()));
+        assert_eq!(pass.version(), step + 1);
+        for (key, value) in pairs {
+            match value {
+                Some(value) => map.insert(key, value),
+                None => map.remove(&key),
+            };
+        }
+        assert!(pass.range(&[], &[], usize::MAX).unwrap().into_iter().eq(map.clone()));
+    }
+    assert_eq!(pass.root(), filled(Format::One, map).root());
+}
+
+#[test]
+fn a_batch_is_made_whole_or_not_at_all() {
+    let mut passes = open(64, 2).unwrap();
+    let (mut reader, mut writer) = (passes.pop().unwrap(), passes.pop().unwrap());
+    writer.apply(&[Put(b"a", b"1"), Put(b"b", b"2")]).unwrap();
+    let mut then = reader.pin();
+    let many: Vec<_> = (0..64u8).map(|key| [key]).collect();
+    let edits: Vec<_> = many.iter().map(|key| Put(key, b"")).collect();
+    assert_eq!(writer.apply(&edits), Err(Error::RowsSpent));
+    let long = [1; 70_000];
+    for key in [&long[..0], &long[..33], &long[..]] {
+        let refused = Error::BadKeyAt(1);
+        assert_eq!(writer.apply(&[Remove(b"a"), Put(key, b"")]), Err(refused));
+        assert_eq!(writer.apply(&[Remove(b"a"), Remove(key)]), Err(refused));
+        assert_eq!((refused.code(), writer.version()), (-5, 1));
+    }
+    for value in [&long[..65], &long[..]] {
+        let refused = Error::BadValueAt(0);
+        assert_eq!(writer.try_apply(&[Put(b"a", value)]), Err(TryError::Refused(refused)));
+        assert_eq!((refused.code(), writer.version()), (-6, 1));
+    }
+    assert_eq!(writer.try_apply(&[Remove(b"a"), Put(b"b", &long[..64])]), Ok(()));
+    assert_eq!(writer.apply(&[]), Ok(()));
+    assert_eq!((writer.version(), writer.get(b"a")), (3, Ok(None)));
+    assert_eq!((then.version(), then.get(b"a")), (1, Ok(Some(b"1".to_vec()))));
 }
 
 #[test]

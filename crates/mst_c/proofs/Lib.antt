@@ -1,5 +1,9 @@
 pub mod AsBox
 pub mod Dealt
 pub mod Listing
+pub mod Packed
 pub mod PartsSteps
+pub mod Readings
+pub mod Unpacked
 pub mod Values
+pub mod WorkedEdits

@@ -4,4 +4,5 @@ pub mod Formats
 pub mod Owning
 pub mod Told
 pub mod Ranges
+pub mod Batches
 pub mod Opened

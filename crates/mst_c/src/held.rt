@@ -10,12 +10,14 @@ ghost use Rattle.mst_c.specs.declared.held.State.TheVariants as state;
 ghost use Rattle.mst_c.specs.States.{PinsNone};
 ghost use Rattle.mst_c.specs.Told.{ValueTold};
 ghost use Rattle.mst_c.specs.Formats.{Moves};
+ghost use Rattle.mst_c.specs.Batches.{Applies};
 ghost use Rattle.mst_c.specs.Holding.{Reads, Forgets, Writes, PinsNow, Unpins, Versions, Counts};
 
 use crate::answering::{tell_now, tell_pinned};
 use crate::hand::{Hand, Taken, give};
+use crate::packing::Packed;
 use mst_key::{Format, Key, Memory, Value};
-use mst_store::{Busy, Laid, LaidPinned, MigrateFault, Pass, Store, WriteFault};
+use mst_store::{ApplyFault, Busy, Laid, LaidPinned, MigrateFault, Pass, Store, WriteFault};
 use std::alloc::Global;
 use std::marker::Model;
 use std::mem::replace;
@@ -66,6 +68,16 @@ pub(crate) enum Unmoved {
     Store(MigrateFault),
 }
 
+/// Why no edit was made.
+pub(crate) enum Unapplied {
+    /// The pass pins a version.
+    Pins,
+    /// A growth of the list of the edits was refused.
+    Memory(Memory),
+    /// The store refused it.
+    Store(ApplyFault),
+}
+
 /// Why the rows were not counted.
 pub(crate) enum Uncounted {
     /// The pass pins a version.
@@ -96,6 +108,20 @@ pub(crate) fn hand_out(
             true
         }
         Err(_) => false,
+    }
+}
+
+/// Makes the edits of a buffer as one change.
+fn apply(pass: &mut Pass<'_, Global>, alloc: Global, packed: &Packed<'_>) -> Result<(), Unapplied>
+    ensures applies { Applies packed.now (state.Free pass.old) result (state.Free pass.new) }
+{
+    let edits = match packed.edits(alloc) {
+        Ok(edits) => edits,
+        Err(refused) => return Err(Unapplied::Memory(refused)),
+    };
+    match pass.try_apply(alloc, edits.as_slice()) {
+        Ok(()) => Ok(()),
+        Err(fault) => Err(Unapplied::Store(fault)),
     }
 }
 
@@ -381,6 +407,25 @@ impl Held {
             State::Pinned(laid) => {
                 self.state = State::Pinned(laid);
                 Err(Unmoved::Pins)
+            }
+        }
+    }
+
+    /// Makes the edits of a buffer as one change, if the pass is free.
+    pub(crate) fn try_apply(&mut self, alloc: Global, packed: &Packed<'_>) -> Result<(), Unapplied>
+        ensures applies { Applies packed.now self.old result self.new }
+    {
+        match replace(&mut self.state, State::Away) {
+            State::Away => unreachable!(),
+            State::Free(laid) => {
+                let mut pass = self.store.lift(laid);
+                let applied = apply(&mut pass, alloc, packed);
+                self.state = State::Free(pass.lay());
+                applied
+            }
+            State::Pinned(laid) => {
+                self.state = State::Pinned(laid);
+                Err(Unapplied::Pins)
             }
         }
     }

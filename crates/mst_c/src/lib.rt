@@ -17,26 +17,32 @@
 //! | -10 | a store has 4 to 65,535 rows and 1 to 32 passes |
 //! | -21, -22, -23 | a write or a migration is refused as `Busy`, `VersionsSpent`, `NoRoom` |
 //! | -24 | rows are not counted, since some pass pins a version |
+//! | -25 | the bytes are no list of edits |
 //!
 //! The tests are made in this order: the hand, the key, the value, the pass, and the rooms last.
 #![tactic(auto)]
 
 ghost use Rattle.std.specs.Prelude.{◌≡◌, ◌≢◌, ◌↔◌, ◌⊎◌, pos, negsuc, length as count, None, IsSome};
+ghost use Rattle.mst_c.specs.Batches.{ApplyTold};
 ghost use Rattle.mst_c.specs.Formats.{format_named, FormatTold, MigrateTold};
 ghost use Rattle.mst_c.specs.Opened.{Opened, IsSize, AllEmpty};
 ghost use Rattle.mst_c.specs.Ranges.{RangeTold};
 ghost use Rattle.mst_c.specs.Told.{GetTold, PutTold, RootTold, ProveTold, PinTold, UnpinTold, CloseTold, RemoveTold, VersionTold, RowsTold, NextTold};
 
 mod answering;
+mod batches;
 mod formats;
 mod hand;
 mod held;
+mod laws;
 mod opening;
+mod packing;
 mod parts;
 mod ranging;
 mod telling;
 
 use hand::Hand;
+pub use laws::{batch_laws, worked_batches};
 use std::alloc::Global;
 
 /// Opens a store of the empty map in format 1 or 2, with `rows` rows, and puts a pass into each of
@@ -166,6 +172,24 @@ pub extern "C" fn mst_try_migrate(alloc: Global, hand: &mut Hand, format: u32) -
     ensures told { MigrateTold hand.old.held format result hand.new.held }
 {
     formats::try_migrate(alloc, hand, format)
+}
+
+/// Makes the edits of a buffer, one after another, as one version. An edit is a byte 1 for a put or
+/// 2 for a remove, the length of its key in two bytes, the high one first, that of its value in
+/// two, the key, the value; a remove has no value. Returns 0. Returns -5, -6 for the length of a
+/// key or a value, -25 for what is no edit otherwise: `place` is then the number of the first such
+/// edit, from 0. Returns -7, -8, -9, -21, -22, -23, and `place` stays, as with 0. If it does not
+/// return 0, nothing is changed.
+#[unsafe(no_mangle)]
+pub extern "C" fn mst_try_apply(
+    alloc: Global,
+    hand: &mut Hand,
+    edits: &[u8],
+    place: &mut usize,
+) -> i32
+    ensures told { ApplyTold hand.old.held edits.now place.old result place.new hand.new.held }
+{
+    batches::try_apply(alloc, hand, edits, place)
 }
 
 /// Sets `count` to the number of rows that the map of the current version takes. Returns 0; or -7,

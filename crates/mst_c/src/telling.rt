@@ -26,6 +26,8 @@ pub(crate) const MEMORY: i32 = -9;
 
 pub(crate) const BAD_SHAPE: i32 = -10;
 
+pub(crate) const BAD_BATCH: i32 = -25;
+
 /// Puts bytes first, and keeps those after them.
 fn put(room: &mut [u8], bytes: &[u8])
     requires fits { length bytes.now ≤ length room.old }

@@ -1,0 +1,55 @@
+//! Batches of edits, as C is told of them.
+ghost use Rattle.std.specs.Prelude.{◌≡◌};
+ghost use Rattle.mst_c.specs.Batches.{fault_code as code_of_fault, apply_code as code_of_applied, ApplyTold};
+
+use crate::hand::{Hand, give, take};
+use crate::held::Unapplied;
+use crate::packing::{EditFault, Packed};
+use crate::telling::{BAD_BATCH, BAD_KEY, BAD_VALUE, MEMORY, NO_HAND, WRONG_STATE};
+use mst_store::ApplyFault;
+use std::alloc::Global;
+
+/// The code of what stands in a buffer and is no edit.
+fn fault_code(fault: EditFault) -> i32
+    ensures code { result ≡ code_of_fault fault }
+{
+    match fault {
+        EditFault::KeySize => BAD_KEY,
+        EditFault::ValueSize => BAD_VALUE,
+        EditFault::Form => BAD_BATCH,
+    }
+}
+
+/// The code of a batch.
+fn apply_code(applied: Result<(), Unapplied>) -> i32
+    ensures code { result ≡ code_of_applied applied }
+{
+    match applied {
+        Ok(()) => 0,
+        Err(Unapplied::Pins) => WRONG_STATE,
+        Err(Unapplied::Memory(_)) => MEMORY,
+        Err(Unapplied::Store(ApplyFault::Busy)) => -21,
+        Err(Unapplied::Store(ApplyFault::VersionsSpent)) => -22,
+        Err(Unapplied::Store(ApplyFault::Memory(_))) => MEMORY,
+        Err(Unapplied::Store(ApplyFault::NoRoom)) => -23,
+    }
+}
+
+pub(crate) fn try_apply(alloc: Global, hand: &mut Hand, edits: &[u8], place: &mut usize) -> i32
+    ensures told { ApplyTold hand.old.held edits.now place.old result place.new hand.new.held }
+{
+    let Some(mut taken) = take(alloc, hand) else {
+        return NO_HAND;
+    };
+    let packed = match Packed::of(edits) {
+        Ok(packed) => packed,
+        Err(bad) => {
+            give(hand, taken);
+            *place = bad.place;
+            return fault_code(bad.fault);
+        }
+    };
+    let applied = taken.held.try_apply(alloc, &packed);
+    give(hand, taken);
+    apply_code(applied)
+}
