@@ -15,16 +15,17 @@ use Rattle.mst_c.specs.declared.packing.EditFault.TheVariants.{KeySize, ValueSiz
 use Rattle.mst_c.specs.Batches.{parts_by, parts_at, edit_of, edit_at, ◌>>=◌, edits_from, edits_in, size_bytes, edit_bytes, edits_bytes}
 use Rattle.mst_c.proofs.Readings.{step, none_from}
 
-abbrev Parts : Type 0
-Parts = Result (ℕ × List ℕ × List ℕ × List ℕ) EditFault
+-- an edit's kind, key and value, and the bytes after it
+abbrev pub Part : Type 0
+Part = ℕ × List ℕ × List ℕ × List ℕ
+
+abbrev pub Parts : Type 0
+Parts = Result Part EditFault
 
 abbrev parts : ℕ → List ℕ → List ℕ → List ℕ → Parts
 parts kind key value rest = Ok (kind, key, value, rest)
 
-abbrev Read : Type 0
-Read = Result (Edit × List ℕ) EditFault
-
-abbrev read : Edit → List ℕ → Read
+abbrev pub read : Edit → List ℕ → Result (Edit × List ℕ) EditFault
 read e rest = Ok (e, rest)
 
 not_less : (a b : ℕ) → b ≤ a → nat_lt a b ≡ false
@@ -78,7 +79,8 @@ edit_by : (kind : ℕ) (k v rest : List ℕ) → IsKey k → IsValue v
     ≡ (edit_of kind k v >>= λ e. Ok (e, rest))
 unfolding edit_at
 edit_by kind k v rest key value = ap
-    (λ (r : Parts). r >>= λ x. edit_of x.0 x.1 x.2 >>= λ e. read e x.3) (parts_are kind k v rest key value)
+    (λ (r : Parts). r >>= λ x. edit_of x.0 x.1 x.2 >>= λ e. read e x.3)
+    (parts_are kind k v rest key value)
 
 -- an edit at the front is read back
 edit_is : (e : Edit) (rest : List ℕ) → IsSmall e → edit_at (edit_bytes e ++ rest) ≡ Ok (e, rest)
@@ -87,7 +89,8 @@ edit_is (Put k v) rest small =
     (append_assoc k v rest) ∙ edit_by 1 k v rest small.0 small.1
 edit_is (Remove k) rest small = edit_by 2 k [] rest small (omega arith)
 
-some_bytes : (e : Edit) → 0 < length (edit_bytes e)
+-- an edit takes a byte at least
+pub some_bytes : (e : Edit) → 0 < length (edit_bytes e)
 some_bytes (Put k v) = omega arith
 some_bytes (Remove k) = omega arith
 

@@ -1,7 +1,7 @@
 -- A buffer that spells edits is these edits packed.
 use Rattle.std.proofs.Common.{◌≡◌, ℕ, zero, suc, ◌+◌, ◌<◌, ◌≤◌, ◌==◌, List, [], ◌∷◌, ◌++◌, length, take, drop, get_or, Bool, true, false, nat_lt, refl, ap, ◌∙◌, sym, subst, arith, if◌then◌else◌, append_assoc, append-nil}
 use Rattle.std.specs.Prelude.{Result, Ok, Err, is_ok}
-use Rattle.std.specs.Int.{w16, from_be_bytes, to_be_bytes}
+use Rattle.std.specs.Int.{w16, from_be_bytes}
 use Rattle.std.proofs.lemmas.Bool.{false≢true}
 use Rattle.std.proofs.lemmas.Bool.Decides.{nat_tests}
 use Rattle.std.proofs.lemmas.List.{take-append-drop, length-take-le, length-append, nil_from_length}
@@ -13,16 +13,8 @@ use Rattle.mst_key.specs.declared.history.Edit.TheVariants.{Put, Remove}
 use Rattle.mst_c.specs.declared.packing.EditFault.{EditFault}
 use Rattle.mst_c.specs.declared.packing.EditFault.TheVariants.{KeySize, ValueSize, Form}
 use Rattle.mst_c.specs.declared.packing.BadEdit.{BadEdit}
-use Rattle.mst_c.specs.Batches.{parts_by, parts_at, edit_of, edit_at, ◌>>=◌, placed, edits_from, edits_in, edits_or_none, size_bytes, edit_bytes, edits_bytes}
-
-abbrev Part : Type 0
-Part = ℕ × List ℕ × List ℕ × List ℕ
-
-abbrev Parts : Type 0
-Parts = Result Part EditFault
-
-abbrev read : Edit → List ℕ → Result (Edit × List ℕ) EditFault
-read e rest = Ok (e, rest)
+use Rattle.mst_c.specs.Batches.{parts_at, edit_of, edit_at, ◌>>=◌, placed, edits_from, edits_in, size_bytes, edit_bytes, edits_bytes}
+use Rattle.mst_c.proofs.Packed.{Part, Parts, read, some_bytes}
 
 -- what stands in a result, or this
 abbrev or_else : {A B : Type 0} → A → Result A B → A
@@ -154,18 +146,15 @@ edit_back_by bytes all e behind (Ok (kind, key, value, rest)) first is =
     let edit = made kind key value rest behind e (edit_of kind key value) refl is in
     let packed : joined (kind, key, value, rest) ≡ edit_bytes e ++ rest =
     edit_by (kind == 1) (kind == 2) (length value == 0) kind key value rest e refl refl refl edit.0
-    in
-    (parts.0 ∙ packed ∙ ap (λ (l : List ℕ). edit_bytes e ++ l) edit.1,
-    subst IsBytes edit.1 parts.1)
+    in (
+      parts.0 ∙ packed ∙ ap (λ (l : List ℕ). edit_bytes e ++ l) edit.1,
+      subst IsBytes edit.1 parts.1,
+    )
 
 edit_back : (bytes : List ℕ) → IsBytes bytes → (e : Edit) (behind : List ℕ)
     → edit_at bytes ≡ Ok (e, behind) → (bytes ≡ edit_bytes e ++ behind) × IsBytes behind
 unfolding edit_at
 edit_back bytes all e behind is = edit_back_by bytes all e behind (parts_at bytes) refl is
-
-some_bytes : (e : Edit) → 0 < length (edit_bytes e)
-some_bytes (Put k v) = omega arith
-some_bytes (Remove k) = omega arith
 
 -- the edits that were read behind others are those that stand there
 abbrev AreBehind : List Edit → List ℕ → List Edit → Type 0
@@ -188,9 +177,11 @@ behind_by n before bytes es all enough more (Ok (e, rest)) first is =
     length-append (edit_bytes e) rest in
     let size : length bytes ≡ length (edit_bytes e ++ rest) = ap length back.0 in
     let less : length rest ≤ n = omega (arith, enough, both, size, some_bytes e) in
-    let fs = more (before ++ e ∷ []) rest back.1 less is in
-    (e ∷ fs.0, fs.1 ∙ append_assoc before (e ∷ []) fs.0,
-    back.0 ∙ ap (λ (l : List ℕ). edit_bytes e ++ l) fs.2)
+    let fs = more (before ++ e ∷ []) rest back.1 less is in (
+      e ∷ fs.0,
+      fs.1 ∙ append_assoc before (e ∷ []) fs.0,
+      back.0 ∙ ap (λ (l : List ℕ). edit_bytes e ++ l) fs.2,
+    )
 
 behind_are : (n : ℕ) (before : List Edit) (bytes : List ℕ) (es : List Edit) → IsBytes bytes
     → length bytes ≤ n → edits_from n before bytes ≡ Ok es → AreBehind before bytes es
