@@ -1,3 +1,5 @@
+use Rattle.std.proofs.Common.{rules}
+use Rattle.std.proofs.lemmas.Grind.{common_steps}
 use Rattle.std.proofs.Common.{◌≡◌, ◌<◌, List, [], ◌∷◌, length, sym, subst, arith, refl}
 use Rattle.mst_key.specs.History.{batched}
 use Rattle.mst_key.specs.declared.format.Format.{Format}
@@ -40,3 +42,159 @@ pub returns-in-empty-clause-made : goal.returns-in-empty-clause-made
 returns-in-empty-clause-made g c =
     (nothing c.args.format (g.R.Rows.content c.args.rows.now) c.args.desk.now c.args.root.now
     c.args.edits.now c.in-empty.len_below c.requires.stands).made
+
+pub bounds-edits-0 : goal.bounds-edits-0
+bounds-edits-0 g c = search rules
+
+pub apply_one-requires-clause-stands : goal.apply_one-requires-clause-stands
+apply_one-requires-clause-stands g c = search rules
+
+pub apply_one-requires-clause-free : goal.apply_one-requires-clause-free
+apply_one-requires-clause-free g c = search rules
+
+pub load-requires-clause-stands : goal.load-requires-clause-stands
+load-requires-clause-stands g c = search rules
+
+pub load-requires-clause-empty : goal.load-requires-clause-empty
+load-requires-clause-empty g c = search rules
+
+pub load-requires-clause-some : goal.load-requires-clause-some
+load-requires-clause-some g c = search rules
+
+pub load-requires-clause-free : goal.load-requires-clause-free
+load-requires-clause-free g c = search rules
+
+pub apply_by_plan-requires-clause-stands : goal.apply_by_plan-requires-clause-stands
+apply_by_plan-requires-clause-stands g c = search rules
+
+pub apply_by_plan-requires-clause-some : goal.apply_by_plan-requires-clause-some
+apply_by_plan-requires-clause-some g c = search rules
+
+pub apply_by_plan-requires-clause-free : goal.apply_by_plan-requires-clause-free
+apply_by_plan-requires-clause-free g c = search rules
+
+pub returns-in-empty-clause-stands : goal.returns-in-empty-clause-stands
+returns-in-empty-clause-stands g c = grind (arith, common_steps)
+
+pub returns-in-empty-clause-written : goal.returns-in-empty-clause-written
+returns-in-empty-clause-written g c = search rules
+
+pub returns-in-empty-clause-versions : goal.returns-in-empty-clause-versions
+returns-in-empty-clause-versions g c = search rules
+
+pub returns-in-empty-clause-beside : goal.returns-in-empty-clause-beside
+returns-in-empty-clause-beside g c = search rules
+
+pub returns-in-empty-clause-lacks : goal.returns-in-empty-clause-lacks
+returns-in-empty-clause-lacks g c = search rules
+
+pub returns-in-empty-clause-untouched : goal.returns-in-empty-clause-untouched
+returns-in-empty-clause-untouched g c = search rules
+
+pub returns-in-Ok-clause-stands : goal.returns-in-Ok-clause-stands
+returns-in-Ok-clause-stands g c = grind (arith, common_steps)
+
+pub returns-in-Ok-clause-written : goal.returns-in-Ok-clause-written
+returns-in-Ok-clause-written g c = search rules
+
+pub returns-in-Ok-clause-cost : goal.returns-in-Ok-clause-cost
+returns-in-Ok-clause-cost g c = grind (arith, common_steps)
+
+pub returns-in-Ok-clause-changes : goal.returns-in-Ok-clause-changes
+returns-in-Ok-clause-changes g c = search rules
+
+pub returns-in-Ok-clause-versions : goal.returns-in-Ok-clause-versions
+returns-in-Ok-clause-versions g c = search rules
+
+pub returns-in-Ok-clause-made : goal.returns-in-Ok-clause-made
+returns-in-Ok-clause-made g c = search rules
+
+pub returns-in-Ok-clause-beside : goal.returns-in-Ok-clause-beside
+returns-in-Ok-clause-beside g c = search rules
+
+pub returns-in-Ok-clause-lacks : goal.returns-in-Ok-clause-lacks
+returns-in-Ok-clause-lacks g c = search rules
+
+pub returns-in-Ok-clause-untouched : goal.returns-in-Ok-clause-untouched
+returns-in-Ok-clause-untouched g c = search rules
+
+pub returns-in-Err-clause-stands : goal.returns-in-Err-clause-stands
+returns-in-Err-clause-stands g c = search rules
+
+pub returns-in-Err-clause-written : goal.returns-in-Err-clause-written
+returns-in-Err-clause-written g c = search rules
+
+pub returns-in-Err-clause-cost : goal.returns-in-Err-clause-cost
+returns-in-Err-clause-cost g c = search rules
+
+pub returns-in-Err-clause-changes : goal.returns-in-Err-clause-changes
+returns-in-Err-clause-changes g c = search rules
+
+pub returns-in-Err-clause-versions : goal.returns-in-Err-clause-versions
+returns-in-Err-clause-versions g c = search rules
+
+pub returns-in-Err-clause-made : goal.returns-in-Err-clause-made
+returns-in-Err-clause-made g c = search rules
+
+pub returns-in-Err-clause-beside : goal.returns-in-Err-clause-beside
+returns-in-Err-clause-beside g c = search rules
+
+pub returns-in-Err-clause-lacks : goal.returns-in-Err-clause-lacks
+returns-in-Err-clause-lacks g c = grind (arith, common_steps)
+
+pub returns-in-Err-clause-untouched : goal.returns-in-Err-clause-untouched
+returns-in-Err-clause-untouched g c = search rules
+
+pub returns-in_default-clause-stands : goal.returns-in_default-clause-stands
+returns-in_default-clause-stands g c = search rules
+
+pub returns-in_default-clause-written : goal.returns-in_default-clause-written
+returns-in_default-clause-written g c = search rules
+
+pub returns-in_default-clause-cost : goal.returns-in_default-clause-cost
+returns-in_default-clause-cost g c = search rules
+
+pub returns-in_default-clause-changes : goal.returns-in_default-clause-changes
+returns-in_default-clause-changes g c = search rules
+
+pub returns-in_default-clause-versions : goal.returns-in_default-clause-versions
+returns-in_default-clause-versions g c = search rules
+
+pub returns-in_default-clause-made : goal.returns-in_default-clause-made
+returns-in_default-clause-made g c = search rules
+
+pub returns-in_default-clause-beside : goal.returns-in_default-clause-beside
+returns-in_default-clause-beside g c = search rules
+
+pub returns-in_default-clause-lacks : goal.returns-in_default-clause-lacks
+returns-in_default-clause-lacks g c = search rules
+
+pub returns-in_default-clause-untouched : goal.returns-in_default-clause-untouched
+returns-in_default-clause-untouched g c = search rules
+
+pub returns-in_default-2-clause-stands : goal.returns-in_default-2-clause-stands
+returns-in_default-2-clause-stands g c = search rules
+
+pub returns-in_default-2-clause-written : goal.returns-in_default-2-clause-written
+returns-in_default-2-clause-written g c = search rules
+
+pub returns-in_default-2-clause-cost : goal.returns-in_default-2-clause-cost
+returns-in_default-2-clause-cost g c = search rules
+
+pub returns-in_default-2-clause-changes : goal.returns-in_default-2-clause-changes
+returns-in_default-2-clause-changes g c = search rules
+
+pub returns-in_default-2-clause-versions : goal.returns-in_default-2-clause-versions
+returns-in_default-2-clause-versions g c = search rules
+
+pub returns-in_default-2-clause-made : goal.returns-in_default-2-clause-made
+returns-in_default-2-clause-made g c = search rules
+
+pub returns-in_default-2-clause-beside : goal.returns-in_default-2-clause-beside
+returns-in_default-2-clause-beside g c = search rules
+
+pub returns-in_default-2-clause-lacks : goal.returns-in_default-2-clause-lacks
+returns-in_default-2-clause-lacks g c = search rules
+
+pub returns-in_default-2-clause-untouched : goal.returns-in_default-2-clause-untouched
+returns-in_default-2-clause-untouched g c = search rules
