@@ -15,8 +15,8 @@ use std::time::Instant;
 /// The most rows that a store has.
 const ROWS: u32 = 65_535;
 
-// A store of one pass.
-fn shape(format: Format) -> Shape {
+/// A store of one pass.
+pub fn shape(format: Format) -> Shape {
     Shape {
         rows: ROWS,
         passes: 1,

@@ -1,7 +1,7 @@
 //! The kinds of calls that are timed and counted.
 ghost use Rattle.std.specs.Prelude.{◌<◌, length};
 
-use crate::{calls, moving, reads};
+use crate::{batches, calls, moving, reads};
 use mst_key::Key;
 use mst_store::Pass;
 use std::alloc::Global;
@@ -11,6 +11,8 @@ use std::alloc::Global;
 pub enum Kind {
     FirstPut,
     Put,
+    /// Puts, so many in each batch.
+    PutInBatches(u32),
     RemoveAndPutBack,
     Version,
     Get,
@@ -26,6 +28,9 @@ pub enum Kind {
 pub const KINDS: &[(Kind, &str)] = &[
     (Kind::FirstPut, "first put"),
     (Kind::Put, "put"),
+    (Kind::PutInBatches(10), "put in batches of 10"),
+    (Kind::PutInBatches(100), "put in batches of 100"),
+    (Kind::PutInBatches(1_000), "put in batches of 1000"),
     (Kind::RemoveAndPutBack, "remove and put back"),
     (Kind::Version, "version"),
     (Kind::Get, "get"),
@@ -36,19 +41,20 @@ pub const KINDS: &[(Kind, &str)] = &[
     (Kind::Verify, "verify"),
 ];
 
-/// What lines call a migration of a full store. Those of `KINDS` are timed over all sizes, and at
-/// the greatest the rows do not suffice for two trees.
-const MIGRATION: &str = "migrate";
+/// The kinds that are made alone. At the greatest size the rows do not suffice for two trees, as a
+/// migration of a full store and the largest batches want them.
+const ALONE: &[(Kind, &str)] = &[
+    (Kind::PutInBatches(1), "put in batches of 1"),
+    (Kind::PutInBatches(10_000), "put in batches of 10000"),
+    (Kind::Migrate, "migrate"),
+];
 
 /// The kind with this name, and what lines call it.
 pub fn named(name: &str) -> Option<(Kind, &'static str)> {
-    for (kind, its_name) in KINDS {
+    for (kind, its_name) in KINDS.iter().chain(ALONE.iter()) {
         if *its_name == name {
             return Some((*kind, *its_name));
         }
-    }
-    if name == MIGRATION {
-        return Some((Kind::Migrate, MIGRATION));
     }
     None
 }
@@ -76,6 +82,7 @@ pub fn make<'a>(
     let done = match kind {
         Kind::FirstPut => calls::fill(&mut pass, keys),
         Kind::Put => calls::put(&mut pass, keys, calls, calls::FIRST_NEW_VALUE),
+        Kind::PutInBatches(size) => batches::put(alloc, &mut pass, keys, calls, size),
         Kind::RemoveAndPutBack => calls::remove_and_put_back(&mut pass, keys, calls),
         Kind::Version => reads::version(&mut pass, calls),
         Kind::Get => reads::get(&mut pass, keys, calls),

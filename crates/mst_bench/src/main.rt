@@ -4,13 +4,15 @@
 //! makes so many calls of each kind, and prints a line for each kind and size: the call, the number
 //! of keys, the number of calls, and the nanoseconds that each took. Then, at each size, it times a
 //! migration to format 2 and one back, and says how many rows the map takes in format 2; if the
-//! rows do not suffice for both trees, it says so. Then it times ten puts a key with nothing pinned
+//! rows do not suffice for both trees, it says so. Then it times a load: all keys, by one batch, in
+//! an empty store. Then it times ten puts a key with nothing pinned
 //! and ten beside a version that stays pinned, gets of that version, and says how many rows the map
 //! takes; and it times one to four readers, each on a thread of its own, without and with a writer.
 //! Keys, values and their order are the same in each run.
 //!
-//! `mst_bench KIND KEYS CALLS [1|2]` makes calls of one kind alone, in a store of format 1 or 2:
-//! `tools/counts` counts their instructions with it. With other words it says how it is called.
+//! `mst_bench KIND KEYS CALLS [1|2]` makes calls of one kind alone, in a store of format 1 or 2,
+//! and `mst_bench load KEYS CALLS [1|2]` makes loads, each in a store of its own: `tools/counts`
+//! counts their instructions with them. With other words it says how it is called.
 //!
 //! `rt run -- 10000` in this folder proves and builds it by LLVM, optimised, and runs it; the
 //! executable is then `out/mst_bench`. Its figures are those of one machine in one run, and no
@@ -20,6 +22,7 @@
 ghost use Rattle.std.specs.Prelude.{◌<◌, ◌≤◌, IfOk, length};
 
 mod alone;
+mod batches;
 mod beside;
 mod calls;
 mod keys;
@@ -31,12 +34,12 @@ mod threads;
 mod timing;
 mod words;
 
-use mst_key::Key;
+use mst_key::{Format, Key};
 use std::alloc::Global;
 use std::io;
 use std::sync::Wait;
 use std::thread::Threads;
-use words::{Calls, HELP, Task};
+use words::{Calls, HELP, Loads, Task};
 
 /// How many keys the stores have, one after the other.
 const SIZES: [u32; 3] = [1_000, 10_000, 30_000];
@@ -62,6 +65,7 @@ fn time_all<T: Threads + Wait + Sync>(
 ) -> io::Result<()> {
     let keys = some_keys(rt.alloc(), count)?;
     let rows = alone::run(rt, &keys, calls)?;
+    batches::load(rt, &keys, 1, Format::One)?;
     beside::run(rt, &keys, calls, rows)?;
     threads::run(rt, threads, &keys, calls)
 }
@@ -70,6 +74,12 @@ fn time_all<T: Threads + Wait + Sync>(
 fn make(rt: &HostRuntime, of: Calls) -> io::Result<()> {
     let keys = some_keys(rt.alloc(), of.keys)?;
     alone::run_one(rt, &keys, of)
+}
+
+// Makes loads.
+fn load(rt: &HostRuntime, of: Loads) -> io::Result<()> {
+    let keys = some_keys(rt.alloc(), of.keys)?;
+    batches::load(rt, &keys, of.calls, of.format)
 }
 
 fn main(rt: HostRuntime) -> io::Result<()> {
@@ -81,6 +91,7 @@ fn main(rt: HostRuntime) -> io::Result<()> {
             Ok(())
         }
         Task::Make(of) => make(&rt, of),
+        Task::Load(of) => load(&rt, of),
         Task::Help => println!(rt; "{HELP}"),
     }
 }

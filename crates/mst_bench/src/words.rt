@@ -10,6 +10,8 @@ pub enum Task {
     TimeAll(u32),
     /// Makes calls of one kind.
     Make(Calls),
+    /// Loads empty stores.
+    Load(Loads),
     /// Says how it is called.
     Help,
 }
@@ -24,6 +26,17 @@ pub struct Calls {
     pub format: Format,
 }
 
+/// Loads of so many keys, each into a store of its own of a format.
+#[derive(Clone, Copy)]
+pub struct Loads {
+    pub keys: u32,
+    pub calls: u32,
+    pub format: Format,
+}
+
+/// What the command line calls loads.
+const LOAD: &str = "load";
+
 /// How the program is called.
 pub const HELP: &str = "\
 mst_bench CALLS
@@ -31,8 +44,11 @@ mst_bench CALLS
 mst_bench KIND KEYS CALLS [1|2]
   puts so many keys, makes so many calls of one kind in a store of the format, and times them;
   tools/counts counts their instructions
-KIND is one of: first put, put, remove and put back, version, get, get of a pinned version, next,
-  range of 100, prove, verify, migrate (to the other format, and back)";
+mst_bench load KEYS CALLS [1|2]
+  puts so many keys by one batch into an empty store, so many times, and times each
+KIND is one of: first put, put, put in batches of N (1, 10, 100, 1000 or 10000; each put is a call),
+  remove and put back, version, get, get of a pinned version, next, range of 100, prove, verify,
+  migrate (to the other format, and back)";
 
 // The number that a word spells, if it is above 0.
 fn number(word: &str) -> Option<u32> {
@@ -51,15 +67,23 @@ fn format(word: Option<&str>) -> Option<Format> {
     }
 }
 
-// Calls of the kind that the words name.
+// Loads, or calls of the kind, that the words name.
 fn calls_of(kind: &str, keys: &str, calls: &str, last: Option<&str>) -> Option<Task> {
+    let (keys, calls, format) = (number(keys)?, number(calls)?, format(last)?);
+    if kind == LOAD {
+        return Some(Task::Load(Loads {
+            keys,
+            calls,
+            format,
+        }));
+    }
     let (kind, name) = kinds::named(kind)?;
     Some(Task::Make(Calls {
         kind,
         name,
-        keys: number(keys)?,
-        calls: number(calls)?,
-        format: format(last)?,
+        keys,
+        calls,
+        format,
     }))
 }
 

@@ -2,7 +2,7 @@
 ghost use Rattle.std.specs.Prelude.{vec_len};
 ghost use Rattle.std.specs.List.Sorted.{IsSearchInRange};
 
-use mst_key::{Format, Key, Value};
+use mst_key::{Edit, Format, Key, Value};
 use mst_node::root_of_in;
 use std::alloc::{AllocError, Global};
 use std::io;
@@ -76,8 +76,8 @@ impl List {
         Some(value.copy())
     }
 
-    /// Gives the key the value or, if none is given, takes it out.
-    pub fn change(&mut self, key: &Key, new: Option<&Value>) -> Result<(), AllocError> {
+    // Gives the key the value or, if none is given, takes it out.
+    fn set(&mut self, key: &Key, new: Option<&Value>) -> Result<(), AllocError> {
         match (self.find(key), new) {
             (Ok(place), Some(value)) => {
                 if let Some(pair) = self.pairs.get_mut(place) {
@@ -89,6 +89,24 @@ impl List {
                 let _ = self.pairs.remove(place);
             }
             (Err(_), None) => {}
+        }
+        Ok(())
+    }
+
+    /// Gives the key the value or, if none is given, takes it out, which is one change.
+    pub fn change(&mut self, key: &Key, new: Option<&Value>) -> Result<(), AllocError> {
+        self.set(key, new)?;
+        self.changes = self.changes.saturating_add(1);
+        Ok(())
+    }
+
+    /// Makes the edits, one after another, which is one change.
+    pub fn apply(&mut self, edits: &[Edit]) -> Result<(), AllocError> {
+        for edit in edits {
+            match edit {
+                Edit::Put(key, value) => self.set(key, Some(value))?,
+                Edit::Remove(key) => self.set(key, None)?,
+            }
         }
         self.changes = self.changes.saturating_add(1);
         Ok(())

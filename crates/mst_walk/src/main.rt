@@ -1,12 +1,12 @@
 //! Walks at random over one store, and compares each answer with the map as a plain sorted list.
 //!
 //! `mst_walk [OPERATIONS]` makes so many calls, 20,000 if no number is given, by the eight passes
-//! of one store in one thread: puts, removes, migrations, gets, nexts, ranges, proofs, which it
-//! verifies, pins and unpins, and the numbers of versions, formats and rows. After each 1,000
-//! calls, and at the end, it compares the root digest of each pass with that of the list that the
-//! pass is to read. Then it prints how many calls of each kind there were, how many writes found no
-//! room, how many answers were not the list's, and the root digest of the list. The status is 1 if
-//! an answer was not the list's. Calls, keys and values are the same in each run.
+//! of one store in one thread: puts, removes, batches of them, migrations, gets, nexts, ranges,
+//! proofs, which it verifies, pins and unpins, and the numbers of versions, formats and rows. After
+//! each 1,000 calls, and at the end, it compares the root digest of each pass with that of the list
+//! that the pass is to read. Then it prints how many calls of each kind there were, how many writes
+//! found no room, how many answers were not the list's, and the root digest of the list. The status
+//! is 1 if an answer was not the list's. Calls, keys and values are the same in each run.
 //!
 //! `rt run -- 10000000` in this folder proves and builds it by LLVM, optimised, and runs it; the
 //! executable is then `out/mst_walk`.

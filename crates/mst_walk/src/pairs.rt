@@ -1,6 +1,7 @@
-//! Keys and values of all lengths.
+//! Keys and values of all lengths, and edits of them.
 use crate::chance::Chance;
-use mst_key::{Key, Value};
+use mst_key::{Edit, Key, Value};
+use std::alloc::{AllocError, Global};
 
 /// Of how many keys the walk is.
 const KEYS: usize = 1_000;
@@ -9,6 +10,9 @@ const KEYS: usize = 1_000;
 const KEY_BYTES: usize = 32;
 
 const VALUE_BYTES: usize = 64;
+
+/// The most edits that a batch has.
+const MOST_EDITS: usize = 20;
 
 // The next random bytes.
 fn bytes<const N: usize>(chance: &mut Chance) -> [u8; N] {
@@ -48,4 +52,26 @@ pub fn some_value(chance: &mut Chance) -> Value {
         unreachable!()
     };
     value
+}
+
+// The key of one of these edits or, more often, any.
+fn some_edited_key(edits: &[Edit], chance: &mut Chance) -> Key {
+    match edits.get(chance.below(3 * MOST_EDITS)) {
+        Some(edit) => edit.key().copy(),
+        None => some_key(chance),
+    }
+}
+
+/// Edits of a batch, at times none: of three two are puts. Some are of the key of one before them.
+pub fn some_edits(alloc: Global, chance: &mut Chance) -> Result<Vec<Edit>, AllocError> {
+    let mut edits = Vec::new(alloc);
+    for _ in 0..chance.below(MOST_EDITS + 1) {
+        let key = some_edited_key(edits.as_slice(), chance);
+        let edit = match chance.below(3) {
+            0 => Edit::Remove(key),
+            _ => Edit::Put(key, some_value(chance)),
+        };
+        edits.push(edit)?;
+    }
+    Ok(edits)
 }

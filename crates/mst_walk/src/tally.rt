@@ -8,8 +8,9 @@ use std::io;
 pub enum Call {
     Put,
     Remove,
+    Batch,
     Migrate,
-    /// A put, a remove or a migration that found no room.
+    /// A put, a remove, a batch or a migration that found no room.
     Refused,
     Get,
     Next,
@@ -24,12 +25,13 @@ pub enum Call {
 }
 
 /// How many kinds of calls there are.
-const KINDS: usize = 14;
+const KINDS: usize = 15;
 
 /// What the lines call them.
 const NAMES: &[&str] = &[
     "puts",
     "removes",
+    "batches",
     "migrations",
     "writes without room",
     "gets",
@@ -47,23 +49,24 @@ const NAMES: &[&str] = &[
 impl Call {
     // The place of the kind among the counts and the names.
     fn place(self) -> usize
-        ensures within { result < 14 }
+        ensures within { result < 15 }
     {
         match self {
             Call::Put => 0,
             Call::Remove => 1,
-            Call::Migrate => 2,
-            Call::Refused => 3,
-            Call::Get => 4,
-            Call::Next => 5,
-            Call::Range => 6,
-            Call::Prove => 7,
-            Call::Version => 8,
-            Call::Format => 9,
-            Call::Rows => 10,
-            Call::Pin => 11,
-            Call::Unpin => 12,
-            Call::Root => 13,
+            Call::Batch => 2,
+            Call::Migrate => 3,
+            Call::Refused => 4,
+            Call::Get => 5,
+            Call::Next => 6,
+            Call::Range => 7,
+            Call::Prove => 8,
+            Call::Version => 9,
+            Call::Format => 10,
+            Call::Rows => 11,
+            Call::Pin => 12,
+            Call::Unpin => 13,
+            Call::Root => 14,
         }
     }
 }

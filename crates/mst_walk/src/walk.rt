@@ -3,11 +3,11 @@ ghost use Rattle.std.specs.Prelude.{◌<◌, vec_len};
 
 use crate::chance::Chance;
 use crate::list::List;
-use crate::pairs::{some_key, some_value};
+use crate::pairs::{some_edits, some_key, some_value};
 use crate::reads::{compare_root, read};
 use crate::tally::{Call, Tally};
-use mst_key::{Format, Key, Value};
-use mst_store::{MigrateFault, Pass, Pinned, WriteFault};
+use mst_key::{Edit, Format, Key, Value};
+use mst_store::{ApplyFault, MigrateFault, Pass, Pinned, WriteFault};
 use std::alloc::Global;
 use std::io;
 
@@ -73,6 +73,38 @@ fn write(
         }
         Err(WriteFault::NoRoom) => tally.add(Call::Refused, is_pinned),
         Err(_) => tally.add(call, false),
+    }
+    Ok(())
+}
+
+// Whether the keys of the edits have the list's values.
+fn has_values(pass: &mut Pass<'_, Global>, list: &List, edits: &[Edit]) -> bool {
+    for edit in edits {
+        if pass.get(edit.key()) != list.get(edit.key()) {
+            return false;
+        }
+    }
+    true
+}
+
+// Makes a batch by a free pass, and compares what its keys then have with the list's values.
+fn apply(
+    alloc: Global,
+    pass: &mut Pass<'_, Global>,
+    list: &mut List,
+    chance: &mut Chance,
+    tally: &mut Tally,
+    is_pinned: bool,
+) -> io::Result<()> {
+    let edits = some_edits(alloc, chance)?;
+    match pass.try_apply(alloc, edits.as_slice()) {
+        Ok(()) => {
+            list.apply(edits.as_slice())?;
+            tally.add(Call::Batch, has_values(pass, list, edits.as_slice()));
+        }
+        Err(ApplyFault::NoRoom) => tally.add(Call::Refused, is_pinned),
+        Err(ApplyFault::Memory(refused)) => return Err(refused.into()),
+        Err(_) => tally.add(Call::Batch, false),
     }
     Ok(())
 }
@@ -167,6 +199,7 @@ impl<'a> Walk<'a> {
             40 if chance.below(BETWEEN_MOVES) == 0 => {
                 migrate(self.alloc, pass, list, chance, tally, is_pinned)?
             }
+            41 => apply(self.alloc, pass, list, chance, tally, is_pinned)?,
             _ => read(self.alloc, pass, list, chance, tally)?,
         }
         Ok(())

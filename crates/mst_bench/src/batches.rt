@@ -1,0 +1,81 @@
+//! Batches: puts into a full map, and loads of an empty one.
+ghost use Rattle.std.specs.Prelude.{◌<◌, ◌≤◌, length};
+
+use crate::alone;
+use crate::calls::{FIRST_NEW_VALUE, picked};
+use crate::keys::value;
+use crate::stores::{dealt, opened};
+use crate::timing::tell;
+use mst_key::{Edit, Format, Key};
+use mst_store::Pass;
+use std::alloc::{AllocError, Global};
+use std::io;
+use std::time::Instant;
+
+// The puts of the calls from `first` to the one before `end`, as edits.
+fn edits_of_calls(
+    alloc: Global,
+    keys: &[Key],
+    first: u32,
+    end: u32,
+) -> Result<Vec<Edit>, AllocError>
+    requires some { 0 < length keys.now }
+{
+    let mut edits = Vec::with_capacity(alloc, end.saturating_sub(first) as usize)?;
+    for call in first..end {
+        let new = value(FIRST_NEW_VALUE + u64::from(call));
+        edits.push(Edit::Put(picked(keys, call).copy(), new))?;
+    }
+    Ok(edits)
+}
+
+/// Puts so many values, other than the current ones, at keys that the map has, `size` of them in
+/// each batch. Returns true if each batch went through.
+pub fn put(alloc: Global, pass: &mut Pass<'_, Global>, keys: &[Key], calls: u32, size: u32) -> bool
+    requires some { 0 < length keys.now }
+{
+    let size = size.max(1);
+    for batch in 0..calls.div_ceil(size) {
+        let first = batch.saturating_mul(size);
+        let end = first.saturating_add(size).min(calls);
+        let Ok(edits) = edits_of_calls(alloc, keys, first, end) else {
+            return false;
+        };
+        if pass.try_apply(alloc, edits.as_slice()).is_err() {
+            return false;
+        }
+    }
+    true
+}
+
+// The puts of all keys with their first values, as edits.
+fn edits_of_all(alloc: Global, keys: &[Key]) -> Result<Vec<Edit>, AllocError> {
+    let mut edits = Vec::with_capacity(alloc, keys.len())?;
+    for (number, key) in keys.iter().enumerate() {
+        edits.push(Edit::Put(key.copy(), value(number as u64)))?;
+    }
+    Ok(edits)
+}
+
+// Opens a store, and times the batch of these edits, one for each key of a map, in it.
+fn time_load(rt: &HostRuntime, edits: &[Edit], keys: u32, format: Format) -> io::Result<()> {
+    let (store, seats) = opened(rt.alloc(), alone::shape(format))?;
+    let mut passes = dealt(rt.alloc(), &store, seats)?;
+    let Some(mut pass) = passes.pop() else {
+        return Err(io::ErrorKind::Other.into());
+    };
+    let start = Instant::now(rt)?;
+    let done = pass.try_apply(rt.alloc(), edits).is_ok();
+    tell(rt, "load", keys, 1, start, done)
+}
+
+/// Puts all keys by one batch into an empty store, so many times, each in a store of its own.
+pub fn load(rt: &HostRuntime, keys: &[Key], calls: u32, format: Format) -> io::Result<()>
+    requires few { length keys.now ≤ 65535 }
+{
+    let edits = edits_of_all(rt.alloc(), keys)?;
+    for _ in 0..calls {
+        time_load(rt, edits.as_slice(), keys.len() as u32, format)?;
+    }
+    Ok(())
+}
