@@ -6,16 +6,24 @@ use crate::calls::{FIRST_NEW_VALUE, picked};
 use crate::keys::value;
 use crate::stores::{dealt, opened};
 use crate::timing::tell;
-use mst_key::{Edit, Format, Key};
+use mst_key::{Edit, Format, Key, Value};
 use mst_store::Pass;
 use std::alloc::{AllocError, Global};
 use std::io;
 use std::time::Instant;
 
-// The puts of the calls from `first` to the one before `end`, as edits.
+// The value of a call. Those of batches of other sizes are other values, so that one kind of calls
+// after another changes the map.
+fn new_value(size: u32, call: u32) -> Value {
+    let first = FIRST_NEW_VALUE.saturating_add(u64::from(size) << 32);
+    value(first.saturating_add(u64::from(call)))
+}
+
+// The puts of the batch that begins with the call `first` and ends before `end`.
 fn edits_of_calls(
     alloc: Global,
     keys: &[Key],
+    size: u32,
     first: u32,
     end: u32,
 ) -> Result<Vec<Edit>, AllocError>
@@ -23,7 +31,7 @@ fn edits_of_calls(
 {
     let mut edits = Vec::with_capacity(alloc, end.saturating_sub(first) as usize)?;
     for call in first..end {
-        let new = value(FIRST_NEW_VALUE + u64::from(call));
+        let new = new_value(size, call);
         edits.push(Edit::Put(picked(keys, call).copy(), new))?;
     }
     Ok(edits)
@@ -38,7 +46,7 @@ pub fn put(alloc: Global, pass: &mut Pass<'_, Global>, keys: &[Key], calls: u32,
     for batch in 0..calls.div_ceil(size) {
         let first = batch.saturating_mul(size);
         let end = first.saturating_add(size).min(calls);
-        let Ok(edits) = edits_of_calls(alloc, keys, first, end) else {
+        let Ok(edits) = edits_of_calls(alloc, keys, size, first, end) else {
             return false;
         };
         if pass.try_apply(alloc, edits.as_slice()).is_err() {

@@ -62,15 +62,21 @@ fn some_edited_key(edits: &[Edit], chance: &mut Chance) -> Key {
     }
 }
 
-/// Edits of a batch, at times none: of three two are puts. Some are of the key of one before them.
+// An edit, two times of three a put.
+fn some_edit(edits: &[Edit], chance: &mut Chance) -> Edit {
+    let key = some_edited_key(edits, chance);
+    if chance.below(3) == 0 {
+        Edit::Remove(key)
+    } else {
+        Edit::Put(key, some_value(chance))
+    }
+}
+
+/// Edits of a batch, at times none. Some are of the key of one before them.
 pub fn some_edits(alloc: Global, chance: &mut Chance) -> Result<Vec<Edit>, AllocError> {
     let mut edits = Vec::new(alloc);
     for _ in 0..chance.below(MOST_EDITS + 1) {
-        let key = some_edited_key(edits.as_slice(), chance);
-        let edit = match chance.below(3) {
-            0 => Edit::Remove(key),
-            _ => Edit::Put(key, some_value(chance)),
-        };
+        let edit = some_edit(edits.as_slice(), chance);
         edits.push(edit)?;
     }
     Ok(edits)
