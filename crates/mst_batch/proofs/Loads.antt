@@ -175,7 +175,7 @@ module _ (format : Format) (c : Content) (root : Root) (zero_link : root.link �
       subst (λ (k : List Pair). n < cost format k (batched k es))
       (sym (no_pairs format c root zero_link m st)) (omega (arith, less, is))
 
-  pub lacks_pairs : (s : State) → 0 < length es → (why : NotApplied)
+  pub lacks_pairs : (s : State) → 1 < length es → (why : NotApplied)
       → LacksPairs why (free_count s.lives) (batched [] es) → LacksBatch why format c s root es
   lacks_pairs s some (Memory refused) lacks = some
   lacks_pairs s some NoRoom lacks = lacks_room (free_count s.lives) (omega (arith, lacks))

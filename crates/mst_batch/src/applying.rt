@@ -33,8 +33,8 @@ use std::alloc::Allocator;
 ///
 /// Only nodes that an edit touches are read. All memory is taken before the first row is written,
 /// and given back before the call returns: for the edits' order, for the pairs of the nodes that
-/// are read, and for the nodes to be made. No edits take no memory. Calls nest no deeper than the
-/// layers and the halvings of the list of edits.
+/// are read, and for the nodes to be made. A batch of at most one edit takes no memory. Calls
+/// nest no deeper than the layers and the halvings of the list of edits.
 ///
 /// Returns `Memory` only if a growth was refused; otherwise `NoRoom` exactly if fewer rows are free
 /// than the batch takes: one for each entry and one for each node that is made anew. After an error

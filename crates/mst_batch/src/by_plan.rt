@@ -20,7 +20,7 @@ use mst_arena::{Desk, Root, Rows};
 use mst_key::{Edit, Format};
 use std::alloc::Allocator;
 
-/// Makes a batch of some edits in the map that stands at a root, as `apply` does.
+/// Makes a batch of some edits, more than one, in the map that stands at a root, as `apply` does.
 ///
 /// The plan of the batch is found and its nodes are marked that stay; then it is carried out. All
 /// memory is taken before the first row is written.
@@ -33,7 +33,7 @@ pub(crate) fn apply_by_plan<R: Rows, A: Allocator, B: Allocator + Copy>(
     format: Format,
 ) -> Result<Root, NotApplied>
     requires stands { MapStands format (R.content rows.old) desk.old root.now }
-    requires some { 0 < length edits.now }
+    requires some { 1 < length edits.now }
     requires free { FreeIsBlank desk.old.lives (R.blank rows.old) }
     ensures stands { IfOk result (λ done. (m : List Pair)
         → Stands format (R.content rows.old) root.now m

@@ -48,7 +48,7 @@ fn tree_after<B: Allocator + Copy>(
     }
 }
 
-/// Makes a batch of some edits in the empty map that stands at a root, as `apply` does.
+/// Makes a batch of some edits, more than one, in the empty map that stands at a root, as `apply` does.
 ///
 /// The pairs after the edits are listed, and their tree is built in memory and planted without a
 /// plan: it takes a row for each pair and each node. A batch that leaves no pair leaves the root.
@@ -62,7 +62,7 @@ pub(crate) fn load<R: Rows, A: Allocator, B: Allocator + Copy>(
 ) -> Result<Root, NotApplied>
     requires stands { MapStands format (R.content rows.old) desk.old root.now }
     requires empty { root.now.link ≡ 0 }
-    requires some { 0 < length edits.now }
+    requires some { 1 < length edits.now }
     requires free { FreeIsBlank desk.old.lives (R.blank rows.old) }
     ensures stands { IfOk result (λ done. (m : List Pair)
         → Stands format (R.content rows.old) root.now m

@@ -1,5 +1,5 @@
 -- A call of a pass is a turn at which the machine answers so.
-use Rattle.std.proofs.Common.{◌≡◌, ℕ, List, [], ◌∷◌, sym, refl, ap, ◌∙◌, subst, append-nil, inl, inr, ◌⊎◌, Option, Some}
+use Rattle.std.proofs.Common.{◌≡◌, ℕ, List, [], ◌∷◌, sym, refl, ap, ◌∙◌, subst, append-nil, inl, inr, ◌⊎◌, Option, Some, arith}
 use Rattle.std.specs.Prelude.{Result, Ok, Err, IfOk, IfErr, IfSome, IsSome, OnOk, OnErr, None}
 use Rattle.std.proofs.lemmas.Bool.{false≢true}
 use Rattle.mst_key.specs.declared.history.Change.{Change}
@@ -273,7 +273,8 @@ applied es p q (Err apply.Busy) a is ok err = (
 applied es p q (Err apply.VersionsSpent) a is ok err =
     (q.seen, [], looked p q err.0, inl (inr (inr (inl (ap text_of is, err.1)), refl)))
 applied es p q (Err (apply.Memory refused)) a is ok err =
-    (q.seen, [], looked p q err.0, inr (ap text_of is, err.3, refl))
+    let more = err.3 in
+    (q.seen, [], looked p q err.0, inr (ap text_of is, omega (arith, more), refl))
 applied es p q (Err apply.NoRoom) a is ok err = (
   q.seen,
   [],

@@ -1,11 +1,12 @@
 -- Events of the passes of a store, what passes have seen that met, the rows of the first put, and
--- why no edits are refused.
+-- why at most one edit is refused.
 use Rattle.std.proofs.Common.{◌≡◌, ◌≢◌, ◌⊎◌, ℕ, suc, ◌+◌, ◌<◌, ◌≤◌, Bool, cond, if◌then◌else◌, max, List, [], ◌∷◌, length, inl, inr, refl, sym, ap, ◌∙◌, subst, arith, ne_eqb}
 use mathlib.Core.Logic.{dite}
 use native.Mathlib.Decide.{ℕ_discrete}
 use Rattle.std.proofs.lemmas.Bool.{eq-eqb}
 use Rattle.std.proofs.lemmas.List.Elements.{All-head, All-tail}
 use Rattle.mst_key.specs.declared.format.Format.{Format}
+use Rattle.mst_key.specs.declared.history.Edit.{Edit}
 use Rattle.mst_key.specs.declared.history.Event.{Event}
 use Rattle.mst_key.specs.History.{History, after, format_after, events_of, IsPrefix}
 use Rattle.mst_key.proofs.HistoryLaws.{IsPrefix-compare}
@@ -106,3 +107,11 @@ no_edits NoRoom p q refused =
     let some = refused.4.costs in
     let none = stays (tree (format_after p.store.format q.seen) (after q.seen)) in
     absurd (omega (arith, some, none))
+
+-- one edit takes no memory
+pub one_edit : (fault : ApplyFault) (e : Edit) (p q : Known) → RefusesBatch fault (e ∷ []) p q
+    → (fault ≡ Busy) ⊎ (fault ≡ VersionsSpent) ⊎ (fault ≡ NoRoom)
+one_edit Busy e p q refused = inl refl
+one_edit VersionsSpent e p q refused = inr (inl refl)
+one_edit (Memory why) e p q refused = let more = refused.3 in absurd (omega (arith, more))
+one_edit NoRoom e p q refused = inr (inr refl)

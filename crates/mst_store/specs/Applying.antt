@@ -15,17 +15,17 @@ use Rattle.mst_store.specs.Writes.{LacksRows, LookedAtSeat, RefusesAtSeat}
 use Rattle.mst_store.specs.Passes.{Known, Looks, Refuses}
 
 -- Another pass has the turn, the version numbers are spent, a growth was refused, or there is no
--- room, each as a write is refused. Memory is refused only to a batch of some edits
+-- room, each as a write is refused. Memory is refused only to a batch of more than one edit
 abbrev pub RefusesBatch : ApplyFault → List Edit → Known → Known → Type 0
 RefusesBatch Busy edits p q = Refuses write.Busy (Batch edits) p q
 RefusesBatch VersionsSpent edits p q = Refuses write.VersionsSpent (Batch edits) p q
 RefusesBatch (Memory refused) edits p q = Looks p q × (length q.seen < last_version)
-    × (q.asked ≡ p.asked + p.store.passes + 2) × (0 < length edits)
+    × (q.asked ≡ p.asked + p.store.passes + 2) × (1 < length edits)
 RefusesBatch NoRoom edits p q = Refuses write.NoRoom (Batch edits) p q
 
 -- why the holder of the turn does not make the edits
 abbrev pub LacksEdits : {A : Type 0} → NotApplied → List Edit → Turn A → Seat → Type 0
-LacksEdits (applied.Memory refused) edits t m = 0 < length edits
+LacksEdits (applied.Memory refused) edits t m = 1 < length edits
 LacksEdits applied.NoRoom edits t m = LacksRows (Batch edits) t m
 
 -- the same refusals, as the seat of the pass has them
@@ -33,5 +33,5 @@ abbrev pub RefusesBatchAtSeat : ApplyFault → List Edit → Seat → Seat → T
 RefusesBatchAtSeat Busy edits m m' = RefusesAtSeat write.Busy (Batch edits) m m'
 RefusesBatchAtSeat VersionsSpent edits m m' = RefusesAtSeat write.VersionsSpent (Batch edits) m m'
 RefusesBatchAtSeat (Memory refused) edits m m' = LookedAtSeat m m'
-    × (length m'.0.seen < last_version) × (0 < length edits)
+    × (length m'.0.seen < last_version) × (1 < length edits)
 RefusesBatchAtSeat NoRoom edits m m' = RefusesAtSeat write.NoRoom (Batch edits) m m'

@@ -45,7 +45,7 @@ fn make_batch<A: Allocator + Copy, B: Allocator + Copy>(
 ///
 /// Returns `Busy` only if another pass has the turn; otherwise `VersionsSpent` exactly if the
 /// current version has the last number; otherwise `Memory` only if a growth was refused, and never
-/// for no edits; otherwise `NoRoom` exactly if fewer rows are free than the batch takes.
+/// for at most one edit; otherwise `NoRoom` exactly if fewer rows are free than the batch takes.
 pub(crate) fn apply<A: Allocator + Copy, B: Allocator + Copy>(
     seat: &mut PassSeat<'_, A>,
     alloc: B,

@@ -4,12 +4,13 @@ ghost use Rattle.std.specs.Prelude.{◌≡◌, ◌⊎◌, ◌+◌, ℕ, List, []
 ghost use Rattle.mst_key.specs.declared.format.Format.{Format};
 ghost use Rattle.mst_key.specs.declared.history.Change.{Change};
 ghost use Rattle.mst_key.specs.declared.history.Change.TheVariants.{Put, Remove};
+ghost use Rattle.mst_key.specs.declared.history.Edit.{Edit};
 ghost use Rattle.mst_key.specs.History.{History, events_of, IsPrefix};
 ghost use Rattle.mst_key.specs.Map.{Pair};
 ghost use Rattle.mst_words.specs.Notes.{IsOfPasses};
 ghost use Rattle.mst_store.specs.Applying.{RefusesBatch};
 ghost use Rattle.mst_store.specs.declared.faults.ApplyFault.{ApplyFault};
-ghost use Rattle.mst_store.specs.declared.faults.ApplyFault.TheVariants.{Busy, VersionsSpent};
+ghost use Rattle.mst_store.specs.declared.faults.ApplyFault.TheVariants.{Busy, VersionsSpent, NoRoom};
 ghost use Rattle.mst_store.specs.Passes.{Known, HasRoom, LacksRoom};
 ghost use Rattle.mst_store.specs.Settling.{Met};
 
@@ -37,8 +38,8 @@ pub fn meeting_laws()
         → q.number ≡ 2 → length m.seen ≡ length p.mine + length q.mine }
 {}
 
-/// A change finds room or lacks it, and never both. An empty batch is never refused
-/// memory or room.
+/// A change finds room or lacks it, and never both. A batch of at most one edit is never refused
+/// memory, and an empty one never room.
 pub fn room_laws()
     ensures not_both { (rows : ℕ) (format : Format) (m : List Pair) (change : Change)
         → HasRoom rows format m change → LacksRoom rows format m change → ⊥ }
@@ -50,4 +51,7 @@ pub fn room_laws()
     ensures no_remove { (format : Format) (k : List ℕ) → HasRoom 0 format [] (Remove k) }
     ensures no_edits { (fault : ApplyFault) (p q : Known) → RefusesBatch fault [] p q
         → (fault ≡ Busy) ⊎ (fault ≡ VersionsSpent) }
+    ensures one_edit { (fault : ApplyFault) (edit : Edit) (p q : Known)
+        → RefusesBatch fault (edit ∷ []) p q
+        → (fault ≡ Busy) ⊎ (fault ≡ VersionsSpent) ⊎ (fault ≡ NoRoom) }
 {}

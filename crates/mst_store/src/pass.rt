@@ -269,9 +269,10 @@ impl<'a, A: Allocator + Copy> Pass<'a, A> {
     /// the history gets one event. Readers see the map after all of them or the one before them.
     ///
     /// A batch takes a row for each entry and one for each node of the tree after it that the tree
-    /// before it has not. Edits that change nothing take no row, and no edits no memory; each is a
-    /// new version all the same. All memory is taken before the first row is written, and given
-    /// back before the call returns. Other passes are refused the turn for the whole of the call.
+    /// before it has not. Edits that change nothing take no row; each batch is a new version all
+    /// the same. A batch of at most one edit takes no memory. Otherwise all memory is taken
+    /// before the first row is written, and given back before the call returns. Other passes are
+    /// refused the turn for the whole of the call.
     ///
     /// Returns `Busy` only if another pass has the turn; otherwise `VersionsSpent` exactly if the
     /// current version has the last number; otherwise `Memory` if a growth was refused; otherwise

@@ -1,7 +1,7 @@
 use Rattle.std.proofs.Common.{ap, arith}
 use Rattle.mst_node.specs.Tree.{Tree, empty, tree_within, tree}
 use Rattle.mst_node.specs.Cost.{new_rows}
-use Rattle.mst_store.proofs.Lawful.{lone_tree, no_edits}
+use Rattle.mst_store.proofs.Lawful.{lone_tree, no_edits, one_edit}
 use Rattle.mst_store.proofs.laws.room_laws.Goals as goal
 
 pub returns-clause-not_both : goal.returns-clause-not_both
@@ -22,3 +22,6 @@ returns-clause-no_remove c format k = omega arith
 
 pub returns-clause-no_edits : goal.returns-clause-no_edits
 returns-clause-no_edits c fault p q refused = no_edits fault p q refused
+
+pub returns-clause-one_edit : goal.returns-clause-one_edit
+returns-clause-one_edit c fault e p q refused = one_edit fault e p q refused
