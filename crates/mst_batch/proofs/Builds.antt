@@ -9,7 +9,7 @@ use Rattle.mst_key.specs.declared.format.Format.{Format}
 use Rattle.mst_key.specs.Map.{Pair, IsAscending}
 use Rattle.mst_key.proofs.SpanLaws.{contains-all}
 use Rattle.mst_node.specs.Tree as tree
-use Rattle.mst_node.specs.Tree.{Tree, Entries, tree, pairs, layers, greatest, entries_of, IsMst, IsUnder}
+use Rattle.mst_node.specs.Tree.{Entries, tree, pairs, IsMst}
 use Rattle.mst_node.proofs.TreeEquation.{tree-no_pairs}
 use Rattle.mst_node.proofs.UniqueTree.{tree_unique}
 use Rattle.mst_arena.specs.Content.{Content}

@@ -13,7 +13,7 @@ use Rattle.mst_key.proofs.Splits.{IsAscending-below, IsAscending-above}
 use Rattle.mst_key.proofs.SpanLaws.{contains-cases, contains-nothing, contains-first, contains-later}
 use Rattle.mst_node.specs.Cost.{is_subtree}
 use Rattle.mst_node.specs.Tree as tree
-use Rattle.mst_node.specs.Tree.{Tree, Entries, pairs, entries_pairs, IsMst, IsMstEntries}
+use Rattle.mst_node.specs.Tree.{Entries, pairs, entries_pairs, IsMst, IsMstEntries}
 use Rattle.mst_node.proofs.InTrees.{is_old}
 use Rattle.mst_arena.specs.Content.{Content}
 use Rattle.mst_arena.specs.Standing.{Placed, none, head, Chain, end, cell, tree_of, entries_of, link_of, rows_of, HasRows}

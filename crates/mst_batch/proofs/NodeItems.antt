@@ -7,8 +7,8 @@ use Rattle.mst_arena.specs.Content.{Content, part_at}
 use Rattle.mst_arena.specs.Row.{head_links, entry_value}
 use Rattle.mst_arena.specs.declared.row.HeadLinks.{HeadLinks}
 use Rattle.mst_arena.specs.declared.row.EntryLinks.{EntryLinks}
-use Rattle.mst_arena.specs.Standing.{Placed, none, head, Chain, link_of, first_of, tail_of, count_of, head_row, rows_of, HasRows}
-use Rattle.mst_read.specs.Search.{Lies}
+use Rattle.mst_arena.specs.Standing.{Placed, none, head, Chain, link_of, head_row, rows_of, HasRows}
+use Rattle.mst_read.specs.Search.{Lies, head_of}
 use Rattle.mst_read.proofs.Walk.{Onward, AtCell, further}
 use Rattle.mst_batch.specs.Beside.{node_at}
 use Rattle.mst_batch.specs.Items.{IsItem}
@@ -16,6 +16,7 @@ use Rattle.mst_batch.specs.Tops.{IsStanding, tree_items, chain_items, node_items
 use Rattle.mst_batch.specs.declared.items.Item.{Item}
 use Rattle.mst_batch.specs.declared.items.Item.TheVariants as item
 use Rattle.mst_batch.proofs.Besides.{node_rows}
+use Rattle.mst_batch.proofs.Heads.{with_head}
 use Rattle.mst_batch.proofs.Tops.{node_is}
 
 -- so many items, and then those of the rest of a chain, are all
@@ -27,36 +28,25 @@ pub begins : (format : Format) (content : Content) (link : ℕ) (p : Placed)
     → Lies format content link p → 0 < link → (h : HeadLinks)
     → part_at head_links content (link - 1) ≡ Some h → (items : List Item)
     → Onward format content h.tail h.first 0 h.count (Makes h.layer items (items ++ node_items p))
-begins format content link p lies some h read items = go p lies.at lies.rows
+begins format content link p lies some h read items =
+    let top = with_head p lies.rows (go p lies.at lies.rows) in
+    record {
+      rest = top.chain;
+      first_is = top.lies.first;
+      tail_is = top.lies.tail;
+      left = omega (arith, top.lies.count);
+      rows = top.lies.rows;
+      holds = ap (λ (q : Placed). items ++ node_items q) (sym top.is);
+    }
   where
     go : (p : Placed) → link_of p ≡ link → HasRows content (rows_of format p)
-        → Onward format content h.tail h.first 0 h.count
-        (Makes h.layer items (items ++ node_items p))
+        → head_of p ≡ Some h
     go none at has = absurd (omega (arith, at, some))
     go (head i l chain) at has =
         let same : link - 1 ≡ i = omega (arith, at) in
         let there : content (link - 1) ≡ Some (head_row format l chain) =
         ap content same ∙ has.0 in
-        let both : Some (record {
-          layer = l;
-          count = count_of chain;
-          first = first_of chain;
-          tail = tail_of chain;
-        }) ≡ Some h = sym (ap (option_and_then head_links) there) ∙ read in
-        let is : record {
-          layer = l;
-          count = count_of chain;
-          first = first_of chain;
-          tail = tail_of chain;
-        } ≡ h = cc in
-        record {
-          rest = chain;
-          first_is = ap (λ (x : HeadLinks). x.first) is;
-          tail_is = ap (λ (x : HeadLinks). x.tail) is;
-          left = omega (arith, ap (λ (x : HeadLinks). x.count) is);
-          rows = has.1;
-          holds = ap (λ (x : HeadLinks). items ++ chain_items x.layer chain) (sym is);
-        }
+        sym (ap (option_and_then head_links) there) ∙ read
 
 -- the tree before an entry is added, and then its pair
 pub goes_on : {format : Format} {content : Content} {tail row done all : ℕ} {e : EntryLinks}

@@ -15,7 +15,7 @@ use Rattle.mst_key.proofs.Alls.{alls-append, alls-front, alls-back, alls-weaker}
 use Rattle.mst_key.proofs.SpanLaws.{contains-cases, contains-nothing}
 use Rattle.mst_key.proofs.Splits.{IsAscending-front, IsAscending-back}
 use Rattle.mst_node.specs.Tree as tree
-use Rattle.mst_node.specs.Tree.{Tree, Entries, tree, pairs, layers, greatest, entries_of, IsMst, IsUnder}
+use Rattle.mst_node.specs.Tree.{Entries, tree, pairs, layers, greatest, entries_of, IsMst}
 use Rattle.mst_node.proofs.TreeEquation.{Has, tree_some, entries_at_layer}
 use Rattle.mst_node.proofs.UniqueTree.{keys_under, gap-lower, tree_mst}
 use Rattle.mst_arena.specs.Content.{Content}

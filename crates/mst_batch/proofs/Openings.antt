@@ -14,50 +14,43 @@ use Rattle.mst_key.specs.Layer.{layer_in}
 use Rattle.mst_key.specs.Map.{Pair, IsAscending}
 use Rattle.mst_key.proofs.Alls.{alls-append}
 use Rattle.mst_key.proofs.SpanLaws.{contains-cases, contains-nothing}
-use Rattle.mst_node.specs.Tree.{pairs, entries_pairs, IsMst, IsMstEntries}
+use Rattle.mst_node.specs.Tree.{pairs, entries_pairs}
 use Rattle.mst_arena.specs.Content.{Content, part_at}
 use Rattle.mst_arena.specs.Row.{head_links}
 use Rattle.mst_arena.specs.declared.row.Row.{Row}
 use Rattle.mst_arena.specs.declared.row.HeadLinks.{HeadLinks}
-use Rattle.mst_arena.specs.Standing.{Placed, none, head, Chain, end, cell, tree_of, entries_of, link_of, first_of, tail_of, count_of, head_row}
-use Rattle.mst_arena.proofs.Stands.{one_placed}
+use Rattle.mst_arena.specs.Standing.{Placed, none, head, Chain, end, cell, tree_of, entries_of, link_of, first_of, tail_of, count_of, head_row, rows_of, HasRows}
 use Rattle.mst_change.proofs.Split.Trees.{rest_rises, child_rises}
 use Rattle.mst_path.specs.Ages.{placed_nodes, chain_nodes}
-use Rattle.mst_batch.specs.Beside.{node_at}
+use Rattle.mst_read.specs.Search.{Lies}
 use Rattle.mst_batch.specs.Items.{item_pairs, items_pairs, IsItem}
 use Rattle.mst_batch.specs.Listed.{listed, put_of}
 use Rattle.mst_batch.specs.Opening.{PartOf, Adds, AreOf}
+use Rattle.mst_batch.specs.Tops.{IsStanding, tree_items}
 use Rattle.mst_batch.specs.declared.items.Item.{Item}
 use Rattle.mst_batch.specs.declared.items.Item.TheVariants as item
 use Rattle.mst_batch.proofs.BatchParts.{edited_own, one_of_key}
-use Rattle.mst_batch.proofs.Besides.{node_rows, node_found}
+use Rattle.mst_batch.proofs.Besides.{node_rows}
+use Rattle.mst_batch.proofs.Homes.{node_below}
 use Rattle.mst_batch.proofs.Parts.{rest_of, first_and_rest, none_left}
+use Rattle.mst_batch.proofs.Tops.{items_pairs-append, tree_pairs, tree_each}
 
 -- ---- lists of items
 
 module _ (format : Format) (whole : Placed) where
-  items-append : (xs ys : List Item) → items_pairs format whole (xs ++ ys)
-      ≡ items_pairs format whole xs ++ items_pairs format whole ys
-  items-append [] ys = refl
-  items-append (x ∷ xs) ys =
-      ap (λ (m : List Pair). item_pairs format whole x ++ m) (items-append xs ys)
-      ∙ sym (append_assoc (item_pairs format whole x) (items_pairs format whole xs)
-      (items_pairs format whole ys))
-
   pub adds_none : (xs : List Item) → Adds format whole xs xs []
   adds_none xs = record {
     follow = sym (append-nil (items_pairs format whole xs));
     each = λ all. all;
   }
 
-  pub adds_one : (xs ys : List Item) (x : Item) → ys ≡ xs ++ x ∷ [] → IsItem format whole x
-      → Adds format whole xs ys (item_pairs format whole x)
-  adds_one xs ys x pushed is = record {
-    follow = ap (items_pairs format whole) pushed ∙ items-append xs (x ∷ [])
-        ∙ ap (λ (m : List Pair). items_pairs format whole xs ++ m)
-        (append-nil (item_pairs format whole x));
+  pub adds_all : (xs ys added : List Item) → ys ≡ xs ++ added
+      → AllByRecursion (IsItem format whole) added
+      → Adds format whole xs ys (items_pairs format whole added)
+  adds_all xs ys added pushed is = record {
+    follow = ap (items_pairs format whole) pushed ∙ items_pairs-append format whole xs added;
     each = λ all. subst (AllByRecursion (IsItem format whole)) (sym pushed)
-        (alls-append (IsItem format whole) xs (x ∷ []) all (is, tt));
+        (alls-append (IsItem format whole) xs added all is);
   }
 
   pub adds_then : (xs ys zs : List Item) (m n : List Pair) → Adds format whole xs ys m
@@ -71,6 +64,12 @@ module _ (format : Format) (whole : Placed) where
   pub adds_as : (xs ys : List Item) (m n : List Pair) → m ≡ n → Adds format whole xs ys m
       → Adds format whole xs ys n
   adds_as xs ys m n same adds = subst (Adds format whole xs ys) same adds
+
+  pub adds_one : (xs ys : List Item) (x : Item) → ys ≡ xs ++ x ∷ [] → IsItem format whole x
+      → Adds format whole xs ys (item_pairs format whole x)
+  adds_one xs ys x pushed is =
+      adds_as xs ys (items_pairs format whole (x ∷ [])) (item_pairs format whole x)
+      (append-nil (item_pairs format whole x)) (adds_all xs ys (x ∷ []) pushed (is, tt))
 
   -- what an edit puts, where the layer is that of its key
   pub adds_put : (xs ys : List Item) (e : Edit) (key value k v : List ℕ) (layer : ℕ)
@@ -114,28 +113,9 @@ module _ (format : Format) (whole : Placed) where
         (adds_one xs ys (item.Pair key value layer)
         (pushed ∙ (λ i. xs ++ item.Pair (k_is i) (v_is i) layer ∷ [])) key_layer)
 
--- ---- a node of a search tree whose keys rise is such a tree
+-- ---- the keys of a node rise if those of the whole tree do
 
 module _ (format : Format) where
-  mutual
-    pub node_mst : (w p : Placed) → Contains (placed_nodes w) p → IsMst format (tree_of format w)
-        → IsMst format (tree_of format p)
-    node_mst none p has mst = absurd (contains-nothing p has)
-    node_mst (head at layer chain) p has mst =
-        elim (contains-cases (head at layer chain) (chain_nodes chain) p has) [
-          | inl same ↦ subst (λ (r : Placed). IsMst format (tree_of format r)) same mst
-          | inr later ↦ chain_mst layer chain p later mst.2
-        ]
-
-    chain_mst : (layer : ℕ) (c : Chain) (p : Placed) → Contains (chain_nodes c) p
-        → IsMstEntries format layer (entries_of format c) → IsMst format (tree_of format p)
-    chain_mst layer (end child) p has mst = node_mst child p has mst.1
-    chain_mst layer (cell at child key value rest) p has mst =
-        elim (Contains-append_cases (placed_nodes child) (chain_nodes rest) p has) [
-          | inl k ↦ node_mst child p k mst.1
-          | inr k ↦ chain_mst layer rest p k mst.3
-        ]
-
   mutual
     pub node_rises : (w p : Placed) → Contains (placed_nodes w) p
         → IsAscending (pairs (tree_of format w)) → IsAscending (pairs (tree_of format p))
@@ -162,6 +142,44 @@ module _ (format : Format) where
 
 module _ (format : Format) (content : Content) (whole : Placed) (link : ℕ)
     (part : PartOf format content whole link) where
+  -- its rows stand there
+  pub part_lies : Lies format content link part.placed
+  part_lies = record { at = part.at; rows = go part.placed part.part }
+    where
+      go : (p : Placed) → (p ≡ none) ⊎ Contains (placed_nodes whole) p
+          → HasRows content (rows_of format p)
+      go none which = tt
+      go (head i l chain) (inl nothing) = absurd cc
+      go (head i l chain) (inr within) =
+          node_rows format content whole (head i l chain) within part.rows
+
+  -- without an edit it stays as it stands: it is one item, or none if it is empty
+  pub tree_stays : (xs ys : List Item) (edits : List (Bor Edit)) → length edits < 1
+      → (Lies format content link part.placed → ys ≡ xs ++ tree_items part.placed)
+      → Adds format whole xs ys (batched (pairs (tree_of format part.placed)) (listed edits))
+  tree_stays xs ys edits empty pushed =
+      adds_as format whole xs ys (items_pairs format whole (tree_items part.placed))
+      (batched (pairs (tree_of format part.placed)) (listed edits))
+      (tree_pairs format content whole s part.placed inside
+      ∙ ap (λ (es : List (Bor Edit)). batched (pairs (tree_of format part.placed)) (listed es))
+      (sym (none_left edits empty)))
+      (adds_all format whole xs ys (tree_items part.placed) (pushed part_lies)
+      (tree_each format content whole s part.placed inside))
+    where
+      s : IsStanding format content whole
+      s = record { rows = part.rows; search = part.search }
+
+      go : (p : Placed) → (p ≡ none) ⊎ Contains (placed_nodes whole) p → (r : Placed)
+          → Contains (placed_nodes p) r → Contains (placed_nodes whole) r
+      go none which r has = absurd (contains-nothing r has)
+      go (head i l chain) (inl nothing) r has = absurd cc
+      go (head i l chain) (inr within) r has =
+          node_below whole (head i l chain) r within has
+
+      inside : (r : Placed) → Contains (placed_nodes part.placed) r
+          → Contains (placed_nodes whole) r
+      inside = go part.placed part.part
+
   -- nothing stands at the link 0
   pub nothing_there : link ≡ 0 → pairs (tree_of format part.placed) ≡ []
   nothing_there is = go part.placed (part.at ∙ is)
@@ -227,28 +245,3 @@ module _ (format : Format) (content : Content) (whole : Placed) (link : ℕ)
 
       pub layer_is : node.layer ≡ h.layer
       layer_is = ap (λ (x : HeadLinks). x.layer) links
-
-      -- the tree as an item
-      pub tree_item : (xs ys : List Item)
-          → ys ≡ xs ++ item.Subtree link h.layer ∷ []
-          → Adds format whole xs ys (pairs (tree_of format part.placed))
-      tree_item xs ys pushed =
-          let found = node_found (placed_nodes whole) (head node.row node.layer node.chain)
-          node.within in
-          let one : node_at whole (node.row + 1) ≡ head node.row node.layer node.chain =
-          one_placed format content (node_at whole (node.row + 1))
-          (head node.row node.layer node.chain) found.1
-          (node_rows format content whole (node_at whole (node.row + 1)) found.0 part.rows)
-          (node_rows format content whole (head node.row node.layer node.chain) node.within
-          part.rows) in
-          let same : node_at whole link ≡ part.placed =
-          ap (node_at whole) (sym node.at) ∙ one ∙ sym node.is in
-          adds_as format whole xs ys (pairs (tree_of format (node_at whole link)))
-          (pairs (tree_of format part.placed)) (ap (λ (p : Placed). pairs (tree_of format p)) same)
-          (adds_one format whole xs ys (item.Subtree link h.layer) pushed (
-            node.row,
-            node.chain,
-            sym node.at,
-            subst (λ (n : ℕ). Contains (placed_nodes whole) (head node.row n node.chain)) layer_is
-                node.within,
-          ))

@@ -128,7 +128,7 @@ module _ (format : Format) (content : Content) (whole : Placed)
   node_is link layer i = ap (node_at whole) i.2 ∙ node_here (head i.0 layer i.1) i.3
 
   -- all nodes of the tree stand in the whole
-  abbrev Inside : List Placed → Type 0
+  abbrev pub Inside : List Placed → Type 0
   Inside ps = (r : Placed) → Contains ps r → Contains (placed_nodes whole) r
 
   own : (row layer : ℕ) (chain : Chain)
@@ -136,7 +136,7 @@ module _ (format : Format) (content : Content) (whole : Placed)
   own row layer chain =
       contains-first (head row layer chain) (chain_nodes chain) (head row layer chain) refl
 
-  tree_pairs : (p : Placed) → Inside (placed_nodes p)
+  pub tree_pairs : (p : Placed) → Inside (placed_nodes p)
       → items_pairs format whole (tree_items p) ≡ pairs (tree_of format p)
   tree_pairs none inside = refl
   tree_pairs (head row layer chain) inside =
@@ -156,7 +156,7 @@ module _ (format : Format) (content : Content) (whole : Placed)
       (item.Pair key value l ∷ chain_items l rest)
       ∙ (λ i. one i ++ (key, value) ∷ more i)
 
-  tree_each : (p : Placed) → Inside (placed_nodes p)
+  pub tree_each : (p : Placed) → Inside (placed_nodes p)
       → AllByRecursion (IsItem format whole) (tree_items p)
   tree_each none inside = tt
   tree_each (head row layer chain) inside =

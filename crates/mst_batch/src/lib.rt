@@ -1,28 +1,36 @@
 //! Many edits of a map, made as one change of the tree that stands in the rows.
 //!
-//! A change is made by its plan: the tree that is to stand, with the nodes to be made in memory,
+//! [`apply`] makes a batch of edits in the map that stands at a root, all or none. They may come in
+//! any order, and of one key more than once.
+//!
+//! ```
+//! let edits = [Edit::Put(apple, Value::new(b"35")?), Edit::Remove(pear)];
+//! let root = apply(&mut rows, &mut desk, &root, alloc, &edits, Format::One)?;
+//! ```
+//!
+//! The change is made by its plan: the tree that is to stand, with the nodes to be made in memory,
 //! and of each tree that stays its link. So all memory is taken, and the room is known exactly,
-//! before the first row is written.
+//! before the first row is written. One edit needs no plan, nor does a batch in the empty map.
 //!
-//! ```
-//! rows_of(&plan)                                          // what the change costs
-//! carry_out(rows, desk, &root, &plan, &kept, format)?     // the root of the new tree
-//! ```
+//! From the top down:
 //!
-//! [`carry_out`] refuses a plan for which no room is left; otherwise it does as [`replace`]:
-//! [`sow`] writes the nodes to be made beside the trees that are kept, and the tree that stood is
-//! felled around them ([`fell_beside`]).
+//! - `applying` leads to `single`, for one edit; `loading`, in the empty map; and `by_plan`.
+//! - `planning` finds the plan. `merging` sorts the edits and keeps the last one of each key;
+//!   `opening` lists what the tree after them is built of (`items`, `standing`); `building` plans
+//!   it from the greatest layer down (`top`), and keeps what stands already (`sharing`).
+//! - `marking` marks the nodes that a plan keeps.
+//! - `carrying` refuses a plan for which no room is left, and otherwise does as `replacing`:
+//!   `sowing` writes the nodes to be made beside the trees that are kept, and `felling` gives up
+//!   the rest of the tree that stood.
 //!
-//! The edits of a batch may come in any order, and of one key more than once. [`normal_edits`]
-//! sorts them and keeps the last one of each key; [`edited_pairs`] returns the pairs of the map
-//! after them. [`plans_beside`] says which plan makes only what does not stand yet, and
-//! [`plans_can_be_met`] shows plans that can be carried out.
+//! [`plans_beside`] says which plan makes only what does not stand yet, and [`plans_can_be_met`]
+//! shows plans that can be carried out.
 //!
-//! In `specs/`: `Listed`, edits that a list points at; `Plans`, which tree a plan is, what it keeps
-//! and what it takes; `Sowing`, what is written; `Kept`, which nodes are kept and which rows fall;
-//! `Replacing` and `Carrying`, a plan in place of the tree that stands, and of a change of the map;
-//! `Beside`, the plan of a tree beside the one that stands; `Items` and `Tops`, what the tree after
-//! a batch is built of, and which of it is opened.
+//! In `specs/`: `Applying`, why a batch is not made; `Listed`, edits that a list points at; `Items`
+//! and `Opening`, what the tree after a batch is built of; `Tops`, which of it is opened; `Beside`,
+//! the plan of a tree beside the one that stands; `Plans`, which tree a plan is, what it keeps and
+//! what it takes; `Carrying` and `Replacing`, a plan of a change of the map, and in place of the
+//! tree that stands; `Sowing`, what is written; `Kept`, which nodes are kept and which rows fall.
 #![tactic(auto)]
 
 mod applying;
@@ -44,6 +52,7 @@ mod replacing;
 mod sharing;
 mod single;
 mod sowing;
+mod standing;
 #[cfg(test)]
 mod tests;
 mod top;

@@ -14,34 +14,10 @@ ghost use Rattle.mst_batch.specs.Listed.{listed, put_of};
 ghost use Rattle.mst_batch.specs.Opening.{PartOf, Adds, AreBelow, AreOf};
 
 use crate::items::Item;
+use crate::standing::push_tree;
 use mst_arena::Rows;
 use mst_key::{Edit, Format, Key, Memory};
 use std::alloc::Allocator;
-
-/// Adds the tree at a link, if there is one.
-fn push_tree<R: Rows, A: Allocator>(
-    rows: &mut R,
-    link: u32,
-    items: &mut Vec<Item, A>,
-) -> Result<(), Memory>
-    requires part { (format : Format) × (whole : Placed)
-        × PartOf format (R.content rows.old) whole link }
-    ensures adds { OnOk result ((format : Format) (whole : Placed)
-        (part : PartOf format (R.content rows.old) whole link)
-        → Adds format whole items.old.items items.new.items
-        (pairs (tree_of format part.placed))) }
-    ensures same { rows.new ≡ rows.old }
-{
-    if link == 0 {
-        return Ok(());
-    }
-    let head = rows.head(link - 1);
-    items.push(Item::Subtree {
-        link,
-        layer: head.layer,
-    })?;
-    Ok(())
-}
 
 /// Adds the pair that an edit puts, if it is a put. The layer is that of its key.
 fn push_put<A: Allocator>(edit: &Edit, layer: u8, items: &mut Vec<Item, A>) -> Result<(), Memory>

@@ -1,5 +1,5 @@
 //! The plan of a batch of edits.
-ghost use Rattle.std.specs.Prelude.{◌≡◌, ℕ, List, IfOk};
+ghost use Rattle.std.specs.Prelude.{◌≡◌, List, IfOk};
 ghost use Rattle.mst_key.specs.History.{batched};
 ghost use Rattle.mst_key.specs.Map.{Pair};
 ghost use Rattle.mst_node.specs.Tree.{tree};

@@ -5,12 +5,12 @@ ghost use Rattle.mst_key.specs.declared.format.Format.{Format};
 ghost use Rattle.mst_arena.specs.Standing.{Placed};
 ghost use Rattle.mst_read.specs.Search.{Lies, TreeLies};
 ghost use Rattle.mst_batch.specs.Items.{IsItem, layer_of as layer_of_item, height_of};
-ghost use Rattle.mst_batch.specs.Tops.{IsStanding, is_tree, tree_items, node_items, opened as opened_item};
+ghost use Rattle.mst_batch.specs.Tops.{IsStanding, is_tree, node_items, opened as opened_item};
 
 use crate::items::Item;
+use crate::standing::push_tree;
 use mst_arena::Rows;
 use mst_key::Memory;
-use mst_read::head_at;
 use std::alloc::Allocator;
 
 /// The layer of an item.
@@ -49,27 +49,6 @@ pub(crate) fn has_subtree_at(items: &[Item], layer: u8) -> bool
     ensures has { result ≡ list_any (is_tree layer) items.now }
 {
     items.iter().any(|item| is_tree_of(item, layer))
-}
-
-/// Adds the tree at a link, if there is one.
-fn push_tree<R: Rows, A: Allocator>(
-    rows: &mut R,
-    link: u32,
-    items: &mut Vec<Item, A>,
-) -> Result<(), Memory>
-    requires lies { TreeLies (R.content rows.old) link }
-    ensures items { OnOk result ((format : Format) (p : Placed)
-        → Lies format (R.content rows.old) link p
-        → items.new.items ≡ items.old.items ++ tree_items p) }
-    ensures same { rows.new ≡ rows.old }
-{
-    if let Some(head) = head_at(rows, link) {
-        items.push(Item::Subtree {
-            link,
-            layer: head.layer,
-        })?;
-    }
-    Ok(())
 }
 
 /// Adds the pairs of the node at a link, and between them the trees below it.

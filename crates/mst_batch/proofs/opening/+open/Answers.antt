@@ -1,5 +1,6 @@
 use Rattle.std.proofs.Common.{◌≡◌, ℕ, ◌+◌, ◌-◌, ◌<◌, ◌≤◌, List, length, take, drop, Bor, Some, IsSome, sym, ◌∙◌, ap, subst, arith, rules}
 use Rattle.std.specs.List.{slice_range}
+use Rattle.std.proofs.lemmas.Bool.Decides.{nat_tests}
 use Rattle.std.proofs.lemmas.Result.{on_ok_weaker}
 use Rattle.mst_key.specs.declared.history.Edit.{Edit}
 use Rattle.mst_key.specs.History.{batched}
@@ -12,7 +13,7 @@ use Rattle.mst_path.proofs.lemmas.steps.Felling.{height_read}
 use Rattle.mst_batch.specs.Listed.{listed}
 use Rattle.mst_batch.specs.Opening.{PartOf, Adds}
 use Rattle.mst_batch.specs.declared.items.Item.{Item}
-use Rattle.mst_batch.proofs.Openings.{head_there}
+use Rattle.mst_batch.proofs.Openings.{head_there, part_lies, tree_stays}
 use Rattle.mst_batch.proofs.OpeningSteps.{Opening, Opens, opens, both_ok, AtEntry, begun, entry_there, at_entry, at_last}
 use Rattle.mst_batch.proofs.Ranges.{three_parts, parts_rise, rest_is, rest_fits}
 use Rattle.mst_batch.proofs.opening.+open.Given.{Over}
@@ -39,10 +40,34 @@ loop-init g t c = record {
 
 -- ---- no edit falls into the tree, or there is no tree
 
+pub push_tree-requires : goal.push_tree-requires
+push_tree-requires g t c =
+    let part = c.requires.part in
+    record {
+      lies = (
+        c.args.format,
+        part.1.placed,
+        part_lies c.args.format (g.R.Rows.content c.args.rows.now) part.0 c.args.link part.1,
+      );
+    }
+
+pub returns-then-is_empty-clause-items : goal.returns-then-is_empty-clause-items
+returns-then-is_empty-clause-items g t c =
+    let empty : length c.args.edits.now < 1 =
+    grind (arith, nat_tests, c.is_empty.ensures, c.if-is_empty.true) in
+    on_ok_weaker c.push_tree.result (λ added whole part.
+    (tree_stays c.args.format (g.R.Rows.content c.args.rows.now) whole c.args.link part
+    c.args.items.now.items c.push_tree.new.items.items c.args.edits.now empty
+    (added c.args.format part.placed)).follow) c.push_tree.ensures.items
+
 pub returns-then-is_empty-clause-each : goal.returns-then-is_empty-clause-each
 returns-then-is_empty-clause-each g t c =
-    on_ok_weaker c.push_tree.result
-    (λ adds whole part. (adds c.args.format whole part).each) c.push_tree.ensures.adds
+    let empty : length c.args.edits.now < 1 =
+    grind (arith, nat_tests, c.is_empty.ensures, c.if-is_empty.true) in
+    on_ok_weaker c.push_tree.result (λ added whole part.
+    (tree_stays c.args.format (g.R.Rows.content c.args.rows.now) whole c.args.link part
+    c.args.items.now.items c.push_tree.new.items.items c.args.edits.now empty
+    (added c.args.format part.placed)).each) c.push_tree.ensures.items
 
 pub returns-then-link-eq0-clause-each : goal.returns-then-link-eq0-clause-each
 returns-then-link-eq0-clause-each g t c =

@@ -20,7 +20,7 @@ use Rattle.mst_batch.specs.Sowing.{Sown}
 use Rattle.mst_batch.proofs.PlanShapes.{items, tail, list_rows, list_kept, plan_out, tree_with, kept_with, rows_ahead, rows_least, rows_last, node_rows, entries_more, take_all, some_entries, low_layer, kept_rows, whole_old, child_kept, child_links, child_stands, child_search, tail_links, tail_stands, tail_search}
 use Rattle.mst_batch.proofs.Sowings.{SownSoFar, kept_whole, begins, plan_later, head_in, next_in, entry_more, node_whole}
 use Rattle.mst_batch.proofs.sowing.+sow.Given.{Over}
-use Rattle.mst_batch.proofs.sowing.+sow.Goals.{sow_node-After-len, sow_node-After-entry-item, sow_node-After-sow-child, sow_node-After-loop-entry, sow_node-After-sow-tail}
+use Rattle.mst_batch.proofs.sowing.+sow.Goals.{sow_node-After-len, sow_node-After-entry-item, sow_node-After-loop-entry}
 use Rattle.mst_batch.proofs.sowing.+sow.Goals as goal
 
 pub sow-root_at-requires : goal.sow-root_at-requires
