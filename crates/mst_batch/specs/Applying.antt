@@ -12,8 +12,8 @@ use Rattle.mst_arena.specs.Standing.{Stands}
 use Rattle.mst_batch.specs.declared.faults.NotApplied.{NotApplied}
 use Rattle.mst_batch.specs.declared.faults.NotApplied.TheVariants.{Memory, NoRoom}
 
--- for room, exactly where fewer rows are free than the batch takes; for memory, only a batch of more
--- than one edit
+-- for room, exactly where fewer rows are free than the batch takes; for memory, only a batch of
+-- more than one edit
 abbrev pub LacksBatch : NotApplied → Format → Content → State → Root → List Edit → Type 0
 LacksBatch (Memory refused) format content s root edits = 1 < length edits
 LacksBatch NoRoom format content s root edits =

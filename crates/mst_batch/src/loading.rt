@@ -48,7 +48,7 @@ fn tree_after<B: Allocator + Copy>(
     }
 }
 
-/// Makes a batch of some edits, more than one, in the empty map that stands at a root, as `apply` does.
+/// Makes a batch of more than one edit in the empty map that stands at a root, as `apply` does.
 ///
 /// The pairs after the edits are listed, and their tree is built in memory and planted without a
 /// plan: it takes a row for each pair and each node. A batch that leaves no pair leaves the root.

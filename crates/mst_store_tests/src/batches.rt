@@ -64,7 +64,10 @@ fn no_edits_are_a_version_that_takes_no_row(rt: HostRuntime) {
     const STEPS: &[Step] = &[
         (1, Apply(&[])),
         (1, Root(ROOT_OF_NONE)),
-        (2, Apply(&[(b"b", Some(b"2")), (b"a", Some(b"1")), (b"c", Some(b"3"))])),
+        (
+            2,
+            Apply(&[(b"b", Some(b"2")), (b"a", Some(b"1")), (b"c", Some(b"3"))]),
+        ),
         // no row is left over
         (1, Rows(Some(4))),
         (1, Apply(&[])),
