@@ -1,6 +1,6 @@
 //! Tests of the store and of its table over their public calls: opening, reads and writes of
 //! several passes, pins, room, settling, memory that is refused, and all of a kind: each number of
-//! passes, each short script, each growth that is refused.
+//! passes, each short script and batch, each growth that is refused.
 #![tactic(auto)]
 
 #[cfg(test)]
@@ -49,3 +49,5 @@ mod stores;
 mod table;
 #[cfg(test)]
 mod waiting;
+#[cfg(test)]
+mod whole_batches;
