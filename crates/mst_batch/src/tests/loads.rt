@@ -23,7 +23,7 @@ struct Load {
 
 const LOADS: &[Load] = &[
     Load {
-        edits: &[("8", Some("x"))],
+        edits: &[("c", None), ("8", Some("x"))],
         after: &[("8", "x")],
         rows: (2, 2),
     },
@@ -64,7 +64,7 @@ fn load_into<B: Allocator + Copy>(
     edits: &[Edit],
     size: u32,
 ) -> Result<Loaded, Memory>
-    requires edits { 0 < length edits.now }
+    requires edits { 1 < length edits.now }
     requires some { 0 < size }
     requires few { size ≤ 65535 }
 {
@@ -86,7 +86,7 @@ fn check_load(
     after: &[(Key, Value)],
     taken: u32,
 ) {
-    assert!(rt; !edits.is_empty() && after.len() < 16);
+    assert!(rt; edits.len() > 1 && after.len() < 16);
     let digest = root_of_in(format, after);
     for size in 1..16u32 {
         let done = load_into(alloc, alloc, format, edits, size).expect(rt, "memory");
@@ -116,7 +116,7 @@ fn batches_in_the_empty_map(rt: HostRuntime) {
 /// Whether a batch is made in a heap of so many bytes. Ends the test if the heap keeps anything of
 /// it, or if a row is taken where memory is refused.
 fn is_loaded(rt: &impl Abort, alloc: Global, edits: &[Edit], bytes: usize) -> bool {
-    assert!(rt; !edits.is_empty());
+    assert!(rt; edits.len() > 1);
     let heap = LocalHeap::new(alloc, bytes).expect(rt, "memory");
     let done = load_into(alloc, &heap, Format::One, edits, 15).expect(rt, "memory");
     assert!(rt; heap.used() == 0, "nothing is kept");
