@@ -5,7 +5,8 @@ The other process serves a pinned version of its store: its root digest, and pro
 texts of the nodes on the way to a key, and a text has the digests of the nodes below it. So the
 replica goes down from the root digest, skips each subtree whose digest its own tree has, and checks
 each text that comes against the digest that asked for it: it trusts the root digest, and nothing
-else that the other says.
+else that the other says. What differs it makes by one batch, so its readers see the one map or the
+other.
 
     make -C bindings && python3 examples/replicas/catch_up.py
 """
@@ -25,14 +26,14 @@ EMPTY = hashlib.sha256(b"").digest()
 
 
 def filled(seed, changes):
-    """A store of 5,000 pairs, which some changes set apart."""
-    (one,) = open_store(rows=20000, passes=1)
-    for at in range(5000):
-        one.put(b"%05d" % at, b"value %d" % at)
+    """A store of 5,000 pairs, which some changes set apart: one batch loads it."""
+    edits = [(b"%05d" % at, b"value %d" % at) for at in range(5000)]
     some = random.Random(seed)
     for _ in range(changes):
         key = b"%05d" % some.randrange(6000)
-        one.remove(key) if some.randrange(3) == 0 else one.put(key, b"changed %d" % seed)
+        edits.append((key, None if some.randrange(3) == 0 else b"changed %d" % seed))
+    (one,) = open_store(rows=20000, passes=1)
+    one.apply(edits)
     return one
 
 
@@ -88,18 +89,25 @@ def mirror(mine, root, prove):
     if mine.root() != EMPTY:
         list(own.walk(mine.root()))
     wanted = list(theirs.walk(root, skip=own.texts)) if root != EMPTY else []
-    pairs = {key: value for key, value in wanted if value is not None}
+    edits = differences(mine.range(), wanted)
+    mine.apply(edits)
+    return len(edits), len(theirs.texts)
+
+
+def differences(pairs, wanted):
+    """The edits that make these pairs the wanted ones, of which a walk has left out the subtrees
+    that stay."""
+    own = dict(pairs)
+    theirs = {key: value for key, value in wanted if value is not None}
     equal_above = {key for key, value in wanted if value is None}
-    keys, changed = sorted(pairs), 0
-    for key, _ in list(mine.items()):
+    keys, edits = sorted(theirs), []
+    for key in own:
         at = bisect.bisect_left(keys, key)
         below = keys[at - 1] if at else b""
-        if key not in pairs and below not in equal_above:
-            mine.remove(key)
-            changed += 1
-    for key, value in pairs.items():
-        changed += mine.put(key, value) != value
-    return changed, len(theirs.texts)
+        if key not in theirs and below not in equal_above:
+            edits.append((key, None))
+    edits += [(key, value) for key, value in theirs.items() if own.get(key) != value]
+    return edits
 
 
 def main():

@@ -1,4 +1,9 @@
-"""The log of changes: a stream of a Redis server, which is started on loopback and ended here."""
+"""The log of changes: a stream of a Redis server, which is started on loopback and ended here.
+
+A block is what stands between two commits of the log: a replica makes it as one version. Beside the
+log the server holds the root digests that replicas tell after each block, and a snapshot.
+"""
+import collections
 import contextlib
 import os
 import socket
@@ -9,7 +14,12 @@ import time
 import redis
 
 STREAM = "changes"
-PUT, REMOVE, CHECKPOINT, END = b"put", b"remove", b"checkpoint", b"end"
+PUT, REMOVE, COMMIT, END = b"put", b"remove", b"commit", b"end"
+BEGINNING = b"0"
+
+# Its number, the place in the log where it ends, and its edits: each a key with its new value, or
+# with None where the key is taken out.
+Block = collections.namedtuple("Block", "number place edits")
 
 
 def free_port():
@@ -48,38 +58,50 @@ def server():
 
 
 def append(client, kind, key=b"", value=b"", number=0):
-    """Adds an entry: a change of a key, a checkpoint with its number, or the end."""
+    """Adds an entry: a change of a key, the commit of a block with its number, or the end."""
     client.xadd(STREAM, {"kind": kind, "key": key, "value": value, "number": number})
 
 
-def intervals(client):
-    """Yields each checkpoint's number with the changes since the one before, from the log's
-    beginning to its end; it waits for entries that are still to come. A change is a kind, a key and
-    a value."""
-    last, changes = b"0", []
+def blocks(client, place=BEGINNING):
+    """Yields the blocks behind a place of the log, up to its end; it waits for entries that are
+    still to come."""
+    edits = []
     while True:
-        for _, entries in client.xread({STREAM: last}, count=500, block=1000):
-            for last, entry in entries:
+        for _, entries in client.xread({STREAM: place}, count=500, block=1000):
+            for place, entry in entries:
                 kind = entry[b"kind"]
                 if kind == END:
                     return
-                if kind == CHECKPOINT:
-                    yield int(entry[b"number"]), changes
-                    changes = []
+                if kind == COMMIT:
+                    yield Block(int(entry[b"number"]), place, edits)
+                    edits = []
                 else:
-                    changes.append((kind, entry[b"key"], entry[b"value"]))
+                    edits.append((entry[b"key"], entry[b"value"] if kind == PUT else None))
+
+
+def tell_snapshot(client, block, pairs):
+    """Publishes the pairs that a replica has after a block."""
+    client.hset("snapshot", mapping=dict(pairs))
+    client.rpush("snapshot of", block.number, block.place)
+
+
+def snapshot(client):
+    """The block that stands for the whole log up to the snapshot: its edits put all the pairs.
+    There has to be a snapshot."""
+    number, place = client.lrange("snapshot of", 0, 1)
+    return Block(int(number), place, list(client.hgetall("snapshot").items()))
 
 
 def tell_root(client, number, name, root):
-    """Publishes the root digest of a replica at a checkpoint."""
+    """Publishes the root digest of a replica after a block."""
     client.hset(f"roots {number}", name, root)
 
 
 def roots(client, number, names):
-    """The root digests that these replicas published at a checkpoint, once all have."""
+    """The root digests that these replicas published after a block, once all have."""
     for _ in range(1200):
         told = client.hgetall(f"roots {number}")
         if all(name.encode() in told for name in names):
             return {name: told[name.encode()] for name in names}
         time.sleep(0.05)
-    raise TimeoutError(f"not all replicas told a root digest at checkpoint {number}")
+    raise TimeoutError(f"not all replicas told a root digest after block {number}")

@@ -1,13 +1,16 @@
-"""One replica, in a process of its own: it applies the log to a store, and tells its root digest at
-each checkpoint.
+"""One replica, in a process of its own: it makes each block of the log by one batch, so as one
+version of its store, and then tells its root digest.
 
-    replica.py PORT NAME logged|by_key [AUDITED]
+    replica.py [--by-key] [--late] [--pin-at NUMBER] PORT NAME
 
-Changes of different keys may change places. So between two checkpoints a replica takes them as they
-were logged, or key by key, each key's in their order. AUDITED is the number of the checkpoint at
-which the replica pins its version and begins to serve audits of it; it goes on to apply the log.
+Changes of different keys may change places. So a replica takes those of a block as they were
+logged, or key by key, each key's in their order. A late one loads a snapshot by one batch, and goes
+on with the log from there. NUMBER is that of the block after which the replica pins its version: of
+this version it tells a snapshot and serves audits, while it goes on with the log.
 """
+import argparse
 import contextlib
+import operator
 import os
 import sys
 
@@ -18,31 +21,40 @@ import change_log
 from mst_store import open_store
 
 ROWS = 20_000
-ORDERS = {"logged": list, "by_key": lambda changes: sorted(changes, key=lambda it: it[1])}
 
 
-def apply(store, changes):
-    """Makes the changes, one after the other."""
-    for kind, key, value in changes:
-        if kind == change_log.PUT:
-            store.put(key, value)
-        else:
-            store.remove(key)
+def blocks(client, late):
+    """Yields what the store has to make, a block a version."""
+    place = change_log.BEGINNING
+    if late:
+        begun = change_log.snapshot(client)
+        place = begun.place
+        yield begun
+    yield from change_log.blocks(client, place)
 
 
-def main(port, name, order, audited=0):
+def main(port, name, by_key, late, pin_at):
     client = change_log.connect(port)
     writer, reader = open_store(rows=ROWS, passes=2)
     with contextlib.ExitStack() as until_end:
-        for number, changes in change_log.intervals(client):
-            apply(writer, ORDERS[order](changes))
-            change_log.tell_root(client, number, name, writer.root())
-            if number == audited:
+        for block in blocks(client, late):
+            if by_key:
+                block.edits.sort(key=operator.itemgetter(0))
+            writer.apply(block.edits)
+            if block.number == pin_at:
                 then = until_end.enter_context(reader.pinned())
+                change_log.tell_snapshot(client, block, then.range())
                 client.set("audit", until_end.enter_context(audit.service(then)))
+            change_log.tell_root(client, block.number, name, writer.root())
         # The audits may last longer than the log.
-        if audited:
+        if pin_at:
             client.blpop("audited", timeout=60)
 
 
-main(int(sys.argv[1]), sys.argv[2], sys.argv[3], *map(int, sys.argv[4:]))
+words = argparse.ArgumentParser()
+words.add_argument("--by-key", action="store_true")
+words.add_argument("--late", action="store_true")
+words.add_argument("--pin-at", type=int, default=0)
+words.add_argument("port", type=int)
+words.add_argument("name")
+main(**vars(words.parse_args()))
