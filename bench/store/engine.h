@@ -12,12 +12,17 @@
 #define VALUE_LENGTH 32
 #define RANGE_PAIRS 100
 #define SEATS 2
+#define BATCH_MOST 32768
 
 struct engine {
     const char *name;
     void (*open)(void);
     void (*close)(void);
     void (*put)(int seat, const uint8_t *key, const uint8_t *value);
+    /* puts by the first seat, at most BATCH_MOST of them, which `commit` makes as one version */
+    void (*start)(void);
+    void (*add)(const uint8_t *key, const uint8_t *value);
+    void (*commit)(void);
     /* reads of the newest version, which each call finds anew */
     void (*get)(int seat, const uint8_t *key);
     void (*next)(int seat, const uint8_t *key);

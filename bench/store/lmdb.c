@@ -1,6 +1,7 @@
 /*
  * LMDB, in a folder of LMDB_DIR or /dev/shm and without a sync, so that nothing waits for a disk. A
- * put is a transaction of its own; a read of the newest version renews the seat's transaction.
+ * put is a transaction of its own, and so is a batch of puts; a read of the newest version renews
+ * the seat's transaction.
  */
 #include "engine.h"
 #include <lmdb.h>
@@ -14,7 +15,7 @@
 
 static MDB_env *env;
 static MDB_dbi dbi;
-static MDB_txn *txns[SEATS];
+static MDB_txn *txns[SEATS], *batch;
 static MDB_cursor *cursors[SEATS];
 static char folder[256];
 static uint8_t rooms[SEATS][RANGE_PAIRS * (4 + KEY_LENGTH + VALUE_LENGTH)];
@@ -79,6 +80,19 @@ static void put(int seat, const uint8_t *key, const uint8_t *value) {
     require_done("mdb_txn_commit", mdb_txn_commit(txn));
 }
 
+static void start(void) {
+    batch = writing();
+}
+
+static void add(const uint8_t *key, const uint8_t *value) {
+    MDB_val at = bytes(key, KEY_LENGTH), given = bytes(value, VALUE_LENGTH);
+    require_done("mdb_put", mdb_put(batch, dbi, &at, &given, 0));
+}
+
+static void commit(void) {
+    require_done("mdb_txn_commit", mdb_txn_commit(batch));
+}
+
 static void begin(int seat) {
     require_done("mdb_txn_renew", mdb_txn_renew(txns[seat]));
 }
@@ -141,5 +155,6 @@ static void range(int seat, const uint8_t *key) {
 }
 
 const struct engine lmdb_engine = {
-    "LMDB", open_map, close_map, put, get, next, range, begin, end, get_within, NULL,
+    "LMDB", open_map, close_map, put, start, add, commit, get, next, range, begin, end, get_within,
+    NULL,
 };

@@ -4,6 +4,8 @@
 
 static mst_pass passes[SEATS];
 static uint8_t rooms[SEATS][RANGE_PAIRS * MST_PAIR_LONGEST], proofs[SEATS][1 << 20];
+static uint8_t edits[BATCH_MOST * MST_EDIT_LONGEST];
+static size_t edits_length;
 
 static void open_store(void) {
     int32_t told = mst_open(1, MST_ROWS_MOST, passes, SEATS);
@@ -20,6 +22,21 @@ static void put(int seat, const uint8_t *key, const uint8_t *value) {
     int32_t told = mst_put(&passes[seat], key, KEY_LENGTH, value, VALUE_LENGTH, rooms[seat], 64);
     if (told != VALUE_LENGTH && told != MST_ABSENT)
         give_up("mst_put", told);
+}
+
+static void start(void) {
+    edits_length = 0;
+}
+
+static void add(const uint8_t *key, const uint8_t *value) {
+    edits_length = mst_edit_put(edits, edits_length, key, KEY_LENGTH, value, VALUE_LENGTH);
+}
+
+static void commit(void) {
+    size_t place;
+    int32_t told = mst_apply(&passes[0], edits, edits_length, &place);
+    if (told != MST_OK)
+        give_up("mst_apply", told);
 }
 
 static void get(int seat, const uint8_t *key) {
@@ -64,5 +81,6 @@ static void prove(int seat, const uint8_t *key) {
 }
 
 const struct engine store_engine = {
-    "the store", open_store, close_store, put, get, next, range, pin, unpin, get, prove,
+    "the store", open_store, close_store, put, start, add, commit, get, next, range, pin, unpin,
+    get, prove,
 };

@@ -12,8 +12,10 @@
 #define PAIR 256  /* bytes for each pair of a range, while its list grows */
 #define MOVE 512  /* and of a migration, for that list and the tree */
 #define ENTRY 256 /* bytes for each entry of a node that is proved */
-#define EDIT 1024 /* bytes for each edit of a batch in the empty map */
-#define TOUCH 32768 /* and of one in a map, for the nodes from its top to the edit */
+#define EDIT 600  /* bytes for each edit of a batch in the empty map */
+/* For a batch in another map a byte for each row, and the less of two: */
+#define TOUCH 49152 /* bytes for each edit, for the nodes from the top to it */
+#define ENTRIES 400 /* bytes for each edit and each pair of the map */
 
 static mst_pass pass = MST_PASS_CLOSED;
 static uint8_t room[8 << 20];
@@ -50,12 +52,13 @@ static int32_t migrates(uint32_t to) {
     return mst_try_migrate(&pass, to) < 0;
 }
 
-/* A batch of puts: of so many keys, each a step from the one before it. */
+/* A batch of puts of new values, of so many keys, each a step from the one before it. */
 static int32_t applies(uint32_t edits, uint32_t step) {
+    static uint8_t value[32];
     size_t length = 0, place;
+    value[0]++;
     for (uint32_t i = 0; i < edits; i++)
-        length = mst_edit_put(room, length, key_of(i * step), 4,
-                              TEXT("32 bytes that a batch has put in"));
+        length = mst_edit_put(room, length, key_of(i * step), 4, value, sizeof value);
     return mst_try_apply(&pass, room, length, &place);
 }
 
@@ -63,8 +66,11 @@ static int32_t loads(uint32_t keys) {
     return applies(keys, 1);
 }
 
+/* The step between two edits of the next batch. */
+static uint32_t apart;
+
 static int32_t applies_apart(uint32_t edits) {
-    return applies(edits, 97);
+    return applies(edits, apart);
 }
 
 /* Whether a call with this argument ends well and holds at most so many bytes more than before. */
@@ -88,6 +94,26 @@ static void reads(uint32_t keys) {
         takes(proves, number, PROOF, 0);
 }
 
+/* Batches of few edits and of many in a map with so many keys, side by side and all over it. */
+static void batches(uint32_t keys) {
+    static const uint32_t sizes[] = {2, 3, 10, 30, 100, 300, 1000};
+    for (size_t i = 0; i < sizeof sizes / sizeof *sizes; i++) {
+        size_t touch = sizes[i] * (size_t)TOUCH, all = (keys + sizes[i]) * (size_t)ENTRIES;
+        apart = keys / sizes[i];
+        takes(applies_apart, sizes[i], ROWS + (touch < all ? touch : all), 0);
+        takes(loads, sizes[i], ROWS + (touch < all ? touch : all), 0);
+    }
+}
+
+/* Batches in the empty map, in both formats. */
+static void loads_of(uint32_t keys) {
+    for (uint32_t format = 1; format <= 2; format++) {
+        EXPECT(mst_open(format, ROWS, &pass, 1) == MST_OK);
+        takes(loads, keys, keys * (size_t)EDIT, 0);
+        EXPECT(mst_close(&pass) == MST_OK && live == 0);
+    }
+}
+
 /* A store with so many keys, free and pinned, in both formats. */
 static void calls(uint32_t keys) {
     takes(opens, ROWS, ROWS * (size_t)ROW, 1);
@@ -98,13 +124,12 @@ static void calls(uint32_t keys) {
     EXPECT(mst_pin(&pass) == MST_OK);
     reads(keys);
     EXPECT(mst_unpin(&pass) == MST_OK);
+    batches(keys);
     takes(migrates, 1, keys * (size_t)MOVE, 0);
-    takes(applies_apart, keys / 97, keys / 97 * (size_t)TOUCH, 0);
+    batches(keys);
     takes(closes, 0, 0, 1);
     EXPECT(held == 0 && live == 0);
-    EXPECT(opens(ROWS) == MST_OK);
-    takes(loads, keys, keys * (size_t)EDIT, 0);
-    EXPECT(mst_close(&pass) == MST_OK && live == 0);
+    loads_of(keys);
 }
 
 /* Whether the key of a number has layer 0: that of the node when it is the only key. */
@@ -135,6 +160,10 @@ int main(void) {
     count_from(-1);
     calls(1000);
     calls(28000);
+    /* the lists of so many have just grown */
+    loads_of(33);
+    loads_of(1025);
+    loads_of(16385);
     wide_node();
     counting = 0;
     return ended("peaks");
