@@ -52,25 +52,17 @@ static int32_t migrates(uint32_t to) {
     return mst_try_migrate(&pass, to) < 0;
 }
 
-/* A batch of puts of new values, of so many keys, each a step from the one before it. */
-static int32_t applies(uint32_t edits, uint32_t step) {
+/* The number of the first key of the next batch, and the step to each other one. */
+static uint32_t first = 0, step = 1;
+
+/* A batch of so many puts of new values. */
+static int32_t applies(uint32_t edits) {
     static uint8_t value[32];
     size_t length = 0, place;
     value[0]++;
     for (uint32_t i = 0; i < edits; i++)
-        length = mst_edit_put(room, length, key_of(i * step), 4, value, sizeof value);
+        length = mst_edit_put(room, length, key_of(first + i * step), 4, value, sizeof value);
     return mst_try_apply(&pass, room, length, &place);
-}
-
-static int32_t loads(uint32_t keys) {
-    return applies(keys, 1);
-}
-
-/* The step between two edits of the next batch. */
-static uint32_t apart;
-
-static int32_t applies_apart(uint32_t edits) {
-    return applies(edits, apart);
 }
 
 /* Whether a call with this argument ends well and holds at most so many bytes more than before. */
@@ -94,22 +86,31 @@ static void reads(uint32_t keys) {
         takes(proves, number, PROOF, 0);
 }
 
-/* Batches of few edits and of many in a map with so many keys, side by side and all over it. */
+/* Batches of so many edits in a map with so many keys, all over it, and side by side. */
+static void batches_of(uint32_t edits, uint32_t keys) {
+    size_t touch = edits * (size_t)TOUCH, all = (keys + edits) * (size_t)ENTRIES;
+    size_t most = ROWS + (touch < all ? touch : all);
+    uint32_t apart = keys / edits;
+    for (uint32_t part = 0; part < 10; part++) {
+        first = part * apart / 10, step = apart;
+        takes(applies, edits, most, 0);
+        first = part * (keys - edits) / 10, step = 1;
+        takes(applies, edits, most, 0);
+    }
+    first = 0, step = 1;
+}
+
 static void batches(uint32_t keys) {
     static const uint32_t sizes[] = {2, 3, 10, 30, 100, 300, 1000};
-    for (size_t i = 0; i < sizeof sizes / sizeof *sizes; i++) {
-        size_t touch = sizes[i] * (size_t)TOUCH, all = (keys + sizes[i]) * (size_t)ENTRIES;
-        apart = keys / sizes[i];
-        takes(applies_apart, sizes[i], ROWS + (touch < all ? touch : all), 0);
-        takes(loads, sizes[i], ROWS + (touch < all ? touch : all), 0);
-    }
+    for (size_t i = 0; i < sizeof sizes / sizeof *sizes; i++)
+        batches_of(sizes[i], keys);
 }
 
 /* Batches in the empty map, in both formats. */
 static void loads_of(uint32_t keys) {
     for (uint32_t format = 1; format <= 2; format++) {
         EXPECT(mst_open(format, ROWS, &pass, 1) == MST_OK);
-        takes(loads, keys, keys * (size_t)EDIT, 0);
+        takes(applies, keys, keys * (size_t)EDIT, 0);
         EXPECT(mst_close(&pass) == MST_OK && live == 0);
     }
 }
