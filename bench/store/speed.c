@@ -6,6 +6,8 @@
  * ENGINE is store or lmdb; CALL one of the names below. Fills the map, then makes COUNT calls at
  * random keys in each of ROUNDS rounds, and writes the microseconds a call of the fastest round:
  * those of the processor that the calling thread had, so that what else runs there counts little.
+ * Of a batch they are those of one of its puts. A load is a batch that fills a new map, one in each
+ * round.
  */
 #include "engine.h"
 #include <pthread.h>
@@ -26,20 +28,29 @@
 #define CALLGRIND_STOP_INSTRUMENTATION
 #endif
 
-enum thing { GET, GET_WITHIN, NEXT, RANGE, PUT, PROVE };
+enum thing { GET, GET_WITHIN, NEXT, RANGE, PUT, PROVE, BATCH, LOAD };
 
 struct call {
     const char *name;
     enum thing thing;
     int beside; /* what another thread does meanwhile: nothing, puts or gets */
+    int puts;   /* those of a batch */
 };
 
 enum { ALONE, BESIDE_PUTS, BESIDE_GETS };
 
 static const struct call calls[] = {
-    {"get", GET, ALONE},       {"get-within", GET_WITHIN, ALONE}, {"next", NEXT, ALONE},
-    {"range", RANGE, ALONE},   {"put", PUT, ALONE},               {"prove", PROVE, ALONE},
-    {"get-beside-puts", GET, BESIDE_PUTS}, {"put-beside-gets", PUT, BESIDE_GETS},
+    {"get", GET, ALONE, 0},
+    {"get-within", GET_WITHIN, ALONE, 0},
+    {"next", NEXT, ALONE, 0},
+    {"range", RANGE, ALONE, 0},
+    {"put", PUT, ALONE, 0},
+    {"batch-10", BATCH, ALONE, 10},
+    {"batch-1000", BATCH, ALONE, 1000},
+    {"load", LOAD, ALONE, 0},
+    {"prove", PROVE, ALONE, 0},
+    {"get-beside-puts", GET, BESIDE_PUTS, 0},
+    {"put-beside-gets", PUT, BESIDE_GETS, 0},
 };
 
 static const struct engine *engine;
@@ -72,8 +83,36 @@ static void key_bytes(uint8_t *key, uint64_t number) {
     memcpy(key, parts, KEY_LENGTH);
 }
 
+static void value_bytes(uint8_t *value, uint64_t number) {
+    memset(value, 0, VALUE_LENGTH);
+    memcpy(value, &number, sizeof number);
+}
+
+static void make_batch(int puts, struct chance *chance) {
+    uint8_t key[KEY_LENGTH], value[VALUE_LENGTH];
+    engine->start();
+    for (int i = 0; i < puts; i++) {
+        uint64_t number = drawn(chance);
+        key_bytes(key, number % keys);
+        value_bytes(value, number);
+        engine->add(key, value);
+    }
+    engine->commit();
+}
+
+static void load(void) {
+    uint8_t key[KEY_LENGTH], value[VALUE_LENGTH];
+    engine->start();
+    for (uint64_t i = 0; i < keys; i++) {
+        key_bytes(key, i);
+        value_bytes(value, i);
+        engine->add(key, value);
+    }
+    engine->commit();
+}
+
 static void make(enum thing thing, int seat, struct chance *chance) {
-    uint8_t key[KEY_LENGTH], value[VALUE_LENGTH] = {0};
+    uint8_t key[KEY_LENGTH], value[VALUE_LENGTH];
     uint64_t number = drawn(chance);
     key_bytes(key, number % keys);
     switch (thing) {
@@ -83,8 +122,10 @@ static void make(enum thing thing, int seat, struct chance *chance) {
     case RANGE: engine->range(seat, key); break;
     case PROVE: engine->prove(seat, key); break;
     case PUT:
-        memcpy(value, &number, sizeof number);
+        value_bytes(value, number);
         engine->put(seat, key, value);
+        break;
+    default: give_up("make", thing);
     }
 }
 
@@ -94,15 +135,33 @@ static double processor_seconds(void) {
     return (double)now.tv_sec + (double)now.tv_nsec * 1e-9;
 }
 
+static void make_call(const struct call *call, struct chance *chance) {
+    if (call->thing == LOAD)
+        load();
+    else if (call->thing == BATCH)
+        make_batch(call->puts, chance);
+    else
+        make(call->thing, 0, chance);
+}
+
 /* A round: the seconds that its calls took. */
-static double round_of_calls(enum thing thing, long count, struct chance *chance) {
+static double round_of_calls(const struct call *call, long count, struct chance *chance) {
+    if (call->thing == LOAD) {
+        engine->close();
+        engine->open();
+    }
     CALLGRIND_START_INSTRUMENTATION;
     double before = processor_seconds();
     for (long i = 0; i < count; i++)
-        make(thing, 0, chance);
+        make_call(call, chance);
     double took = processor_seconds() - before;
     CALLGRIND_STOP_INSTRUMENTATION;
     return took;
+}
+
+/* How many calls a call counts for: a batch for its puts. */
+static double weight(const struct call *call) {
+    return call->thing == LOAD ? (double)keys : call->thing == BATCH ? (double)call->puts : 1;
 }
 
 static void *other(void *given) {
@@ -119,20 +178,20 @@ static double fastest_round(const struct call *call, long count, long rounds) {
     if (call->thing == GET_WITHIN)
         engine->begin(0);
     for (long i = 0; i < rounds; i++) {
-        double took = round_of_calls(call->thing, count, &chance);
+        double took = round_of_calls(call, count, &chance);
         if (i == 0 || took < least)
             least = took;
     }
     if (call->thing == GET_WITHIN)
         engine->end(0);
-    return least * 1e6 / (double)count;
+    return least * 1e6 / ((double)count * weight(call));
 }
 
 static void fill(void) {
-    uint8_t key[KEY_LENGTH], value[VALUE_LENGTH] = {0};
+    uint8_t key[KEY_LENGTH], value[VALUE_LENGTH];
     for (uint64_t i = 0; i < keys; i++) {
         key_bytes(key, i);
-        memcpy(value, &i, sizeof i);
+        value_bytes(value, i);
         engine->put(0, key, value);
     }
 }
@@ -162,7 +221,7 @@ int main(int argc, char **argv) {
     engine = engine_named(argv[1]);
     keys = (size_t)atol(argv[2]);
     const struct call *call = call_named(argv[3]);
-    long count = argc > 4 ? atol(argv[4]) : 1000;
+    long count = call->thing == LOAD ? 1 : argc > 4 ? atol(argv[4]) : 1000;
     long rounds = argc > 5 ? atol(argv[5]) : 1;
     if (keys < 1 || count < 1 || rounds < 1)
         give_up("KEYS, COUNT, ROUNDS", 0);
@@ -170,8 +229,11 @@ int main(int argc, char **argv) {
         printf("none\n");
         return 0;
     }
+    if (call->thing == LOAD && keys > BATCH_MOST)
+        give_up("KEYS of a load", 0);
     engine->open();
-    fill();
+    if (call->thing != LOAD)
+        fill();
     pthread_t thread;
     atomic_store(&going, 1);
     if (call->beside != ALONE && pthread_create(&thread, NULL, other, (void *)&call->beside) != 0)

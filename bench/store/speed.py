@@ -2,9 +2,10 @@
 
     speed.py ENGINE KEYS CALL [COUNT [ROUNDS]]
 
-ENGINE is store or lmdb; CALL is get, get-within, next, range, put or prove. Writes the microseconds
-a call of the fastest round, of the processor that this thread had, or `none` where the engine is
-not there or does not have the call.
+ENGINE is store or lmdb; CALL is get, get-within, next, range, put, prove, batch-N or load. Writes
+the microseconds a call of the fastest round, of the processor that this thread had, or `none` where
+the engine is not there or does not have the call. Of a batch of N puts they are those of one put. A
+load is a batch that fills a new map, one in each round.
 """
 import os
 import random
@@ -26,7 +27,7 @@ class Store:
 
         self.reader, self.writer = mst_store.open_store(65535, 2)
         self.get, self.next, self.prove = self.reader.get, self.reader.next, self.reader.prove
-        self.put = self.writer.put
+        self.put, self.apply = self.writer.put, self.writer.apply
 
     def range(self, key: bytes) -> list:
         return self.reader.range(key, limit=RANGE_PAIRS)
@@ -56,6 +57,11 @@ class Lmdb:
             old = txn.get(key)
             txn.put(key, value)
             return old
+
+    def apply(self, pairs: list) -> None:
+        with self.env.begin(write=True) as txn:
+            for key, value in pairs:
+                txn.put(key, value)
 
     def next(self, key: bytes):
         with self.env.begin() as txn:
@@ -95,27 +101,51 @@ def round_of(call, given: list) -> float:
     return time.thread_time() - before
 
 
+def least_of_loads(engine: str, all_keys: list, rounds: int) -> float:
+    """How long the fastest load took."""
+    pairs = [(key, bytes(32)) for key in all_keys]
+    return min(round_of(opened(engine).apply, [(pairs,)]) for _ in range(rounds))
+
+
+def arguments(call: str, all_keys: list, count: int) -> list:
+    """What a round gives to its calls, a tuple to each."""
+    keys = random.choices(all_keys, k=count)
+    if call == "put":
+        return [(key, random.randbytes(32)) for key in keys]
+    if not call.startswith("batch"):
+        return [(key,) for key in keys]
+    return [([(key, random.randbytes(32)) for key in random.choices(all_keys, k=puts_of(call))],)
+            for _ in range(count)]
+
+
+def puts_of(call: str) -> int:
+    """The number of the puts of a batch, 1 for another call."""
+    return int(call[len("batch-"):]) if call.startswith("batch") else 1
+
+
+def least_of_calls(timed, call: str, all_keys: list, count: int, rounds: int) -> float:
+    """How long the fastest round took."""
+    for key in all_keys:
+        timed.put(key, bytes(32))
+    within = call == "get-within"
+    with timed.version() if within else nullcontext(timed) as of:
+        made = getattr(of, "get" if within else "apply" if call.startswith("batch") else call)
+        return min(round_of(made, arguments(call, all_keys, count)) for _ in range(rounds))
+
+
 def main() -> None:
     engine, keys, call = sys.argv[1], int(sys.argv[2]), sys.argv[3]
     count, rounds = (int(word) for word in (sys.argv[4:] + ["1000", "1"][len(sys.argv) - 4:]))
-    chance = random.Random(1)
-    all_keys = [chance.randbytes(16) for _ in range(keys)]
+    random.seed(1)
+    all_keys = [random.randbytes(16) for _ in range(keys)]
     timed = opened(engine)
-    within = call == "get-within"
-    if timed is None or (not within and getattr(timed, call) is None):
+    if timed is None or getattr(timed, call, timed) is None:
         print("none")
-        return
-    for key in all_keys:
-        timed.put(key, bytes(32))
-    took = []
-    with timed.version() if within else nullcontext(timed) as of:
-        made = of.get if within else getattr(of, call)
-        for _ in range(rounds):
-            given = [(key,) for key in chance.choices(all_keys, k=count)]
-            if call == "put":
-                given = [(key, chance.randbytes(32)) for key, in given]
-            took.append(round_of(made, given))
-    print(min(took) * 1e6 / count)
+    elif call == "load":
+        print(least_of_loads(engine, all_keys, rounds) * 1e6 / keys)
+    else:
+        took = least_of_calls(timed, call, all_keys, count, rounds)
+        print(took * 1e6 / (count * puts_of(call)))
 
 
 if __name__ == "__main__":
