@@ -54,6 +54,7 @@ pub(crate) fn build<R: Rows, B: Allocator + Copy>(
 }
 
 /// The link of the tree of items that stands already: one tree alone, or none.
+#[inline(never)]
 fn lone_tree(items: &[Item]) -> Option<u32>
     ensures link { result ≡ lone items.now }
 {
@@ -67,6 +68,7 @@ fn lone_tree(items: &[Item]) -> Option<u32>
 /// The plan of items of which a pair is of the layer, no pair is above it, and each tree is below
 /// it.
 #[cycle(build)]
+#[inline(always)]
 fn build_node<R: Rows, B: Allocator + Copy>(
     rows: &mut R,
     alloc: B,
@@ -100,6 +102,7 @@ fn build_node<R: Rows, B: Allocator + Copy>(
 }
 
 /// The pair of an item that is one of the layer.
+#[inline(never)]
 fn pair_of(item: &Item, layer: u8) -> Option<(Key, Value)>
     ensures pair { result ≡ pair_at layer item.now }
 {

@@ -16,6 +16,7 @@ use crate::faults::NotApplied;
 use crate::limits::are_within_limits;
 use crate::marking::marks_of;
 use crate::planning::find_plan;
+use crate::releasing::release;
 use mst_arena::{Desk, Root, Rows};
 use mst_key::{Edit, Format};
 use std::alloc::Allocator;
@@ -67,7 +68,9 @@ pub(crate) fn apply_by_plan<R: Rows, A: Allocator, B: Allocator + Copy>(
         Ok(kept) => kept,
         Err(refused) => return Err(NotApplied::Memory(refused)),
     };
-    match carry_out(rows, desk, root, &plan, kept.as_slice(), format) {
+    let carried = carry_out(rows, desk, root, &plan, kept.as_slice(), format);
+    release(plan);
+    match carried {
         Ok(done) => Ok(done),
         Err(_) => Err(NotApplied::NoRoom),
     }

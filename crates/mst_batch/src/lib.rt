@@ -48,6 +48,7 @@ mod merging;
 mod opening;
 mod plan;
 mod planning;
+mod releasing;
 mod replacing;
 mod sharing;
 mod single;

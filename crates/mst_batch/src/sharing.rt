@@ -109,6 +109,7 @@ fn matches<R: Rows, B: Allocator>(rows: &mut R, link: u32, node: &PlanNode<B>) -
 
 /// The plan of a node to be made, with the plans below it found: the node that stands, if one is
 /// this node; otherwise it is made. `Memory` only if a growth was refused.
+#[inline(never)]
 pub(crate) fn shared<R: Rows, B: Allocator>(
     rows: &mut R,
     alloc: B,

@@ -24,6 +24,7 @@ fn layer_of(item: &Item) -> u8
 }
 
 /// The greatest layer of items, 0 if there is none.
+#[inline(never)]
 pub(crate) fn top_layer(items: &[Item]) -> u8
     ensures top { 0 < length items.now → height_of items.now ≡ result + 1 }
 {
@@ -45,6 +46,7 @@ fn is_tree_of(item: &Item, layer: u8) -> bool
 }
 
 /// Whether one of the items is a tree of the layer.
+#[inline(never)]
 pub(crate) fn has_subtree_at(items: &[Item], layer: u8) -> bool
     ensures has { result ≡ list_any (is_tree layer) items.now }
 {
@@ -118,6 +120,7 @@ fn push_opened<R: Rows, A: Allocator>(
 
 /// A copy of items, in which each tree of the layer is opened. Returns `Memory` only if a growth
 /// was refused.
+#[inline(never)]
 pub(crate) fn opened_at<R: Rows, A: Allocator>(
     rows: &mut R,
     alloc: A,

@@ -32,15 +32,15 @@ module _ (g : Over) (c : After-as_slice g) where
       (subst (λ marks. AreMarks marks (plan_of c.in-Ok.plan)) (sym c.as_slice.ensures.value)
       c.in-Ok-marks_of.ensures.marks)
 
-pub carry_out-requires-clause-stands : goal.carry_out-requires-clause-stands
-carry_out-requires-clause-stands g c =
-    let at = (goal.at.carry_out-requires-clause-stands g c).After-as_slice in
+pub carry_out-carried-requires-clause-stands : goal.carry_out-carried-requires-clause-stands
+carry_out-carried-requires-clause-stands g c =
+    let at = (goal.at.carry_out-carried-requires-clause-stands g c).After-as_slice in
     subst (λ (x : Content). MapStands c.args.format x c.args.desk.now c.args.root.now)
     (sym (same_rows g at)) c.requires.stands
 
-pub carry_out-requires-clause-plan : goal.carry_out-requires-clause-plan
-carry_out-requires-clause-plan g c =
-    let at = (goal.at.carry_out-requires-clause-plan g c).After-as_slice in (
+pub carry_out-carried-requires-clause-plan : goal.carry_out-carried-requires-clause-plan
+carry_out-carried-requires-clause-plan g c =
+    let at = (goal.at.carry_out-carried-requires-clause-plan g c).After-as_slice in (
       λ n. batched n c.args.edits.now,
       subst (λ (x : Content). IsPlanOf c.args.format x c.args.desk.now c.args.root.now
           c.as_slice.result.now (plan_of c.in-Ok.plan) (λ n. batched n c.args.edits.now))
@@ -49,33 +49,33 @@ carry_out-requires-clause-plan g c =
 
 -- ---- the plan is carried out
 
-pub returns-in-Ok-carry_out-clause-stands : goal.returns-in-Ok-carry_out-clause-stands
-returns-in-Ok-carry_out-clause-stands g c m st =
-    let at = (goal.at.returns-in-Ok-carry_out-clause-stands g c).After-as_slice in
+pub returns-in-Ok-carried-clause-stands : goal.returns-in-Ok-carried-clause-stands
+returns-in-Ok-carried-clause-stands g c m st =
+    let at = (goal.at.returns-in-Ok-carried-clause-stands g c).After-as_slice in
     subst (λ (x : Content). (change : List Pair → List Pair)
     → IsPlanOf c.args.format x c.args.desk.now c.args.root.now c.as_slice.result.now
     (plan_of c.in-Ok.plan) change → (n : List Pair) → Stands c.args.format x c.args.root.now n
-    → Stands c.args.format (g.R.Rows.content c.carry_out.new.rows) c.in-Ok-carry_out.done
-    (change n)) (same_rows g at) c.in-Ok-carry_out.ensures.stands (λ n. batched n c.args.edits.now)
+    → Stands c.args.format (g.R.Rows.content c.carry_out-carried.new.rows) c.in-Ok-carried.done
+    (change n)) (same_rows g at) c.in-Ok-carried.ensures.stands (λ n. batched n c.args.edits.now)
     (planned g at) m st
 
-pub returns-in-Ok-carry_out-clause-cost : goal.returns-in-Ok-carry_out-clause-cost
-returns-in-Ok-carry_out-clause-cost g c m st =
-    let at = (goal.at.returns-in-Ok-carry_out-clause-cost g c).After-as_slice in
+pub returns-in-Ok-carried-clause-cost : goal.returns-in-Ok-carried-clause-cost
+returns-in-Ok-carried-clause-cost g c m st =
+    let at = (goal.at.returns-in-Ok-carried-clause-cost g c).After-as_slice in
     subst (λ (x : Content). (change : List Pair → List Pair)
     → IsPlanOf c.args.format x c.args.desk.now c.args.root.now c.as_slice.result.now
     (plan_of c.in-Ok.plan) change → (n : List Pair) → Stands c.args.format x c.args.root.now n
-    → free_count c.carry_out.new.desk.lives + cost c.args.format n (change n)
-    ≡ free_count c.args.desk.now.lives) (same_rows g at) c.in-Ok-carry_out.ensures.cost
+    → free_count c.carry_out-carried.new.desk.lives + cost c.args.format n (change n)
+    ≡ free_count c.args.desk.now.lives) (same_rows g at) c.in-Ok-carried.ensures.cost
     (λ n. batched n c.args.edits.now) (planned g at) m st
 
-pub returns-in-Ok-carry_out-clause-changes : goal.returns-in-Ok-carry_out-clause-changes
-returns-in-Ok-carry_out-clause-changes g c =
-    let at = (goal.at.returns-in-Ok-carry_out-clause-changes g c).After-as_slice in
+pub returns-in-Ok-carried-clause-changes : goal.returns-in-Ok-carried-clause-changes
+returns-in-Ok-carried-clause-changes g c =
+    let at = (goal.at.returns-in-Ok-carried-clause-changes g c).After-as_slice in
     subst (λ (x : Content). (m n : List Pair) (before : Stands c.args.format x c.args.root.now m)
-    (after : Stands c.args.format (g.R.Rows.content c.carry_out.new.rows) c.in-Ok-carry_out.done n)
-    → Changes c.args.desk.now c.carry_out.new.desk (numbers before) (numbers after))
-    (same_rows g at) c.in-Ok-carry_out.ensures.changes
+    (after : Stands c.args.format (g.R.Rows.content c.carry_out-carried.new.rows) c.in-Ok-carried.done n)
+    → Changes c.args.desk.now c.carry_out-carried.new.desk (numbers before) (numbers after))
+    (same_rows g at) c.in-Ok-carried.ensures.changes
 
 pub returns-clause-lacks : goal.returns-clause-lacks
 returns-clause-lacks g c m st =
@@ -84,7 +84,7 @@ returns-clause-lacks g c m st =
     → IsPlanOf c.args.format x c.args.desk.now c.args.root.now c.as_slice.result.now
     (plan_of c.in-Ok.plan) change → (n : List Pair) → Stands c.args.format x c.args.root.now n
     → free_count c.args.desk.now.lives < cost c.args.format n (change n)) (same_rows g at)
-    c.in-Err-carry_out.ensures.no_room (λ n. batched n c.args.edits.now) (planned g at) m st
+    c.in-Err-carried.ensures.no_room (λ n. batched n c.args.edits.now) (planned g at) m st
 
 -- ---- what a search finds
 
@@ -145,26 +145,26 @@ returns-in-Err-marks_of-clause-lacks g c = search rules
 pub returns-in-Err-marks_of-clause-untouched : goal.returns-in-Err-marks_of-clause-untouched
 returns-in-Err-marks_of-clause-untouched g c = search rules
 
-pub carry_out-requires-clause-free : goal.carry_out-requires-clause-free
-carry_out-requires-clause-free g c = search rules
+pub carry_out-carried-requires-clause-free : goal.carry_out-carried-requires-clause-free
+carry_out-carried-requires-clause-free g c = search rules
 
-pub returns-in-Ok-carry_out-clause-written : goal.returns-in-Ok-carry_out-clause-written
-returns-in-Ok-carry_out-clause-written g c = search rules
+pub returns-in-Ok-carried-clause-written : goal.returns-in-Ok-carried-clause-written
+returns-in-Ok-carried-clause-written g c = search rules
 
-pub returns-in-Ok-carry_out-clause-versions : goal.returns-in-Ok-carry_out-clause-versions
-returns-in-Ok-carry_out-clause-versions g c = search rules
+pub returns-in-Ok-carried-clause-versions : goal.returns-in-Ok-carried-clause-versions
+returns-in-Ok-carried-clause-versions g c = search rules
 
-pub returns-in-Ok-carry_out-clause-made : goal.returns-in-Ok-carry_out-clause-made
-returns-in-Ok-carry_out-clause-made g c = search rules
+pub returns-in-Ok-carried-clause-made : goal.returns-in-Ok-carried-clause-made
+returns-in-Ok-carried-clause-made g c = search rules
 
-pub returns-in-Ok-carry_out-clause-beside : goal.returns-in-Ok-carry_out-clause-beside
-returns-in-Ok-carry_out-clause-beside g c = search rules
+pub returns-in-Ok-carried-clause-beside : goal.returns-in-Ok-carried-clause-beside
+returns-in-Ok-carried-clause-beside g c = search rules
 
-pub returns-in-Ok-carry_out-clause-lacks : goal.returns-in-Ok-carry_out-clause-lacks
-returns-in-Ok-carry_out-clause-lacks g c = search rules
+pub returns-in-Ok-carried-clause-lacks : goal.returns-in-Ok-carried-clause-lacks
+returns-in-Ok-carried-clause-lacks g c = search rules
 
-pub returns-in-Ok-carry_out-clause-untouched : goal.returns-in-Ok-carry_out-clause-untouched
-returns-in-Ok-carry_out-clause-untouched g c = search rules
+pub returns-in-Ok-carried-clause-untouched : goal.returns-in-Ok-carried-clause-untouched
+returns-in-Ok-carried-clause-untouched g c = search rules
 
 pub returns-clause-stands : goal.returns-clause-stands
 returns-clause-stands g c = search rules
