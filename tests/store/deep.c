@@ -37,16 +37,10 @@ static const struct path paths[] = {
     {"each in the first gap of the one above", down, 11},
 };
 
-/* What a call may take: for a node more, and over 129 nodes less than so much. */
-struct limit {
-    size_t node_bytes, bytes;
-    int node_depth, depth;
-};
-
-static const struct limit usual = {1024, 128 * 1024, 1, 140};
-
-/* A plan is made by two functions for each node, and dropped by three. */
-static const struct limit of_plans = {1536, 192 * 1024, 3, 390};
+#define NODE 1024          /* a node more costs no more of the stack */
+#define LIMIT (128 * 1024) /* and a call over 129 nodes takes less */
+#define ABOVE (16 * 1024)  /* the most that a batch takes above a migration to format 2 */
+#define MOST_DEPTH 139     /* functions one below the other, with 129 nodes */
 
 static mst_pass pass = MST_PASS_CLOSED, empty = MST_PASS_CLOSED;
 static const uint8_t *low, *top; /* the keys of the lowest layer and of the highest */
@@ -125,25 +119,29 @@ struct call {
     const char *name;
     void *(*run)(void *);
     int32_t answer;
-    const struct limit *limit;
 };
 
 /* In an order in which each finds what the one before left. */
 static const struct call calls[] = {
-    {"get", gets, 1, &usual},
-    {"next", nexts, 1, &usual},
-    {"range", ranges, MST_OK, &usual},
-    {"prove", proves, MST_OK, &usual},
-    {"put", puts_one, 1, &usual},
-    {"remove", removes, 1, &usual},
-    {"put of a new key", puts_again, MST_ABSENT, &usual},
-    {"migrate to 1", migrates_to_1, 2, &usual},
-    {"migrate to 2", migrates_to_2, 1, &usual},
-    {"batch", applies, MST_OK, &of_plans},
-    {"load", loads, MST_OK, &usual},
+    {"get", gets, 1},
+    {"next", nexts, 1},
+    {"range", ranges, MST_OK},
+    {"prove", proves, MST_OK},
+    {"put", puts_one, 1},
+    {"remove", removes, 1},
+    {"put of a new key", puts_again, MST_ABSENT},
+    {"migrate to 1", migrates_to_1, 2},
+    {"migrate to 2", migrates_to_2, 1},
+    {"batch", applies, MST_OK},
+    {"load", loads, MST_OK},
 };
 
-enum { CALLS = sizeof calls / sizeof *calls };
+enum {
+    CALLS = sizeof calls / sizeof *calls,
+    LOAD = CALLS - 1,
+    BATCH = LOAD - 1,
+    MIGRATE = BATCH - 1,
+};
 
 /* How many bytes of its stack the thread wrote. */
 static size_t stack_of(void *(*run)(void *)) {
@@ -207,12 +205,11 @@ struct costs {
 
 /* Prints the bytes of a call, and returns those that 129 nodes take at most. */
 static size_t tells_bytes(int call, int nodes, const struct costs *all) {
-    const struct limit *limit = calls[call].limit;
     size_t few = all->few[call].bytes, some = all->some[call].bytes, most = all->most[call].bytes;
     size_t more = most > some ? most - some : 0;
     size_t whole = most + (more + 5) / 6 * (size_t)(MOST_NODES - nodes);
-    EXPECT(more <= 6 * limit->node_bytes);
-    EXPECT(whole < limit->bytes);
+    EXPECT(more <= 6 * NODE);
+    EXPECT(whole < LIMIT);
     printf("%s: %zu, %zu and %zu bytes, so at most %zu\n",
            calls[call].name, few, some, most, whole);
     return whole;
@@ -220,17 +217,16 @@ static size_t tells_bytes(int call, int nodes, const struct costs *all) {
 
 /* Prints the depth of a call, and returns that over 129 nodes at most. */
 static int tells_depth(int call, int nodes, const struct costs *all) {
-    const struct limit *limit = calls[call].limit;
     int few = all->few[call].depth, some = all->some[call].depth, most = all->most[call].depth;
     if (few < 0) {
         printf("%s: no process may be traced here, so its depth was not counted\n",
                calls[call].name);
         return 0;
     }
-    int whole = most > some ? most + limit->node_depth * (MOST_NODES - nodes) : most;
+    int whole = most > some ? most + (MOST_NODES - nodes) : most;
     EXPECT(few > 0 && some > 0 && most > 0);
-    EXPECT(most - some <= 6 * limit->node_depth);
-    EXPECT(whole < limit->depth);
+    EXPECT(most - some <= 6);
+    EXPECT(whole <= MOST_DEPTH);
     printf("%s: %d, %d and %d functions, so at most %d\n",
            calls[call].name, few, some, most, whole);
     return whole;
@@ -241,16 +237,19 @@ static int deepest = 0;
 
 static void tells(const struct path *path) {
     struct costs all;
+    size_t wholes[CALLS];
     measure(path, 3, all.few);
     measure(path, path->nodes - 6, all.some);
     measure(path, path->nodes, all.most);
     printf("3, %d and %d nodes, %s:\n", path->nodes - 6, path->nodes, path->name);
     for (int i = 0; i < CALLS; i++) {
-        size_t bytes = tells_bytes(i, path->nodes, &all);
+        size_t bytes = wholes[i] = tells_bytes(i, path->nodes, &all);
         int depth = tells_depth(i, path->nodes, &all);
         greatest = bytes > greatest ? bytes : greatest;
         deepest = depth > deepest ? depth : deepest;
     }
+    EXPECT(wholes[BATCH] <= wholes[MIGRATE] + ABOVE);
+    EXPECT(wholes[LOAD] <= wholes[MIGRATE] + ABOVE);
 }
 
 int main(void) {
