@@ -73,7 +73,8 @@ pub returns-in-Ok-carried-clause-changes : goal.returns-in-Ok-carried-clause-cha
 returns-in-Ok-carried-clause-changes g c =
     let at = (goal.at.returns-in-Ok-carried-clause-changes g c).After-as_slice in
     subst (λ (x : Content). (m n : List Pair) (before : Stands c.args.format x c.args.root.now m)
-    (after : Stands c.args.format (g.R.Rows.content c.carry_out-carried.new.rows) c.in-Ok-carried.done n)
+    (after : Stands c.args.format (g.R.Rows.content c.carry_out-carried.new.rows)
+    c.in-Ok-carried.done n)
     → Changes c.args.desk.now c.carry_out-carried.new.desk (numbers before) (numbers after))
     (same_rows g at) c.in-Ok-carried.ensures.changes
 
