@@ -2,6 +2,7 @@ pub mod Asked
 pub mod Beginning
 mod Places
 pub mod Pinning
+mod FewPairs
 pub mod Filing
 pub mod Ready
 mod Lawful

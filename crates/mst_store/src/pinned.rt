@@ -1,7 +1,7 @@
 //! A pass that pins a version: it reads that version as long as it likes, whatever other passes
 //! write.
-ghost use Rattle.std.specs.Prelude.{◌≡◌, ◌+◌, ◌<◌, ◌^◌, length, IfOk};
-ghost use Rattle.mst_key.specs.Map.{map_get, map_next, map_range};
+ghost use Rattle.std.specs.Prelude.{◌≡◌, ◌+◌, ◌<◌, ◌≤◌, ◌^◌, length, IfOk};
+ghost use Rattle.mst_key.specs.Map.{map_get, map_next, map_range, IsMap};
 ghost use Rattle.mst_node.specs.Text as text;
 ghost use Rattle.mst_node.specs.Trail.{proof_text};
 ghost use Rattle.std.specs.Option.{option_copied};
@@ -43,9 +43,14 @@ impl<'a, A: Allocator + Copy> Model for Pinned<'a, A> {
 impl<'a, A: Allocator + Copy> Pass<'a, A> {
     /// Pins the current version, in one step. The history at the pin begins with all that the pass
     /// had seen.
+    ///
+    /// What is pinned is a map of at most 65,535 pairs: its keys rise strictly, and keys and values
+    /// are within their limits. So its root digest is one that the verifier of proofs speaks of.
     pub fn pin(self) -> Pinned<'a, A>
         ensures looks { Looks self.entry result }
         ensures once { result.asked ≡ self.entry.asked + 1 }
+        ensures map { IsMap (after_events result.seen) }
+        ensures few { length (after_events result.seen) ≤ 65535 }
     {
         let Pass {
             mut seat,
