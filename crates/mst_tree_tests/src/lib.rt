@@ -1,5 +1,5 @@
-//! Tests of keys and values, of nodes with their texts and digests, of the verifier of proofs, of
-//! what is said of a proof, and of trees in rows.
+//! Tests of keys and values, of nodes with their texts and digests, of the verifiers of proofs and
+//! of sharded maps, of what is said of a proof, and of trees in rows.
 #![tactic(auto)]
 
 #[cfg(test)]
@@ -20,3 +20,5 @@ mod proving;
 mod reports;
 #[cfg(test)]
 mod rows;
+#[cfg(test)]
+mod sharding;

@@ -1,0 +1,13 @@
+pub mod Lengths
+pub mod Parts
+pub mod Shards
+pub mod Sound
+pub mod Complete
+pub mod Agreed
+pub mod Collide
+pub mod FrameFaults
+pub mod Failing
+pub mod Meeting
+pub mod Auditing
+pub mod Audited
+pub mod OneRoot

@@ -1,0 +1,28 @@
+use Rattle.std.proofs.Common.{◌≡◌, ◌∙◌, ◌+◌, ◌∷◌, ◌++◌, [], ℕ, take, length, sym, ap, subst, arith}
+use Rattle.std.proofs.Math.Seq.{take-length}
+use Rattle.std.proofs.lemmas.List.{take_more}
+use Rattle.std.specs.List.{AllByRecursion}
+use Rattle.mst_key.specs.Bytes.{IsKey}
+use Rattle.mst_key.specs.Map.{Pair}
+use Rattle.mst_node.proofs.RisingKeys.{all-push}
+use Rattle.mst_sharded_proof.proofs.audit.keys_within_limits.Goals as goal
+
+abbrev Fits : Pair → Type 0
+Fits p = IsKey p.0
+
+pub loop-pair-preserved : goal.loop-pair-preserved
+loop-pair-preserved c =
+    let m = c.args.pairs.now in
+    let i = c.loop-pair.pair-index in
+    let x = c.pair-item.result in
+    let more : take (i + 1) m ≡ take i m ++ x ∷ [] = take_more m i x c.loop-pair-test.true
+    ∙ ap (λ (y : Pair). take i m ++ y ∷ []) (sym c.pair-item.is) in
+    subst (AllByRecursion Fits) (sym more)
+    (all-push Fits (take i m) x c.loop-pair.invariant c.within_limits.ensures.key)
+
+pub returns : goal.returns
+returns c =
+    let m = c.args.pairs.now in
+    let end : c.loop-pair.pair-index ≡ length m = omega arith in
+    let all : take c.loop-pair.pair-index m ≡ m = ap (λ (i : ℕ). take i m) end ∙ take-length m in
+    record { keys = subst (AllByRecursion Fits) all c.loop-pair.invariant }
