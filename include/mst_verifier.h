@@ -7,6 +7,9 @@
  * It needs neither the store nor the map. docs/FORMAT.md has the bytes of a proof and the tests. An
  * answer is the map's if the root digest is, unless two texts are found that have one SHA-256.
  *
+ * mst_verify_sharded does the same for a sharded map: several trees, each for an interval of the
+ * keys, and one root digest.
+ *
  * The library takes no memory, keeps no state and starts no thread. Its calls may be made from any
  * threads at once, as long as no two of them write to the same room; from a signal handler too.
  * They only read what is const here. Of the C library they call at most memcpy, memmove, memset and
@@ -86,12 +89,52 @@ int32_t mst_verify(uint32_t format,
                    const uint8_t *proof, size_t proof_length,
                    uint8_t *room, size_t room_length);
 
-/* The first text that a proof frames begins after so many bytes. */
+/*
+ * What mst_verify_sharded returns besides: that a proof of a sharded map fails one of the tests S1
+ * to S9 of docs/FORMAT.md first. S1 is -100, S2 is -200, and so on. S4 and S9 test the two parts of
+ * the proof, and the number then tells the test of the part too: S4 P5 is -405, S9 P10 is -910.
+ */
+#define MST_S1_VERSION (-100)       /* the first byte is not 03 in format 1, 04 in format 2 */
+#define MST_S2_CUT_SHORT (-200)     /* the version, the lower bound, a length or the directory's
+                                       proof is cut short */
+#define MST_S3_NO_KEY (-300)        /* the lower bound has no bytes, or more than 32 */
+#define MST_S4_DIRECTORY (-400)     /* the directory's proof fails P1 to P10: -401 to -410 */
+#define MST_S5_NOT_LISTED (-500)    /* the directory has no shard with this lower bound */
+#define MST_S6_NO_LISTING (-600)    /* what the directory holds has fewer bytes than a digest */
+#define MST_S7_KEY_BELOW (-700)     /* the key is below the shard's lower bound */
+#define MST_S8_KEY_NOT_BELOW (-800) /* the key is not below the shard's upper bound */
+#define MST_S9_SHARD (-900)         /* the shard's proof fails P1 to P10: -901 to -910 */
+
+/* Of a number that is -100 or less: which of S1 to S9 the proof fails, and for S4 and S9 which of
+ * P1 to P10 the part fails, otherwise 0. */
+#define MST_SHARDED_TEST(told) (-(told) / 100)
+#define MST_PART_TEST(told) (-(told) % 100)
+
+/*
+ * Says what the proof shows of the key, in the sharded map with this root digest: that of the
+ * directory, in which each shard has its bounds and its root digest. The proof has a part that
+ * shows the shard, and a part that shows what the shard has of the key. The bounds stand in the
+ * proof, so nothing of them need be known.
+ *
+ * The results are those of mst_verify, but that -11 to -20 are never returned: a proof that is
+ * refused gets one of the numbers from -100 down. What is tested, and when, is the same too.
+ *
+ * If the root digest comes from whom you do not trust, it may be that of a directory whose shards
+ * overlap or leave keys out: then two proofs may show two answers for a key, with no two texts that
+ * have one SHA-256. That all bounds meet, only a look at the whole directory tells.
+ */
+int32_t mst_verify_sharded(uint32_t format,
+                           const uint8_t *root, size_t root_length,
+                           const uint8_t *key, size_t key_length,
+                           const uint8_t *proof, size_t proof_length,
+                           uint8_t *room, size_t room_length);
+
+/* The first text that a proof of one map frames begins after so many bytes. */
 #define MST_TOP_TEXT_AT 6
 
 /*
- * Returns the length of the first text that a proof frames: proof[MST_TOP_TEXT_AT] and what
- * follows. If the proof is a true one, this is the text of the top node of its map's tree. Returns
+ * Returns the length of the first text that a proof of one map frames: proof[MST_TOP_TEXT_AT] and
+ * what follows. If the proof is a true one, this is the text of the top node of its map's tree. Returns
  * -1 if the proof frames no text, as that of the empty map, or if the first is cut short. Nothing
  * is verified: only the bytes up to the end of that text are looked at, and of the version and the
  * count only whether the count is 0.

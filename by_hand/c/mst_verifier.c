@@ -1,7 +1,7 @@
 /*
  * A verifier by hand in portable C, by docs/FORMAT.md, with nothing proved: what the speed of the
- * library is measured against. Of the header it has `mst_verify` alone. It stands in the library's
- * place:
+ * library is measured against. Of the header it has `mst_verify` and `mst_verify_sharded`. It
+ * stands in the library's place:
  *
  *     cc -O2 -Iinclude examples/verify.c by_hand/c/mst_verifier.c -o verify
  */
@@ -277,4 +277,67 @@ int32_t mst_verify(uint32_t format, const uint8_t *root, size_t root_length, con
         high = node.high.key ? node.high : high;
     }
     return -18;
+}
+
+/* The parts of a proof of a sharded map: the lower bound, the directory's proof, the shard's. */
+struct parts { struct text low, directory, shard; };
+
+/* Cuts a proof into its parts; returns 0, or the test S1 to S3 that it fails. */
+static int32_t read_parts(uint32_t format, struct text rest, struct parts *to)
+{
+    const uint8_t *head = take(&rest, 1), *size, *four;
+    if (head == NULL)
+        return MST_S2_CUT_SHORT;
+    if (*head != format + 2)
+        return MST_S1_VERSION;
+    if ((size = take(&rest, 1)) == NULL || (to->low.at = take(&rest, *size)) == NULL)
+        return MST_S2_CUT_SHORT;
+    if (*size < 1 || *size > 32)
+        return MST_S3_NO_KEY;
+    to->low.left = *size;
+    if ((four = take(&rest, 4)) == NULL)
+        return MST_S2_CUT_SHORT;
+    to->directory.left = length_in(four);
+    if ((to->directory.at = take(&rest, to->directory.left)) == NULL)
+        return MST_S2_CUT_SHORT;
+    to->shard = rest;
+    return 0;
+}
+
+/* What is told of a part: a test that it fails has its number behind that of the part. */
+static int32_t told_of_part(int32_t part, int32_t told)
+{
+    return told <= MST_P1_VERSION ? part - (MST_P1_VERSION + 1 - told) : told;
+}
+
+int32_t mst_verify_sharded(uint32_t format, const uint8_t *root, size_t root_length,
+                           const uint8_t *key, size_t key_length, const uint8_t *proof,
+                           size_t proof_length, uint8_t *room, size_t room_length)
+{
+    struct parts it;
+    uint8_t held[MST_VALUE_ROOM];
+    int32_t told;
+    if (format != 1 && format != 2)
+        return MST_UNKNOWN_FORMAT;
+    if (root_length != 32)
+        return MST_BAD_ROOT;
+    if (key_length < 1 || key_length > 32)
+        return MST_BAD_KEY;
+    if ((told = read_parts(format, (struct text){proof, proof_length}, &it)) != 0)
+        return told;
+    told = mst_verify(format, root, 32, it.low.at, it.low.left, it.directory.at, it.directory.left,
+                      held, sizeof held);
+    if (told == MST_ABSENT)
+        return MST_S5_NOT_LISTED;
+    if (told < 0)
+        return told_of_part(MST_S4_DIRECTORY, told);
+    if (told < 32)
+        return MST_S6_NO_LISTING;
+    if (compared(key, key_length, it.low.at, it.low.left) < 0)
+        return MST_S7_KEY_BELOW;
+    if (told > 32 && compared(key, key_length, held + 32, (size_t)told - 32) >= 0)
+        return MST_S8_KEY_NOT_BELOW;
+    told = mst_verify(format, held, 32, key, key_length, it.shard.at, it.shard.left, room,
+                      room_length);
+    return told_of_part(MST_S9_SHARD, told);
 }

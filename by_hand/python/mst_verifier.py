@@ -3,13 +3,14 @@ alone.
 
     python3 mst_verifier.py FORMAT ROOT KEY < PROOF      1 or 2, and the other three in
                                                          hexadecimal digits
+    python3 mst_verifier.py --sharded FORMAT ROOT KEY < PROOF      for a sharded map
 """
 import sys
 from hashlib import sha256
 
 
 class Refused(Exception):
-    """A test that a proof fails, as "P1"."""
+    """A test that a proof fails, as "P1", of a sharded map as "S1" or "S4 P1"."""
 
 
 class Short(Exception):
@@ -162,23 +163,70 @@ def follow(format, root, key, texts):
         high = keys[gap] if gap < len(keys) else high
 
 
-def line_for(format, root, key, proof):
-    """The answer as a line has it."""
+def read_parts(format, whole):
+    """The lower bound in a proof of a sharded map, the directory's proof and the shard's."""
+    proof = Bytes(whole)
     try:
-        value = verify(format, root, key, proof)
+        if proof.number(1) != format + 2:
+            raise Refused("S1")
+        low = proof.take(proof.number(1))
+        if not 1 <= len(low) <= 32:
+            raise Refused("S3")
+        directory = proof.take(proof.number(4))
+    except Short:
+        raise Refused("S2")
+    return low, directory, whole[proof.at :]
+
+
+def verify_part(test, format, root, key, proof):
+    """As verify, for a part of the proof of which this is the test."""
+    try:
+        return verify(format, root, key, proof)
+    except Refused as refused:
+        raise Refused(f"{test} {refused}")
+
+
+def verify_sharded(format, root, key, proof):
+    """Returns the key's value in the sharded map with this root digest, or None if the key is
+    absent. Raises Refused if the proof fails a test."""
+    if format not in (1, 2):
+        raise ValueError("there are formats 1 and 2")
+    if len(root) != 32 or not 1 <= len(key) <= 32:
+        raise ValueError("a root digest has 32 bytes, a key 1 to 32")
+    low, directory, shard = read_parts(format, proof)
+    held = verify_part("S4", format, root, low, directory)
+    if held is None:
+        raise Refused("S5")
+    if len(held) < 32:
+        raise Refused("S6")
+    digest, high = held[:32], held[32:]
+    if key < low:
+        raise Refused("S7")
+    if high and key >= high:
+        raise Refused("S8")
+    return verify_part("S9", format, digest, key, shard)
+
+
+def line_for(format, root, key, proof, by=verify):
+    """The answer as a line has it, by verify or by verify_sharded."""
+    try:
+        value = by(format, root, key, proof)
     except Refused as refused:
         return str(refused)
     return "absent" if value is None else f"present {value.hex() or '-'}"
 
 
-if __name__ == "__main__":
-    if len(sys.argv) != 4:
+def main(words):
+    by = verify
+    if words[:1] == ["--sharded"]:
+        by, words = verify_sharded, words[1:]
+    if len(words) != 3:
         sys.exit(__doc__)
-    line = line_for(
-        int(sys.argv[1]),
-        bytes.fromhex(sys.argv[2]),
-        bytes.fromhex(sys.argv[3]),
-        bytes.fromhex(sys.stdin.read()),
-    )
+    format, *texts = *words, sys.stdin.read()
+    line = line_for(int(format), *(bytes.fromhex(text) for text in texts), by)
     print(line)
-    sys.exit(line[0] == "P")
+    return line[0] in "PS"
+
+
+if __name__ == "__main__":
+    sys.exit(main(sys.argv[1:]))

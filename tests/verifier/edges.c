@@ -7,6 +7,15 @@ static const char *const proof_word = "01010000001101000002000161013100036162630
 static const char *const empty_word =
     "e3b0c44298fc1c149afbf4c8996fb92427ae41e4649b934ca495991b7852b855";
 
+/* A proof of a sharded map of 3 shards, for `grape`, which has the value `12`. */
+static const char *const sharded_root_word =
+    "560004d6aa72c4d5e445ebac7da9c577f835b74157c2e1e9396c80eb35069274";
+static const char *const sharded_proof_word =
+    "030164000000790101000000730100000300010021ec36763611dd79560de2a0e8c31f633c3aabf205e095b97b88e6"
+    "291d7cdfbb25640001642129eedf210a2163cba998603ba5ccd361a81859d2d0ad26cd90de11e16891961a6d00016d"
+    "20ba1a0981e678c0fdf1830c949f49a99dc78f238a43684e3d4baafe65f43c1aa20001010000002f010100010143ab"
+    "ea0939ba46bc566b5181453c3c283b8232d50ace4a606467e5c084faae6e05677261706502313200";
+
 static size_t passed, failed;
 
 static void is(const char *what, int64_t told, int64_t wanted)
@@ -23,6 +32,59 @@ static uint64_t some(void)
     state ^= state << 13;
     state ^= state >> 7;
     return state ^= state << 17;
+}
+
+/* The same of a proof of a sharded map. */
+static void sharded_edges(void)
+{
+    size_t size, n;
+    uint8_t *root = bytes_of(sharded_root_word, &n), *proof = bytes_of(sharded_proof_word, &size);
+    uint8_t key[300] = "grape", room[MST_VALUE_ROOM];
+    is("present", mst_verify_sharded(1, root, 32, key, 5, proof, size, room, 64), 2);
+    is("its value", room[0] == '1' && room[1] == '2', 1);
+    is("just its room", mst_verify_sharded(1, root, 32, key, 5, proof, size, room, 2), 2);
+    is("less room", mst_verify_sharded(1, root, 32, key, 5, proof, size, room, 1), MST_NO_ROOM);
+    is("no room, null", mst_verify_sharded(1, root, 32, key, 5, proof, size, NULL, 0),
+       MST_NO_ROOM);
+    is("a null proof", mst_verify_sharded(1, root, 32, key, 5, NULL, 0, room, 64),
+       MST_S2_CUT_SHORT);
+    is("a null key", mst_verify_sharded(1, root, 32, NULL, 0, proof, size, room, 64), MST_BAD_KEY);
+    is("a null root", mst_verify_sharded(1, NULL, 0, key, 5, proof, size, room, 64), MST_BAD_ROOT);
+    is("all null", mst_verify_sharded(1, NULL, 0, NULL, 0, NULL, 0, NULL, 0), MST_BAD_ROOT);
+    is("all null, no format", mst_verify_sharded(0, NULL, 0, NULL, 0, NULL, 0, NULL, 0),
+       MST_UNKNOWN_FORMAT);
+    is("a proof of format 1 in format 2",
+       mst_verify_sharded(2, root, 32, key, 5, proof, size, room, 64), MST_S1_VERSION);
+    for (uint32_t format = 3; format; format *= 2)
+        is("a format", mst_verify_sharded(format, root, 32, key, 5, proof, size, room, 64),
+           MST_UNKNOWN_FORMAT);
+    for (size_t length = 0; length < sizeof key; length++) {
+        /* below `grape` the shard has a child, which is not shown */
+        int32_t told = length == 0 || length > 32 ? MST_BAD_KEY
+                       : length < 5               ? MST_S9_SHARD - 8
+                       : length == 5              ? 2
+                                                  : MST_ABSENT;
+        is("a key", mst_verify_sharded(1, root, 32, key, length, proof, size, room, 64), told);
+        is("a root", mst_verify_sharded(1, key, length, key, 5, proof, size, room, 64),
+           length == 32 ? MST_S4_DIRECTORY - 5 : MST_BAD_ROOT);
+    }
+    is("the test of S9 P10", MST_SHARDED_TEST(MST_S9_SHARD - 10), 9);
+    is("the part's test of S9 P10", MST_PART_TEST(MST_S9_SHARD - 10), 10);
+    is("the part's test of S5", MST_PART_TEST(MST_S5_NOT_LISTED), 0);
+    for (int i = 0; i < 200000; i++) {
+        uint8_t bytes[96];
+        size_t length = some() % (sizeof bytes + 1);
+        for (size_t at = 0; at < length; at++)
+            bytes[at] = some() % 3 ? (uint8_t)some() : (uint8_t)(some() % 5);
+        if (length && some() % 2)
+            bytes[0] = 3;
+        int32_t told =
+            mst_verify_sharded(1, root, 32, bytes, length % 33, bytes, length, room, some() % 65);
+        is("any bytes",
+           told == MST_BAD_KEY || (told <= MST_S1_VERSION && told >= MST_S4_DIRECTORY - 10), 1);
+    }
+    free(root);
+    free(proof);
 }
 
 int main(void)
@@ -75,6 +137,7 @@ int main(void)
     free(root);
     free(empty);
     free(proof);
+    sharded_edges();
     printf("%zu as wanted, %zu not\n", passed, failed);
     return failed > 0;
 }

@@ -37,7 +37,19 @@ static inline uint8_t *bytes_of(const char *word, size_t *length)
     return bytes;
 }
 
-/* What mst_verify returns if a line has this answer; a value goes to `value`. */
+/* mst_verify or mst_verify_sharded */
+typedef int32_t verifier(uint32_t format, const uint8_t *root, size_t root_length,
+                         const uint8_t *key, size_t key_length, const uint8_t *proof,
+                         size_t proof_length, uint8_t *room, size_t room_length);
+
+/* Which of P1 to P10 a word names, or 0. */
+static inline int test_of(const char *word)
+{
+    int is_short = word[0] == 'P' && word[1] >= '1' && word[1] <= '9' && word[2] == 0;
+    return strcmp(word, "P10") == 0 ? 10 : is_short ? word[1] - '0' : 0;
+}
+
+/* What a verifier returns if a line has this answer; a value goes to `value`. */
 static inline int32_t told_by(const char *answer, uint8_t *value)
 {
     if (strcmp(answer, "absent") == 0)
@@ -51,10 +63,14 @@ static inline int32_t told_by(const char *answer, uint8_t *value)
         free(bytes);
         return (int32_t)length;
     }
-    if (strcmp(answer, "P10") == 0)
-        return MST_P10_OTHER_VALUE;
-    if (answer[0] == 'P' && answer[1] >= '1' && answer[1] <= '9' && answer[2] == 0)
-        return -10 - (answer[1] - '0');
+    if (test_of(answer))
+        return -10 - test_of(answer);
+    if (answer[0] == 'S' && answer[1] >= '1' && answer[1] <= '9') {
+        int has_part = answer[1] == '4' || answer[1] == '9';
+        int part = has_part && answer[2] == ' ' ? test_of(answer + 3) : 0;
+        if (has_part ? part > 0 : answer[2] == 0)
+            return -100 * (answer[1] - '0') - part;
+    }
     exit(2);
 }
 
@@ -83,8 +99,8 @@ static inline void free_vector(struct vector *it)
     free(it->proof);
 }
 
-/* Whether mst_verify returns what the vector has, and leaves all else in the room as it was. */
-static inline int tells(const struct vector *it, size_t room_length)
+/* Whether a verifier returns what the vector has, and leaves all else in the room as it was. */
+static inline int tells(verifier *by, const struct vector *it, size_t room_length)
 {
     uint8_t room[MST_VALUE_ROOM + 16], wanted[MST_VALUE_ROOM + 16];
     memset(room, 0xa5, sizeof room);
@@ -94,8 +110,8 @@ static inline int tells(const struct vector *it, size_t room_length)
         want = MST_NO_ROOM;
     if (want > 0)
         memcpy(wanted, it->value, (size_t)want);
-    int32_t told = mst_verify(it->format, it->root, it->root_length, it->key, it->key_length,
-                              it->proof, it->proof_length, room, room_length);
+    int32_t told = by(it->format, it->root, it->root_length, it->key, it->key_length, it->proof,
+                      it->proof_length, room, room_length);
     return told == want && memcmp(room, wanted, sizeof room) == 0;
 }
 

@@ -1,5 +1,5 @@
 """The pictures of docs/pictures, each by the function that draws it."""
-from . import crates, put, row, speed, tree, versions
+from . import crates, put, row, sharded, speed, tree, versions
 
 PICTURES = {
     "tree": tree.picture,
@@ -7,5 +7,6 @@ PICTURES = {
     "put": put.picture,
     "row": row.picture,
     "crates": crates.picture,
+    "sharded": sharded.picture,
     "speed": speed.picture,
 }

@@ -11,14 +11,15 @@ LAYERS = [
     (("command line",), {"mst_program": 880}),
     (("its tasks",), {"mst_command": 880}),
     (("scripts, loads, C",), {
-        "mst_sharded": 450, "mst_c": 610, "mst_load": 770, "mst_script": 1030,
+        "mst_c": 610, "mst_load": 770, "mst_script": 1030,
     }),
     (("the store",), {"mst_store": 690}),
     (("the shared table;", "batches; replays"), {
-        "mst_sharded_proof": 366, "mst_batch": 625, "mst_words": 785, "mst_replay": 945,
+        "mst_verifier": 306, "mst_batch": 590, "mst_words": 750, "mst_replay": 930,
     }),
     (("verifiers; trees in", "rows; pins"), {
-        "mst_verifier": 286, "mst_report": 448, "mst_read": 620, "mst_path": 775, "mst_pin": 930,
+        "mst_sharded_proof": 306, "mst_report": 474, "mst_read": 630, "mst_path": 783,
+        "mst_pin": 930,
     }),
     (("proofs; rows;", "changes; requests"), {
         "mst_proof": 366, "mst_arena": 640, "mst_change": 800, "mst_requests": 1090,
@@ -31,7 +32,11 @@ NOT_DRAWN = {"mst_audit", "mst_bench", "mst_walk", *TESTS}
 FOR_C = {"mst_verifier", "mst_c"}
 BENT = {("mst_command", "mst_report")}
 BOX, HIGH, FIRST, APART = 140, 36, 30, 82
-WIDE = {"mst_sharded_proof": 190}
+
+
+def width(name):
+    """How wide a crate's box is: wider for a long name."""
+    return max(BOX, len(name) * 9.2 + 10)
 
 
 def stands_on():
@@ -77,7 +82,7 @@ def draw_arrows(canvas, crates, where):
             sys.exit(f"{name} has to be above {below}")
         if (name, below) in BENT:
             across = y + HIGH / 2
-            canvas.line([(x - BOX / 2, across), (to_x, across), (to_x, to_y)], arrow=True)
+            canvas.line([(x - width(name) / 2, across), (to_x, across), (to_x, to_y)], arrow=True)
         else:
             aside = max(-50, min(50, (to_x - x) / 6))
             canvas.line([(x + aside, y + HIGH), (to_x - aside, to_y)], arrow=True)
@@ -98,14 +103,14 @@ def picture():
     height = FIRST + len(LAYERS) * APART + 66
     canvas = Canvas("crates", "The crates in layers, with arrows to what each stands on", height)
     draw_layers(canvas)
-    top = where["mst_sharded_proof"][1] - 38
-    canvas.box(204, top, 326, 2 * APART + HIGH + 50, "dashed", "none", 10)
+    top = where["mst_verifier"][1] - 38
+    canvas.box(202, top, 350, 2 * APART + HIGH + 50, "dashed", "none", 10)
     canvas.text(216, top + 24, "they stand on no store", 15, bold=True)
     draw_arrows(canvas, crates, where)
     for name, (x, y) in where.items():
-        wide = WIDE.get(name, BOX)
-        canvas.box(x - wide / 2, y, wide, HIGH, "thick" if name in FOR_C else "thin")
-        canvas.text(x, y + 24, name, 17, "middle", code=True, within=wide - 6)
+        size = 17 if width(name) == BOX else 15
+        canvas.box(x - width(name) / 2, y, width(name), HIGH, "thick" if name in FOR_C else "thin")
+        canvas.text(x, y + 24, name, size, "middle", code=True, within=width(name) - 6)
     low = FIRST + len(LAYERS) * APART + 8
     says = "Thick: the libraries for C. An arrow is left out where others lead the same way."
     canvas.text(12, low, says, 16)

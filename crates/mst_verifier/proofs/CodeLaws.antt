@@ -10,8 +10,10 @@ use Rattle.mst_node.specs.Text.{FlatNode, digest_of}
 use Rattle.mst_proof.specs.Faults.{FailsBy, Spells}
 use Rattle.mst_proof.specs.declared.fault.ProofFault.{ProofFault}
 use Rattle.mst_proof.specs.declared.fault.ProofFault.TheVariants.{Version, CutShort, LeftOver, NoNode, OtherDigest, LayerNotBelow, KeyOutside, Unfinished, TextBehind, OtherValue}
+use Rattle.mst_sharded_proof.specs.declared.fault.ShardedFault.{ShardedFault}
+use Rattle.mst_sharded_proof.specs.declared.fault.ShardedFault.TheVariants.{Version as OtherVersion, CutShort as Cut, NoKey, Directory, NotListed, NoListing, KeyBelow, KeyNotBelow, Shard}
 use Rattle.mst_verifier.specs.declared.question.Refusal.{Refusal}
-use Rattle.mst_verifier.specs.declared.question.Refusal.TheVariants.{Format, Root, Key, Proof}
+use Rattle.mst_verifier.specs.declared.question.Refusal.TheVariants.{Format, Root, Key, Proof, ShardedProof}
 use Rattle.mst_verifier.specs.Codes.{fault_code, refusal_code}
 
 -- ---- no two refusals have one number
@@ -19,6 +21,41 @@ use Rattle.mst_verifier.specs.Codes.{fault_code, refusal_code}
 abbrev place : ℤ → ℕ
 place (pos n) = 0
 place (negsuc n) = n
+
+abbrev sharded_at : ℕ → Option ShardedFault
+sharded_at n =
+    if n == 99 then Some OtherVersion
+    else if n == 199 then Some Cut
+    else if n == 299 then Some NoKey
+    else if n == 499 then Some NotListed
+    else if n == 599 then Some NoListing
+    else if n == 699 then Some KeyBelow
+    else if n == 799 then Some KeyNotBelow
+    else if n == 400 then Some (Directory Version)
+    else if n == 401 then Some (Directory CutShort)
+    else if n == 402 then Some (Directory LeftOver)
+    else if n == 403 then Some (Directory NoNode)
+    else if n == 404 then Some (Directory OtherDigest)
+    else if n == 405 then Some (Directory LayerNotBelow)
+    else if n == 406 then Some (Directory KeyOutside)
+    else if n == 407 then Some (Directory Unfinished)
+    else if n == 408 then Some (Directory TextBehind)
+    else if n == 409 then Some (Directory OtherValue)
+    else if n == 900 then Some (Shard Version)
+    else if n == 901 then Some (Shard CutShort)
+    else if n == 902 then Some (Shard LeftOver)
+    else if n == 903 then Some (Shard NoNode)
+    else if n == 904 then Some (Shard OtherDigest)
+    else if n == 905 then Some (Shard LayerNotBelow)
+    else if n == 906 then Some (Shard KeyOutside)
+    else if n == 907 then Some (Shard Unfinished)
+    else if n == 908 then Some (Shard TextBehind)
+    else if n == 909 then Some (Shard OtherValue)
+    else None
+
+abbrev in_sharded : Option ShardedFault → Option Refusal
+in_sharded None = None
+in_sharded (Some fault) = Some (ShardedProof fault)
 
 abbrev refusal_at : ℕ → Option Refusal
 refusal_at n =
@@ -35,7 +72,7 @@ refusal_at n =
     else if n == 17 then Some (Proof Unfinished)
     else if n == 18 then Some (Proof TextBehind)
     else if n == 19 then Some (Proof OtherValue)
-    else None
+    else in_sharded (sharded_at n)
 
 named : (r : Refusal) → refusal_at (place (refusal_code r)) ≡ Some r
 named Format = refl
@@ -51,6 +88,33 @@ named (Proof KeyOutside) = refl
 named (Proof Unfinished) = refl
 named (Proof TextBehind) = refl
 named (Proof OtherValue) = refl
+named (ShardedProof OtherVersion) = refl
+named (ShardedProof Cut) = refl
+named (ShardedProof NoKey) = refl
+named (ShardedProof NotListed) = refl
+named (ShardedProof NoListing) = refl
+named (ShardedProof KeyBelow) = refl
+named (ShardedProof KeyNotBelow) = refl
+named (ShardedProof (Directory Version)) = refl
+named (ShardedProof (Directory CutShort)) = refl
+named (ShardedProof (Directory LeftOver)) = refl
+named (ShardedProof (Directory NoNode)) = refl
+named (ShardedProof (Directory OtherDigest)) = refl
+named (ShardedProof (Directory LayerNotBelow)) = refl
+named (ShardedProof (Directory KeyOutside)) = refl
+named (ShardedProof (Directory Unfinished)) = refl
+named (ShardedProof (Directory TextBehind)) = refl
+named (ShardedProof (Directory OtherValue)) = refl
+named (ShardedProof (Shard Version)) = refl
+named (ShardedProof (Shard CutShort)) = refl
+named (ShardedProof (Shard LeftOver)) = refl
+named (ShardedProof (Shard NoNode)) = refl
+named (ShardedProof (Shard OtherDigest)) = refl
+named (ShardedProof (Shard LayerNotBelow)) = refl
+named (ShardedProof (Shard KeyOutside)) = refl
+named (ShardedProof (Shard Unfinished)) = refl
+named (ShardedProof (Shard TextBehind)) = refl
+named (ShardedProof (Shard OtherValue)) = refl
 
 pub differ : (a b : Refusal) → refusal_code a ≡ refusal_code b → a ≡ b
 differ a b e = same_Some a b (sym (named a) ∙ ap (λ (z : ℤ). refusal_at (place z)) e ∙ named b)
@@ -71,6 +135,33 @@ apart (Proof KeyOutside) = (14, refl)
 apart (Proof Unfinished) = (15, refl)
 apart (Proof TextBehind) = (16, refl)
 apart (Proof OtherValue) = (17, refl)
+apart (ShardedProof OtherVersion) = (97, refl)
+apart (ShardedProof Cut) = (197, refl)
+apart (ShardedProof NoKey) = (297, refl)
+apart (ShardedProof NotListed) = (497, refl)
+apart (ShardedProof NoListing) = (597, refl)
+apart (ShardedProof KeyBelow) = (697, refl)
+apart (ShardedProof KeyNotBelow) = (797, refl)
+apart (ShardedProof (Directory Version)) = (398, refl)
+apart (ShardedProof (Directory CutShort)) = (399, refl)
+apart (ShardedProof (Directory LeftOver)) = (400, refl)
+apart (ShardedProof (Directory NoNode)) = (401, refl)
+apart (ShardedProof (Directory OtherDigest)) = (402, refl)
+apart (ShardedProof (Directory LayerNotBelow)) = (403, refl)
+apart (ShardedProof (Directory KeyOutside)) = (404, refl)
+apart (ShardedProof (Directory Unfinished)) = (405, refl)
+apart (ShardedProof (Directory TextBehind)) = (406, refl)
+apart (ShardedProof (Directory OtherValue)) = (407, refl)
+apart (ShardedProof (Shard Version)) = (898, refl)
+apart (ShardedProof (Shard CutShort)) = (899, refl)
+apart (ShardedProof (Shard LeftOver)) = (900, refl)
+apart (ShardedProof (Shard NoNode)) = (901, refl)
+apart (ShardedProof (Shard OtherDigest)) = (902, refl)
+apart (ShardedProof (Shard LayerNotBelow)) = (903, refl)
+apart (ShardedProof (Shard KeyOutside)) = (904, refl)
+apart (ShardedProof (Shard Unfinished)) = (905, refl)
+apart (ShardedProof (Shard TextBehind)) = (906, refl)
+apart (ShardedProof (Shard OtherValue)) = (907, refl)
 
 -- ---- the fault that has a number
 

@@ -9,19 +9,33 @@ ghost use Rattle.mst_node.specs.Text.{FlatNode, digest_of};
 ghost use Rattle.mst_proof.specs.Faults.{FailsBy, Spells};
 ghost use Rattle.mst_proof.specs.declared.fault.ProofFault.{ProofFault};
 ghost use Rattle.mst_proof.specs.declared.fault.ProofFault.TheVariants.{Version, CutShort, LeftOver, NoNode, OtherDigest, LayerNotBelow, KeyOutside, Unfinished, TextBehind, OtherValue};
-ghost use Rattle.mst_verifier.specs.Codes.{code_of, fault_code, refusal_code};
+ghost use Rattle.mst_sharded_proof.specs.declared.fault.ShardedFault.TheVariants.{Version as OtherVersion, CutShort as Cut, NoKey, Directory, NotListed, NoListing, KeyBelow, KeyNotBelow, Shard};
+ghost use Rattle.mst_verifier.specs.Codes.{code_of, fault_code, refusal_code, sharded_code, test_number};
 ghost use Rattle.mst_verifier.specs.Question.{answer_of};
 ghost use Rattle.mst_verifier.specs.Top.{TellsTop};
 ghost use Rattle.mst_verifier.specs.Worked.{told, told_of, zeros, leaf, parent, leaf_in_format_2};
 ghost use Rattle.mst_verifier.specs.declared.question.Refusal.{Refusal};
 
-/// The numbers of refusals: -11 to -20 in the order of the tests, no two the same, and none that of
-/// an answer. Of the tests of a text each is named by what the text then fails.
+/// The numbers of refusals: -11 to -20 in the order of the tests, for a sharded map -100 to -910.
+/// No two are the same, and none is that of an answer. Of the tests of a text each is named by what
+/// the text then fails.
 pub fn code_laws()
     ensures tests { map fault_code (Version ∷ CutShort ∷ LeftOver ∷ NoNode ∷ OtherDigest
         ∷ LayerNotBelow ∷ KeyOutside ∷ Unfinished ∷ TextBehind ∷ OtherValue ∷ [])
         ≡ negsuc 10 ∷ negsuc 11 ∷ negsuc 12 ∷ negsuc 13 ∷ negsuc 14 ∷ negsuc 15 ∷ negsuc 16
         ∷ negsuc 17 ∷ negsuc 18 ∷ negsuc 19 ∷ [] }
+    ensures sharded_tests { map sharded_code (OtherVersion ∷ Cut ∷ NoKey ∷ NotListed ∷ NoListing
+        ∷ KeyBelow ∷ KeyNotBelow ∷ [])
+        ≡ negsuc 99 ∷ negsuc 199 ∷ negsuc 299 ∷ negsuc 499 ∷ negsuc 599 ∷ negsuc 699
+        ∷ negsuc 799 ∷ [] }
+    // S4 and S9, each followed by the number of the part's test
+    ensures directory_tests { (fault : ProofFault)
+        → sharded_code (Directory fault) ≡ negsuc (399 + test_number fault) }
+    ensures shard_tests { (fault : ProofFault)
+        → sharded_code (Shard fault) ≡ negsuc (899 + test_number fault) }
+    ensures part_tests { map test_number (Version ∷ CutShort ∷ LeftOver ∷ NoNode ∷ OtherDigest
+        ∷ LayerNotBelow ∷ KeyOutside ∷ Unfinished ∷ TextBehind ∷ OtherValue ∷ [])
+        ≡ 1 ∷ 2 ∷ 3 ∷ 4 ∷ 5 ∷ 6 ∷ 7 ∷ 8 ∷ 9 ∷ 10 ∷ [] }
     ensures differ { (a b : Refusal) → refusal_code a ≡ refusal_code b → a ≡ b }
     ensures apart { (r : Refusal) → (n : ℕ) × (refusal_code r ≡ negsuc (2 + n)) }
     // -14: it is the text of no node

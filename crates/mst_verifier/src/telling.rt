@@ -1,10 +1,10 @@
 //! An answer as it is returned to C.
 ghost use Rattle.std.specs.Prelude.{◌≡◌, ◌≤◌, ◌++◌, length, drop};
 ghost use Rattle.mst_verifier.specs.Codes.{code_of, room_after};
-ghost use Rattle.mst_verifier.specs.Question.{answer_of};
+ghost use Rattle.mst_verifier.specs.Question.{answer_to};
 
 use crate::codes::{ABSENT, NO_ROOM, refusal_code};
-use crate::question::answer;
+use crate::question::{Kind, answer};
 
 /// Puts the bytes first, and keeps those after them.
 fn put(room: &mut [u8], bytes: &[u8])
@@ -15,12 +15,20 @@ fn put(room: &mut [u8], bytes: &[u8])
 }
 
 /// The code of the answer. The value that it shows then stands first in the room, if it fits.
-pub(crate) fn tell(format: u32, root: &[u8], key: &[u8], proof: &[u8], room: &mut [u8]) -> i32
+pub(crate) fn tell(
+    kind: Kind,
+    format: u32,
+    root: &[u8],
+    key: &[u8],
+    proof: &[u8],
+    room: &mut [u8],
+) -> i32
     ensures code { result ≡ code_of (length room.old)
-        (answer_of format root.now key.now proof.now) }
-    ensures room { room.new ≡ room_after room.old (answer_of format root.now key.now proof.now) }
+        (answer_to kind format root.now key.now proof.now) }
+    ensures room { room.new ≡ room_after room.old
+        (answer_to kind format root.now key.now proof.now) }
 {
-    match answer(format, root, key, proof) {
+    match answer(kind, format, root, key, proof) {
         Ok(Some(value)) => {
             let bytes = value.bytes();
             if room.len() < bytes.len() {

@@ -39,3 +39,6 @@ returns-in-Proof-TextBehind c = search rules
 
 pub returns-in-Proof-OtherValue : goal.returns-in-Proof-OtherValue
 returns-in-Proof-OtherValue c = search rules
+
+pub returns-in-ShardedProof : goal.returns-in-ShardedProof
+returns-in-ShardedProof c = search rules

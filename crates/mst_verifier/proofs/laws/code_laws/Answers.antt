@@ -5,6 +5,18 @@ use Rattle.mst_verifier.proofs.laws.code_laws.Goals as goal
 pub returns-clause-tests : goal.returns-clause-tests
 returns-clause-tests c = refl
 
+pub returns-clause-sharded_tests : goal.returns-clause-sharded_tests
+returns-clause-sharded_tests c = refl
+
+pub returns-clause-directory_tests : goal.returns-clause-directory_tests
+returns-clause-directory_tests c = λ fault. refl
+
+pub returns-clause-shard_tests : goal.returns-clause-shard_tests
+returns-clause-shard_tests c = λ fault. refl
+
+pub returns-clause-part_tests : goal.returns-clause-part_tests
+returns-clause-part_tests c = refl
+
 pub returns-clause-differ : goal.returns-clause-differ
 returns-clause-differ c = differ
 

@@ -10,5 +10,5 @@ returns-in_default c = search rules
 pub returns-in_default-new : goal.returns-in_default-new
 returns-in_default-new c = search rules
 
-pub returns-in-Err : goal.returns-in-Err
-returns-in-Err c = search rules
+pub returns : goal.returns
+returns c = search rules
