@@ -1,10 +1,11 @@
 /*
  * Mutated proofs: bits flipped, bytes set, cut, doubled, parts of two proofs put together, texts of
  * two proofs framed anew; a million unless COUNT is given. For each, mst_verify may return nothing
- * but a refusal or what the line's map has.
+ * but a refusal or what the line's map has. With OUT each is written there as a line of vectors,
+ * with what mst_verify returns.
  *
  *     cc -O2 -I../../include mutate.c ../../crates/mst_verifier/out/libmst_verifier.a -o mutate
- *     ./mutate FILE [COUNT]
+ *     ./mutate FILE [COUNT [OUT]]
  */
 #include "mutating.h"
 
@@ -35,6 +36,19 @@ static size_t frame(uint8_t *bytes, const struct vector *one, const struct vecto
     return length;
 }
 
+/* Writes a line with this proof instead, and with what mst_verify returns. */
+static void write_mutated(FILE *to, const struct vector *line, uint8_t *proof, size_t length,
+                          int32_t told, const uint8_t *room)
+{
+    struct vector it = *line;
+    it.proof = proof;
+    it.proof_length = length;
+    it.told = told;
+    if (told > 0)
+        memcpy(it.value, room, (size_t)told);
+    write_vector(to, &it);
+}
+
 int main(int words, char **word)
 {
     FILE *from = words > 1 ? fopen(word[1], "r") : NULL;
@@ -43,6 +57,9 @@ int main(int words, char **word)
     read_answers(from);
     long rounds = words > 2 ? atol(word[2]) : 1000000, same = 0, wrong = 0;
     static uint8_t bytes[ROOM];
+    FILE *to = words > 3 ? fopen(word[3], "w") : NULL;
+    if (words > 3 && to == NULL)
+        return perror(word[3]), 2;
     for (long round = 0; round < rounds && count; round++) {
         const struct vector *it = &lines[below(count)];
         size_t length = it->proof_length, changes = 1 + below(3);
@@ -54,6 +71,8 @@ int main(int words, char **word)
         uint8_t room[MST_VALUE_ROOM];
         int32_t told = mst_verify(it->format, it->root, it->root_length, it->key, it->key_length,
                                   bytes, length, room, sizeof room);
+        if (to != NULL)
+            write_mutated(to, it, bytes, length, told, room);
         if (told < MST_ABSENT)
             told_of[-told]++;
         else if (told == it->told && (told < 0 || memcmp(room, it->value, (size_t)told) == 0))
@@ -65,5 +84,5 @@ int main(int words, char **word)
     for (int n = 11; n <= 20; n++)
         printf(" P%d %zu", n - 10, told_of[n]);
     printf(", the right answer %ld, a wrong one %ld\n", same, wrong);
-    return wrong > 0 || count == 0;
+    return wrong > 0 || count == 0 || (to != NULL && fclose(to) != 0);
 }

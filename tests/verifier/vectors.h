@@ -115,4 +115,29 @@ static inline int tells(verifier *by, const struct vector *it, size_t room_lengt
     return told == want && memcmp(room, wanted, sizeof room) == 0;
 }
 
+static inline void write_bytes(FILE *to, const uint8_t *bytes, size_t length)
+{
+    for (size_t i = 0; i < length; i++)
+        fprintf(to, "%02x", bytes[i]);
+    if (length == 0)
+        fputc('-', to);
+}
+
+/* Writes a line that read_vector reads as this. */
+static inline void write_vector(FILE *to, const struct vector *it)
+{
+    fprintf(to, "%u\t", (unsigned)it->format);
+    write_bytes(to, it->root, it->root_length);
+    fputc('\t', to);
+    write_bytes(to, it->key, it->key_length);
+    fputc('\t', to);
+    write_bytes(to, it->proof, it->proof_length);
+    fputs(it->told == MST_ABSENT ? "\tabsent" : it->told < 0 ? "\tP" : "\tpresent ", to);
+    if (it->told >= 0)
+        write_bytes(to, it->value, (size_t)it->told);
+    else if (it->told != MST_ABSENT)
+        fprintf(to, "%d", (int)(MST_P1_VERSION + 1 - it->told));
+    fputc('\n', to);
+}
+
 #endif

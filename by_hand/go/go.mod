@@ -1,0 +1,3 @@
+module mstverifier
+
+go 1.18
