@@ -10,8 +10,8 @@ LAYERS = [
     (("executable",), {"mst": 880}),
     (("command line",), {"mst_program": 880}),
     (("its tasks",), {"mst_command": 880}),
-    (("scripts, loads, C",), {
-        "mst_c": 610, "mst_load": 770, "mst_script": 1030,
+    (("scripts, loads, C;", "sharded stores"), {
+        "mst_c": 610, "mst_load": 770, "mst_script": 1030, "mst_sharded": 350,
     }),
     (("the store",), {"mst_store": 690}),
     (("the shared table;", "batches; replays"), {
@@ -27,7 +27,7 @@ LAYERS = [
     (("trees, digests; lines",), {"mst_node": 610, "mst_lines": 1090}),
     (("keys, maps; devices",), {"mst_key": 610, "mst_devices": 1090}),
 ]
-TESTS = {"mst_tree_tests", "mst_store_tests", "mst_program_tests"}
+TESTS = {"mst_tree_tests", "mst_store_tests", "mst_sharded_tests", "mst_program_tests"}
 NOT_DRAWN = {"mst_audit", "mst_bench", "mst_walk", *TESTS}
 FOR_C = {"mst_verifier", "mst_c"}
 BENT = {("mst_command", "mst_report")}

@@ -1,0 +1,188 @@
+-- What is dealt to handles, and that it makes handles.
+use Rattle.std.proofs.Common.{◌≡◌, ◌≢◌, ℕ, zero, suc, ◌+◌, ◌<◌, List, [], ◌∷◌, ◌++◌, Option, None, map, length, get_or, refl, sym, ap, ◌∙◌, arith, length-append, append-nil, append_assoc}
+use Rattle.std.specs.List.{AllByRecursion}
+use Rattle.std.proofs.lemmas.List.{same_lists, map-append, length-map}
+use Rattle.std.proofs.Math.ListN.{get_or-append}
+use Rattle.std.proofs.Math.Seq.{get_or-append_seam}
+use mathlib.Core.Logic.{dite}
+use native.Mathlib.Decide.{ℕ_discrete}
+use Rattle.mst_key.specs.declared.format.Format.{Format}
+use Rattle.mst_words.specs.declared.view.Shape.{Shape}
+use Rattle.mst_store.specs.Passes.{StoreId, Known, HasShape, new_pass, first_passes, new_passes}
+use Rattle.mst_sharded_proof.specs.Shards.{Shard, least, shards_from}
+use Rattle.mst_sharded.specs.Sharding.{Sharding, sharding}
+use Rattle.mst_sharded.specs.Listing.{AreListed}
+use Rattle.mst_sharded.specs.Opening.{Shards, directory_shape, new_handle, first_handles, Dealt, dealt, dealt_from, dealt_more, IsWhole}
+
+-- ---- the passes of a store
+
+length-first : (s : StoreId) (n : ℕ) → length (first_passes s n) ≡ n
+length-first s zero = refl
+length-first s (suc n) =
+    let e : n + 1 ≡ suc n = omega arith in
+    length-append (first_passes s n) (new_pass s (suc n) ∷ [])
+    ∙ ap (λ (j : ℕ). j + 1) (length-first s n) ∙ e
+
+first_at : (s : StoreId) (n k : ℕ) (d : Known) → k < n
+    → get_or (first_passes s n) k d ≡ new_pass s (suc k)
+first_at s zero k d low = absurd (omega (arith, low))
+first_at s (suc n) k d low =
+    let last = new_pass s (suc n) in
+    let long = length-first s n in
+    dite (ℕ_discrete k n)
+    (λ (is : k ≡ n). ap (λ (j : ℕ). get_or (first_passes s n ++ last ∷ []) j d) (is ∙ sym long)
+    ∙ get_or-append_seam (first_passes s n) last [] d
+    ∙ ap (λ (j : ℕ). new_pass s (suc j)) (sym is))
+    (λ (other : k ≢ n). get_or-append (first_passes s n) (last ∷ []) d k
+    (omega (arith, low, other, long)) ∙ first_at s n k d (omega (arith, low, other)))
+
+-- the only pass of a store of one
+pub only_pass : (s : StoreId) (all rest : List Known) (p : Known) → s.passes ≡ 1
+    → all ≡ new_passes s → all ≡ rest ++ p ∷ [] → p ≡ new_pass s 1
+only_pass s all rest p one is last =
+    let single : all ≡ new_pass s 1 ∷ [] = is ∙ ap (λ (n : ℕ). first_passes s n) one in
+    let long = length-append rest (p ∷ []) in
+    let count : length all ≡ 1 = ap (λ (l : List Known). length l) single in
+    let same : length all ≡ length (rest ++ p ∷ []) = ap (λ (l : List Known). length l) last in
+    let none : length rest ≡ 0 = omega (arith, long, count, same) in
+    sym (get_or-append_seam rest p [] p)
+    ∙ ap (λ (l : List Known). get_or l (length rest) p) (sym last ∙ single)
+    ∙ ap (λ (n : ℕ). get_or (new_pass s 1 ∷ []) n p) none
+
+-- ---- the rows
+
+pub length-dealt : (stores ds : List StoreId) (n : ℕ) → length (dealt_from stores ds n) ≡ length ds
+length-dealt stores [] n = refl
+length-dealt stores (d ∷ ds) n = ap suc (length-dealt stores ds (suc n))
+
+-- one more row, before any store's passes are dealt
+pub one_more_row : (front : List StoreId) (d : StoreId) (n : ℕ)
+    → dealt_from [] (front ++ d ∷ []) n ≡ dealt_from [] front n ++ dealt [] d 0 ∷ []
+one_more_row [] d n = refl
+one_more_row (x ∷ front) d n =
+    ap (λ (l : List Dealt). dealt [] x n ∷ l) (one_more_row front d (suc n))
+
+dealt_at : (stores ds : List StoreId) (n k : ℕ) (e : Dealt) (d : StoreId) → k < length ds
+    → get_or (dealt_from stores ds n) k e ≡ dealt stores (get_or ds k d) (n + k)
+dealt_at stores [] n k e d low = absurd (omega (arith, low))
+dealt_at stores (x ∷ ds) n zero e d low =
+    let same : n ≡ n + 0 = omega arith in ap (λ (j : ℕ). dealt stores x j) same
+dealt_at stores (x ∷ ds) n (suc k) e d low =
+    let same : suc n + k ≡ n + suc k = omega arith in
+    dealt_at stores ds (suc n) k e d (omega (arith, low))
+    ∙ ap (λ (j : ℕ). dealt stores (get_or ds k d) j) same
+
+abbrev made : List Known → StoreId → List (Option ℕ) → Dealt
+made passes d listed =
+    record { passes = passes; directory = record { pass = new_pass d 1; listed = listed } }
+
+-- a row gets the pass of one more store
+dealt_grows : (front : List StoreId) (s d : StoreId) (n : ℕ)
+    → dealt_more (dealt front d n) (new_pass s n) ≡ dealt (front ++ s ∷ []) d n
+dealt_grows front s d n =
+    let pass : StoreId → Known = λ store. new_pass store n in
+    let none : StoreId → Option ℕ = λ store. None in
+    ap (λ (l : List Known). made l d (map none front ++ None ∷ []))
+    (sym (map-append pass front (s ∷ [])))
+    ∙ ap (λ (l : List (Option ℕ)). made (map pass (front ++ s ∷ [])) d l)
+    (sym (map-append none front (s ∷ [])))
+
+-- each row got the pass of one more store
+pub rows_grow : (front ds : List StoreId) (s : StoreId) (rows rows' : List Dealt)
+    (passes : List Known) → rows ≡ dealt_from front ds 1 → passes ≡ new_passes s
+    → s.passes ≡ length ds → length rows' ≡ length rows →
+    ((k : ℕ) (d : Dealt) (e : Known) → k < length rows
+    → get_or rows' k d ≡ dealt_more (get_or rows k d) (get_or passes k e))
+    → rows' ≡ dealt_from (front ++ s ∷ []) ds 1
+rows_grow front ds s rows rows' passes are all count long each =
+    let before = length-dealt front ds 1 in
+    let then_ = length-dealt (front ++ s ∷ []) ds 1 in
+    let were : length rows ≡ length (dealt_from front ds 1) =
+    ap (λ (l : List Dealt). length l) are in
+    same_lists rows' (dealt_from (front ++ s ∷ []) ds 1) (long ∙ were ∙ before ∙ sym then_)
+    (λ k d low.
+    let few : k < length ds = omega (arith, low, long, were, before) in
+    let next : 1 + k ≡ suc k = omega arith in
+    let e = new_pass s 1 in
+    each k d e (omega (arith, low, long))
+    ∙ ap (λ (r : Dealt). dealt_more r (get_or passes k e))
+    (ap (λ (l : List Dealt). get_or l k d) are ∙ dealt_at front ds 1 k d s few)
+    ∙ ap (λ (p : Known). dealt_more (dealt front (get_or ds k s) (1 + k)) p)
+    (ap (λ (l : List Known). get_or l k e) all ∙ first_at s s.passes k e (omega (arith, few, count))
+    ∙ ap (λ (n : ℕ). new_pass s n) (sym next))
+    ∙ dealt_grows front s (get_or ds k s) (1 + k)
+    ∙ sym (dealt_at (front ++ s ∷ []) ds 1 k d s few))
+
+-- ---- a row makes a handle
+
+length-shards : (low : List ℕ) (splits : List (List ℕ))
+    → length (shards_from low splits) ≡ length splits + 1
+length-shards low [] = refl
+length-shards low (s ∷ splits) =
+    let long = length-shards s splits in
+    let e : suc (length splits + 1) ≡ suc (length splits) + 1 = omega arith in
+    ap suc long ∙ e
+
+none_listed : (d : Known) (shards : List Shard) (stores : List StoreId) (n : ℕ)
+    → length stores ≡ length shards
+    → AreListed d shards (map (λ store. None) stores) (map (λ store. new_pass store n) stores)
+none_listed d [] [] n count = tt
+none_listed d [] (s ∷ stores) n count = absurd (omega (arith, count))
+none_listed d (x ∷ shards) [] n count = absurd (omega (arith, count))
+none_listed d (x ∷ shards) (s ∷ stores) n count =
+    (tt, none_listed d shards stores n (omega (arith, count)))
+
+whole : (splits : List (List ℕ)) (stores : List StoreId) (format : Format) (d : StoreId) (n : ℕ)
+    → length stores ≡ length splits + 1
+    → HasShape (directory_shape (length splits + 1) format) d → IsWhole splits (dealt stores d n)
+whole splits stores format d n count shaped =
+    let rows = shaped.0 in (
+      length-map stores (λ (store : StoreId). new_pass store n) ∙ count,
+      record {
+        only = (shaped.1, refl, refl);
+        roomy = omega (arith, rows);
+        ordered = record { ascending = tt; limits = tt };
+        keys = λ k has. absurd (has refl);
+        all = none_listed (new_pass d 1) (shards_from least splits) stores n
+            (count ∙ sym (length-shards least splits));
+      },
+    )
+
+pub all_whole : (splits : List (List ℕ)) (stores ds : List StoreId) (format : Format) (n : ℕ)
+    → length stores ≡ length splits + 1
+    → AllByRecursion (HasShape (directory_shape (length splits + 1) format)) ds
+    → AllByRecursion (IsWhole splits) (dealt_from stores ds n)
+all_whole splits stores [] format n count shaped = tt
+all_whole splits stores (d ∷ ds) format n count shaped = (
+  whole splits stores format d n count shaped.0,
+  all_whole splits stores ds format (suc n) count shaped.1,
+)
+
+abbrev pub handle_of_row : List (List ℕ) → Dealt → Sharding
+handle_of_row splits d = sharding splits d.passes
+
+handles_from : (s : Shards) (ds : List StoreId) (n : ℕ) → first_handles s (n + length ds)
+    ≡ first_handles s n ++ map (handle_of_row s.splits) (dealt_from s.stores ds (suc n))
+handles_from s [] n =
+    let e : n + 0 ≡ n = omega arith in
+    ap (λ (j : ℕ). first_handles s j) e ∙ sym (append-nil (first_handles s n))
+handles_from s (d ∷ ds) n =
+    let e : n + suc (length ds) ≡ suc n + length ds = omega arith in
+    ap (λ (j : ℕ). first_handles s j) e ∙ handles_from s ds (suc n)
+    ∙ append_assoc (first_handles s n) (new_handle s (suc n) ∷ [])
+    (map (handle_of_row s.splits) (dealt_from s.stores ds (suc (suc n))))
+
+-- the handles of the rows are those of the map
+pub all_handles : (s : Shards) → map (handle_of_row s.splits) (dealt_from s.stores s.directories 1)
+    ≡ first_handles s (length s.directories)
+all_handles s =
+    let e : 0 + length s.directories ≡ length s.directories = omega arith in
+    sym (handles_from s s.directories 0) ∙ ap (λ (j : ℕ). first_handles s j) e
+
+-- ---- what the stores have by their shapes
+
+pub shapes_passes : (shape : Shape) (n : ℕ) (stores : List StoreId) → shape.passes ≡ n
+    → AllByRecursion (HasShape shape) stores → AllByRecursion (λ s. s.passes ≡ n) stores
+shapes_passes shape n [] is all = tt
+shapes_passes shape n (s ∷ stores) is all =
+    (all.0.1 ∙ is, shapes_passes shape n stores is all.1)

@@ -1,0 +1,78 @@
+use Rattle.std.proofs.Common.{◌≡◌, ◌∷◌, ◌++◌, [], List, length, vec_items, rules, arith, sym, ap, ◌∙◌, length-append}
+use Rattle.std.specs.Vec.Iter.{into_iter_items, into_iter_len}
+use Rattle.mst_store.specs.Passes.{StoreId}
+use Rattle.mst_sharded.specs.Opening.{Dealt, dealt_from}
+use Rattle.mst_sharded.proofs.Rows.{goes_on, own_next, holds_own, taken}
+use Rattle.mst_sharded.proofs.Dealing.{rows_grow, length-dealt}
+use Rattle.mst_sharded.proofs.deal.all_rows.Goals as goal
+
+pub deal_at-requires-clause-own : goal.deal_at-requires-clause-own
+deal_at-requires-clause-own g c =
+    let was = c.loop-its_seats.invariant in
+    let rest : into_iter_items c.loop-its_seats.its_seats-iterator
+    ≡ c.in-Some.its_seats ∷ into_iter_items c.next.new.self = search rules in
+    own_next (vec_items c.args.seats) c.args.stores.now was.1.0
+    (into_iter_items c.loop-its_seats.its_seats-iterator) (into_iter_items c.next.new.self)
+    c.in-Some.its_seats c.loop-its_seats.place c.requires.own was.1.1 rest was.1.2
+
+pub loop-its_seats-preserved : goal.loop-its_seats-preserved
+loop-its_seats-preserved g c =
+    let was = c.loop-its_seats.invariant in
+    let front : List StoreId = was.1.0 in
+    let x : StoreId = c.in-Some.its_seats in
+    let rest : into_iter_items c.loop-its_seats.its_seats-iterator
+    ≡ c.in-Some.its_seats ∷ into_iter_items c.next.new.self = search rules in
+    let long = length-append front (x ∷ []) in
+    let is_long : length front ≡ c.loop-its_seats.place = was.1.2 in
+    let count : x.passes ≡ length c.args.directories.now =
+    holds_own (λ (s : StoreId). s.passes ≡ length c.args.directories.now)
+    (vec_items c.args.seats) c.args.stores.now
+    front (into_iter_items c.loop-its_seats.its_seats-iterator)
+    (into_iter_items c.next.new.self) x c.requires.own was.1.1 rest c.requires.passes in (
+      search rules,
+      (
+        front ++ x ∷ [],
+        goes_on (vec_items c.args.seats) front
+            (into_iter_items c.loop-its_seats.its_seats-iterator)
+            (into_iter_items c.next.new.self) x was.1.1 rest,
+        omega (arith, long, is_long),
+        rows_grow front c.args.directories.now x (vec_items c.loop-its_seats.rows)
+            (vec_items c.hand_out.new.rows) (vec_items c.in_ok-passes.passes) was.1.3
+            c.in_ok-passes.ensures.ok count c.in_ok-hand_out.ensures.count
+            c.in_ok-hand_out.ensures.each,
+      ),
+    )
+
+pub hand_out-requires : goal.hand_out-requires
+hand_out-requires g c =
+    let was = c.loop-its_seats.invariant in
+    let front : List StoreId = was.1.0 in
+    let x : StoreId = c.in-Some.its_seats in
+    let rest : into_iter_items c.loop-its_seats.its_seats-iterator
+    ≡ c.in-Some.its_seats ∷ into_iter_items c.next.new.self = search rules in
+    let count : x.passes ≡ length c.args.directories.now =
+    holds_own (λ (s : StoreId). s.passes ≡ length c.args.directories.now)
+    (vec_items c.args.seats) c.args.stores.now
+    front (into_iter_items c.loop-its_seats.its_seats-iterator)
+    (into_iter_items c.next.new.self) x c.requires.own was.1.1 rest c.requires.passes in
+    record {
+      count = c.in_ok-passes.ensures.count ∙ count
+          ∙ sym (c.loop-its_seats.rows.ok.0 ∙ ap (λ (l : List Dealt). length l) was.1.3
+          ∙ length-dealt front c.args.directories.now 1);
+    }
+
+pub returns : goal.returns
+returns g c =
+    let was = c.loop-its_seats.invariant in
+    let none : into_iter_len c.loop-its_seats.its_seats-iterator ≡ 0 = search rules in
+    let count = was.0 in
+    let front = was.1.2 in
+    let own : length (vec_items c.args.seats) ≡ length c.args.stores.now =
+    ap (λ (l : List StoreId). length l) c.requires.own in
+    record {
+      rows = was.1.3
+          ∙ ap (λ (l : List StoreId). dealt_from l c.args.directories.now 1)
+          (taken (vec_items c.args.seats) was.1.0
+          (into_iter_items c.loop-its_seats.its_seats-iterator) was.1.1
+          (omega (arith, none, count, front, own)) ∙ c.requires.own);
+    }

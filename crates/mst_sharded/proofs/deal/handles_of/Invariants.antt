@@ -1,0 +1,11 @@
+use Rattle.std.specs.Prelude.{◌≡◌, ◌+◌, ◌++◌, List, map, length, vec_items}
+use Rattle.std.specs.Vec.Iter.{into_iter_items, into_iter_len}
+use Rattle.mst_sharded.specs.Sharding.{sharding}
+use Rattle.mst_sharded.specs.Opening.{Dealt}
+use Rattle.mst_sharded.proofs.deal.handles_of.Given as goal
+
+abbrev pub invariant-loop-row : goal.invariant-loop-row
+invariant-loop-row g l =
+    (front : List Dealt) × (vec_items l.fn.rows ≡ front ++ into_iter_items l.row-iterator)
+    × (length front + into_iter_len l.row-iterator ≡ length (vec_items l.fn.rows))
+    × (vec_items l.handles ≡ map (λ d. sharding l.splits d.passes) front)

@@ -1,0 +1,66 @@
+use Rattle.std.proofs.Common.{◌≡◌, ◌∷◌, ◌++◌, [], List, length, vec_items, rules, arith, sym, ap, ◌∙◌, length-append}
+use Rattle.std.specs.Vec.Iter.{into_iter_items, into_iter_len}
+use Rattle.mst_store.specs.Passes.{StoreId}
+use Rattle.mst_sharded.specs.Opening.{Dealt, dealt_from}
+use Rattle.mst_sharded.proofs.Rows.{goes_on, own_next, holds_own, taken}
+use Rattle.mst_sharded.proofs.Dealing.{one_more_row}
+use Rattle.mst_sharded.proofs.deal.rows_of.Goals as goal
+
+pub row_at-requires-clause-own : goal.row_at-requires-clause-own
+row_at-requires-clause-own g c =
+    let was = c.loop-its_seats.invariant in
+    let rest : into_iter_items c.loop-its_seats.its_seats-iterator
+    ≡ c.in-Some.its_seats ∷ into_iter_items c.next.new.self = search rules in
+    own_next (vec_items c.args.seats) c.args.directories.now was.1.0
+    (into_iter_items c.loop-its_seats.its_seats-iterator) (into_iter_items c.next.new.self)
+    c.in-Some.its_seats c.loop-its_seats.place c.requires.own was.1.1 rest was.1.2
+
+pub row_at-requires-clause-alone : goal.row_at-requires-clause-alone
+row_at-requires-clause-alone g c =
+    let was = c.loop-its_seats.invariant in
+    let rest : into_iter_items c.loop-its_seats.its_seats-iterator
+    ≡ c.in-Some.its_seats ∷ into_iter_items c.next.new.self = search rules in
+    holds_own (λ (s : StoreId). s.passes ≡ 1) (vec_items c.args.seats) c.args.directories.now
+    was.1.0 (into_iter_items c.loop-its_seats.its_seats-iterator)
+    (into_iter_items c.next.new.self) c.in-Some.its_seats c.requires.own was.1.1 rest
+    c.requires.alone
+
+pub loop-its_seats-preserved : goal.loop-its_seats-preserved
+loop-its_seats-preserved g c =
+    let was = c.loop-its_seats.invariant in
+    let front : List StoreId = was.1.0 in
+    let x : StoreId = c.in-Some.its_seats in
+    let rest : into_iter_items c.loop-its_seats.its_seats-iterator
+    ≡ c.in-Some.its_seats ∷ into_iter_items c.next.new.self = search rules in
+    let pushed : vec_items c.push.new.self
+    ≡ vec_items c.loop-its_seats.rows ++ c.in_ok-row.row ∷ [] = search rules in
+    let long = length-append front (x ∷ []) in
+    let is_long : length front ≡ c.loop-its_seats.place = was.1.2 in (
+      search rules,
+      (
+        front ++ x ∷ [],
+        goes_on (vec_items c.args.seats) front
+            (into_iter_items c.loop-its_seats.its_seats-iterator)
+            (into_iter_items c.next.new.self) x was.1.1 rest,
+        omega (arith, long, is_long),
+        pushed ∙ ap (λ (l : List Dealt). l ++ c.in_ok-row.row ∷ []) was.1.3
+            ∙ ap (λ (r : Dealt). dealt_from [] front 1 ++ r ∷ []) c.in_ok-row.ensures.ok
+            ∙ sym (one_more_row front x 1),
+      ),
+    )
+
+pub returns : goal.returns
+returns g c =
+    let was = c.loop-its_seats.invariant in
+    let none : into_iter_len c.loop-its_seats.its_seats-iterator ≡ 0 = search rules in
+    let count = was.0 in
+    let front = was.1.2 in
+    let own : length (vec_items c.args.seats) ≡ length c.args.directories.now =
+    ap (λ (l : List StoreId). length l) c.requires.own in
+    record {
+      rows = was.1.3
+          ∙ ap (λ (l : List StoreId). dealt_from [] l 1)
+          (taken (vec_items c.args.seats) was.1.0
+          (into_iter_items c.loop-its_seats.its_seats-iterator) was.1.1
+          (omega (arith, none, count, front, own)) ∙ c.requires.own);
+    }

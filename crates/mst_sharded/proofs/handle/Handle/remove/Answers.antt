@@ -1,0 +1,16 @@
+use Rattle.mst_key.specs.declared.history.Change.TheVariants.{Remove}
+use Rattle.mst_store.specs.Passes.{Known}
+use Rattle.mst_sharded.proofs.Listed.{waited_more, handle_kept}
+use Rattle.mst_sharded.proofs.handle.Handle.remove.Goals as goal
+
+pub invariant_of-self : goal.invariant_of-self
+invariant_of-self g c =
+    let was = c.self.invariant in
+    let p : Known = c.index_mut.result.now in
+    let q : Known = c.remove.new.self in
+    let kept = handle_kept c.self.inside.splits.now c.self.inside.directory
+    c.self.inside.passes.items c.place_of-place.result p q was.0 was.1
+    c.place_of-place.ensures.within c.index_mut.ensures.value
+    (waited_more c.remove.result (Remove c.args.key.now) p q
+    c.remove.ensures.ok c.remove.ensures.err) in
+    (kept.sharding_is, kept.listed, was.2, was.3)

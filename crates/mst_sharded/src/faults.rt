@@ -1,0 +1,58 @@
+//! Why calls are refused.
+use mst_key::Memory;
+use mst_store::{ApplyFault, MigrateFault};
+use thiserror::Error;
+
+/// Why a sharded map was not opened.
+#[derive(Clone, Copy, Debug, PartialEq, Eq, Error)]
+pub enum ShardsFault {
+    /// The splits do not rise strictly from above the key of one zero byte, or are more than 1,023.
+    #[error("splits rise strictly, from above the least key, and are at most 1023")]
+    Splits,
+    /// A shard has fewer than 4 or more than 65,535 rows, or fewer than 1 or more than 32 passes.
+    #[error("a shard has 4 to 65535 rows and 1 to 32 passes")]
+    Shape,
+    /// A growth was refused.
+    #[error("no memory")]
+    Memory(Memory),
+}
+
+/// Why a batch of edits stopped.
+#[derive(Clone, Copy, Debug, PartialEq, Eq, Error)]
+pub enum SpreadFault {
+    /// A growth of the lists of the edits was refused. No shard was changed.
+    #[error("no memory")]
+    Memory(Memory),
+    /// The shard at this place, from 0, was refused its edits. The shards before it have theirs,
+    /// and those behind it were not tried.
+    #[error("shard {0}: {1}")]
+    Shard(usize, ApplyFault),
+}
+
+/// Why a migration stopped: the shard at this place, from 0, was refused. The shards before it are
+/// migrated, and those behind it were not tried.
+#[derive(Clone, Copy, Debug, PartialEq, Eq, Error)]
+#[error("shard {shard}: {fault}")]
+pub struct StoppedMigration {
+    /// The place of the shard, from 0.
+    pub shard: usize,
+    /// Why it was refused.
+    pub fault: MigrateFault,
+}
+
+/// Why a snapshot has no directory, no root digest and no proof.
+#[derive(Clone, Copy, Debug, PartialEq, Eq, Error)]
+pub enum DirectoryFault {
+    /// Two shards are in different formats.
+    #[error("the shards are in different formats")]
+    Mixed,
+    /// A shard has a key outside of its interval. No handle makes one so.
+    #[error("a shard has a key of another")]
+    Stray,
+    /// The handle's directory has changed 2^63 - 1 times.
+    #[error("the versions of the directory are spent")]
+    VersionsSpent,
+    /// A growth was refused.
+    #[error("no memory")]
+    Memory(Memory),
+}

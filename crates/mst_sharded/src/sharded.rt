@@ -1,0 +1,242 @@
+//! A sharded map, and its opening.
+ghost use Rattle.std.specs.Prelude.{◌≡◌, ◌↔◌, ◌≤◌, ◌+◌, ◌++◌, ◌∷◌, ℕ, [], true, length, IfOk, OnOk, IsErrOf};
+ghost use Rattle.std.specs.List.{AllByRecursion};
+ghost use Rattle.std.specs.declared.cmp.Ordering.TheVariants.{Less};
+ghost use Rattle.mst_key.specs.Bytes.{IsKey};
+ghost use Rattle.mst_key.specs.Map.{key_cmp};
+ghost use Rattle.mst_store.specs.Passes.{StoreId, IsShape, HasShape};
+ghost use Rattle.mst_sharded_proof.specs.Shards.{AreSplits};
+ghost use Rattle.mst_sharded.specs.Sharding.{IsSplits};
+ghost use Rattle.mst_sharded.specs.Opening.{directory_shape as shape_of_directory, HasShards, seats_of};
+
+use crate::faults::ShardsFault;
+use mst_key::{Format, Key, Memory};
+use mst_store::{OpenFault, Seats, Shape, Store};
+use std::alloc::Allocator;
+use std::cmp::Ordering;
+use std::marker::Model;
+
+/// The most splits of a sharded map.
+const MOST_SPLITS: usize = 1023;
+
+/// Rows of a directory's store for each shard: two that list it before a change, and two after it.
+const ROWS_OF_SHARD: u32 = 4;
+
+/// Rows of a directory's store that are left over.
+const SPARE_ROWS: u32 = 64;
+
+/// A sharded map: its splits, the store of each shard, and for each handle the store of its
+/// directory. Its handles share it through a reference.
+#[derive(Drop)]
+pub struct Sharded<A: Allocator + Copy> {
+    pub(crate) splits: Vec<Key, A>,
+    shape: Shape,
+    pub(crate) stores: Vec<Store<A>, A>,
+    pub(crate) directories: Vec<Store<A>, A>,
+}
+
+/// Contracts see the splits, and which stores they are.
+impl<A: Allocator + Copy> Model for Sharded<A> {
+    ghost use Rattle.mst_sharded.specs.Sharding.{IsSplits};
+    ghost use Rattle.mst_sharded.specs.Opening.{Shards, HasShards};
+
+    ghost Value = { Shards };
+
+    ghost view = { λ s. record {
+      splits = s.splits.items;
+      stores = s.stores.items;
+      directories = s.directories.items;
+    } };
+
+    ghost invariant = { λ s. IsSplits s.splits.items × HasShards s.splits.items s.shape (record {
+      splits = s.splits.items;
+      stores = s.stores.items;
+      directories = s.directories.items;
+    }) };
+}
+
+/// The right to deal the handles of one sharded map, once.
+#[derive(Drop)]
+pub struct AllSeats<A: Allocator + Copy> {
+    pub(crate) stores: Vec<Seats<A>, A>,
+    pub(crate) directories: Vec<Seats<A>, A>,
+}
+
+/// Contracts see which stores they are of.
+impl<A: Allocator + Copy> Model for AllSeats<A> {
+    ghost use Rattle.mst_sharded.specs.Opening.{Seating};
+
+    ghost Value = { Seating };
+
+    ghost view = { λ s. record { stores = s.stores.items; directories = s.directories.items } };
+}
+
+// Whether splits rise strictly, from above a key.
+fn rise(low: &Key, splits: &[Key]) -> bool
+    ensures rise { result ≡ true ↔ AreSplits low.now splits.now }
+{
+    match splits {
+        [] => true,
+        [first, rest @ ..] => is_above(first, low) && rise(first, rest),
+    }
+}
+
+// Says that a key is within its limits, as all are by their type.
+fn within_limits(key: &Key)
+    ensures key { IsKey key.now }
+{
+    let _bytes = key.bytes();
+}
+
+// Whether a key comes before another.
+fn precedes(one: &Key, other: &Key) -> bool
+    ensures less { result ≡ true ↔ (key_cmp one.now other.now ≡ Less) }
+{
+    match one.cmp(other) {
+        Ordering::Less => true,
+        Ordering::Equal | Ordering::Greater => false,
+    }
+}
+
+// Whether a key, which is within its limits, is above another.
+fn is_above(key: &Key, low: &Key) -> bool
+    ensures above { result ≡ true ↔ (key_cmp low.now key.now ≡ Less) × IsKey key.now }
+{
+    within_limits(key);
+    precedes(low, key)
+}
+
+// Whether a sharded map may have these splits.
+fn are_splits(splits: &[Key]) -> bool
+    ensures splits { result ≡ true ↔ IsSplits splits.now }
+{
+    // a key has at least one byte
+    let Ok(least) = Key::new(&[0]) else {
+        unreachable!()
+    };
+    splits.len() <= MOST_SPLITS && rise(&least, splits)
+}
+
+// Whether a store of a shard may have this shape.
+fn is_shape(shape: Shape) -> bool
+    ensures { result ≡ true ↔ IsShape shape }
+{
+    (4..=65_535).contains(&shape.rows) && (1..=32).contains(&shape.passes)
+}
+
+// The shape of the store of a directory of so many shards.
+fn directory_shape(shards: usize, format: Format) -> Shape
+    requires few { shards ≤ 1024 }
+    ensures shape { result ≡ shape_of_directory shards format }
+    ensures is { IsShape result }
+{
+    Shape {
+        rows: ROWS_OF_SHARD * shards as u32 + SPARE_ROWS,
+        passes: 1,
+        format,
+    }
+}
+
+// Opens a store, and adds it to those before.
+fn open_one<A: Allocator + Copy>(
+    alloc: A,
+    shape: Shape,
+    stores: &mut Vec<Store<A>, A>,
+    seats: &mut Vec<Seats<A>, A>,
+) -> Result<(), Memory>
+    requires shape { IsShape shape }
+    ensures added { OnOk result ((s : StoreId) × HasShape shape s
+        × (stores.new.items ≡ stores.old.items ++ s ∷ [])
+        × (seats.new.items ≡ seats.old.items ++ s ∷ [])) }
+{
+    let (store, its_seats) = match Store::open(alloc, shape) {
+        Ok(opened) => opened,
+        Err(OpenFault::Shape) => unreachable!(),
+        Err(OpenFault::Memory(refused)) => return Err(refused),
+    };
+    stores.push(store)?;
+    seats.push(its_seats)?;
+    Ok(())
+}
+
+// Opens so many stores of a shape.
+fn open_all<A: Allocator + Copy>(
+    alloc: A,
+    count: usize,
+    shape: Shape,
+) -> Result<(Vec<Store<A>, A>, Vec<Seats<A>, A>), Memory>
+    requires shape { IsShape shape }
+    ensures count { IfOk result (λ opened. length opened.0.items ≡ count) }
+    ensures stores { IfOk result (λ opened. AllByRecursion (HasShape shape) opened.0.items) }
+    ensures seats { IfOk result (λ opened. opened.1.items ≡ opened.0.items) }
+{
+    let mut stores = Vec::new(alloc);
+    let mut seats = Vec::new(alloc);
+    for _ in 0..count {
+        open_one(alloc, shape, &mut stores, &mut seats)?;
+    }
+    Ok((stores, seats))
+}
+
+// Opens the stores of a sharded map.
+fn open_stores<A: Allocator + Copy>(
+    alloc: A,
+    splits: Vec<Key, A>,
+    shape: Shape,
+) -> Result<(Sharded<A>, AllSeats<A>), Memory>
+    requires splits { IsSplits splits.items }
+    requires shape { IsShape shape }
+    ensures shards { IfOk result (λ opened. HasShards splits.items shape opened.0) }
+    ensures seats { IfOk result (λ opened. opened.1 ≡ seats_of opened.0) }
+{
+    let shards = splits.len() + 1;
+    let (stores, seats) = open_all(alloc, shards, shape)?;
+    let directory = directory_shape(shards, shape.format);
+    let (directories, their_seats) = open_all(alloc, shape.passes as usize, directory)?;
+    Ok((
+        Sharded {
+            splits,
+            shape,
+            stores,
+            directories,
+        },
+        AllSeats {
+            stores: seats,
+            directories: their_seats,
+        },
+    ))
+}
+
+impl<A: Allocator + Copy> Sharded<A> {
+    /// Opens a sharded map with these splits, each shard of this shape, and for each handle the
+    /// store of its directory. Returns it with the right to deal its handles, of which it has as
+    /// many as a shard has passes. All memory of the stores is taken here.
+    ///
+    /// Returns `Splits` exactly if the splits do not rise strictly from above the key of one zero
+    /// byte, or are more than 1,023; otherwise `Shape` exactly if a shard would have fewer than 4
+    /// or more than 65,535 rows, or fewer than 1 or more than 32 passes; otherwise `Memory` if a
+    /// growth was refused.
+    pub fn open(
+        alloc: A,
+        splits: Vec<Key, A>,
+        shape: Shape,
+    ) -> Result<(Sharded<A>, AllSeats<A>), ShardsFault>
+        ensures splits { IsErrOf result ShardsFault.Splits ↔ ¬ (IsSplits splits.items) }
+        ensures shape { IsErrOf result ShardsFault.Shape
+            ↔ (IsSplits splits.items × ¬ (IsShape shape)) }
+        ensures limits { OnOk result (IsSplits splits.items × IsShape shape) }
+        ensures shards { IfOk result (λ opened. HasShards splits.items shape opened.0) }
+        ensures seats { IfOk result (λ opened. opened.1 ≡ seats_of opened.0) }
+    {
+        if !are_splits(splits.as_slice()) {
+            return Err(ShardsFault::Splits);
+        }
+        if !is_shape(shape) {
+            return Err(ShardsFault::Shape);
+        }
+        match open_stores(alloc, splits, shape) {
+            Ok(opened) => Ok(opened),
+            Err(refused) => Err(ShardsFault::Memory(refused)),
+        }
+    }
+}

@@ -1,0 +1,18 @@
+//! Tests of sharded maps over their public calls: opening, reads and writes beside a plain list,
+//! batches of edits, migrations, snapshots with their proofs, and each growth that is refused.
+#![tactic(auto)]
+
+#[cfg(test)]
+mod batches;
+#[cfg(test)]
+mod growths;
+#[cfg(test)]
+mod maps;
+#[cfg(test)]
+mod opening;
+#[cfg(test)]
+mod plain;
+#[cfg(test)]
+mod snapshots;
+#[cfg(test)]
+mod writes;
