@@ -180,7 +180,8 @@ proof_is format splits l ps q p i key low over under bytes is count all stay at 
     let chosen : s ≡ shard_of splits key =
     ap (shard_at splits) at ∙ sym (key_place splits key) in
     joined
-    ∙ ap (λ (b : List ℕ). framing format (record { low = b; directory = over; shard = under })) low_s
+    ∙ ap (λ (b : List ℕ). framing format (record { low = b; directory = over; shard = under }))
+    low_s
     ∙ ap (λ (b : List ℕ). framing format (record { low = s.low; directory = b; shard = under }))
     over_s
     ∙ ap (λ (b : List ℕ). framing format (record {

@@ -41,11 +41,12 @@ some_here p m none = let is : Some p.1 ≡ None = sym (map_get-here p m p.0 refl
 -- the keys above the first shard's are those of the others
 without_first : (s : Shard) (shards : List Shard) (m : List Pair) → AllAbove m s.low
     → ((k : List ℕ) → map_get m k ≢ None → Contains (s.low ∷ lows shards) k) → HasLows m shards
-without_first s shards m above has k some = elim (contains-cases s.low (lows shards) k (has k some)) [
-  | inl same ↦
-      absurd (some (ap (λ (a : List ℕ). map_get m a) (sym same) ∙ map_get-above m s.low above))
-  | inr later ↦ later
-]
+without_first s shards m above has k some =
+    elim (contains-cases s.low (lows shards) k (has k some)) [
+      | inl same ↦
+          absurd (some (ap (λ (a : List ℕ). map_get m a) (sym same) ∙ map_get-above m s.low above))
+      | inr later ↦ later
+    ]
 
 few_keys : (b : List ℕ) (shards : List Shard) (m : List Pair) → RiseFrom b shards → IsAscending m
     → HasLows m shards → length m ≤ length shards
