@@ -13,6 +13,8 @@ mod opening;
 #[cfg(test)]
 mod plain;
 #[cfg(test)]
+mod roots;
+#[cfg(test)]
 mod snapshots;
 #[cfg(test)]
 mod writes;
