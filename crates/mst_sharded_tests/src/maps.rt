@@ -43,7 +43,7 @@ pub(crate) fn numbered(rt: &impl Abort, number: usize) -> Key {
 pub(crate) fn splits_of(rt: &(impl Abort + AllocGlobal), shards: usize) -> Vec<Key> {
     let mut splits = Vec::new(rt.alloc());
     for shard in 1..shards {
-        let split = numbered(rt, shard * KEYS / shards);
+        let split = numbered(rt, shard.wrapping_mul(KEYS) / shards);
         splits.push(split).expect(rt, "memory");
     }
     splits

@@ -40,7 +40,7 @@ fn splits_rise_strictly_from_above_the_least_key(rt: HostRuntime) {
 fn many(rt: &(impl Abort + AllocGlobal), count: usize) -> Vec<Key> {
     let mut splits = Vec::new(rt.alloc());
     for number in 0..count {
-        let split = key(rt, &[(number / 256 + 1) as u8, (number % 256) as u8]);
+        let split = key(rt, &[(number / 256 % 255 + 1) as u8, (number % 256) as u8]);
         splits.push(split).expect(rt, "memory");
     }
     splits

@@ -88,10 +88,12 @@ fn one_shard_is_a_store(rt: HostRuntime) {
     let Ok(mut passes) = store.deal(rt.alloc(), its_seats) else {
         panic!(rt; "no memory")
     };
-    assert!(rt; handles.len() == 1 && passes.len() == 1);
+    let (Some(mut handle), Some(mut pass)) = (handles.pop(), passes.pop()) else {
+        panic!(rt; "a handle and a pass")
+    };
     for number in 0..200u32 {
         let (place, left) = write_of(number);
         let key = numbered(&rt, place);
-        assert!(rt; alike(&mut passes[0], &mut handles[0], &key, &value(&rt, left)));
+        assert!(rt; alike(&mut pass, &mut handle, &key, &value(&rt, left)));
     }
 }
