@@ -30,4 +30,3 @@ pub mod Builds
 pub mod Marks
 pub mod Finding
 pub mod Loads
-pub mod NewRows

@@ -54,8 +54,6 @@ mod sharing;
 mod single;
 mod sowing;
 mod standing;
-#[cfg(test)]
-mod tests;
 mod top;
 
 pub use applying::apply;

@@ -4,9 +4,9 @@ ghost use Rattle.mst_key.specs.Bytes.{IsKey, IsValue};
 ghost use Rattle.mst_key.specs.Layer.{layer_in};
 ghost use Rattle.mst_batch.specs.Plans.{kept, made, last, entry, with_planned, planned_entry, plan_of};
 
-use super::{key_of, value_of};
-use crate::{Plan, PlanEntry, PlanNode, carry_out, rows_of};
+use crate::batches::{key_of, value_of};
 use mst_arena::{Desk, PlainRows, Root};
+use mst_batch::{Plan, PlanEntry, PlanNode, carry_out, rows_of};
 use mst_key::{Format, Key, Memory, Value};
 use mst_node::root_of_in;
 use mst_path::{NoRoom, root_at};

@@ -1,15 +1,13 @@
 //! Batches in the empty map and batches of one edit, over plain rows.
 ghost use Rattle.std.specs.Prelude.{◌<◌, ◌≤◌, length};
 
-use super::{Spelt, edit_of, edits_of, key_of, pairs_of, value_of};
-use crate::NotApplied;
-use crate::loading::load;
-use crate::single::apply_one;
+use crate::batches::{Spelt, edit_of, edits_of, key_of, pairs_of, value_of};
 use linked_list_allocator::LocalHeap;
 use mst_arena::{Desk, PlainRows, Root};
+use mst_batch::{NotApplied, apply};
 use mst_key::{Edit, Format, Key, Memory, Value};
 use mst_node::root_of_in;
-use mst_path::{NoRoom, root_at};
+use mst_path::root_at;
 use std::alloc::{Allocator, Global};
 use std::process::Abort;
 
@@ -64,14 +62,13 @@ fn load_into<B: Allocator + Copy>(
     edits: &[Edit],
     size: u32,
 ) -> Result<Loaded, Memory>
-    requires edits { 1 < length edits.now }
     requires some { 0 < size }
     requires few { size ≤ 65535 }
 {
     let mut desk = Desk::new(alloc, size, 2, 0)?;
     let mut rows = PlainRows::new(alloc, size)?;
     let empty = root_at(&mut rows, 0);
-    let root = load(&mut rows, &mut desk, &empty, heap, edits, format);
+    let root = apply(&mut rows, &mut desk, &empty, heap, edits, format);
     let free = desk.free();
     Ok(Loaded { root, free })
 }
@@ -148,14 +145,21 @@ fn edit_alone(
     format: Format,
     edit: &Edit,
     size: u32,
-) -> Result<Result<Root, NoRoom>, Memory>
+) -> Result<Result<Root, NotApplied>, Memory>
     requires some { 0 < size }
     requires few { size ≤ 65535 }
 {
     let mut desk = Desk::new(alloc, size, 2, 0)?;
     let mut rows = PlainRows::new(alloc, size)?;
     let empty = root_at(&mut rows, 0);
-    Ok(apply_one(&mut rows, &mut desk, &empty, edit, format))
+    Ok(apply(
+        &mut rows,
+        &mut desk,
+        &empty,
+        alloc,
+        std::slice::from_ref(edit),
+        format,
+    ))
 }
 
 /// Puts a pair into the empty map of one row and of two, and removes its key from it.
@@ -166,7 +170,7 @@ fn check_alone(rt: &impl Abort, alloc: Global, format: Format, key: &'static str
     let full = edit_alone(alloc, format, &put, 1).expect(rt, "memory");
     let made = edit_alone(alloc, format, &put, 2).expect(rt, "memory");
     let stays = edit_alone(alloc, format, &remove, 1).expect(rt, "memory");
-    assert!(rt; full == Err(NoRoom));
+    assert!(rt; full == Err(NotApplied::NoRoom));
     assert!(rt; made.expect(rt, "two rows").digest == root_of_in(format, &after));
     assert!(rt; stays.expect(rt, "no row").digest == root_of_in(format, &[]));
 }

@@ -1,17 +1,13 @@
-//! Batches by worked rows, against edits made one by one, and with each growth refused. In `plans`
-//! a plan is carried out; in `loads` are batches in the empty map and batches of one edit.
-mod loads;
-mod plans;
-
-use crate::{edited_pairs, normal_edits};
+//! Batches by worked rows, against edits made one by one, and with each growth refused.
 use linked_list_allocator::LocalHeap;
+use mst_batch::{edited_pairs, normal_edits};
 use mst_key::{Edit, Key, Memory, Value};
 use mst_node::is_map;
 use std::alloc::{Allocator, Global};
 use std::process::Abort;
 
 /// An edit as it is spelt: its key, and the value that it puts, or none if it removes the key.
-type Spelt = (&'static str, Option<&'static str>);
+pub(crate) type Spelt = (&'static str, Option<&'static str>);
 
 /// A batch by hand: the pairs before it, its edits, what is left of them, and the pairs after it.
 struct Worked {
@@ -63,22 +59,22 @@ const BATCHES: &[Worked] = &[
     },
 ];
 
-fn key_of(rt: &impl Abort, text: &str) -> Key {
+pub(crate) fn key_of(rt: &impl Abort, text: &str) -> Key {
     Key::new(text.as_bytes()).expect(rt, "1 to 32 bytes")
 }
 
-fn value_of(rt: &impl Abort, text: &str) -> Value {
+pub(crate) fn value_of(rt: &impl Abort, text: &str) -> Value {
     Value::new(text.as_bytes()).expect(rt, "at most 64 bytes")
 }
 
-fn edit_of(rt: &impl Abort, spelt: &Spelt) -> Edit {
+pub(crate) fn edit_of(rt: &impl Abort, spelt: &Spelt) -> Edit {
     match spelt.1 {
         Some(value) => Edit::Put(key_of(rt, spelt.0), value_of(rt, value)),
         None => Edit::Remove(key_of(rt, spelt.0)),
     }
 }
 
-fn edits_of(rt: &impl Abort, alloc: Global, spelt: &[Spelt]) -> Vec<Edit> {
+pub(crate) fn edits_of(rt: &impl Abort, alloc: Global, spelt: &[Spelt]) -> Vec<Edit> {
     let mut edits = Vec::new(alloc);
     for one in spelt {
         edits.push(edit_of(rt, one)).expect(rt, "memory");
@@ -86,7 +82,7 @@ fn edits_of(rt: &impl Abort, alloc: Global, spelt: &[Spelt]) -> Vec<Edit> {
     edits
 }
 
-fn pairs_of(rt: &impl Abort, alloc: Global, spelt: &[(&str, &str)]) -> Vec<(Key, Value)> {
+pub(crate) fn pairs_of(rt: &impl Abort, alloc: Global, spelt: &[(&str, &str)]) -> Vec<(Key, Value)> {
     let mut pairs = Vec::new(alloc);
     for (key, value) in spelt {
         let pair = (key_of(rt, key), value_of(rt, value));

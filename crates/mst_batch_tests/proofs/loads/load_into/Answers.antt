@@ -1,8 +1,8 @@
 use Rattle.std.proofs.Common.{refl, ◌∙◌, ap}
 use Rattle.mst_arena.specs.Lives.{State}
 use Rattle.mst_arena.specs.Standing.{none}
-use Rattle.mst_batch.proofs.NewRows.{new_blank, new_stands}
-use Rattle.mst_batch.proofs.tests.loads.load_into.Goals as goal
+use Rattle.mst_batch_tests.proofs.NewRows.{new_blank, new_stands}
+use Rattle.mst_batch_tests.proofs.loads.load_into.Goals as goal
 
 pub root_at-empty-requires : goal.root_at-empty-requires
 root_at-empty-requires g c = record { stands = (c.args.format, none, refl, tt) }

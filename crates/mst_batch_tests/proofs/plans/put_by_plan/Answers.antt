@@ -6,9 +6,9 @@ use Rattle.mst_arena.specs.Lives.{State}
 use Rattle.mst_arena.specs.Standing.{none}
 use Rattle.mst_batch.specs.Carrying.{IsPlanOf}
 use Rattle.mst_batch.specs.Plans.{PlanTree}
-use Rattle.mst_batch.proofs.NewRows.{new_blank}
+use Rattle.mst_batch_tests.proofs.NewRows.{new_blank}
 use Rattle.mst_batch.proofs.SmallPlans.{empty_stands, plants_one}
-use Rattle.mst_batch.proofs.tests.plans.put_by_plan.Goals as goal
+use Rattle.mst_batch_tests.proofs.plans.put_by_plan.Goals as goal
 
 pub root_at-old-requires : goal.root_at-old-requires
 root_at-old-requires c = record { stands = (c.args.format, none, refl, tt) }
