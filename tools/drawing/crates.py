@@ -27,7 +27,13 @@ LAYERS = [
     (("trees, digests; lines",), {"mst_node": 610, "mst_lines": 1090}),
     (("keys, maps; devices",), {"mst_key": 610, "mst_devices": 1090}),
 ]
-TESTS = {"mst_tree_tests", "mst_store_tests", "mst_sharded_tests", "mst_program_tests"}
+TESTS = {
+    "mst_tree_tests",
+    "mst_batch_tests",
+    "mst_store_tests",
+    "mst_sharded_tests",
+    "mst_program_tests",
+}
 NOT_DRAWN = {"mst_audit", "mst_bench", "mst_walk", *TESTS}
 FOR_C = {"mst_verifier", "mst_c"}
 BENT = {("mst_command", "mst_report")}
