@@ -82,7 +82,11 @@ pub(crate) fn edits_of(rt: &impl Abort, alloc: Global, spelt: &[Spelt]) -> Vec<E
     edits
 }
 
-pub(crate) fn pairs_of(rt: &impl Abort, alloc: Global, spelt: &[(&str, &str)]) -> Vec<(Key, Value)> {
+pub(crate) fn pairs_of(
+    rt: &impl Abort,
+    alloc: Global,
+    spelt: &[(&str, &str)],
+) -> Vec<(Key, Value)> {
     let mut pairs = Vec::new(alloc);
     for (key, value) in spelt {
         let pair = (key_of(rt, key), value_of(rt, value));

@@ -7,13 +7,13 @@ use Rattle.mst_batch_tests.proofs.loads.edit_alone.Goals as goal
 pub root_at-empty-requires : goal.root_at-empty-requires
 root_at-empty-requires c = record { stands = (c.args.format, none, refl, tt) }
 
-pub apply_one-requires-clause-stands : goal.apply_one-requires-clause-stands
-apply_one-requires-clause-stands c =
+pub apply-requires-clause-stands : goal.apply-requires-clause-stands
+apply-requires-clause-stands c =
     new_stands c.args.format _ c.in_ok-desk.desk _
     (c.root_at-empty.ensures.root c.args.format none refl tt)
 
-pub apply_one-requires-clause-free : goal.apply_one-requires-clause-free
-apply_one-requires-clause-free c =
+pub apply-requires-clause-free : goal.apply-requires-clause-free
+apply-requires-clause-free c =
     new_blank c.args.size c.in_ok-desk.desk.lives c.root_at-empty.new.rows
     (ap (λ (s : State). s.lives) c.in_ok-desk.ensures.ok)
     (c.root_at-empty.ensures.same ∙ c.in_ok-rows.ensures.ok)

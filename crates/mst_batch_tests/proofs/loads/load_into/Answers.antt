@@ -7,17 +7,13 @@ use Rattle.mst_batch_tests.proofs.loads.load_into.Goals as goal
 pub root_at-empty-requires : goal.root_at-empty-requires
 root_at-empty-requires g c = record { stands = (c.args.format, none, refl, tt) }
 
-pub load-root-requires-clause-stands : goal.load-root-requires-clause-stands
-load-root-requires-clause-stands g c =
+pub apply-root-requires-clause-stands : goal.apply-root-requires-clause-stands
+apply-root-requires-clause-stands g c =
     new_stands c.args.format _ c.in_ok-desk.desk _
     (c.root_at-empty.ensures.root c.args.format none refl tt)
 
-pub load-root-requires-clause-empty : goal.load-root-requires-clause-empty
-load-root-requires-clause-empty g c =
-    (c.root_at-empty.ensures.root c.args.format none refl tt).link
-
-pub load-root-requires-clause-free : goal.load-root-requires-clause-free
-load-root-requires-clause-free g c =
+pub apply-root-requires-clause-free : goal.apply-root-requires-clause-free
+apply-root-requires-clause-free g c =
     new_blank c.args.size c.in_ok-desk.desk.lives c.root_at-empty.new.rows
     (ap (λ (s : State). s.lives) c.in_ok-desk.ensures.ok)
     (c.root_at-empty.ensures.same ∙ c.in_ok-rows.ensures.ok)
