@@ -19,19 +19,30 @@
  *
  * What a caller owes, and nothing checks:
  *   - a hand is MST_PASS_CLOSED before its first call, and is neither copied nor written by the
- *     caller;
+ *     caller. It may be moved to another place, if the old place is not used again;
  *   - a hand is in one call at a time. If it goes from one thread to another, it goes with a lock,
  *     with the start or the end of a thread, or with a sequentially consistent atomic;
- *   - pointers are valid for their lengths, and what a call writes overlaps nothing else that it is
- *     given. If a length is 0, the pointer is not read and may be null;
- *   - malloc, realloc and free are of one allocator and align to 16 bytes;
+ *   - pointers are valid for their lengths, that of mst_open for its count of hands, and what a
+ *     call writes overlaps nothing else that it is given. If a length is 0, the pointer is not read
+ *     and may be null;
+ *   - during a call no other thread writes what the call reads (key, value, bounds, edits), or
+ *     touches what it may write (the hand, rooms, and where it tells lengths and numbers);
+ *   - malloc, realloc and free are of one allocator and align to 16 bytes. They return: neither an
+ *     exception nor longjmp leads out of them, and no thread is cancelled within a call
+ *     (pthread_cancel with asynchronous cancellation);
+ *   - a thread has stack left for a call: 16 KiB are enough over maps of random keys. Keys that were
+ *     chosen to make a tree deep, of at most 129 layers, take less than 128 KiB, a batch 144 KiB,
+ *     and a call then nests less than 140 functions;
  *   - no call is made in a signal handler, or in the forked child of a process with threads.
+ *
+ * A length that is out of its limits is refused without a look at the bytes, however great it is.
  *
  * A call returns a number, for bytes of any kind and any length. Keys have 1 to 32 bytes, values 0
  * to 64. The numbers below never change, and those of mst_verifier.h have the same meaning here. If
  * several refusals apply, a call returns the one that its comment lists first.
  *
- * Link with libmst_store.a, which `make -C bindings` makes. docs/STORE_C.md has examples.
+ * Link with libmst_store, which `make -C bindings` makes: `pkg-config --cflags --libs mst_store`
+ * says how, after `make -C bindings install`. docs/STORE_C.md has examples.
  */
 #ifndef MST_STORE_H
 #define MST_STORE_H
@@ -43,13 +54,35 @@
 extern "C" {
 #endif
 
+/*
+ * The version of this header, and of the library if that is of the same release: MAJOR.MINOR.PATCH.
+ * MST_VERSION_NUMBER is greater for each later one.
+ */
+#define MST_VERSION_MAJOR 0
+#define MST_VERSION_MINOR 2
+#define MST_VERSION_PATCH 0
+#define MST_VERSION_TEXT "0.2.0"
+#define MST_VERSION_NUMBER \
+    (MST_VERSION_MAJOR * 1000000 + MST_VERSION_MINOR * 1000 + MST_VERSION_PATCH)
+
+/* A cast in C and in C++, where compilers may be asked to warn of those of C. */
+#ifdef __cplusplus
+#define MST_AS(type, value) static_cast<type>(value)
+#else
+#define MST_AS(type, value) ((type)(value))
+#endif
+
 /* A hand: what holds a pass for its thread, or nothing. */
 typedef struct mst_pass {
     void *at; /* the library's alone */
 } mst_pass;
 
 /* A hand that holds nothing. */
+#ifdef __cplusplus
+#define MST_PASS_CLOSED {}
+#else
 #define MST_PASS_CLOSED {0}
+#endif
 
 /* Room for every key, every value, and a root digest, in bytes. */
 #define MST_KEY_LONGEST 32
@@ -94,7 +127,10 @@ typedef struct mst_pass {
 /* A pinned pass neither writes, migrates, pins nor counts rows; a free one does not unpin. */
 #define MST_WRONG_STATE (-8)
 
-/* A growth of memory was refused. Nothing has changed. */
+/*
+ * A growth of memory was refused. Nothing has changed, but that mst_open has closed what its hands
+ * held.
+ */
 #define MST_MEMORY (-9)
 
 /* A store has 4 to 65,535 rows and 1 to 32 passes. */
@@ -116,6 +152,18 @@ typedef struct mst_pass {
 
 /* The bytes are no batch: an edit is of no known kind, cut short, or a remove with a value. */
 #define MST_BAD_BATCH (-25)
+
+/* ---- the library itself ---- */
+
+/* Returns the version of the library that is linked, as MST_VERSION_TEXT is that of this header. */
+const char *mst_library_version(void);
+
+/*
+ * Returns what a number means that a call of this header or of mst_verifier.h has returned, in one
+ * line of English without an end: "a key has 1 to 32 bytes". Of a number of 0 or more, and of one
+ * that no call returns, it says so. The text is the library's, and stays for ever.
+ */
+const char *mst_error_text(int32_t told);
 
 /* ---- opening and closing ---- */
 
@@ -283,8 +331,8 @@ typedef struct mst_pair {
  */
 static inline size_t mst_pair_at(const uint8_t *room, size_t at, mst_pair *pair) {
     const uint8_t *bytes = room + at;
-    pair->key_length = (size_t)bytes[0] << 8 | bytes[1];
-    pair->value_length = (size_t)bytes[2] << 8 | bytes[3];
+    pair->key_length = MST_AS(size_t, bytes[0]) << 8 | bytes[1];
+    pair->value_length = MST_AS(size_t, bytes[2]) << 8 | bytes[3];
     pair->key = bytes + 4;
     pair->value = pair->key + pair->key_length;
     return at + 4 + pair->key_length + pair->value_length;
@@ -303,10 +351,10 @@ static inline size_t mst_edit_at(uint8_t *room, size_t at, uint8_t kind,
     size_t keys = key_length < 0xFFFF ? key_length : 0xFFFF;
     size_t values = value_length < 0xFFFF ? value_length : 0xFFFF;
     bytes[0] = kind;
-    bytes[1] = (uint8_t)(keys >> 8);
-    bytes[2] = (uint8_t)keys;
-    bytes[3] = (uint8_t)(values >> 8);
-    bytes[4] = (uint8_t)values;
+    bytes[1] = MST_AS(uint8_t, keys >> 8);
+    bytes[2] = MST_AS(uint8_t, keys);
+    bytes[3] = MST_AS(uint8_t, values >> 8);
+    bytes[4] = MST_AS(uint8_t, values);
     if (keys > MST_KEY_LONGEST || values > MST_VALUE_LONGEST)
         return at + 5;
     for (size_t i = 0; i < keys; i++)

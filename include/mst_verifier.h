@@ -29,7 +29,8 @@
  *     else
  *         distrust(told);                // nothing is shown; the value's bytes are as they were
  *
- * Link with libmst_verifier.a, which `rt lib` makes in crates/mst_verifier.
+ * Link with libmst_verifier, which `make -C bindings` makes beside the store's library, or with
+ * libmst_verifier.a alone, which `rt lib` makes in crates/mst_verifier.
  */
 #ifndef MST_VERIFIER_H
 #define MST_VERIFIER_H
@@ -40,6 +41,14 @@
 #ifdef __cplusplus
 extern "C" {
 #endif
+
+/* The version of this header, as that of mst_store.h: MAJOR.MINOR.PATCH. */
+#define MST_VERSION_MAJOR 0
+#define MST_VERSION_MINOR 2
+#define MST_VERSION_PATCH 0
+#define MST_VERSION_TEXT "0.2.0"
+#define MST_VERSION_NUMBER \
+    (MST_VERSION_MAJOR * 1000000 + MST_VERSION_MINOR * 1000 + MST_VERSION_PATCH)
 
 /* Room for every value: values have 0 to 64 bytes. Keys have 1 to 32. */
 #define MST_VALUE_ROOM 64

@@ -35,31 +35,15 @@ using pair = std::pair<std::string, std::string>;
 // The formats of trees and proofs, by their numbers in mst_store.h and mst_verifier.h.
 enum class format : std::uint32_t { one = 1, two = 2 };
 
-inline const char *meaning(int code) noexcept {
-    switch (code) {
-    case MST_NO_ROOM: return "the room is too short";
-    case MST_UNKNOWN_FORMAT: return "no format has this number";
-    case MST_BAD_KEY: return "a key has 1 to 32 bytes";
-    case MST_BAD_VALUE: return "a value has 0 to 64 bytes";
-    case MST_CLOSED: return "the pass is closed";
-    case MST_WRONG_STATE: return "a pinned pass neither writes, migrates, pins nor counts rows";
-    case MST_MEMORY: return "no memory";
-    case MST_BAD_SHAPE: return "a store has 4 to 65535 rows and 1 to 32 passes";
-    case MST_BUSY: return "another pass has the turn";
-    case MST_VERSIONS_SPENT: return "version numbers are spent";
-    case MST_ROWS_SPENT: return "fewer rows are free than the write or the migration needs";
-    case MST_ROWS_PINNED: return "a version is pinned, so the rows are not counted";
-    case MST_BAD_BATCH: return "the bytes are no batch of edits";
-    default: return "unknown code";
-    }
-}
+// The version of the library that is linked, as MST_VERSION_TEXT is that of mst_store.h.
+inline const char *library_version() noexcept { return mst_library_version(); }
 
 // Why a call was refused. It changed nothing.
 class refused : public std::runtime_error {
     int number;
 
 public:
-    explicit refused(int code) : std::runtime_error(meaning(code)), number(code) {}
+    explicit refused(int code) : std::runtime_error(mst_error_text(code)), number(code) {}
 
     // One of the numbers of mst_store.h.
     int code() const noexcept { return number; }
@@ -113,6 +97,12 @@ inline const std::uint8_t *bytes(std::string_view text) noexcept {
     return reinterpret_cast<const std::uint8_t *>(text.data());
 }
 
+// A hand, and the room for proofs, which grows to the longest: so a proof is made once.
+struct held {
+    mst_pass pass = MST_PASS_CLOSED;
+    std::vector<std::uint8_t> room;
+};
+
 } // namespace detail
 
 // Edits that a pass makes as one version, in their order: of those of one key the last decides.
@@ -161,15 +151,15 @@ public:
 // may be moved or closed while it is pinned.
 class reader {
 protected:
-    std::shared_ptr<mst_pass> hand;
+    std::shared_ptr<detail::held> hand;
 
     reader() noexcept = default;
-    explicit reader(std::shared_ptr<mst_pass> of) noexcept : hand(std::move(of)) {}
+    explicit reader(std::shared_ptr<detail::held> of) noexcept : hand(std::move(of)) {}
     ~reader() = default;
 
     mst_pass *at() const {
         if (hand == nullptr) throw refused(MST_CLOSED);
-        return hand.get();
+        return &hand->pass;
     }
 
     static const std::uint8_t *bytes(std::string_view text) noexcept {
@@ -250,15 +240,15 @@ public:
     // Returns the proof of the key's answer, for mst_verify and the format and root digest of the
     // same version.
     std::vector<std::uint8_t> prove(std::string_view key) {
-        std::vector<std::uint8_t> proof(4096);
+        mst_pass *pass = at();
+        auto &room = hand->room;
+        if (room.empty()) room.resize(4096);
         for (;;) {
             std::size_t length = 0;
-            int code = mst_prove(at(), bytes(key), key.size(), proof.data(), proof.size(), &length);
-            if (code != MST_NO_ROOM) require_done(code);
-            proof.resize(length);
-            if (code != MST_OK) continue; // as in range
-            proof.shrink_to_fit();        // a caller may keep many proofs
-            return proof;
+            int code = mst_prove(pass, bytes(key), key.size(), room.data(), room.size(), &length);
+            if (code == MST_OK) return {room.data(), room.data() + length};
+            if (code != MST_NO_ROOM) throw refused(code);
+            room.resize(std::max(length, 2 * room.size())); // a loop as in range
         }
     }
 
@@ -281,7 +271,7 @@ public:
 // with its pass: then reads by the object are refused. It is used in the thread of its pass.
 class [[nodiscard]] pinned : public reader {
     friend class pass;
-    explicit pinned(std::shared_ptr<mst_pass> of) : reader(std::move(of)) {
+    explicit pinned(std::shared_ptr<detail::held> of) : reader(std::move(of)) {
         require_done(mst_pin(at()));
     }
 
@@ -292,7 +282,7 @@ public:
 
     // Ends the pin before the object ends. No read may follow: it is refused.
     void unpin() noexcept {
-        if (auto of = std::move(hand)) mst_unpin(of.get()); // has no effect after its pass
+        if (auto of = std::move(hand)) mst_unpin(&of->pass); // has no effect after its pass
     }
 };
 
@@ -322,7 +312,7 @@ public:
     // Closes the pass before the object ends, and ends its pin if it has one. All later calls are
     // refused.
     void close() noexcept {
-        if (auto of = std::move(hand)) mst_close(of.get());
+        if (auto of = std::move(hand)) mst_close(&of->pass);
     }
 
     // Returns how many rows the current version takes.
@@ -403,11 +393,11 @@ inline std::vector<pass> open(std::uint32_t rows, std::size_t passes, format in 
     if (passes > MST_PASSES_MOST) throw refused(MST_BAD_SHAPE);
     std::vector<pass> all(passes);
     std::vector<mst_pass> hands(passes); // null, as MST_PASS_CLOSED
-    for (auto &one : all) one.hand = std::make_shared<mst_pass>();
+    for (auto &one : all) one.hand = std::make_shared<detail::held>();
     int code = mst_open(static_cast<std::uint32_t>(in), rows, hands.data(), passes);
     if (code != MST_OK) throw refused(code);
     // what the hands hold moves, once: those of the array are not looked at again
-    for (std::size_t i = 0; i < passes; i++) *all[i].hand = hands[i];
+    for (std::size_t i = 0; i < passes; i++) all[i].hand->pass = hands[i];
     return all;
 }
 

@@ -1,6 +1,6 @@
 """Makes the wheel by the standard library alone, as a build backend that pip calls.
 
-The wheel has the module, the licences, and libmst_store.so from the folder MST_STORE_DIR or from
+The wheel has the package, the licences, and libmst_store.so from the folder MST_STORE_DIR or from
 ../out. The Python code is of no version of Python, and the library of one platform, so the tag is
 py3-none-PLATFORM.
 """
@@ -14,6 +14,7 @@ import zipfile
 
 HERE = os.path.dirname(os.path.abspath(__file__))
 LICENCES = ["LICENSE-APACHE", "LICENSE-MIT"]
+PACKAGE = "mst_store"
 
 
 def _field(name):
@@ -24,6 +25,12 @@ def _field(name):
 def _read(path):
     with open(path, "rb") as file:
         return file.read()
+
+
+def _files():
+    """The files of the package, with the mark for tools that read its type hints."""
+    everything = sorted(os.listdir(os.path.join(HERE, PACKAGE)))
+    return [file for file in everything if file.endswith(".py") or file == "py.typed"]
 
 
 def _record(contents, name):
@@ -45,12 +52,10 @@ def build_wheel(wheel_directory, config_settings=None, metadata_directory=None):
                 f"License-Expression: {_field('license')}\n"
                 + "".join(f"License-File: {licence}\n" for licence in LICENCES))
     about = f"Wheel-Version: 1.0\nGenerator: make_wheel\nRoot-Is-Purelib: false\nTag: {tag}\n"
-    contents = {
-        "mst_store.py": _read(os.path.join(HERE, "mst_store.py")),
-        "libmst_store.so": _read(os.path.join(folder, "libmst_store.so")),
-        f"{info}/METADATA": metadata.encode(),
-        f"{info}/WHEEL": about.encode(),
-    }
+    contents = {f"{PACKAGE}/{file}": _read(os.path.join(HERE, PACKAGE, file)) for file in _files()}
+    contents[f"{PACKAGE}/libmst_store.so"] = _read(os.path.join(folder, "libmst_store.so"))
+    contents[f"{info}/METADATA"] = metadata.encode()
+    contents[f"{info}/WHEEL"] = about.encode()
     for licence in LICENCES:
         contents[f"{info}/licenses/{licence}"] = _read(os.path.join(HERE, "..", "..", licence))
     contents[f"{info}/RECORD"] = _record(contents, f"{info}/RECORD")

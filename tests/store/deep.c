@@ -7,14 +7,11 @@
  * key of layer 128 is one of 2 to the power of 256.
  */
 #include "depth.h"
+#include "stack.h"
 #include "tests.h"
-#include <pthread.h>
 #include <stdlib.h>
-#include <sys/mman.h>
 
-#define STACK (1 << 20)
 #define MOST_NODES 129
-#define PATTERN 0xA5
 
 /* A key of each layer in format 2, from the highest down to 0. */
 struct path {
@@ -48,10 +45,6 @@ static size_t low_length, top_length;
 static int32_t told;
 static uint8_t room[8192], edits[15 * MST_EDIT_LONGEST];
 static size_t length, count, edits_length;
-
-static void *nothing(void *unused) {
-    return unused;
-}
 
 static void *gets(void *unused) {
     told = mst_get(&pass, low, low_length, room, sizeof room);
@@ -143,24 +136,6 @@ enum {
     MIGRATE = BATCH - 1,
 };
 
-/* How many bytes of its stack the thread wrote. */
-static size_t stack_of(void *(*run)(void *)) {
-    pthread_attr_t how;
-    pthread_t thread;
-    uint8_t *stack = mmap(NULL, STACK, PROT_READ | PROT_WRITE, MAP_PRIVATE | MAP_ANONYMOUS, -1, 0);
-    if (stack == MAP_FAILED)
-        return STACK;
-    memset(stack, PATTERN, STACK);
-    EXPECT(pthread_attr_init(&how) == 0 && pthread_attr_setstack(&how, stack, STACK) == 0);
-    EXPECT(pthread_create(&thread, &how, run, NULL) == 0 && pthread_join(thread, NULL) == 0);
-    size_t spared = 0;
-    while (spared < STACK && stack[spared] == PATTERN)
-        spared++;
-    pthread_attr_destroy(&how);
-    munmap(stack, STACK);
-    return STACK - spared;
-}
-
 /* Puts the keys of the lowest layers, so many, in a new store of format 2. */
 static void opens(const struct path *path, int nodes) {
     EXPECT(mst_open(2, 128, &pass, 1) == MST_OK && mst_open(2, 128, &empty, 1) == MST_OK);
@@ -187,7 +162,7 @@ struct cost {
 
 /* What each call takes over a tree of so many nodes. */
 static void measure(const struct path *path, int nodes, struct cost *costs) {
-    size_t alone = stack_of(nothing);
+    size_t alone = stack_of(no_call);
     opens(path, nodes);
     for (int i = 0; i < CALLS; i++) {
         costs[i].depth = depth_of(calls[i].run);

@@ -97,6 +97,41 @@ static void shapes(void) {
         EXPECT(mst_close(&passes[i]) == MST_OK);
 }
 
+/* Lengths that no bytes have: each is refused by the length alone. */
+static void longest_lengths(mst_pass *pass) {
+    fill_rooms();
+    EXPECT(mst_get(pass, long_bytes, SIZE_MAX, room, sizeof room) == MST_BAD_KEY);
+    EXPECT(mst_next(pass, long_bytes, SIZE_MAX, key_room, 32, &length, room, 64) == MST_BAD_KEY);
+    EXPECT(range_of(pass, long_bytes, SIZE_MAX, long_bytes, 1, 9, 0) == MST_BAD_KEY);
+    EXPECT(range_of(pass, NULL, 0, long_bytes, SIZE_MAX, 9, 0) == MST_BAD_KEY);
+    EXPECT(mst_prove(pass, long_bytes, SIZE_MAX, proof, sizeof proof, &length) == MST_BAD_KEY);
+    EXPECT(mst_try_put(pass, long_bytes, SIZE_MAX, TEXT("1"), room, 64) == MST_BAD_KEY);
+    EXPECT(mst_try_put(pass, TEXT("a"), long_bytes, SIZE_MAX, room, 64) == MST_BAD_VALUE);
+    EXPECT(mst_try_remove(pass, long_bytes, SIZE_MAX, room, 64) == MST_BAD_KEY);
+    EXPECT(rooms_stay());
+}
+
+static int says(int32_t told, const char *text) {
+    return strcmp(mst_error_text(told), text) == 0;
+}
+
+/* Each number below 0 that a call returns has a text of its own, and all others share two. */
+static void texts(void) {
+    static const int32_t others[] = {0, 64, INT32_MAX, -4 - 1000, INT32_MIN, -29, -99, -1000};
+    EXPECT(says(MST_BAD_KEY, "a key has 1 to 32 bytes"));
+    EXPECT(says(MST_BUSY, "another pass has the turn"));
+    for (int32_t told = -1; told >= -25; told--) {
+        EXPECT(!says(told, mst_error_text(-30)) && !says(told, mst_error_text(0)));
+        for (int32_t other = told + 1; other < 0; other++)
+            EXPECT(!says(told, mst_error_text(other)));
+    }
+    for (int32_t told = -100; told >= -900; told -= 100)
+        EXPECT(!says(told, mst_error_text(-30)) && says(told - 10, mst_error_text(told)));
+    for (size_t i = 0; i < sizeof others / sizeof *others; i++)
+        EXPECT(says(others[i], mst_error_text(others[i] < 0 ? -30 : 0)));
+    EXPECT(strcmp(mst_library_version(), MST_VERSION_TEXT) == 0);
+}
+
 static void lengths(mst_pass *pass) {
     fill_rooms();
     EXPECT(mst_get(pass, NULL, 0, room, sizeof room) == MST_BAD_KEY);
@@ -322,6 +357,8 @@ int main(void) {
     closed_hands(&passes[0]);
     shapes();
     EXPECT(mst_open(1, 1000, passes, 2) == MST_OK);
+    texts();
+    longest_lengths(&passes[0]);
     lengths(&passes[0]);
     ranges(&passes[0]);
     short_rooms(&passes[0]);

@@ -1,5 +1,6 @@
 """The store from Python: its answers beside those of a dict, its proofs beside the verifier."""
 import copy
+import ctypes
 import os
 import pickle
 import random
@@ -9,7 +10,7 @@ import unittest
 from unittest import mock
 
 import mst_store
-from mst_store import Busy, Format, Pass, Refused, RefusedEdit, open_store
+from mst_store import Busy, Format, Pass, Refused, RefusedEdit, _library, open_store
 
 HERE = os.path.dirname(os.path.abspath(__file__))
 sys.path.append(os.path.join(HERE, "..", "..", "by_hand", "python"))
@@ -142,9 +143,9 @@ class Answers(unittest.TestCase):
         store = one()
         store.put(b"key", b"value")
         short = store.prove(b"key")
-        store._long_room = mst_store.ctypes.create_string_buffer(1)
+        store._long_room = ctypes.create_string_buffer(1)
         self.assertEqual(store.prove(b"key"), short)
-        store._long_room = mst_store.ctypes.create_string_buffer(1)
+        store._long_room = ctypes.create_string_buffer(1)
         self.assertEqual(store.range(), [(b"key", b"value")])
 
     def test_the_empty_map(self):
@@ -378,9 +379,9 @@ class Refusals(unittest.TestCase):
         for name, given, answer in (("put", (b"key", b""), None), ("remove", (b"key",), b""),
                                     ("apply", ([(b"key", b"")],), None),
                                     ("migrate", (Format.TWO,), Format.ONE)):
-            real = getattr(mst_store._lib, f"mst_try_{name}")
+            real = getattr(_library.lib, f"mst_try_{name}")
             busy = mock.Mock(side_effect=[mst_store.BUSY] * 3)
-            with mock.patch.object(mst_store._lib, f"mst_try_{name}", busy):
+            with mock.patch.object(_library.lib, f"mst_try_{name}", busy):
                 self.assertRaises(Busy, getattr(store, f"try_{name}"), *given)
                 busy.side_effect = lambda *it: real(*it) if busy.call_count > 4 else mst_store.BUSY
                 self.assertEqual(getattr(store, name)(*given), answer)
@@ -389,7 +390,7 @@ class Refusals(unittest.TestCase):
 
     def test_a_code_that_is_not_known(self):
         store = one()
-        with mock.patch.object(mst_store._lib, "mst_get", lambda *_: -99):
+        with mock.patch.object(_library.lib, "mst_get", lambda *_: -99):
             self.refused(-99, store.get, b"key")
         self.assertEqual(str(Refused(-99)), "the library answered -99")
 

@@ -72,6 +72,22 @@ static void long_range() {
     EXPECT(pass.pin().range() == all);
 }
 
+// Proofs that are longer than the first room, and shorter ones after them.
+static void long_proofs() {
+    auto pass = std::move(mst::open(9000, 1).front());
+    auto key = [](int number) { return std::to_string(number * 7919); };
+    for (int i = 0; i < 3000; i++) pass.put(key(i), std::string(64, 'v'));
+    std::size_t longest = 0, shortest = SIZE_MAX;
+    for (int i = 0; i < 3000; i += 7) {
+        auto proof = pass.prove(key(i));
+        longest = std::max(longest, proof.size());
+        shortest = std::min(shortest, proof.size());
+        EXPECT(verified(pass, key(i)) == 64 && proof.capacity() == proof.size());
+        EXPECT(pass.pin().prove(key(i)) == proof);
+    }
+    EXPECT(longest > 4096 && shortest < longest);
+}
+
 // The place of the edit for which a batch is refused, if it is refused by this number.
 static std::optional<std::size_t> place_of(mst::pass &pass, const mst::batch &edits, int code) {
     try {
@@ -216,6 +232,7 @@ int main() {
     auto passes = mst::open(2000, 2);
     reads_and_writes(passes[0]);
     long_range();
+    long_proofs();
     refusals(passes[0]);
     pins(passes[0], passes[1]);
     pins_that_end_with_their_pass();

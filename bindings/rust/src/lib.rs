@@ -73,6 +73,8 @@ pub use format::Format;
 pub use reads::{Items, Pair, Reads};
 
 use raw::Hand;
+use std::ffi::CStr;
+use std::fmt;
 use std::thread::yield_now;
 
 /// The most bytes of a key.
@@ -81,6 +83,15 @@ pub const KEY_LONGEST: usize = 32;
 pub const VALUE_LONGEST: usize = 64;
 /// The bytes of a root digest.
 pub const ROOT_LENGTH: usize = 32;
+
+/// Returns the version of the library that is linked, which is this crate's own if both are of one
+/// release.
+#[must_use]
+pub fn library_version() -> &'static str {
+    // Safety: the library's text ends with a zero byte and stays for ever.
+    let text = unsafe { CStr::from_ptr(raw::mst_library_version()) };
+    text.to_str().expect("the library's version is digits and dots")
+}
 
 /// Opens a store of the empty map in format 1, and returns its passes, as many as are asked for.
 ///
@@ -97,7 +108,7 @@ pub fn open_format(format: Format, rows: u32, passes: usize) -> Result<Vec<Pass>
     let mut hands: Vec<Hand> = (0..count).map(|_| Hand::EMPTY).collect();
     // Safety: the hands are empty, and there are `count` of them.
     match unsafe { raw::mst_open(format.number(), rows, hands.as_mut_ptr(), count) } {
-        0 => Ok(hands.into_iter().map(Pass).collect()),
+        0 => Ok(hands.into_iter().map(|hand| Pass { hand, room: Vec::new() }).collect()),
         code => Err(Error::of(code)),
     }
 }
@@ -106,12 +117,24 @@ pub fn open_format(format: Format, rows: u32, passes: usize) -> Result<Vec<Pass>
 /// version.
 ///
 /// It may be sent to another thread, and closes when it is dropped.
-#[derive(Debug)]
-pub struct Pass(Hand);
+pub struct Pass {
+    hand: Hand,
+    room: Vec<u8>,
+}
+
+impl fmt::Debug for Pass {
+    fn fmt(&self, out: &mut fmt::Formatter<'_>) -> fmt::Result {
+        out.debug_tuple("Pass").field(&self.hand).finish()
+    }
+}
 
 impl reads::Held for Pass {
     fn hand(&mut self) -> *mut Hand {
-        &mut self.0
+        &mut self.hand
+    }
+
+    fn hand_and_room(&mut self) -> (*mut Hand, &mut Vec<u8>) {
+        (&mut self.hand, &mut self.room)
     }
 }
 
@@ -126,7 +149,7 @@ impl Pass {
         // other's.
         let code = unsafe {
             raw::mst_try_put(
-                &mut self.0,
+                &mut self.hand,
                 key.as_ptr(),
                 key.len(),
                 value.as_ptr(),
@@ -144,7 +167,13 @@ impl Pass {
         let mut room = [0; VALUE_LONGEST];
         // Safety: as in try_put.
         let code = unsafe {
-            raw::mst_try_remove(&mut self.0, key.as_ptr(), key.len(), room.as_mut_ptr(), room.len())
+            raw::mst_try_remove(
+                &mut self.hand,
+                key.as_ptr(),
+                key.len(),
+                room.as_mut_ptr(),
+                room.len(),
+            )
         };
         reads::value(code, &room).map_err(TryError::of)
     }
@@ -175,8 +204,9 @@ impl Pass {
     fn try_packed(&mut self, packed: &[u8]) -> Result<(), TryError> {
         let mut place = 0;
         // Safety: the bytes are valid for their length, and so are the other pointers.
-        let code =
-            unsafe { raw::mst_try_apply(&mut self.0, packed.as_ptr(), packed.len(), &mut place) };
+        let code = unsafe {
+            raw::mst_try_apply(&mut self.hand, packed.as_ptr(), packed.len(), &mut place)
+        };
         match code {
             0 => Ok(()),
             code => Err(TryError::of(code).at(place)),
@@ -187,7 +217,7 @@ impl Pass {
     /// has the turn. The map stays, and so do the pinned versions, each in its format.
     pub fn try_migrate(&mut self, to: Format) -> Result<Format, TryError> {
         // Safety: the hand is valid.
-        let code = unsafe { raw::mst_try_migrate(&mut self.0, to.number()) };
+        let code = unsafe { raw::mst_try_migrate(&mut self.hand, to.number()) };
         Format::told(code).map_err(TryError::of)
     }
 
@@ -200,7 +230,7 @@ impl Pass {
     pub fn try_rows(&mut self) -> Result<u32, TryError> {
         let mut rows = 0;
         // Safety: both pointers are valid.
-        match unsafe { raw::mst_rows(&mut self.0, &mut rows) } {
+        match unsafe { raw::mst_rows(&mut self.hand, &mut rows) } {
             0 => Ok(rows),
             code => Err(TryError::of(code)),
         }
@@ -210,11 +240,11 @@ impl Pass {
     pub fn pin(&mut self) -> Pinned<'_> {
         // Safety: the hand is valid. If it pins already, a Pinned was leaked: that pin ends here.
         let code = unsafe {
-            if raw::mst_pin(&mut self.0) == 0 {
+            if raw::mst_pin(&mut self.hand) == 0 {
                 0
             } else {
-                raw::mst_unpin(&mut self.0);
-                raw::mst_pin(&mut self.0)
+                raw::mst_unpin(&mut self.hand);
+                raw::mst_pin(&mut self.hand)
             }
         };
         assert_eq!(code, 0, "the library and this crate do not fit");
@@ -241,7 +271,11 @@ pub struct Pinned<'a>(&'a mut Pass);
 
 impl reads::Held for Pinned<'_> {
     fn hand(&mut self) -> *mut Hand {
-        &mut self.0 .0
+        &mut self.0.hand
+    }
+
+    fn hand_and_room(&mut self) -> (*mut Hand, &mut Vec<u8>) {
+        self.0.hand_and_room()
     }
 }
 
@@ -250,6 +284,6 @@ impl Reads for Pinned<'_> {}
 impl Drop for Pinned<'_> {
     fn drop(&mut self) {
         // Safety: the hand is valid.
-        unsafe { raw::mst_unpin(&mut self.0 .0) };
+        unsafe { raw::mst_unpin(&mut self.0.hand) };
     }
 }

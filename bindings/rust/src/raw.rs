@@ -28,6 +28,7 @@ pub(crate) const ABSENT: i32 = -1;
 pub(crate) const NO_ROOM: i32 = -2;
 
 extern "C" {
+    pub(crate) fn mst_library_version() -> *const std::ffi::c_char;
     pub(crate) fn mst_open(format: u32, rows: u32, passes: *mut Hand, count: usize) -> i32;
     pub(crate) fn mst_close(pass: *mut Hand) -> i32;
     pub(crate) fn mst_get(

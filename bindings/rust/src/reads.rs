@@ -15,6 +15,9 @@ use std::iter::FusedIterator;
 pub trait Held {
     /// A pointer to the hand, for a call of the library.
     fn hand(&mut self) -> *mut Hand;
+    /// The same, and the room for proofs, which grows to the longest: so a proof is made once.
+    #[doc(hidden)]
+    fn hand_and_room(&mut self) -> (*mut Hand, &mut Vec<u8>);
 }
 
 /// A key and its value.
@@ -138,28 +141,27 @@ pub trait Reads: Held {
     /// Returns the proof of the key's answer, which a verifier judges by the format and the root
     /// digest of the same version.
     fn prove(&mut self, key: &[u8]) -> Result<Vec<u8>, Error> {
-        let mut proof = vec![0; 4096];
+        let (hand, room) = self.hand_and_room();
+        if room.is_empty() {
+            room.resize(4096, 0);
+        }
         loop {
             let mut length = 0;
             // Safety: as in get.
             let code = unsafe {
                 raw::mst_prove(
-                    self.hand(),
+                    hand,
                     key.as_ptr(),
                     key.len(),
-                    proof.as_mut_ptr(),
-                    proof.len(),
+                    room.as_mut_ptr(),
+                    room.len(),
                     &mut length,
                 )
             };
             match code {
-                0 => {
-                    proof.truncate(length);
-                    proof.shrink_to_fit(); // a caller may keep many proofs
-                    return Ok(proof);
-                }
+                0 => return Ok(room[..length].to_vec()),
                 // The proof of a free pass may have grown again by the next try, so this is a loop.
-                raw::NO_ROOM => proof.resize(length, 0),
+                raw::NO_ROOM => room.resize(length.max(2 * room.len()), 0),
                 refused => return Err(Error::of(refused)),
             }
         }

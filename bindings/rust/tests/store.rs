@@ -74,6 +74,23 @@ fn answers_are_those_of_a_map() {
 }
 
 #[test]
+fn a_proof_is_the_same_after_a_longer_one() {
+    let pairs =
+        |number: u32| (number.wrapping_mul(0x9E37_79B9).to_be_bytes().to_vec(), vec![7; 64]);
+    let mut pass = filled(Format::One, (0..1500).map(pairs));
+    let mut proofs = Vec::new();
+    for number in 0..1500 {
+        proofs.push(pass.prove(&pairs(number).0).unwrap());
+    }
+    assert!(proofs.iter().any(|proof| proof.len() > 4096));
+    assert!(proofs.iter().all(|proof| proof.capacity() == proof.len()));
+    for number in (0..1500).rev() {
+        let mut fresh = pass.pin();
+        assert_eq!(fresh.prove(&pairs(number).0).as_ref(), Ok(&proofs[number as usize]));
+    }
+}
+
+#[test]
 fn a_batch_leaves_the_map_of_its_edits_as_one_version() {
     let (mut random, mut pass, mut map) = (Random(11), one(4000), BTreeMap::new());
     for step in 0..300u64 {

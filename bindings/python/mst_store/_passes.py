@@ -1,23 +1,4 @@
-"""An in-memory ordered map of short keys and values, with a root digest, proofs, and pinned
-versions.
-
-A store is used through its passes alone. Reads wait for no one; one write runs at a time. The
-store is freed with its last pass.
-
-    writer, reader = open_store(rows=1000, passes=2)
-    writer.put(b"apple", b"30")
-    with reader.pinned() as then:
-        writer.put(b"apple", b"31")
-        then.get(b"apple")          # b"30"
-    reader.get(b"apple")            # b"31"
-    writer.apply([(b"apple", b"32"), (b"pear", None)])  # one version; None takes a key out
-    writer.migrate(Format.TWO)      # shorter proofs; a store opens in Format.ONE
-
-Keys have 1 to 32 bytes, values 0 to 64. Use a pass for each thread: ctypes lets other threads run
-during a call, and two calls by one pass wait for each other. So make none in a signal handler: it
-would wait for ever for the call that it interrupts. A store does not outlive os.fork() in a process
-with threads.
-"""
+"""Stores and their passes."""
 from __future__ import annotations
 
 import ctypes
@@ -28,31 +9,17 @@ import struct
 import threading
 import time
 from contextlib import contextmanager
-from typing import Callable, Iterable, Iterator, List, NoReturn, Optional, Tuple, TypeVar, Union
+from typing import Any, Callable, Iterable, Iterator, List, NoReturn, Optional, Tuple, TypeVar
+from typing import Union
 
-__all__ = ["Busy", "Format", "Pass", "Refused", "RefusedEdit", "open_store"]
+from ._library import HAND, KEY_LONGEST, ROOT_LENGTH, VALUE_LONGEST, Hand
+from ._library import lib as _lib
+from ._refusals import ABSENT, BAD_KEY, BAD_VALUE, NO_ROOM, Busy, RefusedEdit
+from ._refusals import refuse as _refuse
 
 Octets = Union[bytes, bytearray, memoryview]
 Edit = Tuple[Octets, Optional[Octets]]  # a key with its new value, or with None to take it out
 Answer = TypeVar("Answer")
-
-# The numbers of include/mst_store.h.
-ABSENT = -1
-NO_ROOM = -2
-UNKNOWN_FORMAT = -3
-BAD_KEY = -5
-BAD_VALUE = -6
-CLOSED = -7
-WRONG_STATE = -8
-MEMORY = -9
-BAD_SHAPE = -10
-BUSY = -21
-VERSIONS_SPENT = -22
-ROWS_SPENT = -23
-ROWS_PINNED = -24
-BAD_BATCH = -25
-
-KEY_LONGEST, VALUE_LONGEST, ROOT_LENGTH = 32, 64, 32
 
 # The lengths of a key and its value in front of them, as mst_range has them.
 _LENGTHS = struct.Struct(">HH")
@@ -60,119 +27,12 @@ _LENGTHS = struct.Struct(">HH")
 # What an edit begins with: 1 for a put or 2 for a remove, and the two lengths.
 _EDIT = struct.Struct(">BHH")
 
-_REASONS = {
-    UNKNOWN_FORMAT: "no format has this number",
-    BAD_KEY: "a key has 1 to 32 bytes",
-    BAD_VALUE: "a value has 0 to 64 bytes",
-    CLOSED: "the pass is closed",
-    WRONG_STATE: "a pinned pass neither writes, migrates, pins nor counts rows",
-    MEMORY: "a growth of memory was refused",
-    BAD_SHAPE: "a store has 4 to 65535 rows and 1 to 32 passes",
-    BUSY: "another pass writes",
-    VERSIONS_SPENT: "the store has made all the versions that it can number",
-    ROWS_SPENT: "the write or the migration needs more rows than are free",
-    ROWS_PINNED: "some pass pins a version, so the rows are not counted",
-    BAD_BATCH: "the bytes are no batch of edits",
-}
-
 
 class Format(enum.IntEnum):
     """A format of trees and proofs, by the number that verifiers take."""
 
     ONE = 1
     TWO = 2
-
-
-class Refused(Exception):
-    """A refusal: nothing has changed. `code` is its number in include/mst_store.h."""
-
-    def __init__(self, code: int) -> None:
-        super().__init__(_REASONS.get(code, f"the library answered {code}"))
-        self.code = code
-
-    def __reduce__(self):
-        return type(self), (self.code,)
-
-
-class RefusedEdit(Refused):
-    """A batch is refused for an edit. `place` is the number of the first such edit, from 0."""
-
-    def __init__(self, code: int, place: int) -> None:
-        super().__init__(code)
-        self.place = place
-
-    def __reduce__(self):
-        return type(self), (self.code, self.place)
-
-
-class Busy(Refused):
-    """Another pass has the turn: it writes, migrates or counts rows. Nothing has changed."""
-
-    def __init__(self, code: int = BUSY) -> None:
-        super().__init__(code)
-
-
-def _refuse(code: int) -> NoReturn:
-    raise Busy() if code == BUSY else Refused(code)
-
-
-class _Hand(ctypes.Structure):
-    """What holds a pass. It stays where mst_open found it, since no one but the library may copy
-    it."""
-
-    _fields_ = [("at", ctypes.c_void_p)]
-
-
-_HAND = ctypes.POINTER(_Hand)
-
-
-def _signatures() -> dict:
-    hand, size, text = _HAND, ctypes.c_size_t, ctypes.c_char_p
-    pointer = ctypes.POINTER
-    return {
-        "mst_open": (ctypes.c_uint32, ctypes.c_uint32, hand, size),
-        "mst_close": (hand,),
-        "mst_get": (hand, text, size, text, size),
-        "mst_next": (hand, text, size, text, size, pointer(size), text, size),
-        "mst_range": (
-            hand, text, size, text, size, ctypes.c_uint32, text, size, pointer(size), pointer(size),
-        ),
-        "mst_root": (hand, text, size),
-        "mst_prove": (hand, text, size, text, size, pointer(size)),
-        "mst_version": (hand, pointer(ctypes.c_uint64)),
-        "mst_format": (hand,),
-        "mst_rows": (hand, pointer(ctypes.c_uint32)),
-        "mst_try_put": (hand, text, size, text, size, text, size),
-        "mst_try_remove": (hand, text, size, text, size),
-        "mst_try_apply": (hand, text, size, pointer(size)),
-        "mst_try_migrate": (hand, ctypes.c_uint32),
-        "mst_pin": (hand,),
-        "mst_unpin": (hand,),
-    }
-
-
-def _path() -> str:
-    """Returns the path of the shared library: in the folder MST_STORE_DIR if that is set, otherwise
-    beside this file, or where make puts it."""
-    here = os.path.dirname(os.path.abspath(__file__))
-    named = os.environ.get("MST_STORE_DIR")
-    folders = [named] if named else [here, os.path.join(here, "..", "out")]
-    for folder in folders:
-        path = os.path.join(os.path.abspath(folder), "libmst_store.so")
-        if os.path.exists(path):
-            return path
-    raise ImportError("libmst_store.so is not there: run `make -C bindings`, or set MST_STORE_DIR")
-
-
-def _load() -> ctypes.CDLL:
-    lib = ctypes.CDLL(_path())
-    for name, types in _signatures().items():
-        call = getattr(lib, name)
-        call.argtypes, call.restype = types, ctypes.c_int32
-    return lib
-
-
-_lib = _load()
 
 
 def _octets(given: Octets) -> bytes:
@@ -189,12 +49,12 @@ def _word(number: int) -> int:
 
 
 def _edit(key: Octets, value: Optional[Octets]) -> bytes:
-    key, kind = _octets(key), 2 if value is None else 1
-    value = b"" if value is None else _octets(value)
-    if len(key) > KEY_LONGEST or len(value) > VALUE_LONGEST:
+    name, kind = _octets(key), 2 if value is None else 1
+    held = b"" if value is None else _octets(value)
+    if len(name) > KEY_LONGEST or len(held) > VALUE_LONGEST:
         # It is refused by its lengths, so they are enough.
-        return _EDIT.pack(kind, min(len(key), 2**16 - 1), min(len(value), 2**16 - 1))
-    return _EDIT.pack(kind, len(key), len(value)) + key + value
+        return _EDIT.pack(kind, min(len(name), 2**16 - 1), min(len(held), 2**16 - 1))
+    return _EDIT.pack(kind, len(name), len(held)) + name + held
 
 
 def _packed(edits: Iterable[Edit]) -> bytes:
@@ -205,8 +65,8 @@ class Pass:
     """A pass of a store, from open_store. Its reads are of the current version, or of the pinned
     one."""
 
-    def __init__(self, hand) -> None:
-        if not isinstance(hand, _HAND):
+    def __init__(self, hand: Any) -> None:
+        if not isinstance(hand, HAND):
             raise TypeError("a pass comes from open_store")
         self._hand, self._process = hand, os.getpid()
         # A hand is in one call at a time, and the rooms below are shared by its calls.
@@ -309,12 +169,12 @@ class Pass:
         turn, and Refused if some pass pins."""
         return self._number(_lib.mst_rows, ctypes.c_uint32())
 
-    def _number(self, call: Callable, number) -> int:
+    def _number(self, call: Callable[..., int], number: Any) -> int:
         with self._lock:
             code = call(self._hand, ctypes.byref(number))
         if code < 0:
             _refuse(code)
-        return number.value
+        return int(number.value)
 
     def try_put(self, key: Octets, value: Octets) -> Optional[bytes]:
         """Gives the key the value, or raises Busy. Returns the value before, or None if the key is
@@ -396,7 +256,7 @@ class Pass:
     def __enter__(self) -> Pass:
         return self
 
-    def __exit__(self, *_) -> None:
+    def __exit__(self, *_: object) -> None:
         self.close()
 
     def __reduce__(self) -> NoReturn:
@@ -425,7 +285,7 @@ def _format(code: int) -> Format:
     return Format(code)
 
 
-def _until_free(call: Callable[..., Answer], *given) -> Answer:
+def _until_free(call: Callable[..., Answer], *given: object) -> Answer:
     while True:
         try:
             return call(*given)
@@ -441,7 +301,7 @@ def open_store(rows: int, passes: int, format: int = Format.ONE) -> List[Pass]:
     """
     # 33 hands are as refused as any greater number.
     count = min(max(operator.index(passes), 0), 33)
-    hands = (_Hand * count)()
+    hands = (Hand * count)()
     code = _lib.mst_open(_word(format), _word(rows), hands, count)
     if code < 0:
         _refuse(code)

@@ -1,0 +1,35 @@
+"""An in-memory ordered map of short keys and values, with a root digest, proofs, and pinned
+versions.
+
+A store is used through its passes alone. Reads wait for no one; one write runs at a time. The
+store is freed with its last pass.
+
+    writer, reader = open_store(rows=1000, passes=2)
+    writer.put(b"apple", b"30")
+    with reader.pinned() as then:
+        writer.put(b"apple", b"31")
+        then.get(b"apple")          # b"30"
+    reader.get(b"apple")            # b"31"
+    writer.apply([(b"apple", b"32"), (b"pear", None)])  # one version; None takes a key out
+    writer.migrate(Format.TWO)      # shorter proofs; a store opens in Format.ONE
+
+Keys have 1 to 32 bytes, values 0 to 64. Use a pass for each thread: ctypes lets other threads run
+during a call, and two calls by one pass wait for each other. So make none in a signal handler: it
+would wait for ever for the call that it interrupts. A store does not outlive os.fork() in a process
+with threads.
+"""
+from ._library import KEY_LONGEST, ROOT_LENGTH, VALUE_LONGEST, library_version
+from ._passes import Edit, Format, Octets, Pass, open_store
+from ._refusals import (
+    ABSENT, BAD_BATCH, BAD_KEY, BAD_SHAPE, BAD_VALUE, BUSY, CLOSED, MEMORY, NO_ROOM, ROWS_PINNED,
+    ROWS_SPENT, UNKNOWN_FORMAT, VERSIONS_SPENT, WRONG_STATE, Busy, Refused, RefusedEdit,
+)
+
+__version__ = "0.2.0"
+
+__all__ = [
+    "ABSENT", "BAD_BATCH", "BAD_KEY", "BAD_SHAPE", "BAD_VALUE", "BUSY", "CLOSED", "KEY_LONGEST",
+    "MEMORY", "NO_ROOM", "ROOT_LENGTH", "ROWS_PINNED", "ROWS_SPENT", "UNKNOWN_FORMAT",
+    "VALUE_LONGEST", "VERSIONS_SPENT", "WRONG_STATE", "Busy", "Edit", "Format", "Octets", "Pass",
+    "Refused", "RefusedEdit", "library_version", "open_store",
+]

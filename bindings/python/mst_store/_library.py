@@ -1,0 +1,82 @@
+"""The shared library and its calls."""
+from __future__ import annotations
+
+import ctypes
+import os
+from typing import Any, Dict, Tuple
+
+KEY_LONGEST, VALUE_LONGEST, ROOT_LENGTH = 32, 64, 32
+
+# The name that the library is linked and found by where it is installed.
+SONAME = "libmst_store.so.1"
+
+
+class Hand(ctypes.Structure):
+    """What holds a pass. It stays where mst_open found it, since no one but the library may copy
+    it."""
+
+    _fields_ = [("at", ctypes.c_void_p)]
+
+
+HAND = ctypes.POINTER(Hand)
+
+
+def _signatures() -> Dict[str, Tuple[Any, ...]]:
+    hand, size, text = HAND, ctypes.c_size_t, ctypes.c_char_p
+    pointer = ctypes.POINTER
+    return {
+        "mst_open": (ctypes.c_uint32, ctypes.c_uint32, hand, size),
+        "mst_close": (hand,),
+        "mst_get": (hand, text, size, text, size),
+        "mst_next": (hand, text, size, text, size, pointer(size), text, size),
+        "mst_range": (
+            hand, text, size, text, size, ctypes.c_uint32, text, size, pointer(size), pointer(size),
+        ),
+        "mst_root": (hand, text, size),
+        "mst_prove": (hand, text, size, text, size, pointer(size)),
+        "mst_version": (hand, pointer(ctypes.c_uint64)),
+        "mst_format": (hand,),
+        "mst_rows": (hand, pointer(ctypes.c_uint32)),
+        "mst_try_put": (hand, text, size, text, size, text, size),
+        "mst_try_remove": (hand, text, size, text, size),
+        "mst_try_apply": (hand, text, size, pointer(size)),
+        "mst_try_migrate": (hand, ctypes.c_uint32),
+        "mst_pin": (hand,),
+        "mst_unpin": (hand,),
+    }
+
+
+def _path() -> str:
+    """Returns the path of the shared library: in the folder MST_STORE_DIR if that is set, otherwise
+    in this package, or where make puts it; if it is in none, the name by which the system finds one
+    that is installed."""
+    here = os.path.dirname(os.path.abspath(__file__))
+    named = os.environ.get("MST_STORE_DIR")
+    folders = [named] if named else [here, os.path.join(here, "..", "..", "out")]
+    for folder in folders:
+        path = os.path.join(os.path.abspath(folder), "libmst_store.so")
+        if os.path.exists(path):
+            return path
+    return os.path.join(named, "libmst_store.so") if named else SONAME
+
+
+def _load() -> ctypes.CDLL:
+    try:
+        found = ctypes.CDLL(_path())
+    except OSError as error:
+        raise ImportError(f"{error}: install {SONAME}, run `make -C bindings`, or set "
+                          "MST_STORE_DIR to the folder of libmst_store.so") from error
+    for name, types in _signatures().items():
+        call = getattr(found, name)
+        call.argtypes, call.restype = types, ctypes.c_int32
+    found.mst_library_version.argtypes, found.mst_library_version.restype = (), ctypes.c_char_p
+    return found
+
+
+lib = _load()
+
+
+def library_version() -> str:
+    """Returns the version of the shared library, which is this package's own if both are of one
+    release."""
+    return str(lib.mst_library_version().decode())

@@ -1,0 +1,68 @@
+"""The numbers of include/mst_store.h, and the exceptions for those that refuse."""
+from __future__ import annotations
+
+from typing import NoReturn, Tuple, Type
+
+ABSENT = -1
+NO_ROOM = -2
+UNKNOWN_FORMAT = -3
+BAD_KEY = -5
+BAD_VALUE = -6
+CLOSED = -7
+WRONG_STATE = -8
+MEMORY = -9
+BAD_SHAPE = -10
+BUSY = -21
+VERSIONS_SPENT = -22
+ROWS_SPENT = -23
+ROWS_PINNED = -24
+BAD_BATCH = -25
+
+_REASONS = {
+    UNKNOWN_FORMAT: "no format has this number",
+    BAD_KEY: "a key has 1 to 32 bytes",
+    BAD_VALUE: "a value has 0 to 64 bytes",
+    CLOSED: "the pass is closed",
+    WRONG_STATE: "a pinned pass neither writes, migrates, pins nor counts rows",
+    MEMORY: "a growth of memory was refused",
+    BAD_SHAPE: "a store has 4 to 65535 rows and 1 to 32 passes",
+    BUSY: "another pass writes",
+    VERSIONS_SPENT: "the store has made all the versions that it can number",
+    ROWS_SPENT: "the write or the migration needs more rows than are free",
+    ROWS_PINNED: "some pass pins a version, so the rows are not counted",
+    BAD_BATCH: "the bytes are no batch of edits",
+}
+
+
+class Refused(Exception):
+    """A refusal: nothing has changed. `code` is its number in include/mst_store.h."""
+
+    def __init__(self, code: int) -> None:
+        super().__init__(_REASONS.get(code, f"the library answered {code}"))
+        self.code = code
+
+    def __reduce__(self) -> Tuple[Type[Refused], Tuple[int, ...]]:
+        return type(self), (self.code,)
+
+
+class RefusedEdit(Refused):
+    """A batch is refused for an edit. `place` is the number of the first such edit, from 0."""
+
+    def __init__(self, code: int, place: int) -> None:
+        super().__init__(code)
+        self.place = place
+
+    def __reduce__(self) -> Tuple[Type[Refused], Tuple[int, ...]]:
+        return type(self), (self.code, self.place)
+
+
+class Busy(Refused):
+    """Another pass has the turn: it writes, migrates or counts rows. Nothing has changed."""
+
+    def __init__(self, code: int = BUSY) -> None:
+        super().__init__(code)
+
+
+def refuse(code: int) -> NoReturn:
+    """Raises the exception for the number that a call returned."""
+    raise Busy() if code == BUSY else Refused(code)

@@ -1,0 +1,25 @@
+// The C headers in C++: each macro and inline call of theirs, so that a compiler may warn of them.
+#include "mst_store.h"
+#include "mst_verifier.h"
+
+namespace {
+
+mst_pass one = MST_PASS_CLOSED;
+mst_pass two[2] = {MST_PASS_CLOSED, MST_PASS_CLOSED};
+
+} // namespace
+
+// Declared first, since a compiler may want that too.
+int32_t each_call(uint8_t *room, size_t length);
+
+int32_t each_call(uint8_t *room, size_t length) {
+    mst_pair pair = mst_pair();
+    size_t place = mst_pair_at(room, length, &pair);
+    size_t end = mst_edit_put(room, 0, room, length, room, place);
+    end = mst_edit_remove(room, end, room, length);
+    int32_t told = mst_put(&one, room, end, room, length, room, length);
+    told += mst_remove(&two[0], room, end, room, length);
+    told += mst_apply(&two[1], room, end, &place) + mst_migrate(&one, 1);
+    told += mst_verify(1, room, 32, room, length, room, length, room, length);
+    return told + MST_SHARDED_TEST(told) + MST_PART_TEST(told) + MST_VERSION_NUMBER;
+}

@@ -1,0 +1,117 @@
+/*
+ * The stack that each call takes over a map of 25,000 random keys: less than the header says.
+ */
+#include "stack.h"
+#include "tests.h"
+
+#define KEYS 25000
+#define LIMIT (16 * 1024)
+#define BATCH 1000
+
+static mst_pass pass = MST_PASS_CLOSED;
+static uint8_t room[1 << 16], pairs[KEYS * MST_PAIR_LONGEST], edits[BATCH * MST_EDIT_LONGEST];
+static size_t length, count, place, edits_length;
+static int32_t told;
+
+/* Spread keys: those of SplitMix64. */
+static void key_bytes(uint8_t *key, uint64_t number) {
+    uint64_t mixed = (number + 1) * 0x9E3779B97F4A7C15u;
+    mixed = (mixed ^ (mixed >> 30)) * 0xBF58476D1CE4E5B9u;
+    mixed = (mixed ^ (mixed >> 27)) * 0x94D049BB133111EBu;
+    mixed ^= mixed >> 31;
+    for (int i = 0; i < 8; i++)
+        key[i] = (uint8_t)(mixed >> (8 * i));
+}
+
+static void *gets(void *key) {
+    told = mst_get(&pass, key, 8, room, sizeof room);
+    return NULL;
+}
+
+static void *nexts(void *key) {
+    uint8_t found[32];
+    told = mst_next(&pass, key, 8, found, sizeof found, &length, room, sizeof room);
+    return NULL;
+}
+
+static void *ranges(void *unused) {
+    told = mst_range(&pass, NULL, 0, NULL, 0, KEYS, pairs, sizeof pairs, &count, &length);
+    return unused;
+}
+
+static void *proves(void *key) {
+    told = mst_prove(&pass, key, 8, room, sizeof room, &length);
+    return NULL;
+}
+
+static void *puts_one(void *key) {
+    told = mst_try_put(&pass, key, 8, TEXT("2"), room, sizeof room);
+    return NULL;
+}
+
+static void *removes(void *key) {
+    told = mst_try_remove(&pass, key, 8, room, sizeof room);
+    return NULL;
+}
+
+static void *migrates(void *unused) {
+    told = mst_try_migrate(&pass, mst_format(&pass) == 1 ? 2 : 1);
+    return unused;
+}
+
+static void *applies(void *unused) {
+    told = mst_try_apply(&pass, edits, edits_length, &place);
+    return unused;
+}
+
+/* Fills a batch with new values of so many keys from one on. */
+static void fill_batch(uint64_t first, size_t keys) {
+    uint8_t key[8];
+    edits_length = 0;
+    for (uint64_t number = first; number < first + keys; number++) {
+        key_bytes(key, number);
+        edits_length = mst_edit_put(edits, edits_length, key, 8, TEXT("1"));
+    }
+}
+
+/* The most that a call takes, of fifty keys. */
+static void tells(const char *name, void *(*run)(void *)) {
+    static uint8_t key[8];
+    size_t alone = stack_of(no_call), most = 0;
+    for (uint64_t number = 0; number < 50; number++) {
+        key_bytes(key, number * 499);
+        size_t all = stack_of_key(run, key);
+        most = all > most ? all : most;
+        EXPECT(told >= MST_ABSENT);
+    }
+    most -= alone < most ? alone : most;
+    EXPECT(most < LIMIT);
+    printf("%s: %zu bytes\n", name, most);
+}
+
+int main(void) {
+    EXPECT(mst_open(1, MST_ROWS_MOST, &pass, 1) == MST_OK);
+    for (uint64_t number = 0; number < KEYS; number += BATCH) {
+        fill_batch(number, BATCH);
+        EXPECT(mst_apply(&pass, edits, edits_length, &place) == MST_OK);
+    }
+    for (int formats = 0; formats < 2; formats++) {
+        tells("get", gets);
+        tells("next", nexts);
+        tells("range", ranges);
+        tells("prove", proves);
+        tells("put", puts_one);
+        tells("remove", removes);
+        fill_batch(0, 10);
+        tells("a batch of 10", applies);
+        fill_batch(0, BATCH);
+        tells("a batch of 1,000", applies);
+        migrates(NULL);
+        EXPECT(told == formats + 1);
+    }
+    size_t alone = stack_of(no_call), migration = stack_of(migrates) - alone;
+    EXPECT(migration < LIMIT);
+    printf("migrate: %zu bytes\n", migration);
+    EXPECT(mst_close(&pass) == MST_OK);
+    return ended("stacks");
+}
