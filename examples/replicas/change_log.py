@@ -1,7 +1,8 @@
 """The log of changes: a stream of a Redis server, which is started on loopback and ended here.
 
 A block is what stands between two commits of the log: a replica makes it as one version. Beside the
-log the server holds the root digests that replicas tell after each block, and a snapshot.
+log the server holds the root digests that replicas tell after each block, a snapshot, and where
+audits are served.
 """
 import collections
 import contextlib
@@ -80,16 +81,27 @@ def blocks(client, place=BEGINNING):
 
 
 def tell_snapshot(client, block, pairs):
-    """Publishes the pairs that a replica has after a block."""
+    """Publishes the pairs that a replica has after a block. Several may do so after one block."""
     client.hset("snapshot", mapping=dict(pairs))
-    client.rpush("snapshot of", block.number, block.place)
+    client.hset("snapshot of", mapping={"number": block.number, "place": block.place})
 
 
 def snapshot(client):
     """The block that stands for the whole log up to the snapshot: its edits put all the pairs.
     There has to be a snapshot."""
-    number, place = client.lrange("snapshot of", 0, 1)
-    return Block(int(number), place, list(client.hgetall("snapshot").items()))
+    of = client.hgetall("snapshot of")
+    return Block(int(of[b"number"]), of[b"place"], list(client.hgetall("snapshot").items()))
+
+
+def tell_audit(client, name, address):
+    """Publishes the address of the audit service of a replica."""
+    client.hset("audits", name, address)
+
+
+def audits(client):
+    """The addresses of the audit services, by the names of their replicas."""
+    told = client.hgetall("audits")
+    return {name.decode(): address.decode() for name, address in told.items()}
 
 
 def tell_root(client, number, name, root):
