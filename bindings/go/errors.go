@@ -1,0 +1,74 @@
+package mst
+
+// #include "mst_store.h"
+import "C"
+
+import (
+	"errors"
+	"fmt"
+)
+
+// The refusals.
+var (
+	// ErrFormat says that there are formats 1 and 2.
+	ErrFormat = errors.New("mst: there are formats 1 and 2")
+	// ErrKey says that a key has 1 to 32 bytes; a bound may also have none.
+	ErrKey = errors.New("mst: a key has 1 to 32 bytes")
+	// ErrValue says that a value has 0 to 64 bytes.
+	ErrValue = errors.New("mst: a value has 0 to 64 bytes")
+	// ErrClosed says that the pass is closed, or its pin ended.
+	ErrClosed = errors.New("mst: the pass is closed, or its pin ended")
+	// ErrPinned says that the pass pins a version: it neither writes, migrates, pins nor counts.
+	ErrPinned = errors.New("mst: the pass pins a version")
+	// ErrMemory says that the library got no memory.
+	ErrMemory = errors.New("mst: a growth of memory was refused")
+	// ErrShape says that a store has 4 to 65,535 rows and 1 to 32 passes.
+	ErrShape = errors.New("mst: a store has 4 to 65535 rows and 1 to 32 passes")
+	// ErrBusy says that another pass has the turn: it writes, migrates or counts rows.
+	ErrBusy = errors.New("mst: another pass has the turn")
+	// ErrVersionsSpent says that the store has made all versions that it can number.
+	ErrVersionsSpent = errors.New("mst: the store has made all versions that it can number")
+	// ErrRowsSpent says that a write or a migration needs more rows than are free.
+	ErrRowsSpent = errors.New("mst: fewer rows are free than the write needs")
+	// ErrRowsPinned says that some pass pins a version, so that rows are not counted.
+	ErrRowsPinned = errors.New("mst: a version is pinned, so rows are not counted")
+)
+
+var refusals = map[C.int32_t]error{
+	C.MST_UNKNOWN_FORMAT: ErrFormat,
+	C.MST_BAD_KEY:        ErrKey,
+	C.MST_BAD_VALUE:      ErrValue,
+	C.MST_CLOSED:         ErrClosed,
+	C.MST_WRONG_STATE:    ErrPinned,
+	C.MST_MEMORY:         ErrMemory,
+	C.MST_BAD_SHAPE:      ErrShape,
+	C.MST_BUSY:           ErrBusy,
+	C.MST_VERSIONS_SPENT: ErrVersionsSpent,
+	C.MST_ROWS_SPENT:     ErrRowsSpent,
+	C.MST_ROWS_PINNED:    ErrRowsPinned,
+}
+
+// refusal is the error for a number that a call returned.
+func refusal(told C.int32_t) error {
+	if err, isKnown := refusals[told]; isKnown {
+		return err
+	}
+	return fmt.Errorf("mst: the library answered %d", int32(told))
+}
+
+// EditError says which edit of a batch is refused. Err is ErrKey or ErrValue.
+type EditError struct {
+	// Place is the number of the first such edit, from 0.
+	Place int
+	Err   error
+}
+
+// Error says which edit is refused, and why.
+func (e *EditError) Error() string {
+	return fmt.Sprintf("%v (edit %d)", e.Err, e.Place)
+}
+
+// Unwrap returns ErrKey or ErrValue.
+func (e *EditError) Unwrap() error {
+	return e.Err
+}

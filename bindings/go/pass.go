@@ -1,0 +1,199 @@
+package mst
+
+// #include "mst_store.h"
+import "C"
+
+import (
+	"errors"
+	"runtime"
+	"time"
+)
+
+// Pass is a pass of a store, from Open. While it pins a version, its reads are of that version and
+// its writes are refused with ErrPinned.
+type Pass struct {
+	Reads
+}
+
+// Pinned is a pass while it pins a version: all its reads are of that version, which keeps its
+// rows.
+type Pinned struct {
+	Reads
+}
+
+// Close closes the pass, and ends its pin if it has one. The store is freed with its last pass. A
+// second close returns ErrClosed and has no other effect. The runtime closes a pass that nothing
+// refers to any more, at some time.
+func (p *Pass) Close() error {
+	s, err := p.take()
+	if err != nil {
+		return err
+	}
+	defer s.giveBack()
+	s.isPinned = false
+	if told := C.mst_close(&s.hand); told != C.MST_OK {
+		return refusal(told)
+	}
+	runtime.SetFinalizer(s, nil)
+	return nil
+}
+
+// Pin pins the current version: until Unpin all reads by the pass and by the result are of it. The
+// error is ErrClosed, or ErrPinned if the pass pins already.
+func (p *Pass) Pin() (*Pinned, error) {
+	s, err := p.take()
+	if err != nil {
+		return nil, err
+	}
+	defer s.giveBack()
+	if told := C.mst_pin(&s.hand); told != C.MST_OK {
+		return nil, refusal(told)
+	}
+	s.pins, s.isPinned = s.pins+1, true
+	pinned := &Pinned{Reads{of: s, pin: s.pins}}
+	runtime.SetFinalizer(pinned, (*Pinned).Unpin)
+	return pinned, nil
+}
+
+// Unpin ends the pin. It has no effect if the pin has ended before, by an Unpin or with its pass.
+// The runtime ends the pin of a Pinned that nothing refers to any more, at some time.
+func (p *Pinned) Unpin() {
+	s, err := p.take()
+	if err != nil {
+		return
+	}
+	defer s.giveBack()
+	s.isPinned = false
+	C.mst_unpin(&s.hand)
+	runtime.SetFinalizer(p, nil)
+}
+
+// Rows returns how many rows the current version takes. The error is ErrClosed, ErrPinned, ErrBusy,
+// or ErrRowsPinned.
+func (p *Pass) Rows() (int, error) {
+	s, err := p.take()
+	if err != nil {
+		return 0, err
+	}
+	defer s.giveBack()
+	var rows C.uint32_t
+	if told := C.mst_rows(&s.hand, &rows); told != C.MST_OK {
+		return 0, refusal(told)
+	}
+	return int(rows), nil
+}
+
+// TryPut gives the key the value, if no other pass has the turn. It returns the value that the key
+// had before, if it was present. The error is ErrClosed, ErrKey, ErrValue, ErrPinned, ErrBusy,
+// ErrVersionsSpent, or ErrRowsSpent.
+func (p *Pass) TryPut(key, value []byte) (old []byte, present bool, err error) {
+	s, err := p.take()
+	if err != nil {
+		return nil, false, err
+	}
+	defer s.giveBack()
+	return s.value(C.mst_try_put(&s.hand, at(key), size(key), at(value), size(value),
+		at(s.room[:]), size(s.room[:])))
+}
+
+// TryRemove takes the key out, if no other pass has the turn. It returns the value that the key had
+// before, if it was present. The error is that of TryPut, but for ErrValue.
+func (p *Pass) TryRemove(key []byte) (old []byte, present bool, err error) {
+	s, err := p.take()
+	if err != nil {
+		return nil, false, err
+	}
+	defer s.giveBack()
+	return s.value(C.mst_try_remove(&s.hand, at(key), size(key), at(s.room[:]), size(s.room[:])))
+}
+
+// TryApply makes the edits of the batch as one version, if no other pass has the turn: each read
+// sees all of them or none. No edits make a version too. The error is ErrClosed, an *EditError,
+// ErrPinned, ErrBusy, ErrVersionsSpent, ErrMemory, or ErrRowsSpent.
+func (p *Pass) TryApply(batch *Batch) error {
+	s, err := p.take()
+	if err != nil {
+		return err
+	}
+	defer s.giveBack()
+	var place C.size_t
+	told := C.mst_try_apply(&s.hand, at(batch.packed), size(batch.packed), &place)
+	switch told {
+	case C.MST_OK:
+		return nil
+	case C.MST_BAD_KEY, C.MST_BAD_VALUE:
+		return &EditError{int(place), refusal(told)}
+	}
+	return refusal(told)
+}
+
+// TryMigrate turns the tree of the map to a format, if no other pass has the turn, and returns the
+// format before. The map stays, and so do the pinned versions, each in its format. The error is
+// ErrClosed, ErrFormat, ErrPinned, ErrBusy, ErrVersionsSpent, ErrMemory, or ErrRowsSpent.
+func (p *Pass) TryMigrate(to Format) (was Format, err error) {
+	s, err := p.take()
+	if err != nil {
+		return 0, err
+	}
+	defer s.giveBack()
+	return formatOf(C.mst_try_migrate(&s.hand, C.uint32_t(to)))
+}
+
+// Put is as TryPut, but waits for the turn.
+func (p *Pass) Put(key, value []byte) (old []byte, present bool, err error) {
+	waitForTurn(func() error {
+		old, present, err = p.TryPut(key, value)
+		return err
+	})
+	return old, present, err
+}
+
+// Remove is as TryRemove, but waits for the turn.
+func (p *Pass) Remove(key []byte) (old []byte, present bool, err error) {
+	waitForTurn(func() error {
+		old, present, err = p.TryRemove(key)
+		return err
+	})
+	return old, present, err
+}
+
+// Apply is as TryApply, but waits for the turn.
+func (p *Pass) Apply(batch *Batch) (err error) {
+	waitForTurn(func() error {
+		err = p.TryApply(batch)
+		return err
+	})
+	return err
+}
+
+// Migrate is as TryMigrate, but waits for the turn.
+func (p *Pass) Migrate(to Format) (was Format, err error) {
+	waitForTurn(func() error {
+		was, err = p.TryMigrate(to)
+		return err
+	})
+	return was, err
+}
+
+// How a call waits for the turn: so many tries with other goroutines between them, then sleeps,
+// from the shortest, each twice the one before, up to the longest.
+const (
+	yields   = 16
+	shortest = 10 * time.Microsecond
+	longest  = time.Millisecond
+)
+
+// waitForTurn tries until the error is another than ErrBusy.
+func waitForTurn(try func() error) {
+	sleep := shortest
+	for tries := 1; errors.Is(try(), ErrBusy); tries++ {
+		if tries <= yields {
+			runtime.Gosched()
+			continue
+		}
+		time.Sleep(sleep)
+		if sleep *= 2; sleep > longest {
+			sleep = longest
+		}
+	}
+}

@@ -1,0 +1,154 @@
+package mst
+
+// #include "mst_store.h"
+import "C"
+
+// Reads are the reads that a Pass and a Pinned have: of the current version, or of the pinned one.
+// They wait for no other pass. After a close the error is ErrClosed, and so it is by a Pinned after
+// its pin.
+type Reads struct {
+	of *seat
+	// The number of the pin, 0 for a pass.
+	pin uint64
+}
+
+// take gets the seat for a call, which then gives it back.
+func (r *Reads) take() (*seat, error) {
+	if r.of == nil {
+		return nil, ErrClosed
+	}
+	r.of.mutex.Lock()
+	if r.pin != 0 && (!r.of.isPinned || r.of.pins != r.pin) {
+		r.of.mutex.Unlock()
+		return nil, ErrClosed
+	}
+	return r.of, nil
+}
+
+func (s *seat) giveBack() {
+	s.mutex.Unlock()
+}
+
+// Get returns the value of the key, if the key is present. The error may also be ErrKey.
+func (r *Reads) Get(key []byte) (value []byte, present bool, err error) {
+	s, err := r.take()
+	if err != nil {
+		return nil, false, err
+	}
+	defer s.giveBack()
+	return s.value(C.mst_get(&s.hand, at(key), size(key), at(s.room[:]), size(s.room[:])))
+}
+
+// Next returns the pair of the least key above key, or of the least key of all if key is empty, if
+// there is such a pair. The error may also be ErrKey.
+func (r *Reads) Next(key []byte) (pair Pair, found bool, err error) {
+	s, err := r.take()
+	if err != nil {
+		return Pair{}, false, err
+	}
+	defer s.giveBack()
+	var length C.size_t
+	value, found, err := s.value(C.mst_next(&s.hand, at(key), size(key), at(s.keyRoom[:]),
+		size(s.keyRoom[:]), &length, at(s.room[:]), size(s.room[:])))
+	if !found {
+		return Pair{}, false, err
+	}
+	return Pair{copied(s.keyRoom[:length]), value}, true, nil
+}
+
+// Range returns the first pairs, at most limit, whose keys are at least from and below to, by
+// rising keys and all of one version. An empty bound does not bind, and neither does a limit below
+// 0. The error may also be ErrKey or ErrMemory.
+func (r *Reads) Range(from, to []byte, limit int) ([]Pair, error) {
+	s, err := r.take()
+	if err != nil {
+		return nil, err
+	}
+	defer s.giveBack()
+	var count C.size_t
+	listing, err := s.longest(func(room []byte, length *C.size_t) C.int32_t {
+		return C.mst_range(&s.hand, at(from), size(from), at(to), size(to), word(limit),
+			at(room), size(room), &count, length)
+	})
+	if err != nil {
+		return nil, err
+	}
+	return pairsIn(copied(listing), int(count)), nil
+}
+
+// pairsIn are the pairs of a listing, which they have parts of.
+func pairsIn(listing []byte, count int) []Pair {
+	pairs := make([]Pair, count)
+	take := func(length int) []byte {
+		part := listing[:length:length]
+		listing = listing[length:]
+		return part
+	}
+	for place := range pairs {
+		lengths := take(4)
+		key := take(int(lengths[0])<<8 | int(lengths[1]))
+		pairs[place] = Pair{key, take(int(lengths[2])<<8 | int(lengths[3]))}
+	}
+	return pairs
+}
+
+// Root returns the root digest, in the format of the version.
+func (r *Reads) Root() (root Root, err error) {
+	s, err := r.take()
+	if err != nil {
+		return Root{}, err
+	}
+	defer s.giveBack()
+	if told := C.mst_root(&s.hand, at(root[:]), size(root[:])); told < 0 {
+		return Root{}, refusal(told)
+	}
+	return root, nil
+}
+
+// Prove returns the proof of the key's answer, which a verifier judges by the format and the root
+// digest of the same version: those that a Pinned tells. The error may also be ErrKey or ErrMemory.
+func (r *Reads) Prove(key []byte) (proof []byte, err error) {
+	s, err := r.take()
+	if err != nil {
+		return nil, err
+	}
+	defer s.giveBack()
+	made, err := s.longest(func(room []byte, length *C.size_t) C.int32_t {
+		return C.mst_prove(&s.hand, at(key), size(key), at(room), size(room), length)
+	})
+	if err != nil {
+		return nil, err
+	}
+	return copied(made), nil
+}
+
+// Version returns the number of the version: how many writes and migrations there were before it.
+func (r *Reads) Version() (version uint64, err error) {
+	s, err := r.take()
+	if err != nil {
+		return 0, err
+	}
+	defer s.giveBack()
+	var number C.uint64_t
+	if told := C.mst_version(&s.hand, &number); told != C.MST_OK {
+		return 0, refusal(told)
+	}
+	return uint64(number), nil
+}
+
+// Format returns the format of the version, in which its root digest and its proofs are.
+func (r *Reads) Format() (Format, error) {
+	s, err := r.take()
+	if err != nil {
+		return 0, err
+	}
+	defer s.giveBack()
+	return formatOf(C.mst_format(&s.hand))
+}
+
+func formatOf(told C.int32_t) (Format, error) {
+	if told < 0 {
+		return 0, refusal(told)
+	}
+	return Format(told), nil
+}

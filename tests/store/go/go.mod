@@ -1,0 +1,13 @@
+module store
+
+go 1.18
+
+require (
+	mst v0.0.0
+	mstverifier v0.0.0
+)
+
+replace (
+	mst => ../../../bindings/go
+	mstverifier => ../../../by_hand/go
+)

@@ -1,0 +1,221 @@
+package store
+
+import (
+	"bytes"
+	"errors"
+	"runtime"
+	"testing"
+	"time"
+
+	"mst"
+)
+
+// expect sees that an error is the wanted one, as errors.Is finds it.
+func expect(t *testing.T, what string, err, wanted error) {
+	t.Helper()
+	if !errors.Is(err, wanted) || (err == nil) != (wanted == nil) {
+		t.Errorf("%s: %v, and not %v", what, err, wanted)
+	}
+}
+
+func get(from *mst.Pass, key []byte) error {
+	_, _, err := from.Get(key)
+	return err
+}
+
+func put(to *mst.Pass, key, value []byte) error {
+	_, _, err := to.Put(key, value)
+	return err
+}
+
+func TestKeysAndValues(t *testing.T) {
+	pass := one(t, 1000)
+	for _, length := range []int{0, 33, 5000, 1 << 17} {
+		key := make([]byte, length)
+		expect(t, "Get", get(pass, key), mst.ErrKey)
+		expect(t, "Put", put(pass, key, nil), mst.ErrKey)
+		_, _, err := pass.Remove(key)
+		expect(t, "Remove", err, mst.ErrKey)
+		_, err = pass.Prove(key)
+		expect(t, "Prove", err, mst.ErrKey)
+	}
+	_, _, err := pass.Next(make([]byte, 33))
+	expect(t, "Next", err, mst.ErrKey)
+	_, err = pass.Range(make([]byte, 33), nil, -1)
+	expect(t, "Range from", err, mst.ErrKey)
+	_, err = pass.Range(nil, make([]byte, 33), -1)
+	expect(t, "Range to", err, mst.ErrKey)
+	expect(t, "Put", put(pass, []byte("key"), make([]byte, 65)), mst.ErrValue)
+	expect(t, "Put", put(pass, make([]byte, 32), make([]byte, 64)), nil)
+	expect(t, "Put", put(pass, []byte("k\x00y"), []byte("\x00v\x00")), nil)
+	if value, present, err := pass.Get([]byte("k\x00y")); string(value) != "\x00v\x00" {
+		t.Errorf("%x, %v, %v", value, present, err)
+	}
+	if version, err := pass.Version(); version != 2 || err != nil {
+		t.Errorf("version %d, %v", version, err)
+	}
+}
+
+func TestEdits(t *testing.T) {
+	pass := one(t, 1000)
+	add := map[error][]func(*mst.Batch){
+		mst.ErrKey: {
+			func(b *mst.Batch) { b.Put(nil, nil) },
+			func(b *mst.Batch) { b.Remove(nil) },
+			func(b *mst.Batch) { b.Put(make([]byte, 33), make([]byte, 65)) },
+			func(b *mst.Batch) { b.Remove(make([]byte, 70_000)) },
+			func(b *mst.Batch) { b.Remove(make([]byte, 1<<16)) },
+		},
+		mst.ErrValue: {
+			func(b *mst.Batch) { b.Put([]byte("key"), make([]byte, 65)) },
+			func(b *mst.Batch) { b.Put([]byte("key"), make([]byte, 70_000)) },
+		},
+	}
+	for wanted, edits := range add {
+		for at, edit := range edits {
+			var batch mst.Batch
+			for place := 0; place < at; place++ {
+				batch.Put([]byte("key"), []byte("value"))
+			}
+			edit(&batch)
+			edit(batch.Put([]byte("key"), nil))
+			err := pass.Apply(&batch)
+			var refused *mst.EditError
+			if !errors.As(err, &refused) || refused.Place != at || !errors.Is(err, wanted) {
+				t.Errorf("edit %d: %v, and not %v", at, err, wanted)
+			}
+		}
+	}
+	if version, err := pass.Version(); version != 0 || err != nil {
+		t.Errorf("version %d, %v", version, err)
+	}
+	expect(t, "an empty batch", pass.Apply(new(mst.Batch)), nil)
+}
+
+func TestShapesAndFormats(t *testing.T) {
+	for _, it := range [][2]int{
+		{3, 1}, {65_536, 1}, {1000, 0}, {1000, 33}, {1000, -1}, {-1, 1}, {1<<32 + 4, 1}, {1000, 1 << 40},
+	} {
+		_, err := mst.Open(mst.Format1, it[0], it[1])
+		expect(t, "Open", err, mst.ErrShape)
+	}
+	pass := one(t, 1000)
+	for _, format := range []mst.Format{0, 3, 1 << 31} {
+		_, err := mst.Open(format, 1000, 1)
+		expect(t, "Open", err, mst.ErrFormat)
+		_, err = pass.Migrate(format)
+		expect(t, "Migrate", err, mst.ErrFormat)
+	}
+}
+
+func TestAPinnedPassNeitherWritesNorPins(t *testing.T) {
+	pass := one(t, 1000)
+	pinned, err := pass.Pin()
+	expect(t, "Pin", err, nil)
+	expect(t, "Put", put(pass, []byte("key"), nil), mst.ErrPinned)
+	_, _, err = pass.Remove([]byte("key"))
+	expect(t, "Remove", err, mst.ErrPinned)
+	expect(t, "Apply", pass.Apply(new(mst.Batch)), mst.ErrPinned)
+	_, err = pass.Migrate(mst.Format2)
+	expect(t, "Migrate", err, mst.ErrPinned)
+	_, err = pass.Rows()
+	expect(t, "Rows", err, mst.ErrPinned)
+	_, err = pass.Pin()
+	expect(t, "Pin", err, mst.ErrPinned)
+	pinned.Unpin()
+	expect(t, "Put", put(pass, []byte("key"), nil), nil)
+}
+
+func TestAnOldPinHasNoPartInALaterOne(t *testing.T) {
+	passes := open(t, mst.Format1, 1000, 2)
+	first, err := passes[0].Pin()
+	expect(t, "Pin", err, nil)
+	first.Unpin()
+	_, _, err = first.Get([]byte("key"))
+	expect(t, "Get", err, mst.ErrClosed)
+	second, err := passes[0].Pin()
+	expect(t, "Pin", err, nil)
+	first.Unpin()
+	expect(t, "Put", put(passes[1], []byte("key"), nil), nil)
+	if _, present, err := second.Get([]byte("key")); present || err != nil {
+		t.Errorf("%v, %v", present, err)
+	}
+	_, _, err = first.Get([]byte("key"))
+	expect(t, "Get", err, mst.ErrClosed)
+	_, err = passes[1].Rows()
+	expect(t, "Rows", err, mst.ErrRowsPinned)
+	expect(t, "Close", passes[0].Close(), nil)
+	_, _, err = second.Get([]byte("key"))
+	expect(t, "Get", err, mst.ErrClosed)
+	second.Unpin()
+	if rows, err := passes[1].Rows(); rows != 2 || err != nil {
+		t.Errorf("%d rows, %v", rows, err)
+	}
+}
+
+func TestRows(t *testing.T) {
+	pass := one(t, 8)
+	err := error(nil)
+	for at := 0; at < 20 && err == nil; at++ {
+		err = put(pass, []byte{byte(at)}, nil)
+	}
+	expect(t, "Put", err, mst.ErrRowsSpent)
+	var batch mst.Batch
+	for at := 0; at < 20; at++ {
+		batch.Put([]byte{byte(at)}, nil)
+	}
+	expect(t, "Apply", pass.Apply(&batch), mst.ErrRowsSpent)
+	_, err = pass.Migrate(mst.Format2)
+	expect(t, "Migrate", err, mst.ErrRowsSpent)
+	if rows, err := pass.Rows(); rows > 8 || err != nil {
+		t.Errorf("%d rows, %v", rows, err)
+	}
+}
+
+func TestClosed(t *testing.T) {
+	pass, none := one(t, 1000), new(mst.Pass)
+	expect(t, "Close", pass.Close(), nil)
+	for _, it := range []*mst.Pass{pass, none} {
+		expect(t, "Close", it.Close(), mst.ErrClosed)
+		expect(t, "Get", get(it, []byte("key")), mst.ErrClosed)
+		expect(t, "Put", put(it, []byte("key"), nil), mst.ErrClosed)
+		expect(t, "Apply", it.Apply(new(mst.Batch)), mst.ErrClosed)
+		for name, call := range map[string]func() error{
+			"Next":    func() error { _, _, err := it.Next(nil); return err },
+			"Range":   func() error { _, err := it.Range(nil, nil, -1); return err },
+			"Root":    func() error { _, err := it.Root(); return err },
+			"Prove":   func() error { _, err := it.Prove([]byte("key")); return err },
+			"Version": func() error { _, err := it.Version(); return err },
+			"Format":  func() error { _, err := it.Format(); return err },
+			"Rows":    func() error { _, err := it.Rows(); return err },
+			"Remove":  func() error { _, _, err := it.Remove([]byte("key")); return err },
+			"Migrate": func() error { _, err := it.Migrate(mst.Format2); return err },
+			"Pin":     func() error { _, err := it.Pin(); return err },
+		} {
+			expect(t, name, call(), mst.ErrClosed)
+		}
+	}
+}
+
+// What nothing refers to any more is closed by the runtime.
+func TestTheRuntimeClosesWhatIsForgotten(t *testing.T) {
+	passes, err := mst.Open(mst.Format1, 65_535, 2)
+	expect(t, "Open", err, nil)
+	kept := passes[0]
+	_, err = passes[1].Pin()
+	expect(t, "Pin", err, nil)
+	_, err = kept.Rows()
+	expect(t, "Rows", err, mst.ErrRowsPinned)
+	passes = nil
+	for deadline := time.Now().Add(time.Minute); ; time.Sleep(time.Millisecond) {
+		runtime.GC()
+		if _, err = kept.Rows(); err == nil {
+			break
+		}
+		if time.Now().After(deadline) {
+			t.Fatal("the pin stays")
+		}
+	}
+	expect(t, "Put", put(kept, []byte("key"), bytes.Repeat([]byte("x"), 64)), nil)
+	expect(t, "Close", kept.Close(), nil)
+}
