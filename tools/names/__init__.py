@@ -1,0 +1,1 @@
+"""Names of the public interfaces, as the sources say them."""

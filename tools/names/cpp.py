@@ -1,0 +1,118 @@
+"""The names of headers in C++: what stands in namespaces but `detail`, and is public."""
+import os
+import re
+
+from .page import Name, Part, paragraphs
+from .scanning import items, line_lines, unwrapped
+
+# A head that names no new thing: copies, moves, ends, friends.
+UNNAMED = re.compile(
+    r"friend\b|.*=\s*delete$|.*\boperator=|~|.*=\s*default$|typename\b|static_assert"
+)
+KINDS = re.compile(
+    r"(?:template\s*<.*?>\s*)?(class|struct|enum class|enum)\s+(?:\[\[.*?\]\]\s*)?(\w+)", re.DOTALL
+)
+CALLED = re.compile(r"(~?\w+|operator\s*[\w=!<>+*-]+)\s*\(")
+VALUE = re.compile(r"(\w+)\s*(?:=.*|\[.*)?$", re.DOTALL)
+
+
+def words_of(item):
+    lines = line_lines(item.before, ["//"])
+    return paragraphs(lines or ([item.behind] if item.behind else []), "cpp")
+
+
+def without_start(head):
+    """The head of a function without what its body begins with: the list of its members' values."""
+    depth = 0
+    for at, one in enumerate(head):
+        depth += (one in "([{<") - (one in ")]}>" and head[at - 1] != "-")
+        if one == ":" and depth == 0 and "::" not in head[max(0, at - 1) : at + 2]:
+            return head[:at].rstrip()
+    return head
+
+
+def plain(head):
+    """A head as a caller needs it, its further lines set as they are."""
+    head = re.sub(r"^(?:inline|constexpr|static)\s+", "", unwrapped(head).strip())
+    return without_start(head)
+
+
+def indented_back(code, base):
+    return code.replace("\n" + " " * base, "\n")
+
+
+def named(item):
+    """The title of what is declared."""
+    if item.head.startswith("using "):
+        return re.match(r"using (\w+)", item.head)[1]
+    called = CALLED.search(re.sub(r"^template\s*<.*?>\s*", "", item.head, flags=re.DOTALL))
+    if called:
+        return called[1]
+    return VALUE.search(item.head.strip())[1]
+
+
+def enum_of(item, kind, title):
+    """An enum, whose values are names within."""
+    code = f"{unwrapped(item.head)} {{{unwrapped(item.body)}}};"
+    return Name(title, re.sub(r"\s*\n\s*", " ", code), words_of(item))
+
+
+def members(title, body, is_public):
+    """The public members of a class or a struct of this title, without copies and moves."""
+    found = []
+    for item in items(body):
+        if re.fullmatch(r"(?:public|private|protected):", item.head):
+            is_public = item.head == "public:"
+        elif is_public and item.head and not UNNAMED.match(item.head):
+            if not re.match(rf"{title}\((?:const )?{title} ?&", item.head):
+                found.append(one_of(item, "    "))
+    return found
+
+
+def one_of(item, indent=""):
+    """The name that an item declares."""
+    kind = KINDS.match(item.head)
+    if kind and item.body is not None:
+        title = kind[2]
+        if kind[1].startswith("enum"):
+            return enum_of(item, kind[1], title)
+        within = members(title, item.body, kind[1] == "struct")
+        return Name(title, plain_type(item.head), words_of(item), within)
+    code = indented_back(plain(item.head), len(indent))
+    return Name(named(item), code + ";", words_of(item))
+
+
+def plain_type(head):
+    return re.sub(r"\s+", " ", unwrapped(head)).strip() + ";"
+
+
+def names_in(text):
+    """The names of a namespace's text."""
+    found = []
+    for item in items(text):
+        space = re.fullmatch(r"(?:inline )?namespace (\w+)", item.head)
+        if space:
+            found += names_in(item.body) if space[1] != "detail" else []
+        elif item.head and not item.head.startswith("#") and not UNNAMED.match(item.head):
+            found.append(one_of(item))
+    return together(found)
+
+
+def together(names):
+    """Overloads under one title."""
+    kept = []
+    for one in names:
+        if kept and kept[-1].title == one.title and not one.within and not one.words:
+            kept[-1].code += "\n" + one.code
+        else:
+            kept.append(one)
+    return kept
+
+
+def parts(path):
+    with open(path, encoding="utf-8") as file:
+        text = file.read()
+    first = next(items(text))
+    words = paragraphs(line_lines(first.before, ["//"]), "cpp")
+    body = re.sub(r"(?m)^#[^\n]*(?:\\\n[^\n]*)*\n", "", text)
+    return [Part(f"`{os.path.basename(path)}`", words, names_in(body))]

@@ -1,0 +1,176 @@
+"""The names of a crate of Rust: what its modules make public, with the public calls of types."""
+import os
+import re
+
+from .page import Name, Part
+from .scanning import items, line_lines, trimmed
+
+ITEM = re.compile(r"pub (?:const )?(?:unsafe )?(fn|struct|enum|trait|const|static|type) (\w+)")
+USED = re.compile(r"pub use (?:crate::|self::)?(\w+)::\s*(?:\{(.*)\}|(\w+))\s*$", re.DOTALL)
+MODULE = re.compile(r"(pub )?mod (\w+)$")
+IMPL = re.compile(r"impl(?:<.*?>)? (\w+)(?:<.*>)?$", re.DOTALL)
+
+
+def words_of(item, mark="///"):
+    """Words are Markdown already, but for links to names of the crate and hidden lines of code."""
+    lines = line_lines([it for it in item.before if not it.startswith("////")], [mark])
+    out, is_code = [], False
+    for line in lines:
+        if line.startswith("```"):
+            is_code = not is_code
+            line = f"```rust{',' + line[3:] if line[3:] else ''}" if is_code else "```"
+        elif is_code and (line.startswith("# ") or line == "#"):
+            continue
+        else:
+            line = line if is_code else re.sub(r"\[(`[^`]+`)\](?!\()", r"\1", line)
+        out.append(line)
+    return joined(trimmed(out))
+
+
+def joined(lines):
+    """The lines of a paragraph as one."""
+    out, is_code = [], False
+    for line in lines:
+        if line.startswith("```"):
+            is_code = not is_code
+            out.append(line)
+        elif is_code or not line or not out or not out[-1] or out[-1].startswith("```"):
+            out.append(line)
+        elif re.match(r"\s*[-*] ", line):
+            out.append(line)
+        else:
+            out[-1] += " " + line.strip()
+    return out
+
+
+def declared(head, base=0):
+    return head.replace("\n" + " " * base, "\n")
+
+
+class Module:
+    """The public names of a module: its own, and those that it takes from its private modules."""
+
+    def __init__(self, source, name, path, folder):
+        self.source, self.name, self.folder = source, name, folder
+        with open(path, encoding="utf-8") as file:
+            self.text = file.read()
+        self.items = [it for it in items(self.text) if not it.head.startswith("mod tests")]
+        self.public = {}
+        for item in self.items:
+            found = ITEM.match(item.head)
+            if found:
+                self.public[found[2]] = (found[1], item)
+
+    def file_of(self, name):
+        for path in (f"{self.folder}/{name}.rs", f"{self.folder}/{name}/mod.rs"):
+            if os.path.exists(path):
+                return path
+        return None
+
+    def module(self, name):
+        path = self.file_of(name)
+        return Module(self.source, name, path, f"{self.folder}/{name}") if path else None
+
+    def words(self):
+        first = next((it for it in self.items if it.before), None)
+        return words_of(first, "//!") if first else []
+
+    def exported(self):
+        """Kind and item of each name that others can use."""
+        found = []
+        for item in self.items:
+            name = ITEM.match(item.head)
+            if name:
+                found.append((name[2], *self.public[name[2]]))
+            elif item.head.startswith("pub use"):
+                found += self.taken(item)
+        return found
+
+    def taken(self, item):
+        """What a `pub use` takes from a module."""
+        whole = item.head + (" {" + item.body + "}" if item.body is not None else "")
+        used = USED.match(whole)
+        if not used:
+            return []
+        module = self.module(used[1])
+        names = [it.split(" as ")[0].strip() for it in (used[2] or used[3]).split(",")]
+        return [(it, *module.public[it]) for it in names if module and it in module.public]
+
+    def modules(self):
+        """This module, and the public ones within."""
+        yield self
+        for item in self.items:
+            found = MODULE.match(item.head)
+            if found and found[1] and item.body is None:
+                module = self.module(found[2])
+                if module:
+                    yield from module.modules()
+
+
+def calls(text):
+    """The public calls of the impls in a text, by the names of their types."""
+    found = {}
+    for item in items(text):
+        impl = IMPL.match(item.head)
+        if not impl or item.body is None:
+            continue
+        for one in items(item.body):
+            name = ITEM.match(one.head)
+            if name:
+                call = Name(name[2], declared(one.head, 4) + ";", words_of(one))
+                found.setdefault(impl[1], []).append(call)
+    return found
+
+
+def variants(body):
+    found = []
+    for item in items(body, ","):
+        name = re.match(r"\w+", item.head)
+        if name:
+            inner = f" {{{item.body}}}" if item.body is not None else ""
+            found.append(Name(name[0], item.head + inner, words_of(item)))
+    return found
+
+
+def of_trait(body):
+    found = []
+    for item in items(body):
+        name = re.match(r"(?:const |unsafe )*(?:fn|type|const) (\w+)", item.head)
+        if name:
+            found.append(Name(name[1], declared(item.head, 4) + ";", words_of(item)))
+    return found
+
+
+def fields(body):
+    found = []
+    for item in items(body, ","):
+        name = re.match(r"pub (\w+)\s*:", item.head)
+        if name:
+            found.append(Name(name[1], item.head, words_of(item)))
+    return found
+
+
+WITHIN = {"enum": variants, "trait": of_trait, "struct": fields}
+
+
+def name_of(title, kind, item, by_type):
+    within = WITHIN[kind](item.body or "") if kind in WITHIN else []
+    within += by_type.get(title, [])
+    ends = "" if item.head.endswith(")") and kind == "struct" else ";"
+    return Name(title, declared(item.head) + (ends or ";"), words_of(item), within)
+
+
+def parts(folder, crate):
+    source = os.path.join(folder, "src")
+    by_type = {}
+    for path, _, files in sorted(os.walk(source)):
+        for file in sorted(it for it in files if it.endswith(".rs")):
+            with open(os.path.join(path, file), encoding="utf-8") as opened:
+                for title, found in calls(opened.read()).items():
+                    by_type.setdefault(title, []).extend(found)
+    made = []
+    for module in Module(source, crate, f"{source}/lib.rs", source).modules():
+        title = crate if module.name == crate else f"{crate}::{module.name}"
+        names = [name_of(*it, by_type) for it in module.exported()]
+        made.append(Part(f"`{title}`", module.words(), names))
+    return made
