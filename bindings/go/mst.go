@@ -94,6 +94,11 @@ func Open(format Format, rows, passes int) ([]*Pass, error) {
 	return made, nil
 }
 
+// LibraryVersion returns the version of the library that is linked.
+func LibraryVersion() string {
+	return C.GoString(C.mst_library_version())
+}
+
 // word is the number as the library takes it. Of a number out of its range it is one that each call
 // refuses or takes for no limit.
 func word(number int) C.uint32_t {

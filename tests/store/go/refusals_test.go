@@ -3,6 +3,7 @@ package store
 import (
 	"bytes"
 	"errors"
+	"regexp"
 	"runtime"
 	"testing"
 	"time"
@@ -90,6 +91,13 @@ func TestEdits(t *testing.T) {
 		t.Errorf("version %d, %v", version, err)
 	}
 	expect(t, "an empty batch", pass.Apply(new(mst.Batch)), nil)
+}
+
+func TestTheLibrarySaysItsVersion(t *testing.T) {
+	version := mst.LibraryVersion()
+	if isNumbered, err := regexp.MatchString(`^\d+\.\d+\.\d+$`, version); !isNumbered {
+		t.Errorf("%s, %v", version, err)
+	}
 }
 
 func TestShapesAndFormats(t *testing.T) {
