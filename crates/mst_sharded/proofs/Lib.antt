@@ -3,6 +3,7 @@ pub mod Changing
 pub mod Dealing
 pub mod FewRows
 pub mod Formats
+pub mod Kept
 pub mod Listed
 pub mod Nexts
 pub mod Only

@@ -1,5 +1,6 @@
 -- What is said of each pass of a list: what the directory lists stays true as passes see more.
 use Rattle.std.proofs.Common.{◌≡◌, ℕ, zero, suc, ◌+◌, ◌<◌, ◌≤◌, Result, Ok, Err, IfOk, IfErr, length-set, List, [], ◌∷◌, length, Option, Some, None, get_or, slice_set, sym, ◌∙◌, subst, arith}
+use Rattle.std.proofs.lemmas.List.{get_or_read}
 use Rattle.mst_key.proofs.HistoryLaws.{IsPrefix-itself, IsPrefix-chain}
 use Rattle.mst_key.specs.declared.format.Format.{Format}
 use Rattle.mst_key.specs.declared.history.Change.{Change}
@@ -12,7 +13,7 @@ use Rattle.mst_store.specs.declared.faults.WriteFault.{WriteFault}
 use Rattle.mst_store.specs.declared.faults.WriteFault.TheVariants.{Busy, VersionsSpent, NoRoom}
 use Rattle.mst_store.specs.declared.faults.ChangeFault.{ChangeFault}
 use Rattle.mst_sharded_proof.specs.Shards.{Shard, shards as shards_at}
-use Rattle.mst_sharded.specs.Sharding.{AllStep, SeesMore, sharding, IsSharding}
+use Rattle.mst_sharded.specs.Sharding.{AllStep, SeesMore, sharding, IsSharding, place}
 use Rattle.mst_sharded.specs.Listing.{Listing, IsListed, AreListed, HasListed}
 
 -- ---- what is listed stays true
@@ -157,3 +158,12 @@ handle_kept splits l ps i p q is has within at more =
           record { splits_are = is.splits_are; count = length-set ps i q ∙ is.count };
       listed = one_listed splits l ps i p q low at more has;
     }
+
+-- the pass at the place of a key's shard is what is read there
+pub found_here : (splits : List (List ℕ)) (ps : List Known) (k : List ℕ) (i : ℕ) (p : Known)
+    → IsSharding (sharding splits ps) → i ≤ length splits → i ≡ place splits k
+    → p ≡ get_or ps i p → (d : Known) → get_or ps (place splits k) d ≡ p
+found_here splits ps k i p is within at value d =
+    let count : length ps ≡ length splits + 1 = is.count in
+    let low : i < length ps = omega (arith, count, within) in
+    subst (λ (n : ℕ). get_or ps n d ≡ p) at (sym (get_or_read ps i p low value d))

@@ -4,7 +4,7 @@ use Rattle.std.specs.List.{AllByRecursion}
 use Rattle.mst_key.specs.declared.format.Format.{Format}
 use Rattle.mst_key.specs.declared.history.Edit.{Edit}
 use Rattle.mst_key.specs.Map.{Pair, key_cmp, map_get, IsMap, IsAscending, AllAbove}
-use Rattle.mst_key.specs.History.{History, after, batched}
+use Rattle.mst_key.specs.History.{after, batched}
 use Rattle.mst_key.proofs.Batches.{map_get-batched}
 use Rattle.mst_key.proofs.HistoryLaws.{IsMap-batched}
 use Rattle.mst_key.proofs.KeyOrder.{by_order, by_same, less_chain, other_from_less}
@@ -16,9 +16,8 @@ use Rattle.mst_sharded_proof.specs.Shards.{Shard, least, shards_from, shards as 
 use Rattle.mst_sharded_proof.proofs.Shards.{directory_map}
 use Rattle.mst_sharded.specs.Sharding.{IsSplits, sharding, maps_of, map_of}
 use Rattle.mst_sharded.specs.Directory.{AllIn, KeepWithin}
-use Rattle.mst_sharded.specs.Listing.{Listing, IsListed, AreListed, HasListed}
-use Rattle.mst_sharded.specs.Entries.{edits_of, NewKeep, versions_of, nothing_of, Stays, Becomes, HasRowsBeside, KeepsListing, ListsAll}
-use Rattle.mst_sharded.proofs.Only.{stays_becomes}
+use Rattle.mst_sharded.specs.Listing.{Listing, AreListed, HasListed}
+use Rattle.mst_sharded.specs.Entries.{edits_of, NewKeep, versions_of, Becomes, HasRowsBeside, ListsAll}
 use Rattle.mst_sharded.proofs.Parts.{HasParts, parts}
 use Rattle.mst_sharded.proofs.Relisting.{RiseFrom, rise_from, lists_last, relist, lows, keys_relisted, small_edits}
 
@@ -230,89 +229,6 @@ lists_all format splits l ps is noted format_is same has =
           (parts least splits (maps_of ps) is.rising) listed) (has.keys k));
     }
 
--- ---- steps that change no entry
-
-list_again : (old new : Known) (shards : List Shard) (vs : List (Option ℕ)) (ps : List Known)
-    → format_seen new ≡ format_seen old → after new.seen ≡ after old.seen
-    → AreListed old shards vs ps → AreListed new shards vs ps
-list_again old new [] [] [] format same listed = tt
-list_again old new [] [] (p ∷ ps) format same listed = absurd listed
-list_again old new [] (v ∷ vs) ps format same listed = absurd listed
-list_again old new (s ∷ shards) [] ps format same listed = absurd listed
-list_again old new (s ∷ shards) (v ∷ vs) [] format same listed = absurd listed
-list_again old new (s ∷ shards) (v ∷ vs) (p ∷ ps) format same listed = (
-  one v listed.0,
-  list_again old new shards vs ps format same listed.1,
-)
-  where
-    one : (v : Option ℕ) → IsListed old s v p → IsListed new s v p
-    one None is = tt
-    one (Some version) is = record {
-      log = is.log;
-      seen = is.seen;
-      count = is.count;
-      clean = is.clean;
-      entry = ap (λ (m : List Pair). map_get m s.low) same ∙ is.entry
-          ∙ ap (λ (f : Format). Some (root_of f (after is.log) ++ bound_text s.high))
-          (sym format);
-    }
-
-list_nothing : (old new : Known) (shards : List Shard) (vs : List (Option ℕ)) (ps : List Known)
-    → AreListed old shards vs ps → AreListed new shards (nothing_of vs) ps
-list_nothing old new [] [] [] listed = tt
-list_nothing old new [] [] (p ∷ ps) listed = absurd listed
-list_nothing old new [] (v ∷ vs) ps listed = absurd listed
-list_nothing old new (s ∷ shards) [] ps listed = absurd listed
-list_nothing old new (s ∷ shards) (v ∷ vs) [] listed = absurd listed
-list_nothing old new (s ∷ shards) (v ∷ vs) (p ∷ ps) listed =
-    (tt, list_nothing old new shards vs ps listed.1)
-
-pub kept_listing : (splits : List (List ℕ)) (l l' : Listing) (ps : List Known)
-    → KeepsListing l l' → HasListed splits l ps → HasListed splits l' ps
-kept_listing splits l l' ps keep has = record {
-  only = keep.only;
-  roomy = subst (λ (s : StoreId). 4 * (length splits + 1) ≤ s.rows) (sym keep.store) has.roomy;
-  ordered = subst IsMap (sym keep.kept) has.ordered;
-  keys = λ k. subst (λ (n : List Pair). map_get n k ≢ None
-      → Contains (lows (shards_at splits)) k) (sym keep.kept) (has.keys k);
-  all = elim keep.versions [
-    | inl both ↦ subst (λ (vs : List (Option ℕ)). AreListed l'.pass (shards_at splits) vs ps)
-        (sym both.0)
-        (list_again l.pass l'.pass (shards_at splits) l.listed ps both.1 keep.kept has.all)
-    | inr none ↦ subst (λ (vs : List (Option ℕ)). AreListed l'.pass (shards_at splits) vs ps)
-        (sym none) (list_nothing l.pass l'.pass (shards_at splits) l.listed ps has.all)
-  ];
-}
-
--- a pass that stays keeps the listing
-pub stays_keeps : (l : Listing) (q : Known) → Stays l.pass q
-    → KeepsListing l (record { pass = q; listed = l.listed })
-stays_keeps l q stay =
-    let same = stays_becomes l.pass q stay in
-    record {
-      only = stay.0;
-      store = stay.1;
-      kept = same.3;
-      versions = inl (refl, same.2);
-    }
-
-pub stays_listed : (splits : List (List ℕ)) (l : Listing) (q : Known) (ps : List Known)
-    → Stays l.pass q → HasListed splits l ps
-    → HasListed splits (record { pass = q; listed = l.listed }) ps
-stays_listed splits l q ps stay has =
-    kept_listing splits l (record { pass = q; listed = l.listed }) ps (stays_keeps l q stay) has
-
-pub forgets : (l : Listing) (q : Known) (format : Format)
-    → Becomes format (after l.pass.seen) l.pass q
-    → KeepsListing l (record { pass = q; listed = nothing_of l.listed })
-forgets l q format now =
-    record {
-      only = now.0;
-      store = now.1;
-      kept = now.3;
-      versions = inr refl;
-    }
-
 -- as many versions are listed as there are shards
 pub length-listed : (splits : List (List ℕ)) (l : Listing) (ps : List Known)
     → HasListed splits l ps → length l.listed ≡ length splits + 1
@@ -329,46 +245,6 @@ length-listed splits l ps has =
     counted d (s ∷ ss) [] qs all = absurd all
     counted d (s ∷ ss) (v ∷ vs) [] all = absurd all
     counted d (s ∷ ss) (v ∷ vs) (q ∷ qs) all = ap suc (counted d ss vs qs all.1)
-
--- ---- a directory that is turned to another format
-
-rows_stay : (m : List Pair) (p q : Known) → Stays p q → after q.seen ≡ m → HasRowsBeside m p
-    → HasRowsBeside m q
-rows_stay m p q stay same rows =
-    let seen : length (after q.seen) ≡ length (after p.seen) =
-    ap (λ (h : History). length (after h)) stay.2 in
-    let fit : 2 * (length (after p.seen) + length m) ≤ p.store.rows = rows in
-    let store : q.store.rows ≡ p.store.rows = ap (λ (s : StoreId). s.rows) stay.1 in
-    let now : 2 * (length (after q.seen) + length m) ≤ q.store.rows =
-    omega (arith, seen, fit, store) in
-    now
-
-pub rows_again : (p q : Known) → Stays p q → HasRowsBeside (after p.seen) p
-    → HasRowsBeside (after q.seen) q
-rows_again p q stay rows =
-    rows_stay (after q.seen) p q stay refl
-    (subst (λ (h : History). HasRowsBeside (after h) p) (sym stay.2) rows)
-
-pub turned : (l : Listing) (q r : Known) (to : Format) → Stays l.pass q
-    → Becomes to (after q.seen) q r
-    → KeepsListing l (record { pass = r; listed = nothing_of l.listed })
-turned l q r to stay now =
-    record {
-      only = now.0;
-      store = now.1 ∙ stay.1;
-      kept = now.3 ∙ ap (λ (h : History). after h) stay.2;
-      versions = inr refl;
-    }
-
-pub not_turned : (l : Listing) (q r : Known) → Stays l.pass q → Stays q r
-    → KeepsListing l (record { pass = r; listed = nothing_of l.listed })
-not_turned l q r stay again =
-    record {
-      only = again.0;
-      store = again.1 ∙ stay.1;
-      kept = ap (λ (h : History). after h) (again.2 ∙ stay.2);
-      versions = inr refl;
-    }
 
 -- ---- all shards are listed
 

@@ -1,5 +1,5 @@
 //! A handle: a pass of each shard, for one thread.
-ghost use Rattle.std.specs.Prelude.{◌≡◌, length, IfOk, IfErr};
+ghost use Rattle.std.specs.Prelude.{◌≡◌, ◌+◌, length, IfOk, IfErr};
 ghost use Rattle.mst_key.specs.declared.history.Change.TheVariants.{Put, Remove};
 ghost use Rattle.mst_key.specs.History.{had};
 ghost use Rattle.mst_key.specs.Map.{map_get};
@@ -54,6 +54,7 @@ impl<'a, A: Allocator + Copy, B: Allocator> Handle<'a, A, B> {
     pub fn get(&mut self, key: &Key) -> Option<Value>
         ensures answers { Routes key.now (λ p q. Answers (λ _ m. map_get m key.now) p result q)
             self.old self.new }
+        ensures once { Routes key.now (λ p q. q.asked ≡ p.asked + 1) self.old self.new }
     {
         let place = place_of(self.splits, key);
         self.passes[place].get(key)

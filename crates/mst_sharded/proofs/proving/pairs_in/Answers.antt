@@ -8,7 +8,7 @@ use Rattle.mst_sharded.specs.Listing.{Listing, HasListed}
 use Rattle.mst_sharded.proofs.Only.{stays}
 use Rattle.mst_sharded.proofs.Refused.{asked_stays}
 use Rattle.mst_sharded.proofs.Rooted.{pairs_told}
-use Rattle.mst_sharded.proofs.Whole.{stays_listed}
+use Rattle.mst_sharded.proofs.Kept.{stays_listed}
 use Rattle.mst_sharded.proofs.proving.pairs_in.Goals as goal
 use Rattle.mst_sharded.proofs.proving.pairs_in.Goals.{in-Ok, in-Err}
 

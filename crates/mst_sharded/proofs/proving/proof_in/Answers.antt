@@ -6,7 +6,7 @@ use Rattle.mst_sharded.specs.Directory.{OfClean}
 use Rattle.mst_sharded.specs.Entries.{ListsAll}
 use Rattle.mst_sharded.specs.Listing.{Listing, HasListed}
 use Rattle.mst_sharded.proofs.Rooted.{proof_at}
-use Rattle.mst_sharded.proofs.Whole.{stays_listed}
+use Rattle.mst_sharded.proofs.Kept.{stays_listed}
 use Rattle.mst_sharded.proofs.proving.proof_in.Goals as goal
 use Rattle.mst_sharded.proofs.proving.proof_in.Goals.{in-Ok, in-Err}
 

@@ -3,7 +3,7 @@ use Rattle.mst_sharded.specs.Entries.{ListsAll}
 use Rattle.mst_sharded.specs.Listing.{Listing, HasListed}
 use Rattle.mst_sharded.proofs.Only.{stays}
 use Rattle.mst_sharded.proofs.Rooted.{root_told}
-use Rattle.mst_sharded.proofs.Whole.{stays_listed}
+use Rattle.mst_sharded.proofs.Kept.{stays_listed}
 use Rattle.mst_sharded.proofs.proving.root_in.Goals as goal
 
 pub returns-clause-ok : goal.returns-clause-ok

@@ -5,7 +5,8 @@ use Rattle.mst_store.specs.Passes.{Known}
 use Rattle.mst_sharded_proof.specs.Shards.{shards}
 use Rattle.mst_sharded.specs.Entries.{edits_of, HasRowsBeside}
 use Rattle.mst_sharded.specs.Listing.{Listing, HasListed}
-use Rattle.mst_sharded.proofs.Whole.{edits_fit, length-listed, listed_anew, stays_listed}
+use Rattle.mst_sharded.proofs.Kept.{stays_listed}
+use Rattle.mst_sharded.proofs.Whole.{edits_fit, length-listed, listed_anew}
 use Rattle.mst_sharded.proofs.directory.Directory.list.Goals as goal
 
 pub changes-requires-clause-versions : goal.changes-requires-clause-versions

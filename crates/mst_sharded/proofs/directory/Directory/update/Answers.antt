@@ -1,7 +1,8 @@
 use Rattle.std.proofs.Common.{List, sym, subst}
 use Rattle.mst_store.specs.Passes.{Known}
 use Rattle.mst_sharded.specs.Listing.{HasListed}
-use Rattle.mst_sharded.proofs.Whole.{move_fits_in, kept_listing}
+use Rattle.mst_sharded.proofs.Kept.{kept_listing}
+use Rattle.mst_sharded.proofs.Whole.{move_fits_in}
 use Rattle.mst_sharded.proofs.directory.Directory.update.Goals as goal
 
 pub turn_to-requires-clause-room : goal.turn_to-requires-clause-room
