@@ -8,6 +8,9 @@ const KEY_BYTES: usize = 16;
 /// How many bytes a value has.
 const VALUE_BYTES: usize = 32;
 
+/// How many bytes the directory of a sharded map has of a shard between two such keys.
+const LISTING_BYTES: usize = 32 + KEY_BYTES;
+
 /// One step of the generator SplitMix64 (Steele, Lea and Flood 2014) from the index on.
 fn mixed(index: u64) -> u64 {
     let start = index.wrapping_mul(0x9e37_79b9_7f4a_7c15);
@@ -44,9 +47,40 @@ pub fn keys(alloc: Global, count: u32) -> Result<Vec<Key>, AllocError> {
     Ok(keys)
 }
 
+// The key of this number among so many: its first four bytes say where it lies.
+fn rising_key(number: u32, count: u32) -> Key {
+    let mut bytes: [u8; KEY_BYTES] = bytes_of(u64::from(number) * 64);
+    let place = (u64::from(number) << 32) / u64::from(count.max(1));
+    let [.., first, second, third, fourth] = place.to_be_bytes();
+    [bytes[0], bytes[1], bytes[2], bytes[3]] = [first, second, third, fourth];
+    let Ok(key) = Key::new(&bytes) else {
+        unreachable!()
+    };
+    key
+}
+
+/// So many keys that rise, spread evenly over all.
+pub fn rising(alloc: Global, count: u32) -> Result<Vec<Key>, AllocError> {
+    let mut keys = Vec::with_capacity(alloc, count as usize)?;
+    for number in 0..count {
+        keys.push(rising_key(number, count))?;
+    }
+    Ok(keys)
+}
+
 /// The value of this number.
 pub fn value(number: u64) -> Value {
     let bytes: [u8; VALUE_BYTES] = bytes_of(number.wrapping_mul(64).wrapping_add(32));
+    let Ok(value) = Value::new(&bytes) else {
+        unreachable!()
+    };
+    value
+}
+
+/// A value of this number that is as long as what the directory of a sharded map has of a shard: a
+/// digest and a key.
+pub fn listing(number: u64) -> Value {
+    let bytes: [u8; LISTING_BYTES] = bytes_of(number.wrapping_mul(64).wrapping_add(32));
     let Ok(value) = Value::new(&bytes) else {
         unreachable!()
     };

@@ -12,7 +12,8 @@
 //!
 //! `mst_bench KIND KEYS CALLS [1|2]` makes calls of one kind alone, in a store of format 1 or 2,
 //! and `mst_bench load KEYS CALLS [1|2]` makes loads, each in a store of its own: `tools/counts`
-//! counts their instructions with them. With other words it says how it is called.
+//! counts their instructions with them. Some kinds are of a map of 32 shards. With other words it
+//! says how it is called.
 //!
 //! `rt run -- 10000` in this folder proves and builds it by LLVM, optimised, and runs it; the
 //! executable is then `out/mst_bench`. Its figures are those of one machine in one run, and no
@@ -29,6 +30,7 @@ mod keys;
 mod kinds;
 mod moving;
 mod reads;
+mod shards;
 mod stores;
 mod threads;
 mod timing;
@@ -39,21 +41,28 @@ use std::alloc::Global;
 use std::io;
 use std::sync::Wait;
 use std::thread::Threads;
-use words::{Calls, HELP, Loads, Task};
+use words::{Calls, HELP, Loads, ShardedCalls, Task};
 
 /// How many keys the stores have, one after the other.
 const SIZES: [u32; 3] = [1_000, 10_000, 30_000];
 
-// The keys of the numbers below `count`: at least one, and at most as many as a store has rows.
-fn some_keys(alloc: Global, count: u32) -> io::Result<Vec<Key>>
+// The keys, of which there are at least one, and at most as many as a store has rows.
+fn some(keys: Vec<Key>) -> io::Result<Vec<Key>>
     ensures some { IfOk result (λ keys. 0 < length keys.items) }
     ensures few { IfOk result (λ keys. length keys.items ≤ 65535) }
 {
-    let keys = keys::keys(alloc, count)?;
     if keys.is_empty() || keys.len() > 65_535 {
         return Err(io::ErrorKind::InvalidInput.into());
     }
     Ok(keys)
+}
+
+// The keys of the numbers below `count`.
+fn some_keys(alloc: Global, count: u32) -> io::Result<Vec<Key>>
+    ensures some { IfOk result (λ keys. 0 < length keys.items) }
+    ensures few { IfOk result (λ keys. length keys.items ≤ 65535) }
+{
+    some(keys::keys(alloc, count)?)
 }
 
 // Times all calls over stores with so many keys.
@@ -82,6 +91,12 @@ fn load(rt: &HostRuntime, of: Loads) -> io::Result<()> {
     batches::load(rt, &keys, of.calls, of.format)
 }
 
+// Makes calls of one kind at a sharded map.
+fn make_sharded(rt: &HostRuntime, of: ShardedCalls) -> io::Result<()> {
+    let keys = some(keys::rising(rt.alloc(), of.keys)?)?;
+    shards::run(rt, &keys, of)
+}
+
 fn main(rt: HostRuntime) -> io::Result<()> {
     match words::asked(&rt)? {
         Task::TimeAll(calls) => {
@@ -92,6 +107,7 @@ fn main(rt: HostRuntime) -> io::Result<()> {
         }
         Task::Make(of) => make(&rt, of),
         Task::Load(of) => load(&rt, of),
+        Task::MakeSharded(of) => make_sharded(&rt, of),
         Task::Help => println!(rt; "{HELP}"),
     }
 }

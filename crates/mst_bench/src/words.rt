@@ -1,5 +1,6 @@
 //! The words of the command line.
 use crate::kinds::{self, Kind};
+use crate::shards;
 use mst_key::Format;
 use std::{env, io};
 
@@ -12,6 +13,8 @@ pub enum Task {
     Make(Calls),
     /// Loads empty stores.
     Load(Loads),
+    /// Makes calls of one kind at a sharded map.
+    MakeSharded(ShardedCalls),
     /// Says how it is called.
     Help,
 }
@@ -34,6 +37,16 @@ pub struct Loads {
     pub format: Format,
 }
 
+/// Calls of one kind at a sharded map of so many keys, whose shards are of a format.
+#[derive(Clone, Copy)]
+pub struct ShardedCalls {
+    pub kind: shards::Kind,
+    pub name: &'static str,
+    pub keys: u32,
+    pub calls: u32,
+    pub format: Format,
+}
+
 /// What the command line calls loads.
 const LOAD: &str = "load";
 
@@ -48,7 +61,9 @@ mst_bench load KEYS CALLS [1|2]
   puts so many keys by one batch into an empty store, so many times, and times each
 KIND is one of: first put, put, put in batches of N (1, 10, 100, 1000 or 10000; each put is a call),
   remove and put back, version, get, get of a pinned version, next, range of 100, prove, verify,
-  migrate (to the other format, and back)";
+  migrate (to the other format, and back); of a map of 32 shards, or of stores that have its keys:
+  get of a handle, get in stores of one shard, put of a listing, snapshot, snapshot with its root,
+  put and snapshot, put and snapshot with its root";
 
 // The number that a word spells, if it is above 0.
 fn number(word: &str) -> Option<u32> {
@@ -72,6 +87,15 @@ fn calls_of(kind: &str, keys: &str, calls: &str, last: Option<&str>) -> Option<T
     let (keys, calls, format) = (number(keys)?, number(calls)?, format(last)?);
     if kind == LOAD {
         return Some(Task::Load(Loads {
+            keys,
+            calls,
+            format,
+        }));
+    }
+    if let Some((kind, name)) = shards::named(kind) {
+        return Some(Task::MakeSharded(ShardedCalls {
+            kind,
+            name,
             keys,
             calls,
             format,

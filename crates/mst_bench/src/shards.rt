@@ -1,0 +1,311 @@
+//! Calls of a handle of a sharded map; and beside them gets of the same keys in single stores, and
+//! puts into a store with the pairs of a directory.
+ghost use Rattle.std.specs.Prelude.{◌≡◌, ◌<◌, ◌≤◌, IfOk, length};
+ghost use Rattle.mst_sharded.specs.Opening.{seats_of};
+
+use crate::calls::{FIRST_NEW_VALUE, picked};
+use crate::keys::{listing, value};
+use crate::timing::tell;
+use crate::words::{Calls, ShardedCalls};
+use crate::{alone, kinds, stores};
+use mst_key::{Format, Key};
+use mst_sharded::{AllSeats, Handle, Sharded, ShardsFault};
+use mst_store::{Pass, Shape};
+use std::alloc::{AllocError, Global};
+use std::io;
+use std::time::Instant;
+
+/// How many shards the map has.
+const SHARDS: usize = 32;
+
+/// Rows of a shard for each of its keys, and for the paths of puts beside pinned versions.
+const ROWS_OF_KEY: u32 = 3;
+
+const SPARE_ROWS: u32 = 512;
+
+/// A kind of call.
+#[derive(Clone, Copy)]
+pub enum Kind {
+    /// Gets of passes, one after the other, each of a store that has the keys of one shard.
+    GetOfPasses,
+    Get,
+    /// Puts into a store that has what a directory has: a pair for each shard.
+    PutOfListing,
+    /// Snapshots, each of which is released.
+    Snapshots(Each),
+}
+
+/// What is done beside each snapshot.
+#[derive(Clone, Copy)]
+pub struct Each {
+    /// Whether a value is put before it.
+    puts: bool,
+    /// Whether it is asked for its root digest.
+    roots: bool,
+}
+
+/// The kinds, with what the command line calls them.
+const KINDS: &[(Kind, &str)] = &[
+    (Kind::GetOfPasses, "get in stores of one shard"),
+    (Kind::Get, "get of a handle"),
+    (Kind::PutOfListing, "put of a listing"),
+    (
+        Kind::Snapshots(Each {
+            puts: false,
+            roots: false,
+        }),
+        "snapshot",
+    ),
+    (
+        Kind::Snapshots(Each {
+            puts: false,
+            roots: true,
+        }),
+        "snapshot with its root",
+    ),
+    (
+        Kind::Snapshots(Each {
+            puts: true,
+            roots: false,
+        }),
+        "put and snapshot",
+    ),
+    (
+        Kind::Snapshots(Each {
+            puts: true,
+            roots: true,
+        }),
+        "put and snapshot with its root",
+    ),
+];
+
+/// The kind with this name, and what lines call it.
+pub fn named(name: &str) -> Option<(Kind, &'static str)> {
+    for (kind, its_name) in KINDS {
+        if *its_name == name {
+            return Some((*kind, *its_name));
+        }
+    }
+    None
+}
+
+// The first key of each shard but the first, where all have equally many of the keys, which rise.
+fn splits(alloc: Global, keys: &[Key]) -> Result<Vec<Key>, AllocError> {
+    let mut splits = Vec::new(alloc);
+    for shard in 1..SHARDS {
+        if let Some(key) = keys.get(keys.len() / SHARDS * shard) {
+            splits.push(key.copy())?;
+        }
+    }
+    Ok(splits)
+}
+
+// The sharded map, before its first call.
+fn opened(
+    alloc: Global,
+    keys: &[Key],
+    format: Format,
+) -> io::Result<(Sharded<Global>, AllSeats<Global>)>
+    requires few { length keys.now ≤ 65535 }
+    ensures own { IfOk result (λ opened. opened.1 ≡ seats_of opened.0) }
+{
+    let shape = Shape {
+        rows: (keys.len() / SHARDS) as u32 * ROWS_OF_KEY + SPARE_ROWS,
+        passes: 1,
+        format,
+    };
+    match Sharded::open(alloc, splits(alloc, keys)?, shape) {
+        Ok(opened) => Ok(opened),
+        Err(ShardsFault::Memory(refused)) => Err(refused.into()),
+        Err(_) => Err(io::ErrorKind::InvalidInput.into()),
+    }
+}
+
+// Its handles, of which it has one.
+fn dealt<'a>(
+    alloc: Global,
+    sharded: &'a Sharded<Global>,
+    seats: AllSeats<Global>,
+) -> io::Result<Vec<Handle<'a, Global, Global>>>
+    requires own { seats ≡ seats_of sharded.now }
+{
+    match sharded.deal(alloc, seats) {
+        Ok(handles) => Ok(handles),
+        Err(refused) => Err(refused.into()),
+    }
+}
+
+// Puts each key with its first value. Returns true if each call went through.
+fn fill(handle: &mut Handle<'_, Global, Global>, keys: &[Key]) -> bool {
+    for (number, key) in keys.iter().enumerate() {
+        if handle.try_put(key, &value(number as u64)).is_err() {
+            return false;
+        }
+    }
+    true
+}
+
+// Gets so many keys. Returns true if each has a value.
+fn get(handle: &mut Handle<'_, Global, Global>, keys: &[Key], calls: u32) -> bool
+    requires some { 0 < length keys.now }
+{
+    for call in 0..calls {
+        if handle.get(picked(keys, call)).is_none() {
+            return false;
+        }
+    }
+    true
+}
+
+// Puts a value other than the current one. Returns true if the call went through.
+fn put(handle: &mut Handle<'_, Global, Global>, keys: &[Key], call: u32) -> bool
+    requires some { 0 < length keys.now }
+{
+    let new = value(FIRST_NEW_VALUE + u64::from(call));
+    matches!(handle.try_put(picked(keys, call), &new), Ok(Some(_)))
+}
+
+// Takes a snapshot and ends it. Returns the handle, and whether there was a root digest, if one was
+// asked for.
+fn snapshot<'a>(
+    alloc: Global,
+    handle: Handle<'a, Global, Global>,
+    roots: bool,
+) -> (Handle<'a, Global, Global>, bool) {
+    let mut snapshot = handle.snapshot();
+    let done = !roots || snapshot.root(alloc).is_ok();
+    (snapshot.release(), done)
+}
+
+// Takes so many snapshots. Returns true if each call went through.
+fn snapshots(
+    alloc: Global,
+    mut handle: Handle<'_, Global, Global>,
+    keys: &[Key],
+    calls: u32,
+    each: Each,
+) -> bool
+    requires some { 0 < length keys.now }
+{
+    let mut done = true;
+    for call in 0..calls {
+        if each.puts {
+            done = put(&mut handle, keys, call) && done;
+        }
+        let (released, told) = snapshot(alloc, handle, each.roots);
+        handle = released;
+        done = told && done;
+    }
+    done
+}
+
+// Makes so many calls of a kind. Returns true if each went through.
+fn make(
+    alloc: Global,
+    mut handle: Handle<'_, Global, Global>,
+    keys: &[Key],
+    of: ShardedCalls,
+) -> bool
+    requires some { 0 < length keys.now }
+{
+    match of.kind {
+        Kind::GetOfPasses | Kind::PutOfListing => true,
+        Kind::Get => get(&mut handle, keys, of.calls),
+        Kind::Snapshots(each) => snapshots(alloc, handle, keys, of.calls, each),
+    }
+}
+
+// Puts all keys into a sharded map, and times calls of one kind.
+fn run_handle(rt: &HostRuntime, keys: &[Key], of: ShardedCalls) -> io::Result<()>
+    requires some { 0 < length keys.now }
+    requires few { length keys.now ≤ 65535 }
+{
+    let (sharded, seats) = opened(rt.alloc(), keys, of.format)?;
+    let mut handles = dealt(rt.alloc(), &sharded, seats)?;
+    let Some(mut handle) = handles.pop() else {
+        return Err(io::ErrorKind::Other.into());
+    };
+    let filled = fill(&mut handle, keys);
+    let start = Instant::now(rt)?;
+    let done = make(rt.alloc(), handle, keys, of);
+    tell(rt, of.name, of.keys, of.calls, start, filled && done)
+}
+
+// Times gets in stores of their own, one after the other, each of which has the keys of a shard.
+fn run_passes(rt: &HostRuntime, keys: &[Key], of: ShardedCalls) -> io::Result<()>
+    requires few { length keys.now ≤ 65535 }
+{
+    let part = keys.len() / SHARDS;
+    for shard in 0..SHARDS {
+        let Some(its_keys) = keys.get(part * shard..part * (shard + 1)) else {
+            return Err(io::ErrorKind::Other.into());
+        };
+        if its_keys.is_empty() {
+            return Err(io::ErrorKind::InvalidInput.into());
+        }
+        let gets = Calls {
+            kind: kinds::Kind::Get,
+            name: of.name,
+            keys: of.keys,
+            calls: of.calls / SHARDS as u32,
+            format: of.format,
+        };
+        alone::run_one(rt, its_keys, gets)?;
+    }
+    Ok(())
+}
+
+// The lower bound of each shard.
+fn bounds(alloc: Global, keys: &[Key]) -> Result<Vec<Key>, AllocError>
+    ensures some { IfOk result (λ bounds. 0 < length bounds.items) }
+{
+    let Ok(least) = Key::new(&[0]) else {
+        unreachable!()
+    };
+    let mut bounds = splits(alloc, keys)?;
+    bounds.push(least)?;
+    Ok(bounds)
+}
+
+// Puts a listing at each bound, and then so many others. Returns true if each call went through.
+fn put_listings(pass: &mut Pass<'_, Global>, bounds: &[Key], calls: u32) -> bool
+    requires some { 0 < length bounds.now }
+{
+    for (number, key) in bounds.iter().enumerate() {
+        if pass.try_put(key, &listing(number as u64)).is_err() {
+            return false;
+        }
+    }
+    for call in 0..calls {
+        let new = listing(FIRST_NEW_VALUE + u64::from(call));
+        if pass.try_put(picked(bounds, call), &new).is_err() {
+            return false;
+        }
+    }
+    true
+}
+
+// Times puts into a store that has what the directory has.
+fn run_listings(rt: &HostRuntime, keys: &[Key], of: ShardedCalls) -> io::Result<()> {
+    let bounds = bounds(rt.alloc(), keys)?;
+    let (store, seats) = stores::opened(rt.alloc(), alone::shape(of.format))?;
+    let mut passes = stores::dealt(rt.alloc(), &store, seats)?;
+    let Some(mut pass) = passes.pop() else {
+        return Err(io::ErrorKind::Other.into());
+    };
+    let start = Instant::now(rt)?;
+    let done = put_listings(&mut pass, &bounds, of.calls);
+    tell(rt, of.name, of.keys, of.calls, start, done)
+}
+
+/// Puts all keys, which rise, and times calls of one kind.
+pub fn run(rt: &HostRuntime, keys: &[Key], of: ShardedCalls) -> io::Result<()>
+    requires some { 0 < length keys.now }
+    requires few { length keys.now ≤ 65535 }
+{
+    match of.kind {
+        Kind::GetOfPasses => run_passes(rt, keys, of),
+        Kind::PutOfListing => run_listings(rt, keys, of),
+        _ => run_handle(rt, keys, of),
+    }
+}
