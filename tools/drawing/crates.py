@@ -15,11 +15,11 @@ LAYERS = [
     }),
     (("the store",), {"mst_store": 690}),
     (("the shared table;", "batches; replays"), {
-        "mst_verifier": 306, "mst_batch": 590, "mst_words": 750, "mst_replay": 930,
+        "mst_verifier": 284, "mst_report": 440, "mst_batch": 590, "mst_words": 750,
+        "mst_replay": 930,
     }),
     (("verifiers; trees in", "rows; pins"), {
-        "mst_sharded_proof": 306, "mst_report": 474, "mst_read": 630, "mst_path": 783,
-        "mst_pin": 930,
+        "mst_sharded_proof": 306, "mst_read": 630, "mst_path": 783, "mst_pin": 930,
     }),
     (("proofs; rows;", "changes; requests"), {
         "mst_proof": 366, "mst_arena": 640, "mst_change": 800, "mst_requests": 1090,

@@ -1,13 +1,12 @@
 -- What words ask for and what a task did, as one fact of the words.
-use Rattle.std.proofs.Common.{◌≡◌, ◌⊎◌, inl, inr, ℕ, ◌<◌, arith, List, [], true, false, Option, Some, None, Ok, Err, Result, IfOk, OnOk, IfErr, IsErrOf, ◌↔◌, refl, sym, ◌∙◌, subst}
+use Rattle.std.proofs.Common.{◌≡◌, ◌⊎◌, inl, inr, ℕ, ◌<◌, arith, List, [], true, false, Some, None, Ok, Err, Result, IfOk, OnOk, IfErr, IsErrOf, ◌↔◌, refl, sym, ◌∙◌, subst}
 use Rattle.std.specs.Prelude.{string_bytes}
 use Rattle.std.specs.declared.string.String.{String}
 use Rattle.std.specs.declared.alloc.Global.{Global}
 use Rattle.std.proofs.lemmas.Bool.{false≢true}
 use Rattle.std.proofs.lemmas.Option.{none-some, same_Some}
 use denote.Ref.{Bor}
-use Rattle.mst_key.specs.declared.format.Format.{Format}
-use Rattle.mst_command.specs.Commanding.{AsksFor, Ends, EndsWords, IsDevice, IsPlain, NamesShape, Unread, Untouched, status_of, told, asks_replay, asks_verify, verified_words}
+use Rattle.mst_command.specs.Commanding.{AsksFor, Ends, EndsWords, IsDevice, IsPlain, NamesShape, ProofWords, Unread, Untouched, status_of, told, asks_replay, asks_verify, verified_words}
 use Rattle.mst_command.specs.Loading.{IsLoadOf, RanLoad, asks_load}
 use Rattle.mst_devices.specs.Device.{Breaks}
 use Rattle.mst_command.specs.Programs.{RanScript, RanReplay, RanVerify, Did, Helped, HasBadShape, HasBadRoot, HasBadKey, IsBad, Comes}
@@ -40,8 +39,8 @@ module _ {S W : Type 0} (gives : S → List ℕ → S → Type 0) (left : S → 
       × (left t ≡ 0)) ⊎ Helped takes words s w t x)
   asked_script (Run shape) (Ok ending) s t w x asked did is none other =
       inl (shape, asked.2, did.0, did.1)
-  asked_script (Verify format root key) (Ok ending) s t w x asked did is none other =
-      absurd (none-some (Some format, root.now, key.now) (sym none ∙ sym asked.1))
+  asked_script (Verify kind format root key) (Ok ending) s t w x asked did is none other =
+      absurd (none-some (kind, Some format, root.now, key.now) (sym none ∙ sym asked.1))
   asked_script UnknownFormat (Ok ending) s t w x asked did is none other = absurd did
   asked_script Replay (Ok ending) s t w x asked did is none other =
       absurd (false≢true (sym (asked.0 ∙ is)))
@@ -57,7 +56,7 @@ module _ {S W : Type 0} (gives : S → List ℕ → S → Type 0) (left : S → 
       OnOk r (((size : _) × IsLoadOf words size × RanLoad takes size w x × (t ≡ s))
       ⊎ Helped takes words s w t x)
   asked_load (Run shape) (Ok ending) s t w x asked did is = absurd (false≢true (asked.3 ∙ is))
-  asked_load (Verify format root key) (Ok ending) s t w x asked did is =
+  asked_load (Verify kind format root key) (Ok ending) s t w x asked did is =
       absurd (false≢true (asked.3 ∙ is))
   asked_load UnknownFormat (Ok ending) s t w x asked did is = absurd did
   asked_load Replay (Ok ending) s t w x asked did is = absurd (false≢true (asked.3 ∙ is))
@@ -71,7 +70,7 @@ module _ {S W : Type 0} (gives : S → List ℕ → S → Type 0) (left : S → 
       → asks_replay words ≡ true →
       OnOk r ((RanReplay gives takes s w t x × (left t ≡ 0)) ⊎ Helped takes words s w t x)
   asked_replay (Run shape) (Ok ending) s t w x asked did is = absurd (false≢true (asked.0 ∙ is))
-  asked_replay (Verify format root key) (Ok ending) s t w x asked did is =
+  asked_replay (Verify kind format root key) (Ok ending) s t w x asked did is =
       absurd (false≢true (asked.0 ∙ is))
   asked_replay UnknownFormat (Ok ending) s t w x asked did is = absurd did
   asked_replay Replay (Ok ending) s t w x asked did is = inl (did.0, did.1)
@@ -86,10 +85,10 @@ module _ {S W : Type 0} (gives : S → List ℕ → S → Type 0) (left : S → 
       named s w ending t x ⊎ (Helped takes words s w t x × (ending ≡ Done)))
   asked_verify (Run shape) (Ok ending) s t w x asked did =
       λ named is. absurd (none-some named (asked.1 ∙ is))
-  asked_verify (Verify format root key) (Ok ending) s t w x asked did =
+  asked_verify (Verify kind format root key) (Ok ending) s t w x asked did =
       λ named is. inl
-      (subst (λ (words : Option Format × List ℕ × List ℕ). RanVerify gives left takes words s w
-      ending t x) (same_Some (Some format, root.now, key.now) named (asked.1 ∙ is)) did)
+      (subst (λ (words : ProofWords). RanVerify gives left takes words s w
+      ending t x) (same_Some (kind, Some format, root.now, key.now) named (asked.1 ∙ is)) did)
   asked_verify UnknownFormat (Ok ending) s t w x asked did = absurd did
   asked_verify Replay (Ok ending) s t w x asked did =
       λ named is. absurd (none-some named (asked.1 ∙ is))
@@ -103,8 +102,8 @@ module _ {S W : Type 0} (gives : S → List ℕ → S → Type 0) (left : S → 
       → AsksFor words task → IfOk r (λ ending. Did gives left takes task s w ending t x) →
       IfOk r (λ ending. asks_verify words ≡ None → ending ≡ Done)
   asked_others (Run shape) (Ok ending) s t w x asked did = λ none. did.2
-  asked_others (Verify format root key) (Ok ending) s t w x asked did =
-      λ none. absurd (none-some (Some format, root.now, key.now) (sym none ∙ sym asked.1))
+  asked_others (Verify kind format root key) (Ok ending) s t w x asked did =
+      λ none. absurd (none-some (kind, Some format, root.now, key.now) (sym none ∙ sym asked.1))
   asked_others UnknownFormat (Ok ending) s t w x asked did = absurd did
   asked_others Replay (Ok ending) s t w x asked did = λ none. did.2
   asked_others (Load size) (Ok ending) s t w x asked did = λ none. did.2
@@ -115,7 +114,7 @@ module _ {S W : Type 0} (gives : S → List ℕ → S → Type 0) (left : S → 
 pub not_verified : (words : List (Bor (List ℕ))) (task : Task) → AsksFor words task
     → asks_verify words ≡ None → verified_words task ≡ None
 not_verified words (Run shape) asked none = refl
-not_verified words (Verify format root key) asked none = asked.1 ∙ none
+not_verified words (Verify kind format root key) asked none = asked.1 ∙ none
 not_verified words UnknownFormat asked none = refl
 not_verified words Replay asked none = refl
 not_verified words (Load size) asked none = refl
@@ -166,8 +165,8 @@ not_bad task r shape root key a b c = λ bad. elim bad [
 no_words : (task : Task) (why : Refusal) → Ends task why → EndsOfWords why → ⊥
 no_words (Run shape) (Words text) ends of = ends
 no_words (Run shape) NotText ends of = ends
-no_words (Verify format root key) (Words text) ends of = ends
-no_words (Verify format root key) NotText ends of = ends
+no_words (Verify kind format root key) (Words text) ends of = ends
+no_words (Verify kind format root key) NotText ends of = ends
 no_words UnknownFormat (Words text) ends of = ends
 no_words UnknownFormat NotText ends of = ends
 no_words Replay (Words text) ends of = ends

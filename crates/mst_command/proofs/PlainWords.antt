@@ -11,9 +11,10 @@ use Rattle.std.proofs.lemmas.Slice.Eq.{bytes_eq-Decides}
 use denote.Ref.{Bor}
 use mir.Val.{of_z, to_z}
 use Rattle.mst_key.specs.declared.format.Format.{Format}
+use Rattle.mst_report.specs.declared.report.ProofKind.{ProofKind}
 use Rattle.mst_command.specs.declared.task.Subcommand.TheVariants.{Run as RunWords, Load as LoadWords, Replay as ReplayWords, Verify as VerifyWords}
-use Rattle.mst_command.specs.Options.{IsNumber, are_words_of, format_named, operand_at}
-use Rattle.mst_command.specs.Commanding.{AsksFor, IsPlain, IsRunOf, IsSizeIn, asks_replay, asks_run, asks_script, asks_verify, format_in, is_replay_alone, is_whole_verify, value_or}
+use Rattle.mst_command.specs.Options.{IsNumber, are_words_of, format_named, kind_named, operand_at}
+use Rattle.mst_command.specs.Commanding.{AsksFor, IsPlain, IsRunOf, IsSizeIn, ProofWords, asks_replay, asks_run, asks_script, asks_verify, format_in, is_replay_alone, is_whole_verify, value_or}
 use Rattle.mst_command.specs.declared.task.Size.{Size}
 use Rattle.mst_command.specs.declared.task.Load.{Load as LoadSize}
 use Rattle.mst_command.specs.Loading.{IsLoadIn, IsLoadOf, asks_load, load_options_of, load_words}
@@ -23,13 +24,9 @@ use Rattle.mst_command.specs.declared.task.Task.TheVariants.{Run, Verify, Unknow
 abbrev Word : Type 0
 Word = Bor (List ℕ)
 
--- the format, and the words for the root digest and the key
-abbrev Proof : Type 0
-Proof = Option Format × List ℕ × List ℕ
-
 -- what the words after `verify` name
-abbrev proof_of : List Word → Proof
-proof_of words = (format_named words, operand_at 0 words, operand_at 1 words)
+abbrev proof_of : List Word → ProofWords
+proof_of words = (kind_named words, format_named words, operand_at 0 words, operand_at 1 words)
 
 abbrev Sizes : Type 0
 Sizes = List ℕ × List ℕ
@@ -186,8 +183,8 @@ by_value : {T : Type 0} (x y : T) (b : Bool) → (if b then Some x else None) �
 by_value x y true e = same_Some x y e
 by_value x y false e = absurd (none-some y e)
 
-verify_named : (words : List Word) (named : Proof) → asks_verify words ≡ Some named
-    → (asks_replay words ≡ false) × (asks_load words ≡ false) × (format_in words ≡ named.0)
+verify_named : (words : List Word) (named : ProofWords) → asks_verify words ≡ Some named
+    → (asks_replay words ≡ false) × (asks_load words ≡ false) × (format_in words ≡ named.1)
 verify_named [] named is = absurd (none-some named is)
 verify_named (program ∷ []) named is = absurd (none-some named is)
 verify_named (program ∷ name ∷ words) named is =
@@ -195,20 +192,22 @@ verify_named (program ∷ name ∷ words) named is =
     named (bytes_eq name.now (codes "verify")) refl is in (
       subst (λ (n : List ℕ). bytes_eq n (codes "replay") ≡ false) (sym e) refl,
       subst (λ (n : List ℕ). bytes_eq n (codes "load") ≡ false) (sym e) refl,
-      ap (λ (t : Proof). t.0)
+      ap (λ (t : ProofWords). t.1)
           (by_value (proof_of words) named (bytes_eq name.now (codes "verify")) is),
     )
 
-pub verify_asked : (words : List Word) (format : Format) (root key : Word)
-    → is_whole_verify words ≡ true → asks_verify words ≡ Some (Some format, root.now, key.now)
-    → AsksFor words (Verify format root key)
-verify_asked words format root key whole is =
-    let n = verify_named words (Some format, root.now, key.now) is in
+pub verify_asked : (words : List Word) (kind : ProofKind) (format : Format) (root key : Word)
+    → is_whole_verify words ≡ true → asks_verify words ≡ Some (kind, Some format, root.now, key.now)
+    → AsksFor words (Verify kind format root key)
+verify_asked words kind format root key whole is =
+    let n = verify_named words (kind, Some format, root.now, key.now) is in
     (sym n.0, sym is, whole, sym n.1)
 
-pub unknown_asked : (words : List Word) (root key : List ℕ) → is_whole_verify words ≡ true
-    → asks_verify words ≡ Some (None, root, key) → AsksFor words UnknownFormat
-unknown_asked words root key whole is = let n = verify_named words (None, root, key) is in
+pub unknown_asked : (words : List Word) (kind : ProofKind) (root key : List ℕ)
+    → is_whole_verify words ≡ true → asks_verify words ≡ Some (kind, None, root, key)
+    → AsksFor words UnknownFormat
+unknown_asked words kind root key whole is =
+    let n = verify_named words (kind, None, root, key) is in
     (n.0, n.1, n.2, inr (ap is_some is), inr (inr (inl whole)))
 
 some_if : {T : Type 0} (x : T) (b : Bool) → b ≡ true → (if b then Some x else None) ≡ None → ⊥

@@ -5,6 +5,7 @@ use Rattle.std.specs.Str.{bytes_eq}
 use denote.Ref.{Bor}
 use Rattle.mst_key.specs.declared.format.Format.{Format}
 use Rattle.mst_key.specs.declared.format.Format.TheVariants.{One}
+use Rattle.mst_report.specs.declared.report.ProofKind.{ProofKind}
 use Rattle.mst_words.specs.declared.view.Shape.{Shape}
 use Rattle.mst_command.specs.declared.task.Task.{Task}
 use Rattle.mst_command.specs.declared.task.Size.{Size}
@@ -16,7 +17,7 @@ use Rattle.mst_command.specs.declared.task.Refusal.{Refusal}
 use Rattle.mst_command.specs.declared.task.Refusal.TheVariants.{Words, NotText, Shape as BadShape, BadRoot, BadKey, Device, Memory}
 use Rattle.mst_command.specs.declared.task.Subcommand.TheVariants.{Run as RunWords, Verify as VerifyWords, Replay as ReplayWords}
 use Rattle.mst_command.specs.Loading.{asks_load, IsLoadOf}
-use Rattle.mst_command.specs.Options.{IsNumber, are_words_of, format_named, operand_at, value_of}
+use Rattle.mst_command.specs.Options.{IsNumber, are_words_of, format_named, kind_named, operand_at, value_of}
 
 -- the first word after the program's name is `replay`
 abbrev pub asks_replay : List (Bor (List ℕ)) → Bool
@@ -33,12 +34,17 @@ abbrev pub format_in : List (Bor (List ℕ)) → Option Format
 format_in (program ∷ name ∷ words) = format_named words
 format_in _ = Some One
 
--- the format, and the words for the root digest and the key, if the first word after the program's
--- name is `verify`
-abbrev pub asks_verify : List (Bor (List ℕ)) → Option (Option Format × List ℕ × List ℕ)
+-- what the words of a proof name: its kind, its format, and the words for the root digest and the
+-- key
+abbrev pub ProofWords : Type 0
+ProofWords = ProofKind × Option Format × List ℕ × List ℕ
+
+-- the same, if the first word after the program's name is `verify`
+abbrev pub asks_verify : List (Bor (List ℕ)) → Option ProofWords
 asks_verify (program ∷ name ∷ words) =
     if bytes_eq name.now (codes "verify")
-    then Some (format_named words, operand_at 0 words, operand_at 1 words) else None
+    then Some (kind_named words, format_named words, operand_at 0 words, operand_at 1 words)
+    else None
 asks_verify _ = None
 
 -- the value of the option, or else the usual one
@@ -113,7 +119,7 @@ AskText words = AskHelp words ⊎ AskVersion words
 
 abbrev pub is_replay : Task → Bool
 is_replay (Run shape) = false
-is_replay (Verify format root key) = false
+is_replay (Verify kind format root key) = false
 is_replay UnknownFormat = false
 is_replay Replay = true
 is_replay (Load size) = false
@@ -121,15 +127,15 @@ is_replay (Help text) = false
 
 abbrev pub is_load : Task → Bool
 is_load (Run shape) = false
-is_load (Verify format root key) = false
+is_load (Verify kind format root key) = false
 is_load UnknownFormat = false
 is_load Replay = false
 is_load (Load size) = true
 is_load (Help text) = false
 
-abbrev pub verified_words : Task → Option (Option Format × List ℕ × List ℕ)
+abbrev pub verified_words : Task → Option ProofWords
 verified_words (Run shape) = None
-verified_words (Verify format root key) = Some (Some format, root.now, key.now)
+verified_words (Verify kind format root key) = Some (kind, Some format, root.now, key.now)
 verified_words UnknownFormat = None
 verified_words Replay = None
 verified_words (Load size) = None
@@ -153,7 +159,7 @@ IsTold words text = asks_version_alone words ≡ true → text ≡ version_text
 -- the words name this task's numbers and its format, and nothing else
 abbrev pub IsSized : List (Bor (List ℕ)) → Task → Type 0
 IsSized words (Run shape) = NamesShape words shape
-IsSized words (Verify format root key) = is_whole_verify words ≡ true
+IsSized words (Verify kind format root key) = is_whole_verify words ≡ true
 IsSized words Replay = is_replay_alone words ≡ true
 IsSized words (Load size) = IsLoadOf words size
 IsSized words _ = ⊥
@@ -212,7 +218,7 @@ EndsHelp _ = ⊥
 -- how a task may end early
 abbrev pub Ends : Task → Refusal → Type 0
 Ends (Run shape) why = EndsScript why
-Ends (Verify format root key) why = EndsVerify why
+Ends (Verify kind format root key) why = EndsVerify why
 Ends UnknownFormat why = EndsUnknown why
 Ends Replay why = EndsReplay why
 Ends (Load size) why = EndsLoad why

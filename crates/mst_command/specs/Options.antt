@@ -6,6 +6,8 @@ use Rattle.std.specs.Str.Parse.{IsNumeral, signed_digits_value, without_leading_
 use denote.Ref.{Bor}
 use Rattle.mst_key.specs.declared.format.Format.{Format}
 use Rattle.mst_key.specs.declared.format.Format.TheVariants.{One, Two}
+use Rattle.mst_report.specs.declared.report.ProofKind.{ProofKind}
+use Rattle.mst_report.specs.declared.report.ProofKind.TheVariants.{Plain, Sharded}
 use Rattle.mst_command.specs.declared.task.Subcommand.{Subcommand}
 use Rattle.mst_command.specs.declared.task.Subcommand.TheVariants.{Run, Verify, Replay, Load}
 
@@ -90,16 +92,30 @@ format_or (Some word) = format_of word
 abbrev pub format_named : List (Bor (List ℕ)) → Option Format
 format_named words = format_or (value_of (codes "--format") words)
 
+-- ---- switches: options with no value
+
+-- the switch is a word in front of a `--`
+abbrev pub has_switch : List ℕ → List (Bor (List ℕ)) → Bool
+has_switch switch [] = false
+has_switch switch (word ∷ words) =
+    if bytes_eq word.now (codes "--") then false
+    else bytes_eq word.now switch || has_switch switch words
+
+-- the kind of a proof that words name: of a sharded map with `--sharded`, otherwise of one tree
+abbrev pub kind_named : List (Bor (List ℕ)) → ProofKind
+kind_named words = if has_switch (codes "--sharded") words then Sharded else Plain
+
 -- ---- operands
 
--- The words but `--format F` and `--format=F`, and but the first `--`, after which all are
--- operands. Where `is_value`, the first word is the F of an option.
+-- The words but `--sharded`, `--format F` and `--format=F`, and but the first `--`, after which all
+-- are operands. Where `is_value`, the first word is the F of an option.
 abbrev pub operands : Bool → List (Bor (List ℕ)) → List (List ℕ)
 operands is_value [] = []
 operands true (value ∷ words) = operands false words
 operands false (word ∷ words) =
     if bytes_eq word.now (codes "--") then map (λ w. w.now) words
     else if bytes_eq word.now (codes "--format") then operands true words
+    else if bytes_eq word.now (codes "--sharded") then operands false words
     else if is_some (joined (codes "--format") word.now) then operands false words
     else word.now ∷ operands false words
 
@@ -118,6 +134,11 @@ is_option Replay name = false
 is_option Load name = bytes_eq name (codes "--readers")
     || (bytes_eq name (codes "--writers") || bytes_eq name (codes "--calls"))
 
+-- the switches of each command
+abbrev pub is_switch : Subcommand → List ℕ → Bool
+is_switch Verify word = bytes_eq word (codes "--sharded")
+is_switch _ word = false
+
 -- how many operands each command has
 abbrev pub operand_count : Subcommand → ℕ
 operand_count Verify = 2
@@ -132,18 +153,26 @@ is_flag _ = false
 abbrev pub is_new_option : Subcommand → List ℕ → List (Bor (List ℕ)) → Bool
 is_new_option command name words = is_option command name && is_none (value_of name words)
 
--- The words are options of the command, each of them once and with its value, and so many operands,
--- after a `--` operands alone. Where `is_value`, the first word is the value of an option.
+-- a word is a switch of the command that the words after it do not give again
+abbrev pub is_new_switch : Subcommand → List ℕ → List (Bor (List ℕ)) → Bool
+is_new_switch command word words = is_switch command word && not (has_switch word words)
+
+-- The words are switches and options of the command, each of them once, options with their values,
+-- and so many operands, after a `--` operands alone. Where `is_value`, the first word is the value
+-- of an option.
 abbrev pub are_words : Subcommand → Bool → ℕ → List (Bor (List ℕ)) → Bool
 are_words command is_value count [] = not is_value && (count == 0)
 are_words command true count (value ∷ words) =
     not (is_flag value.now) && are_words command false count words
 are_words command false count (word ∷ words) =
     if bytes_eq word.now (codes "--") then length words == count
+    else if is_switch command word.now then is_new_switch command word.now words
+    && are_words command false count words
     else if is_flag word.now then is_new_option command (name_of word.now) words
     && are_words command (is_none (cut word.now)) count words
     else nat_lt 0 count && are_words command false (count - 1) words
 
--- the words after a command are what it takes: its options, each at most once, and its operands
+-- the words after a command are what it takes: its options and switches, each at most once, and its
+-- operands
 abbrev pub are_words_of : Subcommand → List (Bor (List ℕ)) → Bool
 are_words_of command words = are_words command false (operand_count command) words

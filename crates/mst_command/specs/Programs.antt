@@ -1,5 +1,5 @@
 -- What the programs read and wrote.
-use Rattle.std.specs.Prelude.{◌≡◌, ◌<◌, ◌≤◌, ◌+◌, ◌⊎◌, ℕ, if◌then◌else◌, List, [], length, Option, Some, None, IsSome, string_bytes}
+use Rattle.std.specs.Prelude.{◌≡◌, ◌<◌, ◌≤◌, ◌+◌, ◌⊎◌, ℕ, if◌then◌else◌, List, [], length, Some, None, IsSome, string_bytes}
 use Rattle.mst_words.specs.declared.view.Shape.{Shape}
 use Rattle.mst_store.specs.Passes.{StoreId, HasShape, IsShape}
 use Rattle.mst_replay.specs.declared.Replay.{Replay}
@@ -8,6 +8,7 @@ use Rattle.mst_devices.specs.Device.{Breaks, Flow}
 use Rattle.mst_script.specs.Machine.{Machine, Line, with_no_pins}
 use Rattle.mst_lines.specs.Runs.{Ran, Stopped}
 use Rattle.mst_key.specs.declared.format.Format.{Format}
+use Rattle.mst_report.specs.declared.report.ProofKind.{ProofKind}
 use Rattle.mst_report.specs.declared.report.Report.{Report}
 use Rattle.mst_report.specs.Words.{root_of, key_of}
 use Rattle.mst_report.specs.Report.{limit, report_of, line_of, is_refusal}
@@ -18,7 +19,7 @@ use Rattle.mst_command.specs.declared.task.Ending.TheVariants.{Done, ProofRefuse
 use denote.Ref.{Bor}
 use Rattle.mst_command.specs.declared.task.Refusal.{Refusal}
 use Rattle.mst_command.specs.declared.task.Refusal.TheVariants.{Words, NotText, Shape as BadShape, BadRoot, BadKey, Device, Memory}
-use Rattle.mst_command.specs.Commanding.{AskText, AsksFor, IsPlain, IsTold, Unread, Untouched, asks_verify}
+use Rattle.mst_command.specs.Commanding.{AskText, AsksFor, IsPlain, IsTold, ProofWords, Unread, Untouched, asks_verify}
 use Rattle.mst_command.specs.Loading.{IsLoadSize, RanLoad, BrokeLoad}
 use Rattle.mst_command.specs.Reading.{piece}
 use Rattle.mst_command.specs.Recalling.{Recalls}
@@ -70,44 +71,44 @@ pub record BrokeReplay {S W : Type 0}
 -- This is said of the text that the source gave, up to its end or beyond the limit by a piece of
 -- what is read at a time.
 pub record IsSaid {S : Type 0}
-    (gives : Flow S) (left : S → ℕ) (format : Format) (root key : List ℕ)
+    (gives : Flow S) (left : S → ℕ) (kind : ProofKind) (format : Format) (root key : List ℕ)
     (s : S) (report : Report) (t : S) : Type 0 where
   pub text : List ℕ
   pub given : gives s text t
   pub whole : ((left t ≡ 0) × (length text ≤ limit))
       ⊎ ((limit < length text) × (length text ≤ limit + piece))
-  pub said : report ≡ report_of format root key text
+  pub said : report ≡ report_of kind format root key text
 
--- The sink took what is said of the text that the source gave, in the format that is named and for
--- the root digest and the key that two words spell.
+-- The sink took what is said of the text that the source gave, as a proof of the kind and in the
+-- format that are named and for the root digest and the key that two words spell.
 pub record RanVerify {S W : Type 0}
     (gives : Flow S) (left : S → ℕ) (takes : Flow W)
-    (words : Option Format × List ℕ × List ℕ)
+    (words : ProofWords)
     (s : S) (w : W) (ending : Ending) (t : S) (x : W) : Type 0 where
   pub format : Format
   pub root : List ℕ
   pub key : List ℕ
-  pub format_is : words.0 ≡ Some format
-  pub root_is : root_of words.1 ≡ Some root
-  pub key_is : key_of words.2 ≡ Some key
+  pub format_is : words.1 ≡ Some format
+  pub root_is : root_of words.2 ≡ Some root
+  pub key_is : key_of words.3 ≡ Some key
   pub report : Report
-  pub said : IsSaid gives left format root key s report t
+  pub said : IsSaid gives left words.0 format root key s report t
   pub ending_is : ending ≡ ending_of report
   pub taken : takes w (line_of report) x
 
 -- The same, where the sink failed: it took a beginning of what is said.
 pub record BrokeVerify {S W : Type 0}
     (gives : Flow S) (left : S → ℕ) (takes : Flow W)
-    (words : Option Format × List ℕ × List ℕ)
+    (words : ProofWords)
     (s : S) (w : W) (t : S) (x : W) : Type 0 where
   pub format : Format
   pub root : List ℕ
   pub key : List ℕ
-  pub format_is : words.0 ≡ Some format
-  pub root_is : root_of words.1 ≡ Some root
-  pub key_is : key_of words.2 ≡ Some key
+  pub format_is : words.1 ≡ Some format
+  pub root_is : root_of words.2 ≡ Some root
+  pub key_is : key_of words.3 ≡ Some key
   pub report : Report
-  pub said : IsSaid gives left format root key s report t
+  pub said : IsSaid gives left words.0 format root key s report t
   pub breaks : Breaks takes w [] (line_of report) x
 
 -- From the one state of the source and the sink to the other the task was done, and ended so.
@@ -115,8 +116,8 @@ abbrev pub Did : {S W : Type 0} → Flow S → (S → ℕ) → Flow W
     → Task → S → W → Ending → S → W → Type 0
 Did gives left takes (Run shape) s w ending t x =
     RanScript gives takes shape s w t x × (left t ≡ 0) × (ending ≡ Done)
-Did gives left takes (Verify format root key) s w ending t x =
-    RanVerify gives left takes (Some format, root.now, key.now) s w ending t x
+Did gives left takes (Verify kind format root key) s w ending t x =
+    RanVerify gives left takes (kind, Some format, root.now, key.now) s w ending t x
 Did gives left takes UnknownFormat s w ending t x = ⊥
 Did gives left takes TaskReplay s w ending t x =
     RanReplay gives takes s w t x × (left t ≡ 0) × (ending ≡ Done)
@@ -128,8 +129,8 @@ Did gives left takes (Help text) s w ending t x =
 abbrev pub Broke : {S W : Type 0} → Flow S → (S → ℕ) → Flow W → (W → ℕ)
     → Task → S → W → S → W → Type 0
 Broke gives left takes failures (Run shape) s w t x = BrokeScript gives takes failures shape s w t x
-Broke gives left takes failures (Verify format root key) s w t x =
-    (x ≡ w) ⊎ BrokeVerify gives left takes (Some format, root.now, key.now) s w t x
+Broke gives left takes failures (Verify kind format root key) s w t x =
+    (x ≡ w) ⊎ BrokeVerify gives left takes (kind, Some format, root.now, key.now) s w t x
 Broke gives left takes failures UnknownFormat s w t x = ⊥
 Broke gives left takes failures TaskReplay s w t x = BrokeReplay gives takes failures s w t x
 Broke gives left takes failures (Load size) s w t x = BrokeLoad takes size w x × (t ≡ s)
@@ -158,12 +159,12 @@ HasBadShape _ = ⊥
 
 -- a task whose word for the root digest spells none
 abbrev pub HasBadRoot : Task → Type 0
-HasBadRoot (Verify format root key) = root_of root.now ≡ None
+HasBadRoot (Verify kind format root key) = root_of root.now ≡ None
 HasBadRoot _ = ⊥
 
 -- a task whose word for the root digest spells one, and whose word for the key spells none
 abbrev pub HasBadKey : Task → Type 0
-HasBadKey (Verify format root key) = IsSome (root_of root.now) × (key_of key.now ≡ None)
+HasBadKey (Verify kind format root key) = IsSome (root_of root.now) × (key_of key.now ≡ None)
 HasBadKey _ = ⊥
 
 -- a task that is refused before anything is read

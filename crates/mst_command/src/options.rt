@@ -1,10 +1,11 @@
 //! What the words after a command say by their options, and what they say beside them.
 ghost use Rattle.std.specs.Prelude.{◌≡◌, [], ◌||◌, get_or, map, false};
 ghost use Rattle.std.specs.Option.{option_map};
-ghost use Rattle.mst_command.specs.Options.{are_words as are_all, are_words_of as are_all_of, cut as cut_at, first as first_of, format_named as named_by, format_of as named, format_or as named_or, is_flag as has_dash, is_new_option as is_named_first, is_option as is_named, joined as joined_to, name_of as name_at, operand_count as count_of, operands, significant as zeroless, value_of as value_behind, without_plus as plusless};
+ghost use Rattle.mst_command.specs.Options.{are_words as are_all, are_words_of as are_all_of, cut as cut_at, first as first_of, format_named as named_by, format_of as named, format_or as named_or, has_switch as switch_in, is_flag as has_dash, is_new_option as is_named_first, is_new_switch as is_switched_first, is_option as is_named, is_switch as is_switched, kind_named as kind_by, joined as joined_to, name_of as name_at, operand_count as count_of, operands, significant as zeroless, value_of as value_behind, without_plus as plusless};
 
 use crate::task::Subcommand;
 use mst_key::Format;
+use mst_report::ProofKind;
 
 // A numeral without a plus that begins it.
 fn without_plus(numeral: &[u8]) -> &[u8]
@@ -114,6 +115,30 @@ pub fn value_of<'a>(option: &str, words: &[&'a str]) -> Option<&'a str>
     }
 }
 
+// Whether the switch is a word in front of a `--`.
+fn has_switch(switch: &str, words: &[&str]) -> bool
+    ensures { result ≡ switch_in switch.now words.now }
+{
+    let [word, others @ ..] = words else {
+        return false;
+    };
+    if *word == "--" {
+        return false;
+    }
+    *word == switch || has_switch(switch, others)
+}
+
+/// The kind of a proof that words name: of a sharded map with `--sharded`, otherwise of one tree.
+pub fn kind_named(words: &[&str]) -> ProofKind
+    ensures { result ≡ kind_by words.now }
+{
+    if has_switch("--sharded", words) {
+        ProofKind::Sharded
+    } else {
+        ProofKind::Plain
+    }
+}
+
 // The word at this place, or none.
 fn word_at<'a>(words: &[&'a str], place: usize) -> &'a str
     ensures { result.now ≡ get_or (map (λ w. w.now) words.now) place [] }
@@ -124,8 +149,8 @@ fn word_at<'a>(words: &[&'a str], place: usize) -> &'a str
     }
 }
 
-/// The operand at this place, or none: a word that is no `--format F` and no `--format=F`, or any
-/// after a `--`. If `is_value`, the first word is the F of an option.
+/// The operand at this place, or none: a word that is no `--sharded`, no `--format F` and no
+/// `--format=F`, or any after a `--`. If `is_value`, the first word is the F of an option.
 pub fn operand<'a>(words: &[&'a str], is_value: bool, place: usize) -> &'a str
     ensures { result.now ≡ get_or (operands is_value words.now) place [] }
 {
@@ -140,6 +165,9 @@ pub fn operand<'a>(words: &[&'a str], is_value: bool, place: usize) -> &'a str
     }
     if *word == "--format" {
         return operand(others, true, place);
+    }
+    if *word == "--sharded" {
+        return operand(others, false, place);
     }
     match joined("--format", word) {
         Some(_) => operand(others, false, place),
@@ -157,6 +185,16 @@ fn is_option(command: Subcommand, name: &str) -> bool
         Subcommand::Verify => name == "--format",
         Subcommand::Replay => false,
         Subcommand::Load => name == "--readers" || name == "--writers" || name == "--calls",
+    }
+}
+
+// Whether the word is a switch of the command.
+fn is_switch(command: Subcommand, word: &str) -> bool
+    ensures { result ≡ is_switched command word.now }
+{
+    match command {
+        Subcommand::Verify => word == "--sharded",
+        _ => false,
     }
 }
 
@@ -187,8 +225,15 @@ fn is_new_option(command: Subcommand, name: &str, words: &[&str]) -> bool
     is_option(command, name) && value_of(name, words).is_none()
 }
 
-// Whether the words are options of the command, each of them once and with its value, and so many
-// operands. If `is_value`, the first word is the value of an option.
+// Whether a word is a switch of the command, which these words do not give again.
+fn is_new_switch(command: Subcommand, word: &str, words: &[&str]) -> bool
+    ensures { result ≡ is_switched_first command word.now words.now }
+{
+    is_switch(command, word) && !has_switch(word, words)
+}
+
+// Whether the words are switches and options of the command, each of them once and an option with
+// its value, and so many operands. If `is_value`, the first word is the value of an option.
 fn are_words(command: Subcommand, is_value: bool, count: usize, words: &[&str]) -> bool
     ensures { result ≡ are_all command is_value count words.now }
 {
@@ -201,6 +246,9 @@ fn are_words(command: Subcommand, is_value: bool, count: usize, words: &[&str]) 
     if *word == "--" {
         return others.len() == count;
     }
+    if is_switch(command, word) {
+        return is_new_switch(command, word, others) && are_words(command, false, count, others);
+    }
     if is_flag(word) {
         return is_new_option(command, name_of(word), others)
             && are_words(command, cut(word).is_none(), count, others);
@@ -208,8 +256,8 @@ fn are_words(command: Subcommand, is_value: bool, count: usize, words: &[&str]) 
     count > 0 && are_words(command, false, count - 1, others)
 }
 
-/// Whether the words after a command are what it takes: its options, each of them at most once, and
-/// its operands, after a `--` operands alone.
+/// Whether the words after a command are what it takes: its options and switches, each of them at
+/// most once, and its operands, after a `--` operands alone.
 pub fn are_words_of(command: Subcommand, words: &[&str]) -> bool
     ensures { result ≡ are_all_of command words.now }
 {

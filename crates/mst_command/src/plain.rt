@@ -118,9 +118,9 @@ fn plain_other<'a>(words: &[&'a str]) -> Option<Task<'a>>
 }
 
 /// The task that words name: `run` with `--rows N`, `--passes N` and `--format F` at most once
-/// each, `replay` alone, `verify` with two words and perhaps `--format F`, or `load` with
-/// `--readers N`, `--writers N` and `--calls N`. The options stand in any order, each as two words
-/// or joined by `=`; a `--` may stand behind them. Each N is below 2^32.
+/// each, `replay` alone, `verify` with two words and perhaps `--sharded` and `--format F`, or
+/// `load` with `--readers N`, `--writers N` and `--calls N`. The options stand in any order, those
+/// with a value as two words or joined by `=`; a `--` may stand behind them. Each N is below 2^32.
 pub fn plain_task<'a>(words: &[&'a str]) -> Option<Task<'a>>
     ensures asked { IfSome result (λ task. AsksFor words.now task) }
     ensures plain { IfNone result (¬ (IsPlain words.now)) }

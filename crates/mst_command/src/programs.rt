@@ -153,7 +153,9 @@ where
 {
     match task {
         Task::Run(shape) => run_script(alloc, shape, source, out),
-        Task::Verify(format, root, key) => run_verify(alloc, format, root, key, source, out),
+        Task::Verify(kind, format, root, key) => {
+            run_verify(alloc, kind, format, root, key, source, out)
+        }
         Task::UnknownFormat => Err(Refusal::Shape),
         Task::Replay => run_replay(alloc, source, out),
         Task::Load(size) => run_load(rt, alloc, size, gate, out),

@@ -1,5 +1,6 @@
 //! What a program is to do, and how it ends.
 use mst_key::{Format, Memory};
+use mst_report::ProofKind;
 use mst_store::Shape;
 
 /// How large the store of a script is.
@@ -40,8 +41,9 @@ pub enum Subcommand {
 pub enum Task<'a> {
     /// To answer a script over a store of this size, opened in this format.
     Run(Shape),
-    /// To say what a proof in this format shows, for the words of a root digest and a key.
-    Verify(Format, &'a str, &'a str),
+    /// To say what a proof of this kind in this format shows, for the words of a root digest and a
+    /// key.
+    Verify(ProofKind, Format, &'a str, &'a str),
     /// To refuse a format that is neither 1 nor 2, of a script or of a proof.
     UnknownFormat,
     /// To answer the events of a core.

@@ -3,9 +3,10 @@ ghost use Rattle.std.specs.Prelude.{◌≡◌, ◌↔◌, IfSome, IfNone, true, 
 ghost use Rattle.std.specs.Option.{option_map};
 ghost use Rattle.mst_command.specs.Commanding.{AskHelp, AskText, AskVersion, AsksFor, IsHelp, IsRunOf, IsVersion, asks_verify, asks_version_alone, format_in as named_format, is_whole_verify};
 
-use crate::options::{format_named, operand};
+use crate::options::{format_named, kind_named, operand};
 use crate::task::{Size, Task};
 use mst_key::Format;
+use mst_report::ProofKind;
 use mst_store::Shape;
 
 // Whether a word asks for help.
@@ -78,13 +79,16 @@ fn format_in(words: &[&str]) -> Option<Format>
     }
 }
 
-// The format, and the words for the root digest and the key, if the first word after the program's
-// name is `verify`.
-fn verify_words<'a>(words: &[&'a str]) -> Option<(Option<Format>, &'a str, &'a str)>
-    ensures { option_map (λ w. (w.0, w.1.now, w.2.now)) result ≡ asks_verify words.now }
+// The words of a proof: its kind, its format, and the words for the root digest and the key.
+type ProofWords<'a> = (ProofKind, Option<Format>, &'a str, &'a str);
+
+// The words of a proof, if the first word after the program's name is `verify`.
+fn verify_words<'a>(words: &[&'a str]) -> Option<ProofWords<'a>>
+    ensures { option_map (λ w. (w.0, w.1, w.2.now, w.3.now)) result ≡ asks_verify words.now }
 {
     match words {
         [_, name, others @ ..] if *name == "verify" => Some((
+            kind_named(others),
             format_named(others),
             operand(others, false, 0),
             operand(others, false, 1),
@@ -99,9 +103,9 @@ pub fn verify_task<'a>(words: &[&'a str]) -> Option<Task<'a>>
     ensures asked { IfSome result (λ task. AsksFor words.now task) }
     ensures other { IfNone result (asks_verify words.now ≡ None) }
 {
-    let (format, root, key) = verify_words(words)?;
+    let (kind, format, root, key) = verify_words(words)?;
     match format {
-        Some(format) => Some(Task::Verify(format, root, key)),
+        Some(format) => Some(Task::Verify(kind, format, root, key)),
         None => Some(Task::UnknownFormat),
     }
 }

@@ -16,6 +16,7 @@ const AFTER_HELP: &str = "Examples:
   mst run --format 2 < script
   mst verify ROOT KEY < proof
   mst verify --format 2 ROOT KEY < proof
+  mst verify --sharded ROOT KEY < proof
   mst load --readers 4 --writers 2 --calls 1000
 
 Exit statuses:
@@ -72,6 +73,14 @@ fn required_word<'a>(alloc: Global, name: &'a str, help: &'a str) -> Arg<'a> {
         .help(help)
 }
 
+// The option of a proof of a sharded map, which has no value.
+fn sharded_switch<'a>(alloc: Global) -> Arg<'a> {
+    Arg::new(alloc, "sharded")
+        .long("sharded")
+        .action(ArgAction::SetTrue)
+        .help("The proof is of a sharded map, in two parts")
+}
+
 // The command of a load.
 fn load_command<'a>(alloc: Global) -> Result<Command<'a>, AllocError> {
     Command::new(alloc, "load")
@@ -101,6 +110,7 @@ fn verify_command<'a>(alloc: Global) -> Result<Command<'a>, AllocError> {
         .about("Says what the proof on standard input, in hexadecimal, shows of a key")
         .arg(required_word(alloc, "ROOT", root))?
         .arg(required_word(alloc, "KEY", key))?
+        .arg(sharded_switch(alloc))?
         .arg(format_option(alloc, "The format of the root digest and the proof, 1 or 2"))
 }
 

@@ -3,6 +3,7 @@ use crate::outcomes::{Outcome, outcome_of};
 use crate::texts::{ANSWERS, EVENTS, REPLIES, ROOT_OF_TWO, SCRIPT};
 use linked_list_allocator::LocalHeap;
 use mst_command::{DONE, Load, PROOF_REFUSED, Task};
+use mst_report::ProofKind;
 use mst_store::{Format, Shape};
 use std::alloc::{AllocError, AllocGlobal};
 use std::process::Abort;
@@ -30,7 +31,7 @@ impl Asked {
                 format: Format::One,
             }),
             Asked::Replay => Task::Replay,
-            Asked::Proof => Task::Verify(Format::One, ROOT_OF_TWO, "62"),
+            Asked::Proof => Task::Verify(ProofKind::Plain, Format::One, ROOT_OF_TWO, "62"),
             Asked::Load => Task::Load(Load {
                 readers: 2,
                 writers: 1,

@@ -7,6 +7,7 @@ mod progress;
 mod proofs;
 mod replays;
 mod scripts;
+mod sharded;
 mod spoilt;
 mod starting;
 mod words;

@@ -7,8 +7,13 @@ use Rattle.mst_key.specs.declared.format.Format.{Format}
 use Rattle.mst_proof.specs.declared.fault.ProofFault.{ProofFault}
 use Rattle.mst_proof.specs.declared.fault.ProofFault.TheVariants.{Version, CutShort, LeftOver, NoNode, OtherDigest, LayerNotBelow, KeyOutside, Unfinished, TextBehind, OtherValue}
 use Rattle.mst_proof.specs.Verdict.{verdict}
+use Rattle.mst_sharded_proof.specs.declared.fault.ShardedFault.{ShardedFault}
+use Rattle.mst_sharded_proof.specs.declared.fault.ShardedFault.TheVariants.{Version as OtherVersion, CutShort as Cut, NoKey, Directory, NotListed, NoListing, KeyBelow, KeyNotBelow, Shard}
+use Rattle.mst_sharded_proof.specs.Verdict.{sharded_verdict}
+use Rattle.mst_report.specs.declared.report.ProofKind.{ProofKind}
+use Rattle.mst_report.specs.declared.report.ProofKind.TheVariants.{Plain, Sharded}
 use Rattle.mst_report.specs.declared.report.Report.{Report}
-use Rattle.mst_report.specs.declared.report.Report.TheVariants.{Present, Absent, Refused, NotHex, Long}
+use Rattle.mst_report.specs.declared.report.Report.TheVariants.{Present, Absent, Refused, ShardedRefused, NotHex, Long}
 
 -- how many bytes a text has at most, its newline included
 abbrev pub limit : ℕ
@@ -24,16 +29,26 @@ said (Ok (Some v)) = Present v
 said (Ok None) = Absent
 said (Err fault) = Refused fault
 
-abbrev pub said_of : Format → List ℕ → List ℕ → Result (List ℕ) FromHexError → Report
-said_of format root k (Ok proof) = said (verdict format root k proof)
-said_of format root k (Err e) = NotHex
+abbrev pub said_sharded : Result (Option (List ℕ)) ShardedFault → Report
+said_sharded (Ok (Some v)) = Present v
+said_sharded (Ok None) = Absent
+said_sharded (Err fault) = ShardedRefused fault
 
--- what is said of the text of a proof in a format, for a root digest and a key: its length is
--- tested first, then its digits, then the proof that they spell
-abbrev pub report_of : Format → List ℕ → List ℕ → List ℕ → Report
-report_of format root k text =
+-- what a proof of a kind shows, in a format, for a root digest and a key
+abbrev pub said_by : ProofKind → Format → List ℕ → List ℕ → List ℕ → Report
+said_by Plain format root k proof = said (verdict format root k proof)
+said_by Sharded format root k proof = said_sharded (sharded_verdict format root k proof)
+
+abbrev pub said_of : ProofKind → Format → List ℕ → List ℕ → Result (List ℕ) FromHexError → Report
+said_of kind format root k (Ok proof) = said_by kind format root k proof
+said_of kind format root k (Err e) = NotHex
+
+-- what is said of the text of a proof of a kind in a format, for a root digest and a key: its
+-- length is tested first, then its digits, then the proof that they spell
+abbrev pub report_of : ProofKind → Format → List ℕ → List ℕ → List ℕ → Report
+report_of kind format root k text =
     if nat_lt limit (length text) then Long
-    else said_of format root k (decode_of (without_newline text))
+    else said_of kind format root k (decode_of (without_newline text))
 
 -- ---- as it is written
 
@@ -49,10 +64,36 @@ fault_words Unfinished = codes "P8"
 fault_words TextBehind = codes "P9"
 fault_words OtherValue = codes "P10"
 
+-- the test of a proof of a sharded map
+abbrev pub test_words : ShardedFault → List ℕ
+test_words OtherVersion = codes "S1"
+test_words Cut = codes "S2"
+test_words NoKey = codes "S3"
+test_words (Directory fault) = codes "S4"
+test_words NotListed = codes "S5"
+test_words NoListing = codes "S6"
+test_words KeyBelow = codes "S7"
+test_words KeyNotBelow = codes "S8"
+test_words (Shard fault) = codes "S9"
+
+-- the test that a part of the proof fails, where the fault is that of a part
+abbrev pub part_fault : ShardedFault → Option ProofFault
+part_fault (Directory fault) = Some fault
+part_fault (Shard fault) = Some fault
+part_fault _ = None
+
+abbrev pub part_words : Option ProofFault → List ℕ
+part_words None = []
+part_words (Some fault) = codes " " ++ fault_words fault
+
+abbrev pub sharded_words : ShardedFault → List ℕ
+sharded_words fault = test_words fault ++ part_words (part_fault fault)
+
 abbrev pub words_of : Report → List ℕ
 words_of (Present v) = codes "present " ++ digits_of v
 words_of Absent = codes "absent"
 words_of (Refused fault) = fault_words fault
+words_of (ShardedRefused fault) = sharded_words fault
 words_of NotHex = codes "fault hex"
 words_of Long = codes "fault long"
 
@@ -65,5 +106,6 @@ abbrev pub is_refusal : Report → Bool
 is_refusal (Present v) = false
 is_refusal Absent = false
 is_refusal (Refused fault) = true
+is_refusal (ShardedRefused fault) = true
 is_refusal NotHex = true
 is_refusal Long = true

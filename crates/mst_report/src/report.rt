@@ -4,13 +4,15 @@ ghost use Rattle.std.specs.List.{list_all};
 ghost use Rattle.hex.specs.Hex.{decode_of, is_hex_digit};
 ghost use Rattle.hex.specs.declared.error.FromHexError.TheVariants.{OutOfMemory};
 ghost use Rattle.mst_key.specs.Digits.{digits_of};
-ghost use Rattle.mst_report.specs.Report.{limit, without_newline as up_to_newline, report_of, fault_words as words_of_fault, line_of, is_refusal};
+ghost use Rattle.mst_report.specs.Report.{limit, without_newline as up_to_newline, said_by, report_of, fault_words as words_of_fault, sharded_words as words_of_sharded, test_words as words_of_test, part_fault as fault_of_part, line_of, is_refusal};
 ghost use Rattle.mst_report.specs.declared.report.Report.TheVariants.{NotHex};
+ghost use Rattle.mst_report.specs.declared.report.ProofKind.TheVariants.{Plain, Sharded};
 
 use arrayvec::ArrayVec;
 use hex::FromHexError;
 use mst_key::{Format, Key, Memory, Value};
 use mst_proof::{ProofFault, verify_in};
+use mst_sharded_proof::{ShardedFault, verify_sharded};
 use std::alloc::Allocator;
 
 /// How many bytes the text of a proof has at most, with the newline at its end.
@@ -19,6 +21,15 @@ pub const LIMIT: usize = 33_554_432;
 /// A line as it is written. The longest is `present ` with the 128 digits of a value and the
 /// newline.
 pub type Line = ArrayVec<u8, 144>;
+
+/// Of which maps a proof is.
+#[derive(Clone, Copy, Debug, PartialEq, Eq)]
+pub enum ProofKind {
+    /// Of a map with one tree, as that of a store.
+    Plain,
+    /// Of a sharded map: a proof in two parts.
+    Sharded,
+}
 
 /// What is said of the text of a proof.
 #[derive(Debug, Drop)]
@@ -29,6 +40,8 @@ pub enum Report {
     Absent,
     /// The proof fails this test first.
     Refused(ProofFault),
+    /// The proof of a sharded map fails this test first.
+    ShardedRefused(ShardedFault),
     /// The text is not an even number of hexadecimal digits.
     NotHex,
     /// The text has more than `LIMIT` bytes.
@@ -79,19 +92,52 @@ fn unread(error: FromHexError) -> Result<Report, Memory>
     }
 }
 
+/// What a proof of one tree shows.
+fn judge_plain(format: Format, root: &[u8; 32], key: &Key, proof: &[u8]) -> Report
+    ensures said { result ≡ said_by Plain format root.now key.now proof.now }
+{
+    match verify_in(format, root, key, proof) {
+        Ok(Some(value)) => Report::Present(value),
+        Ok(None) => Report::Absent,
+        Err(fault) => Report::Refused(fault),
+    }
+}
+
+/// What a proof of a sharded map shows.
+fn judge_sharded(format: Format, root: &[u8; 32], key: &Key, proof: &[u8]) -> Report
+    ensures said { result ≡ said_by Sharded format root.now key.now proof.now }
+{
+    match verify_sharded(format, root, key, proof) {
+        Ok(Some(value)) => Report::Present(value),
+        Ok(None) => Report::Absent,
+        Err(fault) => Report::ShardedRefused(fault),
+    }
+}
+
+/// What a proof of this kind shows.
+fn judge(kind: ProofKind, format: Format, root: &[u8; 32], key: &Key, proof: &[u8]) -> Report
+    ensures said { result ≡ said_by kind format root.now key.now proof.now }
+{
+    match kind {
+        ProofKind::Plain => judge_plain(format, root, key, proof),
+        ProofKind::Sharded => judge_sharded(format, root, key, proof),
+    }
+}
+
 /// What a text says of the key in the map with this root digest in this format: the hexadecimal
-/// digits of a proof, in either case, with at most one newline after them.
+/// digits of a proof of this kind, in either case, with at most one newline after them.
 ///
 /// Returns `Memory` only if the room for the proof was refused. A text that is too long, or is not
 /// an even number of digits, takes no memory.
 pub fn report_on<A: Allocator>(
     alloc: A,
+    kind: ProofKind,
     format: Format,
     root: &[u8; 32],
     key: &Key,
     text: &[u8],
 ) -> Result<Report, Memory>
-    ensures report { IfOk result (λ r. r ≡ report_of format root.now key.now text.now) }
+    ensures report { IfOk result (λ r. r ≡ report_of kind format root.now key.now text.now) }
     ensures within { OnErr result (length text.now ≤ limit) }
     ensures digits { OnErr result (IsOk (decode_of (up_to_newline text.now))) }
 {
@@ -106,11 +152,7 @@ pub fn report_on<A: Allocator>(
         Ok(proof) => proof,
         Err(error) => return unread(error),
     };
-    Ok(match verify_in(format, root, key, proof.as_slice()) {
-        Ok(Some(value)) => Report::Present(value),
-        Ok(None) => Report::Absent,
-        Err(fault) => Report::Refused(fault),
-    })
+    Ok(judge(kind, format, root, key, proof.as_slice()))
 }
 
 /// The name of a fault.
@@ -129,6 +171,34 @@ fn fault_words(fault: ProofFault) -> &'static [u8]
         ProofFault::Unfinished => b"P8",
         ProofFault::TextBehind => b"P9",
         ProofFault::OtherValue => b"P10",
+    }
+}
+
+/// The name of a test of a proof of a sharded map.
+fn test_words(fault: ShardedFault) -> &'static [u8]
+    ensures words { result.now ≡ words_of_test fault }
+    ensures size { length result.now ≤ 2 }
+{
+    match fault {
+        ShardedFault::Version => b"S1",
+        ShardedFault::CutShort => b"S2",
+        ShardedFault::NoKey => b"S3",
+        ShardedFault::Directory(_) => b"S4",
+        ShardedFault::NotListed => b"S5",
+        ShardedFault::NoListing => b"S6",
+        ShardedFault::KeyBelow => b"S7",
+        ShardedFault::KeyNotBelow => b"S8",
+        ShardedFault::Shard(_) => b"S9",
+    }
+}
+
+/// The test that a part of the proof fails, if the fault is that of a part.
+fn part_fault(fault: ShardedFault) -> Option<ProofFault>
+    ensures part { result ≡ fault_of_part fault }
+{
+    match fault {
+        ShardedFault::Directory(part) | ShardedFault::Shard(part) => Some(part),
+        _ => None,
     }
 }
 
@@ -157,9 +227,24 @@ fn extend_digits(line: &mut Line, value: &Value)
     extend(line, &digits[..count]);
 }
 
+/// Appends the name of a fault of a proof of a sharded map: its test, and behind a space that of
+/// the part that fails.
+fn extend_sharded(line: &mut Line, fault: ShardedFault)
+    requires { length line.old.items ≤ 8 }
+    ensures words { line.new.items ≡ line.old.items ++ words_of_sharded fault }
+    ensures size { length line.new.items ≤ 14 }
+{
+    extend(line, test_words(fault));
+    if let Some(part) = part_fault(fault) {
+        extend(line, b" ");
+        extend(line, fault_words(part));
+    }
+}
+
 impl Report {
     /// The report as a line, with its newline: `present` and the value in lower case, `-` if it is
-    /// empty; `absent`; `P1` to `P10`; `fault hex`; or `fault long`.
+    /// empty; `absent`; `P1` to `P10`; `S1` to `S9`, with a space and one of `P1` to `P10` behind
+    /// `S4` and `S9`; `fault hex`; or `fault long`.
     #[tactic(auto, unfolding(crate::specs::Report::line_of))]
     pub fn line(&self) -> Line
         ensures line { result.items ≡ line_of self.now }
@@ -172,6 +257,7 @@ impl Report {
             }
             Report::Absent => extend(&mut line, b"absent"),
             Report::Refused(fault) => extend(&mut line, fault_words(*fault)),
+            Report::ShardedRefused(fault) => extend_sharded(&mut line, *fault),
             Report::NotHex => extend(&mut line, b"fault hex"),
             Report::Long => extend(&mut line, b"fault long"),
         }

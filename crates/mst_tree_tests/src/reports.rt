@@ -4,7 +4,7 @@ use crate::cases::{Case, ask};
 use crate::heaps::heap_of;
 use crate::proving::TWO;
 use mst_key::{Format, Memory};
-use mst_report::{LIMIT, Report, key_in, report_on, root_in};
+use mst_report::{LIMIT, ProofKind, Report, key_in, report_on, root_in};
 use std::alloc::{Allocator, Global};
 use std::process::Abort;
 
@@ -19,7 +19,7 @@ fn report_in<A: Allocator>(
 ) -> Result<Report, Memory> {
     let root = root_in(TWO).expect(rt, "a root");
     let key = key_in(key).expect(rt, "a key");
-    report_on(alloc, Format::One, &root, &key, text)
+    report_on(alloc, ProofKind::Plain, Format::One, &root, &key, text)
 }
 
 /// Whether this line is said of a text, as a refusal or not.

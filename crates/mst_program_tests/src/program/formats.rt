@@ -160,8 +160,8 @@ const VERIFIED: &[(&str, &str, &str, u8, &str, &str)] = &[
     ("3", "", PROOF, 2, "", "shape\n"),
 ];
 
-/// The words of `verify` with an option at one of six places, in three of them beside a `--`.
-fn words_at(
+/// The words of `verify` with options at one of six places, in three of them beside a `--`.
+pub fn words_at(
     alloc: Global,
     place: u8,
     option: &str,

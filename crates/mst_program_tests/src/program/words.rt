@@ -26,6 +26,7 @@ Examples:
   mst run --format 2 < script
   mst verify ROOT KEY < proof
   mst verify --format 2 ROOT KEY < proof
+  mst verify --sharded ROOT KEY < proof
   mst load --readers 4 --writers 2 --calls 1000
 
 Exit statuses:
@@ -104,6 +105,7 @@ Arguments:
   <KEY>   The key, 1 to 32 bytes of two hexadecimal digits each
 
 Options:
+      --sharded     The proof is of a sharded map, in two parts
       --format <F>  The format of the root digest and the proof, 1 or 2 [default: 1]
   -h, --help        Print help
 ";
