@@ -1,7 +1,10 @@
 //! Tests of sharded maps over their public calls: opening, reads and writes beside a plain list,
-//! batches of edits, migrations, snapshots with their proofs, and each growth that is refused.
+//! batches of edits, migrations, snapshots with their proofs, on threads beside writers too, and
+//! each growth that is refused.
 #![tactic(auto)]
 
+#[cfg(test)]
+mod auditing;
 #[cfg(test)]
 mod batches;
 #[cfg(test)]
