@@ -115,7 +115,7 @@ rows_grow front ds s rows rows' passes are all count long each =
 
 -- ---- a row makes a handle
 
-length-shards : (low : List ℕ) (splits : List (List ℕ))
+pub length-shards : (low : List ℕ) (splits : List (List ℕ))
     → length (shards_from low splits) ≡ length splits + 1
 length-shards low [] = refl
 length-shards low (s ∷ splits) =

@@ -5,6 +5,7 @@ pub mod FewRows
 pub mod Formats
 pub mod Kept
 pub mod Listed
+pub mod Moved
 pub mod Nexts
 pub mod Only
 pub mod Parted
@@ -16,6 +17,7 @@ pub mod Refused
 pub mod Relisting
 pub mod Rooted
 pub mod Rows
+pub mod Shares
 pub mod Spans
 pub mod Spreading
 pub mod Steps

@@ -4,4 +4,5 @@ pub mod Entries
 pub mod Listing
 pub mod Opening
 pub mod Ranging
+pub mod Shared
 pub mod Sharding

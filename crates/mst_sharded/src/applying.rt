@@ -121,7 +121,7 @@ fn apply_parts<'a, A: Allocator + Copy, B: Allocator, C: Allocator + Copy>(
 }
 
 // Migrates each shard in turn, and stops at the first that is refused.
-fn migrate_all<'a, A: Allocator + Copy, B: Allocator, C: Allocator + Copy>(
+pub(crate) fn migrate_all<'a, A: Allocator + Copy, B: Allocator, C: Allocator + Copy>(
     passes: &mut Vec<Pass<'a, A>, B>,
     alloc: C,
     to: Format,

@@ -15,9 +15,9 @@ use std::marker::Model;
 
 // What is dealt to one handle.
 #[derive(Drop)]
-struct Row<'a, A: Allocator + Copy, B: Allocator> {
-    passes: Vec<Pass<'a, A>, B>,
-    directory: Directory<'a, A, B>,
+pub(crate) struct Row<'a, A: Allocator + Copy, B: Allocator> {
+    pub(crate) passes: Vec<Pass<'a, A>, B>,
+    pub(crate) directory: Directory<'a, A, B>,
 }
 
 impl<'a, A: Allocator + Copy, B: Allocator> Model for Row<'a, A, B> {
@@ -134,7 +134,7 @@ fn hand_out<'a, A: Allocator + Copy, B: Allocator>(
 }
 
 // Makes the rows, and gives each its pass of each store.
-fn all_rows<'a, A: Allocator + Copy, B: Allocator + Copy>(
+pub(crate) fn all_rows<'a, A: Allocator + Copy, B: Allocator + Copy>(
     alloc: B,
     directories: &'a [Store<A>],
     their_seats: Vec<Seats<A>, A>,

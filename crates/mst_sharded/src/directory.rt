@@ -157,6 +157,7 @@ impl<'a, A: Allocator + Copy, B: Allocator> Directory<'a, A, B> {
         ensures err { IfErr result
             (λ fault. LacksDirectory fault (sharding splits.now pinned.old)) }
         ensures listed { HasListed splits.now self.new pinned.old }
+        ensures own { self.new.pass.store ≡ self.old.pass.store }
         ensures same { pinned.new ≡ pinned.old }
     {
         let edits = changes(alloc, splits, self.listed.as_slice(), pinned)?;
@@ -183,6 +184,7 @@ impl<'a, A: Allocator + Copy, B: Allocator> Directory<'a, A, B> {
         ensures err { IfErr result
             (λ fault. LacksDirectory fault (sharding splits.now pinned.old)) }
         ensures listed { HasListed splits.now self.new pinned.old }
+        ensures own { self.new.pass.store ≡ self.old.pass.store }
         ensures same { pinned.new ≡ pinned.old }
     {
         let Some(format) = one_format(pinned) else {

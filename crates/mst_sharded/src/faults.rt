@@ -40,6 +40,17 @@ pub struct StoppedMigration {
     pub fault: MigrateFault,
 }
 
+/// Why a migration through a [`SharedHandle`](crate::SharedHandle) stopped.
+#[derive(Clone, Copy, Debug, PartialEq, Eq, Error)]
+pub enum MoveFault {
+    /// A growth of the list of the passes was refused. No shard was tried.
+    #[error("no memory")]
+    Memory(Memory),
+    /// A shard was refused it.
+    #[error("{0}")]
+    Shard(StoppedMigration),
+}
+
 /// Why a snapshot has no directory, no root digest and no proof.
 #[derive(Clone, Copy, Debug, PartialEq, Eq, Error)]
 pub enum DirectoryFault {

@@ -25,7 +25,7 @@ use mst_store::{Pass, Pinned};
 use std::alloc::Allocator;
 
 // The root digest of the directory of these shards.
-fn root_in<A: Allocator + Copy, B: Allocator, C: Allocator + Copy>(
+pub(crate) fn root_in<A: Allocator + Copy, B: Allocator, C: Allocator + Copy>(
     list: &mut Directory<'_, A, B>,
     alloc: C,
     splits: &[Key],
@@ -41,6 +41,7 @@ fn root_in<A: Allocator + Copy, B: Allocator, C: Allocator + Copy>(
         (sharding splits.now pinned.old)) }
     ensures err { IfErr result (λ fault. LacksDirectory fault (sharding splits.now pinned.old)) }
     ensures listed { HasListed splits.now list.new pinned.old }
+    ensures own { list.new.pass.store ≡ list.old.pass.store }
     ensures same { pinned.new ≡ pinned.old }
 {
     list.update(alloc, splits, pinned)?;
@@ -48,7 +49,7 @@ fn root_in<A: Allocator + Copy, B: Allocator, C: Allocator + Copy>(
 }
 
 // The pairs of the directory of these shards.
-fn pairs_in<A: Allocator + Copy, B: Allocator, C: Allocator + Copy>(
+pub(crate) fn pairs_in<A: Allocator + Copy, B: Allocator, C: Allocator + Copy>(
     list: &mut Directory<'_, A, B>,
     alloc: C,
     splits: &[Key],
@@ -62,6 +63,7 @@ fn pairs_in<A: Allocator + Copy, B: Allocator, C: Allocator + Copy>(
         (sharding splits.now pinned.old)) }
     ensures err { IfErr result (λ fault. LacksDirectory fault (sharding splits.now pinned.old)) }
     ensures listed { HasListed splits.now list.new pinned.old }
+    ensures own { list.new.pass.store ≡ list.old.pass.store }
     ensures same { pinned.new ≡ pinned.old }
 {
     list.update(alloc, splits, pinned)?;
@@ -95,7 +97,7 @@ fn join_proofs<A: Allocator + Copy, C: Allocator + Copy>(
 }
 
 // The proof of these shards' answer for the key.
-fn proof_in<A: Allocator + Copy, B: Allocator, C: Allocator + Copy>(
+pub(crate) fn proof_in<A: Allocator + Copy, B: Allocator, C: Allocator + Copy>(
     list: &mut Directory<'_, A, B>,
     alloc: C,
     splits: &[Key],
@@ -110,6 +112,7 @@ fn proof_in<A: Allocator + Copy, B: Allocator, C: Allocator + Copy>(
         (sharding splits.now pinned.old)) }
     ensures err { IfErr result (λ fault. LacksDirectory fault (sharding splits.now pinned.old)) }
     ensures listed { HasListed splits.now list.new pinned.old }
+    ensures own { list.new.pass.store ≡ list.old.pass.store }
     ensures same { pinned.new ≡ pinned.old }
 {
     let format = list.update(alloc, splits, pinned)?;

@@ -181,7 +181,7 @@ fn first_behind<A: Allocator + Copy>(
 }
 
 // The pair of the least key above the bound.
-fn next_among<A: Allocator + Copy>(
+pub(crate) fn next_among<A: Allocator + Copy>(
     pinned: &mut [Pinned<'_, A>],
     splits: &[Key],
     bound: Option<&Key>,
@@ -222,7 +222,7 @@ fn append_between<A: Allocator + Copy, C: Allocator + Copy>(
 }
 
 // The first pairs between two bounds, at most `limit`.
-fn range_among<A: Allocator + Copy, C: Allocator + Copy>(
+pub(crate) fn range_among<A: Allocator + Copy, C: Allocator + Copy>(
     pinned: &mut [Pinned<'_, A>],
     splits: &[Key],
     alloc: C,

@@ -1,5 +1,5 @@
 //! A sharded map, and its opening.
-ghost use Rattle.std.specs.Prelude.{◌≡◌, ◌↔◌, ◌≤◌, ◌+◌, ◌++◌, ◌∷◌, ℕ, [], true, length, IfOk, OnOk, IsErrOf};
+ghost use Rattle.std.specs.Prelude.{◌≡◌, ◌↔◌, ◌<◌, ◌≤◌, ◌+◌, ◌++◌, ◌∷◌, ℕ, [], true, Some, length, slice_get, IfOk, OnOk, IsErrOf};
 ghost use Rattle.std.specs.List.{AllByRecursion};
 ghost use Rattle.std.specs.declared.cmp.Ordering.TheVariants.{Less};
 ghost use Rattle.mst_key.specs.Bytes.{IsKey};
@@ -238,5 +238,29 @@ impl<A: Allocator + Copy> Sharded<A> {
             Ok(opened) => Ok(opened),
             Err(refused) => Err(ShardsFault::Memory(refused)),
         }
+    }
+}
+
+// What calls through a share of a map read of it.
+impl<A: Allocator + Copy> Sharded<A> {
+    pub(crate) fn split_keys(&self) -> &[Key]
+        ensures splits { result.now ≡ self.now.splits }
+        ensures is { IsSplits result.now }
+    {
+        self.splits.as_slice()
+    }
+
+    pub(crate) fn shard_stores(&self) -> &[Store<A>]
+        ensures stores { result.now ≡ self.now.stores }
+    {
+        self.stores.as_slice()
+    }
+
+    // The store of the directory of the handle with this number, from 0.
+    pub(crate) fn directory_store(&self, number: usize) -> &Store<A>
+        requires there { number < length self.now.directories }
+        ensures store { slice_get self.now.directories number ≡ Some result.now }
+    {
+        &self.directories[number]
     }
 }

@@ -1,4 +1,4 @@
-use Rattle.std.proofs.Common.{rules, ◌≡◌, sym, subst}
+use Rattle.std.proofs.Common.{rules, ◌≡◌, sym, subst, ap, ◌∙◌}
 use Rattle.std.specs.Prelude.{IfOk}
 use Rattle.mst_sharded_proof.specs.Shards.{directory}
 use Rattle.mst_sharded.specs.Sharding.{sharding}
@@ -41,4 +41,16 @@ returns-clause-listed g c =
           (stays l.pass c.range.new.self has.only w.in-Ok.ensures.ok.looks) has
       | in-Err w ↦ stays_listed c.args.splits.now l c.range.new.self c.args.pinned.now
           (asked_stays l.pass c.range.new.self has.only w.in-Err.ensures.memory) has
+    ]
+
+pub returns-clause-own : goal.returns-clause-own
+returns-clause-own g c =
+    let l : Listing = record { pass = c.list.inside.pass; listed = c.list.inside.listed.items } in
+    let has = subst (λ (x : Listing). HasListed c.args.splits.now x c.args.pinned.now)
+    (sym c.list.view_is) c.in_ok-update.ensures.listed in
+    let before = ap (λ (x : Listing). x.pass.store) c.list.view_is ∙ c.in_ok-update.ensures.own in
+    elim c.match-range.branch [
+      | in-Ok w ↦ (stays l.pass c.range.new.self has.only w.in-Ok.ensures.ok.looks).1 ∙ before
+      | in-Err w ↦ (asked_stays l.pass c.range.new.self has.only w.in-Err.ensures.memory).1
+          ∙ before
     ]

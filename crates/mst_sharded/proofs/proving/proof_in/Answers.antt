@@ -1,4 +1,4 @@
-use Rattle.std.proofs.Common.{◌≡◌, sym, subst}
+use Rattle.std.proofs.Common.{◌≡◌, sym, subst, ap, ◌∙◌}
 use Rattle.std.specs.Prelude.{IfOk}
 use Rattle.mst_sharded_proof.specs.Frame.{sharded_proof}
 use Rattle.mst_sharded.specs.Sharding.{sharding}
@@ -37,3 +37,8 @@ returns-clause-listed g c =
     (sym c.list.view_is) c.in_ok-format.ensures.listed in
     stays_listed c.args.splits.now l c.join_proofs.new.pass c.args.pinned.now
     c.join_proofs.ensures.stays has
+
+pub returns-clause-own : goal.returns-clause-own
+returns-clause-own g c =
+    c.join_proofs.ensures.stays.1 ∙ ap (λ (x : Listing). x.pass.store) c.list.view_is
+    ∙ c.in_ok-format.ensures.own

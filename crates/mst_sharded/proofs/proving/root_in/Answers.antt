@@ -1,4 +1,4 @@
-use Rattle.std.proofs.Common.{sym, subst}
+use Rattle.std.proofs.Common.{sym, subst, ap, ◌∙◌}
 use Rattle.mst_sharded.specs.Entries.{ListsAll}
 use Rattle.mst_sharded.specs.Listing.{Listing, HasListed}
 use Rattle.mst_sharded.proofs.Only.{stays}
@@ -23,3 +23,8 @@ returns-clause-listed g c =
     (sym c.list.view_is) c.in_ok-update.ensures.listed in
     stays_listed c.args.splits.now l c.root.new.self c.args.pinned.now
     (stays l.pass c.root.new.self has.only c.root.ensures.answers.looks) has
+
+pub returns-clause-own : goal.returns-clause-own
+returns-clause-own g c =
+    c.root.ensures.answers.looks.same.0 ∙ ap (λ (x : Listing). x.pass.store) c.list.view_is
+    ∙ c.in_ok-update.ensures.own

@@ -67,3 +67,11 @@ returns-clause-listed g c =
     c.requires.listed c.requires.same c.as_slice.ensures.value c.in_ok-edits.ensures.keep
     c.in_ok-edits.ensures.edits c.as_slice-2.ensures.value c.in_ok-apply_all.ensures.ok
     c.in_ok-edits.ensures.same c.note.ensures.versions).0
+
+pub returns-in_err-apply_all-clause-own : goal.returns-in_err-apply_all-clause-own
+returns-in_err-apply_all-clause-own g c =
+    c.in_err-apply_all.ensures.err.1 ∙ ap (λ (x : Listing). x.pass.store) c.self.view_is
+
+pub returns-clause-own : goal.returns-clause-own
+returns-clause-own g c =
+    c.in_ok-apply_all.ensures.ok.1 ∙ ap (λ (x : Listing). x.pass.store) c.self.view_is

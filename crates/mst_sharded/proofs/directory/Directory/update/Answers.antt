@@ -1,4 +1,4 @@
-use Rattle.std.proofs.Common.{List, sym, subst}
+use Rattle.std.proofs.Common.{List, sym, subst, ◌∙◌}
 use Rattle.mst_store.specs.Passes.{Known}
 use Rattle.mst_sharded.specs.Listing.{HasListed}
 use Rattle.mst_sharded.proofs.Kept.{kept_listing}
@@ -21,3 +21,13 @@ list-requires-clause-listed g c =
     (sym c.in-Some.ensures.same)
     (kept_listing c.args.splits.now c.args.self.now c.turn_to.new.self c.args.pinned.now
     c.in_ok-turn_to.ensures.keeps c.requires.listed)
+
+pub returns-in_err-turn_to-clause-own : goal.returns-in_err-turn_to-clause-own
+returns-in_err-turn_to-clause-own g c = c.in_err-turn_to.ensures.keeps.store
+
+pub returns-in_err-list-clause-own : goal.returns-in_err-list-clause-own
+returns-in_err-list-clause-own g c =
+    c.in_err-list.ensures.own ∙ c.in_ok-turn_to.ensures.keeps.store
+
+pub returns-clause-own : goal.returns-clause-own
+returns-clause-own g c = c.in_ok-list.ensures.own ∙ c.in_ok-turn_to.ensures.keeps.store

@@ -1,0 +1,292 @@
+-- Handles and snapshots beside a share of their map: their passes stay those of its stores.
+use Rattle.std.proofs.Common.{◌≡◌, ℕ, zero, suc, ◌+◌, ◌<◌, ◌≤◌, List, [], ◌∷◌, ◌++◌, inl, inr, Option, Some, None, slice_get, Result, Ok, Err, IfOk, IfErr, OnOk, length, map, reverse, set, get_or, refl, sym, ap, ◌∙◌, subst, arith, length-append, length-set, append_assoc}
+use Rattle.std.specs.List.{swap_remove, SwappedAt, slice_set}
+use Rattle.std.specs.Prelude.{slice_index_or}
+use Rattle.std.proofs.lemmas.List.{length-map, get_or-map, map-set, set-get_or}
+use Rattle.std.proofs.lemmas.Bool.{cases_order}
+use Rattle.mst_key.specs.declared.history.Change.{Change}
+use Rattle.mst_store.specs.Migrating.{RefusesMigration}
+use Rattle.mst_store.specs.declared.faults.MigrateFault.{MigrateFault}
+use Rattle.mst_store.specs.declared.faults.MigrateFault.TheVariants as migrate
+use Rattle.mst_sharded.specs.declared.faults.StoppedMigration.{StoppedMigration}
+use Rattle.mst_sharded.specs.Applying.{Migrates, StepsFrom, StopsAt}
+use Rattle.mst_key.specs.History.{had}
+use Rattle.mst_store.specs.Passes.{StoreId, Known, HasShape, Wrote, Refuses, made_by, new_pass}
+use Rattle.mst_store.specs.declared.faults.WriteFault.{WriteFault}
+use Rattle.mst_store.specs.declared.faults.WriteFault.TheVariants.{Busy, VersionsSpent, NoRoom}
+use Rattle.mst_sharded.specs.Listing.{Listing, HasListed}
+use Rattle.std.specs.List.{AllByRecursion}
+use Rattle.mst_key.specs.declared.format.Format.{Format}
+use Rattle.mst_sharded.specs.Opening.{Shards, Dealt, dealt, dealt_from, directory_shape}
+use Rattle.mst_sharded.specs.Shared.{AreOf, IsRowOf, AreRowsOf, handles_in}
+use Rattle.mst_key.specs.Map.{Pair}
+use Rattle.mst_sharded_proof.specs.Shards.{least, shards_from, directory}
+use Rattle.mst_sharded.proofs.Dealing.{all_whole, length-shards}
+use Rattle.mst_sharded.specs.Sharding.{IsSplits, Sharding, place, sharding, IsSharding, Routes, AllStep, PinsNow, SeesMore}
+use Rattle.mst_sharded.proofs.Listed.{handle_kept}
+use Rattle.mst_sharded.proofs.Moved.{read_any, put_back}
+use Rattle.mst_sharded.proofs.Pins.{moved_on}
+use Rattle.mst_sharded.proofs.Rows.{next_at}
+
+abbrev store : Known → StoreId
+store p = p.store
+
+pub as_many : (stores : List StoreId) (ps : List Known) → AreOf stores ps
+    → length stores ≡ length ps
+as_many stores ps own = sym (ap (λ (l : List StoreId). length l) own) ∙ length-map ps store
+
+-- ---- one pass
+
+pub own_at : (stores : List StoreId) (ps : List Known) (i : ℕ) (p : Known) (s : StoreId)
+    → AreOf stores ps → i < length ps → p ≡ get_or ps i p → s ≡ get_or stores i s → p.store ≡ s
+own_at stores ps i p s own low is there =
+    ap store is ∙ sym (get_or-map store ps i p s low)
+    ∙ ap (λ (l : List StoreId). get_or l i s) own ∙ sym there
+
+pub own_set : (stores : List StoreId) (ps : List Known) (i : ℕ) (p q : Known) → AreOf stores ps
+    → i < length ps → p ≡ get_or ps i p → q.store ≡ p.store → AreOf stores (set ps i q)
+own_set stores ps i p q own low is same =
+    map-set store ps i q
+    ∙ ap (λ (s : StoreId). set (map store ps) i s)
+    (same ∙ ap store is ∙ sym (get_or-map store ps i p p.store low))
+    ∙ set-get_or (map store ps) i p.store ∙ own
+
+-- the passes of a share, after the pass at a place has made a step and was put back
+pub record Returned (splits : List (List ℕ)) (stores : List StoreId) (l : Listing)
+    (ps zs : List Known) : Type 0 where
+  pub sharding_is : IsSharding (sharding splits zs)
+  pub listed : HasListed splits l zs
+  pub own : AreOf stores zs
+
+pub returned : (splits : List (List ℕ)) (stores : List StoreId) (l : Listing)
+    (ps ys zs : List Known) (i n : ℕ) (p q : Known) → IsSharding (sharding splits ps)
+    → HasListed splits l ps → AreOf stores ps → i ≤ length splits → p ≡ get_or ps i p
+    → ys ≡ swap_remove ps i p → n + 1 ≡ length ps → length zs ≡ n + 1
+    → SwappedAt (ys ++ q ∷ []) zs i n → SeesMore p q → q.store ≡ p.store
+    → Returned splits stores l ps zs
+returned splits stores l ps ys zs i n p q is has own within at left count again back more same =
+    let long : length ps ≡ length splits + 1 = is.count in
+    let low : i < length ps = omega (arith, long, within) in
+    let now : zs ≡ set ps i q = put_back ps ys zs i n p q (sym count) again
+    (omega (arith, long, within, count)) left back in
+    let kept = handle_kept splits l ps i p q is has within at more in
+    record {
+      sharding_is = subst (λ (x : List Known). IsSharding (sharding splits x)) (sym now)
+          kept.sharding_is;
+      listed = subst (λ (x : List Known). HasListed splits l x) (sym now) kept.listed;
+      own = subst (λ (x : List Known). AreOf stores x) (sym now)
+          (own_set stores ps i p q own low at same);
+    }
+
+pub routed : (splits : List (List ℕ)) (k : List ℕ) (S : Known → Known → Type 0)
+    (ps ys zs : List Known) (i n : ℕ) (p q : Known) → IsSharding (sharding splits ps)
+    → i ≤ length splits → i ≡ place splits k → p ≡ get_or ps i p → ys ≡ swap_remove ps i p
+    → n + 1 ≡ length ps → length zs ≡ n + 1 → SwappedAt (ys ++ q ∷ []) zs i n → S p q
+    → Routes k S (sharding splits ps) (sharding splits zs)
+routed splits k S ps ys zs i n p q is within at here left count again back step =
+    let long : length ps ≡ length splits + 1 = is.count in
+    let low : i < length ps = omega (arith, long, within) in
+    let now : zs ≡ set ps i q = put_back ps ys zs i n p q (sym count) again
+    (omega (arith, long, within, count)) left back in
+    record {
+      p = p;
+      q = q;
+      here = λ d. ap (λ (j : ℕ). slice_index_or ps j d) (sym at) ∙ read_any ps i d p low
+          ∙ sym here;
+      steps = step;
+      now = ap (λ (x : List Known). sharding splits x)
+          (now ∙ ap (λ (j : ℕ). set ps j q) at);
+    }
+
+-- a pinned pass that was put back as it was
+pub stayed : (ps ys zs : List Known) (i n : ℕ) (p q : Known) → i < length ps
+    → p ≡ get_or ps i p → ys ≡ swap_remove ps i p → n + 1 ≡ length ps → length zs ≡ n + 1
+    → SwappedAt (ys ++ q ∷ []) zs i n → q ≡ p → zs ≡ ps
+stayed ps ys zs i n p q low here left count again back same =
+    put_back ps ys zs i n p q (sym count) again (omega (arith, low, count)) left back
+    ∙ ap (λ (x : Known). set ps i x) (same ∙ here) ∙ set-get_or ps i p
+
+-- ---- which store a pass is of stays
+
+pub wrote_own : (r : Result (Option (List ℕ)) WriteFault) (change : Change) (p q : Known)
+    → IfOk r (λ old. Wrote (made_by p change) p (had old) q)
+    → IfErr r (λ fault. Refuses fault change p q) → q.store ≡ p.store
+wrote_own (Ok old) change p q ok err = ok.same.0
+wrote_own (Err Busy) change p q ok err = ap store err.0
+wrote_own (Err VersionsSpent) change p q ok err = err.0.same.0
+wrote_own (Err NoRoom) change p q ok err = err.0.same.0
+
+pub pins_own : (stores : List StoreId) (ps qs : List Known) → AllStep PinsNow ps qs
+    → AreOf stores ps → AreOf stores qs
+pins_own stores ps qs pins own = stays ps qs pins ∙ own
+  where
+    stays : (ps qs : List Known) → AllStep PinsNow ps qs → map store qs ≡ map store ps
+    stays [] [] pins = refl
+    stays [] (q ∷ qs) pins = absurd pins
+    stays (p ∷ ps) [] pins = absurd pins
+    stays (p ∷ ps) (q ∷ qs) pins =
+        ap (λ (s : StoreId). s ∷ map store qs) pins.0.0.same.0
+        ∙ ap (λ (l : List StoreId). p.store ∷ l) (stays ps qs pins.1)
+
+-- ---- all passes, one after the other
+
+popped_is : (all front left rest : List Known) (p : Known) → all ≡ front ++ reverse left
+    → left ≡ rest ++ p ∷ [] → all ≡ front ++ p ∷ reverse rest
+popped_is all front left rest p is next =
+    moved_on all front left rest p is next ∙ append_assoc front (p ∷ []) (reverse rest)
+
+-- there is a store for the one that was popped
+pub popped_low : (stores : List StoreId) (all front left rest : List Known) (p : Known) (i : ℕ)
+    → AreOf stores all → all ≡ front ++ reverse left → left ≡ rest ++ p ∷ [] → i ≡ length front
+    → i < length stores
+popped_low stores all front left rest p i own is next at =
+    let long = length-append front (p ∷ reverse rest) in
+    let same : length all ≡ length (front ++ p ∷ reverse rest) =
+    ap (λ (l : List Known). length l) (popped_is all front left rest p is next) in
+    let many = as_many stores all own in
+    omega (arith, long, same, many, at)
+
+-- and it is of that store
+pub popped_own : (stores : List StoreId) (all front left rest : List Known) (p : Known) (i : ℕ)
+    (s : StoreId) → AreOf stores all → all ≡ front ++ reverse left → left ≡ rest ++ p ∷ []
+    → i ≡ length front → s ≡ get_or stores i s → p.store ≡ s
+popped_own stores all front left rest p i s own is next at there =
+    let many = as_many stores all own in
+    let low = popped_low stores all front left rest p i own is next at in
+    own_at stores all i p s own (omega (arith, low, many))
+    (sym (next_at all front (reverse rest) p i p (popped_is all front left rest p is next)
+    (sym at)))
+    there
+
+-- ---- what is dealt
+
+new_own : (stores : List StoreId) (n : ℕ) → AreOf stores (map (λ s. new_pass s n) stores)
+new_own [] n = refl
+new_own (s ∷ stores) n = ap (λ (l : List StoreId). s ∷ l) (new_own stores n)
+
+seam : (front ds : List StoreId) (d : StoreId) → slice_get (front ++ d ∷ ds) (length front) ≡ Some d
+seam [] ds d = refl
+seam (x ∷ front) ds d = seam front ds d
+
+rows_from : (s : Shards) (format : Format) (front ds : List StoreId) (n : ℕ)
+    → s.directories ≡ front ++ ds → length front ≡ n
+    → length s.stores ≡ length s.splits + 1
+    → AllByRecursion (HasShape (directory_shape (length s.splits + 1) format)) ds
+    → AreRowsOf s n (dealt_from s.stores ds (suc n))
+rows_from s format front [] n is long count shaped = tt
+rows_from s format front (d ∷ ds) n is long count shaped =
+    let more = length-append front (d ∷ []) in (
+      record {
+        whole = (all_whole s.splits s.stores (d ∷ []) format (suc n) count (shaped.0, tt)).0;
+        own = new_own s.stores (suc n);
+        directory = ap (λ (l : List StoreId). slice_get l n) is
+            ∙ ap (λ (j : ℕ). slice_get (front ++ d ∷ ds) j) (sym long) ∙ seam front ds d;
+      },
+      rows_from s format (front ++ d ∷ []) ds (suc n)
+          (is ∙ sym (append_assoc front (d ∷ []) ds)) (omega (arith, more, long)) count shaped.1,
+    )
+
+-- the rows of a map are those of its stores
+pub rows_are : (s : Shards) (format : Format) → length s.stores ≡ length s.splits + 1
+    → AllByRecursion (HasShape (directory_shape (length s.splits + 1) format)) s.directories
+    → AreRowsOf s 0 (dealt_from s.stores s.directories 1)
+rows_are s format count shaped = rows_from s format [] s.directories 0 refl refl count shaped
+
+pub row_next : (s : Shards) (n : ℕ) (front rest : List Dealt) (d : Dealt)
+    → AreRowsOf s n (front ++ d ∷ rest) → IsRowOf s (n + length front) d
+row_next s n [] rest d all =
+    let same : n ≡ n + 0 = omega arith in
+    subst (λ (j : ℕ). IsRowOf s j d) same all.0
+row_next s n (x ∷ front) rest d all =
+    let same : suc n + length front ≡ n + suc (length front) = omega arith in
+    subst (λ (j : ℕ). IsRowOf s j d) same (row_next s (suc n) front rest d all.1)
+
+-- the next one of a loop over them
+pub row_own : (s : Shards) (all front left rest : List Dealt) (d : Dealt) (i : ℕ)
+    → AreRowsOf s 0 all → all ≡ front ++ left → left ≡ d ∷ rest → i ≡ length front
+    → IsRowOf s i d
+row_own s all front left rest d i own is next at =
+    let same : 0 + length front ≡ i = omega (arith, at) in
+    subst (λ (j : ℕ). IsRowOf s j d) same
+    (row_next s 0 front rest d
+    (subst (λ (l : List Dealt). AreRowsOf s 0 l) (is ∙ ap (λ (l : List Dealt). front ++ l) next)
+    own))
+
+-- ---- a list at a place
+
+pub there_at : (ps : List Known) (i : ℕ) (p : Known) → i < length ps → p ≡ get_or ps i p
+    → slice_get ps i ≡ Some p
+there_at [] i p low is = absurd (omega (arith, low))
+there_at (x ∷ ps) zero p low is = ap Some (sym is)
+there_at (x ∷ ps) (suc i) p low is = there_at ps i p (omega (arith, low)) is
+
+pub none_at : (ps : List Known) (i : ℕ) → length ps ≤ i → slice_get ps i ≡ None
+none_at [] i past = refl
+none_at (x ∷ ps) zero past = absurd (omega (arith, past))
+none_at (x ∷ ps) (suc i) past = none_at ps i (omega (arith, past))
+
+-- ---- steps of all shards
+
+steps_own : (S : ℕ → Known → Known → Type 0) (from : ℕ) (ps qs : List Known)
+    → ((i : ℕ) (p q : Known) → S i p q → q.store ≡ p.store) → StepsFrom S from ps qs
+    → map store qs ≡ map store ps
+steps_own S from [] [] each steps = refl
+steps_own S from [] (q ∷ qs) each steps = absurd steps
+steps_own S from (p ∷ ps) [] each steps = absurd steps
+steps_own S from (p ∷ ps) (q ∷ qs) each steps =
+    ap (λ (s : StoreId). s ∷ map store qs) (each from p q steps.0)
+    ∙ ap (λ (l : List StoreId). p.store ∷ l) (steps_own S (suc from) ps qs each steps.1)
+
+kept_own : (fault : MigrateFault) (to : Format) (p q : Known) → RefusesMigration fault to p q
+    → q.store ≡ p.store
+kept_own migrate.Busy to p q r = ap store r.0
+kept_own migrate.VersionsSpent to p q r = r.0.same.0
+kept_own (migrate.Memory refused) to p q r = r.0.same.0
+kept_own migrate.NoRoom to p q r = r.0.0.same.0
+
+stops_own : (n : ℕ) (S : ℕ → Known → Known → Type 0) (R : Known → Known → Type 0)
+    → ((i : ℕ) (p q : Known) → S i p q → q.store ≡ p.store)
+    → ((p q : Known) → R p q → q.store ≡ p.store)
+    → (i : ℕ) (p q : Known) → StopsAt n S R i p q → q.store ≡ p.store
+stops_own n S R made refused i p q stops = elim (cases_order i n) [
+  | inl same ↦ refused p q (stops.1 same)
+  | inr (inl less) ↦ made i p q (stops.0 less)
+  | inr (inr above) ↦ ap store (stops.2 above)
+]
+
+pub moved_own : (r : Result (Unit {0}) StoppedMigration) (stores : List StoreId) (to : Format)
+    (ps qs : List Known) → OnOk r (StepsFrom (λ at. Migrates to) 0 ps qs)
+    → IfErr r (λ stopped. StepsFrom (StopsAt stopped.shard (λ at. Migrates to)
+    (RefusesMigration stopped.fault to)) 0 ps qs) → AreOf stores ps → AreOf stores qs
+moved_own (Ok done) stores to ps qs ok err own =
+    steps_own (λ at. Migrates to) 0 ps qs (λ at p q m. m.1.same.0) ok ∙ own
+moved_own (Err stopped) stores to ps qs ok err own =
+    steps_own (StopsAt stopped.shard (λ at. Migrates to) (RefusesMigration stopped.fault to)) 0 ps
+    qs (stops_own stopped.shard (λ at. Migrates to) (RefusesMigration stopped.fault to)
+    (λ at p q m. m.1.same.0) (kept_own stopped.fault to)) err ∙ own
+
+-- the same of lists by other names
+pub renamed : (P : Sharding → Sharding → Type 0) (splits others : List (List ℕ))
+    (ps lifted qs zs : List Known) (old : Sharding) → others ≡ splits → lifted ≡ ps → zs ≡ qs
+    → sharding splits ps ≡ old → P (sharding others lifted) (sharding others qs)
+    → P old (sharding splits zs)
+renamed P splits others ps lifted qs zs old are same again was has =
+    subst (λ (h : Sharding). P h (sharding splits zs)) was
+    (subst (λ (x : List Known). P (sharding splits ps) (sharding splits x)) (sym again)
+    (subst (λ (x : List Known). P (sharding splits x) (sharding splits qs)) same
+    (subst (λ (s : List (List ℕ)). P (sharding s lifted) (sharding s qs)) are has)))
+
+-- what holds anyway
+pub on_ok_weaker_from : {T E P : Type 0} (r : Result T E) → P → OnOk r P
+on_ok_weaker_from (Ok x) has = has
+on_ok_weaker_from (Err e) has = tt
+
+-- a directory has an entry for each shard
+pub few_listed : (splits : List (List ℕ)) (format : Format) (m pairs : List Pair)
+    → IsSplits splits → pairs ≡ directory format m splits → length pairs ≤ 1024
+few_listed splits format m pairs is are =
+    let few = is.few in
+    let count = length-shards least splits in
+    let same : length pairs ≡ length (shards_from least splits) =
+    ap (λ (l : List Pair). length l) are ∙ length-map (shards_from least splits) _ in
+    omega (arith, few, count, same)

@@ -1,0 +1,12 @@
+use Rattle.std.proofs.Common.{◌≡◌, ◌+◌, ◌≤◌, ◌++◌, reverse, vec_len, vec_capacity, vec_items}
+use Rattle.mst_sharded.proofs.moving.lay_pins.Given as goal
+
+-- the first pinned passes are laid down, and those that are left stand in the other order
+abbrev pub invariant-loop-pin : goal.invariant-loop-pin
+invariant-loop-pin g l =
+    (vec_len l.laid + vec_len l.pinned ≤ vec_capacity l.laid)
+    × (vec_capacity l.laid ≡ vec_capacity l.fn.room)
+    × (vec_items l.fn.pinned ≡ vec_items l.laid ++ reverse (vec_items l.pinned))
+
+abbrev pub decreases-loop-pin : goal.decreases-loop-pin
+decreases-loop-pin g l = vec_len l.pinned

@@ -1,0 +1,28 @@
+use Rattle.std.proofs.Common.{◌≡◌, ◌∙◌, List, vec_items, rules, subst}
+use Rattle.std.specs.Arc.{arc_value}
+use Rattle.mst_store.specs.Passes.{Known}
+use Rattle.mst_sharded.specs.Sharding.{PinsNow}
+use Rattle.mst_sharded.proofs.Listed.{listed_later}
+use Rattle.mst_sharded.proofs.Pins.{all_step_length, pins_more}
+use Rattle.mst_sharded.proofs.Shares.{pins_own}
+use Rattle.mst_sharded.proofs.shared.SharedHandle.snapshot.Goals as goal
+
+pub invariant_of-result : goal.invariant_of-result
+invariant_of-result g c =
+    let was = c.self.invariant in
+    let ps : List Known = vec_items c.self.inside.passes in
+    let qs : List Known = vec_items c.pin_laid-pinned.result.0 in
+    let pins = c.pin_laid-pinned.ensures in (
+      record {
+        splits_are = was.0.splits_are;
+        count = all_step_length PinsNow ps qs pins.pins ∙ was.0.count;
+      },
+      pins.maps,
+      pins.few,
+      listed_later (arc_value c.self.inside.map).splits c.self.inside.directory ps qs
+          (pins_more ps qs pins.pins) was.1,
+      pins_own (arc_value c.self.inside.map).stores ps qs pins.pins was.2,
+      was.3,
+      pins.empty,
+      pins.room,
+    )

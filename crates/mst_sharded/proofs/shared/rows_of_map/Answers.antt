@@ -1,0 +1,47 @@
+use Rattle.std.proofs.Common.{◌≡◌, ◌∙◌, List, vec_items, sym, ap, subst}
+use Rattle.std.proofs.lemmas.Result.{IfOk-weaker}
+use Rattle.mst_store.specs.Passes.{StoreId}
+use Rattle.mst_sharded.specs.Opening.{Shards, Dealt, dealt_from, new_handles}
+use Rattle.mst_sharded.specs.Shared.{AreRowsOf, handles_in}
+use Rattle.mst_sharded.proofs.Dealing.{all_handles}
+use Rattle.mst_sharded.specs.Sharding.{IsSplits}
+use Rattle.mst_sharded.proofs.Shares.{rows_are, on_ok_weaker_from}
+use Rattle.mst_sharded.proofs.shared.rows_of_map.Goals as goal
+
+pub returns-clause-own : goal.returns-clause-own
+returns-clause-own g c =
+    let all : Shards = record {
+      splits = vec_items c.map.inside.splits;
+      stores = vec_items c.map.inside.stores;
+      directories = vec_items c.map.inside.directories;
+    } in
+    let has = c.map.invariant.1 in
+    let gives = ap (λ (l : List StoreId). dealt_from l c.as_slice.result.now 1)
+    c.as_slice-2.ensures.value
+    ∙ ap (λ (l : List StoreId). dealt_from all.stores l 1) c.as_slice.ensures.value in
+    IfOk-weaker c.all_rows.result _ _
+    (λ rows is. subst (λ (s : Shards). AreRowsOf s 0 rows.items) c.map.view_is
+    (subst (λ (l : List Dealt). AreRowsOf all 0 l) (sym (is ∙ gives))
+    (rows_are all c.map.inside.shape.format has.count has.directories_shaped)))
+    c.all_rows.ensures.rows
+
+pub returns-clause-handles : goal.returns-clause-handles
+returns-clause-handles g c =
+    let all : Shards = record {
+      splits = vec_items c.map.inside.splits;
+      stores = vec_items c.map.inside.stores;
+      directories = vec_items c.map.inside.directories;
+    } in
+    let gives = ap (λ (l : List StoreId). dealt_from l c.as_slice.result.now 1)
+    c.as_slice-2.ensures.value
+    ∙ ap (λ (l : List StoreId). dealt_from all.stores l 1) c.as_slice.ensures.value in
+    IfOk-weaker c.all_rows.result _ _
+    (λ rows is. subst (λ (s : Shards). handles_in s.splits rows.items ≡ new_handles s)
+    c.map.view_is
+    (ap (λ (l : List Dealt). handles_in all.splits l) (is ∙ gives) ∙ all_handles all))
+    c.all_rows.ensures.rows
+
+pub returns-clause-splits : goal.returns-clause-splits
+returns-clause-splits g c =
+    on_ok_weaker_from c.all_rows.result
+    (subst (λ (s : Shards). IsSplits s.splits) c.map.view_is c.map.invariant.0)

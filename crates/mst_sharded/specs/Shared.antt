@@ -1,0 +1,34 @@
+-- Handles beside a share of their map: of which stores their passes are.
+use Rattle.std.specs.Prelude.{◌≡◌, ℕ, suc, List, [], ◌∷◌, Some, map, slice_get}
+use Rattle.mst_store.specs.Passes.{Known, StoreId}
+use Rattle.mst_key.specs.declared.format.Format.{Format}
+use Rattle.mst_sharded.specs.Applying.{StopsMigrating}
+use Rattle.mst_sharded.specs.Opening.{Shards, Dealt, IsWhole}
+use Rattle.mst_sharded.specs.Sharding.{Sharding, sharding}
+use Rattle.mst_sharded.specs.declared.faults.MoveFault.{MoveFault}
+use Rattle.mst_sharded.specs.declared.faults.MoveFault.TheVariants.{Memory, Shard}
+
+-- the passes are of these stores, one after the other
+abbrev pub AreOf : List StoreId → List Known → Type 0
+AreOf stores ps = map (λ p. p.store) ps ≡ stores
+
+-- what is dealt to the handle with this number, from 0, is of the stores of the map
+pub record IsRowOf (s : Shards) (number : ℕ) (d : Dealt) : Type 0 where
+  pub whole : IsWhole s.splits d
+  pub own : AreOf s.stores d.passes
+  pub directory : slice_get s.directories number ≡ Some d.directory.pass.store
+
+-- the same of all handles from this number on
+abbrev pub AreRowsOf : Shards → ℕ → List Dealt → Type 0
+AreRowsOf s number [] = Unit {0}
+AreRowsOf s number (d ∷ ds) = IsRowOf s number d × AreRowsOf s (suc number) ds
+
+-- the handles of what was dealt
+abbrev pub handles_in : List (List ℕ) → List Dealt → List Sharding
+handles_in splits rows = map (λ d. sharding splits d.passes) rows
+
+-- Why a migration is refused: a list of the passes was refused memory, and then nothing has
+-- changed; or it stops at a shard
+abbrev pub RefusesMoves : MoveFault → Format → Sharding → Sharding → Type 0
+RefusesMoves (Memory refused) to h i = i ≡ h
+RefusesMoves (Shard stopped) to h i = StopsMigrating stopped.shard stopped.fault to h i

@@ -1,0 +1,228 @@
+//! Passes that are laid down beside the stores of the shards, and lifted again: one at a place, or
+//! all of a list. Lists keep their room, so that none of it takes memory.
+ghost use Rattle.std.specs.Prelude.{◌≡◌, ◌<◌, ◌≤◌, ◌+◌, ◌++◌, ◌∷◌, [], length, slice_index_or, vec_len, vec_capacity};
+ghost use Rattle.std.specs.List.{AllByRecursion, swap_remove, SwappedAt};
+ghost use Rattle.mst_key.specs.History.{after};
+ghost use Rattle.mst_key.specs.Map.{IsMap};
+ghost use Rattle.mst_sharded.specs.Sharding.{AllStep, PinsNow};
+ghost use Rattle.mst_sharded.specs.Shared.{AreOf};
+
+use mst_store::{Laid, LaidPinned, Pass, Pinned, Store};
+use std::alloc::Allocator;
+
+// ---- one pass at a place
+
+/// Takes the pass at a place out of the list, and lifts it. Until `lay_at` another one may stand
+/// there.
+pub(crate) fn lift_at<'a, A: Allocator + Copy>(
+    stores: &'a [Store<A>],
+    laid: &mut Vec<Laid<A>, A>,
+    place: usize,
+) -> Pass<'a, A>
+    requires there { place < vec_len laid.old }
+    requires own { AreOf stores.now laid.old.items }
+    ensures pass { result ≡ slice_index_or laid.old.items place result }
+    ensures left { laid.new.items ≡ swap_remove laid.old.items place result }
+    ensures len { vec_len laid.new + 1 ≡ vec_len laid.old }
+    ensures room { vec_capacity laid.new ≡ vec_capacity laid.old }
+{
+    let pass = laid.swap_remove(place);
+    stores[place].lift(pass)
+}
+
+/// Lays a pass down where it was taken from.
+pub(crate) fn lay_at<A: Allocator + Copy>(
+    laid: &mut Vec<Laid<A>, A>,
+    place: usize,
+    pass: Pass<'_, A>,
+)
+    requires there { place ≤ vec_len laid.old }
+    requires room { vec_len laid.old < vec_capacity laid.old }
+    ensures back { SwappedAt (laid.old.items ++ pass.entry ∷ []) laid.new.items place
+        (vec_len laid.old) }
+    ensures len { vec_len laid.new ≡ vec_len laid.old + 1 }
+    ensures room { vec_capacity laid.new ≡ vec_capacity laid.old }
+{
+    let last = laid.len();
+    laid.push_reserved(pass.lay());
+    laid.as_mut_slice().swap(place, last);
+}
+
+/// Takes the pinned pass at a place out of the list, and lifts it, as `lift_at` does.
+pub(crate) fn lift_pin_at<'a, A: Allocator + Copy>(
+    stores: &'a [Store<A>],
+    laid: &mut Vec<LaidPinned<A>, A>,
+    place: usize,
+) -> Pinned<'a, A>
+    requires there { place < vec_len laid.old }
+    requires own { AreOf stores.now laid.old.items }
+    ensures pass { result ≡ slice_index_or laid.old.items place result }
+    ensures left { laid.new.items ≡ swap_remove laid.old.items place result }
+    ensures len { vec_len laid.new + 1 ≡ vec_len laid.old }
+    ensures room { vec_capacity laid.new ≡ vec_capacity laid.old }
+{
+    let pinned = laid.swap_remove(place);
+    stores[place].lift_pinned(pinned)
+}
+
+/// Lays a pinned pass down where it was taken from.
+pub(crate) fn lay_pin_at<A: Allocator + Copy>(
+    laid: &mut Vec<LaidPinned<A>, A>,
+    place: usize,
+    pinned: Pinned<'_, A>,
+)
+    requires there { place ≤ vec_len laid.old }
+    requires room { vec_len laid.old < vec_capacity laid.old }
+    ensures back { SwappedAt (laid.old.items ++ pinned.entry ∷ []) laid.new.items place
+        (vec_len laid.old) }
+    ensures len { vec_len laid.new ≡ vec_len laid.old + 1 }
+    ensures room { vec_capacity laid.new ≡ vec_capacity laid.old }
+{
+    let last = laid.len();
+    laid.push_reserved(pinned.lay());
+    laid.as_mut_slice().swap(place, last);
+}
+
+// ---- all passes of a list
+
+/// Lifts each pass. Returns their list too, which is now empty.
+pub(crate) fn lift_all<'a, A: Allocator + Copy>(
+    stores: &'a [Store<A>],
+    laid: Vec<Laid<A>, A>,
+    room: Vec<Pass<'a, A>, A>,
+) -> (Vec<Pass<'a, A>, A>, Vec<Laid<A>, A>)
+    requires own { AreOf stores.now laid.items }
+    requires empty { room.items ≡ [] }
+    requires fits { vec_len laid ≤ vec_capacity room }
+    ensures same { result.0.items ≡ laid.items }
+    ensures empty { result.1.items ≡ [] }
+    ensures room { vec_len result.0 ≤ vec_capacity result.1 }
+{
+    let mut laid = laid;
+    let mut passes = room;
+    laid.reverse();
+    let mut place = 0;
+    while let Some(pass) = laid.pop() {
+        passes.push_reserved(stores[place].lift(pass));
+        place += 1;
+    }
+    (passes, laid)
+}
+
+/// Lays each pass down.
+pub(crate) fn lay_all<A: Allocator + Copy>(
+    passes: Vec<Pass<'_, A>, A>,
+    room: Vec<Laid<A>, A>,
+) -> Vec<Laid<A>, A>
+    requires empty { room.items ≡ [] }
+    requires fits { vec_len passes ≤ vec_capacity room }
+    ensures same { result.items ≡ passes.entry.items }
+    ensures room { vec_capacity result ≡ vec_capacity room }
+{
+    let mut passes = passes;
+    let mut laid = room;
+    passes.reverse();
+    while let Some(pass) = passes.pop() {
+        laid.push_reserved(pass.lay());
+    }
+    laid
+}
+
+/// Lifts each pinned pass. Returns their list too, which is now empty.
+pub(crate) fn lift_pins<'a, A: Allocator + Copy>(
+    stores: &'a [Store<A>],
+    laid: Vec<LaidPinned<A>, A>,
+    room: Vec<Pinned<'a, A>, A>,
+) -> (Vec<Pinned<'a, A>, A>, Vec<LaidPinned<A>, A>)
+    requires own { AreOf stores.now laid.items }
+    requires empty { room.items ≡ [] }
+    requires fits { vec_len laid ≤ vec_capacity room }
+    ensures same { result.0.items ≡ laid.items }
+    ensures empty { result.1.items ≡ [] }
+    ensures room { vec_len result.0 ≤ vec_capacity result.1 }
+{
+    let mut laid = laid;
+    let mut pinned = room;
+    laid.reverse();
+    let mut place = 0;
+    while let Some(pin) = laid.pop() {
+        pinned.push_reserved(stores[place].lift_pinned(pin));
+        place += 1;
+    }
+    (pinned, laid)
+}
+
+/// Lays each pinned pass down.
+pub(crate) fn lay_pins<A: Allocator + Copy>(
+    pinned: Vec<Pinned<'_, A>, A>,
+    room: Vec<LaidPinned<A>, A>,
+) -> Vec<LaidPinned<A>, A>
+    requires empty { room.items ≡ [] }
+    requires fits { vec_len pinned ≤ vec_capacity room }
+    ensures same { result.items ≡ pinned.entry.items }
+    ensures room { vec_capacity result ≡ vec_capacity room }
+{
+    let mut pinned = pinned;
+    let mut laid = room;
+    pinned.reverse();
+    while let Some(pin) = pinned.pop() {
+        laid.push_reserved(pin.lay());
+    }
+    laid
+}
+
+// ---- pins
+
+/// Pins the current version of each shard, by passes that are laid down again at once. Returns the
+/// list of the passes too, which is now empty.
+pub(crate) fn pin_laid<A: Allocator + Copy>(
+    stores: &[Store<A>],
+    passes: Vec<Laid<A>, A>,
+    room: Vec<LaidPinned<A>, A>,
+) -> (Vec<LaidPinned<A>, A>, Vec<Laid<A>, A>)
+    requires own { AreOf stores.now passes.items }
+    requires empty { room.items ≡ [] }
+    requires fits { vec_len passes ≤ vec_capacity room }
+    ensures pins { AllStep PinsNow passes.items result.0.items }
+    ensures maps { AllByRecursion (λ p. IsMap (after p.seen)) result.0.items }
+    ensures few { AllByRecursion (λ p. length (after p.seen) ≤ 65535) result.0.items }
+    ensures empty { result.1.items ≡ [] }
+    ensures room { vec_len result.0 ≤ vec_capacity result.1 }
+{
+    let mut passes = passes;
+    let mut pinned = room;
+    passes.reverse();
+    let mut place = 0;
+    while let Some(laid) = passes.pop() {
+        let pass = stores[place].lift(laid);
+        pinned.push_reserved(pass.pin().lay());
+        place += 1;
+    }
+    (pinned, passes)
+}
+
+/// Ends the pin of each shard, by pinned passes that are laid down again at once. Returns the list
+/// of the pinned passes too, which is now empty.
+pub(crate) fn unpin_laid<A: Allocator + Copy>(
+    stores: &[Store<A>],
+    pinned: Vec<LaidPinned<A>, A>,
+    room: Vec<Laid<A>, A>,
+) -> (Vec<Laid<A>, A>, Vec<LaidPinned<A>, A>)
+    requires own { AreOf stores.now pinned.items }
+    requires empty { room.items ≡ [] }
+    requires fits { vec_len pinned ≤ vec_capacity room }
+    ensures same { result.0.items ≡ pinned.items }
+    ensures empty { result.1.items ≡ [] }
+    ensures room { vec_len result.0 ≤ vec_capacity result.1 }
+{
+    let mut pinned = pinned;
+    let mut passes = room;
+    pinned.reverse();
+    let mut place = 0;
+    while let Some(laid) = pinned.pop() {
+        let pin = stores[place].lift_pinned(laid);
+        passes.push_reserved(pin.unpin().lay());
+        place += 1;
+    }
+    (passes, pinned)
+}

@@ -1,0 +1,121 @@
+//! The calls of a handle beside a share of its map. Each has the contract of the handle's own.
+ghost use Rattle.std.specs.Prelude.{◌≡◌, ◌≤◌, [], length, vec_capacity, IfOk, IfErr, OnOk};
+ghost use Rattle.mst_key.specs.declared.history.Change.TheVariants.{Put, Remove};
+ghost use Rattle.mst_key.specs.History.{had};
+ghost use Rattle.mst_key.specs.Map.{map_get};
+ghost use Rattle.mst_store.specs.Passes.{Answers, made_by, Wrote, Refuses};
+ghost use Rattle.mst_sharded.specs.Sharding.{Routes, PinsAll};
+ghost use Rattle.mst_sharded.specs.Applying.{MigratesAll};
+ghost use Rattle.mst_sharded.specs.Shared.{RefusesMoves};
+
+use crate::applying::migrate_all;
+use crate::faults::MoveFault;
+use crate::moving::{lay_all, lay_at, lift_all, lift_at, pin_laid};
+use crate::place::place_of;
+use crate::shared::{SharedHandle, SharedSnapshot};
+use mst_key::{Format, Key, Memory, Value};
+use mst_store::{Pass, WriteFault};
+use std::alloc::Allocator;
+use std::mem::replace;
+
+// An empty list with room for so many passes.
+fn room_for_passes<'a, A: Allocator + Copy>(
+    alloc: A,
+    count: usize,
+) -> Result<Vec<Pass<'a, A>, A>, Memory>
+    ensures empty { IfOk result (λ room. room.items ≡ []) }
+    ensures room { IfOk result (λ room. count ≤ vec_capacity room) }
+{
+    Ok(Vec::with_capacity(alloc, count)?)
+}
+
+impl<A: Allocator + Copy> SharedHandle<A> {
+    /// How many shards there are.
+    pub fn shards(&self) -> usize
+        ensures count { result ≡ length self.now.shards }
+        ensures most { result ≤ 1024 }
+    {
+        self.passes.len()
+    }
+
+    /// As [`Handle::get`](crate::Handle::get). It takes no memory.
+    pub fn get(&mut self, key: &Key) -> Option<Value>
+        ensures answers { Routes key.now (λ p q. Answers (λ _ m. map_get m key.now) p result q)
+            self.old self.new }
+    {
+        let place = place_of(self.map.split_keys(), key);
+        let mut pass = lift_at(self.map.shard_stores(), &mut self.passes, place);
+        let found = pass.get(key);
+        lay_at(&mut self.passes, place, pass);
+        found
+    }
+
+    /// As [`Handle::try_put`](crate::Handle::try_put). It takes no memory.
+    pub fn try_put(&mut self, key: &Key, value: &Value) -> Result<Option<Value>, WriteFault>
+        ensures ok { IfOk result (λ old. Routes key.now
+            (λ p q. Wrote (made_by p (Put key.now value.now)) p (had old) q) self.old self.new) }
+        ensures err { IfErr result (λ fault. Routes key.now
+            (λ p q. Refuses fault (Put key.now value.now) p q) self.old self.new) }
+    {
+        let place = place_of(self.map.split_keys(), key);
+        let mut pass = lift_at(self.map.shard_stores(), &mut self.passes, place);
+        let put = pass.try_put(key, value);
+        lay_at(&mut self.passes, place, pass);
+        put
+    }
+
+    /// As [`Handle::try_remove`](crate::Handle::try_remove). It takes no memory.
+    pub fn try_remove(&mut self, key: &Key) -> Result<Option<Value>, WriteFault>
+        ensures ok { IfOk result (λ old. Routes key.now
+            (λ p q. Wrote (made_by p (Remove key.now)) p (had old) q) self.old self.new) }
+        ensures err { IfErr result (λ fault. Routes key.now
+            (λ p q. Refuses fault (Remove key.now) p q) self.old self.new) }
+    {
+        let place = place_of(self.map.split_keys(), key);
+        let mut pass = lift_at(self.map.shard_stores(), &mut self.passes, place);
+        let removed = pass.try_remove(key);
+        lay_at(&mut self.passes, place, pass);
+        removed
+    }
+
+    /// As [`Handle::try_migrate`](crate::Handle::try_migrate). Returns `Memory` if a list of the
+    /// passes was refused memory: no shard was tried then.
+    pub fn try_migrate(&mut self, alloc: A, to: Format) -> Result<(), MoveFault>
+        ensures ok { OnOk result (MigratesAll to self.old self.new) }
+        ensures err { IfErr result (λ fault. RefusesMoves fault to self.old self.new) }
+    {
+        let room = match room_for_passes(alloc, self.passes.len()) {
+            Ok(room) => room,
+            Err(refused) => return Err(MoveFault::Memory(refused)),
+        };
+        let laid = replace(&mut self.passes, Vec::new(alloc));
+        let (mut passes, space) = lift_all(self.map.shard_stores(), laid, room);
+        let moved = migrate_all(&mut passes, alloc, to);
+        self.passes = lay_all(passes, space);
+        match moved {
+            Ok(()) => Ok(()),
+            Err(stopped) => Err(MoveFault::Shard(stopped)),
+        }
+    }
+
+    /// As [`Handle::snapshot`](crate::Handle::snapshot). It takes no memory.
+    pub fn snapshot(self) -> SharedSnapshot<A>
+        ensures pins { PinsAll self result }
+    {
+        let SharedHandle {
+            map,
+            number,
+            passes,
+            directory,
+            room,
+        } = self;
+        let (pinned, room) = pin_laid(map.shard_stores(), passes, room);
+        SharedSnapshot {
+            map,
+            number,
+            pinned,
+            directory,
+            room,
+        }
+    }
+}
