@@ -1,6 +1,6 @@
 //! Tests of sharded maps over their public calls: opening, reads and writes beside a plain list,
-//! batches of edits, migrations, snapshots with their proofs, on threads beside writers too, and
-//! each growth that is refused.
+//! batches of edits, migrations, snapshots with their proofs, on threads beside writers too,
+//! handles beside a share of their map, and each growth that is refused.
 #![tactic(auto)]
 
 #[cfg(test)]
@@ -17,6 +17,10 @@ mod opening;
 mod plain;
 #[cfg(test)]
 mod roots;
+#[cfg(test)]
+mod shared_growths;
+#[cfg(test)]
+mod shares;
 #[cfg(test)]
 mod snapshots;
 #[cfg(test)]
