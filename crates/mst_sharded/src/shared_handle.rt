@@ -1,5 +1,5 @@
 //! The calls of a handle beside a share of its map. Each has the contract of the handle's own.
-ghost use Rattle.std.specs.Prelude.{◌≡◌, ◌≤◌, [], length, vec_capacity, IfOk, IfErr, OnOk};
+ghost use Rattle.std.specs.Prelude.{◌≡◌, ◌+◌, ◌≤◌, [], length, vec_capacity, IfOk, IfErr, OnOk};
 ghost use Rattle.mst_key.specs.declared.history.Change.TheVariants.{Put, Remove};
 ghost use Rattle.mst_key.specs.History.{had};
 ghost use Rattle.mst_key.specs.Map.{map_get};
@@ -42,6 +42,7 @@ impl<A: Allocator + Copy> SharedHandle<A> {
     pub fn get(&mut self, key: &Key) -> Option<Value>
         ensures answers { Routes key.now (λ p q. Answers (λ _ m. map_get m key.now) p result q)
             self.old self.new }
+        ensures once { Routes key.now (λ p q. q.asked ≡ p.asked + 1) self.old self.new }
     {
         let place = place_of(self.map.split_keys(), key);
         let mut pass = lift_at(self.map.shard_stores(), &mut self.passes, place);

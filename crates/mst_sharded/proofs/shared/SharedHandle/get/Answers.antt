@@ -69,4 +69,10 @@ returns g c =
           n p
           q was.0 within at c.lift_at-pass.ensures.pass c.lift_at-pass.ensures.left count again
           c.lay_at.ensures.back c.get-found.ensures.answers);
+      once = subst (λ (h : Sharding). Routes c.args.key.now
+          (λ x y. y.asked ≡ x.asked + 1) h (sharding splits zs)) c.self.view_is
+          (routed splits c.args.key.now (λ x y. y.asked ≡ x.asked + 1) ps ys zs i
+          n p
+          q was.0 within at c.lift_at-pass.ensures.pass c.lift_at-pass.ensures.left count again
+          c.lay_at.ensures.back c.get-found.ensures.once);
     }
