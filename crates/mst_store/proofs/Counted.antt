@@ -1,8 +1,9 @@
--- From the turn that was begun to how many rows the map takes.
+-- From the turn that was begun to how many rows the map takes, and how many are free.
 use Rattle.std.proofs.Common.{◌≡◌, ℕ, ◌+◌, ◌-◌, ◌*◌, ◌%◌, ◌<◌, ◌≤◌, eqb, if◌then◌else◌, List, [], ◌∷◌, ◌++◌, length, length-append, is_some, IfSome, Option, Some, None, Bool, true, false, refl, sym, ap, ◌∙◌, subst, ⊎_elim, arith}
 use Rattle.std.proofs.lemmas.Bool.{eq-eqb}
 use Rattle.std.proofs.lemmas.Bool.Decides.{nat_tests}
 use Rattle.std.proofs.lemmas.Nat.{mod-mul-add}
+use Rattle.mst_key.specs.declared.format.Format.{Format}
 use Rattle.mst_key.specs.History.{after, format_after, events_of, IsPrefix}
 use Rattle.mst_arena.specs.Lives.{free_count}
 use Rattle.mst_arena.specs.Lists.{In}
@@ -14,9 +15,9 @@ use Rattle.mst_words.specs.Steps.{NotesCurrent, AsksCurrent, found_now}
 use Rattle.mst_words.proofs.Members.{in_nothing, contained, within}
 use Rattle.mst_store.specs.declared.turn.Turn.{Turn}
 use Rattle.mst_store.specs.Turns.{Seat, HoldsDesk, HasTurn, Begun}
-use Rattle.mst_store.specs.Counting.{Counts}
-use Rattle.mst_store.specs.Writes.{rows_of, AreFound}
-use Rattle.mst_store.proofs.Written.{room_left, room_alone_left, are_found}
+use Rattle.mst_store.specs.Counting.{Counts, CountsFree}
+use Rattle.mst_store.specs.Writes.{rows_of, rows_kept, AreFound}
+use Rattle.mst_store.proofs.Written.{room_left, room_alone_left, are_found, looked}
 
 -- what the holder of the turn has at hand does not depend on what it noted and found of pins
 still : {A : Type 0} (t : Turn A) (m : Seat) (noted : Option ℕ) (found : List ℕ) (asked : ℕ)
@@ -190,3 +191,34 @@ pub all_rows : {A : Type 0} (m m1 : Seat) (t : Turn A) → Begun m t m1 → (all
     ≡ m.0.rows
 all_rows m m1 t b all free is counted = let l = room_left t m1 b.has in let r =
     ap (λ (v : View). v.rows) b.rest in omega (arith, l, r, is, counted)
+
+module _ {A : Type 0} (m m1 m' : Seat) (t : Turn A) (b : Begun m t m1)
+    (gave : m' ≡ (record m1.0 { turn = false }, [])) (free : ℕ)
+    (is : free ≡ free_count t.desk.lives) where
+  -- the rows that are free, and those that the kept versions hold, are all rows
+  all_kept : free + rows_kept m.0.format m1.0.seen m1.0.found ≡ m.0.rows
+  all_kept = subst (λ (f : Format). free + rows_kept f m1.0.seen m1.0.found ≡ m.0.rows)
+      (ap (λ (v : View). v.format) b.rest) (let l = b.has.leaves.left in let r =
+      ap (λ (v : View). v.rows) b.rest in omega (arith, l, r, is))
+
+  -- if no version was found pinned, the map alone holds rows
+  all_mapped : m1.0.found ≡ []
+      → free + rows_of (format_after m.0.format m1.0.seen) (after m1.0.seen) ≡ m.0.rows
+  all_mapped none = subst (λ (f : Format). free + rows_of f (after m1.0.seen) ≡ m.0.rows)
+      (b.has.format ∙ ap (λ (v : View). format_after v.format m1.0.seen) b.rest)
+      (let as_many = b.has.leaves.as_many in let number = b.has.number in
+      let no_length : length m1.0.found ≡ 0 = ap (λ (z : List ℕ). length z) none in
+      let map_is = room_alone_left t m1 b.has (omega (arith, as_many, number, no_length)) in let r =
+      ap (λ (v : View). v.rows) b.rest in omega (arith, map_is, is, r))
+
+  pub counted_free : CountsFree m free m'
+  counted_free = record {
+    looked = looked m m1 t b m1 m' refl gave;
+    are = subst (λ (z : Seat). AreFound m.0.passes z.0.seen z.0.found) (sym gave)
+        (are_found m m1 t b);
+    left = subst (λ (z : Seat). free + rows_kept m.0.format z.0.seen z.0.found ≡ m.0.rows)
+        (sym gave) all_kept;
+    alone = λ none. subst (λ (z : Seat). free + rows_of (format_after m.0.format z.0.seen)
+        (after z.0.seen) ≡ m.0.rows) (sym gave)
+        (all_mapped (sym (ap (λ (z : Seat). z.0.found) gave) ∙ none));
+  }

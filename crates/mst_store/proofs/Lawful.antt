@@ -1,14 +1,16 @@
--- Events of the passes of a store, what passes have seen that met, the rows of the first put, and
--- why at most one edit is refused.
-use Rattle.std.proofs.Common.{◌≡◌, ◌≢◌, ◌⊎◌, ℕ, suc, ◌+◌, ◌<◌, ◌≤◌, Bool, cond, if◌then◌else◌, max, List, [], ◌∷◌, length, inl, inr, refl, sym, ap, ◌∙◌, subst, arith, ne_eqb}
+-- Events of the passes of a store, what passes have seen that met, the rows of the first put, why
+-- at most one edit is refused, and what the number of the free rows decides.
+use Rattle.std.proofs.Common.{◌≡◌, ◌≢◌, ◌⊎◌, ℕ, suc, ◌+◌, ◌<◌, ◌≤◌, Bool, cond, if◌then◌else◌, max, List, [], ◌∷◌, ◌++◌, length, inl, inr, refl, sym, ap, ◌∙◌, subst, arith, ne_eqb}
 use mathlib.Core.Logic.{dite}
 use native.Mathlib.Decide.{ℕ_discrete}
 use Rattle.std.proofs.lemmas.Bool.{eq-eqb}
+use Rattle.std.proofs.lemmas.List.{append_cancel_right}
 use Rattle.std.proofs.lemmas.List.Elements.{All-head, All-tail}
 use Rattle.mst_key.specs.declared.format.Format.{Format}
+use Rattle.mst_key.specs.declared.history.Change.{Change}
 use Rattle.mst_key.specs.declared.history.Edit.{Edit}
 use Rattle.mst_key.specs.declared.history.Event.{Event}
-use Rattle.mst_key.specs.History.{History, after, format_after, events_of, IsPrefix}
+use Rattle.mst_key.specs.History.{History, Reply, after, format_after, events_of, IsPrefix}
 use Rattle.mst_key.proofs.HistoryLaws.{IsPrefix-compare}
 use Rattle.mst_key.specs.Layer.{layer_in}
 use Rattle.mst_change.proofs.Formats.{stays}
@@ -17,8 +19,10 @@ use Rattle.mst_words.specs.Notes.{IsOfPasses}
 use Rattle.mst_store.specs.declared.faults.ApplyFault.{ApplyFault}
 use Rattle.mst_store.specs.declared.faults.ApplyFault.TheVariants.{Busy, VersionsSpent, Memory, NoRoom}
 use Rattle.mst_store.specs.Applying.{RefusesBatch}
-use Rattle.mst_store.specs.Passes.{Known}
+use Rattle.mst_store.specs.declared.faults.WriteFault.TheVariants as write
+use Rattle.mst_store.specs.Passes.{Known, made_by, AreFree, Wrote, Refuses}
 use Rattle.mst_store.specs.Settling.{Met}
+use Rattle.mst_store.specs.Writes.{rows_kept, rows_needed}
 
 -- each event is of a pass from 1 to n
 abbrev pub IsOf : ℕ → Event → Type 0
@@ -115,3 +119,30 @@ one_edit Busy e p q refused = inl refl
 one_edit VersionsSpent e p q refused = inr (inl refl)
 one_edit (Memory why) e p q refused = let more = refused.3 in absurd (omega (arith, more))
 one_edit NoRoom e p q refused = inr (inr refl)
+
+-- the rows that are free are enough for what needs no more, and too few for what needs more
+pub enough_free : (free : ℕ) (change : Change) (p q : Known) → AreFree free p
+    → rows_needed p.store.format p.seen change ≤ free → q.seen ≡ p.seen → q.found ≡ p.found
+    → Refuses write.NoRoom change p q → ⊥
+enough_free free change p q are few seen found refused =
+    let lacks : p.store.rows < rows_kept p.store.format p.seen p.found
+    + rows_needed p.store.format p.seen change =
+    subst (λ (l : History). p.store.rows < rows_kept p.store.format l p.found
+    + rows_needed p.store.format l change) seen
+    (subst (λ (l : List ℕ). p.store.rows < rows_kept p.store.format q.seen l
+    + rows_needed p.store.format q.seen change) found refused.4.lacks) in
+    omega (arith, are, few, lacks)
+
+pub too_few_free : (free : ℕ) (change : Change) (answered : Reply) (p q : Known) → AreFree free p
+    → free < rows_needed p.store.format p.seen change → q.seen ≡ p.seen ++ made_by p change ∷ []
+    → q.found ≡ p.found → Wrote (made_by p change) p answered q → ⊥
+too_few_free free change answered p q are many seen found wrote =
+    let before : wrote.log ≡ p.seen =
+    append_cancel_right wrote.log p.seen (made_by p change ∷ []) (sym wrote.seen ∙ seen) in
+    let fits : rows_kept p.store.format p.seen p.found
+    + rows_needed p.store.format p.seen change ≤ p.store.rows =
+    subst (λ (l : History). rows_kept p.store.format l p.found
+    + rows_needed p.store.format l change ≤ p.store.rows) before
+    (subst (λ (l : List ℕ). rows_kept p.store.format wrote.log l
+    + rows_needed p.store.format wrote.log change ≤ p.store.rows) found wrote.beside.fits) in
+    omega (arith, are, many, fits)

@@ -15,7 +15,7 @@ use Rattle.mst_store.specs.declared.reading.PinnedRoot.{PinnedRoot}
 use Rattle.mst_store.specs.Pinned.{HasPinned}
 use Rattle.mst_store.specs.declared.faults.WriteFault.{WriteFault}
 use Rattle.mst_store.specs.declared.faults.WriteFault.TheVariants.{Busy, VersionsSpent, NoRoom}
-use Rattle.mst_store.specs.Writes.{rows_of, rows_taken, FindsRoom, LacksKept}
+use Rattle.mst_store.specs.Writes.{rows_of, rows_taken, rows_kept, FindsRoom, LacksKept}
 
 -- which store it is, its size, and the format of its version 0
 pub record StoreId : Type 0 where
@@ -167,6 +167,11 @@ HasRoom rows format m change = rows_of format m + rows_taken format m change ≤
 
 abbrev pub LacksRoom : ℕ → Format → List Pair → Change → Type 0
 LacksRoom rows format m change = rows < rows_of format m + rows_taken format m change
+
+-- So many rows are free to a write: all but those that the version which the pass has seen last and
+-- the versions that it found pinned hold together
+abbrev pub AreFree : ℕ → Known → Type 0
+AreFree free q = free + rows_kept q.store.format q.seen q.found ≡ q.store.rows
 
 -- A write added its event right after a history that begins with all that the pass had seen, and
 -- returned what that history replies. The pass has now seen both, its events there are its own, and

@@ -1,8 +1,8 @@
-//! How many rows the map of the current version takes.
+//! How many rows the map of the current version takes, and how many are free to the next write.
 ghost use Rattle.std.specs.Prelude.{◌≡◌, ◌≤◌, ◌%◌, Some, IfSome, IfOk, OnErr};
 ghost use Rattle.mst_words.specs.Access.{IsSameSeat};
 ghost use Rattle.mst_words.specs.Steps.{IsFree, Misses};
-ghost use Rattle.mst_store.specs.Counting.{Counts};
+ghost use Rattle.mst_store.specs.Counting.{Counts, CountsFree};
 ghost use Rattle.mst_store.specs.Writes.{KeepsPass};
 
 use crate::faults::Busy;
@@ -57,4 +57,33 @@ pub(crate) fn rows<A: Allocator + Copy>(
     let (kept, used) = (turn.kept, all - turn.desk.free());
     give_back(seat, turn);
     Ok(where_alone(used, kept, noted, done))
+}
+
+/// Returns how many rows are free to the next write: all rows but those that the current version
+/// and the versions that were found pinned hold together.
+///
+/// The turn is taken, each record but the current one is asked, the rows that no version reaches
+/// are freed, and the turn is given back. Returns `Busy` only if another pass has the turn. It
+/// takes no memory.
+pub(crate) fn free_rows<A: Allocator + Copy>(
+    seat: &mut PassSeat<'_, A>,
+    number: u32,
+    passes: u32,
+) -> Result<u32, Busy>
+    requires free { IsFree number seat.old.me }
+    requires passes { passes ≡ seat.old.me.0.passes }
+    requires few { passes ≤ 32 }
+    requires few_rows { seat.old.me.0.rows ≤ 65535 }
+    ensures same { IsSameSeat seat.old seat.new }
+    ensures pass { KeepsPass seat.old.me seat.new.me }
+    ensures free { IsFree number seat.new.me }
+    ensures counted { IfOk result (λ rows. CountsFree seat.old.me rows seat.new.me) }
+    ensures busy { OnErr result (Misses seat.old.me seat.new.me) }
+{
+    let Some(turn) = begin(seat, number, passes) else {
+        return Err(Busy);
+    };
+    let free = turn.desk.free();
+    give_back(seat, turn);
+    Ok(free)
 }

@@ -1,18 +1,20 @@
 //! Laws of the definitions that contracts cite, each proved as the contract of a function that does
 //! nothing.
-ghost use Rattle.std.specs.Prelude.{◌≡◌, ◌⊎◌, ◌+◌, ℕ, List, [], ◌∷◌, length};
+ghost use Rattle.std.specs.Prelude.{◌≡◌, ◌⊎◌, ◌+◌, ◌<◌, ◌≤◌, ℕ, List, [], ◌∷◌, ◌++◌, length};
 ghost use Rattle.mst_key.specs.declared.format.Format.{Format};
 ghost use Rattle.mst_key.specs.declared.history.Change.{Change};
 ghost use Rattle.mst_key.specs.declared.history.Change.TheVariants.{Put, Remove};
 ghost use Rattle.mst_key.specs.declared.history.Edit.{Edit};
-ghost use Rattle.mst_key.specs.History.{History, events_of, IsPrefix};
+ghost use Rattle.mst_key.specs.History.{History, Reply, events_of, IsPrefix};
 ghost use Rattle.mst_key.specs.Map.{Pair};
 ghost use Rattle.mst_words.specs.Notes.{IsOfPasses};
 ghost use Rattle.mst_store.specs.Applying.{RefusesBatch};
 ghost use Rattle.mst_store.specs.declared.faults.ApplyFault.{ApplyFault};
 ghost use Rattle.mst_store.specs.declared.faults.ApplyFault.TheVariants.{Busy, VersionsSpent, NoRoom};
-ghost use Rattle.mst_store.specs.Passes.{Known, HasRoom, LacksRoom};
+ghost use Rattle.mst_store.specs.declared.faults.WriteFault.TheVariants as write;
+ghost use Rattle.mst_store.specs.Passes.{Known, made_by, AreFree, Wrote, HasRoom, LacksRoom, Refuses};
 ghost use Rattle.mst_store.specs.Settling.{Met};
+ghost use Rattle.mst_store.specs.Writes.{rows_needed};
 
 /// Each event that a pass sees is of a pass of its store. In a store of one pass all of them are
 /// its own, so its version grows by its own writes alone.
@@ -54,4 +56,17 @@ pub fn room_laws()
     ensures one_edit { (fault : ApplyFault) (edit : Edit) (p q : Known)
         → RefusesBatch fault (edit ∷ []) p q
         → (fault ≡ Busy) ⊎ (fault ≡ VersionsSpent) ⊎ (fault ≡ NoRoom) }
+{}
+
+/// How many rows are free decides whether the next write finds room, if it finds the history and
+/// the pinned versions that were found when they were counted. A change that needs at most so many
+/// is not refused for room, and one that needs more is not made.
+pub fn free_rows_laws()
+    ensures enough { (free : ℕ) (change : Change) (p q : Known) → AreFree free p
+        → rows_needed p.store.format p.seen change ≤ free
+        → q.seen ≡ p.seen → q.found ≡ p.found → Refuses write.NoRoom change p q → ⊥ }
+    ensures too_few { (free : ℕ) (change : Change) (answered : Reply) (p q : Known)
+        → AreFree free p → free < rows_needed p.store.format p.seen change
+        → q.seen ≡ p.seen ++ made_by p change ∷ [] → q.found ≡ p.found
+        → Wrote (made_by p change) p answered q → ⊥ }
 {}

@@ -46,7 +46,7 @@ mod writing;
 
 pub use faults::{ApplyFault, BatchFault, Busy, ChangeFault, MigrateFault, OpenFault, WriteFault};
 pub use laid::{Laid, LaidPinned};
-pub use laws::{event_laws, meeting_laws, room_laws};
+pub use laws::{event_laws, free_rows_laws, meeting_laws, room_laws};
 pub use mst_key::{Format, Memory};
 pub use mst_words::Shape;
 pub use pass::Pass;

@@ -6,7 +6,7 @@ ghost use Rattle.mst_key.specs.Map.{map_get, map_next, map_range};
 ghost use Rattle.mst_node.specs.Text.{root};
 ghost use Rattle.mst_node.specs.Trail.{proof_text};
 ghost use Rattle.std.specs.Option.{option_copied};
-ghost use Rattle.mst_store.specs.Passes.{Looks, Answers, format_seen, having_asked, made_by, Wrote, FindsBusy, Refuses};
+ghost use Rattle.mst_store.specs.Passes.{Looks, Answers, format_seen, having_asked, made_by, AreFree, Wrote, FindsBusy, Refuses};
 ghost use Rattle.mst_key.specs.History.{after, had, was, done, IsMigration, IsBatch};
 ghost use Rattle.mst_store.specs.Writes.{rows_of, AreFound};
 ghost use Rattle.mst_store.specs.Migrating.{RefusesMigration};
@@ -180,6 +180,29 @@ impl<'a, A: Allocator + Copy> Pass<'a, A> {
         ensures busy { OnErr result (FindsBusy self.old self.new) }
     {
         counting::rows(&mut self.seat, self.number, self.passes, self.rows)
+    }
+
+    /// Returns how many rows are free to the next write: all rows but those that the current
+    /// version and the versions found pinned hold together. It takes no memory.
+    ///
+    /// As long as no pass writes and none begins or ends a pin, a write that takes at most so many
+    /// rows is not refused with `NoRoom`, and one that takes more is ([`free_rows_laws`]). What a
+    /// write takes stands at [`Pass::try_put`].
+    ///
+    /// Returns `Busy` only if another pass has the turn.
+    ///
+    /// [`free_rows_laws`]: crate::free_rows_laws
+    pub fn free_rows(&mut self) -> Result<u32, Busy>
+        ensures looks { OnOk result (Looks self.old self.new) }
+        ensures exact { IfOk result (λ free. AreFree free self.new) }
+        ensures alone { IfOk result (λ free. self.new.found ≡ []
+            → free + rows_of (format_seen self.new) (after self.new.seen) ≡ self.new.store.rows) }
+        ensures found { OnOk result
+            (AreFound self.old.store.passes self.new.seen self.new.found) }
+        ensures steps { OnOk result (self.new.asked ≡ self.old.asked + self.old.store.passes + 2) }
+        ensures busy { OnErr result (FindsBusy self.old self.new) }
+    {
+        counting::free_rows(&mut self.seat, self.number, self.passes)
     }
 
     /// Returns the number of the current version: how many events led to it. It takes no memory.
