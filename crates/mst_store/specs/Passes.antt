@@ -1,5 +1,5 @@
 -- What a pass is to its callers, and what its calls say.
-use Rattle.std.specs.Prelude.{◌≡◌, ℕ, zero, suc, ◌+◌, ◌<◌, ◌≤◌, List, [], ◌∷◌, ◌++◌, length}
+use Rattle.std.specs.Prelude.{◌≡◌, ℕ, zero, suc, ◌+◌, ◌<◌, ◌≤◌, List, [], ◌∷◌, ◌++◌, length, Option, Some, None}
 use Rattle.atomic_table.specs.Seated.{TableId}
 use Rattle.mst_key.specs.declared.format.Format.{Format}
 use Rattle.mst_key.specs.declared.history.Change.{Change}
@@ -28,7 +28,7 @@ pub record StoreId : Type 0 where
 -- many of its steps so far had an answer that depends on what other passes do: a loop that waits
 -- for another pass makes such a step in each turn. And how many of these were tries of the turn
 -- that missed, since another pass had it. And which versions it found pinned when it had the turn
--- last
+-- last. And the version that its last write made, if it made one
 pub record Known : Type 0 where
   pub store : StoreId
   pub number : ℕ
@@ -37,15 +37,16 @@ pub record Known : Type 0 where
   pub asked : ℕ
   pub missed : ℕ
   pub found : List ℕ
+  pub made : Option ℕ
 
 -- which store a seat is of
 abbrev pub store_of : access.Seated → StoreId
 store_of s =
     record { table = s.table; rows = s.me.0.rows; passes = s.me.0.passes; format = s.me.0.format }
 
--- what the seat of a pass shows to callers
-abbrev pub known : ℕ → access.Seated → Known
-known number s = record {
+-- what the seat of a pass that made this version shows to callers
+abbrev pub known : ℕ → Option ℕ → access.Seated → Known
+known number made s = record {
   store = store_of s;
   number = number;
   seen = s.me.0.seen;
@@ -53,12 +54,13 @@ known number s = record {
   asked = s.me.0.asked;
   missed = s.me.0.missed;
   found = s.me.0.found;
+  made = made;
 }
 
 -- What a pinned pass shows to callers: of what it has seen the history at its pin, which lasts
 -- until the pin ends
-abbrev pub known_at_pin : ℕ → access.Seated → Known
-known_at_pin number s = record {
+abbrev pub known_at_pin : ℕ → Option ℕ → access.Seated → Known
+known_at_pin number made s = record {
   store = store_of s;
   number = number;
   seen = s.me.0.pinned_history;
@@ -66,6 +68,7 @@ known_at_pin number s = record {
   asked = s.me.0.asked;
   missed = s.me.0.missed;
   found = s.me.0.found;
+  made = made;
 }
 
 -- The pass has no pin and not the turn, and its events in what it has seen are its own
@@ -111,6 +114,7 @@ new_pass store number =
       asked = 0;
       missed = 0;
       found = [];
+      made = None;
     }
 
 -- the first passes of a store, in the order of their numbers from 1
@@ -136,7 +140,7 @@ IsSamePass p q = (q.store ≡ p.store) × (q.number ≡ p.number)
 
 -- The pass has now seen a history that begins with all that it had seen. Its events in it are its
 -- own, and none was added to them. Each event is of a pass of the store. The pass never found the
--- turn taken
+-- turn taken, and the version that it made last is the same
 pub record Looks (p q : Known) : Type 0 where
   pub same : IsSamePass p q
   pub later : IsPrefix p.seen q.seen
@@ -144,6 +148,7 @@ pub record Looks (p q : Known) : Type 0 where
   pub own : events_of q.number q.seen ≡ q.mine
   pub alone : IsOfPasses q.store.passes q.seen
   pub missed : q.missed ≡ p.missed
+  pub made : q.made ≡ p.made
 
 -- the format of the version that a pass has seen last
 abbrev pub format_seen : Known → Format
@@ -177,7 +182,7 @@ AreFree free q = free + rows_kept q.store.format q.seen q.found ≡ q.store.rows
 -- returned what that history replies. The pass has now seen both, its events there are its own, and
 -- each event is of a pass of the store. The change found room beside the versions that were found
 -- pinned. The pass tried the turn once and got it, asked each record but the current one once, and
--- published once
+-- published once. The version that it made is known
 pub record Wrote (e : Event) (p : Known) (answered : Reply) (q : Known) : Type 0 where
   pub log : History
   pub same : IsSamePass p q
@@ -192,6 +197,7 @@ pub record Wrote (e : Event) (p : Known) (answered : Reply) (q : Known) : Type 0
   pub beside : FindsRoom p.store.format p.store.rows p.store.passes log q.found e.change
   pub asked : q.asked ≡ p.asked + p.store.passes + 3
   pub missed : q.missed ≡ p.missed
+  pub made : q.made ≡ Some (length q.seen)
 
 -- the turn was tried once, and another pass had it, so there is one; nothing else changed
 abbrev pub FindsBusy : Known → Known → Type 0

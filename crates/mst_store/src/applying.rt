@@ -37,7 +37,8 @@ fn make_batch<A: Allocator + Copy, B: Allocator + Copy>(
     mst_batch::apply(seat, &mut turn.desk, &turn.root, alloc, edits, format)
 }
 
-/// Publishes the map after the edits, made one after another, as the next version.
+/// Publishes the map after the edits, made one after another, as the next version, and returns its
+/// number.
 ///
 /// The steps are those of a write. The plan of the batch is made in memory, which is given back
 /// before the version is published; each node that the new tree has and the old one has not takes a
@@ -52,7 +53,7 @@ pub(crate) fn apply<A: Allocator + Copy, B: Allocator + Copy>(
     number: u32,
     passes: u32,
     edits: &[Edit],
-) -> Result<(), ApplyFault>
+) -> Result<u64, ApplyFault>
     requires free { IsFree number seat.old.me }
     requires passes { passes ≡ seat.old.me.0.passes }
     requires few { passes ≤ 32 }
@@ -62,6 +63,7 @@ pub(crate) fn apply<A: Allocator + Copy, B: Allocator + Copy>(
     ensures free { IsFree number seat.new.me }
     ensures wrote { OnOk result (WroteAtSeat (made_at_seat seat.old.me (change.Batch edits.now))
         seat.old.me done seat.new.me) }
+    ensures version { IfOk result (λ version. version ≡ length seat.new.me.0.seen) }
     ensures refused { IfErr result
         (λ fault. RefusesBatchAtSeat fault edits.now seat.old.me seat.new.me) }
 {
@@ -77,8 +79,7 @@ pub(crate) fn apply<A: Allocator + Copy, B: Allocator + Copy>(
                 pass: number,
                 change: Change::Batch(Batch::new(edits)),
             };
-            publish(seat, turn, &root, format, &event);
-            Ok(())
+            Ok(publish(seat, turn, &root, format, &event))
         }
         Err(NotApplied::Memory(refused)) => {
             give_back(seat, turn);

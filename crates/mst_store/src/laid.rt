@@ -17,6 +17,7 @@ pub struct Laid<A: Allocator + Copy> {
     number: u32,
     passes: u32,
     rows: u32,
+    made: Option<u64>,
 }
 
 /// Contracts see what they see of the pass.
@@ -27,7 +28,7 @@ impl<A: Allocator + Copy> Model for Laid<A> {
 
     ghost Value = { Known };
 
-    ghost view = { λ p. known p.number
+    ghost view = { λ p. known p.number p.made
         (record { table = p.token.table_id; id = p.token.id; me = p.token.me }) };
 
     ghost invariant = { λ p. IsAtRest p.number p.passes p.rows
@@ -43,6 +44,7 @@ pub struct LaidPinned<A: Allocator + Copy> {
     number: u32,
     passes: u32,
     rows: u32,
+    made: Option<u64>,
 }
 
 /// Contracts see what they see of the pinned pass.
@@ -53,7 +55,7 @@ impl<A: Allocator + Copy> Model for LaidPinned<A> {
 
     ghost Value = { Known };
 
-    ghost view = { λ p. known_at_pin p.number
+    ghost view = { λ p. known_at_pin p.number p.made
         (record { table = p.token.table_id; id = p.token.id; me = p.token.me }) };
 
     ghost invariant = { λ p. IsPinning p.number p.passes p.rows p.at
@@ -71,6 +73,7 @@ impl<'a, A: Allocator + Copy> Pass<'a, A> {
             number,
             passes,
             rows,
+            made,
         } = self;
         let token = seat.into_token();
         Laid {
@@ -78,6 +81,7 @@ impl<'a, A: Allocator + Copy> Pass<'a, A> {
             number,
             passes,
             rows,
+            made,
         }
     }
 }
@@ -93,6 +97,7 @@ impl<'a, A: Allocator + Copy> Pinned<'a, A> {
             number,
             passes,
             rows,
+            made,
         } = self;
         let token = seat.into_token();
         LaidPinned {
@@ -101,6 +106,7 @@ impl<'a, A: Allocator + Copy> Pinned<'a, A> {
             number,
             passes,
             rows,
+            made,
         }
     }
 }
@@ -116,6 +122,7 @@ impl<A: Allocator + Copy> Store<A> {
             number,
             passes,
             rows,
+            made,
         } = laid;
         let seat = self.board.seat(token);
         Pass {
@@ -123,6 +130,7 @@ impl<A: Allocator + Copy> Store<A> {
             number,
             passes,
             rows,
+            made,
         }
     }
 
@@ -137,6 +145,7 @@ impl<A: Allocator + Copy> Store<A> {
             number,
             passes,
             rows,
+            made,
         } = laid;
         let seat = self.board.seat(token);
         Pinned {
@@ -145,6 +154,7 @@ impl<A: Allocator + Copy> Store<A> {
             number,
             passes,
             rows,
+            made,
         }
     }
 }

@@ -111,7 +111,7 @@ fn make_move<A: Allocator + Copy, B: Allocator + Copy>(
 }
 
 /// Publishes the map that stands in a format as the next version, and returns the format that it
-/// had.
+/// had, and the number of the version.
 ///
 /// The steps are those of a write. The pairs are listed and their tree is built in memory, which is
 /// given back before the version is published; the new tree takes a row for each pair and each
@@ -126,7 +126,7 @@ pub(crate) fn migrate<A: Allocator + Copy, B: Allocator + Copy>(
     number: u32,
     passes: u32,
     to: Format,
-) -> Result<Format, MigrateFault>
+) -> Result<(Format, u64), MigrateFault>
     requires free { IsFree number seat.old.me }
     requires passes { passes ≡ seat.old.me.0.passes }
     requires few { passes ≤ 32 }
@@ -134,8 +134,9 @@ pub(crate) fn migrate<A: Allocator + Copy, B: Allocator + Copy>(
     ensures same { IsSameSeat seat.old seat.new }
     ensures pass { KeepsPass seat.old.me seat.new.me }
     ensures free { IsFree number seat.new.me }
-    ensures wrote { IfOk result (λ format. WroteAtSeat (made_at_seat seat.old.me (Migrate to))
-        seat.old.me (was format) seat.new.me) }
+    ensures wrote { IfOk result (λ done. WroteAtSeat (made_at_seat seat.old.me (Migrate to))
+        seat.old.me (was done.0) seat.new.me) }
+    ensures version { IfOk result (λ done. done.1 ≡ length seat.new.me.0.seen) }
     ensures refused { IfErr result
         (λ fault. RefusesMoveAtSeat fault to seat.old.me seat.new.me) }
 {
@@ -151,8 +152,8 @@ pub(crate) fn migrate<A: Allocator + Copy, B: Allocator + Copy>(
                 pass: number,
                 change: Change::Migrate(to),
             };
-            publish(seat, turn, &root, to, &event);
-            Ok(format)
+            let version = publish(seat, turn, &root, to, &event);
+            Ok((format, version))
         }
         Err(NotMoved::Memory(refused)) => {
             give_back(seat, turn);

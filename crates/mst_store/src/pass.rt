@@ -30,15 +30,18 @@ pub struct Pass<'a, A: Allocator + Copy> {
     pub(crate) number: u32,
     pub(crate) passes: u32,
     pub(crate) rows: u32,
+    /// The version that the last write of the pass made.
+    pub(crate) made: Option<u64>,
 }
 
-/// Contracts see which store it is of, its number, what it has seen, and its own events.
+/// Contracts see which store it is of, its number, what it has seen, its own events, and the
+/// version that the last of these made.
 impl<'a, A: Allocator + Copy> Model for Pass<'a, A> {
     ghost use Rattle.mst_store.specs.Passes.{Known, known, IsAtRest};
 
     ghost Value = { Known };
 
-    ghost view = { λ p. known p.number p.seat };
+    ghost view = { λ p. known p.number p.made p.seat };
 
     ghost invariant = { λ p. IsAtRest p.number p.passes p.rows p.seat };
 }
@@ -216,6 +219,15 @@ impl<'a, A: Allocator + Copy> Pass<'a, A> {
         at.version
     }
 
+    /// Returns the version that the last write of the pass made, or `None` if it has made none: its
+    /// last put, remove, migration or batch that was not refused. Unlike [`Pass::version`] it takes
+    /// no step, so what other passes wrote since does not count.
+    pub fn made(&self) -> Option<u64>
+        ensures made { result ≡ self.now.made }
+    {
+        self.made
+    }
+
     // Makes a change of a key, and returns the value that it had.
     fn write(&mut self, change: Change) -> Result<Option<Value>, WriteFault>
         requires keyed { IsMigration change → ⊥ }
@@ -228,7 +240,9 @@ impl<'a, A: Allocator + Copy> Pass<'a, A> {
             pass: self.number,
             change,
         };
-        writing::write(&mut self.seat, self.number, self.passes, &event)
+        let (old, version) = writing::write(&mut self.seat, self.number, self.passes, &event)?;
+        self.made = Some(version);
+        Ok(old)
     }
 
     /// Gives the key the value, and returns the value that the key had, or `None` if it had none.
@@ -285,7 +299,9 @@ impl<'a, A: Allocator + Copy> Pass<'a, A> {
             (λ format. Wrote (made_by self.old (Migrate to)) self.old (was format) self.new) }
         ensures err { IfErr result (λ fault. RefusesMigration fault to self.old self.new) }
     {
-        migrating::migrate(&mut self.seat, alloc, self.number, self.passes, to)
+        let (was, made) = migrating::migrate(&mut self.seat, alloc, self.number, self.passes, to)?;
+        self.made = Some(made);
+        Ok(was)
     }
 
     /// Makes the edits, one after another, as one change: of edits of one key the last decides, and
@@ -309,6 +325,8 @@ impl<'a, A: Allocator + Copy> Pass<'a, A> {
             (Wrote (made_by self.old (change.Batch edits.now)) self.old done self.new) }
         ensures err { IfErr result (λ fault. RefusesBatch fault edits.now self.old self.new) }
     {
-        applying::apply(&mut self.seat, alloc, self.number, self.passes, edits)
+        let version = applying::apply(&mut self.seat, alloc, self.number, self.passes, edits)?;
+        self.made = Some(version);
+        Ok(())
     }
 }

@@ -27,6 +27,7 @@ pub struct Pinned<'a, A: Allocator + Copy> {
     pub(crate) number: u32,
     pub(crate) passes: u32,
     pub(crate) rows: u32,
+    pub(crate) made: Option<u64>,
 }
 
 /// Contracts see which store it is of, its number, the history at its pin, and its own events.
@@ -35,7 +36,7 @@ impl<'a, A: Allocator + Copy> Model for Pinned<'a, A> {
 
     ghost Value = { Known };
 
-    ghost view = { λ p. known_at_pin p.number p.seat };
+    ghost view = { λ p. known_at_pin p.number p.made p.seat };
 
     ghost invariant = { λ p. IsPinning p.number p.passes p.rows p.at p.seat };
 }
@@ -57,6 +58,7 @@ impl<'a, A: Allocator + Copy> Pass<'a, A> {
             number,
             passes,
             rows,
+            made,
         } = self;
         let at = reading::pin(&mut seat, number);
         Pinned {
@@ -65,6 +67,7 @@ impl<'a, A: Allocator + Copy> Pass<'a, A> {
             number,
             passes,
             rows,
+            made,
         }
     }
 }
@@ -75,6 +78,13 @@ impl<'a, A: Allocator + Copy> Pinned<'a, A> {
         ensures number { result ≡ self.now.number }
     {
         self.number
+    }
+
+    /// Returns the version that the last write of the pass made, as [`Pass::made`] does.
+    pub fn made(&self) -> Option<u64>
+        ensures made { result ≡ self.now.made }
+    {
+        self.made
     }
 
     /// Returns the number of the pinned version: how many events led to it.
@@ -163,6 +173,7 @@ impl<'a, A: Allocator + Copy> Pinned<'a, A> {
             number,
             passes,
             rows,
+            made,
         } = self;
         seat.unpin(number, at.pinned);
         Pass {
@@ -170,6 +181,7 @@ impl<'a, A: Allocator + Copy> Pinned<'a, A> {
             number,
             passes,
             rows,
+            made,
         }
     }
 }

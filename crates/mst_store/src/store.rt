@@ -129,6 +129,7 @@ impl<A: Allocator + Copy> Store<A> {
                 number: index + 1,
                 passes: count,
                 rows: self.shape.rows,
+                made: None,
             });
         }
         Ok(passes)

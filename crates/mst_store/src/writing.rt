@@ -92,7 +92,7 @@ pub(crate) fn make<A: Allocator + Copy>(
 }
 
 /// Makes the change of the event, which is the pass's own, and publishes the version that it leads
-/// to. It returns the value that the change's key had.
+/// to. It returns the value that the change's key had, and the number of the version.
 ///
 /// The steps, in this order: the turn is taken, the desk is taken, each record but the current one
 /// is asked, and the dead rows are freed that no version reaches which is kept; the nodes along the
@@ -109,7 +109,7 @@ pub(crate) fn write<A: Allocator + Copy>(
     number: u32,
     passes: u32,
     event: &Event,
-) -> Result<Option<Value>, WriteFault>
+) -> Result<(Option<Value>, u64), WriteFault>
     requires free { IsFree number seat.old.me }
     requires keyed { IsMigration event.now.change → ⊥ }
     requires single { IsBatch event.now.change → ⊥ }
@@ -120,7 +120,9 @@ pub(crate) fn write<A: Allocator + Copy>(
     ensures same { IsSameSeat seat.old seat.new }
     ensures pass { KeepsPass seat.old.me seat.new.me }
     ensures free { IsFree number seat.new.me }
-    ensures wrote { IfOk result (λ old. WroteAtSeat event.now seat.old.me (had old) seat.new.me) }
+    ensures wrote { IfOk result
+        (λ done. WroteAtSeat event.now seat.old.me (had done.0) seat.new.me) }
+    ensures version { IfOk result (λ done. done.1 ≡ length seat.new.me.0.seen) }
     ensures refused { IfErr result
         (λ fault. RefusesAtSeat fault event.now.change seat.old.me seat.new.me) }
 {
@@ -132,8 +134,8 @@ pub(crate) fn write<A: Allocator + Copy>(
     let format = turn.format;
     match make(seat, &mut turn, &event.change) {
         Ok((root, old)) => {
-            publish(seat, turn, &root, format, event);
-            Ok(old)
+            let version = publish(seat, turn, &root, format, event);
+            Ok((old, version))
         }
         Err(NoRoom) => {
             give_back(seat, turn);

@@ -18,11 +18,11 @@ returns-in-Ok-make_move-clause-wrote g c =
     let m = c.args.seat.now.me in
     let answered = was t.format in
     let e : ℕ → Event = λ (p : ℕ). record { pass = p; change = Migrate c.args.to } in
-    subst (λ (x : Event). WroteAtSeat x m answered c.publish.new.seat.me)
+    subst (λ (x : Event). WroteAtSeat x m answered c.publish-version.new.seat.me)
     (ap e (sym c.requires.free.3))
     (wrote m c.begin_write.new.seat.me t c.in-Ok.ensures.begun (e c.args.number) done.root answered
-    c.make_move.new.turn c.make_move.new.seat.me c.publish.new.seat.me done.ensures.made
-    c.publish.ensures.added c.in-Ok.ensures.room (sym c.requires.free.3))
+    c.make_move.new.turn c.make_move.new.seat.me c.publish-version.new.seat.me done.ensures.made
+    c.publish-version.ensures.added c.in-Ok.ensures.room (sym c.requires.free.3))
 
 pub returns-in-Err-NoRoom-clause-refused : goal.returns-in-Err-NoRoom-clause-refused
 returns-in-Err-NoRoom-clause-refused g c =

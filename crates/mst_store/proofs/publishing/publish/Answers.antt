@@ -45,8 +45,8 @@ give_turn-requires g c = let made = c.requires.made in let w = c.write_root in l
           w.ensures.kept);
     }
 
-pub overflow_add-version : goal.overflow_add-version
-overflow_add-version g c = search rules
+pub overflow_add-made : goal.overflow_add-made
+overflow_add-made g c = search rules
 
 pub write_root-requires-clause-there : goal.write_root-requires-clause-there
 write_root-requires-clause-there g c = search rules

@@ -13,8 +13,8 @@ use Rattle.mst_store.specs.Writes.{made_at_seat}
 use Rattle.mst_store.proofs.Written.{own_event, refused, wrote}
 use Rattle.mst_store.proofs.writing.write.Goals as goal
 
-pub publish-requires : goal.publish-requires
-publish-requires g c = record {
+pub publish-version-requires : goal.publish-version-requires
+publish-version-requires g c = record {
   made =
       subst (λ (e : Event). HasMade c.make.new.turn c.in-Ok-make.root c.in-Ok.turn.format e
       c.make.new.seat.me)
@@ -40,8 +40,8 @@ pub returns-in-Ok-make-clause-wrote : goal.returns-in-Ok-make-clause-wrote
 returns-in-Ok-make-clause-wrote g c =
     wrote c.args.seat.now.me c.begin_write.new.seat.me c.in-Ok.turn c.in-Ok.ensures.begun
     c.args.event.now c.in-Ok-make.root (had c.in-Ok-make.old) c.make.new.turn c.make.new.seat.me
-    c.publish.new.seat.me
-    c.in-Ok-make.ensures.made c.publish.ensures.added c.in-Ok.ensures.room
+    c.publish-version.new.seat.me
+    c.in-Ok-make.ensures.made c.publish-version.ensures.added c.in-Ok.ensures.room
     (c.requires.mine ∙ sym c.requires.free.3)
 
 pub returns-in-Err-clause-refused : goal.returns-in-Err-clause-refused
