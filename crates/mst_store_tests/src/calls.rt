@@ -4,9 +4,9 @@
 //! cost it more than in proportion.
 use crate::fixtures::{
     Spelt, applies, applies_in_turn, batch_fails, batch_lacks_room, count_pairs, counts,
-    finds_no_room, gets, has_root, has_version, migrates, migration_fails, moves_many, next_is,
-    proves, put_fails, puts, puts_in_turn, puts_many, removes, removes_in_turn, still_counts,
-    still_gets, still_next, still_proves,
+    finds_no_room, gets, has_root, has_version, leaves_free, migrates, migration_fails, moves_many,
+    next_is, proves, put_fails, puts, puts_in_turn, puts_many, removes, removes_in_turn,
+    still_counts, still_gets, still_next, still_proves,
 };
 use crate::starving::{is_right_or_refused, is_starved, still_starved};
 use crate::stores::{Seat, both_passes, opened};
@@ -68,6 +68,10 @@ pub(crate) enum Call {
     Version(u64),
     /// The rows that the map takes; none if a version is pinned.
     Rows(Option<u32>),
+    /// The rows that are free to the next write.
+    FreeRows(u32),
+    /// The version that the pass's last write made; none if it made none.
+    Made(Option<u64>),
     Number(u32),
     Pin,
     Unpin,
@@ -140,6 +144,8 @@ fn answers<A: Allocator + Copy>(
         Call::OtherRoot(root) => !has_root(pass, &root),
         Call::Version(version) => has_version(pass, version),
         Call::Rows(rows) => counts(pass, rows),
+        Call::FreeRows(rows) => leaves_free(pass, rows),
+        Call::Made(version) => pass.made() == version,
         Call::Number(number) => pass.number() == number,
         Call::InFormat(format) => pass.format() == format,
         other => moves(rt, pass, other),

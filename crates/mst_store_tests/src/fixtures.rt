@@ -327,6 +327,11 @@ pub(crate) fn counts<A: Allocator + Copy>(pass: &mut Pass<A>, rows: Option<u32>)
     pass.rows() == Ok(rows)
 }
 
+/// Whether so many rows are free to the next write.
+pub(crate) fn leaves_free<A: Allocator + Copy>(pass: &mut Pass<A>, rows: u32) -> bool {
+    pass.free_rows() == Ok(rows)
+}
+
 /// How many pairs of the keys between the bounds there are, up to the limit; none if memory was
 /// refused.
 pub(crate) fn count_pairs<A: Allocator + Copy, B: Allocator>(

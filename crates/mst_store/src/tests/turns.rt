@@ -66,6 +66,8 @@ fn is_refused<A: Allocator + Copy>(
         && pass.try_remove(key).err() == Some(WriteFault::Busy)
         && pass.try_apply(alloc, &[]) == Err(ApplyFault::Busy)
         && pass.rows() == Err(Busy)
+        && pass.free_rows() == Err(Busy)
+        && pass.made() == Some(2)
 }
 
 // Whether the pass gets the value of the key, and finds a least key, at this version.

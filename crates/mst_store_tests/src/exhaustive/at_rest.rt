@@ -108,11 +108,13 @@ impl<'a> World<'a> {
         answered == Ok(format)
     }
 
-    // Counts the rows, and compares the answer: none exactly if a version is pinned.
+    // Counts the rows, and compares the answers: those of the map are none exactly if a version is
+    // pinned, and those are free that no kept version holds.
     fn counts(&self, pass: &mut Pass<'a, Global>) -> bool {
         let taken = if self.current.made == 0 { 0 } else { 2 };
         let wanted = if self.is_pinned() { None } else { Some(taken) };
-        pass.rows() == Ok(wanted)
+        let free = self.rows.saturating_sub(self.held());
+        pass.rows() == Ok(wanted) && pass.free_rows() == Ok(free)
     }
 
     // One call of a free pass. It returns whether the answer was right, the pass, and the version
