@@ -44,7 +44,7 @@ static const char *of_sharded_proof(int32_t told) {
 static const char *of_store(int32_t told) {
     switch (told) {
     case MST_ABSENT: return "there is no such key";
-    case MST_NO_ROOM: return "the room is too short";
+    case MST_SHORT_ROOM: return "the room is too short";
     case MST_UNKNOWN_FORMAT: return "no format has this number";
     case MST_BAD_ROOT: return "a root digest has 32 bytes";
     case MST_BAD_KEY: return "a key has 1 to 32 bytes";
@@ -55,7 +55,7 @@ static const char *of_store(int32_t told) {
     case MST_BAD_SHAPE: return "a store has 4 to 65535 rows and 1 to 32 passes";
     case MST_BUSY: return "another pass has the turn";
     case MST_VERSIONS_SPENT: return "version numbers are spent";
-    case MST_ROWS_SPENT: return "fewer rows are free than the write or the migration needs";
+    case MST_NO_FREE_ROWS: return "fewer rows are free than the write or the migration needs";
     case MST_ROWS_PINNED: return "a version is pinned, so the rows are not counted";
     case MST_BAD_BATCH: return "the bytes are no batch of edits";
     default: return NULL;

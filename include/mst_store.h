@@ -110,7 +110,7 @@ typedef struct mst_pass {
 #define MST_ABSENT (-1)
 
 /* The room is too short for the answer. */
-#define MST_NO_ROOM (-2)
+#define MST_SHORT_ROOM (-2)
 
 /* No format has this number. There are formats 1 and 2. */
 #define MST_UNKNOWN_FORMAT (-3)
@@ -145,7 +145,7 @@ typedef struct mst_pass {
 #define MST_VERSIONS_SPENT (-22)
 
 /* The write or the migration needs more rows than are free. Nothing has changed. */
-#define MST_ROWS_SPENT (-23)
+#define MST_NO_FREE_ROWS (-23)
 
 /* Some pass pins a version, so the rows are not counted. */
 #define MST_ROWS_PINNED (-24)
@@ -185,7 +185,7 @@ int32_t mst_close(mst_pass *pass);
 
 /*
  * Returns the length of the key's value, 0 to 64, and its bytes stand first in the room. Otherwise
- * returns MST_CLOSED; MST_BAD_KEY; MST_ABSENT; MST_NO_ROOM if the room is shorter than the value.
+ * returns MST_CLOSED; MST_BAD_KEY; MST_ABSENT; MST_SHORT_ROOM if the room is shorter than the value.
  * With each of these the room is as it was.
  */
 int32_t mst_get(mst_pass *pass, const uint8_t *key, size_t key_length,
@@ -195,7 +195,7 @@ int32_t mst_get(mst_pass *pass, const uint8_t *key, size_t key_length,
  * Finds the pair of the least key above `key`, or of the least key of all if key_length is 0.
  * Returns the value's length: its bytes stand first in room, those of the key first in key_room,
  * and *next_length is the key's length. Otherwise returns MST_CLOSED; MST_BAD_KEY if the key is
- * longer than 32 bytes; MST_ABSENT if there is no such pair; MST_NO_ROOM if one of the two rooms is
+ * longer than 32 bytes; MST_ABSENT if there is no such pair; MST_SHORT_ROOM if one of the two rooms is
  * too short. With each of these both rooms and *next_length are as they were.
  */
 int32_t mst_next(mst_pass *pass, const uint8_t *key, size_t key_length,
@@ -208,7 +208,7 @@ int32_t mst_next(mst_pass *pass, const uint8_t *key, size_t key_length,
  * *length that of their bytes, which stand first in the room, one pair after the other: the length
  * of the key in two bytes, the high one first, that of the value in two bytes, the key, the value.
  * mst_pair_at below reads them. Returns MST_CLOSED; MST_BAD_KEY if a bound is longer than 32 bytes;
- * MST_MEMORY: the room, *count and *length are as they were. Returns MST_NO_ROOM if the room is too
+ * MST_MEMORY: the room, *count and *length are as they were. Returns MST_SHORT_ROOM if the room is too
  * short: *count and *length are those of all these pairs, and the room is as it was. By the next
  * call a free pass may find more; a pinned one finds these.
  */
@@ -218,7 +218,7 @@ int32_t mst_range(mst_pass *pass, const uint8_t *from, size_t from_length,
 
 /*
  * Returns 32, the length of the root digest in the format of the version, and its bytes stand first
- * in `root`. Otherwise returns MST_CLOSED; MST_NO_ROOM if root_length is less than 32.
+ * in `root`. Otherwise returns MST_CLOSED; MST_SHORT_ROOM if root_length is less than 32.
  */
 int32_t mst_root(mst_pass *pass, uint8_t *root, size_t root_length);
 
@@ -226,7 +226,7 @@ int32_t mst_root(mst_pass *pass, uint8_t *root, size_t root_length);
  * Makes the proof of the key's answer, which mst_verify judges in the format and by the root digest
  * of the same version. Returns MST_OK: its bytes stand first in the room, and *length is their
  * number. Returns MST_CLOSED, MST_BAD_KEY, MST_MEMORY: room and *length are as they were. Returns
- * MST_NO_ROOM if the room is too short: *length is the length of the proof, and the room is as it
+ * MST_SHORT_ROOM if the room is too short: *length is the length of the proof, and the room is as it
  * was. By the next call the proof of a free pass may be longer; that of a pinned one stays.
  */
 int32_t mst_prove(mst_pass *pass, const uint8_t *key, size_t key_length,
@@ -254,9 +254,9 @@ int32_t mst_rows(mst_pass *pass, uint32_t *rows);
 
 /*
  * Gives the key the value, if no other pass has the turn. Returns what mst_get would return before
- * it: a length and the bytes of the old value, or MST_ABSENT if the key is new; MST_NO_ROOM if the
+ * it: a length and the bytes of the old value, or MST_ABSENT if the key is new; MST_SHORT_ROOM if the
  * old value did not fit: the key has its new value all the same. Returns MST_CLOSED, MST_BAD_KEY,
- * MST_BAD_VALUE, MST_WRONG_STATE for a pinned pass, MST_BUSY, MST_VERSIONS_SPENT, MST_ROWS_SPENT:
+ * MST_BAD_VALUE, MST_WRONG_STATE for a pinned pass, MST_BUSY, MST_VERSIONS_SPENT, MST_NO_FREE_ROWS:
  * nothing is written.
  */
 int32_t mst_try_put(mst_pass *pass, const uint8_t *key, size_t key_length,
@@ -280,7 +280,7 @@ int32_t mst_try_remove(mst_pass *pass, const uint8_t *key, size_t key_length,
  * Returns MST_OK; MST_CLOSED; if an edit is none, then for the first such one MST_BAD_KEY or
  * MST_BAD_VALUE if a length is out of its limits, otherwise MST_BAD_BATCH, and *place is the number
  * of that edit, from 0; MST_WRONG_STATE for a pinned pass; MST_MEMORY if there is none for the list
- * of the edits; MST_BUSY, MST_VERSIONS_SPENT, MST_MEMORY, MST_ROWS_SPENT. If it does not return
+ * of the edits; MST_BUSY, MST_VERSIONS_SPENT, MST_MEMORY, MST_NO_FREE_ROWS. If it does not return
  * MST_OK, nothing is written. Where no edit is refused, *place is as it was.
  *
  * It takes a row for each pair and each node of the new tree that the old one has not, and memory
@@ -292,7 +292,7 @@ int32_t mst_try_apply(mst_pass *pass, const uint8_t *edits, size_t length, size_
  * Turns the tree of the map to format 1 or 2, if no other pass has the turn. The map stays, and so
  * do the pinned versions, each in its format. Returns the format before: 1 or 2. Returns
  * MST_CLOSED; MST_UNKNOWN_FORMAT for another format; MST_WRONG_STATE for a pinned pass, MST_BUSY,
- * MST_VERSIONS_SPENT, MST_MEMORY, MST_ROWS_SPENT: nothing is written.
+ * MST_VERSIONS_SPENT, MST_MEMORY, MST_NO_FREE_ROWS: nothing is written.
  *
  * It takes a row for each pair and each node of the new tree, beside the rows of the old one, and
  * memory for the pairs and that tree, which it gives back. A migration to the current format takes

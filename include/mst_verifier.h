@@ -59,7 +59,7 @@ extern "C" {
 #define MST_ABSENT (-1)
 
 /* The proof shows a value that is longer than the room. MST_VALUE_ROOM is always enough. */
-#define MST_NO_ROOM (-2)
+#define MST_SHORT_ROOM (-2)
 
 /* No format has this number. There are formats 1 and 2. */
 #define MST_UNKNOWN_FORMAT (-3)

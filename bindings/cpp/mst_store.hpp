@@ -224,7 +224,7 @@ public:
             int code = mst_range(at(), bytes(from), from.size(), bytes(to), to.size(), most,
                                  room.data(), room.size(), &count, &length);
             if (code == MST_OK) return pairs(room.data(), count);
-            if (code != MST_NO_ROOM) throw refused(code);
+            if (code != MST_SHORT_ROOM) throw refused(code);
             room.resize(length); // by the next try a free pass may have more: so this is a loop
         }
     }
@@ -247,7 +247,7 @@ public:
             std::size_t length = 0;
             int code = mst_prove(pass, bytes(key), key.size(), room.data(), room.size(), &length);
             if (code == MST_OK) return {room.data(), room.data() + length};
-            if (code != MST_NO_ROOM) throw refused(code);
+            if (code != MST_SHORT_ROOM) throw refused(code);
             room.resize(std::max(length, 2 * room.size())); // a loop as in range
         }
     }

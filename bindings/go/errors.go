@@ -28,8 +28,8 @@ var (
 	ErrBusy = errors.New("mst: another pass has the turn")
 	// ErrVersionsSpent says that the store has made all versions that it can number.
 	ErrVersionsSpent = errors.New("mst: the store has made all versions that it can number")
-	// ErrRowsSpent says that a write or a migration needs more rows than are free.
-	ErrRowsSpent = errors.New("mst: fewer rows are free than the write needs")
+	// ErrNoFreeRows says that a write or a migration needs more rows than are free.
+	ErrNoFreeRows = errors.New("mst: fewer rows are free than the write needs")
 	// ErrRowsPinned says that some pass pins a version, so that rows are not counted.
 	ErrRowsPinned = errors.New("mst: a version is pinned, so rows are not counted")
 )
@@ -44,7 +44,7 @@ var refusals = map[C.int32_t]error{
 	C.MST_BAD_SHAPE:      ErrShape,
 	C.MST_BUSY:           ErrBusy,
 	C.MST_VERSIONS_SPENT: ErrVersionsSpent,
-	C.MST_ROWS_SPENT:     ErrRowsSpent,
+	C.MST_NO_FREE_ROWS:   ErrNoFreeRows,
 	C.MST_ROWS_PINNED:    ErrRowsPinned,
 }
 

@@ -151,7 +151,7 @@ func (s *seat) longest(call func(room []byte, length *C.size_t) C.int32_t) ([]by
 		switch told {
 		case C.MST_OK:
 			return s.long[:length], nil
-		case C.MST_NO_ROOM:
+		case C.MST_SHORT_ROOM:
 			s.long = make([]byte, length)
 		default:
 			return nil, refusal(told)

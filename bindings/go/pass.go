@@ -85,7 +85,7 @@ func (p *Pass) Rows() (int, error) {
 
 // TryPut gives the key the value, if no other pass has the turn. It returns the value that the key
 // had before, if it was present. The error is ErrClosed, ErrKey, ErrValue, ErrPinned, ErrBusy,
-// ErrVersionsSpent, or ErrRowsSpent.
+// ErrVersionsSpent, or ErrNoFreeRows.
 func (p *Pass) TryPut(key, value []byte) (old []byte, present bool, err error) {
 	s, err := p.take()
 	if err != nil {
@@ -109,7 +109,7 @@ func (p *Pass) TryRemove(key []byte) (old []byte, present bool, err error) {
 
 // TryApply makes the edits of the batch as one version, if no other pass has the turn: each read
 // sees all of them or none. No edits make a version too. The error is ErrClosed, an *EditError,
-// ErrPinned, ErrBusy, ErrVersionsSpent, ErrMemory, or ErrRowsSpent.
+// ErrPinned, ErrBusy, ErrVersionsSpent, ErrMemory, or ErrNoFreeRows.
 func (p *Pass) TryApply(batch *Batch) error {
 	s, err := p.take()
 	if err != nil {
@@ -129,7 +129,7 @@ func (p *Pass) TryApply(batch *Batch) error {
 
 // TryMigrate turns the tree of the map to a format, if no other pass has the turn, and returns the
 // format before. The map stays, and so do the pinned versions, each in its format. The error is
-// ErrClosed, ErrFormat, ErrPinned, ErrBusy, ErrVersionsSpent, ErrMemory, or ErrRowsSpent.
+// ErrClosed, ErrFormat, ErrPinned, ErrBusy, ErrVersionsSpent, ErrMemory, or ErrNoFreeRows.
 func (p *Pass) TryMigrate(to Format) (was Format, err error) {
 	s, err := p.take()
 	if err != nil {

@@ -6,7 +6,7 @@ import (
 )
 
 func TestWaitingEndsWithTheFirstOtherAnswer(t *testing.T) {
-	for _, wanted := range []error{nil, ErrRowsSpent} {
+	for _, wanted := range []error{nil, ErrNoFreeRows} {
 		tries := 0
 		start := time.Now()
 		waitForTurn(func() error {

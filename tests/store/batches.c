@@ -170,7 +170,7 @@ static void spent_rows(void) {
     place = 77;
     for (char key = 'b'; key < 'i'; key++)
         puts_edit((char[]){key, 0}, "1");
-    EXPECT(made_by(&small) == MST_ROWS_SPENT && place == 77);
+    EXPECT(made_by(&small) == MST_NO_FREE_ROWS && place == 77);
     EXPECT(version_of(&small) == 1 && has(&small, "b", NULL) && has(&small, "a", "1"));
     puts_edit("b", "2");
     removes_edit("a");

@@ -162,7 +162,7 @@ static void range_once(int hand, const struct pair *from, const struct pair *to)
         bytes += 4 + (size_t)(map->pairs[i].key_length + map->pairs[i].value_length);
     int32_t told = mst_range(&passes[hand], from->key, from_length, to->key, to_length, limit,
                              room, room_length, &count, &length);
-    EXPECT(told == (room_length < bytes ? MST_NO_ROOM : MST_OK));
+    EXPECT(told == (room_length < bytes ? MST_SHORT_ROOM : MST_OK));
     EXPECT(count == (size_t)pairs && length == bytes);
     for (int i = first; told == MST_OK && i < first + pairs; i++) {
         const struct pair *pair = &map->pairs[i];

@@ -159,17 +159,17 @@ static void lengths(mst_pass *pass) {
 /* The map of lengths(): a key of 1 byte with 64, and a key of 32 bytes with none. */
 static void short_rooms(mst_pass *pass) {
     fill_rooms();
-    EXPECT(mst_get(pass, long_bytes, 1, room, 63) == MST_NO_ROOM);
-    EXPECT(mst_get(pass, long_bytes, 1, NULL, 0) == MST_NO_ROOM);
-    EXPECT(mst_root(pass, root, 31) == MST_NO_ROOM);
-    EXPECT(mst_next(pass, NULL, 0, key_room, 0, &length, room, 64) == MST_NO_ROOM);
-    EXPECT(mst_next(pass, NULL, 0, key_room, 32, &length, room, 63) == MST_NO_ROOM);
-    EXPECT(mst_next(pass, long_bytes, 1, key_room, 31, &length, room, 64) == MST_NO_ROOM);
+    EXPECT(mst_get(pass, long_bytes, 1, room, 63) == MST_SHORT_ROOM);
+    EXPECT(mst_get(pass, long_bytes, 1, NULL, 0) == MST_SHORT_ROOM);
+    EXPECT(mst_root(pass, root, 31) == MST_SHORT_ROOM);
+    EXPECT(mst_next(pass, NULL, 0, key_room, 0, &length, room, 64) == MST_SHORT_ROOM);
+    EXPECT(mst_next(pass, NULL, 0, key_room, 32, &length, room, 63) == MST_SHORT_ROOM);
+    EXPECT(mst_next(pass, long_bytes, 1, key_room, 31, &length, room, 64) == MST_SHORT_ROOM);
     EXPECT(rooms_stay());
-    EXPECT(mst_prove(pass, TEXT("b"), NULL, 0, &length) == MST_NO_ROOM);
+    EXPECT(mst_prove(pass, TEXT("b"), NULL, 0, &length) == MST_SHORT_ROOM);
     size_t told = length;
     EXPECT(told > 6 && told <= sizeof proof);
-    EXPECT(mst_prove(pass, TEXT("b"), proof, told - 1, &length) == MST_NO_ROOM);
+    EXPECT(mst_prove(pass, TEXT("b"), proof, told - 1, &length) == MST_SHORT_ROOM);
     EXPECT(length == told && is_untouched(proof, sizeof proof));
     EXPECT(mst_prove(pass, TEXT("b"), proof, told, &length) == MST_OK);
     EXPECT(length == told && is_untouched(proof + told, sizeof proof - told));
@@ -178,9 +178,9 @@ static void short_rooms(mst_pass *pass) {
     EXPECT(mst_next(pass, long_bytes, 1, key_room, 32, &length, NULL, 0) == 0 && length == 32);
     EXPECT(mst_next(pass, long_bytes, 32, key_room, 32, &length, room, 64) == MST_ABSENT);
     /* written, although the old value did not fit */
-    EXPECT(mst_try_put(pass, long_bytes, 1, TEXT("new"), room, 63) == MST_NO_ROOM);
+    EXPECT(mst_try_put(pass, long_bytes, 1, TEXT("new"), room, 63) == MST_SHORT_ROOM);
     EXPECT(mst_get(pass, long_bytes, 1, room, 64) == 3 && memcmp(room, "new", 3) == 0);
-    EXPECT(mst_try_remove(pass, long_bytes, 1, room, 2) == MST_NO_ROOM);
+    EXPECT(mst_try_remove(pass, long_bytes, 1, room, 2) == MST_SHORT_ROOM);
     EXPECT(mst_get(pass, long_bytes, 1, room, 64) == MST_ABSENT);
 }
 
@@ -188,9 +188,9 @@ static void short_rooms(mst_pass *pass) {
 static void ranges(mst_pass *pass) {
     mst_pair pair;
     fill_rooms();
-    EXPECT(range_of(pass, NULL, 0, NULL, 0, 9, 104) == MST_NO_ROOM);
+    EXPECT(range_of(pass, NULL, 0, NULL, 0, 9, 104) == MST_SHORT_ROOM);
     EXPECT(count == 2 && length == 105 && is_untouched(pairs, sizeof pairs));
-    EXPECT(range_of(pass, NULL, 0, NULL, 0, 9, 0) == MST_NO_ROOM);
+    EXPECT(range_of(pass, NULL, 0, NULL, 0, 9, 0) == MST_SHORT_ROOM);
     EXPECT(range_of(pass, NULL, 0, NULL, 0, 9, 105) == MST_OK);
     EXPECT(count == 2 && length == 105 && is_untouched(pairs + 105, sizeof pairs - 105));
     size_t next = mst_pair_at(pairs, 0, &pair);
@@ -292,7 +292,7 @@ static void spent_rows_of_a_migration(uint32_t format) {
     while (mst_try_put(&pass, &key, 1, TEXT("1"), room, sizeof room) == MST_ABSENT)
         key++;
     EXPECT(mst_root(&pass, before, 32) == 32 && mst_version(&pass, &writes) == MST_OK);
-    EXPECT(mst_try_migrate(&pass, 3 - format) == MST_ROWS_SPENT);
+    EXPECT(mst_try_migrate(&pass, 3 - format) == MST_NO_FREE_ROWS);
     EXPECT(mst_format(&pass) == (int32_t)format && has_root(&pass, before));
     EXPECT(mst_version(&pass, &version) == MST_OK && version == writes);
     EXPECT(mst_try_migrate(&pass, format) == (int32_t)format && has_root(&pass, before));
@@ -311,7 +311,7 @@ static void spent_rows(void) {
         EXPECT(mst_root(&pass, before, 32) == 32);
         told = mst_try_put(&pass, &(uint8_t){++key}, 1, TEXT("1"), room, sizeof room);
     }
-    EXPECT(told == MST_ROWS_SPENT);
+    EXPECT(told == MST_NO_FREE_ROWS);
     EXPECT(mst_root(&pass, after, 32) == 32 && memcmp(before, after, 32) == 0);
     EXPECT(mst_get(&pass, &key, 1, room, sizeof room) == MST_ABSENT);
     EXPECT(mst_close(&pass) == MST_OK);
@@ -322,7 +322,7 @@ static uint8_t fill(mst_pass *pass, uint8_t key) {
     int32_t told;
     while ((told = mst_try_put(pass, &key, 1, TEXT("1"), room, sizeof room)) == MST_ABSENT)
         key++;
-    EXPECT(told == MST_ROWS_SPENT);
+    EXPECT(told == MST_NO_FREE_ROWS);
     return key;
 }
 

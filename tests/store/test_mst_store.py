@@ -133,7 +133,7 @@ class Answers(unittest.TestCase):
         with reader.pinned() as then:
             with self.assertRaises(Refused) as caught:
                 writer.apply((bytes([key]), b"") for key in range(64))
-            self.assertEqual(caught.exception.code, mst_store.ROWS_SPENT)
+            self.assertEqual(caught.exception.code, mst_store.NO_FREE_ROWS)
             writer.try_apply([(b"a", None), (b"b", b"two"), (b"none", None)])
             writer.apply([])
             self.assertEqual((then.get(b"a"), then.get(b"b"), then.version()), (b"1", b"2", 1))
@@ -335,8 +335,8 @@ class Refusals(unittest.TestCase):
         with self.assertRaises(Refused) as caught:
             for i in range(20):
                 writer.put(bytes([i]), b"")
-        self.assertEqual(caught.exception.code, mst_store.ROWS_SPENT)
-        self.refused(mst_store.ROWS_SPENT, writer.migrate, Format.TWO)
+        self.assertEqual(caught.exception.code, mst_store.NO_FREE_ROWS)
+        self.refused(mst_store.NO_FREE_ROWS, writer.migrate, Format.TWO)
         self.assertEqual(writer.migrate(Format.ONE), Format.ONE)
         with reader.pinned():
             self.refused(mst_store.ROWS_PINNED, writer.try_rows)

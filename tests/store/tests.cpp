@@ -125,7 +125,7 @@ static void batches() {
     pass.apply(mst::batch().remove("a").remove("b"));
     EXPECT(then.get("a") == "1" && !pass.get("a") && !pass.get("b"));
     for (int i = 0; i < 1000; i++) edits.put(std::to_string(i), long_value);
-    EXPECT(code_of([&] { pass.apply(edits); }) == MST_ROWS_SPENT && !pass.get("999"));
+    EXPECT(code_of([&] { pass.apply(edits); }) == MST_NO_FREE_ROWS && !pass.get("999"));
     passes.clear();
 }
 
@@ -209,8 +209,8 @@ static void migrations() {
     EXPECT(passes[1].migrate(format::one) == format::two && passes[0].root() == root);
     auto full = std::move(mst::open(64, 1).front());
     EXPECT(code_of([&] { for (int i = 0; i < 64; i++) full.put(std::string(1, char(i)), ""); })
-           == MST_ROWS_SPENT);
-    EXPECT(code_of([&] { full.migrate(format::two); }) == MST_ROWS_SPENT);
+           == MST_NO_FREE_ROWS);
+    EXPECT(code_of([&] { full.migrate(format::two); }) == MST_NO_FREE_ROWS);
     EXPECT(full.format() == format::one);
 }
 

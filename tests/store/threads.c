@@ -50,7 +50,7 @@ static void key_bytes(uint8_t *key, uint32_t number) {
 static void migrate(mst_pass *pass) {
     uint32_t to = mst_format(pass) == 1 ? 2 : 1;
     int32_t told = mst_migrate(pass, to);
-    while (told == MST_ROWS_SPENT) { /* as below */
+    while (told == MST_NO_FREE_ROWS) { /* as below */
         sched_yield();
         told = mst_migrate(pass, to);
     }
@@ -64,7 +64,7 @@ static void *writer(void *pass) {
         uint64_t value = (uint64_t)i;
         key_bytes(key, (uint32_t)(i % KEYS));
         int32_t told = mst_put(pass, key, 4, (const uint8_t *)&value, 8, old, sizeof old);
-        while (told == MST_ROWS_SPENT) { /* a pinned version holds them: they will be free again */
+        while (told == MST_NO_FREE_ROWS) { /* a pinned version holds them: they will be free again */
             sched_yield();
             told = mst_put(pass, key, 4, (const uint8_t *)&value, 8, old, sizeof old);
         }
@@ -134,7 +134,7 @@ static int audit_of(struct audit *audit) {
     audit->proof[audit->length - 1] ^= 1;
     told = mst_verify(audit->format, audit->root, 32, audit->key, 4, audit->proof, audit->length,
                       value, sizeof value);
-    return told >= MST_NO_ROOM;
+    return told >= MST_SHORT_ROOM;
 }
 
 /* Starts the writers and the reader at passes of their own, and waits until all have ended. */

@@ -43,9 +43,9 @@ static void sharded_edges(void)
     is("present", mst_verify_sharded(1, root, 32, key, 5, proof, size, room, 64), 2);
     is("its value", room[0] == '1' && room[1] == '2', 1);
     is("just its room", mst_verify_sharded(1, root, 32, key, 5, proof, size, room, 2), 2);
-    is("less room", mst_verify_sharded(1, root, 32, key, 5, proof, size, room, 1), MST_NO_ROOM);
+    is("less room", mst_verify_sharded(1, root, 32, key, 5, proof, size, room, 1), MST_SHORT_ROOM);
     is("no room, null", mst_verify_sharded(1, root, 32, key, 5, proof, size, NULL, 0),
-       MST_NO_ROOM);
+       MST_SHORT_ROOM);
     is("a null proof", mst_verify_sharded(1, root, 32, key, 5, NULL, 0, room, 64),
        MST_S2_CUT_SHORT);
     is("a null key", mst_verify_sharded(1, root, 32, NULL, 0, proof, size, room, 64), MST_BAD_KEY);
@@ -97,8 +97,8 @@ int main(void)
     is("present", mst_verify(1, root, 32, key, 1, proof, size, room, 64), 1);
     is("its value", room[0], '1');
     is("just its room", mst_verify(1, root, 32, key, 1, proof, size, room, 1), 1);
-    is("no room", mst_verify(1, root, 32, key, 1, proof, size, room, 0), MST_NO_ROOM);
-    is("no room, null", mst_verify(1, root, 32, key, 1, proof, size, NULL, 0), MST_NO_ROOM);
+    is("no room", mst_verify(1, root, 32, key, 1, proof, size, room, 0), MST_SHORT_ROOM);
+    is("no room, null", mst_verify(1, root, 32, key, 1, proof, size, NULL, 0), MST_SHORT_ROOM);
     is("no room is needed", mst_verify(1, empty, 32, key, 1, nothing, 2, NULL, 0), MST_ABSENT);
     is("a null proof", mst_verify(1, root, 32, key, 1, NULL, 0, room, 64), MST_P2_CUT_SHORT);
     is("a null key", mst_verify(1, root, 32, NULL, 0, proof, size, room, 64), MST_BAD_KEY);

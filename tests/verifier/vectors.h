@@ -107,7 +107,7 @@ static inline int tells(verifier *by, const struct vector *it, size_t room_lengt
     memset(wanted, 0xa5, sizeof wanted);
     int32_t want = it->told;
     if (want > (int32_t)room_length)
-        want = MST_NO_ROOM;
+        want = MST_SHORT_ROOM;
     if (want > 0)
         memcpy(wanted, it->value, (size_t)want);
     int32_t told = by(it->format, it->root, it->root_length, it->key, it->key_length, it->proof,

@@ -21,15 +21,16 @@ with threads.
 from ._library import KEY_LONGEST, ROOT_LENGTH, VALUE_LONGEST, library_version
 from ._passes import Edit, Format, Octets, Pass, open_store
 from ._refusals import (
-    ABSENT, BAD_BATCH, BAD_KEY, BAD_SHAPE, BAD_VALUE, BUSY, CLOSED, MEMORY, NO_ROOM, ROWS_PINNED,
-    ROWS_SPENT, UNKNOWN_FORMAT, VERSIONS_SPENT, WRONG_STATE, Busy, Refused, RefusedEdit,
+    ABSENT, BAD_BATCH, BAD_KEY, BAD_SHAPE, BAD_VALUE, BUSY, CLOSED, MEMORY, NO_FREE_ROWS,
+    ROWS_PINNED, SHORT_ROOM, UNKNOWN_FORMAT, VERSIONS_SPENT, WRONG_STATE, Busy, Refused,
+    RefusedEdit,
 )
 
 __version__ = "0.2.0"
 
 __all__ = [
     "ABSENT", "BAD_BATCH", "BAD_KEY", "BAD_SHAPE", "BAD_VALUE", "BUSY", "CLOSED", "KEY_LONGEST",
-    "MEMORY", "NO_ROOM", "ROOT_LENGTH", "ROWS_PINNED", "ROWS_SPENT", "UNKNOWN_FORMAT",
+    "MEMORY", "NO_FREE_ROWS", "ROOT_LENGTH", "ROWS_PINNED", "SHORT_ROOM", "UNKNOWN_FORMAT",
     "VALUE_LONGEST", "VERSIONS_SPENT", "WRONG_STATE", "Busy", "Edit", "Format", "Octets", "Pass",
     "Refused", "RefusedEdit", "library_version", "open_store",
 ]

@@ -14,7 +14,7 @@ from typing import Union
 
 from ._library import HAND, KEY_LONGEST, ROOT_LENGTH, VALUE_LONGEST, Hand
 from ._library import lib as _lib
-from ._refusals import ABSENT, BAD_KEY, BAD_VALUE, NO_ROOM, Busy, RefusedEdit
+from ._refusals import ABSENT, BAD_KEY, BAD_VALUE, SHORT_ROOM, Busy, RefusedEdit
 from ._refusals import refuse as _refuse
 
 Octets = Union[bytes, bytearray, memoryview]
@@ -118,7 +118,7 @@ class Pass:
                 )
                 if code == 0:
                     return list(_pairs(ctypes.string_at(room, length.value)))
-                if code != NO_ROOM:
+                if code != SHORT_ROOM:
                     _refuse(code)
                 # A free pass may have more pairs by the next try, so this is a loop.
                 self._long_room = ctypes.create_string_buffer(length.value)
@@ -150,7 +150,7 @@ class Pass:
                     self._hand, key, len(key), room, len(room), ctypes.byref(length))
                 if code == 0:
                     return ctypes.string_at(room, length.value)
-                if code != NO_ROOM:
+                if code != SHORT_ROOM:
                     _refuse(code)
                 # The proof of a free pass may have grown again by the next try, so this is a loop.
                 self._long_room = ctypes.create_string_buffer(length.value)

@@ -4,7 +4,7 @@ from __future__ import annotations
 from typing import NoReturn, Tuple, Type
 
 ABSENT = -1
-NO_ROOM = -2
+SHORT_ROOM = -2
 UNKNOWN_FORMAT = -3
 BAD_KEY = -5
 BAD_VALUE = -6
@@ -14,7 +14,7 @@ MEMORY = -9
 BAD_SHAPE = -10
 BUSY = -21
 VERSIONS_SPENT = -22
-ROWS_SPENT = -23
+NO_FREE_ROWS = -23
 ROWS_PINNED = -24
 BAD_BATCH = -25
 
@@ -28,7 +28,7 @@ _REASONS = {
     BAD_SHAPE: "a store has 4 to 65535 rows and 1 to 32 passes",
     BUSY: "another pass writes",
     VERSIONS_SPENT: "the store has made all the versions that it can number",
-    ROWS_SPENT: "the write or the migration needs more rows than are free",
+    NO_FREE_ROWS: "the write or the migration needs more rows than are free",
     ROWS_PINNED: "some pass pins a version, so the rows are not counted",
     BAD_BATCH: "the bytes are no batch of edits",
 }

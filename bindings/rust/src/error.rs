@@ -27,7 +27,7 @@ pub enum Error {
     /// The store has made all the versions that it can number.
     VersionsSpent,
     /// The write or the migration needs more rows than are free.
-    RowsSpent,
+    NoFreeRows,
     /// Some pass pins a version, so the rows are not counted.
     RowsPinned,
     /// A number that the header does not give for the call: the library and this crate do not fit.
@@ -46,7 +46,7 @@ impl Error {
             Error::Memory => -9,
             Error::BadShape => -10,
             Error::VersionsSpent => -22,
-            Error::RowsSpent => -23,
+            Error::NoFreeRows => -23,
             Error::RowsPinned => -24,
             Error::Other(code) => code,
         }
@@ -61,7 +61,7 @@ impl Error {
             -9 => Error::Memory,
             -10 => Error::BadShape,
             -22 => Error::VersionsSpent,
-            -23 => Error::RowsSpent,
+            -23 => Error::NoFreeRows,
             -24 => Error::RowsPinned,
             other => Error::Other(other),
         }
@@ -93,7 +93,7 @@ impl fmt::Display for Error {
             Error::VersionsSpent => {
                 out.write_str("the store has made all the versions that it can number")
             }
-            Error::RowsSpent => {
+            Error::NoFreeRows => {
                 out.write_str("the write or the migration needs more rows than are free")
             }
             Error::RowsPinned => {

@@ -25,7 +25,7 @@ impl Drop for Hand {
 }
 
 pub(crate) const ABSENT: i32 = -1;
-pub(crate) const NO_ROOM: i32 = -2;
+pub(crate) const SHORT_ROOM: i32 = -2;
 
 extern "C" {
     pub(crate) fn mst_library_version() -> *const std::ffi::c_char;

@@ -113,7 +113,7 @@ pub trait Reads: Held {
             match code {
                 0 => return Ok(pairs(&room, count)),
                 // By the next try a free pass may have more pairs, so this is a loop.
-                raw::NO_ROOM => room.resize(length, 0),
+                raw::SHORT_ROOM => room.resize(length, 0),
                 refused => return Err(Error::of(refused)),
             }
         }
@@ -161,7 +161,7 @@ pub trait Reads: Held {
             match code {
                 0 => return Ok(room[..length].to_vec()),
                 // The proof of a free pass may have grown again by the next try, so this is a loop.
-                raw::NO_ROOM => room.resize(length.max(2 * room.len()), 0),
+                raw::SHORT_ROOM => room.resize(length.max(2 * room.len()), 0),
                 refused => return Err(Error::of(refused)),
             }
         }

@@ -126,7 +126,7 @@ fn a_batch_is_made_whole_or_not_at_all() {
     let mut then = reader.pin();
     let many: Vec<_> = (0..64u8).map(|key| [key]).collect();
     let edits: Vec<_> = many.iter().map(|key| Put(key, b"")).collect();
-    assert_eq!(writer.apply(&edits), Err(Error::RowsSpent));
+    assert_eq!(writer.apply(&edits), Err(Error::NoFreeRows));
     let long = [1; 70_000];
     for key in [&long[..0], &long[..33], &long[..]] {
         let refused = Error::BadKeyAt(1);
@@ -303,9 +303,9 @@ fn rows_are_spent_and_counted() {
     let mut passes = open(8, 2).unwrap();
     let (mut reader, mut writer) = (passes.pop().unwrap(), passes.pop().unwrap());
     let refused = (0..20u8).find_map(|i| writer.put(&[i], b"").err());
-    assert_eq!(refused, Some(Error::RowsSpent));
-    assert_eq!(writer.migrate(Format::Two), Err(Error::RowsSpent));
-    assert_eq!(writer.try_migrate(Format::Two), Err(TryError::Refused(Error::RowsSpent)));
+    assert_eq!(refused, Some(Error::NoFreeRows));
+    assert_eq!(writer.migrate(Format::Two), Err(Error::NoFreeRows));
+    assert_eq!(writer.try_migrate(Format::Two), Err(TryError::Refused(Error::NoFreeRows)));
     assert_eq!(writer.migrate(Format::One), Ok(Format::One));
     let then = reader.pin();
     assert_eq!(writer.try_rows(), Err(TryError::Refused(Error::RowsPinned)));

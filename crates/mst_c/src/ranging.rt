@@ -4,7 +4,7 @@ ghost use Rattle.mst_c.specs.Told.{bytes_code, room_after};
 ghost use Rattle.mst_c.specs.Ranges.{pair_bytes, pairs_bytes, written, RangeTold};
 
 use crate::hand::{Hand, give, take};
-use crate::telling::{BAD_KEY, MEMORY, NO_HAND, NO_ROOM, bound};
+use crate::telling::{BAD_KEY, MEMORY, NO_HAND, SHORT_ROOM, bound};
 use mst_key::{Key, Value};
 use std::alloc::Global;
 
@@ -82,7 +82,7 @@ fn tell_pairs(pairs: &[(Key, Value)], room: &mut [u8], count: &mut usize, size: 
     *count = pairs.len();
     *size = bytes;
     if room.len() < bytes {
-        return NO_ROOM;
+        return SHORT_ROOM;
     }
     put_pairs(room, pairs);
     0

@@ -10,7 +10,7 @@ use std::alloc::Global;
 
 pub(crate) const ABSENT: i32 = -1;
 
-pub(crate) const NO_ROOM: i32 = -2;
+pub(crate) const SHORT_ROOM: i32 = -2;
 
 pub(crate) const UNKNOWN_FORMAT: i32 = -3;
 
@@ -45,7 +45,7 @@ pub(crate) fn tell(value: &Option<Value>, room: &mut [u8]) -> i32
         Some(value) => {
             let bytes = value.bytes();
             if room.len() < bytes.len() {
-                return NO_ROOM;
+                return SHORT_ROOM;
             }
             put(room, bytes);
             bytes.len() as i32
@@ -62,7 +62,7 @@ fn tell_proof(proof: &[u8], room: &mut [u8], size: &mut usize) -> i32
 {
     *size = proof.len();
     if room.len() < proof.len() {
-        return NO_ROOM;
+        return SHORT_ROOM;
     }
     put(room, proof);
     0
@@ -151,7 +151,7 @@ pub(crate) fn root(alloc: Global, hand: &mut Hand, room: &mut [u8]) -> i32
     };
     if room.len() < 32 {
         give(hand, taken);
-        return NO_ROOM;
+        return SHORT_ROOM;
     }
     let root = taken.held.root();
     give(hand, taken);
@@ -290,7 +290,7 @@ fn tell_pair(
     let key = key.bytes();
     let value = value.bytes();
     if key_room.len() < key.len() || room.len() < value.len() {
-        return NO_ROOM;
+        return SHORT_ROOM;
     }
     put(key_room, key);
     put(room, value);

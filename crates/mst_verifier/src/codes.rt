@@ -10,7 +10,7 @@ use mst_sharded_proof::ShardedFault;
 pub(crate) const ABSENT: i32 = -1;
 
 /// The room is too small for the value that the proof shows.
-pub(crate) const NO_ROOM: i32 = -2;
+pub(crate) const SHORT_ROOM: i32 = -2;
 
 /// The proof frames no first text.
 pub(crate) const NO_TEXT: i64 = -1;

@@ -3,7 +3,7 @@ ghost use Rattle.std.specs.Prelude.{◌≡◌, ◌≤◌, ◌++◌, length, drop
 ghost use Rattle.mst_verifier.specs.Codes.{code_of, room_after};
 ghost use Rattle.mst_verifier.specs.Question.{answer_to};
 
-use crate::codes::{ABSENT, NO_ROOM, refusal_code};
+use crate::codes::{ABSENT, SHORT_ROOM, refusal_code};
 use crate::question::{Kind, answer};
 
 /// Puts the bytes first, and keeps those after them.
@@ -32,7 +32,7 @@ pub(crate) fn tell(
         Ok(Some(value)) => {
             let bytes = value.bytes();
             if room.len() < bytes.len() {
-                return NO_ROOM;
+                return SHORT_ROOM;
             }
             put(room, bytes);
             bytes.len() as i32

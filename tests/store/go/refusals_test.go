@@ -167,14 +167,14 @@ func TestRows(t *testing.T) {
 	for at := 0; at < 20 && err == nil; at++ {
 		err = put(pass, []byte{byte(at)}, nil)
 	}
-	expect(t, "Put", err, mst.ErrRowsSpent)
+	expect(t, "Put", err, mst.ErrNoFreeRows)
 	var batch mst.Batch
 	for at := 0; at < 20; at++ {
 		batch.Put([]byte{byte(at)}, nil)
 	}
-	expect(t, "Apply", pass.Apply(&batch), mst.ErrRowsSpent)
+	expect(t, "Apply", pass.Apply(&batch), mst.ErrNoFreeRows)
 	_, err = pass.Migrate(mst.Format2)
-	expect(t, "Migrate", err, mst.ErrRowsSpent)
+	expect(t, "Migrate", err, mst.ErrNoFreeRows)
 	if rows, err := pass.Rows(); rows > 8 || err != nil {
 		t.Errorf("%d rows, %v", rows, err)
 	}
