@@ -5,8 +5,7 @@
  * A store is used through its passes alone. mst_open makes a store of the empty map and puts a pass
  * into each hand of an array; a thread works through a hand of its own. Reads wait for no one. One
  * pass at a time has the turn to write. Meanwhile a try of another one returns MST_BUSY; mst_put,
- * mst_remove, mst_apply and mst_migrate below try again. The store is freed when its last pass is
- * closed.
+ * mst_remove, mst_apply and mst_migrate below wait. The store is freed when its last pass is closed.
  *
  *     mst_pass passes[2] = {MST_PASS_CLOSED, MST_PASS_CLOSED};
  *     uint8_t old[MST_VALUE_LONGEST], root[MST_ROOT_LENGTH];
@@ -29,20 +28,23 @@
  *     touches what it may write (the hand, rooms, and where it tells lengths and numbers);
  *   - malloc, realloc and free are of one allocator and align to 16 bytes. They return: neither an
  *     exception nor longjmp leads out of them, and no thread is cancelled within a call
- *     (pthread_cancel with asynchronous cancellation);
+ *     (pthread_cancel with asynchronous cancellation). A thread whose cancellation is deferred may
+ *     be cancelled where a call that waits sleeps: then nothing is written;
  *   - a thread has stack left for a call: 16 KiB are enough over maps of random keys. Keys that were
  *     chosen to make a tree deep, of at most 129 layers, take less than 128 KiB, a batch 144 KiB,
  *     and a call then nests less than 140 functions;
  *   - no call is made in a signal handler, or in the forked child of a process with threads.
  *
- * A length that is out of its limits is refused without a look at the bytes, however great it is.
+ * A length that is out of its limits is refused without a look at the bytes, however great it is,
+ * and so is a count of hands.
  *
  * A call returns a number, for bytes of any kind and any length. Keys have 1 to 32 bytes, values 0
  * to 64. The numbers below never change, and those of mst_verifier.h have the same meaning here. If
  * several refusals apply, a call returns the one that its comment lists first.
  *
  * Link with libmst_store, which `make -C bindings` makes: `pkg-config --cflags --libs mst_store`
- * says how, after `make -C bindings install`. docs/STORE_C.md has examples.
+ * says how, after `make -C bindings install`. docs/STORE_C.md has examples. If you link the proved
+ * archive libmst_c.a itself, compile what bindings/ has in C beside your program.
  */
 #ifndef MST_STORE_H
 #define MST_STORE_H
@@ -64,13 +66,6 @@ extern "C" {
 #define MST_VERSION_TEXT "0.2.0"
 #define MST_VERSION_NUMBER \
     (MST_VERSION_MAJOR * 1000000 + MST_VERSION_MINOR * 1000 + MST_VERSION_PATCH)
-
-/* A cast in C and in C++, where compilers may be asked to warn of those of C. */
-#ifdef __cplusplus
-#define MST_AS(type, value) static_cast<type>(value)
-#else
-#define MST_AS(type, value) ((type)(value))
-#endif
 
 /* A hand: what holds a pass for its thread, or nothing. */
 typedef struct mst_pass {
@@ -109,7 +104,10 @@ typedef struct mst_pass {
 /* There is no such key. This is an answer, not a refusal. */
 #define MST_ABSENT (-1)
 
-/* The room is too short for the answer. */
+/*
+ * A room, the caller's buffer for an answer, is too short. A put or a remove has been made all the
+ * same, and only the old value is lost: a room of MST_VALUE_LONGEST bytes is never too short for it.
+ */
 #define MST_SHORT_ROOM (-2)
 
 /* No format has this number. There are formats 1 and 2. */
@@ -171,7 +169,8 @@ const char *mst_error_text(int32_t told);
  * Opens a store of the empty map in format 1 or 2, with `rows` rows, and puts a pass into each of
  * the `count` hands. What a hand held before is closed, whatever the call returns. Returns MST_OK;
  * MST_UNKNOWN_FORMAT for another format; MST_BAD_SHAPE if rows or count are out of their limits;
- * MST_MEMORY. If it does not return MST_OK, all hands are empty.
+ * MST_MEMORY. If it does not return MST_OK, all hands are empty. But of more than 32 hands none is
+ * looked at: they stay as they are.
  */
 int32_t mst_open(uint32_t format, uint32_t rows, mst_pass *passes, size_t count);
 
@@ -204,7 +203,8 @@ int32_t mst_next(mst_pass *pass, const uint8_t *key, size_t key_length,
 
 /*
  * Finds the first pairs, at most `limit`, whose keys are at least `from` and below `to`, by rising
- * keys. A bound of length 0 does not bind. Returns MST_OK: *count is the number of the pairs and
+ * keys. A bound of length 0 does not bind. For the pairs behind a key, page by page, there is
+ * mst_page_after below. Returns MST_OK: *count is the number of the pairs and
  * *length that of their bytes, which stand first in the room, one pair after the other: the length
  * of the key in two bytes, the high one first, that of the value in two bytes, the key, the value.
  * mst_pair_at below reads them. Returns MST_CLOSED; MST_BAD_KEY if a bound is longer than 32 bytes;
@@ -254,17 +254,18 @@ int32_t mst_rows(mst_pass *pass, uint32_t *rows);
 
 /*
  * Gives the key the value, if no other pass has the turn. Returns what mst_get would return before
- * it: a length and the bytes of the old value, or MST_ABSENT if the key is new; MST_SHORT_ROOM if the
- * old value did not fit: the key has its new value all the same. Returns MST_CLOSED, MST_BAD_KEY,
- * MST_BAD_VALUE, MST_WRONG_STATE for a pinned pass, MST_BUSY, MST_VERSIONS_SPENT, MST_NO_FREE_ROWS:
- * nothing is written.
+ * it: a length and the bytes of the old value, or MST_ABSENT if the key is new. Returns
+ * MST_SHORT_ROOM if the old value did not fit: the put has been made, so do not repeat it; the old
+ * value is lost, and the room is as it was. A room of MST_VALUE_LONGEST bytes is never too short.
+ * Returns MST_CLOSED, MST_BAD_KEY, MST_BAD_VALUE, MST_WRONG_STATE for a pinned pass, MST_BUSY,
+ * MST_VERSIONS_SPENT, MST_NO_FREE_ROWS: nothing is written.
  */
 int32_t mst_try_put(mst_pass *pass, const uint8_t *key, size_t key_length,
                     const uint8_t *value, size_t value_length, uint8_t *room, size_t room_length);
 
 /*
  * Takes the key out, if no other pass has the turn. Returns what mst_try_put returns, without
- * MST_BAD_VALUE.
+ * MST_BAD_VALUE; with MST_SHORT_ROOM the key is out.
  */
 int32_t mst_try_remove(mst_pass *pass, const uint8_t *key, size_t key_length,
                        uint8_t *room, size_t room_length);
@@ -329,40 +330,32 @@ typedef struct mst_pair {
  *         use(pair.key, pair.key_length, pair.value, pair.value_length);
  *     }
  */
-static inline size_t mst_pair_at(const uint8_t *room, size_t at, mst_pair *pair) {
-    const uint8_t *bytes = room + at;
-    pair->key_length = MST_AS(size_t, bytes[0]) << 8 | bytes[1];
-    pair->value_length = MST_AS(size_t, bytes[2]) << 8 | bytes[3];
-    pair->key = bytes + 4;
-    pair->value = pair->key + pair->key_length;
-    return at + 4 + pair->key_length + pair->value_length;
-}
-
-/* ---- edits in the bytes of a batch ---- */
+size_t mst_pair_at(const uint8_t *room, size_t at, mst_pair *pair);
 
 /*
- * What mst_edit_put and mst_edit_remove share. Of a length out of its limits it writes no more than
- * the lengths, at most 65,535 each, so that mst_try_apply refuses the edit.
+ * As mst_range, but of the pairs whose keys are above `after`: those behind the last pair of the
+ * page before. Behind an `after` of length 0 are all pairs. Returns MST_BAD_KEY if `after` or `to`
+ * is longer than 32 bytes.
+ *
+ *     uint8_t room[100 * MST_PAIR_LONGEST], last[MST_KEY_LONGEST];
+ *     size_t count, length, last_length = 0;
+ *     while (mst_page_after(pass, last, last_length, NULL, 0, 100, room, sizeof room, &count,
+ *                           &length) == MST_OK && count > 0) {
+ *         mst_pair pair;
+ *         for (size_t at = 0; at < length;)
+ *             at = mst_pair_at(room, at, &pair);
+ *         last_length = pair.key_length;
+ *         memcpy(last, pair.key, last_length);
+ *     }
+ *
+ * Each page is of one version. All pages of a pinned pass are of the same one; those of a free pass
+ * are not, if another pass writes between them.
  */
-static inline size_t mst_edit_at(uint8_t *room, size_t at, uint8_t kind,
-                                 const uint8_t *key, size_t key_length,
-                                 const uint8_t *value, size_t value_length) {
-    uint8_t *bytes = room + at;
-    size_t keys = key_length < 0xFFFF ? key_length : 0xFFFF;
-    size_t values = value_length < 0xFFFF ? value_length : 0xFFFF;
-    bytes[0] = kind;
-    bytes[1] = MST_AS(uint8_t, keys >> 8);
-    bytes[2] = MST_AS(uint8_t, keys);
-    bytes[3] = MST_AS(uint8_t, values >> 8);
-    bytes[4] = MST_AS(uint8_t, values);
-    if (keys > MST_KEY_LONGEST || values > MST_VALUE_LONGEST)
-        return at + 5;
-    for (size_t i = 0; i < keys; i++)
-        bytes[5 + i] = key[i];
-    for (size_t i = 0; i < values; i++)
-        bytes[5 + keys + i] = value[i];
-    return at + 5 + keys + values;
-}
+int32_t mst_page_after(mst_pass *pass, const uint8_t *after, size_t after_length,
+                       const uint8_t *to, size_t to_length, uint32_t limit,
+                       uint8_t *room, size_t room_length, size_t *count, size_t *length);
+
+/* ---- edits in the bytes of a batch ---- */
 
 /*
  * Writes a put of the key at `at` bytes into the room, which needs MST_EDIT_LONGEST bytes from
@@ -374,70 +367,36 @@ static inline size_t mst_edit_at(uint8_t *room, size_t at, uint8_t kind,
  *     length = mst_edit_remove(edits, length, other, other_length);
  *     int32_t told = mst_apply(pass, edits, length, &place);
  *
- * It never writes more than MST_EDIT_LONGEST bytes. If a length is out of its limits, the call with
- * the batch returns MST_BAD_KEY or MST_BAD_VALUE.
+ * It never writes more than MST_EDIT_LONGEST bytes. If a length is out of its limits, it writes no
+ * more than the lengths, at most 65,535 each, and the call with the batch returns MST_BAD_KEY or
+ * MST_BAD_VALUE.
  */
-static inline size_t mst_edit_put(uint8_t *room, size_t at, const uint8_t *key, size_t key_length,
-                                  const uint8_t *value, size_t value_length) {
-    return mst_edit_at(room, at, 1, key, key_length, value, value_length);
-}
+size_t mst_edit_put(uint8_t *room, size_t at, const uint8_t *key, size_t key_length,
+                    const uint8_t *value, size_t value_length);
 
 /* As mst_edit_put, a remove of the key. */
-static inline size_t mst_edit_remove(uint8_t *room, size_t at,
-                                     const uint8_t *key, size_t key_length) {
-    return mst_edit_at(room, at, 2, key, key_length, key, 0);
-}
+size_t mst_edit_remove(uint8_t *room, size_t at, const uint8_t *key, size_t key_length);
 
-/* ---- writes that try until they get the turn ---- */
+/* ---- writes that wait for the turn ---- */
 
 /*
- * What is done between two tries. Define it before this file for a pause of your own, such as
- * sched_yield().
+ * As mst_try_put, but waits instead of returning MST_BUSY: it tries again after a moment, then after
+ * giving the processor up, then after sleeps, from a microsecond up to a millisecond. Passes that
+ * wait have no order: none is promised the next turn. For a wait of another kind, such as one with
+ * an end, call mst_try_put in a loop of your own.
  */
-#ifndef MST_PAUSE
-#if defined(__x86_64__) && defined(__GNUC__)
-#define MST_PAUSE() __builtin_ia32_pause()
-#else
-#define MST_PAUSE() ((void)0)
-#endif
-#endif
+int32_t mst_put(mst_pass *pass, const uint8_t *key, size_t key_length,
+                const uint8_t *value, size_t value_length, uint8_t *room, size_t room_length);
 
-/* As mst_try_put, but tries again instead of returning MST_BUSY. */
-static inline int32_t mst_put(mst_pass *pass, const uint8_t *key, size_t key_length,
-                              const uint8_t *value, size_t value_length,
-                              uint8_t *room, size_t room_length) {
-    int32_t told;
-    while ((told = mst_try_put(pass, key, key_length, value, value_length,
-                               room, room_length)) == MST_BUSY)
-        MST_PAUSE();
-    return told;
-}
+/* As mst_try_remove, but waits as mst_put does. */
+int32_t mst_remove(mst_pass *pass, const uint8_t *key, size_t key_length,
+                   uint8_t *room, size_t room_length);
 
-/* As mst_try_remove, but tries again instead of returning MST_BUSY. */
-static inline int32_t mst_remove(mst_pass *pass, const uint8_t *key, size_t key_length,
-                                 uint8_t *room, size_t room_length) {
-    int32_t told;
-    while ((told = mst_try_remove(pass, key, key_length, room, room_length)) == MST_BUSY)
-        MST_PAUSE();
-    return told;
-}
+/* As mst_try_apply, but waits as mst_put does. */
+int32_t mst_apply(mst_pass *pass, const uint8_t *edits, size_t length, size_t *place);
 
-/* As mst_try_apply, but tries again instead of returning MST_BUSY. */
-static inline int32_t mst_apply(mst_pass *pass, const uint8_t *edits, size_t length,
-                                size_t *place) {
-    int32_t told;
-    while ((told = mst_try_apply(pass, edits, length, place)) == MST_BUSY)
-        MST_PAUSE();
-    return told;
-}
-
-/* As mst_try_migrate, but tries again instead of returning MST_BUSY. */
-static inline int32_t mst_migrate(mst_pass *pass, uint32_t format) {
-    int32_t told;
-    while ((told = mst_try_migrate(pass, format)) == MST_BUSY)
-        MST_PAUSE();
-    return told;
-}
+/* As mst_try_migrate, but waits as mst_put does. */
+int32_t mst_migrate(mst_pass *pass, uint32_t format);
 
 #ifdef __cplusplus
 }

@@ -9,87 +9,28 @@
 // A pass is one thread's at a time; it is moved, never copied, and closes itself. The store is
 // freed with its last pass. Refusals are exceptions of the class mst::refused. That another pass
 // has the turn is no refusal: the calls that try return it. If C++ has no memory for an answer, a
-// call throws std::bad_alloc, and what it has written stays. Keys have 1 to 32 bytes, values 0 to
-// 64. What the header mst_store.h says that a caller owes, callers of this one owe too.
+// call throws std::bad_alloc, and what it has written stays. A call has room for each old value, so
+// MST_SHORT_ROOM, with which a put has been made all the same, is never thrown. Keys have 1 to 32
+// bytes, values 0 to 64. What the header mst_store.h says that a caller owes, callers of this one
+// owe too.
 #pragma once
 #include "mst_store.h"
+#include "mst_store_answers.hpp"
 
 #include <algorithm>
-#include <array>
 #include <cstddef>
 #include <cstdint>
 #include <memory>
 #include <optional>
-#include <stdexcept>
 #include <string>
 #include <string_view>
-#include <thread>
 #include <utility>
 #include <vector>
 
 namespace mst {
 
-using digest = std::array<std::uint8_t, MST_ROOT_LENGTH>;
-using pair = std::pair<std::string, std::string>;
-
-// The formats of trees and proofs, by their numbers in mst_store.h and mst_verifier.h.
-enum class format : std::uint32_t { one = 1, two = 2 };
-
 // The version of the library that is linked, as MST_VERSION_TEXT is that of mst_store.h.
 inline const char *library_version() noexcept { return mst_library_version(); }
-
-// Why a call was refused. It changed nothing.
-class refused : public std::runtime_error {
-    int number;
-
-public:
-    explicit refused(int code) : std::runtime_error(mst_error_text(code)), number(code) {}
-
-    // One of the numbers of mst_store.h.
-    int code() const noexcept { return number; }
-};
-
-// Why a batch was refused: one of its edits has a key or a value of a length out of the limits.
-class refused_edit : public refused {
-    std::size_t number;
-
-public:
-    refused_edit(int code, std::size_t place) : refused(code), number(place) {}
-
-    // The number of the first such edit, from 0.
-    std::size_t place() const noexcept { return number; }
-};
-
-// What a call that tries to write has done.
-struct [[nodiscard]] tried {
-    bool is_busy = false;           // another pass has the turn, and nothing is written
-    std::optional<std::string> old; // the value that the key had before, if it had one
-
-    explicit operator bool() const noexcept { return !is_busy; }
-};
-
-// What a call that tries to make a batch has done.
-struct [[nodiscard]] applied {
-    bool is_busy = false; // another pass has the turn, and nothing is written
-
-    explicit operator bool() const noexcept { return !is_busy; }
-};
-
-// What a call that tries to migrate has done.
-struct [[nodiscard]] migrated {
-    bool is_busy = false;      // another pass has the turn, and nothing is written
-    std::optional<format> was; // the format before, if it is not busy
-
-    explicit operator bool() const noexcept { return !is_busy; }
-};
-
-// What a count of rows has found.
-struct [[nodiscard]] counted {
-    bool is_busy = false;              // another pass has the turn, and nothing is counted
-    std::optional<std::uint32_t> rows; // nothing if some pass pins a version
-
-    explicit operator bool() const noexcept { return !is_busy; }
-};
 
 namespace detail {
 
@@ -180,6 +121,11 @@ protected:
         throw refused(code);
     }
 
+    static mst::format told_format(int code) {
+        if (code < 0) throw refused(code);
+        return static_cast<mst::format>(code);
+    }
+
     static std::vector<pair> pairs(const std::uint8_t *room, std::size_t count) {
         std::vector<pair> found;
         found.reserve(count);
@@ -190,6 +136,21 @@ protected:
             found.emplace_back(text(one.key, one.key_length), text(one.value, one.value_length));
         }
         return found;
+    }
+
+    // The pairs that mst_range or mst_page_after finds.
+    std::vector<pair> listing(decltype(mst_range) find, std::string_view low, std::string_view to,
+                              std::size_t limit) {
+        auto most = static_cast<std::uint32_t>(std::min<std::size_t>(limit, UINT32_MAX));
+        std::vector<std::uint8_t> room(MST_PAIR_LONGEST * std::min<std::size_t>(limit, 64));
+        for (;;) {
+            std::size_t count = 0, length = 0;
+            int code = find(at(), bytes(low), low.size(), bytes(to), to.size(), most,
+                            room.data(), room.size(), &count, &length);
+            if (code == MST_OK) return pairs(room.data(), count);
+            if (code != MST_SHORT_ROOM) throw refused(code);
+            room.resize(length); // by the next try a free pass may have more: so this is a loop
+        }
     }
 
 public:
@@ -217,16 +178,15 @@ public:
     // bound does not bind.
     std::vector<pair> range(std::string_view from = {}, std::string_view to = {},
                             std::size_t limit = SIZE_MAX) {
-        auto most = static_cast<std::uint32_t>(std::min<std::size_t>(limit, UINT32_MAX));
-        std::vector<std::uint8_t> room(MST_PAIR_LONGEST * std::min<std::size_t>(limit, 64));
-        for (;;) {
-            std::size_t count = 0, length = 0;
-            int code = mst_range(at(), bytes(from), from.size(), bytes(to), to.size(), most,
-                                 room.data(), room.size(), &count, &length);
-            if (code == MST_OK) return pairs(room.data(), count);
-            if (code != MST_SHORT_ROOM) throw refused(code);
-            room.resize(length); // by the next try a free pass may have more: so this is a loop
-        }
+        return listing(mst_range, from, to, limit);
+    }
+
+    // As range, of the pairs with after < key < to: the page behind a pair that was the last of the
+    // one before. Behind an empty key are all pairs. The pages of a pinned pass are of one version;
+    // those of a free pass are not, if another pass writes between them.
+    std::vector<pair> page_after(std::string_view after, std::string_view to = {},
+                                 std::size_t limit = SIZE_MAX) {
+        return listing(mst_page_after, after, to, limit);
     }
 
     // Returns the root digest of the version. It depends on its pairs and its format alone.
@@ -260,11 +220,7 @@ public:
     }
 
     // Returns the format of the version, in which its root digest and its proofs are.
-    mst::format format() {
-        int code = mst_format(at());
-        if (code < 0) throw refused(code);
-        return static_cast<mst::format>(code);
-    }
+    mst::format format() { return told_format(mst_format(at())); }
 };
 
 // A pass while it pins a version: all reads are of that version. The pin ends with the object, or
@@ -290,11 +246,34 @@ public:
 class pass : public reader {
     friend std::vector<pass> open(std::uint32_t, std::size_t, mst::format);
 
-    template <typename Try> static auto wait(Try once) {
-        for (;;) {
-            if (auto done = once()) return done;
-            std::this_thread::yield();
-        }
+    // Each of these is by a call that tries or by the one that waits.
+    tried put_by(decltype(mst_put) call, std::string_view key, std::string_view value) {
+        std::uint8_t room[MST_VALUE_LONGEST];
+        int code = call(at(), bytes(key), key.size(), bytes(value), value.size(), room, sizeof room);
+        if (code == MST_BUSY) return tried{true, std::nullopt};
+        return tried{false, told(code, room)};
+    }
+
+    tried remove_by(decltype(mst_remove) call, std::string_view key) {
+        std::uint8_t room[MST_VALUE_LONGEST];
+        int code = call(at(), bytes(key), key.size(), room, sizeof room);
+        if (code == MST_BUSY) return tried{true, std::nullopt};
+        return tried{false, told(code, room)};
+    }
+
+    applied apply_by(decltype(mst_apply) call, const batch &edits) {
+        std::size_t place = 0;
+        int code = call(at(), edits.edits.data(), edits.edits.size(), &place);
+        if (code == MST_BUSY) return applied{true};
+        if (code == MST_BAD_KEY || code == MST_BAD_VALUE) throw refused_edit(code, place);
+        require_done(code);
+        return applied{};
+    }
+
+    migrated migrate_by(decltype(mst_migrate) call, mst::format to) {
+        int code = call(at(), static_cast<std::uint32_t>(to));
+        if (code == MST_BUSY) return migrated{true, std::nullopt};
+        return migrated{false, told_format(code)};
     }
 
 public:
@@ -329,59 +308,34 @@ public:
 
     // Gives the key the value, if no other pass has the turn.
     tried try_put(std::string_view key, std::string_view value) {
-        std::uint8_t room[MST_VALUE_LONGEST];
-        int code = mst_try_put(at(), bytes(key), key.size(), bytes(value), value.size(),
-                               room, sizeof room);
-        if (code == MST_BUSY) return tried{true, std::nullopt};
-        return tried{false, told(code, room)};
+        return put_by(mst_try_put, key, value);
     }
 
     // Takes the key out, if no other pass has the turn.
-    tried try_remove(std::string_view key) {
-        std::uint8_t room[MST_VALUE_LONGEST];
-        int code = mst_try_remove(at(), bytes(key), key.size(), room, sizeof room);
-        if (code == MST_BUSY) return tried{true, std::nullopt};
-        return tried{false, told(code, room)};
-    }
+    tried try_remove(std::string_view key) { return remove_by(mst_try_remove, key); }
 
     // As try_put, but waits for the turn. Returns the value that the key had before.
     std::optional<std::string> put(std::string_view key, std::string_view value) {
-        return wait([&] { return try_put(key, value); }).old;
+        return put_by(mst_put, key, value).old;
     }
 
     // As try_remove, but waits for the turn. Returns the value that the key had before.
     std::optional<std::string> remove(std::string_view key) {
-        return wait([&] { return try_remove(key); }).old;
+        return remove_by(mst_remove, key).old;
     }
 
     // Makes the edits as one version, if no other pass has the turn.
-    applied try_apply(const batch &edits) {
-        std::size_t place = 0;
-        int code = mst_try_apply(at(), edits.edits.data(), edits.edits.size(), &place);
-        if (code == MST_BUSY) return applied{true};
-        if (code == MST_BAD_KEY || code == MST_BAD_VALUE) throw refused_edit(code, place);
-        require_done(code);
-        return applied{};
-    }
+    applied try_apply(const batch &edits) { return apply_by(mst_try_apply, edits); }
 
     // As try_apply, but waits for the turn.
-    void apply(const batch &edits) {
-        (void)wait([&] { return try_apply(edits); });
-    }
+    void apply(const batch &edits) { (void)apply_by(mst_apply, edits); }
 
     // Turns the tree of the map to a format, if no other pass has the turn. The map stays, and so
     // do the pinned versions, each in its format.
-    migrated try_migrate(mst::format to) {
-        int code = mst_try_migrate(at(), static_cast<std::uint32_t>(to));
-        if (code == MST_BUSY) return migrated{true, std::nullopt};
-        if (code < 0) throw refused(code);
-        return migrated{false, static_cast<mst::format>(code)};
-    }
+    migrated try_migrate(mst::format to) { return migrate_by(mst_try_migrate, to); }
 
     // As try_migrate, but waits for the turn. Returns the format before.
-    mst::format migrate(mst::format to) {
-        return *wait([&] { return try_migrate(to); }).was;
-    }
+    mst::format migrate(mst::format to) { return *migrate_by(mst_migrate, to).was; }
 
     // Pins the current version.
     pinned pin() { return pinned(hand); }

@@ -56,6 +56,17 @@ func refusal(told C.int32_t) error {
 	return fmt.Errorf("mst: the library answered %d", int32(told))
 }
 
+// refusalOfBatch is the same for a batch, of which the edit at a place was refused, if one was.
+func refusalOfBatch(told C.int32_t, place C.size_t) error {
+	switch told {
+	case C.MST_OK:
+		return nil
+	case C.MST_BAD_KEY, C.MST_BAD_VALUE:
+		return &EditError{int(place), refusal(told)}
+	}
+	return refusal(told)
+}
+
 // EditError says which edit of a batch is refused. Err is ErrKey or ErrValue.
 type EditError struct {
 	// Place is the number of the first such edit, from 0.

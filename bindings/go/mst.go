@@ -11,11 +11,13 @@
 //
 // A store is used through its passes alone, one for each goroutine, say: goroutines that share a
 // pass wait for each other. Reads wait for no other pass. One pass at a time has the turn to write;
-// the calls that begin with Try return ErrBusy meanwhile, and the others try again.
+// the calls that begin with Try return ErrBusy meanwhile, and the others wait, each in a thread of
+// the system, so that other goroutines run.
 //
 // Keys have 1 to 32 bytes, values 0 to 64. What a call is given it does not keep, and what it
 // returns is the caller's own. Each refusal is one of the errors below, as errors.Is finds it;
-// after one nothing has changed.
+// after one nothing has changed. MST_SHORT_ROOM of the library, with which a put has been made all
+// the same, is none of them: a call has room for each answer.
 //
 // The package links bindings/out/libmst_store.a, which `make -C bindings` makes; with the build tag
 // mst_installed that of the system, which pkg-config finds as mst_store.

@@ -3,11 +3,7 @@ package mst
 // #include "mst_store.h"
 import "C"
 
-import (
-	"errors"
-	"runtime"
-	"time"
-)
+import "runtime"
 
 // Pass is a pass of a store, from Open. While it pins a version, its reads are of that version and
 // its writes are refused with ErrPinned.
@@ -87,24 +83,43 @@ func (p *Pass) Rows() (int, error) {
 // had before, if it was present. The error is ErrClosed, ErrKey, ErrValue, ErrPinned, ErrBusy,
 // ErrVersionsSpent, or ErrNoFreeRows.
 func (p *Pass) TryPut(key, value []byte) (old []byte, present bool, err error) {
-	s, err := p.take()
-	if err != nil {
-		return nil, false, err
-	}
-	defer s.giveBack()
-	return s.value(C.mst_try_put(&s.hand, at(key), size(key), at(value), size(value),
-		at(s.room[:]), size(s.room[:])))
+	return p.old(func(s *seat) C.int32_t {
+		return C.mst_try_put(&s.hand, at(key), size(key), at(value), size(value),
+			at(s.room[:]), size(s.room[:]))
+	})
+}
+
+// Put is as TryPut, but waits for the turn.
+func (p *Pass) Put(key, value []byte) (old []byte, present bool, err error) {
+	return p.old(func(s *seat) C.int32_t {
+		return C.mst_put(&s.hand, at(key), size(key), at(value), size(value),
+			at(s.room[:]), size(s.room[:]))
+	})
 }
 
 // TryRemove takes the key out, if no other pass has the turn. It returns the value that the key had
 // before, if it was present. The error is that of TryPut, but for ErrValue.
 func (p *Pass) TryRemove(key []byte) (old []byte, present bool, err error) {
+	return p.old(func(s *seat) C.int32_t {
+		return C.mst_try_remove(&s.hand, at(key), size(key), at(s.room[:]), size(s.room[:]))
+	})
+}
+
+// Remove is as TryRemove, but waits for the turn.
+func (p *Pass) Remove(key []byte) (old []byte, present bool, err error) {
+	return p.old(func(s *seat) C.int32_t {
+		return C.mst_remove(&s.hand, at(key), size(key), at(s.room[:]), size(s.room[:]))
+	})
+}
+
+// old makes a write, and returns the value that the key had before.
+func (p *Pass) old(write func(s *seat) C.int32_t) (old []byte, present bool, err error) {
 	s, err := p.take()
 	if err != nil {
 		return nil, false, err
 	}
 	defer s.giveBack()
-	return s.value(C.mst_try_remove(&s.hand, at(key), size(key), at(s.room[:]), size(s.room[:])))
+	return s.value(write(s))
 }
 
 // TryApply makes the edits of the batch as one version, if no other pass has the turn: each read
@@ -118,13 +133,19 @@ func (p *Pass) TryApply(batch *Batch) error {
 	defer s.giveBack()
 	var place C.size_t
 	told := C.mst_try_apply(&s.hand, at(batch.packed), size(batch.packed), &place)
-	switch told {
-	case C.MST_OK:
-		return nil
-	case C.MST_BAD_KEY, C.MST_BAD_VALUE:
-		return &EditError{int(place), refusal(told)}
+	return refusalOfBatch(told, place)
+}
+
+// Apply is as TryApply, but waits for the turn.
+func (p *Pass) Apply(batch *Batch) error {
+	s, err := p.take()
+	if err != nil {
+		return err
 	}
-	return refusal(told)
+	defer s.giveBack()
+	var place C.size_t
+	told := C.mst_apply(&s.hand, at(batch.packed), size(batch.packed), &place)
+	return refusalOfBatch(told, place)
 }
 
 // TryMigrate turns the tree of the map to a format, if no other pass has the turn, and returns the
@@ -139,61 +160,12 @@ func (p *Pass) TryMigrate(to Format) (was Format, err error) {
 	return formatOf(C.mst_try_migrate(&s.hand, C.uint32_t(to)))
 }
 
-// Put is as TryPut, but waits for the turn.
-func (p *Pass) Put(key, value []byte) (old []byte, present bool, err error) {
-	waitForTurn(func() error {
-		old, present, err = p.TryPut(key, value)
-		return err
-	})
-	return old, present, err
-}
-
-// Remove is as TryRemove, but waits for the turn.
-func (p *Pass) Remove(key []byte) (old []byte, present bool, err error) {
-	waitForTurn(func() error {
-		old, present, err = p.TryRemove(key)
-		return err
-	})
-	return old, present, err
-}
-
-// Apply is as TryApply, but waits for the turn.
-func (p *Pass) Apply(batch *Batch) (err error) {
-	waitForTurn(func() error {
-		err = p.TryApply(batch)
-		return err
-	})
-	return err
-}
-
 // Migrate is as TryMigrate, but waits for the turn.
 func (p *Pass) Migrate(to Format) (was Format, err error) {
-	waitForTurn(func() error {
-		was, err = p.TryMigrate(to)
-		return err
-	})
-	return was, err
-}
-
-// How a call waits for the turn: so many tries with other goroutines between them, then sleeps,
-// from the shortest, each twice the one before, up to the longest.
-const (
-	yields   = 16
-	shortest = 10 * time.Microsecond
-	longest  = time.Millisecond
-)
-
-// waitForTurn tries until the error is another than ErrBusy.
-func waitForTurn(try func() error) {
-	sleep := shortest
-	for tries := 1; errors.Is(try(), ErrBusy); tries++ {
-		if tries <= yields {
-			runtime.Gosched()
-			continue
-		}
-		time.Sleep(sleep)
-		if sleep *= 2; sleep > longest {
-			sleep = longest
-		}
+	s, err := p.take()
+	if err != nil {
+		return 0, err
 	}
+	defer s.giveBack()
+	return formatOf(C.mst_migrate(&s.hand, C.uint32_t(to)))
 }

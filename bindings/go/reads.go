@@ -65,10 +65,32 @@ func (r *Reads) Range(from, to []byte, limit int) ([]Pair, error) {
 		return nil, err
 	}
 	defer s.giveBack()
+	return s.pairs(func(room []byte, count, length *C.size_t) C.int32_t {
+		return C.mst_range(&s.hand, at(from), size(from), at(to), size(to), word(limit),
+			at(room), size(room), count, length)
+	})
+}
+
+// PageAfter is as Range, of the keys that are above after: the page behind a pair that was the last
+// of the page before. Behind an empty key are all pairs. The pages of a Pinned are of one version;
+// those of a Pass are not, if another pass writes between them.
+func (r *Reads) PageAfter(after, to []byte, limit int) ([]Pair, error) {
+	s, err := r.take()
+	if err != nil {
+		return nil, err
+	}
+	defer s.giveBack()
+	return s.pairs(func(room []byte, count, length *C.size_t) C.int32_t {
+		return C.mst_page_after(&s.hand, at(after), size(after), at(to), size(to), word(limit),
+			at(room), size(room), count, length)
+	})
+}
+
+// pairs are those that a call finds.
+func (s *seat) pairs(find func(room []byte, count, length *C.size_t) C.int32_t) ([]Pair, error) {
 	var count C.size_t
 	listing, err := s.longest(func(room []byte, length *C.size_t) C.int32_t {
-		return C.mst_range(&s.hand, at(from), size(from), at(to), size(to), word(limit),
-			at(room), size(room), &count, length)
+		return find(room, &count, length)
 	})
 	if err != nil {
 		return nil, err

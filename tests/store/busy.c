@@ -1,18 +1,26 @@
 /*
  * Calls while another pass has the turn. A migration asks for memory while it has the turn. This
  * malloc, which stands before glibc's own, then makes calls by another hand: those that need the
- * turn return MST_BUSY, and the reads go on. Calls that try again, in a thread of their own,
- * go through once the migration has ended.
+ * turn return MST_BUSY, and the reads go on. Calls that wait, in a thread of their own, go
+ * through once the migration has ended. This sched_yield and this nanosleep, which stand before
+ * glibc's own too, see how they wait: they give the processor up before they sleep, and then sleep
+ * for growing times up to a millisecond.
  */
-#include <stdatomic.h>
-static atomic_int pauses; /* how often a call has tried in vain */
-#define MST_PAUSE() (atomic_fetch_add(&pauses, 1), sched_yield())
-#include <sched.h>
 #include "tests.h"
 #include <pthread.h>
+#include <sched.h>
+#include <stdatomic.h>
 #include <stdlib.h>
+#include <sys/syscall.h>
+#include <time.h>
+#include <unistd.h>
+
+#define SLEEPS 50 /* so long a call that waits is kept waiting */
 
 extern void *__libc_malloc(size_t size);
+
+static atomic_int yields, sleeps; /* of a call that waits */
+static long slept[SLEEPS];        /* how long each of the first sleeps is, in nanoseconds */
 
 static mst_pass passes[3];
 static mst_pass *mover = &passes[0], *other = &passes[1], *pinned = &passes[2];
@@ -25,6 +33,19 @@ void *malloc(size_t size) {
     if (then)
         then();
     return __libc_malloc(size);
+}
+
+int sched_yield(void) {
+    atomic_fetch_add(&yields, 1);
+    return (int)syscall(SYS_sched_yield);
+}
+
+int nanosleep(const struct timespec *length, struct timespec *left) {
+    int at = atomic_load(&sleeps);
+    if (at < SLEEPS)
+        slept[at] = length->tv_sec ? -1 : length->tv_nsec;
+    atomic_store(&sleeps, at + 1);
+    return (int)syscall(SYS_nanosleep, length, left);
 }
 
 /* Migrates by the mover, from 1 to 2 or back, with these calls made while it has the turn. */
@@ -120,12 +141,21 @@ static void *applies(void *unused) {
 static void *(*waiting)(void *);
 static pthread_t waiter;
 
-/* Starts the thread, and lets the migration go on when the thread has tried in vain ten times. */
+/* Starts the thread, and lets the migration go on when the thread has slept for some times. */
 static void starts_to_wait(void) {
-    atomic_store(&pauses, 0);
+    atomic_store(&yields, 0);
+    atomic_store(&sleeps, 0);
     EXPECT(pthread_create(&waiter, NULL, waiting, NULL) == 0);
-    while (atomic_load(&pauses) < 10)
-        sched_yield();
+    while (atomic_load(&sleeps) < SLEEPS)
+        syscall(SYS_sched_yield);
+}
+
+/* Each sleep is longer than the one before, from a microsecond on up to a millisecond. */
+static void has_slept(void) {
+    EXPECT(atomic_load(&yields) == 16);
+    EXPECT(slept[0] == 1000 && slept[SLEEPS / 2] < 500000 && slept[SLEEPS - 1] == 1000000);
+    for (int i = 1; i < SLEEPS; i++)
+        EXPECT(slept[i] > slept[i - 1] || slept[i] == 1000000);
 }
 
 static void goes_through(uint32_t from, void *(*call)(void *), int32_t wanted) {
@@ -133,6 +163,7 @@ static void goes_through(uint32_t from, void *(*call)(void *), int32_t wanted) {
     migrates_while(from, starts_to_wait);
     EXPECT(pthread_join(waiter, NULL) == 0);
     EXPECT(told == wanted);
+    has_slept();
 }
 
 int main(void) {

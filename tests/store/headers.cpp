@@ -1,4 +1,4 @@
-// The C headers in C++: each macro and inline call of theirs, so that a compiler may warn of them.
+// The C headers in C++: each macro of theirs, and calls, so that a compiler may warn of them.
 #include "mst_store.h"
 #include "mst_verifier.h"
 

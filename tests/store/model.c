@@ -147,21 +147,23 @@ static void read_once(int hand, const struct pair *pair, int is_next) {
     EXPECT(memcmp(key, next->key, length) == 0);
 }
 
-/* A range by random bounds and a random limit, into a room that may be too short. */
+/* A range or a page by random bounds and a random limit, into a room that may be too short. */
 static void range_once(int hand, const struct pair *from, const struct pair *to) {
     const struct map *map = pins[hand] ? &pinned[hand] : &now;
     size_t from_length = random_below(4) ? (size_t)from->key_length : 0;
     size_t to_length = random_below(4) ? (size_t)to->key_length : 0;
-    uint32_t limit = random_below(20);
+    uint32_t limit = random_below(20), is_page = random_below(2);
     uint8_t room[20 * 14];
     size_t room_length = random_below(sizeof room + 1), count = 0, length = 0, bytes = 0, at = 0;
-    int is_there, first = from_length ? place_of(map, from, &is_there) : 0;
+    int is_there = 0, first = from_length ? place_of(map, from, &is_there) : 0;
+    first += is_page && is_there;
     int behind = to_length ? place_of(map, to, &is_there) : map->count;
     int pairs = behind <= first ? 0 : behind - first < (int)limit ? behind - first : (int)limit;
     for (int i = first; i < first + pairs; i++)
         bytes += 4 + (size_t)(map->pairs[i].key_length + map->pairs[i].value_length);
-    int32_t told = mst_range(&passes[hand], from->key, from_length, to->key, to_length, limit,
-                             room, room_length, &count, &length);
+    int32_t told = (is_page ? mst_page_after : mst_range)(
+        &passes[hand], from->key, from_length, to->key, to_length, limit, room, room_length,
+        &count, &length);
     EXPECT(told == (room_length < bytes ? MST_SHORT_ROOM : MST_OK));
     EXPECT(count == (size_t)pairs && length == bytes);
     for (int i = first; told == MST_OK && i < first + pairs; i++) {

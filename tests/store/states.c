@@ -72,6 +72,16 @@ static void closed_hands(mst_pass *pass) {
     EXPECT(rooms_stay());
 }
 
+/* Of more than 32 hands none is read or closed, however many there are said to be. */
+static void too_many_hands(mst_pass *passes) {
+    static const size_t counts[] = {33, 64, (size_t)1 << 31, SIZE_MAX / 8, SIZE_MAX};
+    for (size_t i = 0; i < sizeof counts / sizeof *counts; i++) {
+        EXPECT(mst_open(1, 1000, passes, counts[i]) == MST_BAD_SHAPE);
+        EXPECT(mst_open(2, 3, NULL, counts[i]) == MST_BAD_SHAPE);
+        EXPECT(mst_open(0, 1000, passes, counts[i]) == MST_UNKNOWN_FORMAT);
+    }
+}
+
 static void shapes(void) {
     mst_pass passes[33] = {MST_PASS_CLOSED};
     EXPECT(mst_open(0, 1000, passes, 1) == MST_UNKNOWN_FORMAT);
@@ -83,6 +93,7 @@ static void shapes(void) {
     EXPECT(mst_open(1, UINT32_MAX, passes, 1) == MST_BAD_SHAPE);
     EXPECT(mst_open(1, 1000, NULL, 0) == MST_BAD_SHAPE);
     EXPECT(mst_open(1, 1000, passes, 33) == MST_BAD_SHAPE);
+    EXPECT(mst_open(3, 1000, passes, 33) == MST_UNKNOWN_FORMAT);
     EXPECT(mst_open(1, MST_ROWS_LEAST, passes, MST_PASSES_MOST) == MST_OK);
     EXPECT(passes[32].at == NULL);
     EXPECT(mst_try_put(&passes[31], TEXT("a"), TEXT("1"), room, sizeof room) == MST_ABSENT);
@@ -92,6 +103,8 @@ static void shapes(void) {
     EXPECT(mst_get(&passes[31], TEXT("a"), room, sizeof room) == 1);
     EXPECT(mst_open(1, 3, passes, 2) == MST_BAD_SHAPE);
     EXPECT(passes[0].at == NULL && passes[1].at == NULL);
+    too_many_hands(passes);
+    EXPECT(mst_get(&passes[31], TEXT("a"), room, sizeof room) == 1);
     EXPECT(mst_close(&passes[0]) == MST_CLOSED);
     for (int i = 2; i < 32; i++)
         EXPECT(mst_close(&passes[i]) == MST_OK);
@@ -177,10 +190,15 @@ static void short_rooms(mst_pass *pass) {
     EXPECT(is_untouched(key_room + 1, 31));
     EXPECT(mst_next(pass, long_bytes, 1, key_room, 32, &length, NULL, 0) == 0 && length == 32);
     EXPECT(mst_next(pass, long_bytes, 32, key_room, 32, &length, room, 64) == MST_ABSENT);
-    /* written, although the old value did not fit */
+    /* written, although the old value did not fit, and the room is as it was */
+    fill_rooms();
     EXPECT(mst_try_put(pass, long_bytes, 1, TEXT("new"), room, 63) == MST_SHORT_ROOM);
+    EXPECT(is_untouched(room, sizeof room));
     EXPECT(mst_get(pass, long_bytes, 1, room, 64) == 3 && memcmp(room, "new", 3) == 0);
+    EXPECT(mst_put(pass, long_bytes, 1, TEXT("newer"), NULL, 0) == MST_SHORT_ROOM);
+    EXPECT(mst_get(pass, long_bytes, 1, room, 64) == 5 && memcmp(room, "newer", 5) == 0);
     EXPECT(mst_try_remove(pass, long_bytes, 1, room, 2) == MST_SHORT_ROOM);
+    EXPECT(memcmp(room, "newer", 5) == 0);
     EXPECT(mst_get(pass, long_bytes, 1, room, 64) == MST_ABSENT);
 }
 

@@ -59,6 +59,23 @@ class Answers(unittest.TestCase):
             wanted = [pair for pair in everything if pair[0] < stop]
             self.assertEqual(store.range(stop=stop, limit=limit), wanted[: max(limit, 0)])
             self.assertEqual(store.range(stop), [pair for pair in everything if stop <= pair[0]])
+            wanted = [pair for pair in everything if start < pair[0] < stop]
+            self.assertEqual(store.page_after(start, stop, limit), wanted[: max(limit, 0)])
+        for limit in (1, 7, 64, 1000):
+            pages = list(store.pages(limit))
+            self.assertEqual([pair for page in pages for pair in page], everything)
+            self.assertTrue(all(len(page) == limit for page in pages[:-1]))
+        self.assertEqual(list(store.pages(0)), [])
+        stop = everything[5][0]
+        self.assertEqual([pair for page in store.pages(2, stop) for pair in page], everything[:5])
+
+    def test_pages_of_the_longest_keys(self):
+        chance, store = random.Random(10), one(4000)
+        keys = {bytes(chance.choice(b"\x00\x01\xfe\xff\xff") for _ in range(2)).rjust(32, fill)
+                for fill in (b"\x00", b"k", b"\xff") for _ in range(100)}
+        store.apply((key, key) for key in keys)
+        self.assertEqual([key for page in store.pages(3) for key, _ in page], sorted(keys))
+        self.assertEqual(store.page_after(b"\xff" * 32), [])
 
     def test_each_proof_is_taken_by_the_verifier(self):
         chance, store, known = random.Random(8), one(4000), {}
@@ -247,6 +264,8 @@ class Refusals(unittest.TestCase):
         self.refused(mst_store.BAD_KEY, store.next, bytes(33))
         self.refused(mst_store.BAD_KEY, store.range, bytes(33))
         self.refused(mst_store.BAD_KEY, store.range, b"", bytes(33))
+        self.refused(mst_store.BAD_KEY, store.page_after, bytes(33))
+        self.refused(mst_store.BAD_KEY, store.page_after, b"\xff" * 32, bytes(33))
         self.refused(mst_store.BAD_VALUE, store.put, b"key", bytes(65))
         self.assertIsNone(store.put(bytes(32), bytes(64)))
         self.assertEqual(store.version(), 1)
@@ -374,19 +393,37 @@ class Refusals(unittest.TestCase):
             del others
             self.assertEqual(last.get(b"key"), b"value")
 
-    def test_busy_is_told_by_a_try_and_outwaited_by_the_others(self):
+    def test_busy_is_told_by_a_try(self):
         store = one()
-        for name, given, answer in (("put", (b"key", b""), None), ("remove", (b"key",), b""),
-                                    ("apply", ([(b"key", b"")],), None),
-                                    ("migrate", (Format.TWO,), Format.ONE)):
-            real = getattr(_library.lib, f"mst_try_{name}")
-            busy = mock.Mock(side_effect=[mst_store.BUSY] * 3)
-            with mock.patch.object(_library.lib, f"mst_try_{name}", busy):
+        for name, given in (("put", (b"key", b"")), ("remove", (b"key",)),
+                            ("apply", ([(b"key", b"")],)), ("migrate", (Format.TWO,))):
+            with mock.patch.object(_library.lib, f"mst_try_{name}", lambda *_: mst_store.BUSY):
                 self.assertRaises(Busy, getattr(store, f"try_{name}"), *given)
-                busy.side_effect = lambda *it: real(*it) if busy.call_count > 4 else mst_store.BUSY
-                self.assertEqual(getattr(store, name)(*given), answer)
-                self.assertEqual(busy.call_count, 5)
-        self.assertEqual(store.version(), 4)
+        self.assertEqual(store.version(), 0)
+
+    def test_other_threads_run_while_a_call_waits(self):
+        # a migration of many pairs has the turn so long that the other pass waits
+        passes, ticks = open_store(65535, 2), []
+        passes[0].apply((i.to_bytes(4, "big"), b"") for i in range(20000))
+        ended = threading.Event()
+
+        def migrate():
+            for step in range(20):
+                passes[0].migrate(2 - step % 2)
+            ended.set()
+
+        def write():
+            while not ended.is_set():
+                passes[1].put(b"key", b"")
+
+        threads = [threading.Thread(target=call) for call in (migrate, write)]
+        for thread in threads:
+            thread.start()
+        while not ended.wait(0.001):
+            ticks.append(len(ticks))
+        for thread in threads:
+            thread.join()
+        self.assertGreater(len(ticks), 20)
 
     def test_a_code_that_is_not_known(self):
         store = one()

@@ -2,6 +2,7 @@
 #include "mst_store.hpp"
 #include "mst_verifier.h"
 #include <iostream>
+#include <thread>
 #include <type_traits>
 
 static int wrong = 0;
@@ -70,6 +71,21 @@ static void long_range() {
     EXPECT(all.back() == mst::pair(std::string("\1\53", 2), std::string(64, '\0')));
     EXPECT(pass.range({}, {}, 299) == std::vector<mst::pair>(all.begin(), all.end() - 1));
     EXPECT(pass.pin().range() == all);
+}
+
+// Keys of 32 bytes, behind which no longer one follows.
+static void pages() {
+    auto pass = std::move(mst::open(2000, 1).front());
+    for (int i = 0; i < 300; i++)
+        pass.put(std::string(31, i % 3 ? '\xFF' : 'k') + char(i % 256), std::to_string(i));
+    auto then = pass.pin();
+    std::vector<mst::pair> all = then.range(), found;
+    for (auto page = then.page_after("", "", 7); !page.empty();
+         page = then.page_after(found.back().first, "", 7))
+        found.insert(found.end(), page.begin(), page.end());
+    EXPECT(found == all && then.page_after("").size() == all.size());
+    EXPECT(then.page_after("k", std::string(31, 'k') + '\0', 7).empty());
+    EXPECT(code_of([&] { then.page_after(std::string(33, 'k')); }) == MST_BAD_KEY);
 }
 
 // Proofs that are longer than the first room, and shorter ones after them.
@@ -232,6 +248,7 @@ int main() {
     auto passes = mst::open(2000, 2);
     reads_and_writes(passes[0]);
     long_range();
+    pages();
     long_proofs();
     refusals(passes[0]);
     pins(passes[0], passes[1]);

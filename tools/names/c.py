@@ -11,13 +11,6 @@ DECLARED = re.compile(r"\b(mst_\w+)\s*\(")
 TYPE = re.compile(r"typedef struct \w+")
 
 
-def without_inline(head):
-    inline = "static inline "
-    if head.startswith(inline):
-        head = head[len(inline) :].replace("\n" + " " * len(inline), "\n")
-    return head
-
-
 def macro_of(item):
     """The title, the line and the words of a macro; None of what is no macro with a value."""
     found = MACRO.match(item.head)
@@ -102,7 +95,7 @@ class Header:
             return
         found = DECLARED.search(item.head)
         if found:
-            self.add(found[1], without_inline(item.head) + ";", words)
+            self.add(found[1], item.head + ";", words)
         elif item.head.startswith('extern "C"'):
             for one in items(item.body):
                 self.take(one)

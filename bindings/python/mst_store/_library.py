@@ -24,23 +24,28 @@ HAND = ctypes.POINTER(Hand)
 def _signatures() -> Dict[str, Tuple[Any, ...]]:
     hand, size, text = HAND, ctypes.c_size_t, ctypes.c_char_p
     pointer = ctypes.POINTER
+    listing = (
+        hand, text, size, text, size, ctypes.c_uint32, text, size, pointer(size), pointer(size),
+    )
+    writes = {
+        "put": (hand, text, size, text, size, text, size),
+        "remove": (hand, text, size, text, size),
+        "apply": (hand, text, size, pointer(size)),
+        "migrate": (hand, ctypes.c_uint32),
+    }
     return {
         "mst_open": (ctypes.c_uint32, ctypes.c_uint32, hand, size),
         "mst_close": (hand,),
         "mst_get": (hand, text, size, text, size),
         "mst_next": (hand, text, size, text, size, pointer(size), text, size),
-        "mst_range": (
-            hand, text, size, text, size, ctypes.c_uint32, text, size, pointer(size), pointer(size),
-        ),
+        "mst_range": listing,
+        "mst_page_after": listing,
         "mst_root": (hand, text, size),
         "mst_prove": (hand, text, size, text, size, pointer(size)),
         "mst_version": (hand, pointer(ctypes.c_uint64)),
         "mst_format": (hand,),
         "mst_rows": (hand, pointer(ctypes.c_uint32)),
-        "mst_try_put": (hand, text, size, text, size, text, size),
-        "mst_try_remove": (hand, text, size, text, size),
-        "mst_try_apply": (hand, text, size, pointer(size)),
-        "mst_try_migrate": (hand, ctypes.c_uint32),
+        **{f"mst_{tries}{name}": types for tries in ("", "try_") for name, types in writes.items()},
         "mst_pin": (hand,),
         "mst_unpin": (hand,),
     }

@@ -7,19 +7,16 @@ import operator
 import os
 import struct
 import threading
-import time
 from contextlib import contextmanager
-from typing import Any, Callable, Iterable, Iterator, List, NoReturn, Optional, Tuple, TypeVar
-from typing import Union
+from typing import Any, Callable, Iterable, Iterator, List, NoReturn, Optional, Tuple, Union
 
 from ._library import HAND, KEY_LONGEST, ROOT_LENGTH, VALUE_LONGEST, Hand
 from ._library import lib as _lib
-from ._refusals import ABSENT, BAD_KEY, BAD_VALUE, SHORT_ROOM, Busy, RefusedEdit
+from ._refusals import ABSENT, BAD_KEY, BAD_VALUE, SHORT_ROOM, RefusedEdit
 from ._refusals import refuse as _refuse
 
 Octets = Union[bytes, bytearray, memoryview]
 Edit = Tuple[Octets, Optional[Octets]]  # a key with its new value, or with None to take it out
-Answer = TypeVar("Answer")
 
 # The lengths of a key and its value in front of them, as mst_range has them.
 _LENGTHS = struct.Struct(">HH")
@@ -106,14 +103,34 @@ class Pass:
 
         They are in the order of rising keys. An empty bound does not bind.
         """
-        start, stop = _octets(start), _octets(stop)
+        return self._listing(_lib.mst_range, start, stop, limit)
+
+    def page_after(
+        self, after: Octets, stop: Octets = b"", limit: int = 2**32 - 1
+    ) -> List[Tuple[bytes, bytes]]:
+        """As range, with after < key < stop: the page behind a pair that was the last of the page
+        before. Behind an empty `after` are all pairs."""
+        return self._listing(_lib.mst_page_after, after, stop, limit)
+
+    def pages(self, limit: int, stop: Octets = b"") -> Iterator[List[Tuple[bytes, bytes]]]:
+        """Yields all pairs with key < stop, in lists of `limit` pairs, the last one perhaps of
+        fewer: of one version while the pass is pinned; otherwise each list is of one."""
+        page = self.page_after(b"", stop, limit)
+        while page:
+            yield page
+            page = self.page_after(page[-1][0], stop, limit)
+
+    def _listing(
+        self, call: Callable[..., int], low: Octets, stop: Octets, limit: int
+    ) -> List[Tuple[bytes, bytes]]:
+        low, stop = _octets(low), _octets(stop)
         limit = _word(max(operator.index(limit), 0))
         count, length = ctypes.c_size_t(), ctypes.c_size_t()
         with self._lock:
             while True:
                 room = self._long_room
-                code = _lib.mst_range(
-                    self._hand, start, len(start), stop, len(stop), limit, room, len(room),
+                code = call(
+                    self._hand, low, len(low), stop, len(stop), limit, room, len(room),
                     ctypes.byref(count), ctypes.byref(length),
                 )
                 if code == 0:
@@ -179,26 +196,19 @@ class Pass:
     def try_put(self, key: Octets, value: Octets) -> Optional[bytes]:
         """Gives the key the value, or raises Busy. Returns the value before, or None if the key is
         new."""
-        key, value = _octets(key), _octets(value)
-        with self._lock:
-            return self._value(_lib.mst_try_put(
-                self._hand, key, len(key), value, len(value), self._room, VALUE_LONGEST))
+        return self._put(_lib.mst_try_put, key, value)
 
     def try_remove(self, key: Octets) -> Optional[bytes]:
         """Takes the key out, or raises Busy. Returns the value that it had, or None if it was
         absent."""
-        key = _octets(key)
-        with self._lock:
-            return self._value(_lib.mst_try_remove(
-                self._hand, key, len(key), self._room, VALUE_LONGEST))
+        return self._remove(_lib.mst_try_remove, key)
 
     def try_migrate(self, to: int) -> Format:
         """Turns the tree of the map to a format, or raises Busy. Returns the format before.
 
         The map stays, and so do the pinned versions, each in its format.
         """
-        with self._lock:
-            return _format(_lib.mst_try_migrate(self._hand, _word(to)))
+        return self._migrate(_lib.mst_try_migrate, to)
 
     def try_apply(self, edits: Iterable[Edit]) -> None:
         """Makes edits as one version, or raises Busy.
@@ -207,32 +217,47 @@ class Pass:
         order: of those of one key the last decides. Each read sees all of them or none. No edits
         make a version too. RefusedEdit tells which edit has a key or a value of a bad length.
         """
-        self._try_apply(_packed(edits))
+        self._apply(_lib.mst_try_apply, edits)
 
-    def _try_apply(self, edits: bytes) -> None:
-        place = ctypes.c_size_t()
+    def put(self, key: Octets, value: Octets) -> Optional[bytes]:
+        """As try_put, but waits for the turn."""
+        return self._put(_lib.mst_put, key, value)
+
+    def remove(self, key: Octets) -> Optional[bytes]:
+        """As try_remove, but waits for the turn."""
+        return self._remove(_lib.mst_remove, key)
+
+    def apply(self, edits: Iterable[Edit]) -> None:
+        """As try_apply, but waits for the turn."""
+        self._apply(_lib.mst_apply, edits)
+
+    def migrate(self, to: int) -> Format:
+        """As try_migrate, but waits for the turn."""
+        return self._migrate(_lib.mst_migrate, to)
+
+    def _put(self, call: Callable[..., int], key: Octets, value: Octets) -> Optional[bytes]:
+        key, value = _octets(key), _octets(value)
         with self._lock:
-            code = _lib.mst_try_apply(self._hand, edits, len(edits), ctypes.byref(place))
+            return self._value(
+                call(self._hand, key, len(key), value, len(value), self._room, VALUE_LONGEST))
+
+    def _remove(self, call: Callable[..., int], key: Octets) -> Optional[bytes]:
+        key = _octets(key)
+        with self._lock:
+            return self._value(call(self._hand, key, len(key), self._room, VALUE_LONGEST))
+
+    def _apply(self, call: Callable[..., int], edits: Iterable[Edit]) -> None:
+        packed, place = _packed(edits), ctypes.c_size_t()
+        with self._lock:
+            code = call(self._hand, packed, len(packed), ctypes.byref(place))
         if code in (BAD_KEY, BAD_VALUE):
             raise RefusedEdit(code, place.value)
         if code < 0:
             _refuse(code)
 
-    def put(self, key: Octets, value: Octets) -> Optional[bytes]:
-        """As try_put, but tries until it gets the turn."""
-        return _until_free(self.try_put, key, value)
-
-    def remove(self, key: Octets) -> Optional[bytes]:
-        """As try_remove, but tries until it gets the turn."""
-        return _until_free(self.try_remove, key)
-
-    def apply(self, edits: Iterable[Edit]) -> None:
-        """As try_apply, but tries until it gets the turn."""
-        _until_free(self._try_apply, _packed(edits))
-
-    def migrate(self, to: int) -> Format:
-        """As try_migrate, but tries until it gets the turn."""
-        return _until_free(self.try_migrate, to)
+    def _migrate(self, call: Callable[..., int], to: int) -> Format:
+        with self._lock:
+            return _format(call(self._hand, _word(to)))
 
     @contextmanager
     def pinned(self) -> Iterator[Pass]:
@@ -283,14 +308,6 @@ def _format(code: int) -> Format:
     if code < 0:
         _refuse(code)
     return Format(code)
-
-
-def _until_free(call: Callable[..., Answer], *given: object) -> Answer:
-    while True:
-        try:
-            return call(*given)
-        except Busy:
-            time.sleep(0)
 
 
 def open_store(rows: int, passes: int, format: int = Format.ONE) -> List[Pass]:

@@ -4,6 +4,8 @@ from __future__ import annotations
 from typing import NoReturn, Tuple, Type
 
 ABSENT = -1
+# Never raised: a put, which has been made all the same when the library returns this, has room for
+# each old value, and the room of a range or a proof grows.
 SHORT_ROOM = -2
 UNKNOWN_FORMAT = -3
 BAD_KEY = -5

@@ -3,7 +3,8 @@
 //!
 //! A store is used through its passes alone. [`open`] returns them; a thread works through a pass
 //! of its own. Reads wait for no one. One write runs at a time. The store is freed with its last
-//! pass.
+//! pass. A call has room for each answer, so the library's `MST_SHORT_ROOM`, with which a put has
+//! been made all the same, is never returned.
 //!
 //! ```
 //! use mst_store::Reads;
@@ -75,7 +76,6 @@ pub use reads::{Items, Pair, Reads};
 use raw::Hand;
 use std::ffi::CStr;
 use std::fmt;
-use std::thread::yield_now;
 
 /// The most bytes of a key.
 pub const KEY_LONGEST: usize = 32;
@@ -144,73 +144,36 @@ impl Pass {
     /// Gives the key the value. Returns the value before, or None if the key is new; `Busy` if
     /// another pass has the turn.
     pub fn try_put(&mut self, key: &[u8], value: &[u8]) -> Result<Option<Vec<u8>>, TryError> {
-        let mut room = [0; VALUE_LONGEST];
-        // Safety: each pointer is valid for the length that goes with it, and the room is no
-        // other's.
-        let code = unsafe {
-            raw::mst_try_put(
-                &mut self.hand,
-                key.as_ptr(),
-                key.len(),
-                value.as_ptr(),
-                value.len(),
-                room.as_mut_ptr(),
-                room.len(),
-            )
-        };
-        reads::value(code, &room).map_err(TryError::of)
+        self.put_by(raw::mst_try_put, key, value).map_err(TryError::of)
     }
 
     /// Takes the key out. Returns the value that it had, or None if it was absent; `Busy` if
     /// another pass has the turn.
     pub fn try_remove(&mut self, key: &[u8]) -> Result<Option<Vec<u8>>, TryError> {
-        let mut room = [0; VALUE_LONGEST];
-        // Safety: as in try_put.
-        let code = unsafe {
-            raw::mst_try_remove(
-                &mut self.hand,
-                key.as_ptr(),
-                key.len(),
-                room.as_mut_ptr(),
-                room.len(),
-            )
-        };
-        reads::value(code, &room).map_err(TryError::of)
+        self.remove_by(raw::mst_try_remove, key).map_err(TryError::of)
     }
 
-    /// As [`Pass::try_put`], but tries until it gets the turn.
+    /// As [`Pass::try_put`], but waits for the turn.
     pub fn put(&mut self, key: &[u8], value: &[u8]) -> Result<Option<Vec<u8>>, Error> {
-        until_free(|| self.try_put(key, value))
+        self.put_by(raw::mst_put, key, value).map_err(Error::of)
     }
 
-    /// As [`Pass::try_remove`], but tries until it gets the turn.
+    /// As [`Pass::try_remove`], but waits for the turn.
     pub fn remove(&mut self, key: &[u8]) -> Result<Option<Vec<u8>>, Error> {
-        until_free(|| self.try_remove(key))
+        self.remove_by(raw::mst_remove, key).map_err(Error::of)
     }
 
     /// Makes the edits, in their order, as one version: each read sees all of them or none, and of
     /// those of one key the last decides. No edits make a version too. Returns `Busy` if another
     /// pass has the turn.
     pub fn try_apply(&mut self, edits: &[Edit<'_>]) -> Result<(), TryError> {
-        self.try_packed(&edits::packed(edits))
+        self.apply_by(raw::mst_try_apply, edits)
+            .map_err(|(code, place)| TryError::of(code).at(place))
     }
 
-    /// As [`Pass::try_apply`], but tries until it gets the turn.
+    /// As [`Pass::try_apply`], but waits for the turn.
     pub fn apply(&mut self, edits: &[Edit<'_>]) -> Result<(), Error> {
-        let packed = edits::packed(edits);
-        until_free(|| self.try_packed(&packed))
-    }
-
-    fn try_packed(&mut self, packed: &[u8]) -> Result<(), TryError> {
-        let mut place = 0;
-        // Safety: the bytes are valid for their length, and so are the other pointers.
-        let code = unsafe {
-            raw::mst_try_apply(&mut self.hand, packed.as_ptr(), packed.len(), &mut place)
-        };
-        match code {
-            0 => Ok(()),
-            code => Err(TryError::of(code).at(place)),
-        }
+        self.apply_by(raw::mst_apply, edits).map_err(|(code, place)| Error::of(code).at(place))
     }
 
     /// Turns the tree of the map to a format. Returns the format before, or `Busy` if another pass
@@ -221,9 +184,49 @@ impl Pass {
         Format::told(code).map_err(TryError::of)
     }
 
-    /// As [`Pass::try_migrate`], but tries until it gets the turn.
+    /// As [`Pass::try_migrate`], but waits for the turn.
     pub fn migrate(&mut self, to: Format) -> Result<Format, Error> {
-        until_free(|| self.try_migrate(to))
+        // Safety: the hand is valid.
+        let code = unsafe { raw::mst_migrate(&mut self.hand, to.number()) };
+        Format::told(code).map_err(Error::of)
+    }
+
+    fn put_by(&mut self, put: raw::Put, key: &[u8], value: &[u8]) -> Result<Option<Vec<u8>>, i32> {
+        let mut room = [0; VALUE_LONGEST];
+        // Safety: each pointer is valid for the length that goes with it, and the room is no
+        // other's.
+        let code = unsafe {
+            put(
+                &mut self.hand,
+                key.as_ptr(),
+                key.len(),
+                value.as_ptr(),
+                value.len(),
+                room.as_mut_ptr(),
+                room.len(),
+            )
+        };
+        reads::value(code, &room)
+    }
+
+    fn remove_by(&mut self, remove: raw::Remove, key: &[u8]) -> Result<Option<Vec<u8>>, i32> {
+        let mut room = [0; VALUE_LONGEST];
+        // Safety: as in put_by.
+        let code = unsafe {
+            remove(&mut self.hand, key.as_ptr(), key.len(), room.as_mut_ptr(), room.len())
+        };
+        reads::value(code, &room)
+    }
+
+    /// A refusal is a number with the place of the edit, if it is that of one.
+    fn apply_by(&mut self, apply: raw::Apply, edits: &[Edit<'_>]) -> Result<(), (i32, usize)> {
+        let packed = edits::packed(edits);
+        let mut place = 0;
+        // Safety: the bytes are valid for their length, and so are the other pointers.
+        match unsafe { apply(&mut self.hand, packed.as_ptr(), packed.len(), &mut place) } {
+            0 => Ok(()),
+            code => Err((code, place)),
+        }
     }
 
     /// Returns how many rows the current version takes, if no other pass writes and none pins.
@@ -249,17 +252,6 @@ impl Pass {
         };
         assert_eq!(code, 0, "the library and this crate do not fit");
         Pinned(self)
-    }
-}
-
-/// Tries until the call returns something other than busy.
-fn until_free<T>(mut call: impl FnMut() -> Result<T, TryError>) -> Result<T, Error> {
-    loop {
-        match call() {
-            Ok(done) => return Ok(done),
-            Err(TryError::Busy) => yield_now(),
-            Err(TryError::Refused(error)) => return Err(error),
-        }
     }
 }
 

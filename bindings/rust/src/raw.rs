@@ -27,6 +27,48 @@ impl Drop for Hand {
 pub(crate) const ABSENT: i32 = -1;
 pub(crate) const SHORT_ROOM: i32 = -2;
 
+/// mst_put and mst_try_put, which differ in their names alone.
+pub(crate) type Put = unsafe extern "C" fn(
+    pass: *mut Hand,
+    key: *const u8,
+    key_length: usize,
+    value: *const u8,
+    value_length: usize,
+    room: *mut u8,
+    room_length: usize,
+) -> i32;
+
+/// mst_remove and mst_try_remove.
+pub(crate) type Remove = unsafe extern "C" fn(
+    pass: *mut Hand,
+    key: *const u8,
+    key_length: usize,
+    room: *mut u8,
+    room_length: usize,
+) -> i32;
+
+/// mst_apply and mst_try_apply.
+pub(crate) type Apply = unsafe extern "C" fn(
+    pass: *mut Hand,
+    edits: *const u8,
+    length: usize,
+    place: *mut usize,
+) -> i32;
+
+/// mst_range and mst_page_after.
+pub(crate) type Range = unsafe extern "C" fn(
+    pass: *mut Hand,
+    low: *const u8,
+    low_length: usize,
+    to: *const u8,
+    to_length: usize,
+    limit: u32,
+    room: *mut u8,
+    room_length: usize,
+    count: *mut usize,
+    length: *mut usize,
+) -> i32;
+
 extern "C" {
     pub(crate) fn mst_library_version() -> *const std::ffi::c_char;
     pub(crate) fn mst_open(format: u32, rows: u32, passes: *mut Hand, count: usize) -> i32;
@@ -52,6 +94,18 @@ extern "C" {
         pass: *mut Hand,
         from: *const u8,
         from_length: usize,
+        to: *const u8,
+        to_length: usize,
+        limit: u32,
+        room: *mut u8,
+        room_length: usize,
+        count: *mut usize,
+        length: *mut usize,
+    ) -> i32;
+    pub(crate) fn mst_page_after(
+        pass: *mut Hand,
+        after: *const u8,
+        after_length: usize,
         to: *const u8,
         to_length: usize,
         limit: u32,
@@ -95,6 +149,29 @@ extern "C" {
         place: *mut usize,
     ) -> i32;
     pub(crate) fn mst_try_migrate(pass: *mut Hand, format: u32) -> i32;
+    pub(crate) fn mst_put(
+        pass: *mut Hand,
+        key: *const u8,
+        key_length: usize,
+        value: *const u8,
+        value_length: usize,
+        room: *mut u8,
+        room_length: usize,
+    ) -> i32;
+    pub(crate) fn mst_remove(
+        pass: *mut Hand,
+        key: *const u8,
+        key_length: usize,
+        room: *mut u8,
+        room_length: usize,
+    ) -> i32;
+    pub(crate) fn mst_apply(
+        pass: *mut Hand,
+        edits: *const u8,
+        length: usize,
+        place: *mut usize,
+    ) -> i32;
+    pub(crate) fn mst_migrate(pass: *mut Hand, format: u32) -> i32;
     pub(crate) fn mst_pin(pass: *mut Hand) -> i32;
     pub(crate) fn mst_unpin(pass: *mut Hand) -> i32;
 }

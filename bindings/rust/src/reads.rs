@@ -53,6 +53,42 @@ fn pairs(room: &[u8], count: usize) -> Vec<Pair> {
         .collect()
 }
 
+/// The pairs that mst_range or mst_page_after finds.
+fn listing(
+    hand: *mut Hand,
+    find: raw::Range,
+    low: &[u8],
+    to: &[u8],
+    limit: usize,
+) -> Result<Vec<Pair>, Error> {
+    let most = u32::try_from(limit).unwrap_or(u32::MAX);
+    let mut room = vec![0; PAIR_LONGEST * limit.min(64)];
+    loop {
+        let (mut count, mut length) = (0, 0);
+        // Safety: the hand is valid, and so is each pointer for the length that goes with it.
+        let code = unsafe {
+            find(
+                hand,
+                low.as_ptr(),
+                low.len(),
+                to.as_ptr(),
+                to.len(),
+                most,
+                room.as_mut_ptr(),
+                room.len(),
+                &mut count,
+                &mut length,
+            )
+        };
+        match code {
+            0 => return Ok(pairs(&room, count)),
+            // By the next try a free pass may have more pairs, so this is a loop.
+            raw::SHORT_ROOM => room.resize(length, 0),
+            refused => return Err(Error::of(refused)),
+        }
+    }
+}
+
 /// The reads: of the current version by a free pass, of the pinned one by a pinned pass. They wait
 /// for no one.
 pub trait Reads: Held {
@@ -91,32 +127,35 @@ pub trait Reads: Held {
     /// Returns the first pairs, at most `limit`, whose keys are at least `from` and below `to`, by
     /// rising keys and all of one version. An empty bound does not bind.
     fn range(&mut self, from: &[u8], to: &[u8], limit: usize) -> Result<Vec<Pair>, Error> {
-        let most = u32::try_from(limit).unwrap_or(u32::MAX);
-        let mut room = vec![0; PAIR_LONGEST * limit.min(64)];
-        loop {
-            let (mut count, mut length) = (0, 0);
-            // Safety: as in get.
-            let code = unsafe {
-                raw::mst_range(
-                    self.hand(),
-                    from.as_ptr(),
-                    from.len(),
-                    to.as_ptr(),
-                    to.len(),
-                    most,
-                    room.as_mut_ptr(),
-                    room.len(),
-                    &mut count,
-                    &mut length,
-                )
-            };
-            match code {
-                0 => return Ok(pairs(&room, count)),
-                // By the next try a free pass may have more pairs, so this is a loop.
-                raw::SHORT_ROOM => room.resize(length, 0),
-                refused => return Err(Error::of(refused)),
-            }
-        }
+        listing(self.hand(), raw::mst_range, from, to, limit)
+    }
+
+    /// As [`Reads::range`], of the keys that are above `after`: the page behind a pair that was the
+    /// last of the page before. Behind an empty `after` are all pairs. The pages of a [`Pinned`]
+    /// are of one version; those of a free pass are not, if another pass writes between them.
+    ///
+    /// ```
+    /// use mst_store::Reads;
+    ///
+    /// let mut pass = mst_store::open(1000, 1)?.remove(0);
+    /// for number in 0..20_u8 {
+    ///     pass.put(&[number; 32], b"")?;
+    /// }
+    /// let mut then = pass.pin();
+    /// let (mut last, mut keys) = (Vec::new(), 0);
+    /// loop {
+    ///     let page = then.page_after(&last, b"", 8)?;
+    ///     let Some(pair) = page.last() else { break };
+    ///     last = pair.0.clone();
+    ///     keys += page.len();
+    /// }
+    /// assert_eq!(keys, 20);
+    /// # Ok::<(), mst_store::Error>(())
+    /// ```
+    ///
+    /// [`Pinned`]: crate::Pinned
+    fn page_after(&mut self, after: &[u8], to: &[u8], limit: usize) -> Result<Vec<Pair>, Error> {
+        listing(self.hand(), raw::mst_page_after, after, to, limit)
     }
 
     /// The pairs by rising keys. Those of a pinned pass are of one version; a free pass asks anew

@@ -68,7 +68,13 @@ fn answers_are_those_of_a_map() {
             within.take(limit).map(|(key, value)| (key.clone(), value.clone())).collect();
         assert_eq!(pass.range(&from, &to, limit), Ok(wanted.clone()));
         assert_eq!(pass.pin().range(&from, &to, limit), Ok(wanted));
+        let behind = map.iter().filter(|(key, _)| **key > from && **key < to);
+        let wanted: Vec<_> =
+            behind.take(limit).map(|(key, value)| (key.clone(), value.clone())).collect();
+        assert_eq!(pass.page_after(&from, &to, limit), Ok(wanted.clone()));
+        assert_eq!(pass.pin().page_after(&from, &to, limit), Ok(wanted));
     }
+    assert!(pass.page_after(&[], &[], usize::MAX).unwrap().into_iter().eq(map.clone()));
     assert!(pass.range(&[], &[], usize::MAX).unwrap().into_iter().eq(map.clone()));
     assert!(pass.try_rows().unwrap() as usize >= map.len());
 }
@@ -262,6 +268,9 @@ fn refusals_have_their_errors() {
     assert_eq!(pass.range(&[], &[1; 33], 1), Err(Error::BadKey));
     assert_eq!(pass.range(&[1; 33], &[], 1), Err(Error::BadKey));
     assert_eq!(pass.range(b"b", b"a", 1), Ok(vec![]));
+    assert_eq!(pass.page_after(&[], &[1; 33], 1), Err(Error::BadKey));
+    assert_eq!(pass.page_after(&[1; 33], &[], 1), Err(Error::BadKey));
+    assert_eq!(pass.page_after(&[255; 32], &[], 1), Ok(vec![]));
     assert_eq!(pass.put(b"key", &[1; 65]), Err(Error::BadValue));
     assert_eq!(pass.try_put(b"key", &[1; 65]), Err(TryError::Refused(Error::BadValue)));
     assert_eq!(pass.put(&[255; 32], &[1; 64]), Ok(None));

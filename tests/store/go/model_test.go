@@ -100,6 +100,7 @@ type reader interface {
 	Get(key []byte) ([]byte, bool, error)
 	Next(key []byte) (mst.Pair, bool, error)
 	Range(from, to []byte, limit int) ([]mst.Pair, error)
+	PageAfter(after, to []byte, limit int) ([]mst.Pair, error)
 }
 
 func (m model) read(t *testing.T, by reader, chance *rand.Rand) {
@@ -112,13 +113,52 @@ func (m model) read(t *testing.T, by reader, chance *rand.Rand) {
 	if err != nil || found != (len(above) > 0) || found && !areEqual([]mst.Pair{pair}, above[:1]) {
 		t.Fatalf("Next of %x: %v, %v, %v", key, pair, found, err)
 	}
-	wanted := m.pairs(key, to)
 	limit := chance.Intn(20) - 1
-	if limit >= 0 && limit < len(wanted) {
-		wanted = wanted[:limit]
-	}
+	wanted := first(m.pairs(key, to), limit)
 	if found, err := by.Range(key, to, limit); err != nil || !areEqual(found, wanted) {
 		t.Fatalf("Range of %x to %x: %v, %v, and not %v", key, to, found, err, wanted)
+	}
+	wanted = first(m.pairs(append(key[:len(key):len(key)], 0), to), limit)
+	if found, err := by.PageAfter(key, to, limit); err != nil || !areEqual(found, wanted) {
+		t.Fatalf("PageAfter %x to %x: %v, %v, and not %v", key, to, found, err, wanted)
+	}
+}
+
+// first are the first pairs, as many as the limit if it binds.
+func first(pairs []mst.Pair, limit int) []mst.Pair {
+	if limit >= 0 && limit < len(pairs) {
+		return pairs[:limit]
+	}
+	return pairs
+}
+
+// Behind a key of 32 bytes no longer one follows.
+func TestPagesOfTheLongestKeys(t *testing.T) {
+	pass, known := one(t, 4000), model{}
+	var batch mst.Batch
+	for at := 0; at < 300; at++ {
+		key := bytes.Repeat([]byte{byte(0xFF - at%3)}, 32)
+		key[31], key[30] = byte(at), byte(0xFF-at/256)
+		batch.Put(key, key[30:])
+		known[string(key)] = string(key[30:])
+	}
+	if err := pass.Apply(&batch); err != nil {
+		t.Fatal(err)
+	}
+	var all []mst.Pair
+	var last []byte
+	for {
+		page, err := pass.PageAfter(last, nil, 7)
+		if err != nil {
+			t.Fatal(err)
+		}
+		if len(page) == 0 {
+			break
+		}
+		all, last = append(all, page...), page[len(page)-1].Key
+	}
+	if !areEqual(all, known.pairs(nil, nil)) {
+		t.Errorf("the pages have %d pairs and not %d, or others", len(all), len(known))
 	}
 }
 

@@ -46,6 +46,10 @@ func TestKeysAndValues(t *testing.T) {
 	expect(t, "Range from", err, mst.ErrKey)
 	_, err = pass.Range(nil, make([]byte, 33), -1)
 	expect(t, "Range to", err, mst.ErrKey)
+	_, err = pass.PageAfter(make([]byte, 33), nil, -1)
+	expect(t, "PageAfter", err, mst.ErrKey)
+	_, err = pass.PageAfter(nil, make([]byte, 33), -1)
+	expect(t, "PageAfter to", err, mst.ErrKey)
 	expect(t, "Put", put(pass, []byte("key"), make([]byte, 65)), mst.ErrValue)
 	expect(t, "Put", put(pass, make([]byte, 32), make([]byte, 64)), nil)
 	expect(t, "Put", put(pass, []byte("k\x00y"), []byte("\x00v\x00")), nil)
@@ -191,6 +195,7 @@ func TestClosed(t *testing.T) {
 		for name, call := range map[string]func() error{
 			"Next":    func() error { _, _, err := it.Next(nil); return err },
 			"Range":   func() error { _, err := it.Range(nil, nil, -1); return err },
+			"Page":    func() error { _, err := it.PageAfter(nil, nil, -1); return err },
 			"Root":    func() error { _, err := it.Root(); return err },
 			"Prove":   func() error { _, err := it.Prove([]byte("key")); return err },
 			"Version": func() error { _, err := it.Version(); return err },

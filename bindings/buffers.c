@@ -1,0 +1,56 @@
+/* The pairs and the edits that stand in a caller's buffer. */
+#include "mst_store.h"
+#include <string.h>
+
+enum { PUT = 1, REMOVE = 2 };
+
+/* The most that a length in two bytes tells, which is out of the limits of keys and values. */
+enum { LENGTH_MOST = 0xFFFF };
+
+static size_t length_at(const uint8_t *bytes) {
+    return (size_t)bytes[0] << 8 | bytes[1];
+}
+
+static void put_length(uint8_t *bytes, size_t length) {
+    bytes[0] = (uint8_t)(length >> 8);
+    bytes[1] = (uint8_t)length;
+}
+
+static void copy(uint8_t *to, const uint8_t *from, size_t length) {
+    if (length > 0)
+        memcpy(to, from, length);
+}
+
+size_t mst_pair_at(const uint8_t *room, size_t at, mst_pair *pair) {
+    const uint8_t *bytes = room + at;
+    pair->key_length = length_at(bytes);
+    pair->value_length = length_at(bytes + 2);
+    pair->key = bytes + 4;
+    pair->value = pair->key + pair->key_length;
+    return at + 4 + pair->key_length + pair->value_length;
+}
+
+/* Of a length out of its limits it writes the lengths alone, so that the edit is refused. */
+static size_t edit_at(uint8_t *room, size_t at, uint8_t kind, const uint8_t *key, size_t key_length,
+                      const uint8_t *value, size_t value_length) {
+    uint8_t *bytes = room + at;
+    size_t keys = key_length < LENGTH_MOST ? key_length : LENGTH_MOST;
+    size_t values = value_length < LENGTH_MOST ? value_length : LENGTH_MOST;
+    bytes[0] = kind;
+    put_length(bytes + 1, keys);
+    put_length(bytes + 3, values);
+    if (keys > MST_KEY_LONGEST || values > MST_VALUE_LONGEST)
+        return at + 5;
+    copy(bytes + 5, key, keys);
+    copy(bytes + 5 + keys, value, values);
+    return at + 5 + keys + values;
+}
+
+size_t mst_edit_put(uint8_t *room, size_t at, const uint8_t *key, size_t key_length,
+                    const uint8_t *value, size_t value_length) {
+    return edit_at(room, at, PUT, key, key_length, value, value_length);
+}
+
+size_t mst_edit_remove(uint8_t *room, size_t at, const uint8_t *key, size_t key_length) {
+    return edit_at(room, at, REMOVE, key, key_length, NULL, 0);
+}
