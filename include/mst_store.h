@@ -67,9 +67,13 @@ extern "C" {
 #define MST_VERSION_NUMBER \
     (MST_VERSION_MAJOR * 1000000 + MST_VERSION_MINOR * 1000 + MST_VERSION_PATCH)
 
-/* A hand: what holds a pass for its thread, or nothing. */
+/*
+ * A hand: what holds a pass for its thread, or nothing. Calls write to it, so it has 256 bytes: the
+ * hands of threads that stand side by side are then in cache lines of their own.
+ */
 typedef struct mst_pass {
     void *at; /* the library's alone */
+    uint64_t padding[31];
 } mst_pass;
 
 /* A hand that holds nothing. */

@@ -61,7 +61,6 @@ type Pair struct {
 // seat holds a pass of the library, and the rooms that its calls write to.
 type seat struct {
 	mutex sync.Mutex
-	hand  C.mst_pass
 	// How many pins there were, and whether the last one still holds.
 	pins     uint64
 	isPinned bool
@@ -69,8 +68,8 @@ type seat struct {
 	room     [C.MST_VALUE_LONGEST]byte
 	// The room for proofs and ranges, which grows with the longest.
 	long []byte
-	// No other seat is in these cache lines: the Go runtime puts objects of 256 bytes so.
-	_ [96]byte
+	// It ends with padding, and stands last: so no other seat is in the cache lines of this one.
+	hand C.mst_pass
 }
 
 // Open opens a store of the empty map in a format, and returns its passes: 1 to 32 passes of a

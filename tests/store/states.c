@@ -83,6 +83,7 @@ static void too_many_hands(mst_pass *passes) {
 }
 
 static void shapes(void) {
+    EXPECT(sizeof(mst_pass) == 256);
     mst_pass passes[33] = {MST_PASS_CLOSED};
     EXPECT(mst_open(0, 1000, passes, 1) == MST_UNKNOWN_FORMAT);
     EXPECT(mst_open(3, 1000, passes, 1) == MST_UNKNOWN_FORMAT);

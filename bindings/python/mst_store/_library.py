@@ -13,9 +13,9 @@ SONAME = "libmst_store.so.1"
 
 class Hand(ctypes.Structure):
     """What holds a pass. It stays where mst_open found it, since no one but the library may copy
-    it."""
+    it. The padding keeps other hands out of its cache lines."""
 
-    _fields_ = [("at", ctypes.c_void_p)]
+    _fields_ = [("at", ctypes.c_void_p), ("padding", ctypes.c_uint64 * 31)]
 
 
 HAND = ctypes.POINTER(Hand)

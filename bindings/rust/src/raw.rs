@@ -1,15 +1,23 @@
 //! The library's calls as include/mst_store.h declares them, and its numbers.
+use std::fmt;
 
-/// A hand: what holds a pass, or nothing. It is one word, and moves as any value of Rust does: the
-/// place that it left is not used again, so there is never a second hand for the pass.
+/// A hand: what holds a pass, or nothing. It moves as any value of Rust does: the place that it left
+/// is not used again, so there is never a second hand for the pass.
 #[repr(C)]
-#[derive(Debug)]
 pub struct Hand {
     at: *mut u8,
+    /// So that no other hand is in its cache lines, which calls write to.
+    _padding: [u64; 31],
 }
 
 impl Hand {
-    pub(crate) const EMPTY: Hand = Hand { at: std::ptr::null_mut() };
+    pub(crate) const EMPTY: Hand = Hand { at: std::ptr::null_mut(), _padding: [0; 31] };
+}
+
+impl fmt::Debug for Hand {
+    fn fmt(&self, out: &mut fmt::Formatter<'_>) -> fmt::Result {
+        out.debug_struct("Hand").field("at", &self.at).finish()
+    }
 }
 
 // Safety: a call takes the hand by `&mut`, so it is in one call at a time; the library's own check

@@ -23,6 +23,15 @@ pub struct Hand {
     pub ghost held: { HeldNow } by { hand_coded },
 }
 
+/// A hand as C has it. Calls write to their hand; so that threads with hands side by side write to
+/// cache lines of their own, of which some processors fetch two at a time, it has 256 bytes. A call
+/// with one hand gets the place of its first field alone.
+#[repr(C)]
+pub struct PaddedHand {
+    pub(crate) hand: Hand,
+    padding: [u64; 31],
+}
+
 impl Model for Hand {
     ghost use Rattle.mst_c.specs.Owning.{hand_owns};
 

@@ -14,7 +14,7 @@ ghost use Rattle.mst_c.specs.Batches.{Applies};
 ghost use Rattle.mst_c.specs.Holding.{Reads, Forgets, Writes, PinsNow, Unpins, Versions, Counts};
 
 use crate::answering::{tell_now, tell_pinned};
-use crate::hand::{Hand, Taken, give};
+use crate::hand::{Hand, PaddedHand, Taken, give};
 use crate::packing::Packed;
 use mst_key::{Format, Key, Memory, Value};
 use mst_store::{ApplyFault, Busy, Laid, LaidPinned, MigrateFault, Pass, Store, WriteFault};
@@ -31,11 +31,16 @@ pub enum State {
     Pinned(LaidPinned<Global>),
 }
 
-/// A pass beside a share of its store.
+/// What no call writes at the end of a box.
+const PADDING: [u64; 16] = [0; 16];
+
+/// A pass beside a share of its store. Each call moves the pass out and back, so the box ends with
+/// padding: then no other box has its pass in these cache lines.
 #[derive(Drop)]
 pub struct Held {
     store: Arc<Store<Global>, Global>,
     state: State,
+    padding: [u64; 16],
 }
 
 /// Contracts see the pass.
@@ -102,13 +107,32 @@ pub(crate) fn hand_out(
         return false;
     };
     let state = State::Free(pass.lay());
-    match Box::new(alloc, Held { store, state }) {
+    let held = Held {
+        store,
+        state,
+        padding: PADDING,
+    };
+    match Box::new(alloc, held) {
         Ok(held) => {
             give(hand, Taken::of(held));
             true
         }
         Err(_) => false,
     }
+}
+
+/// The same for a hand of an array.
+pub(crate) fn hand_out_padded(
+    alloc: Global,
+    store: &Arc<Store<Global>, Global>,
+    pass: Pass<'_, Global>,
+    hand: &mut PaddedHand,
+) -> bool
+    requires own { pass.store ≡ arc_value store.now }
+    requires empty { hand.old.hand.held ≡ None }
+    ensures held { result ≡ true → hand.new.hand.held ≡ Some (state.Free pass.entry) }
+{
+    hand_out(alloc, store, pass, &mut hand.hand)
 }
 
 /// Makes the edits of a buffer as one change.

@@ -41,7 +41,7 @@ mod parts;
 mod ranging;
 mod telling;
 
-use hand::Hand;
+use hand::{Hand, PaddedHand};
 pub use laws::{batch_laws, worked_batches};
 use std::alloc::Global;
 
@@ -50,7 +50,7 @@ use std::alloc::Global;
 /// cannot have so many rows or passes; -9 if a growth was refused; and no other number. If it does
 /// not return 0, all hands are empty.
 #[unsafe(no_mangle)]
-pub extern "C" fn mst_open(alloc: Global, format: u32, rows: u32, hands: &mut [Hand]) -> i32
+pub extern "C" fn mst_open(alloc: Global, format: u32, rows: u32, hands: &mut [PaddedHand]) -> i32
     ensures opened { result ≡ pos 0 → Opened format rows hands.new }
     ensures empty { result ≢ pos 0 → AllEmpty hands.new }
     ensures size { result ≡ negsuc 9

@@ -3,13 +3,13 @@ ghost use Rattle.std.specs.Prelude.{◌≡◌, ◌≢◌, ◌↔◌, ◌⊎◌, 
 ghost use Rattle.std.specs.Arc.{arc_value};
 ghost use Rattle.mst_store.specs.Passes.{Known};
 ghost use Rattle.mst_c.specs.declared.held.State.TheVariants.{Free};
-ghost use Rattle.mst_c.specs.declared.hand.Hand.{Hand};
+ghost use Rattle.mst_c.specs.declared.hand.PaddedHand.{PaddedHand};
 ghost use Rattle.mst_c.specs.Formats.{format_named as named};
 ghost use Rattle.mst_c.specs.Opened.{Opened, IsSize, AllEmpty};
 
 use crate::formats::format_named;
-use crate::hand::Hand;
-use crate::held::hand_out;
+use crate::hand::PaddedHand;
+use crate::held::hand_out_padded;
 use crate::telling::{BAD_SHAPE, MEMORY, UNKNOWN_FORMAT, close};
 use mst_store::{OpenFault, Pass, Shape, Store};
 use std::alloc::Global;
@@ -20,34 +20,35 @@ fn hand_all(
     alloc: Global,
     store: &Arc<Store<Global>, Global>,
     passes: Vec<Pass<'_, Global>, Global>,
-    hands: &mut [Hand],
+    hands: &mut [PaddedHand],
 ) -> bool
     requires count { vec_len passes ≤ length hands.old }
     requires own { (k : ℕ) (d : Known) → k < vec_len passes
         → (get_or passes.items k d).store ≡ arc_value store.now }
     requires empty { AllEmpty hands.old }
-    ensures all { result ≡ true → (k : ℕ) (d : Known) (h : Hand) → k < vec_len passes.entry
-        → (get_or hands.new k h).held ≡ Some (Free (get_or passes.entry.items k d)) }
+    ensures all { result ≡ true → (k : ℕ) (d : Known) (h : PaddedHand)
+        → k < vec_len passes.entry
+        → (get_or hands.new k h).hand.held ≡ Some (Free (get_or passes.entry.items k d)) }
 {
     let mut all = true;
     let mut at = 0;
     for pass in passes {
-        all = all && hand_out(alloc, store, pass, &mut hands[at]);
+        all = all && hand_out_padded(alloc, store, pass, &mut hands[at]);
         at += 1;
     }
     all
 }
 
 /// No hand holds a pass then.
-fn close_all(alloc: Global, hands: &mut [Hand])
+fn close_all(alloc: Global, hands: &mut [PaddedHand])
     ensures empty { AllEmpty hands.new }
 {
-    for hand in hands.iter_mut() {
-        let _code = close(alloc, hand);
+    for padded in hands.iter_mut() {
+        let _code = close(alloc, &mut padded.hand);
     }
 }
 
-pub(crate) fn open(alloc: Global, format: u32, rows: u32, hands: &mut [Hand]) -> i32
+pub(crate) fn open(alloc: Global, format: u32, rows: u32, hands: &mut [PaddedHand]) -> i32
     ensures opened { result ≡ pos 0 → Opened format rows hands.new }
     ensures empty { result ≢ pos 0 → AllEmpty hands.new }
     ensures size { result ≡ negsuc 9

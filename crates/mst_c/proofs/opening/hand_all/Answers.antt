@@ -2,7 +2,7 @@ use Rattle.std.proofs.Common.{rules, arith, ◌≡◌, ◌<◌, ◌+◌, ℕ, tr
 use Rattle.std.proofs.lemmas.List.{get_or-set_same, get_or-set_other, length-set}
 use Rattle.mst_store.specs.Passes.{Known}
 use Rattle.mst_c.specs.declared.held.State.TheVariants.{Free}
-use Rattle.mst_c.specs.declared.hand.Hand.{Hand}
+use Rattle.mst_c.specs.declared.hand.PaddedHand.{PaddedHand}
 use Rattle.mst_c.proofs.opening.hand_all.Goals.{then-all, else-all}
 use Rattle.mst_c.proofs.opening.hand_all.Goals as goal
 
@@ -16,31 +16,36 @@ loop-pass-preserved c =
       (λ k d below. let h = was.1 (k + 1) d in grind rules),
       elim c.if-all.branch [
         | then-all w ↦
-            let set : c.if-all.hands ≡ slice_set c.loop-pass.hands at w.hand_out-all.new.hand =
+            let set : c.if-all.hands ≡ slice_set c.loop-pass.hands at
+            w.hand_out_padded-all.new.hand =
             search rules in
             let within : at < length c.loop-pass.hands = search rules in
             (λ yes k d h below.
-            let given : w.hand_out-all.new.hand.held ≡ Some (Free c.in-Some.pass) = search rules in
+            let given : w.hand_out_padded-all.new.hand.hand.held ≡ Some (Free c.in-Some.pass) =
+            search rules in
             let all : c.loop-pass.all ≡ true = search rules in
-            below_more (λ i. (get_or c.if-all.hands i h).held ≡ Some
+            below_more (λ i. (get_or c.if-all.hands i h).hand.held ≡ Some
             (Free (get_or c.args.passes.items i d))) at
-            (λ i low. ap (λ (hs : _). (get_or hs i h).held) set ∙ ap (λ (x : Hand). x.held)
-            (get_or-set_other c.loop-pass.hands at i w.hand_out-all.new.hand h
+            (λ i low. ap (λ (hs : _). (get_or hs i h).hand.held) set
+            ∙ ap (λ (x : PaddedHand). x.hand.held)
+            (get_or-set_other c.loop-pass.hands at i w.hand_out_padded-all.new.hand h
             (λ z. omega (arith, z, low))) ∙ was.2 all i d h low)
-            (ap (λ (hs : _). (get_or hs at h).held) set ∙ ap (λ (x : Hand). x.held)
-            (get_or-set_same c.loop-pass.hands at w.hand_out-all.new.hand h within) ∙ given
+            (ap (λ (hs : _). (get_or hs at h).hand.held) set ∙ ap (λ (x : PaddedHand). x.hand.held)
+            (get_or-set_same c.loop-pass.hands at w.hand_out_padded-all.new.hand h within) ∙ given
             ∙ ap (λ (p : Known). Some (Free p)) (sym (first d)))
             k below)
         | else-all w ↦ (λ yes k d h below. search rules)
       ],
       elim c.if-all.branch [
         | then-all w ↦
-            let set : c.if-all.hands ≡ slice_set c.loop-pass.hands at w.hand_out-all.new.hand =
+            let set : c.if-all.hands ≡ slice_set c.loop-pass.hands at
+            w.hand_out_padded-all.new.hand =
             search rules in
             let long : length c.if-all.hands ≡ length c.loop-pass.hands =
-            ap length set ∙ length-set c.loop-pass.hands at w.hand_out-all.new.hand in
-            (λ k h from below. ap (λ (hs : _). (get_or hs k h).held) set ∙ ap (λ (x : Hand). x.held)
-            (get_or-set_other c.loop-pass.hands at k w.hand_out-all.new.hand h
+            ap length set ∙ length-set c.loop-pass.hands at w.hand_out_padded-all.new.hand in
+            (λ k h from below. ap (λ (hs : _). (get_or hs k h).hand.held) set
+            ∙ ap (λ (x : PaddedHand). x.hand.held)
+            (get_or-set_other c.loop-pass.hands at k w.hand_out_padded-all.new.hand h
             (λ z. omega (arith, z, from)))
             ∙ was.3 k h (omega (arith, from)) (omega (arith, below, long)))
         | else-all w ↦ (λ k h from below. search rules)
@@ -56,31 +61,36 @@ loop-pass-preserved-then-if-drop c =
       (λ k d below. let h = was.1 (k + 1) d in grind rules),
       elim c.if-all.branch [
         | then-all w ↦
-            let set : c.if-all.hands ≡ slice_set c.loop-pass.hands at w.hand_out-all.new.hand =
+            let set : c.if-all.hands ≡ slice_set c.loop-pass.hands at
+            w.hand_out_padded-all.new.hand =
             search rules in
             let within : at < length c.loop-pass.hands = search rules in
             (λ yes k d h below.
-            let given : w.hand_out-all.new.hand.held ≡ Some (Free c.in-Some.pass) = search rules in
+            let given : w.hand_out_padded-all.new.hand.hand.held ≡ Some (Free c.in-Some.pass) =
+            search rules in
             let all : c.loop-pass.all ≡ true = search rules in
-            below_more (λ i. (get_or c.if-all.hands i h).held ≡ Some
+            below_more (λ i. (get_or c.if-all.hands i h).hand.held ≡ Some
             (Free (get_or c.args.passes.items i d))) at
-            (λ i low. ap (λ (hs : _). (get_or hs i h).held) set ∙ ap (λ (x : Hand). x.held)
-            (get_or-set_other c.loop-pass.hands at i w.hand_out-all.new.hand h
+            (λ i low. ap (λ (hs : _). (get_or hs i h).hand.held) set
+            ∙ ap (λ (x : PaddedHand). x.hand.held)
+            (get_or-set_other c.loop-pass.hands at i w.hand_out_padded-all.new.hand h
             (λ z. omega (arith, z, low))) ∙ was.2 all i d h low)
-            (ap (λ (hs : _). (get_or hs at h).held) set ∙ ap (λ (x : Hand). x.held)
-            (get_or-set_same c.loop-pass.hands at w.hand_out-all.new.hand h within) ∙ given
+            (ap (λ (hs : _). (get_or hs at h).hand.held) set ∙ ap (λ (x : PaddedHand). x.hand.held)
+            (get_or-set_same c.loop-pass.hands at w.hand_out_padded-all.new.hand h within) ∙ given
             ∙ ap (λ (p : Known). Some (Free p)) (sym (first d)))
             k below)
         | else-all w ↦ (λ yes k d h below. search rules)
       ],
       elim c.if-all.branch [
         | then-all w ↦
-            let set : c.if-all.hands ≡ slice_set c.loop-pass.hands at w.hand_out-all.new.hand =
+            let set : c.if-all.hands ≡ slice_set c.loop-pass.hands at
+            w.hand_out_padded-all.new.hand =
             search rules in
             let long : length c.if-all.hands ≡ length c.loop-pass.hands =
-            ap length set ∙ length-set c.loop-pass.hands at w.hand_out-all.new.hand in
-            (λ k h from below. ap (λ (hs : _). (get_or hs k h).held) set ∙ ap (λ (x : Hand). x.held)
-            (get_or-set_other c.loop-pass.hands at k w.hand_out-all.new.hand h
+            ap length set ∙ length-set c.loop-pass.hands at w.hand_out_padded-all.new.hand in
+            (λ k h from below. ap (λ (hs : _). (get_or hs k h).hand.held) set
+            ∙ ap (λ (x : PaddedHand). x.hand.held)
+            (get_or-set_other c.loop-pass.hands at k w.hand_out_padded-all.new.hand h
             (λ z. omega (arith, z, from)))
             ∙ was.3 k h (omega (arith, from)) (omega (arith, below, long)))
         | else-all w ↦ (λ k h from below. search rules)
